@@ -1,0 +1,14 @@
+pub mod Gives
+pub mod Rights
+pub mod Bits
+pub mod BitLaws
+pub mod Pieces
+pub mod Names
+pub mod Ace
+pub mod Matching
+pub mod Text
+pub mod Sent
+pub mod Lists
+pub mod Valid
+pub mod Same
+pub mod Laws

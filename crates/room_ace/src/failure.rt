@@ -1,0 +1,20 @@
+//! Why a call that takes memory has no answer.
+ghost use Rattle.std.specs.Prelude.{◌≡◌};
+ghost use Rattle.room_ace.specs.declared.failure.Failure.TheVariants.{OutOfMemory};
+
+use std::alloc::AllocError;
+
+/// Why a call that takes memory has no answer: want of memory, or a fault of what it was given.
+#[derive(Clone, Copy, Debug, PartialEq, Eq, Drop)]
+pub enum Failure<F> {
+    OutOfMemory,
+    Fault(F),
+}
+
+impl<F> From<AllocError> for Failure<F> {
+    ghost from_gives = { λ _ failure. failure ≡ OutOfMemory };
+
+    fn from(_error: AllocError) -> Failure<F> {
+        Failure::OutOfMemory
+    }
+}

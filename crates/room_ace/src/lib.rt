@@ -1,0 +1,33 @@
+//! Access control entries after RFC 8881, section 6.2.1: their masks, flags and subjects, and the
+//! text of entries and lists.
+#![tactic(auto)]
+
+mod entry;
+mod entry_text;
+mod failure;
+mod fault;
+mod flags;
+mod laws;
+mod list_text;
+mod mask;
+mod matching;
+mod name;
+mod object;
+mod parties;
+mod sent;
+mod validity;
+
+pub use entry::{Entries, Entry, EntryKind, Who};
+pub use entry_text::print_entry;
+pub use failure::Failure;
+pub use fault::{LineFault, ListFault, TextFault, Why};
+pub use flags::{EntryFlags, ListFlags};
+pub use laws::reads_back;
+pub use mask::Mask;
+pub use matching::matches;
+pub use name::Name;
+pub use object::{ObjKind, Which};
+pub use parties::{Caller, Names, Owners};
+pub use list_text::print_list;
+pub use sent::SentList;
+pub use validity::valid;
