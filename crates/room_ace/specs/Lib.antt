@@ -10,6 +10,7 @@ pub mod Faults
 pub mod Text
 pub mod Sent
 pub mod Lists
+pub mod Reading
 pub mod Valid
 pub mod Same
 pub mod Laws

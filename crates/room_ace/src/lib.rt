@@ -9,6 +9,7 @@ mod fault;
 mod flags;
 mod laws;
 mod lines;
+mod list_lines;
 mod list_text;
 mod mask;
 mod matching;
