@@ -1,5 +1,5 @@
 use Rattle.std.proofs.Common.{arith}
-use Rattle.room_ace.proofs.Cuts.{is_utf8-text, is_utf8-other}
+use Rattle.room_ace.proofs.FirstLine.{is_utf8-text, is_utf8-other}
 use Rattle.room_ace.proofs.lines.text_of.Goals as goal
 
 pub returns-in-Ok : goal.returns-in-Ok
