@@ -14,6 +14,7 @@ mod matching;
 mod name;
 mod object;
 mod parties;
+mod pieces;
 mod sent;
 mod validity;
 
