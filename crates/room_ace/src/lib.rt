@@ -22,7 +22,7 @@ pub use entry_text::print_entry;
 pub use failure::Failure;
 pub use fault::{LineFault, ListFault, TextFault, Why};
 pub use flags::{EntryFlags, ListFlags};
-pub use laws::reads_back;
+pub use laws::{list_reads_back, reads_back};
 pub use mask::Mask;
 pub use matching::matches;
 pub use name::Name;
