@@ -1,6 +1,6 @@
 -- A text cut at a separator, and names by their parts.
-use Rattle.std.proofs.Common.{ℕ, ◌+◌, ◌<◌, ◌≡◌, Bool, true, false, cond, not, ◌&&◌, eqb, List, [], ◌∷◌, Option, Some, None, refl, sym, ap, ◌∙◌, subst, inl, inr, arith, length, MatchOption, Bor}
-use Rattle.std.specs.List.{slice_split, onto_first, position_or_len, before_first, after_first, count_by}
+use Rattle.std.proofs.Common.{ℕ, ◌+◌, ◌<◌, ◌≡◌, Bool, false, cond, not, ◌&&◌, eqb, List, [], ◌∷◌, Option, Some, None, refl, sym, ap, ◌∙◌, subst, inl, inr, arith, length, MatchOption, Bor}
+use Rattle.std.specs.List.{slice_split, position_or_len, before_first, after_first}
 use Rattle.std.proofs.lemmas.Bool.{cases_Bool}
 use Rattle.std.proofs.lemmas.List.Splits.{slice_split_first, length-slice_split}
 use Rattle.room_ace.specs.Pieces.{pieces}
@@ -13,7 +13,7 @@ pieces_whole p (x ∷ xs) whole =
     elim (cases_Bool (p x)) [
       | inl e ↦ (let none = subst (λ (b : Bool). cond (not b) (1 + position_or_len p xs) 0 ≡ length (x ∷ xs)) e whole in absurd (omega arith))
       | inr e ↦ (let more = subst (λ (b : Bool). cond (not b) (1 + position_or_len p xs) 0 ≡ length (x ∷ xs)) e whole in
-                 let rest = pieces_whole p xs (omega arith) in rw (e, rest) refl)
+          let rest = pieces_whole p xs (omega arith) in rw (e, rest) refl)
     ]
 
 -- what `split_once` gives, in pieces

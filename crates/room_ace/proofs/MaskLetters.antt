@@ -1,18 +1,17 @@
 -- Masks read from their letters.
-use Rattle.std.proofs.Common.{ℕ, ◌+◌, ◌<◌, ◌≤◌, ◌≡◌, Bool, true, false, cond, ◌&&◌, ◌||◌, eqb, List, [], ◌∷◌, ◌++◌, map, Option, Some, None, Result, Ok, Err, refl, sym, ap, ◌∙◌, subst, inl, inr, arith, length, take, get_or}
+use Rattle.std.proofs.Common.{ℕ, ◌+◌, ◌<◌, ◌≤◌, ◌≡◌, Bool, true, false, cond, ◌&&◌, ◌||◌, List, [], ◌∷◌, map, Option, Some, None, Ok, Err, refl, sym, ap, ◌∙◌, subst, inl, inr, length, take, get_or}
 use Rattle.std.specs.Prelude.{◌==◌, filter, find, bit_and, MatchOption}
-use Rattle.std.specs.List.{list_all, list_any}
+use Rattle.std.specs.List.{list_all}
 use Rattle.std.specs.Option.{ok_or, option_map}
-use Rattle.std.proofs.lemmas.Bool.{cases_Bool, false≢true, and_parts, eqb-true}
+use Rattle.std.proofs.lemmas.Bool.{cases_Bool, and_parts, eqb-true}
 use Rattle.std.proofs.lemmas.List.{take_more, take_all}
 use Rattle.std.proofs.lemmas.List.Folds.{list_any-append, list_all-append, list_all_at}
 use Rattle.room_ace.specs.Bits.{all_bits, has, bits_of}
 use Rattle.room_ace.specs.BitLaws.{has-chosen, chosen_agree}
 use Rattle.room_ace.specs.Pieces.{is_among, same_text}
-use Rattle.room_ace.specs.Text.{bit_named, letter_of, mask_letters, mask_of, read_mask_of}
+use Rattle.room_ace.specs.Text.{bit_named, letter_of, mask_letters, read_mask_of}
 use Rattle.room_ace.proofs.Letters.{the_table}
 use Rattle.room_ace.proofs.RoundTrip.{same_text-true}
-use Rattle.room_ace.specs.declared.fault.TextFault.{TextFault}
 use Rattle.room_ace.specs.declared.fault.TextFault.TheVariants.{BadMask}
 
 -- the mask of the letters of a text

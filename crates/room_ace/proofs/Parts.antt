@@ -1,5 +1,5 @@
 -- Texts of entries that have no four parts.
-use Rattle.std.proofs.Common.{ℕ, ◌<◌, ◌≡◌, List, [], ◌∷◌, Result, Err, refl, ap, ◌∙◌, arith, length}
+use Rattle.std.proofs.Common.{ℕ, ◌<◌, ◌≡◌, List, [], ◌∷◌, Err, refl, ap, ◌∙◌, arith, length}
 use Rattle.room_ace.specs.Pieces.{pieces}
 use Rattle.room_ace.specs.Text.{entry_of, entry_of_parts}
 use Rattle.room_ace.specs.declared.fault.TextFault.TheVariants.{NotFourParts}

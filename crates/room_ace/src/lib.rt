@@ -23,7 +23,7 @@ pub use entry_text::{print_entry, read_entry};
 pub use failure::Failure;
 pub use fault::{LineFault, ListFault, TextFault, Why};
 pub use flags::{EntryFlags, ListFlags};
-pub use laws::reads_back;
+pub use laws::{list_reads_back, reads_back};
 pub use list_text::{print_list, read_list};
 pub use mask::{Mask, read_mask};
 pub use matching::matches;
