@@ -16,6 +16,7 @@ mod matching;
 mod name;
 mod object;
 mod parties;
+mod pieces;
 mod sent;
 mod validity;
 
@@ -24,7 +25,7 @@ pub use entry_text::{print_entry, read_entry};
 pub use failure::Failure;
 pub use fault::{LineFault, ListFault, TextFault, Why};
 pub use flags::{EntryFlags, ListFlags};
-pub use laws::reads_back;
+pub use laws::{list_reads_back, reads_back};
 pub use lines::{split_line, text_of};
 pub use list_text::{print_list, read_list};
 pub use mask::{Mask, read_mask};
