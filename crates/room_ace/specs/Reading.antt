@@ -1,5 +1,5 @@
 -- The steps in which the text of a list is read (own).
-use Rattle.std.specs.Prelude.{ℕ, ◌+◌, ◌||◌, not, List, [], ◌∷◌, filter, Option, Some, None, Result, Ok, Err, if◌then◌else◌, codes}
+use Rattle.std.specs.Prelude.{ℕ, ◌+◌, ◌||◌, not, List, filter, Option, Some, None, Result, Ok, Err, if◌then◌else◌, codes}
 use Rattle.std.specs.List.{enumerate_from, list_all}
 use Rattle.room_ace.specs.Pieces.{is_among}
 use Rattle.room_ace.specs.Ace.{Ace}

@@ -40,7 +40,11 @@ pub fn read_list(alloc: Global, bytes: &[u8]) -> Result<SentList, Failure<LineFa
 }
 
 // The list of these flags and the entries of the lines.
-fn read_entries(alloc: Global, flags: ListFlags, mut lines: ListLines) -> Result<SentList, Failure<LineFault>>
+fn read_entries(
+    alloc: Global,
+    flags: ListFlags,
+    mut lines: ListLines,
+) -> Result<SentList, Failure<LineFault>>
     requires { lines.passed + length lines.rest.now < 2 ^ 64 }
     ensures { Gives result (sent_after flags [] (lines_after lines.entry.passed lines.entry.rest.now)) }
 {
@@ -52,7 +56,12 @@ fn read_entries(alloc: Global, flags: ListFlags, mut lines: ListLines) -> Result
 }
 
 // The entries before, with the one of this line.
-fn with_line(alloc: Global, number: usize, line: &[u8], before: EntriesWithin) -> Result<EntriesWithin, Failure<LineFault>>
+fn with_line(
+    alloc: Global,
+    number: usize,
+    line: &[u8],
+    before: EntriesWithin,
+) -> Result<EntriesWithin, Failure<LineFault>>
     ensures { Gives result (with_line number before line.now) }
 {
     match text_of(line) {
@@ -116,3 +125,6 @@ fn push_line(alloc: Global, text: &mut String, entry: &Entry) -> Result<(), Allo
     text.push('\n')?;
     Ok(())
 }
+
+#[cfg(test)]
+mod tests;
