@@ -1,0 +1,13 @@
+//! The program `rooms`.
+#![tactic(auto)]
+
+mod check;
+mod fault;
+mod headers;
+mod question;
+
+use std::process::ExitCode;
+
+fn main(_rt: HostRuntime) -> ExitCode {
+    ExitCode::SUCCESS
+}
