@@ -2,6 +2,7 @@
 #![tactic(auto)]
 
 mod check;
+mod command;
 mod fault;
 mod headers;
 mod question;
