@@ -1,17 +1,13 @@
 //! The program `rooms`: a document room behind access lists of RFC 8881, section 6.2.
 #![tactic(auto)]
 
-mod check;
 mod command;
-mod fault;
-mod headers;
-mod question;
 mod stop;
 #[cfg(test)]
 mod tests;
 
-use check::{LONGEST_INPUT, check};
 use command::{Command, read_command};
+use room_check::{LONGEST_INPUT, check};
 use std::env;
 use std::io::{ErrorKind, Read};
 use std::process::ExitCode;

@@ -1,6 +1,6 @@
 use Rattle.std.proofs.Common.{◌≤◌, ◌+◌, length, arith}
-use Rattle.rooms.proofs.Below.{list_below-read, list_below-fault, fault-most}
-use Rattle.rooms.proofs.question.list_in.Goals as goal
+use Rattle.room_check.proofs.Below.{list_below-read, list_below-fault, fault-most}
+use Rattle.room_check.proofs.question.list_in.Goals as goal
 
 pub overflow_add-result : goal.overflow_add-result
 overflow_add-result c =

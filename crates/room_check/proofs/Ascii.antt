@@ -11,8 +11,8 @@ use Rattle.room_ace.specs.Text.{mask_of, mask_letters}
 use Rattle.room_ace.specs.Lists.{is_utf8}
 use Rattle.room_ace.specs.declared.fault.TextFault.TheVariants.{BadMask}
 use Rattle.room_ace.specs.declared.fault.Why.TheVariants.{Entry}
-use Rattle.rooms.specs.declared.fault.InputWhy.TheVariants.{BadName, Text}
-use Rattle.rooms.specs.Check.{name_in, asked_of}
+use Rattle.room_check.specs.declared.fault.InputWhy.TheVariants.{BadName, Text}
+use Rattle.room_check.specs.Check.{name_in, asked_of}
 
 abbrev is_ascii : ℕ → Bool
 is_ascii byte = nat_lt byte 128

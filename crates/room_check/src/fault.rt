@@ -1,6 +1,6 @@
 //! Why an input is refused.
 ghost use Rattle.std.specs.Prelude.{◌≡◌};
-ghost use Rattle.rooms.specs.Reply.{input_why_text};
+ghost use Rattle.room_check.specs.Reply.{input_why_text};
 
 use room_ace::{ListFault, Why};
 

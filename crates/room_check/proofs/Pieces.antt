@@ -6,8 +6,8 @@ use Rattle.std.proofs.lemmas.Bool.{cases_Bool, ltb-true, ltb-false}
 use Rattle.std.proofs.lemmas.List.{length-drop}
 use Rattle.std.proofs.lemmas.List.Splits.{slice_split_first}
 use Rattle.room_ace.specs.Pieces.{pieces}
-use Rattle.rooms.specs.declared.fault.InputWhy.TheVariants.{BadName}
-use Rattle.rooms.specs.Check.{owners_of, owners_of_parts}
+use Rattle.room_check.specs.declared.fault.InputWhy.TheVariants.{BadName}
+use Rattle.room_check.specs.Check.{owners_of, owners_of_parts}
 
 place_found : (n m i : ℕ) → cond (nat_lt n m) (Some n) None ≡ Some i → (n < m) × (n ≡ i)
 place_found n m i found =

@@ -4,10 +4,10 @@ ghost use Rattle.std.specs.List.{position};
 ghost use Rattle.room_ace.specs.Gives.{Gives};
 ghost use Rattle.room_ace.specs.Lists.{lines_of};
 ghost use Rattle.room_ace.specs.Pieces.{pieces};
-ghost use Rattle.rooms.specs.declared.fault.InputWhy.{InputWhy};
-ghost use Rattle.rooms.specs.declared.fault.InputWhy.TheVariants.{BadHeader};
-ghost use Rattle.rooms.specs.Given.{GivesBy};
-ghost use Rattle.rooms.specs.Check.{ask_line, asked_of, at_line, caller_line, cut_header, groups_line, groups_of, name_in, names_in, owners_line, owners_of, user_of, value_of, without_spaces};
+ghost use Rattle.room_check.specs.declared.fault.InputWhy.{InputWhy};
+ghost use Rattle.room_check.specs.declared.fault.InputWhy.TheVariants.{BadHeader};
+ghost use Rattle.room_check.specs.Given.{GivesBy};
+ghost use Rattle.room_check.specs.Check.{ask_line, asked_of, at_line, caller_line, cut_header, groups_line, groups_of, name_in, names_in, owners_line, owners_of, user_of, value_of, without_spaces};
 
 use crate::fault::{InputFault, InputWhy};
 use room_ace::{Failure, Mask, Name, Names, Owners, TextFault, Why, read_mask, read_name, split_line, text_of};

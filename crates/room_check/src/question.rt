@@ -2,9 +2,9 @@
 ghost use Rattle.std.specs.Prelude.{◌≡◌, ◌+◌, ◌≤◌, length};
 ghost use Rattle.room_ace.specs.Gives.{Gives};
 ghost use Rattle.room_ace.specs.Lists.{lines_of};
-ghost use Rattle.rooms.specs.Check.{answer_of, first_invalid, list_below, question_of};
+ghost use Rattle.room_check.specs.Check.{answer_of, first_invalid, list_below, question_of};
 
-use crate::check::Judged;
+use crate::judging::Judged;
 use crate::fault::{EntryFault, InputFault, InputWhy};
 use crate::headers::{read_asked, read_caller, read_groups, read_owners};
 use room_ace::{Caller, Entry, Failure, Mask, ObjKind, Owners, SentList, Which, read_list, valid};

@@ -1,7 +1,7 @@
 use Rattle.std.proofs.Common.{◌-◌, ◌+◌, length, arith, drop}
 use Rattle.std.proofs.lemmas.List.{take_all, length-drop}
-use Rattle.rooms.proofs.Pieces.{pieces-cut, pieces-uncut}
-use Rattle.rooms.proofs.headers.cut_at.Goals as goal
+use Rattle.room_check.proofs.Pieces.{pieces-cut, pieces-uncut}
+use Rattle.room_check.proofs.headers.cut_at.Goals as goal
 
 pub returns-in-None : goal.returns-in-None
 returns-in-None c = pieces-uncut c.args.separator c.args.bytes.now c.in-None.ensures

@@ -1,8 +1,8 @@
 //! The judging of one list from bytes, without a room.
 ghost use Rattle.std.specs.Prelude.{◌≡◌, IfOk, string_bytes};
 ghost use Rattle.room_ace.specs.Text.{mask_text};
-ghost use Rattle.rooms.specs.Check.{judged};
-ghost use Rattle.rooms.specs.Reply.{place_text, reply_status, reply_text, text_at, verdict_status, verdict_text};
+ghost use Rattle.room_check.specs.Check.{judged};
+ghost use Rattle.room_check.specs.Reply.{place_text, reply_status, reply_text, text_at, verdict_status, verdict_text};
 
 use crate::fault::{EntryFault, InputFault};
 use crate::question::read_question;

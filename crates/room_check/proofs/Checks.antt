@@ -5,8 +5,8 @@ use Rattle.std.proofs.lemmas.Fmt.{decimal_digit}
 use Rattle.room_ace.specs.Bits.{all_bits}
 use Rattle.room_ace.specs.Names.{is_name}
 use Rattle.room_ace.specs.Text.{mask_letters}
-use Rattle.rooms.specs.Check.{judged}
-use Rattle.rooms.specs.Reply.{reply_text}
+use Rattle.room_check.specs.Check.{judged}
+use Rattle.room_check.specs.Reply.{reply_text}
 
 -- the text that is told of lines
 abbrev told : List (List ℕ) → List ℕ

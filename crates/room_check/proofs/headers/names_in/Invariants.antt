@@ -2,7 +2,7 @@ use Rattle.std.proofs.Common.{◌≡◌, ◌++◌, length, true}
 use Rattle.std.specs.List.{list_all}
 use Rattle.room_ace.specs.Names.{is_name}
 use Rattle.room_ace.specs.Pieces.{pieces}
-use Rattle.rooms.proofs.headers.names_in.Given as goal
+use Rattle.room_check.proofs.headers.names_in.Given as goal
 
 -- the names so far, and what is left to read
 abbrev pub invariant-loop-part : goal.invariant-loop-part

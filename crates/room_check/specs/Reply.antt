@@ -6,10 +6,10 @@ use Rattle.room_ace.specs.Text.{entry_text, mask_text}
 use Rattle.room_ace.specs.Faults.{list_fault_text, why_text}
 use Rattle.room_eval.specs.declared.outcome.Verdict.{Verdict}
 use Rattle.room_eval.specs.declared.outcome.Verdict.TheVariants.{Granted, Denied}
-use Rattle.rooms.specs.declared.fault.InputWhy.{InputWhy}
-use Rattle.rooms.specs.declared.fault.InputWhy.TheVariants.{BadHeader, BadName, Text}
-use Rattle.rooms.specs.declared.check.Judged.{Judged}
-use Rattle.rooms.specs.declared.check.Judged.TheVariants.{Says, TooLong, AtLine, AtEntry}
+use Rattle.room_check.specs.declared.fault.InputWhy.{InputWhy}
+use Rattle.room_check.specs.declared.fault.InputWhy.TheVariants.{BadHeader, BadName, Text}
+use Rattle.room_check.specs.declared.judging.Judged.{Judged}
+use Rattle.room_check.specs.declared.judging.Judged.TheVariants.{Says, TooLong, AtLine, AtEntry}
 
 abbrev pub input_why_text : InputWhy → List ℕ
 input_why_text BadHeader = codes "K1 bad header"

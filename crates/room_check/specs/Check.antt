@@ -16,13 +16,13 @@ use Rattle.room_ace.specs.declared.fault.LineFault.{LineFault}
 use Rattle.room_ace.specs.declared.fault.TextFault.TheVariants.{BadMask}
 use Rattle.room_ace.specs.declared.fault.Why.TheVariants.{Entry}
 use Rattle.room_eval.specs.Verdict.{verdict}
-use Rattle.rooms.specs.declared.fault.InputWhy.{InputWhy}
-use Rattle.rooms.specs.declared.fault.InputWhy.TheVariants.{BadHeader, BadName, Text}
-use Rattle.rooms.specs.declared.fault.InputFault.{InputFault}
-use Rattle.rooms.specs.declared.fault.EntryFault.{EntryFault}
-use Rattle.rooms.specs.declared.question.Question.{Question}
-use Rattle.rooms.specs.declared.check.Judged.{Judged}
-use Rattle.rooms.specs.declared.check.Judged.TheVariants.{Says, TooLong, AtLine, AtEntry}
+use Rattle.room_check.specs.declared.fault.InputWhy.{InputWhy}
+use Rattle.room_check.specs.declared.fault.InputWhy.TheVariants.{BadHeader, BadName, Text}
+use Rattle.room_check.specs.declared.fault.InputFault.{InputFault}
+use Rattle.room_check.specs.declared.fault.EntryFault.{EntryFault}
+use Rattle.room_check.specs.declared.question.Question.{Question}
+use Rattle.room_check.specs.declared.judging.Judged.{Judged}
+use Rattle.room_check.specs.declared.judging.Judged.TheVariants.{Says, TooLong, AtLine, AtEntry}
 
 -- ---- the values of the headers
 

@@ -14,7 +14,7 @@ use Rattle.room_ace.specs.declared.flags.ListFlags.{ListFlags}
 use Rattle.room_ace.specs.declared.fault.TextFault.{TextFault}
 use Rattle.room_ace.specs.declared.fault.LineFault.{LineFault}
 use Rattle.room_ace.specs.declared.fault.ListFault.{ListFault}
-use Rattle.rooms.specs.Check.{in_list, list_below}
+use Rattle.room_check.specs.Check.{in_list, list_below}
 
 abbrev says : ℕ × List ℕ → Bool
 says line = not (is_blank line.1 || is_comment line.1)
