@@ -2,8 +2,5 @@ use Rattle.std.proofs.Common.{refl}
 use Rattle.rooms.proofs.Ascii.{no_text_no_letters}
 use Rattle.rooms.proofs.headers.asked_in.Goals as goal
 
-pub read_mask-requires : goal.read_mask-requires
-read_mask-requires c = ?
-
 pub returns-in-None : goal.returns-in-None
 returns-in-None c = rw (no_text_no_letters c.args.value.now c.in-None.ensures) refl
