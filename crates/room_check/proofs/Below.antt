@@ -61,7 +61,7 @@ entries-on before [] = refl
 entries-on before (line ∷ lines) =
     elim (cases_Bool (is_utf8 line.1)) [
       | inl e ↦ rw e (ap (λ (read : Result (List Ace) LineFault). and_then read (λ entries. entries_after entries (map on lines))) (with_entry-on line.0 before (entry_of line.1))
-        ∙ and_then-on (with_entry line.0 before (entry_of line.1)) (λ entries. entries_after entries lines) (λ entries. entries_after entries (map on lines)) (λ entries. entries-on entries lines))
+          ∙ and_then-on (with_entry line.0 before (entry_of line.1)) (λ entries. entries_after entries lines) (λ entries. entries_after entries (map on lines)) (λ entries. entries-on entries lines))
       | inr e ↦ rw e refl
     ]
 

@@ -36,11 +36,10 @@ pieces-uncut separator bytes none = uncut separator bytes (place_missing (positi
 
 pub pieces-cut : (separator : ℕ) (bytes rest : List ℕ) (i : ℕ) → Some i ≡ position (λ byte. byte == separator) bytes → rest ≡ drop (i + 1) bytes → (pieces separator bytes ≡ take i bytes ∷ pieces separator rest) × (length rest < length bytes)
 pieces-cut separator bytes rest i found back =
-    let place = place_found (position_or_len (λ byte. byte == separator) bytes) (length bytes) i (sym found) in
-    (
+    let place = place_found (position_or_len (λ byte. byte == separator) bytes) (length bytes) i (sym found) in (
       slice_split_first (λ byte. byte == separator) bytes 0 place.0
-      ∙ ap (λ n. take n bytes ∷ pieces separator (drop (n + 1) bytes)) place.1
-      ∙ ap (λ (after : List ℕ). take i bytes ∷ pieces separator after) (sym back),
+          ∙ ap (λ n. take n bytes ∷ pieces separator (drop (n + 1) bytes)) place.1
+          ∙ ap (λ (after : List ℕ). take i bytes ∷ pieces separator after) (sym back),
       omega (arith, ap length back, length-drop (i + 1) bytes),
     )
 

@@ -127,10 +127,10 @@ abbrev pub answer_of : Question → Judged
 answer_of question =
     option_map_or AtEntry (first_invalid 1 question.list.entries) (Says question.list (verdict question.list.entries question.caller question.owners question.asked))
 
-abbrev pub judged_lines : Result Question InputFault → Judged
-judged_lines (Err fault) = AtLine fault
-judged_lines (Ok question) = answer_of question
+abbrev pub judged_question : Result Question InputFault → Judged
+judged_question (Err fault) = AtLine fault
+judged_question (Ok question) = answer_of question
 
 -- What the bytes are told: the first fault of their length, their lines and their entries, or what the list says.
 abbrev pub judged : List ℕ → Judged
-judged bytes = if nat_lt 1048576 (length bytes) then TooLong else judged_lines (question_of (lines_of bytes))
+judged bytes = if nat_lt 1048576 (length bytes) then TooLong else judged_question (question_of (lines_of bytes))

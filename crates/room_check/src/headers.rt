@@ -10,14 +10,13 @@ ghost use Rattle.room_check.specs.Given.{GivesBy};
 ghost use Rattle.room_check.specs.Check.{ask_line, asked_of, at_line, caller_line, cut_header, groups_line, groups_of, name_in, names_in, owners_line, owners_of, user_of, value_of, without_spaces};
 
 use crate::fault::{InputFault, InputWhy};
-use room_ace::{Failure, Mask, Name, Names, Owners, TextFault, Why, read_mask, read_name, split_line, text_of};
+use room_ace::{
+    Failure, Mask, Name, Names, Owners, TextFault, Why, read_mask, read_name, split_line, text_of,
+};
 use std::alloc::Global;
 
 /// The caller's name in the first of the lines, if there is one. The lines below are left.
-pub fn read_caller(
-    alloc: Global,
-    rest: &mut &[u8],
-) -> Result<Option<Name>, Failure<InputFault>>
+pub fn read_caller(alloc: Global, rest: &mut &[u8]) -> Result<Option<Name>, Failure<InputFault>>
     ensures said { GivesBy (λ user. (user, lines_of rest.new.now)) result (caller_line (lines_of rest.old.now)) }
     ensures left { length rest.new.now ≤ length rest.old.now }
 {
@@ -141,11 +140,7 @@ fn user_in(alloc: Global, value: &[u8]) -> Result<Option<Name>, Failure<InputWhy
 }
 
 // The caller's groups, which an anonymous caller can't have.
-fn groups_in(
-    alloc: Global,
-    user: &Option<Name>,
-    value: &[u8],
-) -> Result<Names, Failure<InputWhy>>
+fn groups_in(alloc: Global, user: &Option<Name>, value: &[u8]) -> Result<Names, Failure<InputWhy>>
     ensures { Gives result (groups_of user.now value.now) }
 {
     if value.is_empty() {

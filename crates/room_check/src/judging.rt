@@ -124,11 +124,7 @@ fn letters_of(alloc: Global, bits: Mask) -> Result<String, AllocError>
 }
 
 // The place that denies, and the entry there.
-fn place_text(
-    alloc: Global,
-    entries: &[Entry],
-    place: Option<usize>,
-) -> Result<String, AllocError>
+fn place_text(alloc: Global, entries: &[Entry], place: Option<usize>) -> Result<String, AllocError>
     ensures { IfOk result (λ text. string_bytes text ≡ place_text entries.now place) }
 {
     match place {

@@ -4,9 +4,9 @@ ghost use Rattle.room_ace.specs.Gives.{Gives};
 ghost use Rattle.room_ace.specs.Lists.{lines_of};
 ghost use Rattle.room_check.specs.Check.{answer_of, first_invalid, list_below, question_of};
 
-use crate::judging::Judged;
 use crate::fault::{EntryFault, InputFault, InputWhy};
 use crate::headers::{read_asked, read_caller, read_groups, read_owners};
+use crate::judging::Judged;
 use room_ace::{Caller, Entry, Failure, Mask, ObjKind, Owners, SentList, Which, read_list, valid};
 use room_eval::decide;
 use std::alloc::Global;

@@ -19,13 +19,15 @@ fn expect_told(
 
 #[test]
 fn deny_after_allow(rt: HostRuntime) -> Result<(), Fail> {
-    let input = b"caller: alice\ngroups:\nowners: root:staff\nask: rw\nlist:\nA::alice:r\nD::EVERYONE@:rw\n";
+    let input =
+        b"caller: alice\ngroups:\nowners: root:staff\nask: rw\nlist:\nA::alice:r\nD::EVERYONE@:rw\n";
     expect_told(&rt, input, "denied bits w entry 2 D::EVERYONE@:rw", 1)
 }
 
 #[test]
 fn first_entry_grants(rt: HostRuntime) -> Result<(), Fail> {
-    let input = b"caller: alice\ngroups:\nowners: root:staff\nask: r\nlist:\nA::alice:r\nD::EVERYONE@:rw\n";
+    let input =
+        b"caller: alice\ngroups:\nowners: root:staff\nask: r\nlist:\nA::alice:r\nD::EVERYONE@:rw\n";
     expect_told(&rt, input, "granted", 0)
 }
 
@@ -43,7 +45,8 @@ fn empty_mask_granted(rt: HostRuntime) -> Result<(), Fail> {
 
 #[test]
 fn inherit_only_does_not_count(rt: HostRuntime) -> Result<(), Fail> {
-    let input = b"caller: alice\ngroups:\nowners: root:staff\nask: r\nlist:\nD:fi:alice:r\nA::alice:r\n";
+    let input =
+        b"caller: alice\ngroups:\nowners: root:staff\nask: r\nlist:\nD:fi:alice:r\nA::alice:r\n";
     expect_told(&rt, input, "granted", 0)
 }
 
@@ -87,7 +90,12 @@ fn check_anonymous_granted(rt: HostRuntime) -> Result<(), Fail> {
 
 #[test]
 fn check_anonymous_with_group(rt: HostRuntime) -> Result<(), Fail> {
-    expect_told(&rt, b"caller:\ngroups: sales\n", "refused: line 2: K2 bad name", 2)
+    expect_told(
+        &rt,
+        b"caller:\ngroups: sales\n",
+        "refused: line 2: K2 bad name",
+        2,
+    )
 }
 
 #[test]

@@ -1,8 +1,10 @@
 -- The words of the command line, as `clap` reads them (own).
-use Rattle.std.specs.Prelude.{◌≡◌, ℕ, List, ◌++◌, [], ◌∷◌, Option, Some, None, true, false, if◌then◌else◌, codes}
+use Rattle.std.specs.Prelude.{◌≡◌, ◌≢◌, List, Option, Some, None, true, false, if◌then◌else◌, codes}
 use Rattle.std.specs.Option.{option_and_then}
 use Rattle.std.specs.Str.{bytes_eq}
 use Rattle.clap.specs.Words.{App, IsAmong, Row, Text, fault_of, new_app, subcommand_of, takes, with_subcommand}
+use Rattle.clap.specs.declared.error.kind.ErrorKind.{ErrorKind}
+use Rattle.clap.specs.declared.error.kind.ErrorKind.TheVariants as kinds
 use Rattle.room_ace.specs.declared.failure.Failure.{Failure}
 use Rattle.room_ace.specs.declared.failure.Failure.TheVariants.{OutOfMemory, Fault}
 use Rattle.rooms.specs.declared.command.Command.{Command}
@@ -28,3 +30,8 @@ command_of words = command_met (subcommand_of command_line words)
 abbrev pub IsRefused : List Text → Failure CliFault → Type 0
 IsRefused words OutOfMemory = Unit {0}
 IsRefused words (Fault fault) = (takes command_line words ≡ false) × IsAmong fault.kind (fault_of command_line words)
+
+-- Memory ran out, or the kind of `clap`'s error is told.
+abbrev pub IsTold : ErrorKind → Failure CliFault → Type 0
+IsTold kind OutOfMemory = Unit {0}
+IsTold kind (Fault fault) = (fault.kind ≡ kind) × (kind ≢ kinds.OutOfMemory)

@@ -1,8 +1,7 @@
 //! The words of the command line.
 ghost use Rattle.std.specs.Prelude.{◌≡◌, IfOk, IfErr, IsSome, Some, map};
 ghost use Rattle.clap.specs.Words.{app_of, kind_of, subcommand_rows_of};
-ghost use Rattle.rooms.specs.Command.{IsRefused, command_line, command_met, command_of};
-ghost use Rattle.rooms.specs.Refusal.{IsTold};
+ghost use Rattle.rooms.specs.Command.{IsRefused, IsTold, command_line, command_met, command_of};
 
 use clap::ArgMatches;
 use clap::error::{Error, ErrorKind};
@@ -40,8 +39,9 @@ pub fn read_command<S: AsStr>(alloc: Global, words: &[S]) -> Result<Command, Fai
 fn command_line<'a>(alloc: Global) -> Result<clap::Command<'a>, AllocError>
     ensures { IfOk result (λ line. app_of line ≡ command_line) }
 {
-    let check = clap::Command::new(alloc, "check")
-        .about("Judges the list on the standard input for a caller");
+    let check = clap::Command::new(alloc, "check").about(
+        "Judges the list on the standard input for a caller",
+    );
     clap::Command::new(alloc, "rooms")
         .about("A document room behind access lists")
         .subcommand_required(true)

@@ -7,8 +7,7 @@ use Rattle.clap.specs.declared.error.kind.ErrorKind.TheVariants as kinds
 use Rattle.clap.proofs.OnLiterals.{clap_on_literals}
 use Rattle.room_ace.specs.declared.failure.Failure.{Failure}
 use Rattle.room_ace.specs.declared.failure.Failure.TheVariants.{OutOfMemory, Fault}
-use Rattle.rooms.specs.Command.{IsRefused, command_line}
-use Rattle.rooms.specs.Refusal.{IsTold}
+use Rattle.rooms.specs.Command.{IsRefused, IsTold, command_line}
 use Rattle.rooms.specs.declared.command.CliFault.{CliFault}
 use Rattle.rooms.proofs.command.read_command.Goals as goal
 
