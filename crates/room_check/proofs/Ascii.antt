@@ -1,18 +1,14 @@
 -- Names and the letters of masks are ASCII, and so UTF-8.
-use Rattle.std.proofs.Common.{ℕ, ◌≡◌, Bool, true, false, cond, List, [], ◌∷◌, refl, sym, ap, subst, ◌∙◌, inl, inr, arith, codes}
-use Rattle.std.specs.Prelude.{◌==◌, ◌||◌, ◌&&◌, nat_lt, nat_le, length, Result, Ok, Err, Option, Some, None}
-use Rattle.std.specs.List.{list_all, list_any, slice_split, onto_first}
+use Rattle.std.proofs.Common.{ℕ, ◌≡◌, Bool, true, false, List, [], ◌∷◌, refl, sym, subst, inl, inr, arith, codes}
+use Rattle.std.specs.Prelude.{◌==◌, ◌&&◌, nat_lt, nat_le, length}
+use Rattle.std.specs.List.{list_all, onto_first}
 use Rattle.std.specs.Char.{is_ascii_alphanumeric}
-use Rattle.std.proofs.lemmas.Bool.{cases_Bool, eqb-true, and_parts, and_from, or_cases, or_left, false≢true, false_from_ne_true, both_ways, cond-false}
+use Rattle.std.proofs.lemmas.Bool.{cases_Bool, eqb-true, and_parts, and_from, or_cases, or_left, false≢true, false_from_ne_true, both_ways}
 use Rattle.std.proofs.lemmas.Bool.Decides.{nat_tests}
 use Rattle.room_ace.specs.Pieces.{pieces, is_among}
 use Rattle.room_ace.specs.Names.{is_name, is_part, is_local_byte, is_domain_byte, are_name_parts}
-use Rattle.room_ace.specs.Text.{mask_of, mask_letters}
+use Rattle.room_ace.specs.Text.{mask_letters}
 use Rattle.room_ace.specs.Lists.{is_utf8}
-use Rattle.room_ace.specs.declared.fault.TextFault.TheVariants.{BadMask}
-use Rattle.room_ace.specs.declared.fault.Why.TheVariants.{Entry}
-use Rattle.room_check.specs.declared.fault.InputWhy.TheVariants.{BadName, Text}
-use Rattle.room_check.specs.Check.{name_in, asked_of}
 
 abbrev is_ascii : ℕ → Bool
 is_ascii byte = nat_lt byte 128

@@ -1,7 +1,7 @@
 -- A list text that stands below other lines says the same, with the lines of its faults counted on from them.
-use Rattle.std.proofs.Common.{ℕ, ◌≡◌, ◌<◌, ◌≤◌, ◌+◌, Bool, true, false, cond, not, List, [], ◌∷◌, ◌++◌, map, Option, Some, None, length, refl, sym, ap, ◌∙◌, ◌⊎◌, inl, inr, arith}
-use Rattle.std.specs.Prelude.{◌||◌, ◌==◌, ◌&&◌, nat_le, filter, Result, Ok, Err}
-use Rattle.std.specs.List.{enumerate_from, list_all, slice_split}
+use Rattle.std.proofs.Common.{ℕ, ◌≡◌, ◌≤◌, ◌+◌, Bool, true, not, List, [], ◌∷◌, ◌++◌, map, Option, Some, None, length, refl, ap, ◌∙◌, ◌⊎◌, inl, inr, arith}
+use Rattle.std.specs.Prelude.{◌||◌, ◌==◌, nat_le, filter, Result, Ok, Err}
+use Rattle.std.specs.List.{enumerate_from, list_all}
 use Rattle.std.proofs.lemmas.Bool.{cases_Bool, leb-true, le-leb, and_parts, and_from}
 use Rattle.std.proofs.lemmas.List.Splits.{length-slice_split}
 use Rattle.std.proofs.lemmas.List.Sums.{count_by-le-length}
@@ -9,11 +9,10 @@ use Rattle.room_ace.specs.Pieces.{pieces}
 use Rattle.room_ace.specs.Ace.{Ace}
 use Rattle.room_ace.specs.Sent.{Sent, limit_fault}
 use Rattle.room_ace.specs.Text.{entry_of}
-use Rattle.room_ace.specs.Lists.{lines_of, lines_of_pieces, is_blank, is_comment, is_utf8, numbered_lines, flags_of_list, fault_at, with_entry, and_then, entries_after, sent_with, sent_of_lines, sent_of}
+use Rattle.room_ace.specs.Lists.{lines_of, lines_of_pieces, is_blank, is_comment, is_utf8, numbered_lines, flags_of_list, with_entry, and_then, entries_after, sent_with, sent_of_lines, sent_of}
 use Rattle.room_ace.specs.declared.flags.ListFlags.{ListFlags}
 use Rattle.room_ace.specs.declared.fault.TextFault.{TextFault}
 use Rattle.room_ace.specs.declared.fault.LineFault.{LineFault}
-use Rattle.room_ace.specs.declared.fault.ListFault.{ListFault}
 use Rattle.room_check.specs.Check.{in_list, list_below}
 
 abbrev says : ℕ × List ℕ → Bool

@@ -1,4 +1,4 @@
-use Rattle.std.proofs.Common.{◌≡◌, refl, sym, ap, subst, map, true, false, List, inl, inr}
+use Rattle.std.proofs.Common.{◌≡◌, refl, sym, subst, map, true, List, inl, inr}
 use Rattle.std.proofs.lemmas.Bool.{false_from_ne_true}
 use Rattle.clap.specs.Words.{App, HasKind, IsAmong, Text, app_of, fault_of, is_simple_and_free, kind_of, takes}
 use Rattle.clap.specs.declared.error.Error.{Error}
