@@ -6,9 +6,11 @@ pub mod Pieces
 pub mod Names
 pub mod Ace
 pub mod Matching
+pub mod Faults
 pub mod Text
 pub mod Sent
 pub mod Lists
+pub mod Reading
 pub mod Valid
 pub mod Same
 pub mod Laws

@@ -1,12 +1,106 @@
 //! The text of a list: a line `list:` with the list's flags, then a line for each entry.
-ghost use Rattle.std.specs.Prelude.{◌≡◌, ◌++◌, ◌∷◌, [], IfOk, OnOk, string_bytes};
+ghost use Rattle.std.specs.Prelude.{◌≡◌, ◌++◌, ◌∷◌, ◌+◌, ◌<◌, ◌^◌, [], length, IfOk, OnOk, string_bytes};
 ghost use Rattle.room_ace.specs.Text.{entry_text};
-ghost use Rattle.room_ace.specs.Lists.{list_text};
+ghost use Rattle.room_ace.specs.Lists.{list_text, sent_of};
+ghost use Rattle.room_ace.specs.Gives.{Gives};
+ghost use Rattle.room_ace.specs.Reading.{failure_at, lines_after, sent_after, with_line};
+ghost use Rattle.room_ace.specs.declared.failure.Failure.TheVariants.{Fault};
+ghost use Rattle.room_ace.specs.declared.fault.Why.TheVariants.{Entry as Told, List as Limit};
 
 use crate::entry::Entry;
-use crate::entry_text::{print_entry, push_if};
+use crate::entry_text::{print_entry, push_if, read_entry};
+use crate::failure::Failure;
+use crate::fault::{LineFault, ListFault, TextFault, Why};
 use crate::flags::ListFlags;
+use crate::lines::text_of;
+use crate::list_lines::{ListLines, flags_of_list};
+use crate::sent::{EntriesWithin, SentList};
 use std::alloc::{AllocError, Global};
+
+/// The list that the bytes spell, or the fault of the first line that has one.
+pub fn read_list(alloc: Global, bytes: &[u8]) -> Result<SentList, Failure<LineFault>>
+    ensures { Gives result (sent_of bytes.now) }
+{
+    let mut lines = ListLines {
+        rest: bytes,
+        passed: 0,
+    };
+    match lines.next_line() {
+        None => Err(fault_at(lines.passed + 1, Why::NoListLine)),
+        Some(line) => {
+            if text_of(line).is_none() {
+                return Err(fault_at(lines.passed, Why::NotUtf8));
+            }
+            match flags_of_list(line) {
+                None => Err(fault_at(lines.passed, Why::NoListLine)),
+                Some(flags) => read_entries(alloc, flags, lines),
+            }
+        }
+    }
+}
+
+// The list of these flags and the entries of the lines.
+fn read_entries(
+    alloc: Global,
+    flags: ListFlags,
+    mut lines: ListLines,
+) -> Result<SentList, Failure<LineFault>>
+    requires { lines.passed + length lines.rest.now < 2 ^ 64 }
+    ensures { Gives result (sent_after flags [] (lines_after lines.entry.passed lines.entry.rest.now)) }
+{
+    let mut entries = EntriesWithin::new(alloc);
+    while let Some(line) = lines.next_line() {
+        entries = with_line(alloc, lines.passed, line, entries)?;
+    }
+    Ok(SentList::of(flags, entries))
+}
+
+// The entries before, with the one of this line.
+fn with_line(
+    alloc: Global,
+    number: usize,
+    line: &[u8],
+    before: EntriesWithin,
+) -> Result<EntriesWithin, Failure<LineFault>>
+    ensures { Gives result (with_line number before line.now) }
+{
+    match text_of(line) {
+        None => Err(fault_at(number, Why::NotUtf8)),
+        Some(text) => match read_entry(alloc, text) {
+            Err(failure) => Err(entry_failure(number, failure)),
+            Ok(entry) => match before.with(entry) {
+                Err(failure) => Err(limit_failure(number, failure)),
+                Ok(entries) => Ok(entries),
+            },
+        },
+    }
+}
+
+fn fault_at(line: usize, why: Why) -> Failure<LineFault>
+    ensures { result ≡ Fault (record { line = line; why = why }) }
+{
+    Failure::Fault(LineFault { line, why })
+}
+
+// Why the entry of this line has no answer.
+fn entry_failure(line: usize, failure: Failure<TextFault>) -> Failure<LineFault>
+    ensures { result ≡ failure_at line Told failure }
+{
+    match failure {
+        Failure::OutOfMemory => Failure::OutOfMemory,
+        Failure::Fault(fault) => fault_at(line, Why::Entry(fault)),
+    }
+}
+
+// Why the entry of this line is one too many.
+fn limit_failure(line: usize, failure: Failure<ListFault>) -> Failure<LineFault>
+    ensures { result ≡ failure_at line Limit failure }
+{
+    match failure {
+        Failure::OutOfMemory => Failure::OutOfMemory,
+        Failure::Fault(fault) => fault_at(line, Why::List(fault)),
+    }
+}
 
 /// The printed form of a list.
 pub fn print_list(alloc: Global, flags: ListFlags, entries: &[Entry]) -> Result<String, AllocError>
@@ -31,3 +125,6 @@ fn push_line(alloc: Global, text: &mut String, entry: &Entry) -> Result<(), Allo
     text.push('\n')?;
     Ok(())
 }
+
+#[cfg(test)]
+mod tests;

@@ -1,0 +1,106 @@
+-- A text is its first line and what follows it, and bytes are UTF-8 or not.
+use Rattle.std.proofs.Common.{ℕ, ◌≡◌, ◌<◌, ◌≤◌, ◌+◌, Bool, true, false, cond, List, [], ◌∷◌, ◌++◌, Some, None, length, take, drop, refl, sym, ap, ◌∙◌, inl, inr, arith}
+use Rattle.std.specs.Prelude.{◌==◌, nat_lt}
+use Rattle.std.specs.List.{position, position_or_len, list_all}
+use Rattle.std.specs.Str.{IsUtf8, IsAscii}
+use Rattle.std.specs.Str.Lossy.{utf8_valid_len}
+use Rattle.std.proofs.lemmas.Bool.{cases_Bool, ltb-true, ltb-false, eq-eqb, ne_eqb, and_parts, or_right, or_from, false_from_ne_true}
+use Rattle.std.proofs.lemmas.List.{length-drop}
+use Rattle.std.proofs.lemmas.List.Splits.{slice_split_first, length-slice_split}
+use Rattle.std.proofs.lemmas.Str.{utf8_valid_len-IsUtf8, IsUtf8-from_ascii}
+use Rattle.std.proofs.lemmas.Str.Ascii.{IsAscii-nil, IsAscii-cons}
+use Rattle.room_ace.specs.Pieces.{pieces}
+use Rattle.room_ace.specs.Lists.{lines_of, lines_of_pieces, without_return, is_utf8}
+
+abbrev is_end : ℕ → Bool
+is_end byte = byte == 10
+
+-- ---- the first line
+
+lines-cons : (piece : List ℕ) (more : List (List ℕ)) → 0 < length more → lines_of_pieces (piece ∷ more) ≡ without_return piece ∷ lines_of_pieces more
+lines-cons piece [] some = absurd (omega arith)
+lines-cons [] (next ∷ more) some = refl
+lines-cons (byte ∷ bytes) (next ∷ more) some = refl
+
+place_of : (n m i : ℕ) → cond (nat_lt n m) (Some n) None ≡ Some i → (n < m) × (n ≡ i)
+place_of n m i found =
+    elim (cases_Bool (nat_lt n m)) [
+      | inl e ↦ (let known : Some n ≡ Some i = rw e at found in (ltb-true n m e, cc))
+      | inr e ↦ (let known : None ≡ Some i = rw e at found in absurd (cc))
+    ]
+
+none_of : (n m : ℕ) → cond (nat_lt n m) (Some n) None ≡ None → m ≤ n
+none_of n m found =
+    elim (cases_Bool (nat_lt n m)) [
+      | inl e ↦ (let known : Some n ≡ None = rw e at found in absurd (cc))
+      | inr e ↦ ltb-false n m e
+    ]
+
+-- with no line feed, the bytes are one piece
+uncut : (bytes : List ℕ) → length bytes ≤ position_or_len is_end bytes → pieces 10 bytes ≡ bytes ∷ []
+uncut [] past = refl
+uncut (byte ∷ bytes) past =
+    elim (cases_Bool (is_end byte)) [
+      | inl e ↦ (let wrong = rw e at past in absurd (omega arith))
+      | inr e ↦ (let rest = rw e at past in rw (e, uncut bytes (omega arith)) refl)
+    ]
+
+last_line : (bytes : List ℕ) → (bytes ≡ [] → ⊥) → pieces 10 bytes ≡ bytes ∷ [] → lines_of bytes ≡ without_return bytes ∷ []
+last_line [] some whole = absurd (some refl)
+last_line (byte ∷ bytes) some whole = ap lines_of_pieces whole
+
+-- where a line feed stands, the first line ends
+pub lines_of-cut : (bytes line rest : List ℕ) (i : ℕ) → Some i ≡ position is_end bytes → line ≡ without_return (take i bytes) → rest ≡ drop (i + 1) bytes → (lines_of bytes ≡ line ∷ lines_of rest) × (length rest < length bytes)
+lines_of-cut bytes line rest i found front back =
+    let place = place_of (position_or_len is_end bytes) (length bytes) i (sym found) in
+    let more = length-slice_split is_end (drop (i + 1) bytes) in
+    let cut : lines_of bytes ≡ without_return (take i bytes) ∷ lines_of (drop (i + 1) bytes) =
+    ap lines_of_pieces (slice_split_first is_end bytes 0 place.0 ∙ ap (λ n. take n bytes ∷ pieces 10 (drop (n + 1) bytes)) place.1)
+    ∙ lines-cons (take i bytes) (pieces 10 (drop (i + 1) bytes)) (omega arith) in (
+      cut ∙ ap (λ (start : List ℕ). start ∷ lines_of (drop (i + 1) bytes)) (sym front) ∙ ap (λ (after : List ℕ). line ∷ lines_of after) (sym back),
+      omega (arith, ap length back, length-drop (i + 1) bytes),
+    )
+
+drop_whole : (xs : List ℕ) → drop (length xs) xs ≡ []
+drop_whole [] = refl
+drop_whole (x ∷ xs) = drop_whole xs
+
+-- with no line feed, the bytes are one line
+pub lines_of-uncut : (bytes line rest : List ℕ) → (bytes ≡ [] → ⊥) → None ≡ position is_end bytes → line ≡ without_return bytes → rest ≡ drop (length bytes) bytes → (lines_of bytes ≡ line ∷ lines_of rest) × (length rest < length bytes)
+lines_of-uncut bytes line rest some none front back =
+    let past = none_of (position_or_len is_end bytes) (length bytes) (sym none) in
+    let nothing : rest ≡ [] = back ∙ drop_whole bytes in (
+      last_line bytes some (uncut bytes past) ∙ ap (λ (start : List ℕ). start ∷ []) (sym front) ∙ ap (λ (after : List ℕ). line ∷ lines_of after) (sym nothing),
+      omega (arith, ap length nothing, some_length bytes some),
+    )
+  where
+    some_length : (xs : List ℕ) → (xs ≡ [] → ⊥) → 0 < length xs
+    some_length [] some = absurd (some refl)
+    some_length (x ∷ xs) some = omega arith
+
+-- ---- the end of a line
+
+cond_cons : (x : ℕ) (b : Bool) (xs ys : List ℕ) → x ∷ cond b xs ys ≡ cond b (x ∷ xs) (x ∷ ys)
+cond_cons x true xs ys = refl
+cond_cons x false xs ys = refl
+
+pub without_return-push : (front : List ℕ) (last : ℕ) → without_return (front ++ last ∷ []) ≡ cond (last == 13) front (front ++ last ∷ [])
+without_return-push [] last = refl
+without_return-push (byte ∷ []) last = cond_cons byte (last == 13) [] (last ∷ [])
+without_return-push (byte ∷ next ∷ front) last =
+    ap (λ line. byte ∷ line) (without_return-push (next ∷ front) last) ∙ cond_cons byte (last == 13) (next ∷ front) ((next ∷ front) ++ last ∷ [])
+
+-- ---- UTF-8
+
+ascii : (bytes : List ℕ) → list_all (λ byte. nat_lt byte 128) bytes ≡ true → IsAscii bytes
+ascii [] all = IsAscii-nil
+ascii (byte ∷ bytes) all =
+    let parts = and_parts (nat_lt byte 128) (list_all (λ other. nat_lt other 128) bytes) all in
+    IsAscii-cons byte bytes (ltb-true byte 128 parts.0) (ascii bytes parts.1)
+
+pub is_utf8-text : (bytes : List ℕ) → IsUtf8 bytes → is_utf8 bytes ≡ true
+is_utf8-text bytes text = or_right _ _ (eq-eqb (utf8_valid_len bytes) (length bytes) (utf8_valid_len-IsUtf8 bytes text))
+
+pub is_utf8-other : (bytes : List ℕ) → (IsUtf8 bytes → ⊥) → utf8_valid_len bytes < length bytes → is_utf8 bytes ≡ false
+is_utf8-other bytes other short =
+    or_from _ _ (false_from_ne_true _ (λ all. other (IsUtf8-from_ascii bytes (ascii bytes all)))) (ne_eqb (utf8_valid_len bytes) (length bytes) (λ same. omega arith))

@@ -1,0 +1,4 @@
+pub mod Checks
+pub mod Ascii
+pub mod Pieces
+pub mod Below

@@ -1,0 +1,14 @@
+//! The judging of one list from the bytes of an input: who asks, at which object, for what, and the text
+//! of the list. It needs no room.
+#![tactic(auto)]
+
+mod fault;
+mod headers;
+mod judging;
+mod question;
+#[cfg(test)]
+mod tests;
+
+pub use fault::{EntryFault, InputFault, InputWhy};
+pub use judging::{CheckReply, Judged, LONGEST_INPUT, check};
+pub use question::{Question, read_question};

@@ -1,0 +1,89 @@
+//! What an input asks: its headers and its list.
+ghost use Rattle.std.specs.Prelude.{◌≡◌, ◌+◌, ◌≤◌, length};
+ghost use Rattle.room_ace.specs.Gives.{Gives};
+ghost use Rattle.room_ace.specs.Lists.{lines_of};
+ghost use Rattle.room_check.specs.Check.{answer_of, first_invalid, list_below, question_of};
+
+use crate::fault::{EntryFault, InputFault, InputWhy};
+use crate::headers::{read_asked, read_caller, read_groups, read_owners};
+use crate::judging::Judged;
+use room_ace::{Caller, Entry, Failure, Mask, ObjKind, Owners, SentList, Which, read_list, valid};
+use room_eval::decide;
+use std::alloc::Global;
+
+// The list begins below this many header lines.
+const HEADERS: usize = 4;
+
+/// A caller, the owners of an object, the bits that are asked, and the list that decides.
+#[derive(Drop)]
+pub struct Question {
+    pub caller: Caller,
+    pub owners: Owners,
+    pub asked: Mask,
+    pub list: SentList,
+}
+
+/// The question that the bytes spell, or the first fault of a line.
+pub fn read_question(alloc: Global, bytes: &[u8]) -> Result<Question, Failure<InputFault>>
+    requires { length bytes.now ≤ 1048576 }
+    ensures { Gives result (question_of (lines_of bytes.now)) }
+{
+    let mut rest = bytes;
+    let user = read_caller(alloc, &mut rest)?;
+    let groups = read_groups(alloc, &user, &mut rest)?;
+    let owners = read_owners(alloc, &mut rest)?;
+    let asked = read_asked(&mut rest)?;
+    let list = list_in(alloc, rest)?;
+    Ok(Question {
+        caller: Caller { user, groups },
+        owners,
+        asked,
+        list,
+    })
+}
+
+// The list below the headers, whose lines count on from theirs.
+fn list_in(alloc: Global, bytes: &[u8]) -> Result<SentList, Failure<InputFault>>
+    requires { length bytes.now ≤ 1048576 }
+    ensures { Gives result (list_below (lines_of bytes.now)) }
+{
+    match read_list(alloc, bytes) {
+        Ok(list) => Ok(list),
+        Err(Failure::OutOfMemory) => Err(Failure::OutOfMemory),
+        Err(Failure::Fault(fault)) => Err(Failure::Fault(InputFault {
+            line: HEADERS + fault.line,
+            why: InputWhy::Text(fault.why),
+        })),
+    }
+}
+
+impl Question {
+    /// The first entry that isn't valid, or what the list says of the bits that are asked.
+    pub fn judge(self) -> Judged
+        ensures { result ≡ answer_of self }
+    {
+        let entries = self.list.entries().as_slice();
+        match first_invalid(entries) {
+            Some(fault) => Judged::AtEntry(fault),
+            None => {
+                let verdict = decide(entries, &self.caller, &self.owners, self.asked);
+                Judged::Says(self.list, verdict)
+            }
+        }
+    }
+}
+
+// The first entry that may not stand in the dacl of a folder.
+fn first_invalid(entries: &[Entry]) -> Option<EntryFault>
+    ensures { result ≡ first_invalid 1 entries.now }
+{
+    for (index, entry) in entries.iter().enumerate() {
+        if let Err(why) = valid(entry, Which::Dacl, ObjKind::Folder) {
+            return Some(EntryFault {
+                place: index + 1,
+                why,
+            });
+        }
+    }
+    None
+}
