@@ -27,8 +27,8 @@ ascii_at (b ∷ bs) h (suc i) = ascii_at bs (and_parts (nat_lt b 128) (list_all 
 pub fails_as_utf8 : (bytes : List ℕ) (n : ℕ) → ¬ (IsUtf8 bytes) → IsValidUpTo bytes n → is_utf8 bytes ≡ false
 fails_as_utf8 bytes n isnt upto =
     or_from (list_all (λ byte. nat_lt byte 128) bytes) (utf8_valid_len bytes == length bytes)
-      (false_from_ne_true _ (λ e. isnt (IsUtf8-from_ascii bytes (ascii_at bytes e))))
-      (ne_eqb _ _ (λ e. let at = utf8_valid_len-IsValidUpTo bytes n upto in let short = upto.short in absurd (omega (arith, at, e, short))))
+    (false_from_ne_true _ (λ e. isnt (IsUtf8-from_ascii bytes (ascii_at bytes e))))
+    (ne_eqb _ _ (λ e. let at = utf8_valid_len-IsValidUpTo bytes n upto in let short = upto.short in absurd (omega (arith, at, e, short))))
 
 -- a text of 1 to 255 bytes that is neither `.` nor `..` is a name by its bytes
 pub name_by_bytes : (name : List ℕ) → 0 < length name → length name ≤ 255 → same_text name (codes ".") ≡ false → same_text name (codes "..") ≡ false → IsUtf8 name → is_object_name name ≡ list_all is_name_byte name
@@ -39,7 +39,7 @@ name_by_bytes name some short dot dots utf8 =
     let no_dots = not_from_false _ dots in
     let is = passes_as_utf8 name utf8 in
     elim (cases_Bool (list_all is_name_byte name)) [
-      inl good ↦ and_from _ _ (and_from _ _ (and_from _ _ (and_from _ _ (and_from _ _ full fits) good) no_dot) no_dots) is ∙ sym good
+      | inl good ↦ and_from _ _ (and_from _ _ (and_from _ _ (and_from _ _ (and_from _ _ full fits) good) no_dot) no_dots) is ∙ sym good
       | inr bad ↦ and_left _ _ (and_left _ _ (and_left _ _ (and_right _ _ bad))) ∙ sym bad
     ]
 
@@ -69,7 +69,7 @@ pub no_slash_first : (text : List ℕ) → ((rest : List ℕ) → text ≢ 47 �
 no_slash_first [] isnt = refl
 no_slash_first (b ∷ bs) isnt =
     ap names_in (slice_split-cons_no (λ byte. byte == 47) b bs (ne_eqb b 47 (λ e. isnt bs (ap (λ (x : ℕ). x ∷ bs) e))))
-      ∙ first_not_empty b (pieces 47 bs)
+    ∙ first_not_empty b (pieces 47 bs)
 
 empty_first : (parts : List (List ℕ)) → 0 < length parts → names_in ([] ∷ [] ∷ parts) ≡ object_names ([] ∷ parts)
 empty_first [] some = absurd (omega (arith, some))
@@ -83,14 +83,14 @@ full_first b (p ∷ parts) = refl
 pub slash_first : (rest : List ℕ) → 0 < length rest → names_in (pieces 47 (47 ∷ rest)) ≡ object_names (pieces 47 rest)
 slash_first [] some = absurd (omega (arith, some))
 slash_first (b ∷ bs) some = elim (cases_Bool (b == 47)) [
-    inl is ↦
+  | inl is ↦
       let cut = slice_split-cons_yes (λ byte. byte == 47) b bs is in
       let counted = length-slice_split (λ byte. byte == 47) bs in
       ap (λ (parts : List (List ℕ)). names_in ([] ∷ parts)) cut ∙ empty_first (pieces 47 bs) (omega (arith, counted)) ∙ ap object_names (sym cut)
-    | inr isnt ↦
+  | inr isnt ↦
       let cut = slice_split-cons_no (λ byte. byte == 47) b bs isnt in
       ap (λ (parts : List (List ℕ)). names_in ([] ∷ parts)) cut ∙ full_first b (pieces 47 bs) ∙ ap object_names (sym cut)
-  ]
+]
 
 pub bad_name : (names : List (List ℕ)) → list_all is_object_name names ≡ false → object_names names ≡ Err BadName
 bad_name names bad = cond-false _ _ _ bad
@@ -112,10 +112,10 @@ joined_onto b bs (p ∷ parts) e = let inner : p ++ joined parts ≡ bs = cc in 
 pub joined-pieces : (rest : List ℕ) → joined (pieces 47 rest) ≡ 47 ∷ rest
 joined-pieces [] = refl
 joined-pieces (b ∷ bs) = elim (cases_Bool (b == 47)) [
-    inl is ↦
+  | inl is ↦
       ap joined (slice_split-cons_yes (λ byte. byte == 47) b bs is) ∙ ap (λ (l : List ℕ). 47 ∷ l) (joined-pieces bs) ∙ ap (λ (x : ℕ). 47 ∷ x ∷ bs) (sym (eqb-true b 47 is))
-    | inr isnt ↦ ap joined (slice_split-cons_no (λ byte. byte == 47) b bs isnt) ∙ joined_onto b bs (pieces 47 bs) (joined-pieces bs)
-  ]
+  | inr isnt ↦ ap joined (slice_split-cons_no (λ byte. byte == 47) b bs isnt) ∙ joined_onto b bs (pieces 47 bs) (joined-pieces bs)
+]
 
 pub joined-text : (names : List (List ℕ)) → length (joined names) ≤ 4096 → length (path_text names) ≤ 4096
 joined-text [] h = omega arith

@@ -85,8 +85,8 @@ IsChild content id child = (node_at content child.id ≡ Some child) × (child.p
 pub children_of-each : (content : Content) → Rises content → (id : ℕ) → AllByRecursion (IsChild content id) (children_of content id)
 children_of-each content rises id =
     lookups.each-sorted (IsChild content id) (filter (has_parent id) content.nodes)
-      (lookups.each-weaker (λ (n : Node). (node_at content n.id ≡ Some n) × (has_parent id n ≡ true)) (IsChild content id) (λ n is. (is.0, parent_is id n is.1)) (filter (has_parent id) content.nodes)
-        (lookups.each-kept (λ (n : Node). node_at content n.id ≡ Some n) (has_parent id) content.nodes (lookups.each_found 0 content.nodes rises)))
+    (lookups.each-weaker (λ (n : Node). (node_at content n.id ≡ Some n) × (has_parent id n ≡ true)) (IsChild content id) (λ n is. (is.0, parent_is id n is.1)) (filter (has_parent id) content.nodes)
+    (lookups.each-kept (λ (n : Node). node_at content n.id ≡ Some n) (has_parent id) content.nodes (lookups.each_found 0 content.nodes rises)))
 
 pub children_of-all : (content : Content) → Rises content → (id : ℕ) → All (IsChild content id) (children_of content id)
 children_of-all content rises id = All-from_recursion (IsChild content id) (children_of content id) (children_of-each content rises id)
@@ -95,8 +95,8 @@ children_of-all content rises id = All-from_recursion (IsChild content id) (chil
 pub children_of-contains : (content : Content) (id : ℕ) (child : Node) → node_at content child.id ≡ Some child → child.parent ≡ Some id → Contains (children_of content id) child
 children_of-contains content id child found parent =
     lookups.contains-stands (children_of content id) child
-      (lookups.stands-sorted (filter (has_parent id) content.nodes) child
-        (lookups.stands-kept (has_parent id) content.nodes child (lookups.stands-found (λ (n : Node). n.id == child.id) content.nodes child found) (has_its_parent id child parent)))
+    (lookups.stands-sorted (filter (has_parent id) content.nodes) child
+    (lookups.stands-kept (has_parent id) content.nodes child (lookups.stands-found (λ (n : Node). n.id == child.id) content.nodes child found) (has_its_parent id child parent)))
 
 -- ---- an object put
 
@@ -109,7 +109,7 @@ node_at-with_node-other content node id other = lookups.find-put_other node cont
 
 -- of two with one number the later stays
 pub with_node-with_node : (content : Content) (first second : Node) → first.id ≡ second.id → with_node (with_node content first) second ≡ with_node content second
-with_node-with_node content first second same = ap (λ (nodes : List Node). record content {nodes = nodes}) (lookups.put-put first second content.nodes same)
+with_node-with_node content first second same = ap (λ (nodes : List Node). record content { nodes = nodes }) (lookups.put-put first second content.nodes same)
 
 -- a new object under a parent leaves the root, and is the child of its name if there was none
 pub root_of-added : (content : Content) (node : Node) (id : ℕ) → node_at content node.id ≡ None → node.parent ≡ Some id → root_of (with_node content node) ≡ root_of content
@@ -118,7 +118,7 @@ root_of-added content node id unused parent = lookups.find-put_failing (λ (n : 
 pub child_of-added : (content : Content) (node : Node) (id : ℕ) → node.parent ≡ Some id → child_of content id node.name ≡ None → child_of (with_node content node) id node.name ≡ Some node
 child_of-added content node id parent none =
     lookups.find-put_passing (λ (n : Node). has_parent id n && same_text n.name node.name) node content.nodes
-      (ap (λ (t : Bool). t && same_text node.name node.name) (has_its_parent id node parent) ∙ (bytes_eq-Decides node.name node.name).1 refl) none
+    (ap (λ (t : Bool). t && same_text node.name node.name) (has_its_parent id node parent) ∙ (bytes_eq-Decides node.name node.name).1 refl) none
 
 pub child_of-added-other : (content : Content) (node : Node) (id : ℕ) (name : List ℕ) → node_at content node.id ≡ None → (has_parent id node && same_text node.name name) ≡ false → child_of (with_node content node) id name ≡ child_of content id name
 child_of-added-other content node id name unused isnt = lookups.find-put_failing (λ (n : Node). has_parent id n && same_text n.name name) node content.nodes isnt unused
@@ -171,9 +171,9 @@ module _ (content : Content) (change : Node → Node) (same : KeepsPlaces conten
   pub children_of-with_each : (id : ℕ) → children_of (with_each content change) id ≡ map change (children_of content id)
   children_of-with_each id =
       ap sorted_by_name (lookups.filter-changed change (has_parent id) (has_parent-of_place id) content.nodes same)
-        ∙ lookups.sorted-changed change (filter (has_parent id) content.nodes)
-            (lookups.each-weaker (λ (n : Node). IsSamePlace (change n) n × (has_parent id n ≡ true)) (λ (n : Node). IsSamePlace (change n) n) (λ n is. is.0) (filter (has_parent id) content.nodes)
-              (lookups.each-kept (λ (n : Node). IsSamePlace (change n) n) (has_parent id) content.nodes same))
+      ∙ lookups.sorted-changed change (filter (has_parent id) content.nodes)
+      (lookups.each-weaker (λ (n : Node). IsSamePlace (change n) n × (has_parent id n ≡ true)) (λ (n : Node). IsSamePlace (change n) n) (λ n is. is.0) (filter (has_parent id) content.nodes)
+      (lookups.each-kept (λ (n : Node). IsSamePlace (change n) n) (has_parent id) content.nodes same))
 
   pub numbers-with_each : map (λ (n : Node). n.id) (with_each content change).nodes ≡ map (λ (n : Node). n.id) content.nodes
   numbers-with_each = lookups.map-changed change (λ (n : Node). n.id) (λ a b place. place.number) content.nodes same
@@ -185,10 +185,10 @@ module _ (content : Content) (change : Node → Node) (same : KeepsPlaces conten
   pub children_of-part : {A : Type 0} (part : Node → A) → ((a b : Node) → IsSamePlace a b → part a ≡ part b) → (id : ℕ) → map part (children_of (with_each content change) id) ≡ map part (children_of content id)
   children_of-part part of_place id =
       ap (map part) (children_of-with_each id)
-        ∙ lookups.map-changed change part of_place (children_of content id)
-            (lookups.each-sorted (λ (n : Node). IsSamePlace (change n) n) (filter (has_parent id) content.nodes)
-              (lookups.each-weaker (λ (n : Node). IsSamePlace (change n) n × (has_parent id n ≡ true)) (λ (n : Node). IsSamePlace (change n) n) (λ n is. is.0) (filter (has_parent id) content.nodes)
-                (lookups.each-kept (λ (n : Node). IsSamePlace (change n) n) (has_parent id) content.nodes same)))
+      ∙ lookups.map-changed change part of_place (children_of content id)
+      (lookups.each-sorted (λ (n : Node). IsSamePlace (change n) n) (filter (has_parent id) content.nodes)
+      (lookups.each-weaker (λ (n : Node). IsSamePlace (change n) n × (has_parent id n ≡ true)) (λ (n : Node). IsSamePlace (change n) n) (λ n is. is.0) (filter (has_parent id) content.nodes)
+      (lookups.each-kept (λ (n : Node). IsSamePlace (change n) n) (has_parent id) content.nodes same)))
 
   pub children_numbers-with_each : (id : ℕ) → map (λ (n : Node). n.id) (children_of (with_each content change) id) ≡ map (λ (n : Node). n.id) (children_of content id)
   children_numbers-with_each id = children_of-part (λ (n : Node). n.id) (λ a b place. place.number) id
@@ -209,7 +209,7 @@ map-twice first second [] = refl
 map-twice first second (x ∷ xs) = ap (λ (l : List Node). second (first x) ∷ l) (map-twice first second xs)
 
 pub with_each-with_each : (content : Content) (first second : Node → Node) → with_each (with_each content first) second ≡ with_each content (λ (n : Node). second (first n))
-with_each-with_each content first second = ap (λ (nodes : List Node). record content {nodes = nodes}) (map-twice first second content.nodes)
+with_each-with_each content first second = ap (λ (nodes : List Node). record content { nodes = nodes }) (map-twice first second content.nodes)
 
 -- ---- an object put in the place of the one of its number
 
@@ -217,7 +217,7 @@ module _ (content : Content) (rises : Rises content) (id : ℕ) (node new : Node
   -- it is that of a change of each which leaves the others alone
   pub with_node-replaces : with_node content new ≡ with_each content (replaced new)
   with_node-replaces =
-      ap (λ (nodes : List Node). record content {nodes = nodes}) (lookups.put-replaces 0 content.nodes id node new rises found (same.number ∙ node_at-number content id node found))
+      ap (λ (nodes : List Node). record content { nodes = nodes }) (lookups.put-replaces 0 content.nodes id node new rises found (same.number ∙ node_at-number content id node found))
 
   pub places-replaced : KeepsPlaces content (replaced new)
   places-replaced = lookups.replaced_places 0 content.nodes id node new rises found same
@@ -260,7 +260,7 @@ place-with_held Dacl held node = record { number = refl; parent = refl; name = r
 place-with_held Sacl held node = record { number = refl; parent = refl; name = refl }
 
 pub place-with_inh : (which : Which) (entries : List Ace) (node : Node) → IsSamePlace (with_inh which entries node) node
-place-with_inh which entries node = place-with_held which (record (held_of which node) {inh = entries}) node
+place-with_inh which entries node = place-with_held which (record (held_of which node) { inh = entries }) node
 
 pub place-with_owners : (owners : Owners) (node : Node) → IsSamePlace (with_owners owners node) node
 place-with_owners owners node = record { number = refl; parent = refl; name = refl }
@@ -281,11 +281,11 @@ held_of-with_held-other Dacl Sacl held node apart = refl
 held_of-with_held-other Sacl Dacl held node apart = refl
 held_of-with_held-other Sacl Sacl held node apart = absurd (apart refl)
 
-pub held_of-with_inh : (which : Which) (entries : List Ace) (node : Node) → held_of which (with_inh which entries node) ≡ record (held_of which node) {inh = entries}
-held_of-with_inh which entries node = held_of-with_held which (record (held_of which node) {inh = entries}) node
+pub held_of-with_inh : (which : Which) (entries : List Ace) (node : Node) → held_of which (with_inh which entries node) ≡ record (held_of which node) { inh = entries }
+held_of-with_inh which entries node = held_of-with_held which (record (held_of which node) { inh = entries }) node
 
 pub held_of-with_inh-other : (which other : Which) (entries : List Ace) (node : Node) → (which ≡ other → ⊥) → held_of other (with_inh which entries node) ≡ held_of other node
-held_of-with_inh-other which other entries node apart = held_of-with_held-other which other (record (held_of which node) {inh = entries}) node apart
+held_of-with_inh-other which other entries node apart = held_of-with_held-other which other (record (held_of which node) { inh = entries }) node apart
 
 pub kind-with_held : (which : Which) (held : Held) (node : Node) → (with_held which held node).kind ≡ node.kind
 kind-with_held Dacl held node = refl
@@ -333,26 +333,26 @@ bytes_before id bytes row rows above = cond-false _ _ _ (le-ltb row.0 id (omega 
 bytes_put : (id : ℕ) (bytes : List ℕ) (rows : List (ℕ × List ℕ)) → body_in (put_body id bytes rows) id ≡ Some bytes
 bytes_put id bytes [] = body_yes (id, bytes) [] id (eq-eqb id id refl)
 bytes_put id bytes (row ∷ rows) = elim (cases_order row.0 id) [
-    inl e ↦ ap (λ (l : List (ℕ × List ℕ)). body_in l id) (bytes_here id bytes row rows e) ∙ body_yes (id, bytes) rows id (eq-eqb id id refl)
-    | inr apart ↦ elim apart [
-        inl below ↦ ap (λ (l : List (ℕ × List ℕ)). body_in l id) (bytes_behind id bytes row rows below) ∙ body_no row (put_body id bytes rows) id (ne_eqb row.0 id (λ e. absurd (omega (arith, below, e)))) ∙ bytes_put id bytes rows
-        | inr above ↦ ap (λ (l : List (ℕ × List ℕ)). body_in l id) (bytes_before id bytes row rows above) ∙ body_yes (id, bytes) (row ∷ rows) id (eq-eqb id id refl)
-      ]
+  | inl e ↦ ap (λ (l : List (ℕ × List ℕ)). body_in l id) (bytes_here id bytes row rows e) ∙ body_yes (id, bytes) rows id (eq-eqb id id refl)
+  | inr apart ↦ elim apart [
+    | inl below ↦ ap (λ (l : List (ℕ × List ℕ)). body_in l id) (bytes_behind id bytes row rows below) ∙ body_no row (put_body id bytes rows) id (ne_eqb row.0 id (λ e. absurd (omega (arith, below, e)))) ∙ bytes_put id bytes rows
+    | inr above ↦ ap (λ (l : List (ℕ × List ℕ)). body_in l id) (bytes_before id bytes row rows above) ∙ body_yes (id, bytes) (row ∷ rows) id (eq-eqb id id refl)
   ]
+]
 
 bytes_put-other : (id : ℕ) (bytes : List ℕ) (rows : List (ℕ × List ℕ)) (at : ℕ) → (at ≡ id → ⊥) → body_in (put_body id bytes rows) at ≡ body_in rows at
 bytes_put-other id bytes [] at other = body_no (id, bytes) [] at (ne_eqb id at (λ e. other (sym e)))
 bytes_put-other id bytes (row ∷ rows) at other =
     let fails : (id == at) ≡ false = ne_eqb id at (λ e. other (sym e)) in
     elim (cases_order row.0 id) [
-      inl e ↦ ap (λ (l : List (ℕ × List ℕ)). body_in l at) (bytes_here id bytes row rows e) ∙ body_no (id, bytes) rows at fails ∙ sym (body_no row rows at (ne_eqb row.0 at (λ e'. other (sym e' ∙ e))))
+      | inl e ↦ ap (λ (l : List (ℕ × List ℕ)). body_in l at) (bytes_here id bytes row rows e) ∙ body_no (id, bytes) rows at fails ∙ sym (body_no row rows at (ne_eqb row.0 at (λ e'. other (sym e' ∙ e))))
       | inr apart ↦ elim apart [
-          inl below ↦ ap (λ (l : List (ℕ × List ℕ)). body_in l at) (bytes_behind id bytes row rows below) ∙ (elim (cases_Bool (row.0 == at)) [
-              inl is ↦ body_yes row (put_body id bytes rows) at is ∙ sym (body_yes row rows at is)
-              | inr isnt ↦ body_no row (put_body id bytes rows) at isnt ∙ bytes_put-other id bytes rows at other ∙ sym (body_no row rows at isnt)
-            ])
-          | inr above ↦ ap (λ (l : List (ℕ × List ℕ)). body_in l at) (bytes_before id bytes row rows above) ∙ body_no (id, bytes) (row ∷ rows) at fails
-        ]
+        | inl below ↦ ap (λ (l : List (ℕ × List ℕ)). body_in l at) (bytes_behind id bytes row rows below) ∙ (elim (cases_Bool (row.0 == at)) [
+          | inl is ↦ body_yes row (put_body id bytes rows) at is ∙ sym (body_yes row rows at is)
+          | inr isnt ↦ body_no row (put_body id bytes rows) at isnt ∙ bytes_put-other id bytes rows at other ∙ sym (body_no row rows at isnt)
+        ])
+        | inr above ↦ ap (λ (l : List (ℕ × List ℕ)). body_in l at) (bytes_before id bytes row rows above) ∙ body_no (id, bytes) (row ∷ rows) at fails
+      ]
     ]
 
 -- the bytes that were put

@@ -26,16 +26,16 @@ same_some x y e = ap (λ o. option_map_or (λ n. n) o x) e
 pub found_passes : {X : Type 0} (p : X → Bool) (xs : List X) (x : X) → find p xs ≡ Some x → p x ≡ true
 found_passes p [] x found = absurd (not_none x found)
 found_passes p (y ∷ ys) x found = elim (cases_Bool (p y)) [
-    inl is ↦ subst (λ z. p z ≡ true) (same_some y x (sym (find_yes p y ys is) ∙ found)) is
-    | inr isnt ↦ found_passes p ys x (sym (find_no p y ys isnt) ∙ found)
-  ]
+  | inl is ↦ subst (λ z. p z ≡ true) (same_some y x (sym (find_yes p y ys is) ∙ found)) is
+  | inr isnt ↦ found_passes p ys x (sym (find_no p y ys isnt) ∙ found)
+]
 
 -- where none is found, neither the first nor a later one passes
 pub none_found : {X : Type 0} (p : X → Bool) (x : X) (xs : List X) → find p (x ∷ xs) ≡ None → (p x ≡ false) × (find p xs ≡ None)
 none_found p x xs none = elim (cases_Bool (p x)) [
-    inl is ↦ absurd (not_none x (sym none ∙ find_yes p x xs is))
-    | inr isnt ↦ (isnt, sym (find_no p x xs isnt) ∙ none)
-  ]
+  | inl is ↦ absurd (not_none x (sym none ∙ find_yes p x xs is))
+  | inr isnt ↦ (isnt, sym (find_no p x xs isnt) ∙ none)
+]
 
 -- ---- the first that passes, of those that are kept
 
@@ -49,16 +49,16 @@ keep_no q x xs isnt = cond-false (q x) (x ∷ filter q xs) (filter q xs) isnt
 pub find-kept : {X : Type 0} (p q : X → Bool) (xs : List X) (x : X) → find p xs ≡ Some x → q x ≡ true → find p (filter q xs) ≡ Some x
 find-kept p q [] x found kept = absurd (not_none x found)
 find-kept p q (y ∷ ys) x found kept = elim (cases_Bool (p y)) [
-    inl is ↦
+  | inl is ↦
       let it = same_some y x (sym (find_yes p y ys is) ∙ found) in
       ap (find p) (keep_yes q y ys (ap q it ∙ kept)) ∙ find_yes p y (filter q ys) is ∙ ap (λ z. Some z) it
-    | inr isnt ↦
+  | inr isnt ↦
       let later = find-kept p q ys x (sym (find_no p y ys isnt) ∙ found) kept in
       elim (cases_Bool (q y)) [
-        inl stays ↦ ap (find p) (keep_yes q y ys stays) ∙ find_no p y (filter q ys) isnt ∙ later
+        | inl stays ↦ ap (find p) (keep_yes q y ys stays) ∙ find_no p y (filter q ys) isnt ∙ later
         | inr goes ↦ ap (find p) (keep_no q y ys goes) ∙ later
       ]
-  ]
+]
 
 -- nothing is found among fewer
 pub find-kept_none : {X : Type 0} (p q : X → Bool) (xs : List X) → find p xs ≡ None → find p (filter q xs) ≡ None
@@ -67,7 +67,7 @@ find-kept_none p q (y ∷ ys) none =
     let parts = none_found p y ys none in
     let later = find-kept_none p q ys parts.1 in
     elim (cases_Bool (q y)) [
-      inl stays ↦ ap (find p) (keep_yes q y ys stays) ∙ find_no p y (filter q ys) parts.0 ∙ later
+      | inl stays ↦ ap (find p) (keep_yes q y ys stays) ∙ find_no p y (filter q ys) parts.0 ∙ later
       | inr goes ↦ ap (find p) (keep_no q y ys goes) ∙ later
     ]
 
@@ -77,11 +77,11 @@ find-kept_gone p q [] gone = refl
 find-kept_gone p q (y ∷ ys) gone =
     let later = find-kept_gone p q ys gone in
     elim (cases_Bool (p y)) [
-      inl is ↦ ap (find p) (keep_no q y ys (gone y is)) ∙ later
+      | inl is ↦ ap (find p) (keep_no q y ys (gone y is)) ∙ later
       | inr isnt ↦ elim (cases_Bool (q y)) [
-          inl stays ↦ ap (find p) (keep_yes q y ys stays) ∙ find_no p y (filter q ys) isnt ∙ later
-          | inr goes ↦ ap (find p) (keep_no q y ys goes) ∙ later
-        ]
+        | inl stays ↦ ap (find p) (keep_yes q y ys stays) ∙ find_no p y (filter q ys) isnt ∙ later
+        | inr goes ↦ ap (find p) (keep_no q y ys goes) ∙ later
+      ]
     ]
 
 -- where all that pass are kept, the same is found
@@ -90,13 +90,13 @@ find-kept_all p q [] kept = refl
 find-kept_all p q (y ∷ ys) kept =
     let later = find-kept_all p q ys kept in
     elim (cases_Bool (p y)) [
-      inl is ↦ ap (find p) (keep_yes q y ys (kept y is)) ∙ find_yes p y (filter q ys) is ∙ sym (find_yes p y ys is)
+      | inl is ↦ ap (find p) (keep_yes q y ys (kept y is)) ∙ find_yes p y (filter q ys) is ∙ sym (find_yes p y ys is)
       | inr isnt ↦
-        let before = later ∙ sym (find_no p y ys isnt) in
-        elim (cases_Bool (q y)) [
-          inl stays ↦ ap (find p) (keep_yes q y ys stays) ∙ find_no p y (filter q ys) isnt ∙ before
-          | inr goes ↦ ap (find p) (keep_no q y ys goes) ∙ before
-        ]
+          let before = later ∙ sym (find_no p y ys isnt) in
+          elim (cases_Bool (q y)) [
+            | inl stays ↦ ap (find p) (keep_yes q y ys stays) ∙ find_no p y (filter q ys) isnt ∙ before
+            | inr goes ↦ ap (find p) (keep_no q y ys goes) ∙ before
+          ]
     ]
 
 -- ---- facts of each that stay
@@ -104,9 +104,9 @@ find-kept_all p q (y ∷ ys) kept =
 pub each-kept : {X : Type 0} (P : X → Type 0) (q : X → Bool) (xs : List X) → AllByRecursion P xs → AllByRecursion (λ x. P x × (q x ≡ true)) (filter q xs)
 each-kept P q [] each = tt
 each-kept P q (y ∷ ys) each = elim (cases_Bool (q y)) [
-    inl stays ↦ subst (AllByRecursion (λ x. P x × (q x ≡ true))) (sym (keep_yes q y ys stays)) ((each.0, stays), each-kept P q ys each.1)
-    | inr goes ↦ subst (AllByRecursion (λ x. P x × (q x ≡ true))) (sym (keep_no q y ys goes)) (each-kept P q ys each.1)
-  ]
+  | inl stays ↦ subst (AllByRecursion (λ x. P x × (q x ≡ true))) (sym (keep_yes q y ys stays)) ((each.0, stays), each-kept P q ys each.1)
+  | inr goes ↦ subst (AllByRecursion (λ x. P x × (q x ≡ true))) (sym (keep_no q y ys goes)) (each-kept P q ys each.1)
+]
 
 pub each-weaker : {X : Type 0} (P Q : X → Type 0) → ((x : X) → P x → Q x) → (xs : List X) → AllByRecursion P xs → AllByRecursion Q xs
 each-weaker P Q weaker [] each = tt
@@ -121,9 +121,9 @@ name_here node other others isnt = cond-false _ _ _ isnt
 each-put_by_name : (P : Node → Type 0) (node : Node) (nodes : List Node) → P node → AllByRecursion P nodes → AllByRecursion P (put_by_name node nodes)
 each-put_by_name P node [] here each = (here, tt)
 each-put_by_name P node (other ∷ others) here each = elim (cases_Bool (is_before other.name node.name)) [
-    inl is ↦ subst (AllByRecursion P) (sym (name_behind node other others is)) (each.0, each-put_by_name P node others here each.1)
-    | inr isnt ↦ subst (AllByRecursion P) (sym (name_here node other others isnt)) (here, each)
-  ]
+  | inl is ↦ subst (AllByRecursion P) (sym (name_behind node other others is)) (each.0, each-put_by_name P node others here each.1)
+  | inr isnt ↦ subst (AllByRecursion P) (sym (name_here node other others isnt)) (here, each)
+]
 
 pub each-sorted : (P : Node → Type 0) (nodes : List Node) → AllByRecursion P nodes → AllByRecursion P (sorted_by_name nodes)
 each-sorted P [] each = tt
@@ -138,9 +138,9 @@ Stands node (other ∷ others) = (other ≡ node) ⊎ Stands node others
 pub stands-found : (p : Node → Bool) (nodes : List Node) (node : Node) → find p nodes ≡ Some node → Stands node nodes
 stands-found p [] node found = absurd (not_none node found)
 stands-found p (y ∷ ys) node found = elim (cases_Bool (p y)) [
-    inl is ↦ inl (same_some y node (sym (find_yes p y ys is) ∙ found))
-    | inr isnt ↦ inr (stands-found p ys node (sym (find_no p y ys isnt) ∙ found))
-  ]
+  | inl is ↦ inl (same_some y node (sym (find_yes p y ys is) ∙ found))
+  | inr isnt ↦ inr (stands-found p ys node (sym (find_no p y ys isnt) ∙ found))
+]
 
 pub stands-kept : (q : Node → Bool) (nodes : List Node) (node : Node) → Stands node nodes → q node ≡ true → Stands node (filter q nodes)
 stands-kept q [] node h kept = absurd h
@@ -148,19 +148,19 @@ stands-kept q (y ∷ ys) node (inl it) kept = subst (Stands node) (sym (keep_yes
 stands-kept q (y ∷ ys) node (inr later) kept =
     let rest = stands-kept q ys node later kept in
     elim (cases_Bool (q y)) [
-      inl stays ↦ subst (Stands node) (sym (keep_yes q y ys stays)) (inr rest)
+      | inl stays ↦ subst (Stands node) (sym (keep_yes q y ys stays)) (inr rest)
       | inr goes ↦ subst (Stands node) (sym (keep_no q y ys goes)) rest
     ]
 
 stands-put_by_name : (other : Node) (nodes : List Node) (node : Node) → (other ≡ node) ⊎ Stands node nodes → Stands node (put_by_name other nodes)
 stands-put_by_name other [] node h = h
 stands-put_by_name other (y ∷ ys) node h = elim (cases_Bool (is_before y.name other.name)) [
-    inl is ↦ subst (Stands node) (sym (name_behind other y ys is)) (elim h [
-        inl it ↦ inr (stands-put_by_name other ys node (inl it))
-        | inr rest ↦ elim rest [ inl it ↦ inl it | inr later ↦ inr (stands-put_by_name other ys node (inr later)) ]
-      ])
-    | inr isnt ↦ subst (Stands node) (sym (name_here other y ys isnt)) h
-  ]
+  | inl is ↦ subst (Stands node) (sym (name_behind other y ys is)) (elim h [
+    | inl it ↦ inr (stands-put_by_name other ys node (inl it))
+    | inr rest ↦ elim rest [ inl it ↦ inl it | inr later ↦ inr (stands-put_by_name other ys node (inr later)) ]
+  ])
+  | inr isnt ↦ subst (Stands node) (sym (name_here other y ys isnt)) h
+]
 
 pub stands-sorted : (nodes : List Node) (node : Node) → Stands node nodes → Stands node (sorted_by_name nodes)
 stands-sorted [] node h = absurd h
@@ -190,7 +190,7 @@ found_above k (x ∷ xs) id node rises found =
     let parts = and_parts (nat_lt k x.id) (is_rising (x.id ∷ map (λ (n : Node). n.id) xs)) rises in
     let up = ltb-true k x.id parts.0 in
     elim (cases_Bool (x.id == id)) [
-      inl is ↦ subst (λ (n : Node). k < n.id) (same_some x node (sym (find_yes (λ (n : Node). n.id == id) x xs is) ∙ found)) up
+      | inl is ↦ subst (λ (n : Node). k < n.id) (same_some x node (sym (find_yes (λ (n : Node). n.id == id) x xs is) ∙ found)) up
       | inr isnt ↦ let next = found_above x.id xs id node parts.1 (sym (find_no (λ (n : Node). n.id == id) x xs isnt) ∙ found) in omega (arith, up, next)
     ]
 
@@ -224,11 +224,11 @@ find-put_same node (x ∷ xs) =
     let test = λ (n : Node). n.id == node.id in
     let itself = eq-eqb node.id node.id refl in
     elim (cases_order x.id node.id) [
-      inl e ↦ ap (find test) (put_same node x xs e) ∙ find_yes test node xs itself
+      | inl e ↦ ap (find test) (put_same node x xs e) ∙ find_yes test node xs itself
       | inr apart ↦ elim apart [
-          inl below ↦ ap (find test) (put_behind node x xs below) ∙ find_no test x (put_node node xs) (ne_eqb x.id node.id (λ e. absurd (omega (arith, below, e)))) ∙ find-put_same node xs
-          | inr above ↦ ap (find test) (put_before node x xs above) ∙ find_yes test node (x ∷ xs) itself
-        ]
+        | inl below ↦ ap (find test) (put_behind node x xs below) ∙ find_no test x (put_node node xs) (ne_eqb x.id node.id (λ e. absurd (omega (arith, below, e)))) ∙ find-put_same node xs
+        | inr above ↦ ap (find test) (put_before node x xs above) ∙ find_yes test node (x ∷ xs) itself
+      ]
     ]
 
 -- by any other number the same is found as before
@@ -238,14 +238,14 @@ find-put_other node (x ∷ xs) id other =
     let test = λ (n : Node). n.id == id in
     let fails : test node ≡ false = ne_eqb node.id id (λ e. other (sym e)) in
     elim (cases_order x.id node.id) [
-      inl e ↦ ap (find test) (put_same node x xs e) ∙ find_no test node xs fails ∙ sym (find_no test x xs (ne_eqb x.id id (λ e'. other (sym e' ∙ e))))
+      | inl e ↦ ap (find test) (put_same node x xs e) ∙ find_no test node xs fails ∙ sym (find_no test x xs (ne_eqb x.id id (λ e'. other (sym e' ∙ e))))
       | inr apart ↦ elim apart [
-          inl below ↦ ap (find test) (put_behind node x xs below) ∙ (elim (cases_Bool (x.id == id)) [
-              inl is ↦ find_yes test x (put_node node xs) is ∙ sym (find_yes test x xs is)
-              | inr isnt ↦ find_no test x (put_node node xs) isnt ∙ find-put_other node xs id other ∙ sym (find_no test x xs isnt)
-            ])
-          | inr above ↦ ap (find test) (put_before node x xs above) ∙ find_no test node (x ∷ xs) fails
-        ]
+        | inl below ↦ ap (find test) (put_behind node x xs below) ∙ (elim (cases_Bool (x.id == id)) [
+          | inl is ↦ find_yes test x (put_node node xs) is ∙ sym (find_yes test x xs is)
+          | inr isnt ↦ find_no test x (put_node node xs) isnt ∙ find-put_other node xs id other ∙ sym (find_no test x xs isnt)
+        ])
+        | inr above ↦ ap (find test) (put_before node x xs above) ∙ find_no test node (x ∷ xs) fails
+      ]
     ]
 
 -- a new object that fails a test leaves what the test finds
@@ -254,14 +254,14 @@ find-put_failing p node [] fails unused = find_no p node [] fails
 find-put_failing p node (x ∷ xs) fails unused =
     let parts = none_found (λ (n : Node). n.id == node.id) x xs unused in
     elim (cases_order x.id node.id) [
-      inl e ↦ absurd (false≢true (sym parts.0 ∙ eq-eqb x.id node.id e))
+      | inl e ↦ absurd (false≢true (sym parts.0 ∙ eq-eqb x.id node.id e))
       | inr apart ↦ elim apart [
-          inl below ↦ ap (find p) (put_behind node x xs below) ∙ (elim (cases_Bool (p x)) [
-              inl is ↦ find_yes p x (put_node node xs) is ∙ sym (find_yes p x xs is)
-              | inr isnt ↦ find_no p x (put_node node xs) isnt ∙ find-put_failing p node xs fails parts.1 ∙ sym (find_no p x xs isnt)
-            ])
-          | inr above ↦ ap (find p) (put_before node x xs above) ∙ find_no p node (x ∷ xs) fails
-        ]
+        | inl below ↦ ap (find p) (put_behind node x xs below) ∙ (elim (cases_Bool (p x)) [
+          | inl is ↦ find_yes p x (put_node node xs) is ∙ sym (find_yes p x xs is)
+          | inr isnt ↦ find_no p x (put_node node xs) isnt ∙ find-put_failing p node xs fails parts.1 ∙ sym (find_no p x xs isnt)
+        ])
+        | inr above ↦ ap (find p) (put_before node x xs above) ∙ find_no p node (x ∷ xs) fails
+      ]
     ]
 
 -- an object that passes a test which none passed is what the test finds
@@ -270,24 +270,24 @@ find-put_passing p node [] passes none = find_yes p node [] passes
 find-put_passing p node (x ∷ xs) passes none =
     let parts = none_found p x xs none in
     elim (cases_order x.id node.id) [
-      inl e ↦ ap (find p) (put_same node x xs e) ∙ find_yes p node xs passes
+      | inl e ↦ ap (find p) (put_same node x xs e) ∙ find_yes p node xs passes
       | inr apart ↦ elim apart [
-          inl below ↦ ap (find p) (put_behind node x xs below) ∙ find_no p x (put_node node xs) parts.0 ∙ find-put_passing p node xs passes parts.1
-          | inr above ↦ ap (find p) (put_before node x xs above) ∙ find_yes p node (x ∷ xs) passes
-        ]
+        | inl below ↦ ap (find p) (put_behind node x xs below) ∙ find_no p x (put_node node xs) parts.0 ∙ find-put_passing p node xs passes parts.1
+        | inr above ↦ ap (find p) (put_before node x xs above) ∙ find_yes p node (x ∷ xs) passes
+      ]
     ]
 
 -- the later of two with one number stays
 pub put-put : (first second : Node) (nodes : List Node) → first.id ≡ second.id → put_node second (put_node first nodes) ≡ put_node second nodes
 put-put first second [] e = put_same second first [] e
 put-put first second (x ∷ xs) e = elim (cases_order x.id first.id) [
-    inl same ↦ ap (put_node second) (put_same first x xs same) ∙ put_same second first xs e ∙ sym (put_same second x xs (same ∙ e))
-    | inr apart ↦ elim apart [
-        inl below ↦ ap (put_node second) (put_behind first x xs below) ∙ put_behind second x (put_node first xs) (omega (arith, below, e)) ∙ ap (λ (l : List Node). x ∷ l) (put-put first second xs e)
-          ∙ sym (put_behind second x xs (omega (arith, below, e)))
-        | inr above ↦ ap (put_node second) (put_before first x xs above) ∙ put_same second first (x ∷ xs) e ∙ sym (put_before second x xs (omega (arith, above, e)))
-      ]
+  | inl same ↦ ap (put_node second) (put_same first x xs same) ∙ put_same second first xs e ∙ sym (put_same second x xs (same ∙ e))
+  | inr apart ↦ elim apart [
+    | inl below ↦ ap (put_node second) (put_behind first x xs below) ∙ put_behind second x (put_node first xs) (omega (arith, below, e)) ∙ ap (λ (l : List Node). x ∷ l) (put-put first second xs e)
+        ∙ sym (put_behind second x xs (omega (arith, below, e)))
+    | inr above ↦ ap (put_node second) (put_before first x xs above) ∙ put_same second first (x ∷ xs) e ∙ sym (put_before second x xs (omega (arith, above, e)))
   ]
+]
 
 -- ---- an object put in the place of the one of its number
 
@@ -324,16 +324,16 @@ put-replaces k [] id node new rises found same = absurd (not_none node found)
 put-replaces k (x ∷ xs) id node new rises found same =
     let parts = and_parts (nat_lt k x.id) (is_rising (x.id ∷ map (λ (n : Node). n.id) xs)) rises in
     elim (cases_Bool (x.id == id)) [
-      inl is ↦
-        let e : x.id ≡ new.id = eqb-true x.id id is ∙ sym same in
-        let rest = untouched x.id xs new parts.1 (omega (arith, e)) in
-        put_same new x xs e ∙ sym (ap (λ (n : Node). n ∷ map (replaced new) xs) (replaced_here new x e) ∙ ap (λ (l : List Node). new ∷ l) rest)
+      | inl is ↦
+          let e : x.id ≡ new.id = eqb-true x.id id is ∙ sym same in
+          let rest = untouched x.id xs new parts.1 (omega (arith, e)) in
+          put_same new x xs e ∙ sym (ap (λ (n : Node). n ∷ map (replaced new) xs) (replaced_here new x e) ∙ ap (λ (l : List Node). new ∷ l) rest)
       | inr isnt ↦
-        let later = sym (find_no (λ (n : Node). n.id == id) x xs isnt) ∙ found in
-        let above = found_above x.id xs id node parts.1 later in
-        let number = found_number id xs node later in
-        let below : x.id < new.id = omega (arith, above, number, same) in
-        put_behind new x xs below ∙ ap (λ (l : List Node). x ∷ l) (put-replaces x.id xs id node new parts.1 later same)
+          let later = sym (find_no (λ (n : Node). n.id == id) x xs isnt) ∙ found in
+          let above = found_above x.id xs id node parts.1 later in
+          let number = found_number id xs node later in
+          let below : x.id < new.id = omega (arith, above, number, same) in
+          put_behind new x xs below ∙ ap (λ (l : List Node). x ∷ l) (put-replaces x.id xs id node new parts.1 later same)
           ∙ sym (ap (λ (n : Node). n ∷ map (replaced new) xs) (replaced_elsewhere new x (λ e. absurd (omega (arith, below, e)))))
     ]
 
@@ -354,16 +354,16 @@ replaced_places k [] id node new rises found same = tt
 replaced_places k (x ∷ xs) id node new rises found same =
     let parts = and_parts (nat_lt k x.id) (is_rising (x.id ∷ map (λ (n : Node). n.id) xs)) rises in
     elim (cases_Bool (x.id == id)) [
-      inl is ↦
-        let it = same_some x node (sym (find_yes (λ (n : Node). n.id == id) x xs is) ∙ found) in
-        let e : x.id ≡ new.id = ap (λ (n : Node). n.id) it ∙ sym same.number in
-        (place_of (replaced new x) new x (replaced_here new x e) (subst (λ (n : Node). IsSamePlace new n) (sym it) same), untouched_places x.id xs new parts.1 (omega (arith, e)))
+      | inl is ↦
+          let it = same_some x node (sym (find_yes (λ (n : Node). n.id == id) x xs is) ∙ found) in
+          let e : x.id ≡ new.id = ap (λ (n : Node). n.id) it ∙ sym same.number in
+          (place_of (replaced new x) new x (replaced_here new x e) (subst (λ (n : Node). IsSamePlace new n) (sym it) same), untouched_places x.id xs new parts.1 (omega (arith, e)))
       | inr isnt ↦
-        let later = sym (find_no (λ (n : Node). n.id == id) x xs isnt) ∙ found in
-        let above = found_above x.id xs id node parts.1 later in
-        let number = same.number in
-        let below : x.id < new.id = omega (arith, above, number) in
-        (place_of (replaced new x) x x (replaced_elsewhere new x (λ e. absurd (omega (arith, below, e)))) (same_place x), replaced_places x.id xs id node new parts.1 later same)
+          let later = sym (find_no (λ (n : Node). n.id == id) x xs isnt) ∙ found in
+          let above = found_above x.id xs id node parts.1 later in
+          let number = same.number in
+          let below : x.id < new.id = omega (arith, above, number) in
+          (place_of (replaced new x) x x (replaced_elsewhere new x (λ e. absurd (omega (arith, below, e)))) (same_place x), replaced_places x.id xs id node new parts.1 later same)
     ]
 
 -- ---- changes that leave number, parent and name
@@ -375,7 +375,7 @@ module _ (change : Node → Node) where
   find-changed p of_place (x ∷ xs) same =
       let as_before = of_place (change x) x same.0 in
       elim (cases_Bool (p x)) [
-        inl is ↦ find_yes p (change x) (map change xs) (as_before ∙ is) ∙ sym (ap (option_map change) (find_yes p x xs is))
+        | inl is ↦ find_yes p (change x) (map change xs) (as_before ∙ is) ∙ sym (ap (option_map change) (find_yes p x xs is))
         | inr isnt ↦ find_no p (change x) (map change xs) (as_before ∙ isnt) ∙ find-changed p of_place xs same.1 ∙ sym (ap (option_map change) (find_no p x xs isnt))
       ]
 
@@ -384,7 +384,7 @@ module _ (change : Node → Node) where
   filter-changed p of_place (x ∷ xs) same =
       let as_before = of_place (change x) x same.0 in
       elim (cases_Bool (p x)) [
-        inl is ↦ keep_yes p (change x) (map change xs) (as_before ∙ is) ∙ ap (λ (l : List Node). change x ∷ l) (filter-changed p of_place xs same.1) ∙ sym (ap (map change) (keep_yes p x xs is))
+        | inl is ↦ keep_yes p (change x) (map change xs) (as_before ∙ is) ∙ ap (λ (l : List Node). change x ∷ l) (filter-changed p of_place xs same.1) ∙ sym (ap (map change) (keep_yes p x xs is))
         | inr isnt ↦ keep_no p (change x) (map change xs) (as_before ∙ isnt) ∙ filter-changed p of_place xs same.1 ∙ sym (ap (map change) (keep_no p x xs isnt))
       ]
 
@@ -393,8 +393,8 @@ module _ (change : Node → Node) where
   put_by_name-changed node (x ∷ xs) here same =
       let as_before : is_before (change x).name (change node).name ≡ is_before x.name node.name = ap (λ n. is_before n (change node).name) same.0.name ∙ ap (is_before x.name) here.name in
       elim (cases_Bool (is_before x.name node.name)) [
-        inl is ↦
-          name_behind (change node) (change x) (map change xs) (as_before ∙ is) ∙ ap (λ (l : List Node). change x ∷ l) (put_by_name-changed node xs here same.1)
+        | inl is ↦
+            name_behind (change node) (change x) (map change xs) (as_before ∙ is) ∙ ap (λ (l : List Node). change x ∷ l) (put_by_name-changed node xs here same.1)
             ∙ sym (ap (map change) (name_behind node x xs is))
         | inr isnt ↦ name_here (change node) (change x) (map change xs) (as_before ∙ isnt) ∙ sym (ap (map change) (name_here node x xs isnt))
       ]

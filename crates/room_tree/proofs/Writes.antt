@@ -11,11 +11,11 @@ use Rattle.room_tree.proofs.Steps.{HasRead, Laws, later_cause}
 -- a count that is capped twice
 pub capped_twice : (n more : ℕ) → capped (capped n + more) ≡ capped (n + more)
 capped_twice n more = elim (cases_lt n (2 ^ 64 - 1)) [
-    inl below ↦ ap (λ (k : ℕ). capped (k + more)) (capped_below n (omega (arith, below)))
-    | inr past ↦
+  | inl below ↦ ap (λ (k : ℕ). capped (k + more)) (capped_below n (omega (arith, below)))
+  | inr past ↦
       let ends = capped_past n past in
       capped_past (capped n + more) (omega (arith, ends)) ∙ sym (capped_past (n + more) (omega (arith, past)))
-  ]
+]
 
 module _ {S : Type 0} (rows : S → Rows) (failures writes : S → ℕ) (Follows IsTrusted : S → S → Type 0) where
   -- calls that each answered, of which so many wrote, and what became of the rows
@@ -27,10 +27,10 @@ module _ {S : Type 0} (rows : S → Rows) (failures writes : S → ℕ) (Follows
   -- reads alone
   pub none_written : (a b : S) → writes a ≤ 2 ^ 64 - 1 → HasRead rows failures writes Follows IsTrusted a b → HasWritten 0 a b (λ old new. new ≡ old)
   none_written a b ends read = record {
-      follows = read.follows;
-      written = read.unwritten ∙ sym (capped_below (writes a) ends) ∙ ap capped (sym (nothing_more (writes a)));
-      becomes = read.same;
-    }
+    follows = read.follows;
+    written = read.unwritten ∙ sym (capped_below (writes a) ends) ∙ ap capped (sym (nothing_more (writes a)));
+    becomes = read.same;
+  }
     where
       nothing_more : (n : ℕ) → n + 0 ≡ n
       nothing_more n = omega arith
@@ -47,18 +47,18 @@ module _ {S : Type 0} (rows : S → Rows) (failures writes : S → ℕ) (Follows
   pub written_on : Laws rows failures writes Follows IsTrusted → {first second : ℕ} (a b c : S) {Before After Becomes : Rows → Rows → Type 0} → ((old mid new : Rows) → Before old mid → After mid new → Becomes old new)
       → HasWritten first a b Before → HasWritten second b c After → HasWritten (first + second) a c Becomes
   written_on laws {first} {second} a b c joins done more = record {
-      follows = laws.on a b c done.follows more.follows;
-      written = more.written ∙ ap (λ (n : ℕ). capped (n + second)) done.written ∙ capped_twice (writes a + first) second ∙ ap capped (add_assoc (writes a) first second);
-      becomes = λ t. joins (rows a) (rows b) (rows c) (done.becomes (laws.first a b c done.follows more.follows t)) (more.becomes (laws.last a b c done.follows more.follows t));
-    }
+    follows = laws.on a b c done.follows more.follows;
+    written = more.written ∙ ap (λ (n : ℕ). capped (n + second)) done.written ∙ capped_twice (writes a + first) second ∙ ap capped (add_assoc (writes a) first second);
+    becomes = λ t. joins (rows a) (rows b) (rows c) (done.becomes (laws.first a b c done.follows more.follows t)) (more.becomes (laws.last a b c done.follows more.follows t));
+  }
 
   -- reads after writes
   pub reads_after : Laws rows failures writes Follows IsTrusted → {count : ℕ} (a b c : S) {Becomes : Rows → Rows → Type 0} → HasWritten count a b Becomes → HasRead rows failures writes Follows IsTrusted b c → HasWritten count a c Becomes
   reads_after laws a b c {Becomes} done read = record {
-      follows = laws.on a b c done.follows read.follows;
-      written = read.unwritten ∙ done.written;
-      becomes = λ t. subst (λ (w : Rows). Becomes (rows a) w) (sym (read.same (laws.last a b c done.follows read.follows t))) (done.becomes (laws.first a b c done.follows read.follows t));
-    }
+    follows = laws.on a b c done.follows read.follows;
+    written = read.unwritten ∙ done.written;
+    becomes = λ t. subst (λ (w : Rows). Becomes (rows a) w) (sym (read.same (laws.last a b c done.follows read.follows t))) (done.becomes (laws.first a b c done.follows read.follows t));
+  }
 
   -- what a read after writes answers, by the rows as they are then
   pub read_answers : Laws rows failures writes Follows IsTrusted → {count : ℕ} {X : Type 0} (a b c : S) (x : X) {Becomes : Rows → Rows → Type 0} {Blames : Rows → ℕ → Type 0} {Answers : Rows → X → Type 0}
@@ -82,7 +82,7 @@ module _ {S : Type 0} (rows : S → Rows) (failures writes : S → ℕ) (Follows
   later_fault laws a b c (Ok x) Blames Blames' before after blames h = tt
   later_fault laws a b c (Err e) Blames Blames' before after blames h =
       later_cause (failures a) (failures b) (failures c) e _ _ (laws.rise a b before) (laws.rise b c after)
-        (λ at damaged t. blames at (laws.first a b c before after t) (damaged (laws.last a b c before after t))) h
+      (λ at damaged t. blames at (laws.first a b c before after t) (damaged (laws.last a b c before after t))) h
 
   -- a read after writes that has a fault
   pub read_fault : Laws rows failures writes Follows IsTrusted → {count : ℕ} {X : Type 0} (a b c : S) (r : Result X KeepFault) {Becomes : Rows → Rows → Type 0} {Blames Blames' : Rows → ℕ → Type 0} {Answers : Rows → X → Type 0}

@@ -58,7 +58,15 @@ fn path_texts(rt: HostRuntime) -> Result<(), Fail> {
 #[test]
 fn path_fault_texts(rt: HostRuntime) -> Result<(), Fail> {
     let alloc = rt.alloc();
-    let text = format!(in alloc; "{}, {}, {}", PathFault::BadName, PathFault::TooLong, PathFault::NotUtf8)?;
-    assert_eq!(rt; text.as_str(), "P1 bad object name, P2 path over 4096 bytes, P3 not UTF-8");
+    let text = format!(in alloc;
+        "{}, {}, {}",
+        PathFault::BadName,
+        PathFault::TooLong,
+        PathFault::NotUtf8
+    )?;
+    assert_eq!(rt;
+        text.as_str(),
+        "P1 bad object name, P2 path over 4096 bytes, P3 not UTF-8"
+    );
     Ok(())
 }

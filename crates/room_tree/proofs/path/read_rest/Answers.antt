@@ -28,13 +28,13 @@ names-preserved c =
     let good : is_object_name name ≡ true = sym c.if-not-is_object_name.ensures in
     record {
       first = c.in_ok-push_name.ensures
-        ∙ ap (λ (l : List (List ℕ)). l ++ name ∷ []) c.names.invariant.first
-        ∙ ap (λ (x : List ℕ). take count all ++ x ∷ []) turn.1
-        ∙ sym (take_more all count name turn.0)
-        ∙ ap (λ (n : ℕ). take n all) (sym (length_push c.names.yielded c.in-Some.name));
+          ∙ ap (λ (l : List (List ℕ)). l ++ name ∷ []) c.names.invariant.first
+          ∙ ap (λ (x : List ℕ). take count all ++ x ∷ []) turn.1
+          ∙ sym (take_more all count name turn.0)
+          ∙ ap (λ (n : ℕ). take n all) (sym (length_push c.names.yielded c.in-Some.name));
       good = ap (list_all is_object_name) c.in_ok-push_name.ensures
-        ∙ list_all-append is_object_name before (name ∷ [])
-        ∙ and_from (list_all is_object_name before) (list_all is_object_name (name ∷ [])) c.names.invariant.good (and_from (is_object_name name) true good refl);
+          ∙ list_all-append is_object_name before (name ∷ [])
+          ∙ and_from (list_all is_object_name before) (list_all is_object_name (name ∷ [])) c.names.invariant.good (and_from (is_object_name name) true good refl);
     }
 
 pub invariant_of-result : goal.invariant_of-result
