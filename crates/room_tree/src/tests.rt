@@ -1,0 +1,2 @@
+//! Tests at written examples.
+mod paths;
