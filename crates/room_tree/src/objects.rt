@@ -1,6 +1,7 @@
 //! Objects by their numbers, and an index of their places.
-ghost use Rattle.std.specs.Prelude.{◌≡◌, ◌<◌, ◌≤◌, ◌+◌, ◌-◌, ◌^◌, ◌&&◌, [], ◌∷◌, Some, None, IfOk, OnOk, OnErr, MatchOption, map, filter, not, ◌==◌, is_some, string_bytes, option_and_then, true};
-ghost use Rattle.std.specs.Option.{option_map};
+ghost use Rattle.std.specs.Prelude.{◌≡◌, ◌<◌, ◌≤◌, ◌+◌, ◌-◌, ◌^◌, ◌&&◌, [], ◌∷◌, Some, None, IfOk, OnOk, OnErr, MatchOption, IfSome, IfNone, false, map, filter, not, ◌==◌, is_some, string_bytes, option_and_then, true};
+ghost use Rattle.std.specs.Option.{option_map, option_map_or};
+ghost use Rattle.room_ace.specs.Valid.{is_document};
 ghost use Rattle.room_ace.specs.Pieces.{same_text};
 ghost use Rattle.room_tree.specs.Content.{has_parent, put_node, sorted_by_name};
 ghost use Rattle.room_tree.specs.Finding.{find_id, find_named, first_root};
@@ -9,6 +10,7 @@ ghost use Rattle.room_tree.specs.Places.{standing, text_place};
 
 use crate::node::{Node, Nodes, Numbers};
 use crate::places::{Place, Places, place_at};
+use room_ace::ObjKind;
 use std::alloc::{AllocError, Global};
 use std::collections::BTreeMap;
 use std::marker::Model;
@@ -88,6 +90,31 @@ impl Objects {
         match self.places.at(&place) {
             Some(id) => self.standing(id, parent, name),
             None => Ok(None),
+        }
+    }
+
+    /// The place of this name under this parent, if there is a parent and no object stands there.
+    pub(crate) fn free(&self, alloc: Global, parent: Option<u64>, name: &str) -> Result<Option<Place>, AllocError>
+        ensures free { IfOk result (λ found. IfSome found (λ place. find_named place.0 name.now self.now ≡ None)) }
+        ensures place { IfOk result (λ found. IfSome found (λ place. (Some place.0 ≡ parent) × (string_bytes place.1 ≡ name.now))) }
+        ensures taken { IfOk result (λ found. IfNone found (IfSome parent (λ p. is_some (find_named p name.now self.now) ≡ true))) }
+    {
+        let Some(parent) = parent else {
+            return Ok(None);
+        };
+        if self.named(alloc, parent, name)?.is_some() {
+            return Ok(None);
+        }
+        Ok(Some(place_at(alloc, parent, name)?))
+    }
+
+    /// Whether the object of this number is a document.
+    pub(crate) fn has_document(&self, id: u64) -> bool
+        ensures { result ≡ option_map_or (λ node. is_document node.kind) (find_id id self.now) false }
+    {
+        match self.by_number.get(&id) {
+            Some(node) => node.kind == ObjKind::Document,
+            None => false,
         }
     }
 
