@@ -1,5 +1,5 @@
 -- Pairs in order.
-use Rattle.std.proofs.Common.{◌≡◌, ℕ, ◌<◌, ◌≤◌, ◌+◌, ◌&&◌, ◌||◌, Bool, true, false, not, List, [], ◌∷◌, ◌++◌, filter, refl, sym, ap, subst, ◌∙◌, arith, inl, inr, if◌then◌else◌, length, take, drop, get_or, drop-cons, add-one}
+use Rattle.std.proofs.Common.{◌≡◌, ℕ, suc, ◌<◌, ◌≤◌, ◌+◌, ◌&&◌, ◌||◌, Bool, true, false, not, List, [], ◌∷◌, ◌++◌, filter, refl, sym, ap, subst, ◌∙◌, arith, inl, inr, if◌then◌else◌, length, take, drop, get_or, drop-cons, add-one}
 use Rattle.std.specs.Cmp.{IsTotalOrder}
 use Rattle.std.specs.Cmp.Lexicographic.{slice_cmp}
 use Rattle.std.specs.List.{AllByRecursion, insert}
@@ -10,6 +10,7 @@ use Rattle.std.specs.declared.cmp.Ordering.TheVariants.{Less, Equal, Greater}
 use Rattle.std.proofs.lemmas.Bool.{cases_Bool, false≢true, true≢false, and_parts, and_from, cond-true, cond-false}
 use Rattle.std.proofs.lemmas.Cmp.{nat_list_cmp_total, on_total, then_total}
 use Rattle.std.proofs.lemmas.Map.Text.{is_eq-slice_cmp}
+use Rattle.std.proofs.lemmas.List.{take-append-drop, drop_all, get_or_default}
 use Rattle.room_ace.specs.Pieces.{same_text}
 use Rattle.room_tree.specs.Content.{is_before, is_pair_before, put_pair, set_of}
 use Rattle.room_tree.specs.Pairs.{pair_cmp, is_same_pair}
@@ -22,7 +23,7 @@ total : IsTotalOrder pair_cmp
 total = then_total (on_total (λ (p : Pair). p.0) nat_list_cmp_total) (on_total (λ (p : Pair). p.1) nat_list_cmp_total)
 
 -- what comes before by group, then user
-before_is : (a b : Pair) → is_pair_before a b ≡ is_lt (pair_cmp a b)
+pub before_is : (a b : Pair) → is_pair_before a b ≡ is_lt (pair_cmp a b)
 before_is a b = by (slice_cmp nat_cmp a.0 b.0) refl
   where
     by : (o : Ordering) → slice_cmp nat_cmp a.0 b.0 ≡ o → (is_lt (slice_cmp nat_cmp a.0 b.0) || (same_text a.0 b.0 && is_before a.1 b.1)) ≡ is_lt (ordering_then (slice_cmp nat_cmp a.0 b.0) (slice_cmp nat_cmp a.1 b.1))
@@ -124,4 +125,31 @@ itself p = by (is_pair_before p p) refl
 
 pub put_in_place : (p : Pair) (l : List Pair) (k : ℕ) → k < length l → take k l ++ put_pair p (drop k l) ≡ put_pair p l → is_pair_before (get_or l k p) p ≡ false → is_same_pair p (get_or l k p) ≡ false → insert l k p ≡ put_pair p l
 put_in_place p l k below puts stops other =
-    ap (λ (m : List Pair). take k l ++ m) (sym (ap (put_pair p) (drop-cons l k p below) ∙ cond-false _ _ _ stops ∙ cond-true _ (p ∷ get_or l k p ∷ drop (Prim.Native.Nat.suc k) l) _ (neither p (get_or l k p) stops other)) ∙ ap (λ (m : List Pair). p ∷ m) (sym (drop-cons l k p below))) ∙ puts
+    let step : drop k l ≡ get_or l k p ∷ drop (suc k) l = drop-cons l k p below in
+    let front : put_pair p (drop k l) ≡ p ∷ drop k l =
+        ap (put_pair p) step ∙ cond-false _ _ _ stops ∙ cond-true _ (p ∷ get_or l k p ∷ drop (suc k) l) (get_or l k p ∷ drop (suc k) l) (neither p (get_or l k p) stops other) ∙ ap (λ (m : List Pair). p ∷ m) (sym step) in
+    ap (λ (m : List Pair). take k l ++ m) (sym front) ∙ puts
+
+-- a pair that is there already
+pub put_there : (p : Pair) (l : List Pair) (k : ℕ) → k < length l → take k l ++ put_pair p (drop k l) ≡ put_pair p l → is_pair_before (get_or l k p) p ≡ false → is_same_pair p (get_or l k p) ≡ true → l ≡ put_pair p l
+put_there p l k below puts stops same =
+    let step : drop k l ≡ get_or l k p ∷ drop (suc k) l = drop-cons l k p below in
+    let parts = and_parts (same_text (get_or l k p).0 p.0) (same_text (get_or l k p).1 p.1) same in
+    let is : get_or l k p ≡ p = (let a = same_bytes (get_or l k p).0 p.0 parts.0 in let b = same_bytes (get_or l k p).1 p.1 parts.1 in λ i. (a i, b i)) in
+    let back : is_pair_before p (get_or l k p) ≡ false = ap (is_pair_before p) is ∙ itself p in
+    let front : put_pair p (drop k l) ≡ drop k l =
+        ap (put_pair p) step ∙ cond-false _ _ _ stops ∙ cond-false _ (p ∷ get_or l k p ∷ drop (suc k) l) (get_or l k p ∷ drop (suc k) l) back ∙ sym step in
+    sym (take-append-drop k l) ∙ ap (λ (m : List Pair). take k l ++ m) (sym front) ∙ puts
+
+-- a pair behind all others
+pub put_last : (p : Pair) (l : List Pair) (k : ℕ) → length l ≤ k → take k l ++ put_pair p (drop k l) ≡ put_pair p l → insert l k p ≡ put_pair p l
+put_last p l k past puts =
+    let none : drop k l ≡ [] = drop_all k l past in
+    ap (λ (m : List Pair). take k l ++ p ∷ m) none ∙ sym (ap (λ (m : List Pair). take k l ++ put_pair p m) none) ∙ puts
+
+pub joined : (p : Pair) (l : List Pair) → IsStrictlySortedBy pair_cmp l → put_pair p l ≡ set_of (p ∷ l)
+joined p l sorted = ap (put_pair p) (sym (sorted_set l sorted))
+
+-- an item within the list doesn't depend on what stands for a missing one
+pub item_is : (l : List Pair) (k : ℕ) (x d : Pair) → k < length l → x ≡ get_or l k x → x ≡ get_or l k d
+item_is l k x d below is = is ∙ get_or_default l k x d below

@@ -61,7 +61,7 @@ free_apart parent name nodes id before free is = ap (λ o. option_map_or (λ (at
     by None at = refl
     by (Some x) at = at_parent x x.parent at refl
 
-no_less : (id : ℕ) (xs : List Node) (n : Node) → find_id id xs ≡ Some n → id ≤ greatest xs
+pub no_less : (id : ℕ) (xs : List Node) (n : Node) → find_id id xs ≡ Some n → id ≤ greatest xs
 no_less id [] n found = absurd (false≢true (sym (ap is_none found)))
 no_less id (x ∷ xs) n found = elim (cases_Bool (x.id == id)) [
   inl here ↦ let e = eqb-true x.id id here in omega (arith, e)

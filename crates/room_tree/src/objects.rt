@@ -10,7 +10,6 @@ ghost use Rattle.room_tree.specs.Places.{standing, text_place};
 
 use crate::node::{Node, Nodes, Numbers};
 use crate::places::{Place, Places, place_at};
-use room_ace::ObjKind;
 use std::alloc::{AllocError, Global};
 use std::collections::BTreeMap;
 use std::marker::Model;
@@ -113,7 +112,7 @@ impl Objects {
         ensures { result ≡ option_map_or (λ node. is_document node.kind) (find_id id self.now) false }
     {
         match self.by_number.get(&id) {
-            Some(node) => node.kind == ObjKind::Document,
+            Some(node) => node.is_document(),
             None => false,
         }
     }
