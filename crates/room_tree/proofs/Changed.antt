@@ -79,7 +79,7 @@ pub added : (nodes new_nodes : List Node) (bodies new_bodies : List (ℕ × List
     → memory_rows new_nodes new_bodies members audits ≡ reading (memory_rows nodes bodies members audits) (with_new (memory_rows nodes bodies members audits).read id new)
 added nodes new_nodes bodies new_bodies members audits id new puts fills =
     (λ i. memory_rows (puts i) (fills i) members audits) ∙ elim (cases_Bool (is_document new.kind)) [
-      inl is ↦ ap (λ (l : List (ℕ × List ℕ)). memory_rows (put_node (node_of id new) nodes) l members audits) (cond-true _ _ _ is) ∙ sym (ap (reading (memory_rows nodes bodies members audits)) (cond-true _ _ _ is))
+      | inl is ↦ ap (λ (l : List (ℕ × List ℕ)). memory_rows (put_node (node_of id new) nodes) l members audits) (cond-true _ _ _ is) ∙ sym (ap (reading (memory_rows nodes bodies members audits)) (cond-true _ _ _ is))
       | inr isnt ↦ ap (λ (l : List (ℕ × List ℕ)). memory_rows (put_node (node_of id new) nodes) l members audits) (cond-false _ _ _ isnt) ∙ sym (ap (reading (memory_rows nodes bodies members audits)) (cond-false _ _ _ isnt))
     ]
 
@@ -95,7 +95,7 @@ added_rows nodes new_nodes bodies new_bodies members audits id new above puts fi
     let nodes_in = put_rows nodes bodies members audits (node_of id new) above old in
     let there : is_some (find_id id (put_node (node_of id new) nodes)) ≡ true = ap is_some (found_put (node_of id new) id nodes ∙ cond-true _ _ _ (eq-eqb id id refl)) in
     subst (λ (l : List Node). AreRows (memory_rows l new_bodies members audits)) (sym puts) (elim (cases_Bool (is_document new.kind)) [
-      inl is ↦ subst (λ (l : List (ℕ × List ℕ)). AreRows (memory_rows (put_node (node_of id new) nodes) l members audits)) (sym (fills ∙ cond-true _ _ _ is)) (body_rows (put_node (node_of id new) nodes) bodies members audits id new.bytes above there nodes_in)
+      | inl is ↦ subst (λ (l : List (ℕ × List ℕ)). AreRows (memory_rows (put_node (node_of id new) nodes) l members audits)) (sym (fills ∙ cond-true _ _ _ is)) (body_rows (put_node (node_of id new) nodes) bodies members audits id new.bytes above there nodes_in)
       | inr isnt ↦ subst (λ (l : List (ℕ × List ℕ)). AreRows (memory_rows (put_node (node_of id new) nodes) l members audits)) (sym (fills ∙ cond-false _ _ _ isnt)) nodes_in
     ])
 

@@ -25,7 +25,7 @@ found_later t x xs isnt = rw isnt refl
 pub found_passes : (t : Node → Bool) (xs : List Node) (n : Node) → find t xs ≡ Some n → t n ≡ true
 found_passes t [] n found = absurd (false≢true (sym (ap is_none found)))
 found_passes t (x ∷ xs) n found = elim (cases_Bool (t x)) [
-  inl is ↦ subst (λ (m : Node). t m ≡ true) (same_object x n (sym (found_first t x xs is) ∙ found)) is
+  | inl is ↦ subst (λ (m : Node). t m ≡ true) (same_object x n (sym (found_first t x xs is) ∙ found)) is
   | inr isnt ↦ found_passes t xs n (sym (found_later t x xs isnt) ∙ found)
 ]
 
@@ -41,7 +41,7 @@ found_above t k (x ∷ xs) n rises found =
     let parts = and_parts (nat_lt k x.id) (is_rising (x.id ∷ ids_of xs)) rises in
     let up = ltb-true k x.id parts.0 in
     elim (cases_Bool (t x)) [
-      inl is ↦ subst (λ (m : Node). k < m.id) (same_object x n (sym (found_first t x xs is) ∙ found)) up
+      | inl is ↦ subst (λ (m : Node). k < m.id) (same_object x n (sym (found_first t x xs is) ∙ found)) up
       | inr isnt ↦ let next = found_above t x.id xs n parts.1 (sym (found_later t x xs isnt) ∙ found) in omega (arith, up, next)
     ]
 
@@ -51,24 +51,24 @@ found_self t k [] n rises found = absurd (false≢true (sym (ap is_none found)))
 found_self t k (x ∷ xs) n rises found =
     let parts = and_parts (nat_lt k x.id) (is_rising (x.id ∷ ids_of xs)) rises in
     elim (cases_Bool (t x)) [
-      inl is ↦
-        let it = same_object x n (sym (found_first t x xs is) ∙ found) in
-        found_first (λ (m : Node). m.id == n.id) x xs (eq-eqb x.id n.id (ap (λ (m : Node). m.id) it)) ∙ ap Some it
+      | inl is ↦
+          let it = same_object x n (sym (found_first t x xs is) ∙ found) in
+          found_first (λ (m : Node). m.id == n.id) x xs (eq-eqb x.id n.id (ap (λ (m : Node). m.id) it)) ∙ ap Some it
       | inr isnt ↦
-        let later = sym (found_later t x xs isnt) ∙ found in
-        let up = found_above t x.id xs n parts.1 later in
-        found_later (λ (m : Node). m.id == n.id) x xs (ne_eqb x.id n.id (λ e. absurd (omega (arith, up, e)))) ∙ found_self t x.id xs n parts.1 later
+          let later = sym (found_later t x xs isnt) ∙ found in
+          let up = found_above t x.id xs n parts.1 later in
+          found_later (λ (m : Node). m.id == n.id) x xs (ne_eqb x.id n.id (λ e. absurd (omega (arith, up, e)))) ∙ found_self t x.id xs n parts.1 later
     ]
 
 -- what is found by its number and passes a test, is found by the test too
 pub some_passes : (t : Node → Bool) (id : ℕ) (xs : List Node) (n : Node) → find_id id xs ≡ Some n → t n ≡ true → find t xs ≡ None → ⊥
 some_passes t id [] n found is none = absurd (false≢true (sym (ap is_none found)))
 some_passes t id (x ∷ xs) n found is none = elim (cases_Bool (t x)) [
-  inl passes ↦ absurd (false≢true (ap is_none (sym (found_first t x xs passes) ∙ none)))
+  | inl passes ↦ absurd (false≢true (ap is_none (sym (found_first t x xs passes) ∙ none)))
   | inr fails ↦ elim (cases_Bool (x.id == id)) [
-      inl same ↦ absurd (false≢true (sym fails ∙ ap t (same_object x n (sym (found_first (λ (m : Node). m.id == id) x xs same) ∙ found)) ∙ is))
-      | inr apart ↦ some_passes t id xs n (sym (found_later (λ (m : Node). m.id == id) x xs apart) ∙ found) is (sym (found_later t x xs fails) ∙ none)
-    ]
+    | inl same ↦ absurd (false≢true (sym fails ∙ ap t (same_object x n (sym (found_first (λ (m : Node). m.id == id) x xs same) ∙ found)) ∙ is))
+    | inr apart ↦ some_passes t id xs n (sym (found_later (λ (m : Node). m.id == id) x xs apart) ∙ found) is (sym (found_later t x xs fails) ∙ none)
+  ]
 ]
 
 -- ---- an object of a number that passes a test
@@ -79,9 +79,9 @@ both t id n = (n.id == id) && t n
 pub passing : (t : Node → Bool) (id : ℕ) (xs : List Node) (n : Node) → find_id id xs ≡ Some n → t n ≡ true → find (λ (m : Node). (m.id == id) && t m) xs ≡ Some n
 passing t id [] n found is = absurd (false≢true (sym (ap is_none found)))
 passing t id (x ∷ xs) n found is = elim (cases_Bool (x.id == id)) [
-  inl same ↦
-    let it = same_object x n (sym (found_first (λ (m : Node). m.id == id) x xs same) ∙ found) in
-    found_first (both t id) x xs (and_from (x.id == id) (t x) same (ap t it ∙ is)) ∙ ap Some it
+  | inl same ↦
+      let it = same_object x n (sym (found_first (λ (m : Node). m.id == id) x xs same) ∙ found) in
+      found_first (both t id) x xs (and_from (x.id == id) (t x) same (ap t it ∙ is)) ∙ ap Some it
   | inr apart ↦ found_later (both t id) x xs (and_left (x.id == id) (t x) apart) ∙ passing t id xs n (sym (found_later (λ (m : Node). m.id == id) x xs apart) ∙ found) is
 ]
 
@@ -97,17 +97,17 @@ failing t id k [] n rises found isnt = refl
 failing t id k (x ∷ xs) n rises found isnt =
     let parts = and_parts (nat_lt k x.id) (is_rising (x.id ∷ ids_of xs)) rises in
     elim (cases_Bool (x.id == id)) [
-      inl same ↦
-        let it = same_object x n (sym (found_first (λ (m : Node). m.id == id) x xs same) ∙ found) in
-        let e = eqb-true x.id id same in
-        found_later (both t id) x xs (and_right (x.id == id) (t x) (ap t it ∙ isnt)) ∙ none_above t id x.id xs parts.1 (omega (arith, e))
+      | inl same ↦
+          let it = same_object x n (sym (found_first (λ (m : Node). m.id == id) x xs same) ∙ found) in
+          let e = eqb-true x.id id same in
+          found_later (both t id) x xs (and_right (x.id == id) (t x) (ap t it ∙ isnt)) ∙ none_above t id x.id xs parts.1 (omega (arith, e))
       | inr apart ↦ found_later (both t id) x xs (and_left (x.id == id) (t x) apart) ∙ failing t id x.id xs n parts.1 (sym (found_later (λ (m : Node). m.id == id) x xs apart) ∙ found) isnt
     ]
 
 pub missing : (t : Node → Bool) (id : ℕ) (xs : List Node) → find_id id xs ≡ None → find (λ (m : Node). (m.id == id) && t m) xs ≡ None
 missing t id [] none = refl
 missing t id (x ∷ xs) none = elim (cases_Bool (x.id == id)) [
-  inl same ↦ absurd (false≢true (ap is_none (sym (found_first (λ (m : Node). m.id == id) x xs same) ∙ none)))
+  | inl same ↦ absurd (false≢true (ap is_none (sym (found_first (λ (m : Node). m.id == id) x xs same) ∙ none)))
   | inr apart ↦ found_later (both t id) x xs (and_left (x.id == id) (t x) apart) ∙ missing t id xs (sym (found_later (λ (m : Node). m.id == id) x xs apart) ∙ none)
 ]
 
@@ -116,40 +116,40 @@ missing t id (x ∷ xs) none = elim (cases_Bool (x.id == id)) [
 pub found_put : (new : Node) (id : ℕ) (xs : List Node) → find_id id (put_node new xs) ≡ (if new.id == id then Some new else find_id id xs)
 found_put new id [] = refl
 found_put new id (x ∷ xs) = elim (cases_order x.id new.id) [
-  inl same ↦
-    ap (find_id id) (cond-false _ _ _ (le-ltb x.id new.id (omega (arith, same))) ∙ cond-true _ _ _ (eq-eqb x.id new.id same)) ∙ elim (cases_Bool (new.id == id)) [
-      inl is ↦ cond-true _ _ _ is ∙ sym (cond-true _ _ _ is)
-      | inr isnt ↦ cond-false _ _ _ isnt ∙ sym (found_later (λ (m : Node). m.id == id) x xs (ap (λ (k : ℕ). k == id) same ∙ isnt)) ∙ sym (cond-false _ _ _ isnt)
-    ]
+  | inl same ↦
+      ap (find_id id) (cond-false _ _ _ (le-ltb x.id new.id (omega (arith, same))) ∙ cond-true _ _ _ (eq-eqb x.id new.id same)) ∙ elim (cases_Bool (new.id == id)) [
+        | inl is ↦ cond-true _ _ _ is ∙ sym (cond-true _ _ _ is)
+        | inr isnt ↦ cond-false _ _ _ isnt ∙ sym (found_later (λ (m : Node). m.id == id) x xs (ap (λ (k : ℕ). k == id) same ∙ isnt)) ∙ sym (cond-false _ _ _ isnt)
+      ]
   | inr apart ↦ elim apart [
-      inl below ↦
+    | inl below ↦
         ap (find_id id) (cond-true _ _ _ (lt-ltb x.id new.id below)) ∙ elim (cases_Bool (x.id == id)) [
-          inl is ↦
-            let e = eqb-true x.id id is in
-            found_first (λ (m : Node). m.id == id) x (put_node new xs) is ∙ sym (found_first (λ (m : Node). m.id == id) x xs is) ∙ sym (cond-false _ _ _ (ne_eqb new.id id (λ h. absurd (omega (arith, h, e, below)))))
+          | inl is ↦
+              let e = eqb-true x.id id is in
+              found_first (λ (m : Node). m.id == id) x (put_node new xs) is ∙ sym (found_first (λ (m : Node). m.id == id) x xs is) ∙ sym (cond-false _ _ _ (ne_eqb new.id id (λ h. absurd (omega (arith, h, e, below)))))
           | inr isnt ↦ found_later (λ (m : Node). m.id == id) x (put_node new xs) isnt ∙ found_put new id xs ∙ ap (λ o. if new.id == id then Some new else o) (sym (found_later (λ (m : Node). m.id == id) x xs isnt))
         ]
-      | inr past ↦ ap (find_id id) (cond-false _ _ _ (le-ltb x.id new.id (omega (arith, past))) ∙ cond-false _ _ _ (ne_eqb x.id new.id (λ h. absurd (omega (arith, h, past)))))
-    ]
+    | inr past ↦ ap (find_id id) (cond-false _ _ _ (le-ltb x.id new.id (omega (arith, past))) ∙ cond-false _ _ _ (ne_eqb x.id new.id (λ h. absurd (omega (arith, h, past)))))
+  ]
 ]
 
 pub found_without : (gone id : ℕ) (xs : List Node) → find_id id (filter (λ (n : Node). not (n.id == gone)) xs) ≡ (if gone == id then None else find_id id xs)
 found_without gone id [] = elim (cases_Bool (gone == id)) [ inl is ↦ sym (cond-true _ _ _ is) | inr isnt ↦ sym (cond-false _ _ _ isnt) ]
 found_without gone id (x ∷ xs) = elim (cases_Bool (x.id == gone)) [
-  inl is ↦
-    let e = eqb-true x.id gone is in
-    ap (find_id id) (cond-false _ _ _ (ap not is)) ∙ found_without gone id xs ∙ elim (cases_Bool (gone == id)) [
-      inl it ↦ cond-true _ _ _ it ∙ sym (cond-true _ _ _ it)
-      | inr other ↦ ap (λ o. if gone == id then None else o) (sym (found_later (λ (m : Node). m.id == id) x xs (ap (λ (k : ℕ). k == id) e ∙ other)))
-    ]
+  | inl is ↦
+      let e = eqb-true x.id gone is in
+      ap (find_id id) (cond-false _ _ _ (ap not is)) ∙ found_without gone id xs ∙ elim (cases_Bool (gone == id)) [
+        | inl it ↦ cond-true _ _ _ it ∙ sym (cond-true _ _ _ it)
+        | inr other ↦ ap (λ o. if gone == id then None else o) (sym (found_later (λ (m : Node). m.id == id) x xs (ap (λ (k : ℕ). k == id) e ∙ other)))
+      ]
   | inr isnt ↦
-    ap (find_id id) (cond-true _ _ _ (ap not isnt)) ∙ elim (cases_Bool (x.id == id)) [
-      inl same ↦
-        let e = eqb-true x.id id same in
-        let no_e = eqb-false x.id gone isnt in
-        found_first (λ (m : Node). m.id == id) x _ same ∙ sym (found_first (λ (m : Node). m.id == id) x xs same) ∙ sym (cond-false _ _ _ (ne_eqb gone id (λ h. absurd (no_e (e ∙ sym h)))))
-      | inr apart ↦ found_later (λ (m : Node). m.id == id) x _ apart ∙ found_without gone id xs ∙ ap (λ o. if gone == id then None else o) (sym (found_later (λ (m : Node). m.id == id) x xs apart))
-    ]
+      ap (find_id id) (cond-true _ _ _ (ap not isnt)) ∙ elim (cases_Bool (x.id == id)) [
+        | inl same ↦
+            let e = eqb-true x.id id same in
+            let no_e = eqb-false x.id gone isnt in
+            found_first (λ (m : Node). m.id == id) x _ same ∙ sym (found_first (λ (m : Node). m.id == id) x xs same) ∙ sym (cond-false _ _ _ (ne_eqb gone id (λ h. absurd (no_e (e ∙ sym h)))))
+        | inr apart ↦ found_later (λ (m : Node). m.id == id) x _ apart ∙ found_without gone id xs ∙ ap (λ o. if gone == id then None else o) (sym (found_later (λ (m : Node). m.id == id) x xs apart))
+      ]
 ]
 
 pub put_rises : (k : ℕ) (new : Node) (xs : List Node) → k < new.id → is_rising (k ∷ map (λ (n : Node). n.id) xs) ≡ true → is_rising (k ∷ map (λ (n : Node). n.id) (put_node new xs)) ≡ true
@@ -157,17 +157,17 @@ put_rises k new [] up rises = and_from _ _ (lt-ltb k new.id up) refl
 put_rises k new (x ∷ xs) up rises =
     let parts = and_parts (nat_lt k x.id) (is_rising (x.id ∷ ids_of xs)) rises in
     elim (cases_order x.id new.id) [
-      inl same ↦
-        ap (λ (l : List Node). is_rising (k ∷ ids_of l)) (cond-false _ _ _ (le-ltb x.id new.id (omega (arith, same))) ∙ cond-true _ _ _ (eq-eqb x.id new.id same))
+      | inl same ↦
+          ap (λ (l : List Node). is_rising (k ∷ ids_of l)) (cond-false _ _ _ (le-ltb x.id new.id (omega (arith, same))) ∙ cond-true _ _ _ (eq-eqb x.id new.id same))
           ∙ subst (λ (i : ℕ). is_rising (k ∷ i ∷ ids_of xs) ≡ true) same rises
       | inr apart ↦ elim apart [
-          inl below ↦
+        | inl below ↦
             ap (λ (l : List Node). is_rising (k ∷ ids_of l)) (cond-true _ (x ∷ put_node new xs) _ (lt-ltb x.id new.id below))
-              ∙ and_from (nat_lt k x.id) (is_rising (x.id ∷ ids_of (put_node new xs))) parts.0 (put_rises x.id new xs below parts.1)
-          | inr past ↦
+            ∙ and_from (nat_lt k x.id) (is_rising (x.id ∷ ids_of (put_node new xs))) parts.0 (put_rises x.id new xs below parts.1)
+        | inr past ↦
             ap (λ (l : List Node). is_rising (k ∷ ids_of l)) (cond-false _ _ _ (le-ltb x.id new.id (omega (arith, past))) ∙ cond-false _ _ (new ∷ x ∷ xs) (ne_eqb x.id new.id (λ h. absurd (omega (arith, h, past)))))
-              ∙ and_from (nat_lt k new.id) (is_rising (new.id ∷ x.id ∷ ids_of xs)) (lt-ltb k new.id up) (and_from (nat_lt new.id x.id) (is_rising (x.id ∷ ids_of xs)) (lt-ltb new.id x.id past) parts.1)
-        ]
+            ∙ and_from (nat_lt k new.id) (is_rising (new.id ∷ x.id ∷ ids_of xs)) (lt-ltb k new.id up) (and_from (nat_lt new.id x.id) (is_rising (x.id ∷ ids_of xs)) (lt-ltb new.id x.id past) parts.1)
+      ]
     ]
 
 lower : (k l : ℕ) (ids : List ℕ) → k ≤ l → is_rising (l ∷ ids) ≡ true → is_rising (k ∷ ids) ≡ true
@@ -183,6 +183,6 @@ filter_rises t k (x ∷ xs) rises =
     let parts = and_parts (nat_lt k x.id) (is_rising (x.id ∷ ids_of xs)) rises in
     let up = ltb-true k x.id parts.0 in
     elim (cases_Bool (t x)) [
-      inl is ↦ ap (λ (l : List Node). is_rising (k ∷ ids_of l)) (cond-true _ (x ∷ filter t xs) _ is) ∙ and_from (nat_lt k x.id) (is_rising (x.id ∷ ids_of (filter t xs))) parts.0 (filter_rises t x.id xs parts.1)
+      | inl is ↦ ap (λ (l : List Node). is_rising (k ∷ ids_of l)) (cond-true _ (x ∷ filter t xs) _ is) ∙ and_from (nat_lt k x.id) (is_rising (x.id ∷ ids_of (filter t xs))) parts.0 (filter_rises t x.id xs parts.1)
       | inr isnt ↦ ap (λ (l : List Node). is_rising (k ∷ ids_of l)) (cond-false _ _ (filter t xs) isnt) ∙ lower k x.id (ids_of (filter t xs)) (omega (arith, up)) (filter_rises t x.id xs parts.1)
     ]

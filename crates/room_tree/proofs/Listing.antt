@@ -65,33 +65,34 @@ module _ {Y : Type 0} where
       → AllByRecursion (IsListed places) nodes
   all_listed places k [] rises listed = tt
   all_listed places k (n ∷ ns) rises listed =
-      let parts = and_parts (nat_lt k n.id) (is_rising (n.id ∷ map (λ (m : Node). m.id) ns)) rises in
-      (λ parent has. listed n.id parent n (cond-true _ _ _ (eq-eqb n.id n.id refl)) has,
+      let parts = and_parts (nat_lt k n.id) (is_rising (n.id ∷ map (λ (m : Node). m.id) ns)) rises in (
+        λ parent has. listed n.id parent n (cond-true _ _ _ (eq-eqb n.id n.id refl)) has,
         all_listed places n.id ns parts.1 (λ id parent node found has.
             let up = found_above (λ (m : Node). m.id == id) n.id ns node parts.1 found in
             let is = found_id id ns node found in
-            listed id parent node (cond-false _ _ _ (ne_eqb n.id id (λ e. absurd (omega (arith, up, is, e)))) ∙ found) has))
+            listed id parent node (cond-false _ _ _ (ne_eqb n.id id (λ e. absurd (omega (arith, up, is, e)))) ∙ found) has),
+      )
 
   -- ---- one object by its place
 
   pub named_none : (places : List ((ℕ × String Y) × ℕ)) (parent : ℕ) (name : List ℕ) (nodes : List Node) → AllByRecursion (IsListed places) nodes → id_at parent name places ≡ None → find_named parent name nodes ≡ None
   named_none places parent name [] all none = refl
   named_none places parent name (n ∷ ns) all none = elim (cases_Bool (has_parent parent n && same_text n.name name)) [
-    inl is ↦
-      let parts = and_parts (has_parent parent n) (same_text n.name name) is in
-      let listed : id_at parent name places ≡ Some n.id = subst (λ (t : List ℕ). id_at parent t places ≡ Some n.id) (same_bytes n.name name parts.1) (all.0 parent (parent_is parent n parts.0)) in
-      absurd (false≢true (ap is_none (sym listed ∙ none)))
+    | inl is ↦
+        let parts = and_parts (has_parent parent n) (same_text n.name name) is in
+        let listed : id_at parent name places ≡ Some n.id = subst (λ (t : List ℕ). id_at parent t places ≡ Some n.id) (same_bytes n.name name parts.1) (all.0 parent (parent_is parent n parts.0)) in
+        absurd (false≢true (ap is_none (sym listed ∙ none)))
     | inr isnt ↦ cond-false _ _ _ isnt ∙ named_none places parent name ns all.1 none
   ]
 
   pub named_some : (places : List ((ℕ × String Y) × ℕ)) (parent : ℕ) (name : List ℕ) (id : ℕ) (nodes : List Node) → AllByRecursion (IsListed places) nodes → id_at parent name places ≡ Some id → standing id parent name nodes ≡ find_named parent name nodes
   named_some places parent name id [] all at = refl
   named_some places parent name id (n ∷ ns) all at = elim (cases_Bool (has_parent parent n && same_text n.name name)) [
-    inl is ↦
-      let parts = and_parts (has_parent parent n) (same_text n.name name) is in
-      let listed : id_at parent name places ≡ Some n.id = subst (λ (t : List ℕ). id_at parent t places ≡ Some n.id) (same_bytes n.name name parts.1) (all.0 parent (parent_is parent n parts.0)) in
-      let same : n.id ≡ id = (let e : Some n.id ≡ Some id = sym listed ∙ at in cc) in
-      cond-true _ _ _ (and_from (n.id == id) _ (eq-eqb n.id id same) is) ∙ sym (cond-true _ _ _ is)
+    | inl is ↦
+        let parts = and_parts (has_parent parent n) (same_text n.name name) is in
+        let listed : id_at parent name places ≡ Some n.id = subst (λ (t : List ℕ). id_at parent t places ≡ Some n.id) (same_bytes n.name name parts.1) (all.0 parent (parent_is parent n parts.0)) in
+        let same : n.id ≡ id = (let e : Some n.id ≡ Some id = sym listed ∙ at in cc) in
+        cond-true _ _ _ (and_from (n.id == id) _ (eq-eqb n.id id same) is) ∙ sym (cond-true _ _ _ is)
     | inr isnt ↦ cond-false _ _ _ (and_right (n.id == id) _ isnt) ∙ named_some places parent name id ns all.1 at ∙ sym (cond-false _ _ _ isnt)
   ]
 
@@ -100,14 +101,14 @@ module _ {Y : Type 0} where
   picks_is : (parent : ℕ) (nodes : List Node) (es : List ((ℕ × String Y) × ℕ)) → standing_all parent nodes (places_under parent es) ≡ standing_under parent nodes es
   picks_is parent nodes [] = refl
   picks_is parent nodes (e ∷ es) = elim (cases_Bool (e.0.0 == parent)) [
-    inl is ↦ ap (standing_all parent nodes) (cond-true _ (e ∷ places_under parent es) _ is) ∙ ap (cons_option (standing e.1 parent (string_bytes e.0.1) nodes)) (picks_is parent nodes es) ∙ sym (cond-true _ _ _ is)
+    | inl is ↦ ap (standing_all parent nodes) (cond-true _ (e ∷ places_under parent es) _ is) ∙ ap (cons_option (standing e.1 parent (string_bytes e.0.1) nodes)) (picks_is parent nodes es) ∙ sym (cond-true _ _ _ is)
     | inr isnt ↦ ap (standing_all parent nodes) (cond-false _ (e ∷ places_under parent es) _ isnt) ∙ picks_is parent nodes es ∙ sym (cond-false _ _ _ isnt)
   ]
 
   picks_none : (parent : ℕ) (es : List ((ℕ × String Y) × ℕ)) → standing_under parent [] es ≡ []
   picks_none parent [] = refl
   picks_none parent (e ∷ es) = elim (cases_Bool (e.0.0 == parent)) [
-    inl is ↦ cond-true _ _ _ is ∙ picks_none parent es
+    | inl is ↦ cond-true _ _ _ is ∙ picks_none parent es
     | inr isnt ↦ cond-false _ _ _ isnt ∙ picks_none parent es
   ]
 
@@ -118,7 +119,7 @@ module _ {Y : Type 0} where
   picks_other : (parent : ℕ) (n : Node) (nodes : List Node) (es : List ((ℕ × String Y) × ℕ)) → StandsAtNone parent n es → standing_under parent (n ∷ nodes) es ≡ standing_under parent nodes es
   picks_other parent n nodes [] none = refl
   picks_other parent n nodes (e ∷ es) none = elim (cases_Bool (e.0.0 == parent)) [
-    inl is ↦ cond-true _ _ _ is ∙ ap (λ o. cons_option o (standing_under parent (n ∷ nodes) es)) (cond-false _ _ _ (none.0 is)) ∙ ap (cons_option (standing e.1 parent (string_bytes e.0.1) nodes)) (picks_other parent n nodes es none.1) ∙ sym (cond-true _ _ _ is)
+    | inl is ↦ cond-true _ _ _ is ∙ ap (λ o. cons_option o (standing_under parent (n ∷ nodes) es)) (cond-false _ _ _ (none.0 is)) ∙ ap (cons_option (standing e.1 parent (string_bytes e.0.1) nodes)) (picks_other parent n nodes es none.1) ∙ sym (cond-true _ _ _ is)
     | inr isnt ↦ cond-false _ _ _ isnt ∙ picks_other parent n nodes es none.1 ∙ sym (cond-false _ _ _ isnt)
   ]
 
@@ -133,20 +134,21 @@ module _ {Y : Type 0} where
   -- no place behind its own is that of an object
   behind : (parent : ℕ) (n : Node) (at : ℕ × String Y) (es : List ((ℕ × String Y) × ℕ)) → at.0 ≡ parent → string_bytes at.1 ≡ n.name → AllByRecursion (λ y. place_cmp at y ≡ Less) (keys_of es) → StandsAtNone parent n es
   behind parent n at [] is named later = tt
-  behind parent n at (e ∷ es) is named later =
-      (λ under. and_right (n.id == e.1) _ (and_right (has_parent parent n) _ (false_from_ne_true (same_text n.name (string_bytes e.0.1)) (λ same.
-          let less = name_less at e.0 (is ∙ sym (eqb-true e.0.0 parent under)) later.0 in
-          not_less_itself (string_bytes at.1) (subst (λ (t : List ℕ). slice_cmp nat_cmp (string_bytes at.1) t ≡ Less) (sym (named ∙ same_bytes n.name (string_bytes e.0.1) same)) less)))),
-        behind parent n at es is named later.1)
+  behind parent n at (e ∷ es) is named later = (
+    λ under. and_right (n.id == e.1) _ (and_right (has_parent parent n) _ (false_from_ne_true (same_text n.name (string_bytes e.0.1)) (λ same.
+        let less = name_less at e.0 (is ∙ sym (eqb-true e.0.0 parent under)) later.0 in
+        not_less_itself (string_bytes at.1) (subst (λ (t : List ℕ). slice_cmp nat_cmp (string_bytes at.1) t ≡ Less) (sym (named ∙ same_bytes n.name (string_bytes e.0.1) same)) less)))),
+    behind parent n at es is named later.1,
+  )
 
   -- an object whose place is before all others comes first
   comes_first : (parent : ℕ) (n : Node) (at : ℕ × String Y) (nodes : List Node) (es : List ((ℕ × String Y) × ℕ)) → at.0 ≡ parent → string_bytes at.1 ≡ n.name → AllByRecursion (λ y. place_cmp at y ≡ Less) (keys_of es)
       → put_by_name n (standing_under parent nodes es) ≡ n ∷ standing_under parent nodes es
   comes_first parent n at nodes [] is named later = refl
   comes_first parent n at nodes (e ∷ es) is named later = elim (cases_Bool (e.0.0 == parent)) [
-    inl under ↦
-      let less = name_less at e.0 (is ∙ sym (eqb-true e.0.0 parent under)) later.0 in
-      ap (put_by_name n) (cond-true _ _ _ under) ∙ first (comes_first parent n at nodes es is named later.1) (standing e.1 parent (string_bytes e.0.1) nodes) refl less ∙ ap (λ (l : List Node). n ∷ l) (sym (cond-true _ _ _ under))
+    | inl under ↦
+        let less = name_less at e.0 (is ∙ sym (eqb-true e.0.0 parent under)) later.0 in
+        ap (put_by_name n) (cond-true _ _ _ under) ∙ first (comes_first parent n at nodes es is named later.1) (standing e.1 parent (string_bytes e.0.1) nodes) refl less ∙ ap (λ (l : List Node). n ∷ l) (sym (cond-true _ _ _ under))
     | inr isnt ↦ ap (put_by_name n) (cond-false _ _ _ isnt) ∙ comes_first parent n at nodes es is named later.1 ∙ ap (λ (l : List Node). n ∷ l) (sym (cond-false _ _ _ isnt))
   ]
     where
@@ -162,9 +164,9 @@ module _ {Y : Type 0} where
       → slice_cmp nat_cmp (string_bytes at.1) name ≡ Less
   later_name at parent name id [] is later found = absurd (false≢true (sym (ap is_none found)))
   later_name at parent name id (e ∷ es) is later found = elim (cases_Bool (is_place parent name e.0)) [
-    inl here ↦
-      let parts = and_parts (e.0.0 == parent) (same_text (string_bytes e.0.1) name) here in
-      subst (λ (t : List ℕ). slice_cmp nat_cmp (string_bytes at.1) t ≡ Less) (same_bytes (string_bytes e.0.1) name parts.1) (name_less at e.0 (is ∙ sym (eqb-true e.0.0 parent parts.0)) later.0)
+    | inl here ↦
+        let parts = and_parts (e.0.0 == parent) (same_text (string_bytes e.0.1) name) here in
+        subst (λ (t : List ℕ). slice_cmp nat_cmp (string_bytes at.1) t ≡ Less) (same_bytes (string_bytes e.0.1) name parts.1) (name_less at e.0 (is ∙ sym (eqb-true e.0.0 parent parts.0)) later.0)
     | inr isnt ↦ later_name at parent name id es is later.1 (sym (cond-false _ _ _ isnt) ∙ found)
   ]
 
@@ -173,35 +175,35 @@ module _ {Y : Type 0} where
       → standing_under parent (n ∷ nodes) es ≡ put_by_name n (standing_under parent nodes es)
   picks_more parent n nodes [] sorted has listed rises = absurd (false≢true (sym (ap is_none listed)))
   picks_more parent n nodes (e ∷ es) sorted has listed rises = elim (cases_Bool (is_place parent n.name e.0)) [
-    inl here ↦
-      let parts = and_parts (e.0.0 == parent) (same_text (string_bytes e.0.1) n.name) here in
-      let is : e.0.0 ≡ parent = eqb-true e.0.0 parent parts.0 in
-      let named : string_bytes e.0.1 ≡ n.name = same_bytes _ _ parts.1 in
-      let its : e.1 ≡ n.id = (let f : Some e.1 ≡ Some n.id = sym (cond-true _ _ _ here) ∙ listed in cc) in
-      let later = sorted_head place_cmp e.0 (keys_of es) sorted in
-      let stands : is_standing e.1 parent (string_bytes e.0.1) n ≡ true = and_from (n.id == e.1) _ (eq-eqb n.id e.1 (sym its)) (and_from (has_parent parent n) _ has (subst (λ (t : List ℕ). same_text n.name t ≡ true) (sym named) (same_itself n.name))) in
-      let gone : standing e.1 parent (string_bytes e.0.1) nodes ≡ None = none_above (λ (m : Node). has_parent parent m && same_text m.name (string_bytes e.0.1)) e.1 n.id nodes rises (omega (arith, its)) in
-      cond-true _ _ _ parts.0
+    | inl here ↦
+        let parts = and_parts (e.0.0 == parent) (same_text (string_bytes e.0.1) n.name) here in
+        let is : e.0.0 ≡ parent = eqb-true e.0.0 parent parts.0 in
+        let named : string_bytes e.0.1 ≡ n.name = same_bytes _ _ parts.1 in
+        let its : e.1 ≡ n.id = (let f : Some e.1 ≡ Some n.id = sym (cond-true _ _ _ here) ∙ listed in cc) in
+        let later = sorted_head place_cmp e.0 (keys_of es) sorted in
+        let stands : is_standing e.1 parent (string_bytes e.0.1) n ≡ true = and_from (n.id == e.1) _ (eq-eqb n.id e.1 (sym its)) (and_from (has_parent parent n) _ has (subst (λ (t : List ℕ). same_text n.name t ≡ true) (sym named) (same_itself n.name))) in
+        let gone : standing e.1 parent (string_bytes e.0.1) nodes ≡ None = none_above (λ (m : Node). has_parent parent m && same_text m.name (string_bytes e.0.1)) e.1 n.id nodes rises (omega (arith, its)) in
+        cond-true _ _ _ parts.0
         ∙ ap (λ o. cons_option o (standing_under parent (n ∷ nodes) es)) (cond-true _ _ _ stands)
         ∙ ap (λ (l : List Node). n ∷ l) (picks_other parent n nodes es (behind parent n e.0 es is named later))
         ∙ sym (ap (put_by_name n) (cond-true _ _ _ parts.0 ∙ ap (λ o. cons_option o (standing_under parent nodes es)) gone) ∙ comes_first parent n e.0 nodes es is named later)
     | inr isnt ↦
-      let tail = sorted_tail place_cmp e.0 (keys_of es) sorted in
-      let listed' : id_at parent n.name es ≡ Some n.id = sym (cond-false _ _ _ isnt) ∙ listed in
-      let more = picks_more parent n nodes es tail has listed' rises in
-      elim (cases_Bool (e.0.0 == parent)) [
-        inl under ↦
-          let is : e.0.0 ≡ parent = eqb-true e.0.0 parent under in
-          let apart : same_text (string_bytes e.0.1) n.name ≡ false = false_from_ne_true _ (λ same. true≢false (sym (and_from (e.0.0 == parent) _ under same) ∙ isnt)) in
-          let other : is_standing e.1 parent (string_bytes e.0.1) n ≡ false = and_right (n.id == e.1) _ (and_right (has_parent parent n) _ (same_back (string_bytes e.0.1) n.name apart)) in
-          let less = later_name e.0 parent n.name n.id es is (sorted_head place_cmp e.0 (keys_of es) sorted) listed' in
-          cond-true _ _ _ under
-            ∙ ap (λ o. cons_option o (standing_under parent (n ∷ nodes) es)) (cond-false _ _ _ other)
-            ∙ ap (cons_option (standing e.1 parent (string_bytes e.0.1) nodes)) more
-            ∙ passes (standing e.1 parent (string_bytes e.0.1) nodes) refl less
-            ∙ ap (put_by_name n) (sym (cond-true _ _ _ under))
-        | inr elsewhere ↦ cond-false _ _ _ elsewhere ∙ more ∙ ap (put_by_name n) (sym (cond-false _ _ _ elsewhere))
-      ]
+        let tail = sorted_tail place_cmp e.0 (keys_of es) sorted in
+        let listed' : id_at parent n.name es ≡ Some n.id = sym (cond-false _ _ _ isnt) ∙ listed in
+        let more = picks_more parent n nodes es tail has listed' rises in
+        elim (cases_Bool (e.0.0 == parent)) [
+          | inl under ↦
+              let is : e.0.0 ≡ parent = eqb-true e.0.0 parent under in
+              let apart : same_text (string_bytes e.0.1) n.name ≡ false = false_from_ne_true _ (λ same. true≢false (sym (and_from (e.0.0 == parent) _ under same) ∙ isnt)) in
+              let other : is_standing e.1 parent (string_bytes e.0.1) n ≡ false = and_right (n.id == e.1) _ (and_right (has_parent parent n) _ (same_back (string_bytes e.0.1) n.name apart)) in
+              let less = later_name e.0 parent n.name n.id es is (sorted_head place_cmp e.0 (keys_of es) sorted) listed' in
+              cond-true _ _ _ under
+              ∙ ap (λ o. cons_option o (standing_under parent (n ∷ nodes) es)) (cond-false _ _ _ other)
+              ∙ ap (cons_option (standing e.1 parent (string_bytes e.0.1) nodes)) more
+              ∙ passes (standing e.1 parent (string_bytes e.0.1) nodes) refl less
+              ∙ ap (put_by_name n) (sym (cond-true _ _ _ under))
+          | inr elsewhere ↦ cond-false _ _ _ elsewhere ∙ more ∙ ap (put_by_name n) (sym (cond-false _ _ _ elsewhere))
+        ]
   ]
     where
       passes : (o : Option Node) → standing e.1 parent (string_bytes e.0.1) nodes ≡ o → slice_cmp nat_cmp (string_bytes e.0.1) n.name ≡ Less → cons_option o (put_by_name n (standing_under parent nodes es)) ≡ put_by_name n (cons_option o (standing_under parent nodes es))
@@ -216,12 +218,12 @@ module _ {Y : Type 0} where
   picks_sorted parent es (n ∷ ns) k sorted rises all =
       let parts = and_parts (nat_lt k n.id) (is_rising (n.id ∷ map (λ (m : Node). m.id) ns)) rises in
       elim (cases_Bool (has_parent parent n)) [
-        inl has ↦
-          picks_more parent n ns es sorted has (all.0 parent (parent_is parent n has)) parts.1
+        | inl has ↦
+            picks_more parent n ns es sorted has (all.0 parent (parent_is parent n has)) parts.1
             ∙ ap (put_by_name n) (picks_sorted parent es ns n.id sorted parts.1 all.1)
             ∙ ap sorted_by_name (sym (cond-true _ (n ∷ filter (has_parent parent) ns) _ has))
         | inr hasnt ↦
-          picks_other parent n ns es (no_child parent n es hasnt)
+            picks_other parent n ns es (no_child parent n es hasnt)
             ∙ picks_sorted parent es ns n.id sorted parts.1 all.1
             ∙ ap sorted_by_name (sym (cond-false _ (n ∷ filter (has_parent parent) ns) _ hasnt))
       ]

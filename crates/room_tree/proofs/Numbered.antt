@@ -28,20 +28,20 @@ cmp_greater a b above = cond-false _ _ _ (le-ltb a b (omega (arith, above))) ∙
 
 pub is_key : (a b : ℕ) → is_eq (nat_cmp a b) ≡ (b == a)
 is_key a b = elim (cases_order a b) [
-  inl same ↦ ap is_eq (cmp_equal a b same) ∙ sym (eq-eqb b a (sym same))
+  | inl same ↦ ap is_eq (cmp_equal a b same) ∙ sym (eq-eqb b a (sym same))
   | inr apart ↦ elim apart [
-      inl below ↦ ap is_eq (cmp_less a b below) ∙ sym (ne_eqb b a (λ e. absurd (omega (arith, e, below))))
-      | inr above ↦ ap is_eq (cmp_greater a b above) ∙ sym (ne_eqb b a (λ e. absurd (omega (arith, e, above))))
-    ]
+    | inl below ↦ ap is_eq (cmp_less a b below) ∙ sym (ne_eqb b a (λ e. absurd (omega (arith, e, below))))
+    | inr above ↦ ap is_eq (cmp_greater a b above) ∙ sym (ne_eqb b a (λ e. absurd (omega (arith, e, above))))
+  ]
 ]
 
 pub less_below : (a b : ℕ) → nat_cmp a b ≡ Less → a < b
 less_below a b less = elim (cases_order a b) [
-  inl same ↦ absurd (true≢false (ap is_eq (sym (cmp_equal a b same) ∙ less)))
+  | inl same ↦ absurd (true≢false (ap is_eq (sym (cmp_equal a b same) ∙ less)))
   | inr apart ↦ elim apart [
-      inl below ↦ below
-      | inr above ↦ (let e : Greater ≡ Less = sym (cmp_greater a b above) ∙ less in cc)
-    ]
+    | inl below ↦ below
+    | inr above ↦ (let e : Greater ≡ Less = sym (cmp_greater a b above) ∙ less in cc)
+  ]
 ]
 
 -- ---- entries whose keys are the numbers of their objects
@@ -62,15 +62,15 @@ inserted node (e ∷ es) keyed =
     let parts = and_parts (is_keyed e) (list_all is_keyed es) keyed in
     let key : e.0 ≡ e.1.id = eqb-true e.0 e.1.id parts.0 in
     elim (cases_order node.id e.0) [
-      inl same ↦ ap (λ o. values_of (match_ordering o ((node.id, node) ∷ e ∷ es) ((e.0, node) ∷ es) (e ∷ insert_entry nat_cmp es node.id node))) (cmp_equal node.id e.0 same)
-        ∙ sym (cond-false _ _ _ (le-ltb e.1.id node.id (omega (arith, key, same))) ∙ cond-true _ _ _ (eq-eqb e.1.id node.id (omega (arith, key, same))))
+      | inl same ↦ ap (λ o. values_of (match_ordering o ((node.id, node) ∷ e ∷ es) ((e.0, node) ∷ es) (e ∷ insert_entry nat_cmp es node.id node))) (cmp_equal node.id e.0 same)
+          ∙ sym (cond-false _ _ _ (le-ltb e.1.id node.id (omega (arith, key, same))) ∙ cond-true _ _ _ (eq-eqb e.1.id node.id (omega (arith, key, same))))
       | inr apart ↦ elim apart [
-          inl below ↦ ap (λ o. values_of (match_ordering o ((node.id, node) ∷ e ∷ es) ((e.0, node) ∷ es) (e ∷ insert_entry nat_cmp es node.id node))) (cmp_less node.id e.0 below)
+        | inl below ↦ ap (λ o. values_of (match_ordering o ((node.id, node) ∷ e ∷ es) ((e.0, node) ∷ es) (e ∷ insert_entry nat_cmp es node.id node))) (cmp_less node.id e.0 below)
             ∙ sym (cond-false _ _ _ (le-ltb e.1.id node.id (omega (arith, key, below))) ∙ cond-false _ _ _ (ne_eqb e.1.id node.id (λ h. absurd (omega (arith, key, below, h)))))
-          | inr above ↦ ap (λ o. values_of (match_ordering o ((node.id, node) ∷ e ∷ es) ((e.0, node) ∷ es) (e ∷ insert_entry nat_cmp es node.id node))) (cmp_greater node.id e.0 above)
+        | inr above ↦ ap (λ o. values_of (match_ordering o ((node.id, node) ∷ e ∷ es) ((e.0, node) ∷ es) (e ∷ insert_entry nat_cmp es node.id node))) (cmp_greater node.id e.0 above)
             ∙ ap (λ (l : List Node). e.1 ∷ l) (inserted node es parts.1)
             ∙ sym (cond-true _ _ _ (lt-ltb e.1.id node.id (omega (arith, key, above))))
-        ]
+      ]
     ]
 
 pub inserted_keyed : (node : Node) (es : List (ℕ × Node)) → list_all is_keyed es ≡ true → list_all is_keyed (insert_entry nat_cmp es node.id node) ≡ true
@@ -79,14 +79,14 @@ inserted_keyed node (e ∷ es) keyed =
     let parts = and_parts (is_keyed e) (list_all is_keyed es) keyed in
     let key : e.0 ≡ e.1.id = eqb-true e.0 e.1.id parts.0 in
     elim (cases_order node.id e.0) [
-      inl same ↦ ap (λ o. list_all is_keyed (match_ordering o ((node.id, node) ∷ e ∷ es) ((e.0, node) ∷ es) (e ∷ insert_entry nat_cmp es node.id node))) (cmp_equal node.id e.0 same)
-        ∙ and_from _ _ (eq-eqb e.0 node.id (sym same)) parts.1
+      | inl same ↦ ap (λ o. list_all is_keyed (match_ordering o ((node.id, node) ∷ e ∷ es) ((e.0, node) ∷ es) (e ∷ insert_entry nat_cmp es node.id node))) (cmp_equal node.id e.0 same)
+          ∙ and_from _ _ (eq-eqb e.0 node.id (sym same)) parts.1
       | inr apart ↦ elim apart [
-          inl below ↦ ap (λ o. list_all is_keyed (match_ordering o ((node.id, node) ∷ e ∷ es) ((e.0, node) ∷ es) (e ∷ insert_entry nat_cmp es node.id node))) (cmp_less node.id e.0 below)
+        | inl below ↦ ap (λ o. list_all is_keyed (match_ordering o ((node.id, node) ∷ e ∷ es) ((e.0, node) ∷ es) (e ∷ insert_entry nat_cmp es node.id node))) (cmp_less node.id e.0 below)
             ∙ and_from _ _ (eq-eqb node.id node.id refl) keyed
-          | inr above ↦ ap (λ o. list_all is_keyed (match_ordering o ((node.id, node) ∷ e ∷ es) ((e.0, node) ∷ es) (e ∷ insert_entry nat_cmp es node.id node))) (cmp_greater node.id e.0 above)
+        | inr above ↦ ap (λ o. list_all is_keyed (match_ordering o ((node.id, node) ∷ e ∷ es) ((e.0, node) ∷ es) (e ∷ insert_entry nat_cmp es node.id node))) (cmp_greater node.id e.0 above)
             ∙ and_from _ _ parts.0 (inserted_keyed node es parts.1)
-        ]
+      ]
     ]
 
 -- no later entry has the number
@@ -106,12 +106,12 @@ removed id (e ∷ es) keyed sorted =
     let key : e.0 ≡ e.1.id = eqb-true e.0 e.1.id parts.0 in
     let test : is_eq (nat_cmp id e.0) ≡ (e.1.id == id) = is_key id e.0 ∙ ap (λ (k : ℕ). k == id) key in
     elim (cases_Bool (e.1.id == id)) [
-      inl is ↦
-        let it : e.0 ≡ id = key ∙ eqb-true e.1.id id is in
-        let later = subst (λ (k : ℕ). AllByRecursion (λ y. nat_cmp k y ≡ Less) (keys_of es)) it (sorted_head nat_cmp e.0 (keys_of es) sorted) in
-        ap values_of (cond-true _ es (e ∷ remove_entry (λ k. is_eq (nat_cmp id k)) es) (test ∙ is)) ∙ sym (cond-false _ _ _ (ap not is) ∙ none_later id es parts.1 later)
+      | inl is ↦
+          let it : e.0 ≡ id = key ∙ eqb-true e.1.id id is in
+          let later = subst (λ (k : ℕ). AllByRecursion (λ y. nat_cmp k y ≡ Less) (keys_of es)) it (sorted_head nat_cmp e.0 (keys_of es) sorted) in
+          ap values_of (cond-true _ es (e ∷ remove_entry (λ k. is_eq (nat_cmp id k)) es) (test ∙ is)) ∙ sym (cond-false _ _ _ (ap not is) ∙ none_later id es parts.1 later)
       | inr isnt ↦
-        ap values_of (cond-false _ es (e ∷ remove_entry (λ k. is_eq (nat_cmp id k)) es) (test ∙ isnt)) ∙ ap (λ (l : List Node). e.1 ∷ l) (removed id es parts.1 (sorted_tail nat_cmp e.0 (keys_of es) sorted)) ∙ sym (cond-true _ _ _ (ap not isnt))
+          ap values_of (cond-false _ es (e ∷ remove_entry (λ k. is_eq (nat_cmp id k)) es) (test ∙ isnt)) ∙ ap (λ (l : List Node). e.1 ∷ l) (removed id es parts.1 (sorted_tail nat_cmp e.0 (keys_of es) sorted)) ∙ sym (cond-true _ _ _ (ap not isnt))
     ]
 
 pub removed_keyed : (test : ℕ → Bool) (es : List (ℕ × Node)) → list_all is_keyed es ≡ true → list_all is_keyed (remove_entry test es) ≡ true
@@ -119,6 +119,6 @@ removed_keyed test [] keyed = refl
 removed_keyed test (e ∷ es) keyed =
     let parts = and_parts (is_keyed e) (list_all is_keyed es) keyed in
     elim (cases_Bool (test e.0)) [
-      inl is ↦ ap (list_all is_keyed) (cond-true _ es (e ∷ remove_entry test es) is) ∙ parts.1
+      | inl is ↦ ap (list_all is_keyed) (cond-true _ es (e ∷ remove_entry test es) is) ∙ parts.1
       | inr isnt ↦ ap (list_all is_keyed) (cond-false _ es (e ∷ remove_entry test es) isnt) ∙ and_from _ _ parts.0 (removed_keyed test es parts.1)
     ]

@@ -48,11 +48,11 @@ not_back a b is = before_is b a ∙ ap is_lt (total.antisymm b a ∙ ap ordering
 all_put : (Q : Pair → Type 0) (p : Pair) (l : List Pair) → Q p → AllByRecursion Q l → AllByRecursion Q (put_pair p l)
 all_put Q p [] new all = (new, tt)
 all_put Q p (o ∷ os) new all = elim (cases_Bool (is_pair_before o p)) [
-  inl is ↦ subst (AllByRecursion Q) (sym (cond-true _ (o ∷ put_pair p os) _ is)) (all.0, all_put Q p os new all.1)
+  | inl is ↦ subst (AllByRecursion Q) (sym (cond-true _ (o ∷ put_pair p os) _ is)) (all.0, all_put Q p os new all.1)
   | inr isnt ↦ subst (AllByRecursion Q) (sym (cond-false _ (o ∷ put_pair p os) _ isnt)) (elim (cases_Bool (is_pair_before p o)) [
-      inl back ↦ subst (AllByRecursion Q) (sym (cond-true _ (p ∷ o ∷ os) (o ∷ os) back)) (new, all)
-      | inr same ↦ subst (AllByRecursion Q) (sym (cond-false _ (p ∷ o ∷ os) (o ∷ os) same)) all
-    ])
+    | inl back ↦ subst (AllByRecursion Q) (sym (cond-true _ (p ∷ o ∷ os) (o ∷ os) back)) (new, all)
+    | inr same ↦ subst (AllByRecursion Q) (sym (cond-false _ (p ∷ o ∷ os) (o ∷ os) same)) all
+  ])
 ]
 
 all_past : (p o : Pair) (l : List Pair) → pair_cmp p o ≡ Less → AllByRecursion (λ y. pair_cmp o y ≡ Less) l → AllByRecursion (λ y. pair_cmp p y ≡ Less) l
@@ -62,7 +62,7 @@ all_past p o (x ∷ xs) up all = (total.trans p o x up all.0, all_past p o xs up
 all_filter : (Q : Pair → Type 0) (t : Pair → Bool) (l : List Pair) → AllByRecursion Q l → AllByRecursion Q (filter t l)
 all_filter Q t [] all = tt
 all_filter Q t (x ∷ xs) all = elim (cases_Bool (t x)) [
-  inl is ↦ subst (AllByRecursion Q) (sym (cond-true _ (x ∷ filter t xs) _ is)) (all.0, all_filter Q t xs all.1)
+  | inl is ↦ subst (AllByRecursion Q) (sym (cond-true _ (x ∷ filter t xs) _ is)) (all.0, all_filter Q t xs all.1)
   | inr isnt ↦ subst (AllByRecursion Q) (sym (cond-false _ (x ∷ filter t xs) _ isnt)) (all_filter Q t xs all.1)
 ]
 
@@ -71,18 +71,18 @@ pub put_sorted : (p : Pair) (l : List Pair) → IsStrictlySortedBy pair_cmp l �
 unfolding IsStrictlySortedBy
 put_sorted p [] sorted = (tt, tt)
 put_sorted p (o ∷ os) sorted = elim (cases_Bool (is_pair_before o p)) [
-  inl is ↦ subst (IsStrictlySortedBy pair_cmp) (sym (cond-true _ (o ∷ put_pair p os) _ is)) (all_put (λ y. pair_cmp o y ≡ Less) p os (less o p is) sorted.0, put_sorted p os sorted.1)
+  | inl is ↦ subst (IsStrictlySortedBy pair_cmp) (sym (cond-true _ (o ∷ put_pair p os) _ is)) (all_put (λ y. pair_cmp o y ≡ Less) p os (less o p is) sorted.0, put_sorted p os sorted.1)
   | inr isnt ↦ subst (IsStrictlySortedBy pair_cmp) (sym (cond-false _ (o ∷ put_pair p os) _ isnt)) (elim (cases_Bool (is_pair_before p o)) [
-      inl back ↦ subst (IsStrictlySortedBy pair_cmp) (sym (cond-true _ (p ∷ o ∷ os) (o ∷ os) back)) ((less p o back, all_past p o os (less p o back) sorted.0), sorted)
-      | inr same ↦ subst (IsStrictlySortedBy pair_cmp) (sym (cond-false _ (p ∷ o ∷ os) (o ∷ os) same)) sorted
-    ])
+    | inl back ↦ subst (IsStrictlySortedBy pair_cmp) (sym (cond-true _ (p ∷ o ∷ os) (o ∷ os) back)) ((less p o back, all_past p o os (less p o back) sorted.0), sorted)
+    | inr same ↦ subst (IsStrictlySortedBy pair_cmp) (sym (cond-false _ (p ∷ o ∷ os) (o ∷ os) same)) sorted
+  ])
 ]
 
 pub filter_sorted : (t : Pair → Bool) (l : List Pair) → IsStrictlySortedBy pair_cmp l → IsStrictlySortedBy pair_cmp (filter t l)
 unfolding IsStrictlySortedBy
 filter_sorted t [] sorted = tt
 filter_sorted t (x ∷ xs) sorted = elim (cases_Bool (t x)) [
-  inl is ↦ subst (IsStrictlySortedBy pair_cmp) (sym (cond-true _ (x ∷ filter t xs) _ is)) (all_filter (λ y. pair_cmp x y ≡ Less) t xs sorted.0, filter_sorted t xs sorted.1)
+  | inl is ↦ subst (IsStrictlySortedBy pair_cmp) (sym (cond-true _ (x ∷ filter t xs) _ is)) (all_filter (λ y. pair_cmp x y ≡ Less) t xs sorted.0, filter_sorted t xs sorted.1)
   | inr isnt ↦ subst (IsStrictlySortedBy pair_cmp) (sym (cond-false _ (x ∷ filter t xs) _ isnt)) (filter_sorted t xs sorted.1)
 ]
 
@@ -109,6 +109,7 @@ neither p o before_not same_not = before_is p o ∙ ap is_lt (total.antisymm p o
     equal Less y e = absurd (true≢false (sym (ap is_eq e)))
     equal Equal y e = (refl, e)
     equal Greater y e = absurd (true≢false (sym (ap is_eq e)))
+
     by : (r : Ordering) → pair_cmp o p ≡ r → is_lt (ordering_reverse (pair_cmp o p)) ≡ true
     by Less e = absurd (true≢false (sym (before o p e) ∙ before_not))
     by Equal e =
@@ -127,7 +128,7 @@ pub put_in_place : (p : Pair) (l : List Pair) (k : ℕ) → k < length l → tak
 put_in_place p l k below puts stops other =
     let step : drop k l ≡ get_or l k p ∷ drop (suc k) l = drop-cons l k p below in
     let front : put_pair p (drop k l) ≡ p ∷ drop k l =
-        ap (put_pair p) step ∙ cond-false _ _ _ stops ∙ cond-true _ (p ∷ get_or l k p ∷ drop (suc k) l) (get_or l k p ∷ drop (suc k) l) (neither p (get_or l k p) stops other) ∙ ap (λ (m : List Pair). p ∷ m) (sym step) in
+    ap (put_pair p) step ∙ cond-false _ _ _ stops ∙ cond-true _ (p ∷ get_or l k p ∷ drop (suc k) l) (get_or l k p ∷ drop (suc k) l) (neither p (get_or l k p) stops other) ∙ ap (λ (m : List Pair). p ∷ m) (sym step) in
     ap (λ (m : List Pair). take k l ++ m) (sym front) ∙ puts
 
 -- a pair that is there already
@@ -138,7 +139,7 @@ put_there p l k below puts stops same =
     let is : get_or l k p ≡ p = (let a = same_bytes (get_or l k p).0 p.0 parts.0 in let b = same_bytes (get_or l k p).1 p.1 parts.1 in λ i. (a i, b i)) in
     let back : is_pair_before p (get_or l k p) ≡ false = ap (is_pair_before p) is ∙ itself p in
     let front : put_pair p (drop k l) ≡ drop k l =
-        ap (put_pair p) step ∙ cond-false _ _ _ stops ∙ cond-false _ (p ∷ get_or l k p ∷ drop (suc k) l) (get_or l k p ∷ drop (suc k) l) back ∙ sym step in
+    ap (put_pair p) step ∙ cond-false _ _ _ stops ∙ cond-false _ (p ∷ get_or l k p ∷ drop (suc k) l) (get_or l k p ∷ drop (suc k) l) back ∙ sym step in
     sym (take-append-drop k l) ∙ ap (λ (m : List Pair). take k l ++ m) (sym front) ∙ puts
 
 -- a pair behind all others

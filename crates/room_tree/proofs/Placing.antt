@@ -31,26 +31,26 @@ empty_first (x ∷ xs) = refl
 filter_twice : {X : Type 0} (t u : X → Bool) → ((x : X) → t x ≡ true → u x ≡ true) → (xs : List X) → filter t (filter u xs) ≡ filter t xs
 filter_twice t u lets [] = refl
 filter_twice t u lets (x ∷ xs) = elim (cases_Bool (t x)) [
-  inl is ↦ ap (filter t) (cond-true _ (x ∷ filter u xs) _ (lets x is)) ∙ cond-true _ (x ∷ filter t (filter u xs)) _ is ∙ ap (λ l. x ∷ l) (filter_twice t u lets xs) ∙ sym (cond-true _ _ _ is)
+  | inl is ↦ ap (filter t) (cond-true _ (x ∷ filter u xs) _ (lets x is)) ∙ cond-true _ (x ∷ filter t (filter u xs)) _ is ∙ ap (λ l. x ∷ l) (filter_twice t u lets xs) ∙ sym (cond-true _ _ _ is)
   | inr isnt ↦ elim (cases_Bool (u x)) [
-      inl kept ↦ ap (filter t) (cond-true _ (x ∷ filter u xs) _ kept) ∙ cond-false _ _ (filter t (filter u xs)) isnt ∙ filter_twice t u lets xs ∙ sym (cond-false _ _ _ isnt)
-      | inr dropped ↦ ap (filter t) (cond-false _ (x ∷ filter u xs) _ dropped) ∙ filter_twice t u lets xs ∙ sym (cond-false _ _ _ isnt)
-    ]
+    | inl kept ↦ ap (filter t) (cond-true _ (x ∷ filter u xs) _ kept) ∙ cond-false _ _ (filter t (filter u xs)) isnt ∙ filter_twice t u lets xs ∙ sym (cond-false _ _ _ isnt)
+    | inr dropped ↦ ap (filter t) (cond-false _ (x ∷ filter u xs) _ dropped) ∙ filter_twice t u lets xs ∙ sym (cond-false _ _ _ isnt)
+  ]
 ]
 
 module _ {Y : Type 0} where
   -- a place compares as equal to a key where both are the same
   pub is_place_key : (place key : ℕ × String Y) → is_eq (ordering_then (nat_cmp place.0 key.0) (string_cmp place.1 key.1)) ≡ is_place place.0 (string_bytes place.1) key
   is_place_key place key = elim (cases_order place.0 key.0) [
-    inl same ↦
-      ap (λ o. is_eq (ordering_then o (string_cmp place.1 key.1))) (cmp_equal place.0 key.0 same)
+    | inl same ↦
+        ap (λ o. is_eq (ordering_then o (string_cmp place.1 key.1))) (cmp_equal place.0 key.0 same)
         ∙ is_eq-slice_cmp (string_bytes place.1) (string_bytes key.1)
         ∙ nat_list_eq_equiv.symm (string_bytes place.1) (string_bytes key.1)
         ∙ sym (ap (λ b. b && same_text (string_bytes key.1) (string_bytes place.1)) (eq-eqb key.0 place.0 (sym same)))
     | inr apart ↦ elim apart [
-        inl below ↦ ap (λ o. is_eq (ordering_then o (string_cmp place.1 key.1))) (cmp_less place.0 key.0 below) ∙ sym (and_left (key.0 == place.0) _ (ne_eqb key.0 place.0 (λ e. absurd (omega (arith, e, below)))))
-        | inr above ↦ ap (λ o. is_eq (ordering_then o (string_cmp place.1 key.1))) (cmp_greater place.0 key.0 above) ∙ sym (and_left (key.0 == place.0) _ (ne_eqb key.0 place.0 (λ e. absurd (omega (arith, e, above)))))
-      ]
+      | inl below ↦ ap (λ o. is_eq (ordering_then o (string_cmp place.1 key.1))) (cmp_less place.0 key.0 below) ∙ sym (and_left (key.0 == place.0) _ (ne_eqb key.0 place.0 (λ e. absurd (omega (arith, e, below)))))
+      | inr above ↦ ap (λ o. is_eq (ordering_then o (string_cmp place.1 key.1))) (cmp_greater place.0 key.0 above) ∙ sym (and_left (key.0 == place.0) _ (ne_eqb key.0 place.0 (λ e. absurd (omega (arith, e, above)))))
+    ]
   ]
 
   pub looked_up : (place : ℕ × String Y) (es : List ((ℕ × String Y) × ℕ)) → lookup (λ key. is_eq (ordering_then (nat_cmp place.0 key.0) (string_cmp place.1 key.1))) es ≡ id_at place.0 (string_bytes place.1) es
@@ -88,16 +88,16 @@ module _ {Y : Type 0} where
       by Equal is rest =
           let test = same_test p n place e.0 (ap is_eq is) in
           ap (λ o. id_at p n (match_ordering o ((place, id) ∷ e ∷ es) ((e.0, id) ∷ es) (e ∷ insert_entry (λ x y. ordering_then (nat_cmp x.0 y.0) (string_cmp x.1 y.1)) es place id))) is
-            ∙ elim (cases_Bool (is_place p n place)) [
-              inl here ↦ cond-true _ _ _ (test ∙ here) ∙ sym (cond-true _ _ _ here)
-              | inr isnt ↦ cond-false _ _ _ (test ∙ isnt) ∙ sym (cond-false _ (Some e.1) _ (test ∙ isnt)) ∙ sym (cond-false _ _ _ isnt)
-            ]
+          ∙ elim (cases_Bool (is_place p n place)) [
+            | inl here ↦ cond-true _ _ _ (test ∙ here) ∙ sym (cond-true _ _ _ here)
+            | inr isnt ↦ cond-false _ _ _ (test ∙ isnt) ∙ sym (cond-false _ (Some e.1) _ (test ∙ isnt)) ∙ sym (cond-false _ _ _ isnt)
+          ]
       by Greater is rest =
           ap (λ o. id_at p n (match_ordering o ((place, id) ∷ e ∷ es) ((e.0, id) ∷ es) (e ∷ insert_entry (λ x y. ordering_then (nat_cmp x.0 y.0) (string_cmp x.1 y.1)) es place id))) is
-            ∙ elim (cases_Bool (is_place p n e.0)) [
-              inl here ↦ cond-true _ _ _ here ∙ sym (cond-true _ _ _ here) ∙ sym (cond-false _ _ _ (apart_tests p n place e.0 is here))
-              | inr isnt ↦ cond-false _ _ _ isnt ∙ rest ∙ ap (λ o. if is_place p n place then Some id else o) (sym (cond-false _ _ _ isnt))
-            ]
+          ∙ elim (cases_Bool (is_place p n e.0)) [
+            | inl here ↦ cond-true _ _ _ here ∙ sym (cond-true _ _ _ here) ∙ sym (cond-false _ _ _ (apart_tests p n place e.0 is here))
+            | inr isnt ↦ cond-false _ _ _ isnt ∙ rest ∙ ap (λ o. if is_place p n place then Some id else o) (sym (cond-false _ _ _ isnt))
+          ]
 
   pub puts : (place : ℕ × String Y) (id : ℕ) (old new : List ((ℕ × String Y) × ℕ)) → new ≡ insert_entry (λ x y. ordering_then (nat_cmp x.0 y.0) (string_cmp x.1 y.1)) old place id → Lists place.0 (string_bytes place.1) id old new
   puts place id old new is p n = ap (id_at p n) is ∙ put_listed p n place id old
@@ -106,7 +106,7 @@ module _ {Y : Type 0} where
       → id_at p n (remove_entry (λ key. is_eq (ordering_then (nat_cmp place.0 key.0) (string_cmp place.1 key.1))) es) ≡ id_at p n es
   take_others p n place [] apart = refl
   take_others p n place (e ∷ es) apart = elim (cases_Bool (is_eq (ordering_then (nat_cmp place.0 e.0.0) (string_cmp place.1 e.0.1)))) [
-    inl is ↦ ap (id_at p n) (cond-true _ es (e ∷ remove_entry (λ key. is_eq (ordering_then (nat_cmp place.0 key.0) (string_cmp place.1 key.1))) es) is) ∙ sym (cond-false _ _ _ (same_test p n place e.0 is ∙ apart))
+    | inl is ↦ ap (id_at p n) (cond-true _ es (e ∷ remove_entry (λ key. is_eq (ordering_then (nat_cmp place.0 key.0) (string_cmp place.1 key.1))) es) is) ∙ sym (cond-false _ _ _ (same_test p n place e.0 is ∙ apart))
     | inr isnt ↦ ap (id_at p n) (cond-false _ es (e ∷ remove_entry (λ key. is_eq (ordering_then (nat_cmp place.0 key.0) (string_cmp place.1 key.1))) es) isnt) ∙ ap (λ o. if is_place p n e.0 then Some e.1 else o) (take_others p n place es apart)
   ]
 
@@ -117,11 +117,11 @@ module _ {Y : Type 0} where
 
   from_start : (start key : ℕ × String Y) → string_bytes start.1 ≡ [] → start.0 ≤ key.0 → is_le (ordering_then (nat_cmp start.0 key.0) (string_cmp start.1 key.1)) ≡ true
   from_start start key empty up = elim (cases_order start.0 key.0) [
-    inl same ↦ ap (λ o. is_le (ordering_then o (string_cmp start.1 key.1))) (cmp_equal start.0 key.0 same) ∙ ap (λ (t : List ℕ). is_le (slice_cmp nat_cmp t (string_bytes key.1))) empty ∙ empty_first (string_bytes key.1)
+    | inl same ↦ ap (λ o. is_le (ordering_then o (string_cmp start.1 key.1))) (cmp_equal start.0 key.0 same) ∙ ap (λ (t : List ℕ). is_le (slice_cmp nat_cmp t (string_bytes key.1))) empty ∙ empty_first (string_bytes key.1)
     | inr apart ↦ elim apart [
-        inl below ↦ ap (λ o. is_le (ordering_then o (string_cmp start.1 key.1))) (cmp_less start.0 key.0 below)
-        | inr above ↦ absurd (omega (arith, up, above))
-      ]
+      | inl below ↦ ap (λ o. is_le (ordering_then o (string_cmp start.1 key.1))) (cmp_less start.0 key.0 below)
+      | inr above ↦ absurd (omega (arith, up, above))
+    ]
   ]
 
   pub between : (parent : ℕ) (start end : ℕ × String Y) (es : List ((ℕ × String Y) × ℕ)) → start.0 ≡ parent → string_bytes start.1 ≡ [] → end.0 ≡ parent + 1
@@ -129,7 +129,7 @@ module _ {Y : Type 0} where
   between parent start end es from empty to = filter_twice (λ (e : (ℕ × String Y) × ℕ). e.0.0 == parent) _ (λ e is.
       let at : e.0.0 ≡ parent = eqb-true e.0.0 parent is in
       and_from _ _ (from_start start e.0 empty (omega (arith, at, from)))
-        (ap (λ o. not (is_le (ordering_then o (string_cmp end.1 e.0.1)))) (cmp_greater end.0 e.0.0 (omega (arith, at, to))))) es
+      (ap (λ o. not (is_le (ordering_then o (string_cmp end.1 e.0.1)))) (cmp_greater end.0 e.0.0 (omega (arith, at, to))))) es
 
   pub from : (parent : ℕ) (start : ℕ × String Y) (es : List ((ℕ × String Y) × ℕ)) → start.0 ≡ parent → string_bytes start.1 ≡ []
       → places_under parent (filter (λ e. range_contains (λ x y. ordering_then (nat_cmp x.0 y.0) (string_cmp x.1 y.1)) (Included start) Unbounded e.0) es) ≡ places_under parent es

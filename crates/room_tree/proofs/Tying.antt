@@ -54,9 +54,11 @@ free_apart parent name nodes id before free is = ap (λ o. option_map_or (λ (at
     back p n apart = false_from_ne_true (is_same_place parent name p n) (λ same.
         let e = other_place parent name p n same in
         true≢false (sym (and_from (parent == p) (same_text name n) (eq-eqb parent p (sym e.0)) (subst (λ (t : List ℕ). same_text name t ≡ true) (sym e.1) (same_itself name))) ∙ apart))
+
     at_parent : (x : Node) (o : Option ℕ) → find_id id nodes ≡ Some x → x.parent ≡ o → option_map_or (λ (at : ℕ × List ℕ). is_same_place parent name at.0 at.1) (option_map (λ p. (p, x.name)) o) false ≡ false
     at_parent x None at is = refl
     at_parent x (Some p) at is = back p x.name (free_place parent name nodes free id p x at is)
+
     by : (o : Option Node) → find_id id nodes ≡ o → option_map_or (λ (at : ℕ × List ℕ). is_same_place parent name at.0 at.1) (option_and_then place_of o) false ≡ false
     by None at = refl
     by (Some x) at = at_parent x x.parent at refl
@@ -64,7 +66,7 @@ free_apart parent name nodes id before free is = ap (λ o. option_map_or (λ (at
 pub no_less : (id : ℕ) (xs : List Node) (n : Node) → find_id id xs ≡ Some n → id ≤ greatest xs
 no_less id [] n found = absurd (false≢true (sym (ap is_none found)))
 no_less id (x ∷ xs) n found = elim (cases_Bool (x.id == id)) [
-  inl here ↦ let e = eqb-true x.id id here in omega (arith, e)
+  | inl here ↦ let e = eqb-true x.id id here in omega (arith, e)
   | inr isnt ↦ let rest = no_less id xs n (sym (cond-false _ _ _ isnt) ∙ found) in omega (arith, rest)
 ]
 
@@ -73,7 +75,7 @@ no_more last [] up = omega arith
 no_more last (x ∷ xs) up =
     let here = up x.id (ap is_some (cond-true _ (Some x) _ (eq-eqb x.id x.id refl))) in
     let rest = no_more last xs (λ id is. up id (elim (cases_Bool (x.id == id)) [
-      inl same ↦ ap is_some (cond-true _ (Some x) _ same)
+      | inl same ↦ ap is_some (cond-true _ (Some x) _ same)
       | inr isnt ↦ ap is_some (cond-false _ (Some x) _ isnt) ∙ is
     ])) in
     omega (arith, here, rest)
@@ -96,15 +98,15 @@ module _ {Y : Type 0} where
       → places_under parent some ≡ places_under parent places → standing_under parent nodes some ≡ sorted_by_name (filter (has_parent parent) nodes)
   children_listed es places some nodes parent tied view sorted same =
       ap (λ (l : List Node). standing_under parent l some) (sym view) ∙ children_are parent places some (values_of es) 0 sorted tied.rising (all_listed places 0 (values_of es) tied.rising tied.listed) same
-        ∙ ap (λ (l : List Node). sorted_by_name (filter (has_parent parent) l)) view
+      ∙ ap (λ (l : List Node). sorted_by_name (filter (has_parent parent) l)) view
 
   -- one more child that stands where it is listed
   pub child_more : (found : List Node) (parent : ℕ) (nodes : List Node) (e : (ℕ × String Y) × ℕ) (left rest : List ((ℕ × String Y) × ℕ)) (node : Node) (all : List Node) → left ≡ e ∷ rest → e.0.0 ≡ parent → standing e.1 parent (string_bytes e.0.1) nodes ≡ Some node
       → found ++ standing_under parent nodes left ≡ all → (found ++ node ∷ []) ++ standing_under parent nodes rest ≡ all
   child_more found parent nodes e left rest node all step under stands sofar =
       append_assoc found (node ∷ []) (standing_under parent nodes rest)
-        ∙ ap (λ (l : List Node). found ++ l) (sym (ap (standing_under parent nodes) step ∙ cond-true _ _ _ (eq-eqb e.0.0 parent under) ∙ ap (λ o. cons_option o (standing_under parent nodes rest)) stands))
-        ∙ sofar
+      ∙ ap (λ (l : List Node). found ++ l) (sym (ap (standing_under parent nodes) step ∙ cond-true _ _ _ (eq-eqb e.0.0 parent under) ∙ ap (λ o. cons_option o (standing_under parent nodes rest)) stands))
+      ∙ sofar
 
   -- the place of an object
   pub place_is : (place : ℕ × String Y) (nodes : List Node) (id : ℕ) (node : Node) (parent : ℕ) → find_id id nodes ≡ Some node → node.parent ≡ Some parent → place.0 ≡ parent → string_bytes place.1 ≡ node.name
@@ -141,9 +143,9 @@ module _ {Y : Type 0} where
         listed = λ id p m found has.
             let found' : (if node.id == id then Some node else find_id id (values_of es)) ≡ Some m = sym (found_put node id (values_of es)) ∙ ap (find_id id) (sym nodes) ∙ found in
             elim (cases_Bool (node.id == id)) [
-              inl here ↦
-                let it : node ≡ m = same_object node m (sym (cond-true _ _ _ here) ∙ found') in
-                subst (λ (x : Node). x.parent ≡ Some p → id_at p x.name new_places ≡ Some id) it (λ h. own p h ∙ ap Some (eqb-true node.id id here)) has
+              | inl here ↦
+                  let it : node ≡ m = same_object node m (sym (cond-true _ _ _ here) ∙ found') in
+                  subst (λ (x : Node). x.parent ≡ Some p → id_at p x.name new_places ≡ Some id) it (λ h. own p h ∙ ap Some (eqb-true node.id id here)) has
               | inr isnt ↦ others id p m (sym (cond-false _ _ _ isnt) ∙ found') isnt has
             ];
       }
@@ -170,8 +172,8 @@ module _ {Y : Type 0} where
   tied_added es new_es places new_places nodes node parent name tied view above is named free entries sorted lists =
       let free' : find_named parent name (values_of es) ≡ None = ap (find_named parent name) view ∙ ap (λ (t : List ℕ). find_named parent t nodes) named ∙ free in
       tied_put es new_es places new_places node tied above entries sorted
-        (λ p has. subst (λ (q : ℕ). id_at q node.name new_places ≡ Some node.id) (one_parent node parent p is has) (subst (λ (t : List ℕ). id_at parent t new_places ≡ Some node.id) named (own_listed places new_places parent name node.id lists)))
-        (λ i p m found other has. still_listed es places new_places parent name node.id tied lists free' i p m found has)
+      (λ p has. subst (λ (q : ℕ). id_at q node.name new_places ≡ Some node.id) (one_parent node parent p is has) (subst (λ (t : List ℕ). id_at parent t new_places ≡ Some node.id) named (own_listed places new_places parent name node.id lists)))
+      (λ i p m found other has. still_listed es places new_places parent name node.id tied lists free' i p m found has)
 
   -- what the objects are after one is put at its number
   pub put_view : (es new_es : List (ℕ × Node)) (places : List ((ℕ × String Y) × ℕ)) (nodes : List Node) (node : Node) → AreTied es places → values_of es ≡ nodes → new_es ≡ insert_entry nat_cmp es node.id node → values_of new_es ≡ put_node node nodes
@@ -193,8 +195,8 @@ module _ {Y : Type 0} where
       → new_es ≡ insert_entry nat_cmp es node.id node → IsStrictlySortedBy nat_cmp (keys_of new_es) → AreTied new_es places
   tied_replaced es new_es places nodes node tied view stood entries sorted =
       tied_put es new_es places places node tied (above_zero es places nodes node.id tied view (ap is_some stood.is_there)) entries sorted
-        (λ p has. subst (λ (t : List ℕ). id_at p t places ≡ Some node.id) (sym stood.same_name) (tied.listed node.id p stood.before (ap (find_id node.id) view ∙ stood.is_there) (sym stood.same_parent ∙ has)))
-        (λ i p m found other has. tied.listed i p m found has)
+      (λ p has. subst (λ (t : List ℕ). id_at p t places ≡ Some node.id) (sym stood.same_name) (tied.listed node.id p stood.before (ap (find_id node.id) view ∙ stood.is_there) (sym stood.same_parent ∙ has)))
+      (λ i p m found other has. tied.listed i p m found has)
 
   -- no other object stands at the place of one
   others_place : (es : List (ℕ × Node)) (places : List ((ℕ × String Y) × ℕ)) (id : ℕ) (x : Node) (parent : ℕ) → AreTied es places → find_id id (values_of es) ≡ Some x → x.parent ≡ Some parent
@@ -213,6 +215,7 @@ module _ {Y : Type 0} where
       at_parent : (x : Node) (o : Option ℕ) → find_id id (values_of es) ≡ Some x → x.parent ≡ o → option_map_or (λ (at : ℕ × List ℕ). is_same_place p m.name at.0 at.1) (option_map (λ parent. (parent, x.name)) o) false ≡ false
       at_parent x None at is = refl
       at_parent x (Some parent) at is = others_place es places id x parent tied at is i p m found has other
+
       by : (o : Option Node) → find_id id (values_of es) ≡ o → option_map_or (λ (at : ℕ × List ℕ). is_same_place p m.name at.0 at.1) (option_and_then place_of o) false ≡ false
       by None at = refl
       by (Some x) at = at_parent x x.parent at refl
@@ -225,9 +228,9 @@ module _ {Y : Type 0} where
       let free' : find_named parent name (values_of es) ≡ None = ap (find_named parent name) view ∙ ap (λ (t : List ℕ). find_named parent t nodes) named ∙ free in
       let stood' : before ≡ option_and_then place_of (find_id node.id (values_of es)) = stood ∙ ap (λ (l : List Node). option_and_then place_of (find_id node.id l)) (sym view) in
       tied_put es new_es places new_places node tied (above_zero es places nodes node.id tied view there) entries sorted
-        (λ p has. subst (λ (q : ℕ). id_at q node.name new_places ≡ Some node.id) (one_parent node parent p is has) (subst (λ (t : List ℕ). id_at parent t new_places ≡ Some node.id) named
-            (leaves parent name (free_apart parent name (values_of es) node.id before free' stood') ∙ own_listed places more_places parent name node.id lists)))
-        (λ i p m found other has. leaves p m.name (others_apart es places node.id before tied stood' i p m found has other) ∙ still_listed es places more_places parent name node.id tied lists free' i p m found has)
+      (λ p has. subst (λ (q : ℕ). id_at q node.name new_places ≡ Some node.id) (one_parent node parent p is has) (subst (λ (t : List ℕ). id_at parent t new_places ≡ Some node.id) named
+      (leaves parent name (free_apart parent name (values_of es) node.id before free' stood') ∙ own_listed places more_places parent name node.id lists)))
+      (λ i p m found other has. leaves p m.name (others_apart es places node.id before tied stood' i p m found has other) ∙ still_listed es places more_places parent name node.id tied lists free' i p m found has)
 
   -- an object is taken away
   pub tied_taken : (es new_es : List (ℕ × Node)) (places new_places : List ((ℕ × String Y) × ℕ)) (nodes : List Node) (id : ℕ) (before : Option (ℕ × List ℕ)) → AreTied es places → values_of es ≡ nodes
@@ -242,10 +245,10 @@ module _ {Y : Type 0} where
         listed = λ i p m found has.
             let found' : (if id == i then None else find_id i (values_of es)) ≡ Some m = sym (found_without id i (values_of es)) ∙ ap (find_id i) (sym rest) ∙ found in
             elim (cases_Bool (id == i)) [
-              inl gone ↦ absurd (false≢true (sym (ap is_none (sym (cond-true _ _ _ gone) ∙ found'))))
+              | inl gone ↦ absurd (false≢true (sym (ap is_none (sym (cond-true _ _ _ gone) ∙ found'))))
               | inr other ↦
-                let found'' = sym (cond-false _ _ _ other) ∙ found' in
-                leaves p m.name (others_apart es places id before tied stood' i p m found'' has other) ∙ tied.listed i p m found'' has
+                  let found'' = sym (cond-false _ _ _ other) ∙ found' in
+                  leaves p m.name (others_apart es places id before tied stood' i p m found'' has other) ∙ tied.listed i p m found'' has
             ];
       }
 
@@ -256,13 +259,13 @@ module _ {Y : Type 0} where
   -- the object alone
   pub tied_alone : (node : Node) (es : List (ℕ × Node)) (places : List ((ℕ × String Y) × ℕ)) → 0 < node.id → node.parent ≡ None → es ≡ (node.id, node) ∷ [] → IsStrictlySortedBy nat_cmp (keys_of es) → AreTied es places
   tied_alone node es places above none is sorted = record {
-      keyed = ap (list_all is_keyed) is ∙ and_from _ _ (eq-eqb node.id node.id refl) refl;
-      sorted = sorted;
-      rising = ap (λ (l : List (ℕ × Node)). is_rising (0 ∷ map (λ (n : Node). n.id) (values_of l))) is ∙ and_from _ _ (lt-ltb 0 node.id above) refl;
-      listed = λ id p m found has. elim (cases_Bool (node.id == id)) [
-        inl here ↦
+    keyed = ap (list_all is_keyed) is ∙ and_from _ _ (eq-eqb node.id node.id refl) refl;
+    sorted = sorted;
+    rising = ap (λ (l : List (ℕ × Node)). is_rising (0 ∷ map (λ (n : Node). n.id) (values_of l))) is ∙ and_from _ _ (lt-ltb 0 node.id above) refl;
+    listed = λ id p m found has. elim (cases_Bool (node.id == id)) [
+      | inl here ↦
           let it : node ≡ m = same_object node m (sym (cond-true _ _ _ here) ∙ ap (λ (l : List (ℕ × Node)). find_id id (values_of l)) (sym is) ∙ found) in
           absurd (false≢true (ap is_none (sym has ∙ ap (λ (n : Node). n.parent) (sym it) ∙ none)))
-        | inr isnt ↦ absurd (false≢true (sym (ap is_none (sym (cond-false _ (Some node) _ isnt) ∙ ap (λ (l : List (ℕ × Node)). find_id id (values_of l)) (sym is) ∙ found))))
-      ];
-    }
+      | inr isnt ↦ absurd (false≢true (sym (ap is_none (sym (cond-false _ (Some node) _ isnt) ∙ ap (λ (l : List (ℕ × Node)). find_id id (values_of l)) (sym is) ∙ found))))
+    ];
+  }

@@ -82,7 +82,12 @@ impl Objects {
     }
 
     /// A copy of the object of this parent and name.
-    pub(crate) fn named(&self, alloc: Global, parent: u64, name: &str) -> Result<Option<Node>, AllocError>
+    pub(crate) fn named(
+        &self,
+        alloc: Global,
+        parent: u64,
+        name: &str,
+    ) -> Result<Option<Node>, AllocError>
         ensures { IfOk result (λ found. found ≡ find_named parent name.now self.now) }
     {
         let place = place_at(alloc, parent, name)?;
@@ -93,7 +98,12 @@ impl Objects {
     }
 
     /// The place of this name under this parent, if there is a parent and no object stands there.
-    pub(crate) fn free(&self, alloc: Global, parent: Option<u64>, name: &str) -> Result<Option<Place>, AllocError>
+    pub(crate) fn free(
+        &self,
+        alloc: Global,
+        parent: Option<u64>,
+        name: &str,
+    ) -> Result<Option<Place>, AllocError>
         ensures free { IfOk result (λ found. IfSome found (λ place. find_named place.0 name.now self.now ≡ None)) }
         ensures place { IfOk result (λ found. IfSome found (λ place. (Some place.0 ≡ parent) × (string_bytes place.1 ≡ name.now))) }
         ensures taken { IfOk result (λ found. IfNone found (IfSome parent (λ p. is_some (find_named p name.now self.now) ≡ true))) }
@@ -204,7 +214,12 @@ impl Objects {
     }
 
     /// Puts the object in the place of the one of its number, and at another place, where none stands.
-    pub(crate) fn place(&mut self, alloc: Global, place: Place, node: Node) -> Result<(), AllocError>
+    pub(crate) fn place(
+        &mut self,
+        alloc: Global,
+        place: Place,
+        node: Node,
+    ) -> Result<(), AllocError>
         requires there { is_some (find_id node.id self.old) ≡ true }
         requires parent { node.parent ≡ Some place.0 }
         requires name { string_bytes place.1 ≡ node.name }

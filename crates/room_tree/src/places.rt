@@ -69,7 +69,11 @@ impl Places {
     }
 
     /// What is listed under the parent, in order of name, and what may be listed behind it.
-    pub(crate) fn under(&self, alloc: Global, parent: u64) -> Result<Range<'_, (u64, String), u64>, AllocError>
+    pub(crate) fn under(
+        &self,
+        alloc: Global,
+        parent: u64,
+    ) -> Result<Range<'_, (u64, String), u64>, AllocError>
         ensures listed { IfOk result (λ places. places_under parent places ≡ places_under parent self.now.ids.entries) }
         ensures ordered { OnOk result (IsOrdered (λ x y. ordering_then (nat_cmp x.0 y.0) (string_cmp x.1 y.1)) self.now.ids) }
     {

@@ -33,11 +33,11 @@ puts c =
     let user : c.in_ok-copy-2.field-0 ≡ c.args.user.now = c.in_ok-copy-2.ensures in
     let named : insert l k (c.in_ok-copy.field-0, c.in_ok-copy-2.field-0) ≡ insert l k p = λ i. insert l k (group i, user i) in
     c.in_ok-insert.ensures.items ∙ named ∙ elim c.else-place-len.branch [
-      else-place-len-via-then-place-len+else-is_same w ↦
-        let below : k < length l = omega (arith, w.if-place-len.true, c.len.ensures) in
-        let item : w.index.result.now ≡ get_or l k p = item_is l k w.index.result.now p below w.index.ensures in
-        let other : is_same_pair p (get_or l k p) ≡ false = ap (is_same_pair p) (sym item) ∙ sym w.is_same.ensures ∙ w.if-is_same.false in
-        put_in_place p l k below splits (stops below) other
+      | else-place-len-via-then-place-len+else-is_same w ↦
+          let below : k < length l = omega (arith, w.if-place-len.true, c.len.ensures) in
+          let item : w.index.result.now ≡ get_or l k p = item_is l k w.index.result.now p below w.index.ensures in
+          let other : is_same_pair p (get_or l k p) ≡ false = ap (is_same_pair p) (sym item) ∙ sym w.is_same.ensures ∙ w.if-is_same.false in
+          put_in_place p l k below splits (stops below) other
       | else-place-len-via-else-place-len w ↦ put_last p l k (omega (arith, w.if-place-len.false, c.len.ensures)) splits
     ]
 

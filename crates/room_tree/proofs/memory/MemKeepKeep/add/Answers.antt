@@ -36,17 +36,17 @@ returns c =
     let next : c.in-Some.id ≡ greatest k.nodes + 1 = c.in-Some.ensures in
     let puts : c.add.new.self ≡ put_node (node_of c.in-Some.id c.args.node) k.nodes = c.in_ok-add.ensures.ok ∙ ap (λ r. put_node r.0 k.nodes) c.at_number-object.ensures in
     let fills : c.put_new.new.self ≡ (if is_document c.args.node.kind then put_body c.in-Some.id c.args.node.bytes k.bodies else k.bodies) =
-        c.in_ok-put_new.ensures.ok ∙ ap (λ r. if is_document c.args.node.kind then put_body c.in-Some.id r.1 k.bodies else k.bodies) c.at_number-object.ensures in
+    c.in_ok-put_new.ensures.ok ∙ ap (λ r. if is_document c.args.node.kind then put_body c.in-Some.id r.1 k.bodies else k.bodies) c.at_number-object.ensures in
     record {
       written = record {
         follows = (omega arith, added_rows k.nodes c.add.new.self k.bodies c.put_new.new.self k.members k.notes c.in-Some.id c.args.node (omega (arith, next)) puts fills);
         written = c.count_one.ensures.capped;
         becomes = λ t can. record {
-            from_one = omega (arith, next);
-            is_new = none_past k.nodes c.in-Some.id (omega (arith, next));
-            is_free = refl;
-            becomes = added k.nodes c.add.new.self k.bodies c.put_new.new.self k.members k.notes c.in-Some.id c.args.node puts fills;
-          };
+          from_one = omega (arith, next);
+          is_new = none_past k.nodes c.in-Some.id (omega (arith, next));
+          is_free = refl;
+          becomes = added k.nodes c.add.new.self k.bodies c.put_new.new.self k.members k.notes c.in-Some.id c.args.node puts fills;
+        };
         fault = tt;
       };
     }

@@ -10,7 +10,7 @@ invariant_of-self c =
     let es = c.self.inside.by_number.entries in
     let places = c.self.inside.places.ids.entries in
     let entries : c.insert.new.self.entries ≡ insert_entry nat_cmp es c.args.node.id c.args.node =
-        settled c.insert.result c.insert.ensures.entries c.insert.ensures.absent (λ none. absurd (there es places c.args.self.now c.args.node.id c.self.invariant c.self.view_is (ap is_some c.requires.is_there) none)) in
+    settled c.insert.result c.insert.ensures.entries c.insert.ensures.absent (λ none. absurd (there es places c.args.self.now c.args.node.id c.self.invariant c.self.view_is (ap is_some c.requires.is_there) none)) in
     tied_replaced es c.insert.new.self.entries places c.args.self.now c.args.node c.self.invariant c.self.view_is c.requires entries c.insert.ensures.ordered
 
 pub returns : goal.returns
@@ -18,5 +18,5 @@ returns c =
     let es = c.self.inside.by_number.entries in
     let places = c.self.inside.places.ids.entries in
     let entries : c.insert.new.self.entries ≡ insert_entry nat_cmp es c.args.node.id c.args.node =
-        settled c.insert.result c.insert.ensures.entries c.insert.ensures.absent (λ none. absurd (there es places c.args.self.now c.args.node.id c.self.invariant c.self.view_is (ap is_some c.requires.is_there) none)) in
+    settled c.insert.result c.insert.ensures.entries c.insert.ensures.absent (λ none. absurd (there es places c.args.self.now c.args.node.id c.self.invariant c.self.view_is (ap is_some c.requires.is_there) none)) in
     put_view es c.insert.new.self.entries places c.args.self.now c.args.node c.self.invariant c.self.view_is entries
