@@ -1,0 +1,29 @@
+use Rattle.std.proofs.Common.{◌≡◌, ◌∙◌, sym, ap, subst, refl, arith}
+use Rattle.room_tree.specs.Keep.{HasCause, capped}
+use Rattle.room_tree.specs.Memory.{memory_rows}
+use Rattle.room_tree.proofs.Changed.{gone_rows}
+use Rattle.room_tree.proofs.memory.MemKeepKeep.remove.Goals as goal
+
+pub returns-then-not-was_there : goal.returns-then-not-was_there
+returns-then-not-was_there c =
+    let k = c.args.self.now in
+    record {
+      written = record {
+        follows = (c.failed.ensures.no_less, gone_rows k.nodes c.take.new.self k.bodies c.take-2.new.self k.members k.notes c.args.id c.in_ok-was_there.ensures.ok c.take-2.ensures);
+        written = refl;
+        becomes = λ t. tt;
+        fault = subst (HasCause (capped k.failures) (capped c.failed.new.failures) _) (sym c.failed.ensures.store) c.failed.ensures.capped;
+      };
+    }
+
+pub returns : goal.returns
+returns c =
+    let k = c.args.self.now in
+    record {
+      written = record {
+        follows = (omega arith, gone_rows k.nodes c.take.new.self k.bodies c.take-2.new.self k.members k.notes c.args.id c.in_ok-was_there.ensures.ok c.take-2.ensures);
+        written = c.count_one.ensures.capped;
+        becomes = λ t can. (ap (λ ns. memory_rows ns c.take-2.new.self k.members k.notes) c.in_ok-was_there.ensures.ok ∙ ap (λ bs. memory_rows _ bs k.members k.notes) c.take-2.ensures);
+        fault = tt;
+      };
+    }
