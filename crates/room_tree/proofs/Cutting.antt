@@ -1,5 +1,5 @@
 -- Texts cut into names, and paths.
-use Rattle.std.proofs.Common.{◌≡◌, ◌≢◌, ℕ, zero, suc, ◌<◌, ◌≤◌, ◌+◌, ◌==◌, ◌&&◌, Bool, true, false, List, [], ◌∷◌, ◌++◌, length, take, cond, Result, Ok, Err, codes, refl, sym, ap, ◌∙◌, arith, inl, inr, get_or, nat_lt, nat_le, length-append, lit≤}
+use Rattle.std.proofs.Common.{◌≡◌, ◌≢◌, ℕ, zero, suc, ◌<◌, ◌≤◌, ◌==◌, true, false, List, [], ◌∷◌, ◌++◌, length, take, Ok, Err, codes, refl, sym, ap, ◌∙◌, arith, inl, inr, get_or, nat_lt, nat_le, length-append}
 use Rattle.std.specs.Prelude.{IsTrue, if◌then◌else◌}
 use Rattle.std.specs.List.{list_all, flat_map}
 use Rattle.std.specs.Str.{IsUtf8, IsValidUpTo}
@@ -10,7 +10,6 @@ use Rattle.std.specs.List.{onto_first}
 use Rattle.std.proofs.lemmas.Str.{IsUtf8-from_ascii, utf8_valid_len-IsUtf8, utf8_valid_len-IsValidUpTo}
 use Rattle.room_ace.specs.Lists.{is_utf8}
 use Rattle.room_ace.specs.Pieces.{pieces, same_text}
-use Rattle.room_tree.specs.declared.fault.PathFault.{PathFault}
 use Rattle.room_tree.specs.declared.fault.PathFault.TheVariants.{BadName, TooLong, NotUtf8}
 use Rattle.room_tree.specs.Paths.{is_object_name, is_path, is_name_byte, names_in, object_names, path_of, path_text}
 

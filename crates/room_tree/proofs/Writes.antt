@@ -1,8 +1,7 @@
 -- Calls of a keeper that write, one after the other, and others that read between them.
-use Rattle.std.proofs.Common.{◌≡◌, ℕ, ◌<◌, ◌≤◌, ◌+◌, ◌-◌, ◌^◌, ◌⊎◌, Result, Ok, Err, IfErr, refl, sym, ap, subst, ◌∙◌, inl, inr, arith, add_assoc}
+use Rattle.std.proofs.Common.{◌≡◌, ℕ, ◌≤◌, ◌+◌, ◌-◌, ◌^◌, Result, Ok, Err, IfErr, sym, ap, subst, ◌∙◌, inl, inr, arith, add_assoc}
 use Rattle.std.proofs.lemmas.Bool.{cases_lt}
 use Rattle.room_tree.specs.declared.keep.KeepFault.{KeepFault}
-use Rattle.room_tree.specs.declared.keep.KeepFault.TheVariants.{Memory, Store, Damaged}
 use Rattle.room_tree.specs.Counts.{capped_below, capped_past}
 use Rattle.room_tree.specs.Keep.{HasCause, IsRead, IsWrite, capped}
 use Rattle.room_tree.specs.Rows.{Rows}

@@ -1,5 +1,5 @@
 -- A keeper that fails by a count of calls.
-use Rattle.std.specs.Prelude.{◌≡◌, ℕ, ◌+◌, ◌==◌, Bool, true, false, Result, Err, nat_le}
+use Rattle.std.specs.Prelude.{◌≡◌, ℕ, ◌+◌, ◌==◌, Bool, false, Result, Err, nat_le}
 use Rattle.std.specs.Bool.{MatchBool}
 use Rattle.room_tree.specs.declared.fail.Plan.{Plan}
 use Rattle.room_tree.specs.declared.fail.Plan.TheVariants.{After, Once, Never}
