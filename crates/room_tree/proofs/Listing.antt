@@ -1,16 +1,16 @@
 -- Objects and the places where they are listed.
-use Rattle.std.proofs.Common.{◌≡◌, ℕ, ◌<◌, ◌≤◌, ◌==◌, ◌&&◌, Bool, true, false, not, List, [], ◌∷◌, map, filter, Option, Some, None, nat_lt, nat_eq, refl, sym, ap, subst, ◌∙◌, arith, inl, inr, if◌then◌else◌, String, string_bytes}
-use Rattle.std.specs.Prelude.{IsTrue, is_none}
-use Rattle.std.specs.List.{find, cons_option, AllByRecursion}
+use Rattle.std.proofs.Common.{◌≡◌, ℕ, ◌==◌, ◌&&◌, true, false, List, [], ◌∷◌, map, filter, Option, Some, None, nat_lt, refl, sym, ap, subst, ◌∙◌, arith, inl, inr, String, string_bytes}
+use Rattle.std.specs.Prelude.{is_none}
+use Rattle.std.specs.List.{cons_option, AllByRecursion}
 use Rattle.std.specs.List.Sorted.{IsStrictlySortedBy}
-use Rattle.std.specs.Map.{lookup, keys_of}
+use Rattle.std.specs.Map.{keys_of}
 use Rattle.std.specs.Option.{option_map_or}
 use Rattle.std.specs.Ordering.{nat_cmp, ordering_then, ordering_reverse, is_lt, is_eq}
 use Rattle.std.specs.Cmp.Lexicographic.{slice_cmp}
 use Rattle.std.specs.String.{string_cmp}
 use Rattle.std.specs.declared.cmp.Ordering.{Ordering}
-use Rattle.std.specs.declared.cmp.Ordering.TheVariants.{Less, Equal, Greater}
-use Rattle.std.proofs.lemmas.Bool.{cases_Bool, false≢true, true≢false, and_parts, and_from, and_left, and_right, and_cases, eqb-true, eqb-false, ne_eqb, eq-eqb, cond-true, cond-false, false_from_ne_true}
+use Rattle.std.specs.declared.cmp.Ordering.TheVariants.{Less}
+use Rattle.std.proofs.lemmas.Bool.{cases_Bool, false≢true, true≢false, and_parts, and_from, and_left, and_right, eqb-true, ne_eqb, eq-eqb, cond-true, cond-false, false_from_ne_true}
 use Rattle.std.proofs.lemmas.Cmp.{nat_list_cmp_total, tied_itself}
 use Rattle.std.proofs.lemmas.Map.Keys.{sorted_head, sorted_tail}
 use Rattle.std.proofs.lemmas.Slice.Eq.{bytes_eq-Decides}
@@ -18,8 +18,8 @@ use Rattle.room_ace.specs.Pieces.{same_text}
 use Rattle.room_tree.specs.declared.node.Node.{Node}
 use Rattle.room_tree.specs.Content.{is_rising, has_parent, is_before, put_by_name, sorted_by_name}
 use Rattle.room_tree.specs.Finding.{find_id, find_named}
-use Rattle.room_tree.specs.Places.{is_standing, standing, standing_all, standing_under, is_place, is_same_place, id_at, places_under}
-use Rattle.room_tree.proofs.Found.{same_object, found_id, found_above, found_passes, none_above}
+use Rattle.room_tree.specs.Places.{is_standing, standing, standing_all, standing_under, is_place, id_at, places_under}
+use Rattle.room_tree.proofs.Found.{found_id, found_above, found_passes, none_above}
 use Rattle.room_tree.proofs.Numbered.{cmp_equal}
 
 pub same_bytes : (a b : List ℕ) → same_text a b ≡ true → a ≡ b

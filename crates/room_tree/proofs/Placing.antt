@@ -1,21 +1,19 @@
 -- Places listed, taken away and looked up.
-use Rattle.std.proofs.Common.{◌≡◌, ℕ, ◌<◌, ◌≤◌, ◌==◌, ◌&&◌, ◌+◌, Bool, true, false, not, List, [], ◌∷◌, filter, Option, Some, None, refl, sym, ap, subst, ◌∙◌, arith, inl, inr, if◌then◌else◌, String, string_bytes}
+use Rattle.std.proofs.Common.{◌≡◌, ℕ, ◌≤◌, ◌==◌, ◌&&◌, ◌+◌, Bool, true, false, not, List, [], ◌∷◌, filter, Some, refl, sym, ap, subst, ◌∙◌, arith, inl, inr, if◌then◌else◌, String, string_bytes}
 use Rattle.std.specs.BTreeMap.{insert_entry}
 use Rattle.std.specs.BTreeMap.Range.{range_contains}
-use Rattle.std.specs.List.{list_all}
 use Rattle.std.specs.Map.{lookup, remove_entry}
 use Rattle.std.specs.Ordering.{nat_cmp, ordering_then, is_eq, is_le, match_ordering}
 use Rattle.std.specs.Cmp.Lexicographic.{slice_cmp}
 use Rattle.std.specs.String.{string_cmp}
 use Rattle.std.specs.declared.cmp.Ordering.{Ordering}
 use Rattle.std.specs.declared.cmp.Ordering.TheVariants.{Less, Equal, Greater}
-use Rattle.std.specs.declared.ops.Bound.{Bound}
 use Rattle.std.specs.declared.ops.Bound.TheVariants.{Included, Excluded, Unbounded}
-use Rattle.std.proofs.lemmas.Bool.{cases_Bool, cases_order, cases_lt, false≢true, true≢false, and_parts, and_from, and_left, and_right, eqb-true, ne_eqb, eq-eqb, cond-true, cond-false, false_from_ne_true}
+use Rattle.std.proofs.lemmas.Bool.{cases_Bool, cases_order, false≢true, and_parts, and_from, and_left, eqb-true, ne_eqb, eq-eqb, cond-true, cond-false, false_from_ne_true}
 use Rattle.std.proofs.lemmas.Cmp.{nat_list_eq_equiv}
 use Rattle.std.proofs.lemmas.Map.Text.{is_eq-slice_cmp}
 use Rattle.room_ace.specs.Pieces.{same_text}
-use Rattle.room_tree.specs.Places.{text_place, is_place, is_same_place, id_at, places_under, Lists, KeepsOtherPlaces}
+use Rattle.room_tree.specs.Places.{text_place, is_place, id_at, places_under, Lists, KeepsOtherPlaces}
 use Rattle.room_tree.proofs.Numbered.{cmp_less, cmp_equal, cmp_greater}
 use Rattle.room_tree.proofs.Listing.{place_cmp, same_bytes}
 

@@ -1,14 +1,13 @@
 -- Objects at their numbers that are listed at their places, after a change too.
-use Rattle.std.proofs.Common.{◌≡◌, ℕ, ◌<◌, ◌≤◌, ◌+◌, ◌==◌, ◌&&◌, Bool, true, false, not, List, [], ◌∷◌, ◌++◌, append_assoc, map, filter, Option, Some, None, Result, Ok, Err, OnOk, OnErr, refl, sym, ap, subst, ◌∙◌, arith, inl, inr, if◌then◌else◌, String, string_bytes}
+use Rattle.std.proofs.Common.{◌≡◌, ℕ, ◌<◌, ◌≤◌, ◌+◌, ◌==◌, ◌&&◌, true, false, not, List, [], ◌∷◌, ◌++◌, append_assoc, map, filter, Option, Some, None, Result, Ok, Err, OnOk, OnErr, refl, sym, ap, subst, ◌∙◌, arith, inl, inr, if◌then◌else◌, String, string_bytes}
 use Rattle.std.specs.Prelude.{is_none, is_some, option_and_then}
 use Rattle.std.specs.BTreeMap.{insert_entry}
-use Rattle.std.specs.List.{find, cons_option, list_all, AllByRecursion}
+use Rattle.std.specs.List.{cons_option, list_all}
 use Rattle.std.specs.List.Sorted.{IsStrictlySortedBy}
 use Rattle.std.specs.Map.{lookup, remove_entry, keys_of, values_of}
 use Rattle.std.specs.Option.{IsSome, SomeIff, MatchOption, option_map, option_map_or}
-use Rattle.std.specs.Ordering.{nat_cmp, ordering_then, is_eq, is_lt}
-use Rattle.std.specs.String.{string_cmp}
-use Rattle.std.proofs.lemmas.Bool.{cases_Bool, cases_lt, false≢true, true≢false, and_parts, and_from, eqb-true, eqb-false, ne_eqb, eq-eqb, lt-ltb, cond-true, cond-false, false_from_ne_true}
+use Rattle.std.specs.Ordering.{nat_cmp, is_eq, is_lt}
+use Rattle.std.proofs.lemmas.Bool.{cases_Bool, cases_lt, false≢true, true≢false, and_parts, and_from, eqb-true, eqb-false, eq-eqb, lt-ltb, cond-true, cond-false, false_from_ne_true}
 use Rattle.std.proofs.lemmas.Map.Keys.{ge_from_not_lt}
 use Rattle.room_ace.specs.Pieces.{same_text}
 use Rattle.room_tree.specs.declared.node.Node.{Node}
@@ -16,8 +15,8 @@ use Rattle.room_tree.specs.Content.{put_node, is_rising, has_parent, sorted_by_n
 use Rattle.room_tree.specs.Finding.{find_id, find_named}
 use Rattle.room_tree.specs.Objects.{AreTied, StandsAsBefore, greatest, place_of}
 use Rattle.room_tree.specs.Places.{text_place, standing, standing_under, is_same_place, id_at, places_under, Lists, KeepsOtherPlaces}
-use Rattle.room_tree.proofs.Found.{same_object, found_id, found_above, found_put, found_without, some_passes, put_rises, filter_rises, passing, failing, missing}
-use Rattle.room_tree.proofs.Listing.{same_bytes, same_itself, parent_is, parent_has, all_listed, named_none, named_some, children_are, place_cmp}
+use Rattle.room_tree.proofs.Found.{same_object, found_id, found_above, found_put, found_without, some_passes, put_rises, filter_rises, failing}
+use Rattle.room_tree.proofs.Listing.{same_bytes, same_itself, parent_has, all_listed, named_none, named_some, children_are, place_cmp}
 use Rattle.room_tree.proofs.Numbered.{is_keyed, lookup_at, inserted, inserted_keyed, removed, removed_keyed}
 
 -- what holds after a call, whether it was refused or not

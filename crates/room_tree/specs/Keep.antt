@@ -1,5 +1,5 @@
 -- What the calls of a keeper answer, and what they leave.
-use Rattle.std.specs.Prelude.{◌≡◌, ℕ, ◌+◌, ◌<◌, ◌≤◌, ◌^◌, ◌-◌, ◌⊎◌, min, List, [], ◌∷◌, Bool, false, Option, Some, None, Result, Ok, Err, IfOk, IfErr, IsTrue, if◌then◌else◌}
+use Rattle.std.specs.Prelude.{◌≡◌, ℕ, ◌+◌, ◌<◌, ◌≤◌, ◌^◌, ◌-◌, ◌⊎◌, min, List, [], ◌∷◌, false, Option, Some, None, Result, Ok, Err, IfOk, IfErr, IsTrue, if◌then◌else◌}
 use Rattle.room_ace.specs.Ace.{Ace}
 use Rattle.room_ace.specs.Valid.{is_document}
 use Rattle.room_ace.specs.declared.object.Which.{Which}
@@ -7,7 +7,6 @@ use Rattle.room_ace.specs.declared.parties.Owners.{Owners}
 use Rattle.room_tree.specs.declared.keep.KeepFault.{KeepFault}
 use Rattle.room_tree.specs.declared.keep.KeepFault.TheVariants.{Memory, Store, Damaged}
 use Rattle.room_tree.specs.declared.node.AuditRow.{AuditRow}
-use Rattle.room_tree.specs.declared.node.Held.{Held}
 use Rattle.room_tree.specs.declared.node.NewNode.{NewNode}
 use Rattle.room_tree.specs.declared.node.Node.{Node}
 use Rattle.room_tree.specs.Content.{Content, node_at, root_of, child_of, children_of, body_of, groups_of, is_folder, with_node, with_body, without_node, with_records}

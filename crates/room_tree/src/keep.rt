@@ -3,8 +3,28 @@ ghost use Rattle.std.specs.Prelude.{◌≡◌, ◌≤◌, ◌^◌, ◌-◌, ℕ}
 ghost use Rattle.room_tree.specs.declared.keep.KeepFault.TheVariants.{Memory};
 ghost use Rattle.room_tree.specs.Held.{with_held};
 ghost use Rattle.room_tree.specs.Keep.{
-    Adds, AreChildrenOf, AreGroupsOf, AreNumbers, Changes, HasNoRoot, IsBodyOf, IsChildOf, IsNever, IsNodeAt, IsRead, IsRootOf, IsUnreadable,
-    IsUnreadableAt, IsWrite, Leaves, Notes, Places, Removes, SetsBody, with_inh, with_owners,
+  Adds,
+  AreChildrenOf,
+  AreGroupsOf,
+  AreNumbers,
+  Changes,
+  HasNoRoot,
+  IsBodyOf,
+  IsChildOf,
+  IsNever,
+  IsNodeAt,
+  IsRead,
+  IsRootOf,
+  IsUnreadable,
+  IsUnreadableAt,
+  IsWrite,
+  Leaves,
+  Notes,
+  Places,
+  Removes,
+  SetsBody,
+  with_inh,
+  with_owners,
 };
 ghost use Rattle.room_tree.specs.Rows.{AreRows, Rows};
 

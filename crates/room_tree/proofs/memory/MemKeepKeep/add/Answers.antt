@@ -1,4 +1,4 @@
-use Rattle.std.proofs.Common.{◌≡◌, ◌∙◌, ◌<◌, ◌+◌, None, sym, ap, subst, refl, arith, if◌then◌else◌}
+use Rattle.std.proofs.Common.{◌≡◌, ◌∙◌, ◌+◌, ap, refl, arith, if◌then◌else◌}
 use Rattle.room_ace.specs.Valid.{is_document}
 use Rattle.room_tree.specs.declared.keep.KeepFault.TheVariants.{Memory}
 use Rattle.room_tree.specs.Content.{put_body, put_node}

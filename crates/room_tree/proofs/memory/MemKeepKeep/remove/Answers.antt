@@ -1,4 +1,4 @@
-use Rattle.std.proofs.Common.{◌≡◌, ◌∙◌, sym, ap, subst, refl, arith}
+use Rattle.std.proofs.Common.{sym, subst, refl, arith}
 use Rattle.room_tree.specs.Keep.{HasCause, capped}
 use Rattle.room_tree.proofs.Changed.{gone, gone_rows}
 use Rattle.room_tree.proofs.memory.MemKeepKeep.remove.Goals as goal

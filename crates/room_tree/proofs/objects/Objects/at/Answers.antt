@@ -1,4 +1,4 @@
-use Rattle.std.proofs.Common.{◌≡◌, ◌∙◌, sym, ap, Some}
+use Rattle.std.proofs.Common.{◌∙◌, sym, ap, Some}
 use Rattle.std.specs.Option.{option_copied}
 use Rattle.room_tree.proofs.Tying.{found_at}
 use Rattle.room_tree.proofs.objects.Objects.at.Goals as goal

@@ -1,4 +1,4 @@
-use Rattle.std.proofs.Common.{◌∙◌, ap, arith}
+use Rattle.std.proofs.Common.{◌∙◌, ap}
 use Rattle.room_tree.specs.Places.{places_under}
 use Rattle.room_tree.proofs.Placing.{between, from}
 use Rattle.room_tree.proofs.places.Places.under.Goals as goal

@@ -1,0 +1,40 @@
+-- What a reader took, by the clauses of `csv`.
+use Rattle.std.proofs.Common.{ℕ, ◌≡◌, Bor, true, false, List, Option, Some, ◌∙◌}
+use Rattle.csv.specs.Reading.{ReadRecord, Ready, TookRecord, default_config, pending_of}
+use Rattle.csv.specs.Records.{AllText}
+use Rattle.csv.specs.declared.reader.Trim.TheVariants as trim
+use Rattle.room_import.specs.declared.rows.NextRow.TheVariants.{End, NotText, Text}
+use Rattle.room_import.specs.Rows.{GoesOn, Rows, Took, rows_from, unread}
+use Rattle.room_import.proofs.Next.{LeavesRows, no_row_read, row_read}
+use Rattle.room_import.proofs.Utf8.{row_fails, row_passes}
+
+abbrev known : Bor (List ℕ) → Option (List ℕ)
+known bytes = Some bytes.now
+
+now_unread : (after : Rows) (rest : List ℕ) → after.bom_checked ≡ true → pending_of (known after.rdr) after ≡ Some rest → unread after ≡ Some rest
+now_unread after rest checked pending = rw checked pending
+
+text_from : (before after : Rows) (row : List (List ℕ)) (bytes : List ℕ) → unread before ≡ Some bytes → after.bom_checked ≡ true
+    → LeavesRows before.state bytes row after.state (pending_of (known after.rdr) after) → after.trim ≡ trim.None → Ready after → after.config ≡ default_config → AllText row → Took before after row Text
+text_from before after row bytes left checked leaves trim ready config text =
+    let now = now_unread after leaves.0 checked leaves.1 in
+    (rw (left, now) leaves.3, row_passes row text, (trim, ready, config, leaves.2, leaves.0, now))
+
+pub took_text : (before after : Rows) (row : List (List ℕ)) → GoesOn before → Ready after → ReadRecord known before after true row → AllText row → Took before after row Text
+took_text before after row goes ready read text =
+    text_from before after row goes.4 goes.5 read.1
+    (row_read before.state goes.4 (pending_of (known after.rdr) after) row after.state goes.3 (rw (goes.2, goes.5) at read.0))
+    (read.3 ∙ goes.0) ready (read.2 ∙ goes.2) text
+
+pub took_none : (before after : Rows) (row : List (List ℕ)) → GoesOn before → ReadRecord known before after false row → Took before after row End
+took_none before after row goes read =
+    rw goes.5 (no_row_read before.state goes.4 (pending_of (known after.rdr) after) row after.state (rw (goes.2, goes.5) at read.0))
+
+not_text_from : (before after : Rows) (row fields : List (List ℕ)) (bytes : List ℕ) → unread before ≡ Some bytes
+    → LeavesRows before.state bytes row after.state (pending_of (known after.rdr) after) → ¬ (AllText row) → Took before after fields NotText
+not_text_from before after row fields bytes left leaves isnt = (row, rows_from after.state (Some leaves.0), rw left leaves.3, row_fails row isnt)
+
+pub took_not_text : (before after : Rows) (row fields : List (List ℕ)) → GoesOn before → TookRecord known before after row → ¬ (AllText row) → Took before after fields NotText
+took_not_text before after row fields goes took isnt =
+    not_text_from before after row fields goes.4 goes.5
+    (row_read before.state goes.4 (pending_of (known after.rdr) after) row after.state goes.3 (rw (goes.2, goes.5) at took)) isnt

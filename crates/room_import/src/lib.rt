@@ -1,0 +1,18 @@
+//! Groups and records as comma-separated text.
+#![tactic(auto)]
+
+mod fault;
+mod gathered;
+mod laws;
+mod pairs;
+mod reading;
+mod rows;
+#[cfg(test)]
+mod tests;
+mod writing;
+
+pub use fault::{CsvFault, CsvWhy};
+pub use laws::groups_read_back;
+pub use pairs::Pairs;
+pub use reading::read_groups;
+pub use writing::{write_audits, write_groups};
