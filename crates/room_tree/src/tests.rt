@@ -1,2 +1,3 @@
 //! Tests at written examples.
 mod paths;
+mod walks;
