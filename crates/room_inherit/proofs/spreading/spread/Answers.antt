@@ -1,3 +1,4 @@
+use Rattle.room_inherit.proofs.OneTurn.{frontier_after}
 use Rattle.room_inherit.proofs.spreading.spread.Goals as goal
 
 pub returns-in_default : goal.returns-in_default
