@@ -50,7 +50,7 @@ own_unchanged which n = ap not (entries_themselves (held_of which n).inh)
 
 pub count_own : (which : Which) (nodes : List Node) → count (is_changed which (own_lists which)) nodes ≡ 0
 count_own which [] = refl
-count_own which (x ∷ xs) = ap (λ t. one_if t + count (is_changed which (own_lists which)) xs) (own_unchanged which x) ∙ count_own which xs
+count_own which (x ∷ xs) = ap (λ t. one_if t + count (is_changed which (own_lists which)) xs) (own_unchanged which x) ∙ (let rest = count_own which xs in omega (arith, rest))
 
 changed_own : (which : Which) (n : Node) (X : Type 0) → is_changed which (own_lists which) n ≡ true → X
 changed_own which n X changed = absurd (false≢true (sym (own_unchanged which n) ∙ changed))

@@ -70,7 +70,7 @@ or_false : (t : Bool) → (t || false) ≡ t
 or_false true = refl
 or_false false = refl
 
-base_of : (which : Which) (f : Node → List Ace) (m : Node) (o : Option Node) → option_map (set which f) o ≡ Some m → (n : Node) × (o ≡ Some n) × (m ≡ set which f n)
+pub base_of : (which : Which) (f : Node → List Ace) (m : Node) (o : Option Node) → option_map (set which f) o ≡ Some m → (n : Node) × (o ≡ Some n) × (m ≡ set which f n)
 base_of which f m None e = absurd (let wrong : ⊥ = cc in wrong)
 base_of which f m (Some n) e = (n, refl, let back : set which f n ≡ m = cc in sym back)
 
