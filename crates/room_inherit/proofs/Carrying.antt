@@ -123,6 +123,10 @@ carrying_loops which start turns rest w changed most old now are sofar met =
 still_unreadable : (which : Which) (start turns : ℕ) (waiting : List Node) (changed most at : ℕ) (old now : Rows) → IsCarrying which start turns waiting changed most old now → IsUnreadable now at → IsUnreadable old at
 still_unreadable which start turns waiting changed most at old now sofar damaged = ap (λ (r : Rows). is_unreadable r at) (sym sofar.becomes) ∙ damaged
 
+pub no_length : (xs : List Node) → length xs ≡ 0 → xs ≡ []
+no_length [] none = refl
+no_length (x ∷ xs) none = absurd (let wrong : ⊥ = omega (arith, none) in wrong)
+
 -- ---- calls
 
 module _ {S : Type 0} (rows : S → Rows) (failures writes : S → ℕ) (Follows IsTrusted : S → S → Type 0) where
