@@ -6,7 +6,7 @@ use Rattle.std.proofs.lemmas.Bool.{cases_Bool, and_from, and_parts, or_parts, or
 use Rattle.room_tree.specs.declared.node.Node.{Node}
 use Rattle.room_tree.specs.Content.{Content, node_at, has_parent, children_of, put_by_name, sorted_by_name, is_before, is_rising}
 use Rattle.room_tree.specs.Finding.{find_id}
-use Rattle.room_inherit.proofs.Members.{Each, each_append, each_weaker, each_filter, each_unfiltered, any_filter, any_agree, any_none, each_fails, none_of_both, none_filter, one_if, count, count_filter, count_agree}
+use Rattle.room_inherit.proofs.Members.{Each, each_append, each_weaker, each_filter, each_unfiltered, any_filter, any_agree, any_none, each_fails, none_of_both, none_filter, one_if, count, count_filter, count_agree, count_length}
 
 -- ---- by number
 
@@ -139,6 +139,18 @@ count_sorted : (q : Node → Bool) (xs : List Node) → count q (sorted_by_name 
 count_sorted q [] = refl
 count_sorted q (x ∷ xs) = count_put q x (sorted_by_name xs) ∙ ap (λ n. one_if (q x) + n) (count_sorted q xs)
 
+length_put : (x : Node) (xs : List Node) → length (put_by_name x xs) ≡ suc (length xs)
+length_put x [] = refl
+length_put x (y ∷ ys) = on (is_before y.name x.name) (length_put x ys)
+  where
+    on : (t : Bool) → length (put_by_name x ys) ≡ suc (length ys) → length (cond t (y ∷ put_by_name x ys) (x ∷ y ∷ ys)) ≡ suc (length (y ∷ ys))
+    on true rest = ap suc rest
+    on false rest = refl
+
+length_sorted : (xs : List Node) → length (sorted_by_name xs) ≡ length xs
+length_sorted [] = refl
+length_sorted (x ∷ xs) = length_put x (sorted_by_name xs) ∙ ap suc (length_sorted xs)
+
 apart_put : (x : Node) (xs : List Node) → has_id x.id xs ≡ false → Apart xs → Apart (put_by_name x xs)
 apart_put x [] new apart = (refl, tt)
 apart_put x (y ∷ ys) new apart = on (is_before y.name x.name) (apart_put x ys parts.1 apart.1)
@@ -196,6 +208,13 @@ module _ (rows : Content) (apart : Apart rows.nodes) where
       assoc : (a b c : Bool) → (a && (b && c)) ≡ ((a && b) && c)
       assoc true b c = refl
       assoc false b c = refl
+
+  -- whether an object is among the children, and how many there are
+  pub is_child : (id : ℕ) (n : Node) → node_at rows n.id ≡ Some n → has_id n.id (children_of rows id) ≡ has_parent id n
+  is_child id n there = any_sorted (λ (m : Node). m.id == n.id) (filter (has_parent id) rows.nodes) ∙ any_filter (λ (m : Node). m.id == n.id) (has_parent id) rows.nodes ∙ any_here (has_parent id) n rows.nodes apart there
+
+  pub length_children : (id : ℕ) → length (children_of rows id) ≡ count (has_parent id) rows.nodes
+  length_children id = length_sorted (filter (has_parent id) rows.nodes) ∙ count_length (has_parent id) rows.nodes
 
   -- how many children pass a test
   pub count_children : (q : Node → Bool) (id : ℕ) → count q (children_of rows id) ≡ count (λ n. has_parent id n && q n) rows.nodes

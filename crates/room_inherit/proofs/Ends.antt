@@ -29,7 +29,7 @@ use Rattle.room_inherit.proofs.Renewing.{map_agree}
 use Rattle.room_inherit.proofs.Frontier.{set, set_id, set_parent, set_held, find_set, links, passes, is_reached, There, Waits, Came, AgreesOrWaits, Frontier}
 use Rattle.room_inherit.proofs.OneTurn.{parent_is, parent_found, base_of}
 
-each_all : (p : Node → Bool) (xs : List Node) → list_all p xs ≡ true → Each (λ x. p x ≡ true) xs
+pub each_all : (p : Node → Bool) (xs : List Node) → list_all p xs ≡ true → Each (λ x. p x ≡ true) xs
 each_all p [] all = tt
 each_all p (x ∷ xs) all = let parts = and_parts (p x) (list_all p xs) all in (parts.0, each_all p xs parts.1)
 

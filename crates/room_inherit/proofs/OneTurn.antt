@@ -37,7 +37,7 @@ parent_is id node has = on node.parent has
     on None has = absurd (false≢true has)
     on (Some parent) has = ap Some (eqb-true parent id has)
 
-same_above : (a b : ℕ) (node : Node) → has_parent a node ≡ true → has_parent b node ≡ true → a ≡ b
+pub same_above : (a b : ℕ) (node : Node) → has_parent a node ≡ true → has_parent b node ≡ true → a ≡ b
 same_above a b node has has' = let e : Some a ≡ Some b = sym (parent_is a node has) ∙ parent_is b node has' in cc
 
 pub parent_found : (content : Content) (parent node : Node) → node_at content parent.id ≡ Some parent → has_parent parent.id node ≡ true → parent_of content node ≡ Some parent
@@ -45,28 +45,28 @@ parent_found content parent node there has = ap (option_and_then (node_at conten
 
 -- ---- lists without a number twice
 
-has_either : (id : ℕ) (xs ys : List Node) → has_id id (xs ++ ys) ≡ (has_id id xs || has_id id ys)
+pub has_either : (id : ℕ) (xs ys : List Node) → has_id id (xs ++ ys) ≡ (has_id id xs || has_id id ys)
 has_either id xs ys = list_any-append (λ (n : Node). n.id == id) xs ys
 
-apart_join : (xs ys : List Node) → Apart xs → Apart ys → Each (λ x. has_id x.id ys ≡ false) xs → Apart (xs ++ ys)
+pub apart_join : (xs ys : List Node) → Apart xs → Apart ys → Each (λ x. has_id x.id ys ≡ false) xs → Apart (xs ++ ys)
 apart_join [] ys apart apart' none = apart'
 apart_join (x ∷ xs) ys apart apart' none = (has_either x.id xs ys ∙ or_from (has_id x.id xs) (has_id x.id ys) apart.0 none.0, apart_join xs ys apart.1 apart' none.1)
 
-apart_front : (xs ys : List Node) → Apart (xs ++ ys) → Apart xs
+pub apart_front : (xs ys : List Node) → Apart (xs ++ ys) → Apart xs
 apart_front [] ys apart = tt
 apart_front (x ∷ xs) ys apart = ((or_parts (has_id x.id xs) (has_id x.id ys) (sym (has_either x.id xs ys) ∙ apart.0)).0, apart_front xs ys apart.1)
 
-apart_last : (xs : List Node) (y : Node) → Apart (xs ++ y ∷ []) → has_id y.id xs ≡ false
+pub apart_last : (xs : List Node) (y : Node) → Apart (xs ++ y ∷ []) → has_id y.id xs ≡ false
 apart_last [] y apart = refl
 apart_last (x ∷ xs) y apart =
     let none = or_parts (has_id x.id xs) (has_id x.id (y ∷ [])) (sym (has_either x.id xs (y ∷ [])) ∙ apart.0) in
     let other = or_parts (y.id == x.id) false none.1 in
     or_from (x.id == y.id) (has_id y.id xs) (ne_eqb x.id y.id (λ e. false≢true (sym other.0 ∙ eq-eqb y.id x.id (sym e)))) (apart_last xs y apart.1)
 
-has_last : (xs : List Node) (y : Node) → has_id y.id (xs ++ y ∷ []) ≡ true
+pub has_last : (xs : List Node) (y : Node) → has_id y.id (xs ++ y ∷ []) ≡ true
 has_last xs y = has_either y.id xs (y ∷ []) ∙ or_right (has_id y.id xs) (has_id y.id (y ∷ [])) (or_left (y.id == y.id) false (eq-eqb y.id y.id refl))
 
-or_false : (t : Bool) → (t || false) ≡ t
+pub or_false : (t : Bool) → (t || false) ≡ t
 or_false true = refl
 or_false false = refl
 
