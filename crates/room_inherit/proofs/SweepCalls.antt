@@ -103,12 +103,13 @@ module _ (which : Which) (start turns : ℕ) (rest : List Node) (w : Node) (chan
       numbers = sofar.numbers;
     }
 
-pub sweeping_done : (which : Which) (start turns changed most : ℕ) (old now : Rows) → AreRows old → IsSweeping which start turns [] changed most old now → IsSwept which old now changed
-sweeping_done which start turns changed most old now are sofar = record {
+pub sweeping_done : (which : Which) (start turns changed most : ℕ) (old now : Rows) → AreRows old → most < 2 ^ 63 → IsSweeping which start turns [] changed most old now → IsSwept which old now changed
+sweeping_done which start turns changed most old now are fits sofar = record {
   lists = sofar.lists;
   becomes = sofar.becomes;
   linked = sofar.front.linked;
   counted = sofar.counted ∙ sym (count-is (is_changed which sofar.lists) old.read.nodes);
+  few = let e = sofar.counted in let m = count_ends (is_changed which sofar.lists) old.read.nodes in let a = as_many_numbers old in let n = sofar.numbers in omega (arith, e, m, a, n, fits);
   law = λ tree. subst (λ (r : Rows). AllAgree r.read which) (sym sofar.becomes) (law_swept which old.read are.numbers sofar.root sofar.root_is sofar.lists sofar.seen sofar.front tree);
 }
 
@@ -167,7 +168,7 @@ module _ {S : Type 0} (rows : S → Rows) (failures writes : S → ℕ) (Follows
     sweeps_to_end start turns changed most a b sofar = record {
       follows = sofar.follows;
       written = sofar.written;
-      becomes = λ t. sweeping_done which start turns changed most (rows a) (rows b) (are_rows a b t) (sofar.along t);
+      becomes = λ t. sweeping_done which start turns changed most (rows a) (rows b) (are_rows a b t) sofar.fits (sofar.along t);
       fault = tt;
     }
 

@@ -1,17 +1,30 @@
 //! All lists carried down from the root.
 ghost use Rattle.std.specs.Prelude.{◌≡◌, ◌++◌, IfErr, OnOk};
 ghost use Rattle.room_inherit.specs.Spread.{IsCarried};
-ghost use Rattle.room_inherit.specs.SpreadAll.{IsCarriedDown, IsSwept, IsVisit};
+ghost use Rattle.room_inherit.specs.SpreadAll.{IsCarriedDown, IsSpreadAll, IsSwept, IsVisit};
 ghost use Rattle.room_inherit.specs.Turn.{MeetsAgain};
 
-use crate::outcome::SpreadFault;
+use crate::outcome::{Spread, SpreadFault};
 use crate::turn::renew_children;
 use room_ace::Which;
 use room_tree::{Keep, KeepFault, Node};
 use std::alloc::Global;
 
+/// Brings the stored inherited entries of every linked object up to date, for both lists, from the
+/// root down. The rows are to be a tree: one object has no parent, and the parents of each lead to
+/// it. `changed` counts the lists that became different.
+pub fn spread_all<K: Keep>(alloc: Global, keep: &mut K) -> Result<Spread, SpreadFault>
+    ensures spread { IsCarriedDown K.rows K.failures K.writes K.Follows K.IsTrusted (λ spread. spread.changed) keep.old keep.new result (λ old spread new. IsSpreadAll old new spread.changed) }
+{
+    let dacls = sweep(alloc, keep, Which::Dacl)?;
+    let sacls = sweep(alloc, keep, Which::Sacl)?;
+    Ok(Spread {
+        changed: dacls.saturating_add(sacls),
+    })
+}
+
 // Goes through the tree from the root down, and stores in each linked object what its parent's list passes to it, for one of the lists. It answers how many lists became different.
-pub(crate) fn sweep<K: Keep>(
+fn sweep<K: Keep>(
     alloc: Global,
     keep: &mut K,
     which: Which,

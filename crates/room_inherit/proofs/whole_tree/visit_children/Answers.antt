@@ -52,7 +52,7 @@ returns-in_err-push_copies g c =
     let above = c.args.above.now in
     let before = c.args.waiting.now.items in
     let Becomes : Rows → Vec Node Global → Rows → Type 0 = λ old v new. IsTurn c.args.which c.args.start above old v.items new in
-    let is = handed_on c.from_residual-in_err-push_copies.result (Keeper Memory) (?) in
+    let is = handed_on c.from_residual-in_err-push_copies.result c.in_err-push_copies.field-0.0 c.from_residual-in_err-push_copies.ensures.1 ∙ ap (λ (e : SpreadFault). Err e) c.in_err-push_copies.ensures.memory in
     record {
       visit = subst (λ (r : Result ℕ SpreadFault). Visited k.rows k.failures k.writes k.Follows k.IsTrusted laws m.are_rows (λ s. (m.counts_end s).1) c.args.which c.args.start above before c.push_copies.new.waiting.items a c.children.new.self r) (sym is)
         (visit_without_memory k.rows k.failures k.writes k.Follows k.IsTrusted laws m.are_rows (λ s. (m.counts_end s).1) c.args.which c.args.start above before a c.renew_children.new.keep c.in_ok-renew_children.field-0 (λ (v : Vec Node Global). length v.items) (λ (v : Vec Node Global). v.items) refl c.in_ok-renew_children.ensures.turn c.push_copies.new.waiting.items c.children.new.self c.in_ok-children.ensures.read.follows);
@@ -69,5 +69,5 @@ returns g c =
     let Becomes : Rows → Vec Node Global → Rows → Type 0 = λ old v new. IsTurn c.args.which c.args.start above old v.items new in
     let behind : c.push_copies.new.waiting.items ≡ before ++ c.in_ok-children.children = c.in_ok-push_copies.ensures.ok ∙ ap (λ (l : List Node). before ++ l) c.as_slice.ensures in
     record {
-      visit = visit_done k.rows k.failures k.writes k.Follows k.IsTrusted laws m.are_rows (λ s. (m.counts_end s).1) c.args.which c.args.start above before a c.renew_children.new.keep c.in_ok-renew_children.field-0 (λ (v : Vec Node Global). length v.items) (λ (v : Vec Node Global). v.items) refl c.in_ok-renew_children.ensures.turn c.in_ok-children.children c.push_copies.new.waiting.items c.children.new.self c.in_ok-children.ensures.read behind c.len.result (c.len.ensures ∙ c.in_ok-renew_children.field-0.ok.0);
+      visit = visit_done k.rows k.failures k.writes k.Follows k.IsTrusted laws m.are_rows (λ s. (m.counts_end s).1) c.args.which c.args.start above before a c.renew_children.new.keep c.in_ok-renew_children.field-0 (λ (v : Vec Node Global). length v.items) (λ (v : Vec Node Global). v.items) refl c.in_ok-renew_children.ensures.turn c.in_ok-children.children c.push_copies.new.waiting.items c.children.new.self c.in_ok-children.ensures.read behind c.len-written.result (c.len-written.ensures ∙ c.in_ok-renew_children.field-0.ok.0);
     }
