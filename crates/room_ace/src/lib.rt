@@ -2,6 +2,7 @@
 //! text of entries and lists.
 #![tactic(auto)]
 
+mod comparing;
 mod entry;
 mod entry_text;
 mod failure;
@@ -14,9 +15,11 @@ mod matching;
 mod name;
 mod object;
 mod parties;
+
 mod sent;
 mod validity;
 
+pub use comparing::same_entries;
 pub use entry::{Entries, Entry, EntryKind, Who};
 pub use entry_text::print_entry;
 pub use failure::Failure;
@@ -29,5 +32,6 @@ pub use name::Name;
 pub use object::{ObjKind, Which};
 pub use parties::{Caller, Names, Owners};
 pub use list_text::print_list;
+
 pub use sent::SentList;
 pub use validity::valid;
