@@ -84,6 +84,6 @@ module _ (nodes : List Node) (i : ℕ) (node : Node) (parent : ℕ) (name : Bor 
   name_test rises =
       ap (λ (o : Option ℕ). Rattle.std.specs.Prelude.is_none o || (is_object_name node.name && not (list_any (λ (other : Node). nat_lt other.id node.id && same_place other node) nodes))) under
       ∙ ap (λ t. is_object_name node.name && not t) (
-        ap (λ (x : Node). list_any (λ (other : Node). nat_lt other.id x.id && same_place other node) nodes) is
-        ∙ any_before 0 (λ other. same_place other node) nodes rises i node below
-        ∙ (λ j. list_any (λ other. same_holds other j) (take i nodes)))
+      ap (λ (x : Node). list_any (λ (other : Node). nat_lt other.id x.id && same_place other node) nodes) is
+      ∙ any_before 0 (λ other. same_place other node) nodes rises i node below
+      ∙ (λ j. list_any (λ other. same_holds other j) (take i nodes)))

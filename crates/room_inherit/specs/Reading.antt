@@ -1,5 +1,5 @@
 -- What is read of all rows.
-use Rattle.std.specs.Prelude.{◌≡◌, ℕ, false, List, Option, Some, None, not, IsTrue}
+use Rattle.std.specs.Prelude.{◌≡◌, ℕ, true, false, List, Option, Some, None, not, IsTrue}
 use Rattle.std.specs.Borrow.{Bor}
 use Rattle.std.specs.List.{find}
 use Rattle.std.specs.Option.{option_copied}
@@ -9,7 +9,7 @@ use Rattle.room_tree.specs.Rows.{Rows, is_unreadable}
 use Rattle.room_inherit.specs.declared.reading.Reading.{Reading}
 use Rattle.room_inherit.specs.declared.reading.Reading.TheVariants.{All, BadList}
 use Rattle.room_inherit.specs.declared.report.Report.{Report}
-use Rattle.room_inherit.specs.Sound.{first_bad_list, has_sound_body, report_of}
+use Rattle.room_inherit.specs.Sound.{first_bad_list, has_bad_list, has_sound_body, report_of}
 
 -- the number isn't in use
 abbrev pub IsFree : ℕ → Rows → ℕ → Type 0
@@ -19,6 +19,11 @@ IsFree id rows at = (node_at rows.read id ≡ None) × (is_unreadable rows id �
 abbrev pub IsRowAt : ℕ → Rows → Option Node → Type 0
 IsRowAt id rows None = IsTrue (is_unreadable rows id)
 IsRowAt id rows (Some node) = (node_at rows.read id ≡ Some node) × (is_unreadable rows id ≡ false)
+
+-- the object of the number, or none where the row can't be read or its lists aren't sound
+abbrev pub IsSoundAt : ℕ → Rows → Option Node → Type 0
+IsSoundAt id rows None = has_bad_list rows id ≡ true
+IsSoundAt id rows (Some node) = (node_at rows.read id ≡ Some node) × (has_bad_list rows id ≡ false)
 
 -- all objects, or the first number whose row can't be read or whose lists aren't sound
 abbrev pub IsReading : Rows → Reading → Type 0

@@ -46,12 +46,7 @@ fn agree_with(alloc: Global, node: &Node, parent: &Node) -> Result<bool, AllocEr
 }
 
 // Whether the list, if it is linked, stores what the parent's stored list passes.
-fn agrees_with(
-    alloc: Global,
-    node: &Node,
-    parent: &Node,
-    which: Which,
-) -> Result<bool, AllocError>
+fn agrees_with(alloc: Global, node: &Node, parent: &Node, which: Which) -> Result<bool, AllocError>
     ensures { IfOk result (λ agrees. agrees ≡ agrees_with which node.now parent.now) }
 {
     if !linked(node, Some(parent), which) {
@@ -59,8 +54,5 @@ fn agrees_with(
     }
     let full = parent.held(which).full()?;
     let passed = pass(alloc, node.kind, full.as_slice())?;
-    Ok(same_entries(
-        node.held(which).inh.as_slice(),
-        passed.as_slice(),
-    ))
+    Ok(same_entries(node.held(which).inh.as_slice(), passed.as_slice()))
 }

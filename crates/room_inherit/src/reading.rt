@@ -1,6 +1,6 @@
 //! All objects of a keeper.
 ghost use Rattle.room_tree.specs.Keep.{IsNever, IsRead};
-ghost use Rattle.room_inherit.specs.Reading.{IsFree, IsReading, IsRowAt};
+ghost use Rattle.room_inherit.specs.Reading.{IsFree, IsReading, IsRowAt, IsSoundAt};
 
 use crate::lists::has_sound_lists;
 use room_tree::{Keep, KeepFault, Node, Nodes};
@@ -21,15 +21,28 @@ pub(crate) fn read_all<K: Keep>(alloc: Global, keep: &mut K) -> Result<Reading, 
     let ids = keep.ids()?;
     let mut nodes = Nodes::new(alloc);
     'ids: for id in ids.as_slice() {
-        let Some(node) = read_row(keep, *id)? else {
-            return Ok(Reading::BadList(*id));
-        };
-        if !has_sound_lists(&node) {
-            return Ok(Reading::BadList(*id));
+        match read_sound(keep, *id)? {
+            None => return Ok(Reading::BadList(*id)),
+            Some(node) => nodes.push(node)?,
         }
-        nodes.push(node)?;
     }
     Ok(Reading::All(nodes))
+}
+
+// The object of a number in use, or none where its row can't be read or its lists aren't sound.
+fn read_sound<K: Keep>(keep: &mut K, id: u64) -> Result<Option<Node>, KeepFault>
+    ensures read { IsRead K.rows K.failures K.writes K.Follows K.IsTrusted keep.old keep.new result (IsFree id) (IsSoundAt id) }
+{
+    match read_row(keep, id)? {
+        None => Ok(None),
+        Some(node) => {
+            if has_sound_lists(&node) {
+                Ok(Some(node))
+            } else {
+                Ok(None)
+            }
+        }
+    }
 }
 
 // The object of a number in use, or none where its row can't be read.

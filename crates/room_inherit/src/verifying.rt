@@ -26,11 +26,7 @@ pub fn verify<K: Keep>(alloc: Global, keep: &mut K) -> Result<Report, KeepFault>
 }
 
 // The report on rows that have these objects, where all can be read and no list is bad.
-fn report_on<K: Keep>(
-    alloc: Global,
-    keep: &mut K,
-    objects: &Objects,
-) -> Result<Report, KeepFault>
+fn report_on<K: Keep>(alloc: Global, keep: &mut K, objects: &Objects) -> Result<Report, KeepFault>
     ensures read { IsRead K.rows K.failures K.writes K.Follows K.IsTrusted keep.old keep.new result IsNever (IsReportOf objects.now) }
 {
     match objects.tree_fault(alloc)? {

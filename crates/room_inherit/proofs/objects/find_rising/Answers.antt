@@ -23,6 +23,6 @@ returns-in-Err c =
     let by_key = c.in-Err.ensures.position (λ (n : Node). n.id) (answers_always _ _ _ (λ f a r g called. search rules)) in
     let apart = by_key (searchable_from_sorted nat_cmp_total (λ (n : Node). n.id) nodes c.args.id (sorted_by_number 0 nodes c.requires)) in
     sym (none_at c.args.id nodes (λ k d below. elim (cases_lt k c.in-Err.field-0) [
-        inl before ↦ apart_from_less _ _ (apart.0 k d (omega arith) before)
-        | inr behind ↦ apart_from_greater _ _ (apart.1 k d behind below)
-      ]))
+      | inl before ↦ apart_from_less _ _ (apart.0 k d (omega arith) before)
+      | inr behind ↦ apart_from_greater _ _ (apart.1 k d behind below)
+    ]))
