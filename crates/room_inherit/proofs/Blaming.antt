@@ -1,11 +1,9 @@
--- Faults of a keeper that can't come, and answers by what is known of its rows.
-use Rattle.std.proofs.Common.{◌≡◌, ℕ, Result, Ok, Err}
+-- Faults of a keeper that can't come.
+use Rattle.std.proofs.Common.{◌≡◌, ℕ, Err}
 use Rattle.room_tree.specs.declared.keep.KeepFault.{KeepFault}
 use Rattle.room_tree.specs.declared.keep.KeepFault.TheVariants.{Memory, Store, Damaged}
 use Rattle.room_tree.specs.Rows.{Rows}
 use Rattle.room_tree.specs.Keep.{HasCause, IfSeen, IsRead}
-use Rattle.room_tree.proofs.Steps.{HasRead}
-use Rattle.std.proofs.lemmas.Result.{IfOk-weaker}
 
 module _ {S : Type 0} (rows : S → Rows) (failures writes : S → ℕ) (Follows IsTrusted : S → S → Type 0) where
   -- a fault of a read is that of the one that made it, which knows more of what is blamed
@@ -29,19 +27,3 @@ module _ {S : Type 0} (rows : S → Rows) (failures writes : S → ℕ) (Follows
       cause Memory h = tt
       cause Store h = h
       cause (Damaged id) h = λ t. less t id (h t)
-
-  -- what can't be on trusted rows
-  pub contradicts : {Y : Type 0} (a c : S) (id : ℕ) {Blames : Rows → ℕ → Type 0} {Answers : Rows → Y → Type 0} → HasRead rows failures writes Follows IsTrusted a c → (IsTrusted a c → ⊥)
-      → IsRead rows failures writes Follows IsTrusted {X = Y} a c (Err (Damaged id)) Blames Answers
-  contradicts a c id sofar never = record { follows = sofar.follows; unwritten = sofar.unwritten; same = sofar.same; answers = λ t. tt; fault = λ t. absurd (never t) }
-
-  -- the answer says more, by what is known of the rows
-  pub answers_more : {X : Type 0} (a c : S) (r : Result X KeepFault) {Blames : Rows → ℕ → Type 0} {Answers Answers' : Rows → X → Type 0} → (IsTrusted a c → (x : X) → Answers (rows a) x → Answers' (rows a) x)
-      → IsRead rows failures writes Follows IsTrusted a c r Blames Answers → IsRead rows failures writes Follows IsTrusted a c r Blames Answers'
-  answers_more a c r {Blames} {Answers} {Answers'} more read = record {
-    follows = read.follows;
-    unwritten = read.unwritten;
-    same = read.same;
-    answers = λ t. IfOk-weaker r (Answers (rows a)) (Answers' (rows a)) (more t) (read.answers t);
-    fault = read.fault;
-  }

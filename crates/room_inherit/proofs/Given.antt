@@ -13,7 +13,7 @@ use Rattle.std.proofs.lemmas.List.Recursion.{or_push}
 use Rattle.std.proofs.lemmas.Map.Text.{is_eq-slice_cmp}
 use Rattle.room_ace.specs.Pieces.{same_text}
 use Rattle.room_tree.specs.declared.node.Node.{Node}
-use Rattle.room_tree.specs.Content.{has_parent, is_rising, is_root, same_parent}
+use Rattle.room_tree.specs.Content.{has_parent, same_parent}
 use Rattle.room_tree.specs.Paths.{is_object_name}
 use Rattle.room_inherit.specs.Objects.{are_rising, only}
 use Rattle.room_inherit.specs.Sound.{has_sound_name, same_place}

@@ -1,15 +1,15 @@
 -- Sound rows have no fault.
-use Rattle.std.proofs.Common.{◌≡◌, ◌↔◌, ℕ, Bool, true, false, cond, not, ◌&&◌, List, [], ◌∷◌, filter, Option, Some, None, refl, sym, ap, ◌∙◌}
+use Rattle.std.proofs.Common.{◌≡◌, ℕ, Bool, true, false, cond, not, ◌&&◌, List, [], ◌∷◌, filter, Option, Some, None, refl, sym, ◌∙◌}
 use Rattle.std.specs.List.{find, list_all}
 use Rattle.std.specs.Option.{option_map}
 use Rattle.room_tree.specs.declared.node.Node.{Node}
-use Rattle.room_tree.specs.Content.{Content, has_folder_above, is_root}
+use Rattle.room_tree.specs.Content.{has_folder_above, is_root}
 use Rattle.room_tree.specs.Rows.{Rows, numbers_of}
 use Rattle.room_inherit.specs.declared.report.Report.{Report}
 use Rattle.room_inherit.specs.declared.report.Report.TheVariants.{Sound, Fault}
 use Rattle.room_inherit.specs.declared.report.Unsound.TheVariants.{Loop, BadList, BrokenLaw, BadRoot, BadParent, BadName, BadBody}
 use Rattle.room_inherit.specs.Laws.{HasNoFault, SoundIsNoFault}
-use Rattle.room_inherit.specs.Sound.{AreSound, bad_root, fault_of, first_bad_list, first_failing, has_bad_list, has_sound_body, has_sound_name, keeps_law, numbered, or_else, or_sound, reaches, report_of, true_path}
+use Rattle.room_inherit.specs.Sound.{AreSound, bad_root, fault_of, first_bad_list, first_failing, has_bad_list, has_sound_body, has_sound_name, keeps_law, numbered, or_else, or_sound, reaches, true_path}
 
 -- ---- a test that finds nothing, passed by all
 

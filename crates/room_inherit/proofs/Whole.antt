@@ -1,14 +1,13 @@
 -- All rows, read number by number.
-use Rattle.std.proofs.Common.{◌≡◌, ℕ, ◌<◌, ◌+◌, ◌==◌, ◌||◌, Bool, true, false, cond, not, List, [], ◌∷◌, ◌++◌, map, length, get_or, drop, Option, Some, None, nat_lt, refl, sym, ap, subst, ◌∙◌, inl, inr, append_assoc}
+use Rattle.std.proofs.Common.{◌≡◌, ℕ, ◌<◌, ◌+◌, ◌==◌, ◌||◌, Bool, true, false, cond, List, [], ◌∷◌, ◌++◌, length, get_or, drop, Some, None, nat_lt, refl, sym, ap, ◌∙◌, inl, inr, append_assoc}
 use Rattle.std.specs.Prelude.{is_some}
 use Rattle.std.specs.List.{find, list_any, filter_map, cons_option}
-use Rattle.std.specs.Option.{option_map_or}
 use Rattle.std.proofs.lemmas.Bool.{cases_Bool, false≢true, eqb-true, eq-eqb, or_left, or_right, or_from, cond-true, cond-false}
 use Rattle.std.proofs.lemmas.List.{drop_more}
 use Rattle.std.proofs.lemmas.List.Recursion.{or_at}
 use Rattle.room_ace.specs.Pieces.{is_among}
 use Rattle.room_tree.specs.declared.node.Node.{Node}
-use Rattle.room_tree.specs.Content.{is_rising, node_at}
+use Rattle.room_tree.specs.Content.{node_at}
 use Rattle.room_tree.specs.Rows.{Rows, AreRows, is_unreadable, numbers_of, put_number, put_numbers}
 use Rattle.room_inherit.specs.Reading.{IsFree}
 use Rattle.room_inherit.specs.Sound.{first_bad_list, has_bad_list}

@@ -1,4 +1,4 @@
-use Rattle.std.proofs.Common.{◌≡◌, ◌∷◌, ℕ, map, drop}
+use Rattle.std.proofs.Common.{◌≡◌, ◌∷◌, map, drop}
 use Rattle.room_tree.specs.declared.node.Node.{Node}
 use Rattle.room_tree.specs.Content.{is_rising}
 use Rattle.room_inherit.specs.Objects.{are_rising}

@@ -1,4 +1,4 @@
-use Rattle.std.proofs.Common.{◌≡◌, ℕ, ◌+◌, ◌++◌, [], false, true, Some, None, Ok, Err, drop, get_or, sym, ap, subst, ◌∙◌}
+use Rattle.std.proofs.Common.{◌≡◌, ◌++◌, true, Ok, Err, get_or, sym, ap, subst, ◌∙◌}
 use Rattle.std.specs.List.{find, filter_map}
 use Rattle.std.proofs.lemmas.List.{append-nil, drop_all}
 use Rattle.room_tree.specs.declared.keep.KeepFault.TheVariants.{Memory}
@@ -7,7 +7,7 @@ use Rattle.room_tree.specs.Keep.{IsNever, IsRead}
 use Rattle.room_tree.proofs.Steps.{Laws, handed_on, seen, read_on, answered, no_memory}
 use Rattle.room_inherit.specs.declared.reading.Reading.TheVariants.{All, BadList}
 use Rattle.room_inherit.specs.Reading.{IsReading, IsSoundAt}
-use Rattle.room_inherit.specs.Sound.{first_bad_list, has_bad_list}
+use Rattle.room_inherit.specs.Sound.{has_bad_list}
 use Rattle.room_inherit.proofs.Blaming.{blames_less}
 use Rattle.room_inherit.proofs.Whole.{bad_here, not_free, one_more_node, sound_here, whole}
 use Rattle.room_inherit.proofs.reading.read_all.Goals as goal

@@ -1,4 +1,4 @@
-use Rattle.std.proofs.Common.{◌≡◌, ◌++◌, ℕ, drop}
+use Rattle.std.proofs.Common.{◌≡◌, ◌++◌, drop}
 use Rattle.std.specs.List.{find, filter_map}
 use Rattle.room_tree.specs.Content.{node_at}
 use Rattle.room_tree.specs.Rows.{numbers_of}

@@ -1,4 +1,4 @@
-use Rattle.std.proofs.Common.{◌≡◌, sym, ap, ◌∙◌}
+use Rattle.std.proofs.Common.{sym, ap, ◌∙◌}
 use Rattle.std.specs.Option.{option_copied}
 use Rattle.room_tree.proofs.Steps.{Laws, none_yet, seen, answered}
 use Rattle.room_inherit.specs.declared.report.Report.TheVariants.{Sound}

@@ -1,4 +1,4 @@
-use Rattle.std.proofs.Common.{◌≡◌, ℕ, ◌&&◌, not, List, drop, take}
+use Rattle.std.proofs.Common.{◌≡◌, ℕ, not, List, drop, take}
 use Rattle.std.specs.Borrow.{Bor}
 use Rattle.std.specs.List.{find, list_any}
 use Rattle.std.specs.BTreeSet.{contains}
