@@ -21,7 +21,7 @@ use Rattle.room_inherit.specs.SpreadAll.{IsCarriedDown, IsSpreadAll, IsSwept, Is
 use Rattle.room_inherit.specs.declared.outcome.Spread.{Spread}
 use Rattle.room_inherit.specs.declared.outcome.SpreadFault.{SpreadFault}
 use Rattle.room_inherit.specs.declared.outcome.SpreadFault.TheVariants.{Keeper, Loop}
-use Rattle.room_inherit.proofs.Objects.{same_parent}
+use Rattle.room_inherit.proofs.Kinship.{same_parent}
 use Rattle.room_inherit.proofs.Members.{Each, count, count-is, count_length, count_map}
 use Rattle.room_inherit.proofs.Renewing.{map_map}
 use Rattle.room_inherit.proofs.Frontier.{set, set_id, find_set}

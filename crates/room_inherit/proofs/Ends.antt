@@ -22,7 +22,7 @@ use Rattle.room_inherit.specs.Pass.{pass}
 use Rattle.room_inherit.specs.Law.{AllAgree, AllAgreeBut, agrees, agrees_with}
 use Rattle.room_inherit.specs.Spread.{with_lists, is_changed, is_linked_within, IsLinkedBelow, is_within, IsBelow, IsOwnAncestor}
 use Rattle.room_inherit.specs.Turn.{is_linked_to, is_met_again, meets_again}
-use Rattle.room_inherit.proofs.Objects.{same_id, same_parent, same_kind, with_own}
+use Rattle.room_inherit.proofs.Kinship.{same_id, same_parent, same_kind, with_own}
 use Rattle.room_inherit.proofs.Members.{Each, each_back, each_map, each_weaker, all_each, one_if, count, count_ends}
 use Rattle.room_inherit.proofs.Children.{has_id, Apart, ids_of, each_found, found_id, each_there, apart_rising, apart_map, some_child}
 use Rattle.room_inherit.proofs.Renewing.{map_agree}

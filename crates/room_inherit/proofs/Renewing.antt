@@ -14,7 +14,7 @@ use Rattle.room_tree.specs.Held.{held_of}
 use Rattle.room_tree.specs.Keep.{with_inh}
 use Rattle.room_tree.proofs.Putting.{same_numbers}
 use Rattle.room_inherit.specs.Turn.{is_outdated, passed_to, renewed, renewals, renewed_below, put_nodes, AreKnown}
-use Rattle.room_inherit.proofs.Objects.{same_id, held_with}
+use Rattle.room_inherit.proofs.Kinship.{same_id, held_with}
 use Rattle.room_inherit.proofs.Members.{Each, each_weaker, each_filter, each_fails}
 use Rattle.room_inherit.proofs.Children.{has_id, Apart, ids_of, each_found, each_there, each_above, apart_rising, apart_filter, has_id_map, each_child, apart_children, is_such_child}
 

@@ -13,7 +13,7 @@ use Rattle.room_tree.specs.Held.{held_of}
 use Rattle.room_inherit.specs.Law.{AllAgree}
 use Rattle.room_inherit.specs.Spread.{is_changed, with_lists}
 use Rattle.room_inherit.specs.SpreadAll.{IsTree}
-use Rattle.room_inherit.proofs.Objects.{with_own}
+use Rattle.room_inherit.proofs.Kinship.{with_own}
 use Rattle.room_inherit.proofs.Members.{Each, one_if, count, count_length}
 use Rattle.room_inherit.proofs.Children.{has_id, ids_of, each_found, found_id, each_there, apart_rising}
 use Rattle.room_inherit.proofs.Renewing.{one_object}

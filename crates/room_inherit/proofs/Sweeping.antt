@@ -22,7 +22,7 @@ use Rattle.room_inherit.specs.Pass.{pass}
 use Rattle.room_inherit.specs.Law.{AllAgreeBut}
 use Rattle.room_inherit.specs.Spread.{with_lists, is_changed, is_linked_within, IsLinkedBelow}
 use Rattle.room_inherit.specs.Turn.{is_linked_to, is_outdated, passed_to, renewed, renewals, renewed_below, is_met_again, meets_again}
-use Rattle.room_inherit.proofs.Objects.{same_id, same_kind, with_last}
+use Rattle.room_inherit.proofs.Kinship.{same_id, same_kind, with_last}
 use Rattle.room_inherit.proofs.Members.{Each, each_append, each_front, each_back, each_weaker, each_map, each_filter, count, count_length, count_map, count_agree, count_either}
 use Rattle.room_inherit.proofs.Children.{has_id, Apart, ids_of, found_id, each_there, apart_rising, apart_filter, apart_map, has_id_map, each_child, apart_children, is_such_child, count_children, no_child, some_child, is_child, length_children, each_found}
 use Rattle.room_inherit.proofs.Renewing.{map_agree, map_map, one_object}
