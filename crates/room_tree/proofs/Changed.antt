@@ -12,7 +12,7 @@ use Rattle.room_tree.specs.declared.node.AuditRow.{AuditRow}
 use Rattle.room_tree.specs.declared.node.Held.{Held}
 use Rattle.room_tree.specs.declared.node.NewNode.{NewNode}
 use Rattle.room_tree.specs.declared.node.Node.{Node}
-use Rattle.room_tree.specs.Content.{put_body, put_node, is_rising}
+use Rattle.room_tree.specs.Content.{put_body, put_node, is_rising, without_node}
 use Rattle.room_tree.specs.Finding.{find_id}
 use Rattle.room_tree.specs.Held.{with_held}
 use Rattle.room_tree.specs.Keep.{Changes, HasCause, node_of, reading, with_new, writes_after}
@@ -105,6 +105,10 @@ pub gone_rows : (nodes new_nodes : List Node) (bodies new_bodies : List (ℕ × 
     → AreRows (memory_rows nodes bodies members audits) → AreRows (memory_rows new_nodes new_bodies members audits)
 gone_rows nodes new_nodes bodies new_bodies members audits id left rest old =
     subst (λ (l : List Node). AreRows (memory_rows l new_bodies members audits)) (sym left) (subst (λ (l : List (ℕ × List ℕ)). AreRows (memory_rows (filter (λ node. not (node.id == id)) nodes) l members audits)) (sym rest) (removed_rows nodes bodies members audits id old))
+
+pub gone : (nodes new_nodes : List Node) (bodies new_bodies : List (ℕ × List ℕ)) (members : List (List ℕ × List ℕ)) (audits : List AuditRow) (id : ℕ) → new_nodes ≡ filter (λ node. not (node.id == id)) nodes → new_bodies ≡ filter (λ row. not (row.0 == id)) bodies
+    → memory_rows new_nodes new_bodies members audits ≡ reading (memory_rows nodes bodies members audits) (without_node (memory_rows nodes bodies members audits).read id)
+gone nodes new_nodes bodies new_bodies members audits id left rest = λ i. memory_rows (left i) (rest i) members audits
 
 pub filled_rows : (nodes : List Node) (bodies new_bodies : List (ℕ × List ℕ)) (members : List (List ℕ × List ℕ)) (audits : List AuditRow) (id : ℕ) (bytes : List ℕ) → option_map_or (λ (node : Node). is_document node.kind) (find_id id nodes) false ≡ true → new_bodies ≡ put_body id bytes bodies
     → AreRows (memory_rows nodes bodies members audits) → AreRows (memory_rows nodes new_bodies members audits)

@@ -1,7 +1,6 @@
 use Rattle.std.proofs.Common.{◌≡◌, ◌∙◌, sym, ap, subst, refl, arith}
 use Rattle.room_tree.specs.Keep.{HasCause, capped}
-use Rattle.room_tree.specs.Memory.{memory_rows}
-use Rattle.room_tree.proofs.Changed.{gone_rows}
+use Rattle.room_tree.proofs.Changed.{gone, gone_rows}
 use Rattle.room_tree.proofs.memory.MemKeepKeep.remove.Goals as goal
 
 pub returns-then-not-was_there : goal.returns-then-not-was_there
@@ -23,7 +22,7 @@ returns c =
       written = record {
         follows = (omega arith, gone_rows k.nodes c.take.new.self k.bodies c.take-2.new.self k.members k.notes c.args.id c.in_ok-was_there.ensures.ok c.take-2.ensures);
         written = c.count_one.ensures.capped;
-        becomes = λ t can. (ap (λ ns. memory_rows ns c.take-2.new.self k.members k.notes) c.in_ok-was_there.ensures.ok ∙ ap (λ bs. memory_rows _ bs k.members k.notes) c.take-2.ensures);
+        becomes = λ t can. gone k.nodes c.take.new.self k.bodies c.take-2.new.self k.members k.notes c.args.id c.in_ok-was_there.ensures.ok c.take-2.ensures;
         fault = tt;
       };
     }
