@@ -1,30 +1,29 @@
 -- One list carried down after the other.
-use Rattle.std.proofs.Common.{◌≡◌, ℕ, zero, suc, ◌+◌, ◌<◌, ◌≤◌, ◌-◌, ◌^◌, ◌==◌, Bool, true, false, cond, ◌&&◌, List, [], ◌∷◌, map, filter, length, Option, Some, None, Result, Ok, Err, refl, sym, ap, subst, ◌∙◌, inl, inr, arith}
-use Rattle.std.specs.Prelude.{count_by, is_none, option_and_then}
+use Rattle.std.proofs.Common.{◌≡◌, ℕ, zero, suc, ◌+◌, Bool, true, false, cond, ◌&&◌, List, [], ◌∷◌, map, length, Option, Some, None, Result, Ok, Err, refl, sym, ap, subst, ◌∙◌, inl, inr, arith}
+use Rattle.std.specs.Prelude.{is_none, option_and_then}
 use Rattle.std.specs.List.{list_all, find}
 use Rattle.std.specs.Option.{option_map, option_map_or}
 use Rattle.std.proofs.lemmas.List.{length-map}
 use Rattle.room_ace.specs.Ace.{Ace}
 use Rattle.room_ace.specs.declared.object.Which.{Which}
 use Rattle.room_ace.specs.declared.object.Which.TheVariants.{Dacl, Sacl}
-use Rattle.room_tree.specs.declared.keep.KeepFault.{KeepFault}
 use Rattle.room_tree.specs.declared.node.Node.{Node}
-use Rattle.room_tree.specs.Content.{Content, node_at, parent_of, root_of, is_root, is_linked_in, reaches_root, with_each}
+use Rattle.room_tree.specs.Content.{Content, node_at, parent_of, root_of, is_root, is_linked_in, reaches_root}
 use Rattle.room_tree.specs.Counts.{capped_below}
 use Rattle.room_tree.specs.Held.{held_of, is_linked}
-use Rattle.room_tree.specs.Keep.{HasNoRoot, capped, reading, with_inh}
+use Rattle.room_tree.specs.Keep.{HasNoRoot, capped, reading}
 use Rattle.room_tree.specs.Rows.{Rows, is_unreadable}
 use Rattle.room_tree.proofs.Steps.{Laws, later_cause}
 use Rattle.room_inherit.specs.Law.{AllAgree, agrees, agrees_with}
 use Rattle.room_inherit.specs.Spread.{HasSpreadCause, is_changed, with_lists}
-use Rattle.room_inherit.specs.SpreadAll.{IsCarriedDown, IsSpreadAll, IsSwept, IsTree, with_both}
+use Rattle.room_inherit.specs.SpreadAll.{IsCarriedDown, IsSpreadAll, IsSwept, IsTree}
 use Rattle.room_inherit.specs.declared.outcome.Spread.{Spread}
 use Rattle.room_inherit.specs.declared.outcome.SpreadFault.{SpreadFault}
 use Rattle.room_inherit.specs.declared.outcome.SpreadFault.TheVariants.{Keeper, Loop}
 use Rattle.room_inherit.proofs.Kinship.{same_parent}
-use Rattle.room_inherit.proofs.Members.{Each, count, count-is, count_length, count_map}
+use Rattle.room_inherit.proofs.Members.{count-is, count_length, count_map}
 use Rattle.room_inherit.proofs.Renewing.{map_map}
-use Rattle.room_inherit.proofs.Frontier.{set, set_id, find_set}
+use Rattle.room_inherit.proofs.Frontier.{set, find_set}
 use Rattle.room_inherit.proofs.Calls.{capped_add}
 
 all_map : (p q : Node → Bool) (g : Node → Node) → ((n : Node) → p (g n) ≡ q n) → (xs : List Node) → list_all p (map g xs) ≡ list_all q xs
@@ -69,7 +68,7 @@ module _ (f : Node → List Ace) (old : Content) where
   tree_mid tree = record {
     one_root = count_length is_root (map (set Dacl f) old.nodes) ∙ count_map is_root (set Dacl f) old.nodes ∙ sym (count_length is_root old.nodes) ∙ tree.one_root;
     connected = all_map (λ node. reaches_root (length mid.nodes) mid node.parent) (λ node. reaches_root (length old.nodes) old node.parent) (set Dacl f)
-      (λ n. reaches_mid (length mid.nodes) n.parent ∙ ap (λ k. reaches_root k old n.parent) (length-map old.nodes (set Dacl f))) old.nodes ∙ tree.connected;
+        (λ n. reaches_mid (length mid.nodes) n.parent ∙ ap (λ k. reaches_root k old n.parent) (length-map old.nodes (set Dacl f))) old.nodes ∙ tree.connected;
   }
 
   root_mid : (nodes : List Node) → find (λ node. is_none node.parent) (map (set Dacl f) nodes) ≡ None → find (λ node. is_none node.parent) nodes ≡ None
@@ -88,6 +87,7 @@ module _ (f : Node → List Ace) (old : Content) where
       on : (n : Node) (o : Option Node) → option_map_or (agrees_with Dacl (set Sacl g n)) (option_map (set Sacl g) o) true ≡ option_map_or (agrees_with Dacl n) o true
       on n None = refl
       on n (Some q) = refl
+
       one : (n : Node) → agrees (with_lists Sacl g content) Dacl (set Sacl g n) ≡ agrees content Dacl n
       one n = ap (λ o. option_map_or (agrees_with Dacl (set Sacl g n)) o true) (parent_set Sacl g content n) ∙ on n (parent_of content n)
 
@@ -107,7 +107,7 @@ both_swept old middle new d s first last =
       linked_dacls = first.linked;
       linked_sacls = λ n there changed. sym (linked_mid f old.read n) ∙ next.linked (set Dacl f n) (there_mid f old.read n there) changed;
       counted = capped_below (d + s) (let a = first.few in let b = last.few in omega (arith, a, b))
-        ∙ (λ i. first.counted i + (next.counted ∙ count-is (is_changed Sacl g) (map (set Dacl f) old.read.nodes) ∙ count_map (is_changed Sacl g) (set Dacl f) old.read.nodes ∙ sym (count-is (is_changed Sacl sacls) old.read.nodes)) i);
+          ∙ (λ i. first.counted i + (next.counted ∙ count-is (is_changed Sacl g) (map (set Dacl f) old.read.nodes) ∙ count_map (is_changed Sacl g) (set Dacl f) old.read.nodes ∙ sym (count-is (is_changed Sacl sacls) old.read.nodes)) i);
       law = λ tree which. on which tree (λ t. subst (λ (r : Rows). AllAgree r.read Dacl) (sym next.becomes) (law_stays f old.read g (mid f old.read) (subst (λ (r : Rows). AllAgree r.read Dacl) first.becomes (first.law t)))) (λ t. next.law (tree_mid f old.read t));
     }
   where
@@ -134,17 +134,17 @@ module _ {S : Type 0} (rows : S → Rows) (failures writes : S → ℕ) (Follows
   module _ (laws : Laws rows failures writes Follows IsTrusted) (a b c : S) (d : ℕ) (first : Sweeping Dacl a b (Ok d)) where
     pub second_fails : (e : SpreadFault) → Sweeping Sacl b c (Err e) → SpreadsAll a c (Err e)
     second_fails e sweep = record {
-        follows = laws.on a b c first.follows sweep.follows;
-        written = tt;
-        becomes = λ t. tt;
-        fault = cause e sweep.fault;
-      }
+      follows = laws.on a b c first.follows sweep.follows;
+      written = tt;
+      becomes = λ t. tt;
+      fault = cause e sweep.fault;
+    }
       where
         cause : (e : SpreadFault) → HasSpreadCause (failures b) (failures c) (λ at. IsTrusted b c → HasNoRoot (rows b) at) (IsTrusted b c → ⊥) e
             → HasSpreadCause (failures a) (failures c) (λ at. IsTrusted a c → HasNoRoot (rows a) at) (IsTrusted a c → ⊥) e
         cause (Keeper f) h = later_cause (failures a) (failures b) (failures c) f _ _ (laws.rise a b first.follows) (laws.rise b c sweep.follows)
-          (λ at damaged t. no_root_before (rows a) (rows b) d at (first.becomes (laws.first a b c first.follows sweep.follows t)) (damaged (laws.last a b c first.follows sweep.follows t)))
-          h
+            (λ at damaged t. no_root_before (rows a) (rows b) d at (first.becomes (laws.first a b c first.follows sweep.follows t)) (damaged (laws.last a b c first.follows sweep.follows t)))
+            h
         cause Loop h = λ t. h (laws.last a b c first.follows sweep.follows t)
 
     pub both_done : (s : ℕ) → Sweeping Sacl b c (Ok s) → SpreadsAll a c (Ok (record { changed = capped (d + s) }))

@@ -1,29 +1,27 @@
 -- Calls of a keeper that write lists, one after the other.
-use Rattle.std.proofs.Common.{◌≡◌, ℕ, suc, ◌+◌, ◌<◌, ◌≤◌, ◌-◌, ◌^◌, ◌==◌, Bool, true, false, cond, List, [], ◌∷◌, length, drop, get_or, Option, Some, Result, Ok, Err, IfOk, IfErr, refl, sym, ap, subst, ◌∙◌, inl, inr, arith, add-one, drop-cons}
+use Rattle.std.proofs.Common.{◌≡◌, ℕ, suc, ◌+◌, ◌<◌, ◌≤◌, ◌-◌, ◌^◌, false, List, ◌∷◌, length, drop, get_or, Some, Result, Ok, Err, refl, sym, ap, subst, ◌∙◌, inl, inr, arith, add-one, drop-cons}
 use Rattle.std.proofs.lemmas.Bool.{cases_lt}
 use Rattle.std.proofs.Math.Seq.{drop-length}
-use Rattle.room_ace.specs.Ace.{Ace}
 use Rattle.room_ace.specs.declared.object.Which.{Which}
 use Rattle.room_tree.specs.declared.keep.KeepFault.{KeepFault}
-use Rattle.room_tree.specs.declared.keep.KeepFault.TheVariants.{Memory, Store, Damaged}
 use Rattle.room_tree.specs.declared.node.Node.{Node}
 use Rattle.room_tree.specs.Content.{Content, children_of, with_node, with_each}
 use Rattle.room_tree.specs.Counts.{capped_below, capped_past}
 use Rattle.room_tree.specs.Held.{held_of}
-use Rattle.room_tree.specs.Keep.{HasCause, IsUnreadable, IsRead, IsWrite, Leaves, Changes, AreChildrenOf, capped, one_more, reading, with_inh}
+use Rattle.room_tree.specs.Keep.{IsUnreadable, IsRead, IsWrite, Leaves, Changes, AreChildrenOf, capped, one_more, reading, with_inh}
 use Rattle.room_tree.specs.Rows.{Rows, AreRows, is_unreadable}
 use Rattle.room_tree.proofs.Steps.{Laws, later_cause}
 use Rattle.room_inherit.specs.declared.outcome.SpreadFault.{SpreadFault}
 use Rattle.room_inherit.specs.declared.outcome.SpreadFault.TheVariants.{Keeper, Loop}
 use Rattle.room_inherit.specs.Spread.{IsCarried, HasSpreadCause}
-use Rattle.room_inherit.specs.Turn.{AreKnown, StoresLists, with_nodes, renewals, renewed_below, meets_again, IsTurn, MeetsAgain}
+use Rattle.room_inherit.specs.Turn.{AreKnown, StoresLists, with_nodes, renewals, meets_again, IsTurn, MeetsAgain}
 use Rattle.room_inherit.proofs.Renewing.{known_other, known_renewals, turn_becomes}
 
 -- ---- counts with an end
 
 pub capped_add : (m n : ℕ) → capped (capped m + n) ≡ capped (m + n)
 capped_add m n = elim (cases_lt m (2 ^ 64 - 1)) [
-  inl below ↦ ap (λ k. capped (k + n)) (capped_below m (omega arith))
+  | inl below ↦ ap (λ k. capped (k + n)) (capped_below m (omega arith))
   | inr past ↦ ap (λ k. capped (k + n)) (capped_past m past) ∙ capped_past (2 ^ 64 - 1 + n) (omega arith) ∙ sym (capped_past (m + n) (omega (arith, past)))
 ]
 
@@ -72,38 +70,38 @@ module _ {S : Type 0} (rows : S → Rows) (failures writes : S → ℕ) (Follows
   pub storing_on : Laws rows failures writes Follows IsTrusted → (which : Which) (nodes : List Node) (i : ℕ) (node : Node) (a b c : S) → i < length nodes → node ≡ get_or nodes i node → Storing which nodes i a b
       → IsWrite rows failures writes Follows IsTrusted {X = Unit {0}} b c (Ok tt) IsUnreadable (Leaves (Changes node.id (with_inh which (held_of which node).inh))) → Storing which nodes (i + 1) a c
   storing_on laws which nodes i node a b c below is sofar write = record {
-      follows = laws.on a b c sofar.follows write.follows;
-      written = write.written ∙ ap one_more sofar.written ∙ capped_add (writes a + i) 1 ∙ ap capped (omega arith);
-      along = λ t known.
+    follows = laws.on a b c sofar.follows write.follows;
+    written = write.written ∙ ap one_more sofar.written ∙ capped_add (writes a + i) 1 ∙ ap capped (omega arith);
+    along = λ t known.
         let before = sofar.along (laws.first a b c sofar.follows write.follows t) known in
         stores_one which node (drop (i + 1) nodes) nodes (rows a) (rows b) (rows c) (write.becomes (laws.last a b c sofar.follows write.follows t))
-          (subst (λ left. IsStoring which left nodes (rows a) (rows b)) (rest_of nodes i node below is) before);
-    }
+        (subst (λ left. IsStoring which left nodes (rows a) (rows b)) (rest_of nodes i node below is) before);
+  }
 
   -- a write that fails
   pub storing_fails : Laws rows failures writes Follows IsTrusted → (which : Which) (nodes : List Node) (i : ℕ) (a b c : S) (e : KeepFault) {Becomes : Rows → Unit {0} → Rows → Type 0} → Storing which nodes i a b
       → IsWrite rows failures writes Follows IsTrusted {X = Unit {0}} b c (Err e) IsUnreadable Becomes
       → IsCarried rows failures writes Follows (λ old new. IsTrusted old new × AreKnown which nodes (rows old).read) {X = Unit {0}} (λ _. length nodes) a c (Err (Keeper e)) (λ _. ⊥) (StoresLists nodes)
   storing_fails laws which nodes i a b c e sofar write = record {
-      follows = laws.on a b c sofar.follows write.follows;
-      written = tt;
-      becomes = λ t. tt;
-      fault = later_cause (failures a) (failures b) (failures c) e _ _ (laws.rise a b sofar.follows) (laws.rise b c write.follows)
+    follows = laws.on a b c sofar.follows write.follows;
+    written = tt;
+    becomes = λ t. tt;
+    fault = later_cause (failures a) (failures b) (failures c) e _ _ (laws.rise a b sofar.follows) (laws.rise b c write.follows)
         (λ at damaged t.
-          let before = sofar.along (laws.first a b c sofar.follows write.follows t.0) t.1 in
-          ap (λ (u : List ℕ). Rattle.room_ace.specs.Pieces.is_among u at) (sym before.unreadable) ∙ damaged (laws.last a b c sofar.follows write.follows t.0))
+        let before = sofar.along (laws.first a b c sofar.follows write.follows t.0) t.1 in
+        ap (λ (u : List ℕ). Rattle.room_ace.specs.Pieces.is_among u at) (sym before.unreadable) ∙ damaged (laws.last a b c sofar.follows write.follows t.0))
         write.fault;
-    }
+  }
 
   -- all of them
   pub storing_all : (which : Which) (nodes : List Node) (a b : S) → Storing which nodes (length nodes) a b
       → IsCarried rows failures writes Follows (λ old new. IsTrusted old new × AreKnown which nodes (rows old).read) {X = Unit {0}} (λ _. length nodes) a b (Ok tt) (λ _. ⊥) (StoresLists nodes)
   storing_all which nodes a b sofar = record {
-      follows = sofar.follows;
-      written = sofar.written;
-      becomes = λ t. let all = sofar.along t.0 t.1 in ap (λ (left : List Node). reading (rows b) (with_nodes (rows b).read left)) (sym (drop-length nodes)) ∙ all.leaves;
-      fault = tt;
-    }
+    follows = sofar.follows;
+    written = sofar.written;
+    becomes = λ t. let all = sofar.along t.0 t.1 in ap (λ (left : List Node). reading (rows b) (with_nodes (rows b).read left)) (sym (drop-length nodes)) ∙ all.leaves;
+    fault = tt;
+  }
 
   -- ---- one turn
 
@@ -114,9 +112,9 @@ module _ {S : Type 0} (rows : S → Rows) (failures writes : S → ℕ) (Follows
         → {X : Type 0} (x : X) (count : X → ℕ) (list : X → List Node) → count x ≡ length next → list x ≡ next
         → IsCarried rows failures writes Follows IsTrusted {X = X} count a c (Ok x) (MeetsAgain which start above) (λ old y new. IsTurn which start above old (list y) new)
     turn_done next c made apart stored x count list counted is = record {
-        follows = laws.on a b c read.follows stored.follows;
-        written = stored.written ∙ ap (λ w. capped (w + length next)) read.unwritten ∙ ap (λ n. capped (writes a + n)) (sym counted);
-        becomes = λ t.
+      follows = laws.on a b c read.follows stored.follows;
+      written = stored.written ∙ ap (λ w. capped (w + length next)) read.unwritten ∙ ap (λ n. capped (writes a + n)) (sym counted);
+      becomes = λ t.
           let first = laws.first a b c read.follows stored.follows t in
           let last = laws.last a b c read.follows stored.follows t in
           let same : rows b ≡ rows a = read.same first in
@@ -124,37 +122,38 @@ module _ {S : Type 0} (rows : S → Rows) (failures writes : S → ℕ) (Follows
           let made' : next ≡ renewals which above (children_of (rows a).read above.id) = made ∙ ap (renewals which above) kids in
           let rises = (are_rows a b first).numbers in
           let known : AreKnown which next (rows b).read =
-            subst (λ (r : Rows). AreKnown which next r.read) (sym same) (subst (λ (l : List Node). AreKnown which l (rows a).read) (sym made') (known_renewals which above (rows a).read rises)) in
+          subst (λ (r : Rows). AreKnown which next r.read) (sym same) (subst (λ (l : List Node). AreKnown which l (rows a).read) (sym made') (known_renewals which above (rows a).read rises)) in
           let becomes : rows c ≡ reading (rows b) (with_nodes (rows b).read next) = stored.becomes (last, known) in
           record {
             answers = is ∙ made';
             not_met = ap (meets_again which start above) (sym kids) ∙ apart;
             becomes = becomes ∙ ap (λ (r : Rows). reading r (with_nodes r.read next)) same ∙ ap (λ (l : List Node). reading (rows a) (with_nodes (rows a).read l)) made'
-              ∙ ap (λ (l : List Node). reading (rows a) (record (rows a).read { nodes = l })) (turn_becomes which above (rows a).read rises);
+                ∙ ap (λ (l : List Node). reading (rows a) (record (rows a).read { nodes = l })) (turn_becomes which above (rows a).read rises);
           };
-        fault = tt;
-      }
+      fault = tt;
+    }
 
     -- a write that fails
     pub turn_fails : (next : List Node) (c : S) (e : SpreadFault) → next ≡ renewals which above children
         → IsCarried rows failures writes Follows (λ old new. IsTrusted old new × AreKnown which next (rows old).read) {X = Unit {0}} (λ _. length next) b c (Err e) (λ _. ⊥) (StoresLists next)
         → {X : Type 0} (count : X → ℕ) (Becomes : Rows → X → Rows → Type 0) → IsCarried rows failures writes Follows IsTrusted {X = X} count a c (Err e) (MeetsAgain which start above) Becomes
     turn_fails next c e made stored count Becomes = record {
-        follows = laws.on a b c read.follows stored.follows;
-        written = tt;
-        becomes = λ t. tt;
-        fault = cause e stored.fault;
-      }
+      follows = laws.on a b c read.follows stored.follows;
+      written = tt;
+      becomes = λ t. tt;
+      fault = cause e stored.fault;
+    }
       where
         known : IsTrusted a b → AreKnown which next (rows b).read
         known first =
             let made' : next ≡ renewals which above (children_of (rows a).read above.id) = made ∙ ap (renewals which above) (read.answers first) in
             subst (λ (r : Rows). AreKnown which next r.read) (sym (read.same first)) (subst (λ (l : List Node). AreKnown which l (rows a).read) (sym made') (known_renewals which above (rows a).read (are_rows a b first).numbers))
+
         cause : (e : SpreadFault) → HasSpreadCause (failures b) (failures c) (λ at. IsTrusted b c × AreKnown which next (rows b).read → IsUnreadable (rows b) at) (IsTrusted b c × AreKnown which next (rows b).read → ⊥) e
             → HasSpreadCause (failures a) (failures c) (λ at. IsTrusted a c → IsUnreadable (rows a) at) (IsTrusted a c → MeetsAgain which start above (rows a)) e
         cause (Keeper f) h = later_cause (failures a) (failures b) (failures c) f _ _ (laws.rise a b read.follows) (laws.rise b c stored.follows)
-          (λ at damaged t.
+            (λ at damaged t.
             let first = laws.first a b c read.follows stored.follows t in
             ap (λ (r : Rows). is_unreadable r at) (sym (read.same first)) ∙ damaged (laws.last a b c read.follows stored.follows t, known first))
-          h
+            h
         cause Loop h = λ t. absurd (h (laws.last a b c read.follows stored.follows t, known (laws.first a b c read.follows stored.follows t)))

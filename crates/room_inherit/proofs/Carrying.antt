@@ -1,5 +1,5 @@
 -- A change carried down, turn after turn.
-use Rattle.std.proofs.Common.{◌≡◌, ℕ, zero, suc, ◌+◌, ◌<◌, ◌≤◌, ◌-◌, ◌^◌, Bool, true, false, List, [], ◌∷◌, ◌++◌, length, Option, Some, None, Result, Ok, Err, IfOk, IfErr, refl, sym, ap, subst, ◌∙◌, inl, inr, arith}
+use Rattle.std.proofs.Common.{◌≡◌, ℕ, suc, ◌+◌, ◌<◌, ◌≤◌, ◌-◌, ◌^◌, false, List, [], ◌∷◌, ◌++◌, length, Some, None, Result, Ok, Err, refl, sym, ap, subst, ◌∙◌, arith}
 use Rattle.std.proofs.lemmas.Bool.{false≢true, false_from_ne_true, eq-eqb}
 use Rattle.std.proofs.lemmas.List.{length-append}
 use Rattle.room_ace.specs.Ace.{Ace}
@@ -7,12 +7,12 @@ use Rattle.room_ace.specs.declared.object.Which.{Which}
 use Rattle.room_tree.specs.declared.keep.KeepFault.{KeepFault}
 use Rattle.room_tree.specs.declared.keep.KeepFault.TheVariants.{Memory, Store, Damaged}
 use Rattle.room_tree.specs.declared.node.Node.{Node}
-use Rattle.room_tree.specs.Content.{Content, node_at}
+use Rattle.room_tree.specs.Content.{node_at}
 use Rattle.room_tree.specs.Counts.{capped_below}
 use Rattle.room_tree.specs.Keep.{HasCause, IsUnreadable, IsUnreadableAt, IsNever, IsNodeAt, IsRead, AreNumbers, capped, reading}
 use Rattle.room_tree.specs.Rows.{Rows, AreRows, numbers_of, is_unreadable}
-use Rattle.room_tree.proofs.Steps.{Laws, HasRead, seen, read_on, later_cause}
-use Rattle.room_inherit.specs.Law.{AllAgree, AllAgreeBut}
+use Rattle.room_tree.proofs.Steps.{Laws, seen, read_on, later_cause}
+use Rattle.room_inherit.specs.Law.{AllAgree}
 use Rattle.room_inherit.specs.Spread.{IsCarried, HasSpreadCause, IsSpread, IsOwnAncestor, with_lists, is_changed}
 use Rattle.room_inherit.specs.Turn.{IsTurn, MeetsAgain}
 use Rattle.room_inherit.specs.declared.outcome.Spread.{Spread}
@@ -21,7 +21,7 @@ use Rattle.room_inherit.specs.declared.outcome.SpreadFault.TheVariants.{Keeper, 
 use Rattle.room_inherit.proofs.Members.{count, count-is}
 use Rattle.room_inherit.proofs.Children.{found_id}
 use Rattle.room_inherit.proofs.Frontier.{Frontier}
-use Rattle.room_inherit.proofs.OneTurn.{after, kids, rows_after, frontier_after, count_after}
+use Rattle.room_inherit.proofs.OneTurn.{after, rows_after, frontier_after, count_after}
 use Rattle.room_inherit.proofs.Ends.{own_lists, with_own_lists, own_unchanged, count_own, frontier_first, law_without, law_at_end, loop_found, count_less, as_many_numbers}
 use Rattle.room_inherit.proofs.Calls.{capped_add}
 
@@ -44,7 +44,7 @@ fewer : (which : Which) (start : ℕ) (waiting : List Node) (old : Rows) (lists 
 fewer which start waiting old lists first is front =
     let same = found_id start old.read.nodes first is in
     let unchanged : is_changed which lists first ≡ false = false_from_ne_true (is_changed which lists first) (λ changed.
-      false≢true (sym (front.came first (ap (node_at old.read) same ∙ is) changed).isnt_start ∙ eq-eqb first.id start same)) in
+    false≢true (sym (front.came first (ap (node_at old.read) same ∙ is) changed).isnt_start ∙ eq-eqb first.id start same)) in
     let less = count_less (is_changed which lists) start old.read.nodes first is unchanged in
     let all = as_many_numbers old in
     omega (arith, less, all)
@@ -150,7 +150,7 @@ module _ {S : Type 0} (rows : S → Rows) (failures writes : S → ℕ) (Follows
           written = both.unwritten ∙ sym (capped_below (writes a) (ends a)) ∙ ap capped (omega arith);
           fits = fits;
           along = λ t.
-            subst (λ (r : Rows). IsCarrying which start 0 (first ∷ []) 0 most (rows a) r) (sym (both.same t))
+              subst (λ (r : Rows). IsCarrying which start 0 (first ∷ []) 0 most (rows a) r) (sym (both.same t))
               (carrying_first which start most (rows a) first (are_rows a c t) (sym (both.answers t).0) (is ∙ ap length (listed.answers (laws.first a b c listed.follows found.follows t))));
         }
 
@@ -170,15 +170,15 @@ module _ {S : Type 0} (rows : S → Rows) (failures writes : S → ℕ) (Follows
         → IsCarried rows failures writes Follows IsTrusted {X = X} count b c (Ok x) (MeetsAgain which start w) (λ old y new. IsTurn which start w old (list y) new)
         → Carrying which start (turns + 1) (rest ++ next) (capped (changed + length next)) most a c
     carries_on turns rest w changed most next a b c x count list counted is sofar turn = record {
-        follows = laws.on a b c sofar.follows turn.follows;
-        written = turn.written ∙ (λ i. capped (sofar.written i + counted i)) ∙ capped_add (writes a + changed) (length next)
+      follows = laws.on a b c sofar.follows turn.follows;
+      written = turn.written ∙ (λ i. capped (sofar.written i + counted i)) ∙ capped_add (writes a + changed) (length next)
           ∙ ap capped (omega arith) ∙ sym (capped_add (changed + length next) (writes a)) ∙ ap capped (omega arith);
-        fits = sofar.fits;
-        along = λ t.
+      fits = sofar.fits;
+      along = λ t.
           let first = laws.first a b c sofar.follows turn.follows t in
           let last = laws.last a b c sofar.follows turn.follows t in
           carrying_turn which start turns rest w changed most (rows a) (rows b) (rows c) next (are_rows a b first) sofar.fits (sofar.along first) (subst (λ (l : List Node). IsTurn which start w (rows b) l (rows c)) is (turn.becomes last));
-      }
+    }
 
     pub carries_to_end : (turns changed most : ℕ) (a b : S) → Carrying which start turns [] changed most a b → Spreads which start a b (Ok (record { changed = changed }))
     carries_to_end turns changed most a b sofar = record {
@@ -207,31 +207,31 @@ module _ {S : Type 0} (rows : S → Rows) (failures writes : S → ℕ) (Follows
     pub turn_gives_up : (turns : ℕ) (rest : List Node) (w : Node) (changed most : ℕ) (e : SpreadFault) (a b c : S) {X : Type 0} (count : X → ℕ) (Becomes : Rows → X → Rows → Type 0) → Carrying which start turns (rest ++ w ∷ []) changed most a b
         → IsCarried rows failures writes Follows IsTrusted {X = X} count b c (Err e) (MeetsAgain which start w) Becomes → Spreads which start a c (Err e)
     turn_gives_up turns rest w changed most e a b c count Becomes sofar turn = record {
-        follows = laws.on a b c sofar.follows turn.follows;
-        written = tt;
-        becomes = λ t. tt;
-        fault = cause e turn.fault;
-      }
+      follows = laws.on a b c sofar.follows turn.follows;
+      written = tt;
+      becomes = λ t. tt;
+      fault = cause e turn.fault;
+    }
       where
         cause : (e : SpreadFault) → HasSpreadCause (failures b) (failures c) (λ at. IsTrusted b c → IsUnreadable (rows b) at) (IsTrusted b c → MeetsAgain which start w (rows b)) e
             → HasSpreadCause (failures a) (failures c) (λ at. IsTrusted a c → IsUnreadable (rows a) at) (IsTrusted a c → IsOwnAncestor (rows a).read start) e
         cause (Keeper f) h = later_cause (failures a) (failures b) (failures c) f _ _ (laws.rise a b sofar.follows) (laws.rise b c turn.follows)
-          (λ at damaged t.
+            (λ at damaged t.
             still_unreadable which start turns (rest ++ w ∷ []) changed most at (rows a) (rows b) (sofar.along (laws.first a b c sofar.follows turn.follows t)) (damaged (laws.last a b c sofar.follows turn.follows t)))
-          h
+            h
         cause Loop h = λ t.
-          let first = laws.first a b c sofar.follows turn.follows t in
-          carrying_loops which start turns rest w changed most (rows a) (rows b) (are_rows a b first) (sofar.along first) (h (laws.last a b c sofar.follows turn.follows t))
+            let first = laws.first a b c sofar.follows turn.follows t in
+            carrying_loops which start turns rest w changed most (rows a) (rows b) (are_rows a b first) (sofar.along first) (h (laws.last a b c sofar.follows turn.follows t))
 
     -- a read that fails
     pub reads_fail : {X : Type 0} (a b : S) (e : KeepFault) (Blames : Rows → ℕ → Type 0) (Answers : Rows → X → Type 0) → ((r : Rows) (at : ℕ) → Blames r at → IsUnreadable r at)
         → IsRead rows failures writes Follows IsTrusted a b (Err e) Blames Answers → Spreads which start a b (Err (Keeper e))
     reads_fail a b e Blames Answers weaker read = record {
-        follows = read.follows;
-        written = tt;
-        becomes = λ t. tt;
-        fault = cause e read.fault;
-      }
+      follows = read.follows;
+      written = tt;
+      becomes = λ t. tt;
+      fault = cause e read.fault;
+    }
       where
         cause : (e : KeepFault) → HasCause (failures a) (failures b) (λ at. IsTrusted a b → Blames (rows a) at) e → HasCause (failures a) (failures b) (λ at. IsTrusted a b → IsUnreadable (rows a) at) e
         cause Memory h = tt

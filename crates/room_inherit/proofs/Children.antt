@@ -1,12 +1,12 @@
 -- Objects of rows by their numbers, and the children of one.
-use Rattle.std.proofs.Common.{◌≡◌, ℕ, suc, ◌+◌, ◌<◌, ◌≤◌, ◌==◌, Bool, true, false, cond, not, ◌&&◌, ◌||◌, List, [], ◌∷◌, ◌++◌, map, filter, length, Option, Some, None, refl, sym, ap, subst, ◌∙◌, inl, inr, arith}
-use Rattle.std.specs.Prelude.{is_none, nat_lt}
-use Rattle.std.specs.List.{list_any, list_all, find}
-use Rattle.std.proofs.lemmas.Bool.{cases_Bool, and_from, and_parts, or_parts, or_from, or_left, or_right, and_left, and_right, false≢true, eq-eqb, eqb-true, ne_eqb, ltb-true, false_from_ne_true, cond-true, cond-false}
+use Rattle.std.proofs.Common.{◌≡◌, ℕ, suc, ◌+◌, ◌<◌, ◌==◌, Bool, true, false, cond, ◌&&◌, ◌||◌, List, [], ◌∷◌, map, filter, length, Some, refl, sym, ap, subst, ◌∙◌, inl, inr, arith}
+use Rattle.std.specs.Prelude.{nat_lt}
+use Rattle.std.specs.List.{list_any}
+use Rattle.std.proofs.lemmas.Bool.{cases_Bool, and_parts, or_parts, or_from, or_left, or_right, false≢true, eq-eqb, eqb-true, ne_eqb, ltb-true, false_from_ne_true}
 use Rattle.room_tree.specs.declared.node.Node.{Node}
 use Rattle.room_tree.specs.Content.{Content, node_at, has_parent, children_of, put_by_name, sorted_by_name, is_before, is_rising}
 use Rattle.room_tree.specs.Finding.{find_id}
-use Rattle.room_inherit.proofs.Members.{Each, each_append, each_weaker, each_filter, each_unfiltered, any_filter, any_agree, any_none, each_fails, none_of_both, none_filter, one_if, count, count_filter, count_agree, count_length}
+use Rattle.room_inherit.proofs.Members.{Each, each_weaker, each_filter, each_unfiltered, any_filter, any_agree, any_none, each_fails, none_of_both, none_filter, one_if, count, count_filter, count_length}
 
 -- ---- by number
 
@@ -33,21 +33,21 @@ found_later id x xs is = rw is refl
 pub each_found : (P : Node → Type 0) (id : ℕ) (nodes : List Node) (node : Node) → Each P nodes → find_id id nodes ≡ Some node → P node
 each_found P id [] node all found = absurd (let wrong : ⊥ = cc in wrong)
 each_found P id (x ∷ xs) node all found = elim (cases_Bool (x.id == id)) [
-  inl is ↦ subst P (same_some x node (sym (found_first id x xs is) ∙ found)) all.0
+  | inl is ↦ subst P (same_some x node (sym (found_first id x xs is) ∙ found)) all.0
   | inr isnt ↦ each_found P id xs node all.1 (sym (found_later id x xs isnt) ∙ found)
 ]
 
 pub found_id : (id : ℕ) (nodes : List Node) (node : Node) → find_id id nodes ≡ Some node → node.id ≡ id
 found_id id [] node found = absurd (let wrong : ⊥ = cc in wrong)
 found_id id (x ∷ xs) node found = elim (cases_Bool (x.id == id)) [
-  inl is ↦ ap (λ (n : Node). n.id) (sym (same_some x node (sym (found_first id x xs is) ∙ found))) ∙ eqb-true x.id id is
+  | inl is ↦ ap (λ (n : Node). n.id) (sym (same_some x node (sym (found_first id x xs is) ∙ found))) ∙ eqb-true x.id id is
   | inr isnt ↦ found_id id xs node (sym (found_later id x xs isnt) ∙ found)
 ]
 
 found_has : (id : ℕ) (nodes : List Node) (node : Node) → find_id id nodes ≡ Some node → has_id id nodes ≡ true
 found_has id [] node found = absurd (let wrong : ⊥ = cc in wrong)
 found_has id (x ∷ xs) node found = elim (cases_Bool (x.id == id)) [
-  inl is ↦ or_left (x.id == id) (has_id id xs) is
+  | inl is ↦ or_left (x.id == id) (has_id id xs) is
   | inr isnt ↦ or_right (x.id == id) (has_id id xs) (found_has id xs node (sym (found_later id x xs isnt) ∙ found))
 ]
 
@@ -63,17 +63,18 @@ each_there P (x ∷ xs) apart all = (all x (found_first x.id x xs (eq-eqb x.id x
 pub any_here : (T : Node → Bool) (x : Node) (nodes : List Node) → Apart nodes → find_id x.id nodes ≡ Some x → list_any (λ m. T m && (m.id == x.id)) nodes ≡ T x
 any_here T x [] apart found = absurd (let wrong : ⊥ = cc in wrong)
 any_here T x (y ∷ ys) apart found = elim (cases_Bool (y.id == x.id)) [
-  inl is ↦
-    let same : y ≡ x = same_some y x (sym (found_first x.id y ys is) ∙ found) in
-    let none : list_any (λ m. T m && (m.id == x.id)) ys ≡ false = none_of_both (λ (m : Node). m.id == x.id) T ys (ap (λ i. has_id i ys) (sym (eqb-true y.id x.id is)) ∙ apart.0) in
-    ap (λ t. (T y && t) || list_any (λ m. T m && (m.id == x.id)) ys) is ∙ ap (λ r. (T y && true) || r) none ∙ alone (T y) ∙ ap T same
+  | inl is ↦
+      let same : y ≡ x = same_some y x (sym (found_first x.id y ys is) ∙ found) in
+      let none : list_any (λ m. T m && (m.id == x.id)) ys ≡ false = none_of_both (λ (m : Node). m.id == x.id) T ys (ap (λ i. has_id i ys) (sym (eqb-true y.id x.id is)) ∙ apart.0) in
+      ap (λ t. (T y && t) || list_any (λ m. T m && (m.id == x.id)) ys) is ∙ ap (λ r. (T y && true) || r) none ∙ alone (T y) ∙ ap T same
   | inr isnt ↦
-    ap (λ t. (T y && t) || list_any (λ m. T m && (m.id == x.id)) ys) isnt ∙ skip (T y) (list_any (λ m. T m && (m.id == x.id)) ys) ∙ any_here T x ys apart.1 (sym (found_later x.id y ys isnt) ∙ found)
+      ap (λ t. (T y && t) || list_any (λ m. T m && (m.id == x.id)) ys) isnt ∙ skip (T y) (list_any (λ m. T m && (m.id == x.id)) ys) ∙ any_here T x ys apart.1 (sym (found_later x.id y ys isnt) ∙ found)
 ]
   where
     alone : (t : Bool) → ((t && true) || false) ≡ t
     alone true = refl
     alone false = refl
+
     skip : (t r : Bool) → ((t && false) || r) ≡ r
     skip true r = refl
     skip false r = refl
@@ -116,6 +117,7 @@ any_put p x (y ∷ ys) = on (is_before y.name x.name) (any_put p x ys)
     swapped true false r = refl
     swapped false true r = refl
     swapped false false r = refl
+
     on : (t : Bool) → list_any p (put_by_name x ys) ≡ (p x || list_any p ys) → list_any p (cond t (y ∷ put_by_name x ys) (x ∷ y ∷ ys)) ≡ (p x || (p y || list_any p ys))
     on true rest = ap (λ r. p y || r) rest ∙ swapped (p y) (p x) (list_any p ys)
     on false rest = refl
@@ -157,8 +159,10 @@ apart_put x (y ∷ ys) new apart = on (is_before y.name x.name) (apart_put x ys 
   where
     parts : ((y.id == x.id) ≡ false) × (has_id x.id ys ≡ false)
     parts = or_parts (y.id == x.id) (has_id x.id ys) new
+
     other : (x.id == y.id) ≡ false
     other = ne_eqb x.id y.id (λ e. false≢true (sym parts.0 ∙ eq-eqb y.id x.id (sym e)))
+
     on : (t : Bool) → Apart (put_by_name x ys) → Apart (cond t (y ∷ put_by_name x ys) (x ∷ y ∷ ys))
     on true rest = (any_put (λ (n : Node). n.id == y.id) x ys ∙ or_from (x.id == y.id) (has_id y.id ys) other apart.0, rest)
     on false rest = (new, apart)
@@ -224,7 +228,7 @@ module _ (rows : Content) (apart : Apart rows.nodes) where
   pub no_child : (q : Node → Bool) (id : ℕ) → list_any q (children_of rows id) ≡ false → (n : Node) → node_at rows n.id ≡ Some n → has_parent id n ≡ true → q n ≡ false
   no_child q id none n there is =
       each_found (λ m. has_parent id m ≡ true → q m ≡ false) n.id rows.nodes n
-        (each_unfiltered (λ m. q m ≡ false) (has_parent id) rows.nodes (each_fails q (filter (has_parent id) rows.nodes) (sym (any_sorted q (filter (has_parent id) rows.nodes)) ∙ none))) there is
+      (each_unfiltered (λ m. q m ≡ false) (has_parent id) rows.nodes (each_fails q (filter (has_parent id) rows.nodes) (sym (any_sorted q (filter (has_parent id) rows.nodes)) ∙ none))) there is
 
   -- one that some child passes, if it isn't impossible
   pub some_child : (q : Node → Bool) (id : ℕ) (X : Type 0) → ((n : Node) → node_at rows n.id ≡ Some n → has_parent id n ≡ true → q n ≡ true → X) → list_any q (children_of rows id) ≡ true → X
@@ -233,6 +237,6 @@ module _ (rows : Content) (apart : Apart rows.nodes) where
       pick : (xs : List Node) → Each (λ n. (node_at rows n.id ≡ Some n) × (has_parent id n ≡ true)) xs → list_any q xs ≡ true → X
       pick [] all some = absurd (false≢true some)
       pick (x ∷ xs) all some = elim (cases_Bool (q x)) [
-        inl is ↦ makes x all.0.0 all.0.1 is
+        | inl is ↦ makes x all.0.0 all.0.1 is
         | inr isnt ↦ pick xs all.1 (sym (ap (λ t. t || list_any q xs) isnt) ∙ some)
       ]

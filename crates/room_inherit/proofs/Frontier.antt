@@ -1,30 +1,20 @@
 -- The objects that wait, while a change of a list is carried down.
-use Rattle.std.proofs.Common.{◌≡◌, ℕ, zero, suc, ◌+◌, ◌<◌, ◌≤◌, ◌==◌, Bool, true, false, cond, not, ◌&&◌, ◌||◌, List, [], ◌∷◌, ◌++◌, map, filter, length, Option, Some, None, refl, sym, ap, subst, ◌∙◌, inl, inr, ◌⊎◌, arith}
-use Rattle.std.specs.List.{list_any, list_all}
+use Rattle.std.proofs.Common.{◌≡◌, ℕ, ◌==◌, Bool, true, false, cond, ◌||◌, List, [], ◌∷◌, ◌++◌, map, Option, Some, refl, ap, ◌∙◌, ◌⊎◌}
 use Rattle.std.specs.Option.{option_map, option_map_or}
-use Rattle.std.proofs.lemmas.Bool.{cases_Bool, and_from, and_parts, and_left, and_right, or_cases, or_parts, or_from, or_left, or_right, not-true, not-false, not_from_true, not_from_false, false≢true, true≢false, eq-eqb, eqb-true, ne_eqb, cond-true, cond-false, both_ways}
-use Rattle.std.proofs.lemmas.List.Folds.{list_any-append}
-use Rattle.std.proofs.lemmas.List.{length-map, length-append}
 use Rattle.room_ace.specs.Ace.{Ace}
-use Rattle.room_ace.specs.Same.{same_entries}
-use Rattle.room_ace.specs.declared.object.ObjKind.{ObjKind}
 use Rattle.room_ace.specs.declared.object.Which.{Which}
-use Rattle.room_ace.proofs.Same.{entries_equal}
-use Rattle.room_ace.proofs.Alike.{equal_entries, entries_themselves}
-use Rattle.room_tree.specs.declared.node.Held.{Held}
 use Rattle.room_tree.specs.declared.node.Node.{Node}
-use Rattle.room_tree.specs.Content.{Content, node_at, parent_of, has_parent, children_of, is_linked_in, is_rising, with_each}
+use Rattle.room_tree.specs.Content.{Content, node_at, has_parent}
 use Rattle.room_tree.specs.Finding.{find_id}
-use Rattle.room_tree.specs.Held.{held_of, full_of, is_linked}
+use Rattle.room_tree.specs.Held.{held_of, is_linked}
 use Rattle.room_tree.specs.Keep.{with_inh}
 use Rattle.room_inherit.specs.Pass.{pass}
 use Rattle.room_inherit.specs.Law.{AllAgreeBut}
-use Rattle.room_inherit.specs.Spread.{with_lists, is_changed, is_linked_within, IsLinkedBelow}
-use Rattle.room_inherit.specs.Turn.{is_linked_to, is_outdated, passed_to, renewed, renewals, renewed_below, is_met_again, meets_again}
-use Rattle.room_inherit.proofs.Kinship.{same_id, same_parent, same_kind, held_with, with_last, with_own}
-use Rattle.room_inherit.proofs.Members.{Each, each_append, each_front, each_back, each_weaker, each_map, each_filter, each_fails, any_none, one_if, count, count_length, count_map, count_agree, count_either}
-use Rattle.room_inherit.proofs.Children.{has_id, Apart, ids_of, each_found, found_id, each_there, apart_rising, apart_filter, apart_map, has_id_map, each_child, apart_children, is_such_child, count_children, no_child}
-use Rattle.room_inherit.proofs.Renewing.{map_agree, map_map, one_object}
+use Rattle.room_inherit.specs.Spread.{is_changed, IsLinkedBelow}
+use Rattle.room_inherit.proofs.Kinship.{same_id, same_parent, held_with}
+use Rattle.room_inherit.proofs.Members.{Each}
+use Rattle.room_inherit.proofs.Children.{has_id, Apart, ids_of}
+use Rattle.room_inherit.proofs.Renewing.{map_agree, map_map}
 
 -- ---- objects with other lists
 

@@ -1,10 +1,8 @@
 -- An object with other inherited entries.
-use Rattle.std.proofs.Common.{◌≡◌, Bool, List, ◌++◌, Option, Some, refl, sym, ap, ◌∙◌}
+use Rattle.std.proofs.Common.{◌≡◌, List, refl}
 use Rattle.room_ace.specs.Ace.{Ace}
-use Rattle.room_ace.specs.declared.object.ObjKind.{ObjKind}
 use Rattle.room_ace.specs.declared.object.Which.{Which}
 use Rattle.room_ace.specs.declared.object.Which.TheVariants.{Dacl, Sacl}
-use Rattle.room_tree.specs.declared.node.Held.{Held}
 use Rattle.room_tree.specs.declared.node.Node.{Node}
 use Rattle.room_tree.specs.Held.{held_of}
 use Rattle.room_tree.specs.Keep.{with_inh}

@@ -1,7 +1,6 @@
 -- One object taken from those that wait, and its children renewed.
-use Rattle.std.proofs.Common.{◌≡◌, ℕ, zero, suc, ◌+◌, ◌==◌, Bool, true, false, cond, not, ◌&&◌, ◌||◌, List, [], ◌∷◌, ◌++◌, map, filter, length, Option, Some, None, refl, sym, ap, subst, ◌∙◌, inl, inr, ◌⊎◌, arith}
+use Rattle.std.proofs.Common.{◌≡◌, ℕ, zero, suc, ◌+◌, ◌==◌, Bool, true, false, cond, not, ◌&&◌, ◌||◌, List, [], ◌∷◌, ◌++◌, map, filter, length, Option, Some, None, refl, sym, ap, ◌∙◌, inl, inr, ◌⊎◌}
 use Rattle.std.specs.Prelude.{option_and_then}
-use Rattle.std.specs.List.{list_any}
 use Rattle.std.specs.Option.{option_map, option_map_or}
 use Rattle.std.proofs.lemmas.Bool.{cases_Bool, and_from, and_parts, and_left, or_cases, or_parts, or_from, or_left, or_right, not-true, not-false, not_from_false, false≢true, eq-eqb, eqb-true, ne_eqb, cond-true, cond-false, false_from_ne_true}
 use Rattle.std.proofs.lemmas.List.Folds.{list_any-append}
@@ -19,14 +18,13 @@ use Rattle.room_tree.specs.Finding.{find_id}
 use Rattle.room_tree.specs.Held.{held_of, full_of, is_linked}
 use Rattle.room_tree.specs.Keep.{with_inh}
 use Rattle.room_inherit.specs.Pass.{pass}
-use Rattle.room_inherit.specs.Law.{AllAgreeBut}
 use Rattle.room_inherit.specs.Spread.{with_lists, is_changed, is_linked_within, IsLinkedBelow}
 use Rattle.room_inherit.specs.Turn.{is_linked_to, is_outdated, passed_to, renewed, renewals, renewed_below, is_met_again, meets_again}
 use Rattle.room_inherit.proofs.Kinship.{same_id, same_kind, with_last}
 use Rattle.room_inherit.proofs.Members.{Each, each_append, each_front, each_back, each_weaker, each_map, each_filter, count, count_length, count_map, count_agree, count_either}
-use Rattle.room_inherit.proofs.Children.{has_id, Apart, ids_of, found_id, each_there, apart_rising, apart_filter, apart_map, has_id_map, each_child, apart_children, is_such_child, count_children, no_child}
+use Rattle.room_inherit.proofs.Children.{has_id, Apart, ids_of, each_there, apart_rising, apart_filter, apart_map, has_id_map, each_child, apart_children, is_such_child, count_children, no_child}
 use Rattle.room_inherit.proofs.Renewing.{map_agree, map_map, one_object}
-use Rattle.room_inherit.proofs.Frontier.{set, set_id, set_parent, set_held, find_set, links, passes, is_reached, There, Waits, Came, AgreesOrWaits, Frontier}
+use Rattle.room_inherit.proofs.Frontier.{set, set_id, set_parent, set_held, find_set, links, passes, is_reached, There, Waits, Came, Frontier}
 
 -- ---- parents
 
@@ -142,13 +140,13 @@ module _ (which : Which) (start : ℕ) (old : Content) (rises : is_rising (0 ∷
 
   child_unchanged : (n : Node) → There which start old n → has_parent w.id n ≡ true → is_changed which f n ≡ false
   child_unchanged n there has = false_from_ne_true (is_changed which f n) (λ changed.
-    let c = front.came n there changed in
-    false≢true (sym c.taken ∙ ap (λ i. has_id i (rest ++ w ∷ [])) (same_above c.parent.id w.id n c.has has) ∙ has_last rest w))
+      let c = front.came n there changed in
+      false≢true (sym c.taken ∙ ap (λ i. has_id i (rest ++ w ∷ [])) (same_above c.parent.id w.id n c.has has) ∙ has_last rest w))
 
   no_start : (n : Node) → There which start old n → has_parent w.id n ≡ true → links which w0 n ≡ true → (n.id == start) ≡ false
   no_start n there has link = false_from_ne_true (n.id == start) (λ is.
-    let met = no_child now apart_now (is_met_again which start w) w.id not_met (set which f n) (there_now n there) (set_parent which f w.id n ∙ has) in
-    false≢true (sym met ∙ and_from ((set which f n).id == start) (is_linked_to which w (set which f n)) (ap (λ (i : ℕ). i == start) (set_id which f n) ∙ is) (linked_is n ∙ link)))
+      let met = no_child now apart_now (is_met_again which start w) w.id not_met (set which f n) (there_now n there) (set_parent which f w.id n ∙ has) in
+      false≢true (sym met ∙ and_from ((set which f n).id == start) (is_linked_to which w (set which f n)) (ap (λ (i : ℕ). i == start) (set_id which f n) ∙ is) (linked_is n ∙ link)))
 
   abbrev StaleParts : Node → Type 0
   StaleParts n = (has_parent w.id n ≡ true) × (links which w0 n ≡ true) × (same_entries (f n) (passes which f w0 n) ≡ false)
@@ -162,8 +160,8 @@ module _ (which : Which) (start : ℕ) (old : Content) (rises : is_rising (0 ∷
   -- what was reached isn't outdated
   reached_fresh : (n : Node) → There which start old n → is_reached which start f n ≡ true → stale n ≡ false
   reached_fresh n there reached = false_from_ne_true (stale n) (λ is.
-    let parts = stale_parts n is in
-    false≢true (sym (or_from (n.id == start) (is_changed which f n) (no_start n there parts.0 parts.1) (child_unchanged n there parts.0)) ∙ reached))
+      let parts = stale_parts n is in
+      false≢true (sym (or_from (n.id == start) (is_changed which f n) (no_start n there parts.0 parts.1) (child_unchanged n there parts.0)) ∙ reached))
 
   keeps : (n : Node) → stale n ≡ false → after n ≡ f n
   keeps n isnt = cond-false (stale n) (passes which f w0 n) (f n) isnt
@@ -179,11 +177,11 @@ module _ (which : Which) (start : ℕ) (old : Content) (rises : is_rising (0 ∷
       let parts = stale_parts n is in
       let before : f n ≡ (held_of which n).inh = entries_equal (f n) (held_of which n).inh (not-false (same_entries (f n) (held_of which n).inh) (child_unchanged n there parts.0)) in
       not_from_false (same_entries (after n) (held_of which n).inh) (false_from_ne_true (same_entries (after n) (held_of which n).inh) (λ same.
-        false≢true (sym parts.2 ∙ equal_entries (f n) (passes which f w0 n) (before ∙ sym (entries_equal (after n) (held_of which n).inh same) ∙ takes n is))))
+      false≢true (sym parts.2 ∙ equal_entries (f n) (passes which f w0 n) (before ∙ sym (entries_equal (after n) (held_of which n).inh same) ∙ takes n is))))
 
   changed_is : (n : Node) → There which start old n → is_changed which after n ≡ (is_changed which f n || stale n)
   changed_is n there = elim (cases_Bool (stale n)) [
-    inl is ↦ changed_stale n there is ∙ sym (or_right (is_changed which f n) (stale n) is)
+    | inl is ↦ changed_stale n there is ∙ sym (or_right (is_changed which f n) (stale n) is)
     | inr isnt ↦ ap (λ e. not (same_entries e (held_of which n).inh)) (keeps n isnt) ∙ sym (or_false (is_changed which f n)) ∙ ap (λ t. is_changed which f n || t) (sym isnt)
   ]
 
@@ -222,8 +220,8 @@ module _ (which : Which) (start : ℕ) (old : Content) (rises : is_rising (0 ∷
   kids_wait : Each (Waits which start old after) kids
   kids_wait =
       each_map (Waits which start old after) (renewed which w) outdated
-        (each_filter (λ m. Waits which start old after (renewed which w m)) (is_outdated which w) (children_of now w.id)
-          (each_child now apart_now (λ m. is_outdated which w m ≡ true → Waits which start old after (renewed which w m)) w.id (λ m there has is. kid_waits m there has is)))
+      (each_filter (λ m. Waits which start old after (renewed which w m)) (is_outdated which w) (children_of now w.id)
+      (each_child now apart_now (λ m. is_outdated which w m ≡ true → Waits which start old after (renewed which w m)) w.id (λ m there has is. kid_waits m there has is)))
 
   rest_waits : (r : Node) → Waits which start old f r → Waits which start old after r
   rest_waits r known = record {
@@ -256,10 +254,10 @@ module _ (which : Which) (start : ℕ) (old : Content) (rises : is_rising (0 ∷
       let above : parent_of old n ≡ Some w0 = parent_found old w0 n waits.there has in
       let linked : is_linked_in old which n ≡ true = ap (λ o. is_linked (held_of which n) (option_map (held_of which) o)) above ∙ link in
       elim (or_cases (w0.id == start) (is_changed which f w0) waits.reached) [
-        inl is ↦ (suc zero, and_from (is_linked_in old which n) _ linked (or_left (has_parent start n) _ (ap (λ i. has_parent i n) (sym (eqb-true w0.id start is)) ∙ has)))
+        | inl is ↦ (suc zero, and_from (is_linked_in old which n) _ linked (or_left (has_parent start n) _ (ap (λ i. has_parent i n) (sym (eqb-true w0.id start is)) ∙ has)))
         | inr changed ↦
-          let c = (front.came w0 waits.there changed).below in
-          (suc c.0, and_from (is_linked_in old which n) _ linked (or_right (has_parent start n) _ (ap (λ o. option_map_or (is_linked_within c.0 old which start) o false) above ∙ c.1)))
+            let c = (front.came w0 waits.there changed).below in
+            (suc c.0, and_from (is_linked_in old which n) _ linked (or_right (has_parent start n) _ (ap (λ o. option_map_or (is_linked_within c.0 old which start) o false) above ∙ c.1)))
       ]
 
   came_now : (n : Node) → There which start old n → stale n ≡ true → Came which start old after (rest ++ kids) n
@@ -284,14 +282,14 @@ module _ (which : Which) (start : ℕ) (old : Content) (rises : is_rising (0 ∷
   child_agrees n p there there' has link is =
       let one : w0 ≡ p = one_object old.nodes w0 p waits.there there' (sym w_id ∙ sym is) in
       let gives : passes which f w0 n ≡ passes which after p n =
-        ap (λ l. pass n.kind ((held_of which w0).own ++ l)) (sym (keeps w0 (reached_fresh w0 waits.there waits.reached))) ∙ ap (λ x. passes which after x n) one in
+      ap (λ l. pass n.kind ((held_of which w0).own ++ l)) (sym (keeps w0 (reached_fresh w0 waits.there waits.reached))) ∙ ap (λ x. passes which after x n) one in
       elim (cases_Bool (stale n)) [
-        inl st ↦ takes n st ∙ gives
+        | inl st ↦ takes n st ∙ gives
         | inr fresh ↦
-          let has_w : has_parent w.id n ≡ true = ap (λ i. has_parent i n) (sym is) ∙ has in
-          let link_w : links which w0 n ≡ true = ap (λ x. links which x n) one ∙ link in
-          let same : same_entries (f n) (passes which f w0 n) ≡ true = not-false (same_entries (f n) (passes which f w0 n)) (sym (λ i. has_w i && (link_w i && not (same_entries (f n) (passes which f w0 n)))) ∙ fresh) in
-          keeps n fresh ∙ entries_equal (f n) (passes which f w0 n) same ∙ gives
+            let has_w : has_parent w.id n ≡ true = ap (λ i. has_parent i n) (sym is) ∙ has in
+            let link_w : links which w0 n ≡ true = ap (λ x. links which x n) one ∙ link in
+            let same : same_entries (f n) (passes which f w0 n) ≡ true = not-false (same_entries (f n) (passes which f w0 n)) (sym (λ i. has_w i && (link_w i && not (same_entries (f n) (passes which f w0 n)))) ∙ fresh) in
+            keeps n fresh ∙ entries_equal (f n) (passes which f w0 n) same ∙ gives
       ]
 
   -- any other object stays as it was
@@ -299,13 +297,13 @@ module _ (which : Which) (start : ℕ) (old : Content) (rises : is_rising (0 ∷
       → (has_id p.id (rest ++ w ∷ []) ≡ true) ⊎ (f n ≡ passes which f p n) → Goal n p
   other_agrees n p there there' has other (inl waiting) =
       elim (or_cases (has_id p.id rest) (has_id p.id (w ∷ [])) (sym (has_either p.id rest (w ∷ [])) ∙ waiting)) [
-        inl still ↦ inl (has_either p.id rest kids ∙ or_left (has_id p.id rest) (has_id p.id kids) still)
+        | inl still ↦ inl (has_either p.id rest kids ∙ or_left (has_id p.id rest) (has_id p.id kids) still)
         | inr last ↦ absurd (false≢true (sym other ∙ eq-eqb p.id w.id (sym (eqb-true w.id p.id (sym (or_false (w.id == p.id)) ∙ last)))))
       ]
   other_agrees n p there there' has other (inr agrees) =
       let fresh : stale n ≡ false = and_left (has_parent w.id n) _ (false_from_ne_true (has_parent w.id n) (λ has'. false≢true (sym other ∙ eq-eqb p.id w.id (same_above p.id w.id n has has')))) in
       elim (cases_Bool (stale p)) [
-        inl st ↦ inl (has_either p.id rest kids ∙ or_right (has_id p.id rest) (has_id p.id kids) (kids_has p there' ∙ st))
+        | inl st ↦ inl (has_either p.id rest kids ∙ or_right (has_id p.id rest) (has_id p.id kids) (kids_has p there' ∙ st))
         | inr fresh' ↦ inr (keeps n fresh ∙ agrees ∙ ap (λ l. pass n.kind ((held_of which p).own ++ l)) (sym (keeps p fresh')))
       ]
 
@@ -314,11 +312,11 @@ module _ (which : Which) (start : ℕ) (old : Content) (rises : is_rising (0 ∷
     known = each_append (Waits which start old after) rest kids (each_weaker (Waits which start old f) (Waits which start old after) rest_waits rest (each_front (Waits which start old f) rest (w ∷ []) front.known)) kids_wait;
     apart = apart_join rest kids (apart_front rest (w ∷ []) front.apart) kids_apart (each_weaker (Waits which start old f) (λ r. has_id r.id kids ≡ false) rest_apart rest (each_front (Waits which start old f) rest (w ∷ []) front.known));
     came = λ n there changed. elim (or_cases (is_changed which f n) (stale n) (sym (changed_is n there) ∙ changed)) [
-      inl before ↦ came_before n (front.came n there before)
+      | inl before ↦ came_before n (front.came n there before)
       | inr st ↦ came_now n there st
     ];
     law = λ but n p there there' has link. elim (cases_Bool (p.id == w.id)) [
-      inl is ↦ inr (child_agrees n p there there' has link (eqb-true p.id w.id is))
+      | inl is ↦ inr (child_agrees n p there there' has link (eqb-true p.id w.id is))
       | inr other ↦ other_agrees n p there there' has other (front.law but n p there there' has link)
     ];
   }
@@ -328,13 +326,14 @@ module _ (which : Which) (start : ℕ) (old : Content) (rises : is_rising (0 ∷
   pub count_after : count (is_changed which after) old.nodes ≡ count (is_changed which f) old.nodes + length kids
   count_after =
       count_either (is_changed which f) stale (is_changed which after) old.nodes
-        (each_there (λ n. (is_changed which after n ≡ (is_changed which f n || stale n)) × (stale n ≡ true → is_changed which f n ≡ false)) old.nodes apart_old
-          (λ n there. (changed_is n there, λ st. child_unchanged n there (stale_parts n st).0)))
+      (each_there (λ n. (is_changed which after n ≡ (is_changed which f n || stale n)) × (stale n ≡ true → is_changed which f n ≡ false)) old.nodes apart_old
+      (λ n there. (changed_is n there, λ st. child_unchanged n there (stale_parts n st).0)))
       ∙ ap (λ k. count (is_changed which f) old.nodes + k) (sym number)
     where
       every : (xs : List Node) → Each (λ n. (has_parent w.id (set which f n) && is_outdated which w (set which f n)) ≡ stale n) xs
       every [] = tt
       every (x ∷ xs) = (stale_is x, every xs)
+
       number : length kids ≡ count stale old.nodes
       number =
           length-map outdated (renewed which w) ∙ count_length (is_outdated which w) (children_of now w.id) ∙ count_children now apart_now (is_outdated which w) w.id

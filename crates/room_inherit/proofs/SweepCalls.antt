@@ -1,5 +1,5 @@
 -- The tree gone through, turn after turn.
-use Rattle.std.proofs.Common.{◌≡◌, ℕ, zero, suc, ◌+◌, ◌<◌, ◌≤◌, ◌-◌, ◌^◌, Bool, true, false, List, [], ◌∷◌, ◌++◌, length, Option, Some, None, Result, Ok, Err, IfOk, IfErr, refl, sym, ap, subst, ◌∙◌, inl, inr, arith}
+use Rattle.std.proofs.Common.{◌≡◌, ℕ, ◌+◌, ◌<◌, ◌≤◌, ◌-◌, ◌^◌, Bool, List, [], ◌∷◌, ◌++◌, length, Some, None, Result, Ok, Err, refl, sym, ap, subst, ◌∙◌, inl, arith}
 use Rattle.std.proofs.lemmas.Bool.{false≢true, eq-eqb}
 use Rattle.std.proofs.lemmas.List.{length-append}
 use Rattle.room_ace.specs.Ace.{Ace}
@@ -7,21 +7,21 @@ use Rattle.room_ace.specs.declared.object.Which.{Which}
 use Rattle.room_tree.specs.declared.keep.KeepFault.{KeepFault}
 use Rattle.room_tree.specs.declared.keep.KeepFault.TheVariants.{Memory, Store, Damaged}
 use Rattle.room_tree.specs.declared.node.Node.{Node}
-use Rattle.room_tree.specs.Content.{Content, children_of, root_of}
+use Rattle.room_tree.specs.Content.{children_of, root_of}
 use Rattle.room_tree.specs.Counts.{capped_below}
 use Rattle.room_tree.specs.Keep.{HasCause, HasNoRoot, IsUnreadable, IsNever, IsRead, IsRootOf, AreNumbers, AreChildrenOf, capped, reading}
 use Rattle.room_tree.specs.Rows.{Rows, AreRows, numbers_of, is_unreadable}
-use Rattle.room_tree.proofs.Steps.{Laws, HasRead, seen as has_read, read_on, later_cause}
+use Rattle.room_tree.proofs.Steps.{Laws, seen as has_read, read_on, later_cause}
 use Rattle.room_inherit.specs.Law.{AllAgree}
 use Rattle.room_inherit.specs.Spread.{IsCarried, HasSpreadCause, with_lists, is_changed}
-use Rattle.room_inherit.specs.SpreadAll.{IsCarriedDown, IsSwept, IsVisit, IsTree}
+use Rattle.room_inherit.specs.SpreadAll.{IsCarriedDown, IsSwept, IsVisit}
 use Rattle.room_inherit.specs.Turn.{IsTurn, MeetsAgain}
 use Rattle.room_inherit.specs.declared.outcome.SpreadFault.{SpreadFault}
 use Rattle.room_inherit.specs.declared.outcome.SpreadFault.TheVariants.{Keeper, Loop}
 use Rattle.room_inherit.proofs.Members.{count, count-is, count_ends}
-use Rattle.room_inherit.proofs.Sweeping.{Sweep, after, seen_after, kids, written, rows_after, sweep_after, count_seen, count_after, not_met_again}
+use Rattle.room_inherit.proofs.Sweeping.{Sweep, after, seen_after, kids, rows_after, sweep_after, count_seen, count_after, not_met_again}
 use Rattle.room_inherit.proofs.SweepEnds.{root_there, root_top, seen_first, sweep_first, count_has, law_swept}
-use Rattle.room_inherit.proofs.Ends.{own_lists, with_own_lists, own_unchanged, count_own, as_many_numbers}
+use Rattle.room_inherit.proofs.Ends.{own_lists, with_own_lists, count_own, as_many_numbers}
 use Rattle.room_inherit.proofs.Calls.{capped_add}
 
 -- ---- rows
@@ -95,11 +95,11 @@ module _ (which : Which) (start turns : ℕ) (rest : List Node) (w : Node) (chan
       front = subst (λ (l : List Node). Sweep which old.read sofar.root lists seen_now l) (sym waits) (sweep_after which old.read are.numbers sofar.root top f sofar.seen rest w sofar.front);
       counted = ap capped total ∙ capped_below _ (let m = count_ends (is_changed which lists) old.read.nodes in let a = as_many_numbers old in let n = sofar.numbers in omega (arith, m, a, n, fits));
       turned =
-        let l = ap length waits ∙ length-append rest (kids which old.read are.numbers sofar.root top f sofar.seen rest w sofar.front) in
-        let k = length-append rest (w ∷ []) in
-        let t = sofar.turned in
-        let s = count_seen which old.read are.numbers sofar.root top f sofar.seen rest w sofar.front in
-        omega (arith, l, k, t, s);
+          let l = ap length waits ∙ length-append rest (kids which old.read are.numbers sofar.root top f sofar.seen rest w sofar.front) in
+          let k = length-append rest (w ∷ []) in
+          let t = sofar.turned in
+          let s = count_seen which old.read are.numbers sofar.root top f sofar.seen rest w sofar.front in
+          omega (arith, l, k, t, s);
       numbers = sofar.numbers;
     }
 
@@ -147,7 +147,7 @@ module _ {S : Type 0} (rows : S → Rows) (failures writes : S → ℕ) (Follows
           written = both.unwritten ∙ sym (capped_below (writes a) (ends a)) ∙ ap capped (omega arith);
           fits = fits;
           along = λ t.
-            subst (λ (r : Rows). IsSweeping which root.id 0 (root ∷ []) 0 most (rows a) r) (sym (both.same t))
+              subst (λ (r : Rows). IsSweeping which root.id 0 (root ∷ []) 0 most (rows a) r) (sym (both.same t))
               (sweeping_first which most (rows a) root (are_rows a c t) (both.answers t) (is ∙ ap length (listed.answers (laws.first a b c listed.follows found.follows t))));
         }
 
@@ -155,14 +155,14 @@ module _ {S : Type 0} (rows : S → Rows) (failures writes : S → ℕ) (Follows
         → IsCarried rows failures writes Follows IsTrusted {X = ℕ} (λ n. n) b c (Ok number) (MeetsAgain which start w) (IsVisit which start w rest next)
         → Sweeping which start (turns + 1) next (capped (changed + number)) most a c
     sweeps_on start turns rest w changed most number next a b c sofar visit = record {
-        follows = laws.on a b c sofar.follows visit.follows;
-        written = visit.written ∙ ap (λ k. capped (k + number)) sofar.written ∙ capped_add (writes a + changed) number
+      follows = laws.on a b c sofar.follows visit.follows;
+      written = visit.written ∙ ap (λ k. capped (k + number)) sofar.written ∙ capped_add (writes a + changed) number
           ∙ ap capped (omega arith) ∙ sym (capped_add (changed + number) (writes a)) ∙ ap capped (omega arith);
-        fits = sofar.fits;
-        along = λ t.
+      fits = sofar.fits;
+      along = λ t.
           let first = laws.first a b c sofar.follows visit.follows t in
           sweeping_turn which start turns rest w changed most (rows a) (rows b) (are_rows a b first) (sofar.along first) sofar.fits (rows c) number next (visit.becomes (laws.last a b c sofar.follows visit.follows t));
-      }
+    }
 
     pub sweeps_to_end : (start turns changed most : ℕ) (a b : S) → Sweeping which start turns [] changed most a b → Sweeps which a b (Ok changed)
     sweeps_to_end start turns changed most a b sofar = record {
@@ -186,31 +186,31 @@ module _ {S : Type 0} (rows : S → Rows) (failures writes : S → ℕ) (Follows
     pub sweep_gives_up : (start turns : ℕ) (rest : List Node) (w : Node) (changed most : ℕ) (e : SpreadFault) (a b c : S) {X : Type 0} (number : X → ℕ) (Becomes : Rows → X → Rows → Type 0) → Sweeping which start turns (rest ++ w ∷ []) changed most a b
         → IsCarried rows failures writes Follows IsTrusted {X = X} number b c (Err e) (MeetsAgain which start w) Becomes → Sweeps which a c (Err e)
     sweep_gives_up start turns rest w changed most e a b c number Becomes sofar visit = record {
-        follows = laws.on a b c sofar.follows visit.follows;
-        written = tt;
-        becomes = λ t. tt;
-        fault = cause e visit.fault;
-      }
+      follows = laws.on a b c sofar.follows visit.follows;
+      written = tt;
+      becomes = λ t. tt;
+      fault = cause e visit.fault;
+    }
       where
         cause : (e : SpreadFault) → HasSpreadCause (failures b) (failures c) (λ at. IsTrusted b c → IsUnreadable (rows b) at) (IsTrusted b c → MeetsAgain which start w (rows b)) e
             → HasSpreadCause (failures a) (failures c) (λ at. IsTrusted a c → HasNoRoot (rows a) at) (IsTrusted a c → ⊥) e
         cause (Keeper f) h = later_cause (failures a) (failures b) (failures c) f _ _ (laws.rise a b sofar.follows) (laws.rise b c visit.follows)
-          (λ at damaged t.
+            (λ at damaged t.
             inl (still_unreadable which start turns (rest ++ w ∷ []) changed most at (rows a) (rows b) (sofar.along (laws.first a b c sofar.follows visit.follows t)) (damaged (laws.last a b c sofar.follows visit.follows t))))
-          h
+            h
         cause Loop h = λ t.
-          let first = laws.first a b c sofar.follows visit.follows t in
-          sweeping_no_loop which start turns rest w changed most (rows a) (rows b) (are_rows a b first) (sofar.along first) (h (laws.last a b c sofar.follows visit.follows t))
+            let first = laws.first a b c sofar.follows visit.follows t in
+            sweeping_no_loop which start turns rest w changed most (rows a) (rows b) (are_rows a b first) (sofar.along first) (h (laws.last a b c sofar.follows visit.follows t))
 
     -- a read that fails
     pub sweep_reads_fail : {X : Type 0} (a b : S) (e : KeepFault) (Blames : Rows → ℕ → Type 0) (Answers : Rows → X → Type 0) → ((r : Rows) (at : ℕ) → Blames r at → HasNoRoot r at)
         → IsRead rows failures writes Follows IsTrusted a b (Err e) Blames Answers → Sweeps which a b (Err (Keeper e))
     sweep_reads_fail a b e Blames Answers weaker read = record {
-        follows = read.follows;
-        written = tt;
-        becomes = λ t. tt;
-        fault = cause e read.fault;
-      }
+      follows = read.follows;
+      written = tt;
+      becomes = λ t. tt;
+      fault = cause e read.fault;
+    }
       where
         cause : (e : KeepFault) → HasCause (failures a) (failures b) (λ at. IsTrusted a b → Blames (rows a) at) e → HasCause (failures a) (failures b) (λ at. IsTrusted a b → HasNoRoot (rows a) at) e
         cause Memory h = tt
@@ -230,14 +230,14 @@ module _ {S : Type 0} (rows : S → Rows) (failures writes : S → ℕ) (Follows
           follows = laws.on a b c turn.follows read.follows;
           written = read.unwritten ∙ turn.written ∙ ap (λ k. capped (writes a + k)) (same ∙ sym is);
           becomes = λ t.
-            let first = laws.first a b c turn.follows read.follows t in
-            let last = laws.last a b c turn.follows read.follows t in
-            record {
-              next = list x;
-              turn = subst (λ (r : Rows). IsTurn which start above (rows a) (list x) r) (sym (read.same last)) (turn.becomes first);
-              counted = is;
-              waits = behind ∙ ap (λ (l : List Node). before ++ l) (read.answers last) ∙ ap (λ (r : Rows). before ++ children_of r.read above.id) (sym (read.same last));
-            };
+              let first = laws.first a b c turn.follows read.follows t in
+              let last = laws.last a b c turn.follows read.follows t in
+              record {
+                next = list x;
+                turn = subst (λ (r : Rows). IsTurn which start above (rows a) (list x) r) (sym (read.same last)) (turn.becomes first);
+                counted = is;
+                waits = behind ∙ ap (λ (l : List Node). before ++ l) (read.answers last) ∙ ap (λ (r : Rows). before ++ children_of r.read above.id) (sym (read.same last));
+              };
           fault = tt;
         }
 
@@ -250,10 +250,10 @@ module _ {S : Type 0} (rows : S → Rows) (failures writes : S → ℕ) (Follows
           written = tt;
           becomes = λ t. tt;
           fault = later_cause (failures a) (failures b) (failures c) e _ _ (laws.rise a b turn.follows) (laws.rise b c read.follows)
-            (λ at damaged t.
+              (λ at damaged t.
               let becomes = (turn.becomes (laws.first a b c turn.follows read.follows t)).becomes in
               ap (λ (r : Rows). is_unreadable r at) (sym becomes) ∙ damaged (laws.last a b c turn.follows read.follows t))
-            read.fault;
+              read.fault;
         }
 
       pub visit_gives_up : {X : Type 0} (a b : S) (e : SpreadFault) (next : List Node) (number : X → ℕ) (Becomes : Rows → X → Rows → Type 0)

@@ -1,25 +1,24 @@
 -- Where going through the tree begins, and where it ends.
-use Rattle.std.proofs.Common.{◌≡◌, ℕ, zero, suc, ◌+◌, ◌≤◌, ◌<◌, ◌==◌, Bool, true, false, cond, ◌||◌, List, [], ◌∷◌, ◌++◌, map, filter, length, Option, Some, None, refl, sym, ap, subst, ◌∙◌, inl, inr, ◌⊎◌, arith}
+use Rattle.std.proofs.Common.{◌≡◌, ℕ, zero, suc, ◌+◌, ◌≤◌, ◌==◌, Bool, true, false, cond, List, [], ◌∷◌, length, Option, Some, None, refl, sym, ap, subst, ◌∙◌, inl, inr, arith}
 use Rattle.std.specs.Prelude.{is_none}
-use Rattle.std.specs.List.{list_all, find}
+use Rattle.std.specs.List.{find}
 use Rattle.std.specs.Option.{option_map_or}
-use Rattle.std.proofs.lemmas.Bool.{cases_Bool, and_parts, or_left, false≢true, eq-eqb, eqb-true}
+use Rattle.std.proofs.lemmas.Bool.{or_left, false≢true, eq-eqb, eqb-true}
 use Rattle.room_ace.specs.Ace.{Ace}
 use Rattle.room_ace.specs.declared.object.Which.{Which}
 use Rattle.room_tree.specs.declared.node.Node.{Node}
-use Rattle.room_tree.specs.Content.{Content, node_at, root_of, has_parent, is_root, is_rising, reaches_root}
+use Rattle.room_tree.specs.Content.{Content, node_at, root_of, has_parent, is_rising, reaches_root}
 use Rattle.room_tree.specs.Finding.{find_id}
-use Rattle.room_tree.specs.Held.{held_of}
 use Rattle.room_inherit.specs.Law.{AllAgree}
-use Rattle.room_inherit.specs.Spread.{is_changed, with_lists}
+use Rattle.room_inherit.specs.Spread.{with_lists}
 use Rattle.room_inherit.specs.SpreadAll.{IsTree}
 use Rattle.room_inherit.proofs.Kinship.{with_own}
 use Rattle.room_inherit.proofs.Members.{Each, one_if, count, count_length}
-use Rattle.room_inherit.proofs.Children.{has_id, ids_of, each_found, found_id, each_there, apart_rising}
+use Rattle.room_inherit.proofs.Children.{ids_of, each_found, found_id, each_there, apart_rising}
 use Rattle.room_inherit.proofs.Renewing.{one_object}
-use Rattle.room_inherit.proofs.Frontier.{links, passes, AgreesOrWaits}
+use Rattle.room_inherit.proofs.Frontier.{passes}
 use Rattle.room_inherit.proofs.Ends.{own_lists, own_unchanged, law_at_end, each_all}
-use Rattle.room_inherit.proofs.Sweeping.{There, Visits, WasMet, Closed, Sweep}
+use Rattle.room_inherit.proofs.Sweeping.{Sweep}
 
 same_some : (x y : Node) → Some x ≡ Some y → x ≡ y
 same_some x y e = cc
@@ -107,17 +106,17 @@ module _ (which : Which) (old : Content) (rises : is_rising (0 ∷ ids_of old.no
             let there_q : node_at old q.id ≡ Some q = ap (node_at old) same ∙ found in
             let has : has_parent q.id n ≡ true = ap (λ x. option_map_or (λ parent. parent == q.id) x false) up ∙ eq-eqb p q.id (sym same) in
             elim (front.closed n q there there_q has (before q there_q r)) [
-              inl waiting ↦ absurd (false≢true waiting)
+              | inl waiting ↦ absurd (false≢true waiting)
               | inr met ↦ met.0
             ]
 
     all_seen : (n : Node) → node_at old n.id ≡ Some n → seen n ≡ true
     all_seen n there =
         seen_up (length old.nodes) n there n.parent refl
-          (each_found (λ m. reaches_root (length old.nodes) old m.parent ≡ true) n.id old.nodes n (each_all (λ m. reaches_root (length old.nodes) old m.parent) old.nodes tree.connected) there)
+        (each_found (λ m. reaches_root (length old.nodes) old m.parent ≡ true) n.id old.nodes n (each_all (λ m. reaches_root (length old.nodes) old m.parent) old.nodes tree.connected) there)
 
     pub law_swept : AllAgree (with_lists which f old) which
     law_swept = law_at_end which 0 old rises f (λ n p there there' has link. elim (front.closed n p there there' has (all_seen p there')) [
-      inl waiting ↦ absurd (false≢true waiting)
+      | inl waiting ↦ absurd (false≢true waiting)
       | inr met ↦ inr (met.1 link)
     ])

@@ -1,10 +1,7 @@
 -- The tree gone through from the root down.
-use Rattle.std.proofs.Common.{◌≡◌, ℕ, zero, suc, ◌+◌, ◌==◌, Bool, true, false, cond, not, ◌&&◌, ◌||◌, List, [], ◌∷◌, ◌++◌, map, filter, length, Option, Some, None, refl, sym, ap, subst, ◌∙◌, inl, inr, ◌⊎◌, arith}
-use Rattle.std.specs.Prelude.{option_and_then}
-use Rattle.std.specs.List.{list_any}
-use Rattle.std.specs.Option.{option_map, option_map_or}
-use Rattle.std.proofs.lemmas.Bool.{cases_Bool, and_from, and_parts, and_left, or_cases, or_parts, or_from, or_left, or_right, not-true, not-false, not_from_false, false≢true, eq-eqb, eqb-true, ne_eqb, cond-true, cond-false, false_from_ne_true}
-use Rattle.std.proofs.lemmas.List.Folds.{list_any-append}
+use Rattle.std.proofs.Common.{◌≡◌, ◌+◌, ◌==◌, Bool, true, false, cond, not, ◌&&◌, ◌||◌, List, [], ◌∷◌, ◌++◌, map, filter, length, Some, None, refl, sym, ap, ◌∙◌, inl, inr, ◌⊎◌}
+use Rattle.std.specs.Option.{option_map}
+use Rattle.std.proofs.lemmas.Bool.{cases_Bool, and_parts, and_left, or_cases, or_parts, or_from, or_left, or_right, not-true, not-false, not_from_false, false≢true, eq-eqb, eqb-true, cond-true, cond-false, false_from_ne_true}
 use Rattle.std.proofs.lemmas.List.{length-map}
 use Rattle.room_ace.specs.Ace.{Ace}
 use Rattle.room_ace.specs.Same.{same_entries}
@@ -19,18 +16,14 @@ use Rattle.room_tree.specs.Finding.{find_id}
 use Rattle.room_tree.specs.Held.{held_of, full_of, is_linked}
 use Rattle.room_tree.specs.Keep.{with_inh}
 use Rattle.room_inherit.specs.Pass.{pass}
-use Rattle.room_inherit.specs.Law.{AllAgreeBut}
-use Rattle.room_inherit.specs.Spread.{with_lists, is_changed, is_linked_within, IsLinkedBelow}
-use Rattle.room_inherit.specs.Turn.{is_linked_to, is_outdated, passed_to, renewed, renewals, renewed_below, is_met_again, meets_again}
-use Rattle.room_inherit.proofs.Kinship.{same_id, same_kind, with_last}
-use Rattle.room_inherit.proofs.Members.{Each, each_append, each_front, each_back, each_weaker, each_map, each_filter, count, count_length, count_map, count_agree, count_either}
-use Rattle.room_inherit.proofs.Children.{has_id, Apart, ids_of, found_id, each_there, apart_rising, apart_filter, apart_map, has_id_map, each_child, apart_children, is_such_child, count_children, no_child, some_child, is_child, length_children, each_found}
+use Rattle.room_inherit.specs.Spread.{with_lists, is_changed}
+use Rattle.room_inherit.specs.Turn.{is_linked_to, is_outdated, renewed, renewals, renewed_below, is_met_again, meets_again}
+use Rattle.room_inherit.proofs.Kinship.{same_kind, with_last}
+use Rattle.room_inherit.proofs.Members.{Each, each_append, each_front, each_back, each_weaker, count, count_length, count_map, count_agree, count_either}
+use Rattle.room_inherit.proofs.Children.{has_id, Apart, ids_of, each_there, apart_rising, apart_map, each_child, apart_children, count_children, some_child, is_child, length_children}
 use Rattle.room_inherit.proofs.Renewing.{map_agree, map_map, one_object}
-use Rattle.room_inherit.proofs.Frontier.{set, set_id, set_parent, set_held, find_set, links, passes, AgreesOrWaits}
+use Rattle.room_inherit.proofs.Frontier.{set, set_id, set_parent, set_held, find_set, links, passes}
 use Rattle.room_inherit.proofs.OneTurn.{parent_is, parent_found, same_above, has_either, apart_join, apart_front, apart_last, has_last, or_false, base_of}
-use Rattle.room_inherit.proofs.Ends.{own_lists, own_unchanged, law_at_end}
-use Rattle.room_inherit.specs.Law.{AllAgree}
-use Rattle.room_inherit.specs.SpreadAll.{IsTree}
 
 module _ (which : Which) (old : Content) (root : Node) where
   abbrev pub There : Node → Type 0
@@ -139,9 +132,9 @@ module _ (which : Which) (old : Content) (rises : is_rising (0 ∷ ids_of old.no
 
   unseen_child : (n : Node) → There which old root n → child n ≡ true → seen n ≡ false
   unseen_child n there has = false_from_ne_true (seen n) (λ is. elim (front.came n there is) [
-      inl same ↦ no_parent (sym top ∙ ap (λ (x : Node). x.parent) (sym same) ∙ parent_is w.id n has)
-      | inr c ↦ false≢true (sym c.taken ∙ ap (λ i. has_id i (rest ++ w ∷ [])) (same_above c.parent.id w.id n c.has has) ∙ has_last rest w)
-    ])
+    | inl same ↦ no_parent (sym top ∙ ap (λ (x : Node). x.parent) (sym same) ∙ parent_is w.id n has)
+    | inr c ↦ false≢true (sym c.taken ∙ ap (λ i. has_id i (rest ++ w ∷ [])) (same_above c.parent.id w.id n c.has has) ∙ has_last rest w)
+  ])
     where
       no_parent : None ≡ Some w.id → ⊥
       no_parent e = cc
@@ -175,11 +168,11 @@ module _ (which : Which) (old : Content) (rises : is_rising (0 ∷ ids_of old.no
       let parts = stale_parts n is in
       let before : f n ≡ (held_of which n).inh = entries_equal (f n) (held_of which n).inh (not-false (same_entries (f n) (held_of which n).inh) (child_unchanged n there parts.0)) in
       not_from_false (same_entries (after n) (held_of which n).inh) (false_from_ne_true (same_entries (after n) (held_of which n).inh) (λ same.
-        false≢true (sym parts.2 ∙ equal_entries (f n) (passes which f w0 n) (before ∙ sym (entries_equal (after n) (held_of which n).inh same) ∙ takes n is))))
+      false≢true (sym parts.2 ∙ equal_entries (f n) (passes which f w0 n) (before ∙ sym (entries_equal (after n) (held_of which n).inh same) ∙ takes n is))))
 
   changed_is : (n : Node) → There which old root n → is_changed which after n ≡ (is_changed which f n || stale n)
   changed_is n there = elim (cases_Bool (stale n)) [
-    inl is ↦ changed_stale n there is ∙ sym (or_right (is_changed which f n) (stale n) is)
+    | inl is ↦ changed_stale n there is ∙ sym (or_right (is_changed which f n) (stale n) is)
     | inr isnt ↦ ap (λ e. not (same_entries e (held_of which n).inh)) (keeps n isnt) ∙ sym (or_false (is_changed which f n)) ∙ ap (λ t. is_changed which f n || t) (sym isnt)
   ]
 
@@ -259,37 +252,39 @@ module _ (which : Which) (old : Content) (rises : is_rising (0 ∷ ids_of old.no
   child_agrees n p there there' has link is =
       let one : w0 ≡ p = one_object old.nodes w0 p waits.there there' (sym w_id ∙ sym is) in
       let gives : passes which f w0 n ≡ passes which after p n =
-        ap (λ l. pass n.kind ((held_of which w0).own ++ l)) (sym (keeps_seen w0 waits.there waits.seen_is)) ∙ ap (λ x. passes which after x n) one in
+      ap (λ l. pass n.kind ((held_of which w0).own ++ l)) (sym (keeps_seen w0 waits.there waits.seen_is)) ∙ ap (λ x. passes which after x n) one in
       elim (cases_Bool (stale n)) [
-        inl st ↦ takes n st ∙ gives
+        | inl st ↦ takes n st ∙ gives
         | inr fresh ↦
-          let has_w : has_parent w.id n ≡ true = ap (λ i. has_parent i n) (sym is) ∙ has in
-          let link_w : links which w0 n ≡ true = ap (λ x. links which x n) one ∙ link in
-          let same : same_entries (f n) (passes which f w0 n) ≡ true = not-false (same_entries (f n) (passes which f w0 n)) (sym (λ i. has_w i && (link_w i && not (same_entries (f n) (passes which f w0 n)))) ∙ fresh) in
-          keeps n fresh ∙ entries_equal (f n) (passes which f w0 n) same ∙ gives
+            let has_w : has_parent w.id n ≡ true = ap (λ i. has_parent i n) (sym is) ∙ has in
+            let link_w : links which w0 n ≡ true = ap (λ x. links which x n) one ∙ link in
+            let same : same_entries (f n) (passes which f w0 n) ≡ true = not-false (same_entries (f n) (passes which f w0 n)) (sym (λ i. has_w i && (link_w i && not (same_entries (f n) (passes which f w0 n)))) ∙ fresh) in
+            keeps n fresh ∙ entries_equal (f n) (passes which f w0 n) same ∙ gives
       ]
 
   other_agrees : (n p : Node) → There which old root n → There which old root p → has_parent p.id n ≡ true → seen p ≡ true → (p.id == w.id) ≡ false
       → (has_id p.id (rest ++ w ∷ []) ≡ true) ⊎ ((seen n ≡ true) × (links which p n ≡ true → f n ≡ passes which f p n)) → Goal n p
   other_agrees n p there there' has is other (inl waiting) =
       elim (or_cases (has_id p.id rest) (has_id p.id (w ∷ [])) (sym (has_either p.id rest (w ∷ [])) ∙ waiting)) [
-        inl still ↦ inl (has_either p.id rest kids ∙ or_left (has_id p.id rest) (has_id p.id kids) still)
+        | inl still ↦ inl (has_either p.id rest kids ∙ or_left (has_id p.id rest) (has_id p.id kids) still)
         | inr last ↦ absurd (false≢true (sym other ∙ eq-eqb p.id w.id (sym (eqb-true w.id p.id (sym (or_false (w.id == p.id)) ∙ last)))))
       ]
   other_agrees n p there there' has is other (inr agrees) =
       let isnt : child n ≡ false = false_from_ne_true (child n) (λ has'. false≢true (sym other ∙ eq-eqb p.id w.id (same_above p.id w.id n has has'))) in
-      inr (or_left (seen n) (child n) agrees.0,
-        λ link. keeps n (not_stale n isnt) ∙ agrees.1 link ∙ ap (λ l. pass n.kind ((held_of which p).own ++ l)) (sym (keeps_seen p there' is)))
+      inr (
+        or_left (seen n) (child n) agrees.0,
+        λ link. keeps n (not_stale n isnt) ∙ agrees.1 link ∙ ap (λ l. pass n.kind ((held_of which p).own ++ l)) (sym (keeps_seen p there' is)),
+      )
 
   closed_after : Closed which old root after seen_after (rest ++ kids)
   closed_after n p there there' has is = elim (cases_Bool (p.id == w.id)) [
-    inl same ↦
-      let e = eqb-true p.id w.id same in
-      inr (or_right (seen n) (child n) (ap (λ i. has_parent i n) (sym e) ∙ has), λ link. child_agrees n p there there' has link e)
+    | inl same ↦
+        let e = eqb-true p.id w.id same in
+        inr (or_right (seen n) (child n) (ap (λ i. has_parent i n) (sym e) ∙ has), λ link. child_agrees n p there there' has link e)
     | inr other ↦ elim (or_cases (seen p) (child p) is) [
-        inl before ↦ other_agrees n p there there' has before other (front.closed n p there there' has before)
-        | inr now_met ↦ inl (has_either p.id rest kids ∙ or_right (has_id p.id rest) (has_id p.id kids) (kids_has p there' ∙ now_met))
-      ]
+      | inl before ↦ other_agrees n p there there' has before other (front.closed n p there there' has before)
+      | inr now_met ↦ inl (has_either p.id rest kids ∙ or_right (has_id p.id rest) (has_id p.id kids) (kids_has p there' ∙ now_met))
+    ]
   ]
 
   linked_now : (n : Node) → stale n ≡ true → is_linked_in old which n ≡ true
@@ -303,15 +298,15 @@ module _ (which : Which) (old : Content) (rises : is_rising (0 ∷ ids_of old.no
     known = each_append (Visits which old root after seen_after) rest kids (each_weaker (Visits which old root f seen) (Visits which old root after seen_after) rest_visits rest (each_front (Visits which old root f seen) rest (w ∷ []) front.known)) kids_visit;
     apart = apart_join rest kids (apart_front rest (w ∷ []) front.apart) (apart_children later apart_later w.id) (each_weaker (Visits which old root f seen) (λ r. has_id r.id kids ≡ false) rest_apart rest (each_front (Visits which old root f seen) rest (w ∷ []) front.known));
     came = λ n there is. elim (or_cases (seen n) (child n) is) [
-      inl before ↦ came_before n (front.came n there before)
+      | inl before ↦ came_before n (front.came n there before)
       | inr has ↦ came_now n has
     ];
     closed = closed_after;
     fresh = λ n there isnt.
-      let parts = or_parts (seen n) (child n) isnt in
-      ap (λ e. not (same_entries e (held_of which n).inh)) (keeps n (not_stale n parts.1)) ∙ front.fresh n there parts.0;
+        let parts = or_parts (seen n) (child n) isnt in
+        ap (λ e. not (same_entries e (held_of which n).inh)) (keeps n (not_stale n parts.1)) ∙ front.fresh n there parts.0;
     linked = λ n there changed. elim (or_cases (is_changed which f n) (stale n) (sym (changed_is n there) ∙ changed)) [
-      inl before ↦ front.linked n there before
+      | inl before ↦ front.linked n there before
       | inr st ↦ linked_now n st
     ];
     from_root = or_left (seen root) (child root) front.from_root;
@@ -327,6 +322,7 @@ module _ (which : Which) (old : Content) (rises : is_rising (0 ∷ ids_of old.no
       every : (xs : List Node) → Each (λ n. has_parent w.id (set which after n) ≡ child n) xs
       every [] = tt
       every (x ∷ xs) = (set_parent which after w.id x, every xs)
+
       number : length kids ≡ count child old.nodes
       number = length_children later apart_later w.id ∙ count_map (has_parent w.id) (set which after) old.nodes ∙ count_agree (λ n. has_parent w.id (set which after n)) child old.nodes (every old.nodes)
 
@@ -336,13 +332,14 @@ module _ (which : Which) (old : Content) (rises : is_rising (0 ∷ ids_of old.no
   pub count_after : count (is_changed which after) old.nodes ≡ count (is_changed which f) old.nodes + length written
   count_after =
       count_either (is_changed which f) stale (is_changed which after) old.nodes
-        (each_there (λ n. (is_changed which after n ≡ (is_changed which f n || stale n)) × (stale n ≡ true → is_changed which f n ≡ false)) old.nodes apart_old
-          (λ n there. (changed_is n there, λ st. child_unchanged n there (stale_parts n st).0)))
+      (each_there (λ n. (is_changed which after n ≡ (is_changed which f n || stale n)) × (stale n ≡ true → is_changed which f n ≡ false)) old.nodes apart_old
+      (λ n there. (changed_is n there, λ st. child_unchanged n there (stale_parts n st).0)))
       ∙ ap (λ k. count (is_changed which f) old.nodes + k) (sym number)
     where
       every : (xs : List Node) → Each (λ n. (has_parent w.id (set which f n) && is_outdated which w (set which f n)) ≡ stale n) xs
       every [] = tt
       every (x ∷ xs) = (stale_is x, every xs)
+
       number : length written ≡ count stale old.nodes
       number =
           length-map (filter (is_outdated which w) (children_of now w.id)) (renewed which w) ∙ count_length (is_outdated which w) (children_of now w.id) ∙ count_children now apart_now (is_outdated which w) w.id
@@ -356,6 +353,7 @@ module _ (which : Which) (old : Content) (rises : is_rising (0 ∷ ids_of old.no
     where
       no_parent : None ≡ Some w.id → ⊥
       no_parent e = cc
+
       found : (m : Node) → node_at now m.id ≡ Some m → has_parent w.id m ≡ true → is_met_again which root.id w m ≡ true → ⊥
       found m there_m has met_m =
           let b = base_of which f m (find_id m.id old.nodes) (sym (find_set which f m.id old.nodes) ∙ there_m) in

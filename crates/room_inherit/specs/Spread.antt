@@ -1,5 +1,5 @@
 -- How a change of a list is carried down to the stored lists below it (RFC 8881, section 6.4.3).
-use Rattle.std.specs.Prelude.{◌≡◌, ℕ, zero, suc, ◌+◌, ◌&&◌, ◌||◌, Bool, false, not, List, Option, Some, Result, IfOk, IfErr, IsTrue, count_by}
+use Rattle.std.specs.Prelude.{◌≡◌, ℕ, zero, suc, ◌+◌, ◌&&◌, ◌||◌, Bool, false, not, List, Some, Result, IfOk, IfErr, IsTrue, count_by}
 use Rattle.std.specs.Option.{option_map_or}
 use Rattle.room_ace.specs.Ace.{Ace}
 use Rattle.room_ace.specs.Same.{same_entries}

@@ -18,7 +18,7 @@ pub record IsTree (rows : Content) : Type 0 where
   pub one_root : length (filter is_root rows.nodes) ≡ 1
   pub connected : IsTrue (list_all (λ node. reaches_root (length rows.nodes) rows node.parent) rows.nodes)
 
--- The rows are as they were but for inherited entries of this attribute at linked objects, of which so many are different now. In a tree the law holds.
+-- The rows are as they were but for inherited entries of this attribute at linked objects, of which so many are different now, fewer than 2 ^ 63. In a tree the law holds.
 pub record IsSwept (which : Which) (old new : Rows) (changed : ℕ) : Type 0 where
   pub lists : Node → List Ace
   pub becomes : new ≡ reading old (with_lists which lists old.read)

@@ -11,7 +11,6 @@ use Rattle.room_tree.specs.Held.{held_of, full_of, is_linked}
 use Rattle.room_tree.specs.Keep.{reading, with_inh}
 use Rattle.room_tree.specs.Rows.{Rows}
 use Rattle.room_inherit.specs.Pass.{pass}
-use Rattle.room_inherit.specs.declared.outcome.Spread.{Spread}
 use Rattle.room_inherit.specs.declared.outcome.SpreadFault.{SpreadFault}
 use Rattle.room_inherit.specs.declared.outcome.SpreadFault.TheVariants.{Keeper, Loop}
 

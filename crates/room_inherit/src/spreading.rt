@@ -11,7 +11,12 @@ use std::alloc::Global;
 /// object that is linked there, through linked ones, stores what its parent's list passes to it.
 /// An object that stores it already isn't written, and nothing below it is looked at. `Loop` comes
 /// where the object is its own ancestor.
-pub fn spread<K: Keep>(alloc: Global, keep: &mut K, id: u64, which: Which) -> Result<Spread, SpreadFault>
+pub fn spread<K: Keep>(
+    alloc: Global,
+    keep: &mut K,
+    id: u64,
+    which: Which,
+) -> Result<Spread, SpreadFault>
     ensures spread { IsCarried K.rows K.failures K.writes K.Follows K.IsTrusted (λ spread. spread.changed) keep.old keep.new result (λ rows. IsOwnAncestor rows.read id) (λ old spread new. IsSpread which id old new spread.changed) }
 {
     let most = keep.ids()?.as_slice().len();

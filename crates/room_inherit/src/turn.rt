@@ -3,7 +3,14 @@ ghost use Rattle.std.specs.Prelude.{◌≡◌, IfOk, IfErr, length, true, false}
 ghost use Rattle.room_tree.specs.Held.{held_of, full_of};
 ghost use Rattle.room_inherit.specs.Spread.{IsCarried};
 ghost use Rattle.room_inherit.specs.Turn.{
-    AreKnown, IsMemoryOr, IsTurn, MeetsAgain, StoresLists, meets_again, renewal, renewals,
+  AreKnown,
+  IsMemoryOr,
+  IsTurn,
+  MeetsAgain,
+  StoresLists,
+  meets_again,
+  renewal,
+  renewals,
 };
 
 use crate::inheriting::linked;
@@ -13,7 +20,8 @@ use room_ace::{Entry, Which};
 use room_tree::{Keep, Node};
 use std::alloc::{AllocError, Global};
 
-/// Renews the outdated children of an object, and answers them. The object `start` is not to be among its linked children.
+/// Renews the outdated children of an object, and answers them. `Loop` comes where the object `start`
+/// is among its linked children.
 pub(crate) fn renew_children<K: Keep>(
     alloc: Global,
     keep: &mut K,
@@ -29,7 +37,8 @@ pub(crate) fn renew_children<K: Keep>(
     Ok(next)
 }
 
-// Stores the inherited entries of these objects. Whether they are known in the rows is the caller's to know.
+// Stores the inherited entries of these objects, each of which is in the rows but for them. That is
+// the caller's to know.
 fn store_lists<K: Keep>(keep: &mut K, nodes: &[Node], which: Which) -> Result<(), SpreadFault>
     ensures stored { IsCarried K.rows K.failures K.writes K.Follows (λ old new. K.IsTrusted old new × AreKnown which nodes.now (K.rows old).read) (λ _. length nodes.now) keep.old keep.new result (λ _. ⊥) (StoresLists nodes.now) }
 {

@@ -23,12 +23,9 @@ pub fn spread_all<K: Keep>(alloc: Global, keep: &mut K) -> Result<Spread, Spread
     })
 }
 
-// Goes through the tree from the root down, and stores in each linked object what its parent's list passes to it, for one of the lists. It answers how many lists became different.
-fn sweep<K: Keep>(
-    alloc: Global,
-    keep: &mut K,
-    which: Which,
-) -> Result<u64, SpreadFault>
+// Goes through the tree from the root down, and stores in each linked object what its parent's list
+// passes to it, for one of the lists. It answers how many lists became different.
+fn sweep<K: Keep>(alloc: Global, keep: &mut K, which: Which) -> Result<u64, SpreadFault>
     ensures swept { IsCarriedDown K.rows K.failures K.writes K.Follows K.IsTrusted (λ changed. changed) keep.old keep.new result (λ old changed new. IsSwept which old new changed) }
 {
     let most = keep.ids()?.as_slice().len();
@@ -51,7 +48,8 @@ fn sweep<K: Keep>(
     }
 }
 
-// Renews the outdated children of an object, says how many they were, and puts all its children behind those that wait.
+// Renews the outdated children of an object, says how many they were, and puts all its children
+// behind those that wait.
 fn visit_children<K: Keep>(
     alloc: Global,
     keep: &mut K,

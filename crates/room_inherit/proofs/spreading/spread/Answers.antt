@@ -1,12 +1,11 @@
-use Rattle.std.proofs.Common.{◌≡◌, ℕ, ◌+◌, ◌-◌, ◌<◌, ◌≤◌, ◌^◌, min, length, List, [], ◌∷◌, ◌++◌, Option, Some, None, Result, Ok, Err, Vec, Global, refl, sym, ap, subst, ◌∙◌, arith}
+use Rattle.std.proofs.Common.{◌≡◌, ℕ, ◌+◌, ◌<◌, ◌^◌, length, List, [], ◌∷◌, ◌++◌, Option, Result, Ok, Err, Vec, Global, refl, sym, ap, subst, ◌∙◌, arith}
 use Rattle.std.proofs.lemmas.Bool.{eqb-true, eqb-false}
-use Rattle.room_tree.specs.declared.keep.KeepFault.TheVariants.{Memory, Damaged}
+use Rattle.room_tree.specs.declared.keep.KeepFault.TheVariants.{Memory}
 use Rattle.room_tree.specs.declared.node.Node.{Node}
-use Rattle.room_tree.specs.Keep.{IsRead, IsUnreadable, IsUnreadableAt, IsNever, IsNodeAt, AreNumbers, capped}
-use Rattle.room_tree.specs.Rows.{Rows, is_unreadable}
-use Rattle.room_tree.proofs.Steps.{Laws, HasRead, seen, read_on}
-use Rattle.room_inherit.specs.Spread.{IsCarried, IsOwnAncestor, IsSpread}
-use Rattle.room_inherit.specs.Turn.{IsTurn, MeetsAgain}
+use Rattle.room_tree.specs.Keep.{IsRead, IsUnreadableAt, IsNever, IsNodeAt, AreNumbers, capped}
+use Rattle.room_tree.specs.Rows.{Rows}
+use Rattle.room_tree.proofs.Steps.{Laws, seen, read_on}
+use Rattle.room_inherit.specs.Turn.{IsTurn}
 use Rattle.room_inherit.specs.declared.outcome.Spread.{Spread}
 use Rattle.room_inherit.specs.declared.outcome.SpreadFault.{SpreadFault}
 use Rattle.room_inherit.specs.declared.outcome.SpreadFault.TheVariants.{Keeper}
@@ -24,7 +23,7 @@ returns-in_err-ids g c =
     let is = handed_on c.from_residual.result (Keeper c.in_err-ids.field-0.0) c.from_residual.ensures.1 in
     record {
       spread = subst (λ (r : Result Spread SpreadFault). Spreads k.rows k.failures k.writes k.Follows k.IsTrusted c.args.which start a c.ids.new.self r) (sym is)
-        (reads_fail k.rows k.failures k.writes k.Follows k.IsTrusted laws m.are_rows (λ s. (m.counts_end s).1) c.args.which start a c.ids.new.self c.in_err-ids.field-0.0 IsNever AreNumbers (λ r at never. absurd never) c.in_err-ids.ensures.read);
+          (reads_fail k.rows k.failures k.writes k.Follows k.IsTrusted laws m.are_rows (λ s. (m.counts_end s).1) c.args.which start a c.ids.new.self c.in_err-ids.field-0.0 IsNever AreNumbers (λ r at never. absurd never) c.in_err-ids.ensures.read);
     }
 
 pub returns-in_err-start : goal.returns-in_err-start
@@ -38,7 +37,7 @@ returns-in_err-start g c =
     let both = read_on k.rows k.failures k.writes k.Follows k.IsTrusted laws a c.ids.new.self c.node.new.self (Err c.in_err-start.field-0.0) (seen k.rows k.failures k.writes k.Follows k.IsTrusted a c.ids.new.self c.in_ok-ids.field-0 c.in_ok-ids.ensures.read) c.in_err-start.ensures.read in
     record {
       spread = subst (λ (r : Result Spread SpreadFault). Spreads k.rows k.failures k.writes k.Follows k.IsTrusted c.args.which start a c.node.new.self r) (sym is)
-        (reads_fail k.rows k.failures k.writes k.Follows k.IsTrusted laws m.are_rows (λ s. (m.counts_end s).1) c.args.which start a c.node.new.self c.in_err-start.field-0.0 (IsUnreadableAt start) (IsNodeAt start) (λ r at damaged. damaged.1) both);
+          (reads_fail k.rows k.failures k.writes k.Follows k.IsTrusted laws m.are_rows (λ s. (m.counts_end s).1) c.args.which start a c.node.new.self c.in_err-start.field-0.0 (IsUnreadableAt start) (IsNodeAt start) (λ r at damaged. damaged.1) both);
     }
 
 pub returns-in_default : goal.returns-in_default
@@ -66,7 +65,7 @@ returns-in_err-push g c =
     let is = handed_on c.from_residual-in_err-push.result (Keeper Memory) c.from_residual-in_err-push.ensures.1 in
     record {
       spread = subst (λ (r : Result Spread SpreadFault). Spreads k.rows k.failures k.writes k.Follows k.IsTrusted c.args.which start a c.node.new.self r) (sym is)
-        (without_memory k.rows k.failures k.writes k.Follows k.IsTrusted laws m.are_rows (λ s. (m.counts_end s).1) c.args.which start 0 (c.in-Some.start ∷ []) 0 most a c.node.new.self first);
+          (without_memory k.rows k.failures k.writes k.Follows k.IsTrusted laws m.are_rows (λ s. (m.counts_end s).1) c.args.which start 0 (c.in-Some.start ∷ []) 0 most a c.node.new.self first);
     }
 
 pub turns-init : goal.turns-init
@@ -95,7 +94,7 @@ returns-in_default-pop g c =
     let none : c.turns.waiting.items ≡ [] = no_length c.turns.waiting.items (sym c.turns.waiting.ok.0 ∙ c.in_default-pop.ensures.cases.0) in
     record {
       spread = carries_to_end k.rows k.failures k.writes k.Follows k.IsTrusted laws m.are_rows (λ s. (m.counts_end s).1) c.args.which start c.turns._turn c.turns.changed most a c.turns.keep
-        (subst (λ (l : List Node). Carrying k.rows k.failures k.writes k.Follows k.IsTrusted c.args.which start c.turns._turn l c.turns.changed most a c.turns.keep) none c.turns.invariant);
+          (subst (λ (l : List Node). Carrying k.rows k.failures k.writes k.Follows k.IsTrusted c.args.which start c.turns._turn l c.turns.changed most a c.turns.keep) none c.turns.invariant);
     }
 
 pub returns-in_err-next : goal.returns-in_err-next
@@ -115,7 +114,7 @@ returns-in_err-next g c =
     let is = handed_on c.from_residual-in_err-next.result fault c.from_residual-in_err-next.ensures.1 in
     record {
       spread = subst (λ (r : Result Spread SpreadFault). Spreads k.rows k.failures k.writes k.Follows k.IsTrusted c.args.which start a c.renew_children.new.keep r) (sym is)
-        (turn_gives_up k.rows k.failures k.writes k.Follows k.IsTrusted laws m.are_rows (λ s. (m.counts_end s).1) c.args.which start c.turns._turn rest w c.turns.changed most fault a c.turns.keep c.renew_children.new.keep (λ (v : Vec Node Global). length v.items) Becomes sofar c.in_err-next.ensures.turn);
+          (turn_gives_up k.rows k.failures k.writes k.Follows k.IsTrusted laws m.are_rows (λ s. (m.counts_end s).1) c.args.which start c.turns._turn rest w c.turns.changed most fault a c.turns.keep c.renew_children.new.keep (λ (v : Vec Node Global). length v.items) Becomes sofar c.in_err-next.ensures.turn);
     }
 
 pub returns-in_err-append : goal.returns-in_err-append
@@ -136,7 +135,7 @@ returns-in_err-append g c =
     let is = handed_on c.from_residual-in_err-append.result (Keeper Memory) c.from_residual-in_err-append.ensures.1 in
     record {
       spread = subst (λ (r : Result Spread SpreadFault). Spreads k.rows k.failures k.writes k.Follows k.IsTrusted c.args.which start a c.renew_children.new.keep r) (sym is)
-        (without_memory k.rows k.failures k.writes k.Follows k.IsTrusted laws m.are_rows (λ s. (m.counts_end s).1) c.args.which start (c.turns._turn + 1) (rest ++ next) (capped (c.turns.changed + length next)) most a c.renew_children.new.keep further);
+          (without_memory k.rows k.failures k.writes k.Follows k.IsTrusted laws m.are_rows (λ s. (m.counts_end s).1) c.args.which start (c.turns._turn + 1) (rest ++ next) (capped (c.turns.changed + length next)) most a c.renew_children.new.keep further);
     }
 
 pub turns-preserved : goal.turns-preserved
@@ -157,7 +156,7 @@ turns-preserved g c =
     let items : c.append.new.self.items ≡ rest ++ next = c.in_ok-append.ensures.items in
     let sum : c.saturating_add-changed.result ≡ capped (c.turns.changed + length next) = c.saturating_add-changed.ensures ∙ ap (λ (n : ℕ). capped (c.turns.changed + n)) (c.len.ensures ∙ c.in_ok-next.next.ok.0) in
     subst (λ (l : List Node). Carrying k.rows k.failures k.writes k.Follows k.IsTrusted c.args.which start (c.turns._turn + 1) l c.saturating_add-changed.result most a c.renew_children.new.keep) (sym items)
-      (subst (λ (n : ℕ). Carrying k.rows k.failures k.writes k.Follows k.IsTrusted c.args.which start (c.turns._turn + 1) (rest ++ next) n most a c.renew_children.new.keep) (sym sum) further)
+    (subst (λ (n : ℕ). Carrying k.rows k.failures k.writes k.Follows k.IsTrusted c.args.which start (c.turns._turn + 1) (rest ++ next) n most a c.renew_children.new.keep) (sym sum) further)
 
 pub returns-then-is_empty : goal.returns-then-is_empty
 returns-then-is_empty g c =
@@ -170,7 +169,7 @@ returns-then-is_empty g c =
     let none : c.turns.waiting.items ≡ [] = no_length c.turns.waiting.items (sym c.turns.waiting.ok.0 ∙ eqb-true c.turns.waiting.len 0 (sym c.is_empty.ensures ∙ c.if-is_empty.true)) in
     record {
       spread = carries_to_end k.rows k.failures k.writes k.Follows k.IsTrusted laws m.are_rows (λ s. (m.counts_end s).1) c.args.which start c.turns._turn c.turns.changed most a c.turns.keep
-        (subst (λ (l : List Node). Carrying k.rows k.failures k.writes k.Follows k.IsTrusted c.args.which start c.turns._turn l c.turns.changed most a c.turns.keep) none c.turns.invariant);
+          (subst (λ (l : List Node). Carrying k.rows k.failures k.writes k.Follows k.IsTrusted c.args.which start c.turns._turn l c.turns.changed most a c.turns.keep) none c.turns.invariant);
     }
 
 pub returns : goal.returns
@@ -185,5 +184,5 @@ returns g c =
     let all : c.turns._turn ≡ most = let below = c.turns-test.false in let ends = c.turns.auto._turn-end in omega (arith, below, ends) in
     record {
       spread = never_too_many k.rows k.failures k.writes k.Follows k.IsTrusted laws m.are_rows (λ s. (m.counts_end s).1) c.args.which start c.turns.waiting.items c.turns.changed most start a c.turns.keep some
-        (subst (λ (n : ℕ). Carrying k.rows k.failures k.writes k.Follows k.IsTrusted c.args.which start n c.turns.waiting.items c.turns.changed most a c.turns.keep) all c.turns.invariant);
+          (subst (λ (n : ℕ). Carrying k.rows k.failures k.writes k.Follows k.IsTrusted c.args.which start n c.turns.waiting.items c.turns.changed most a c.turns.keep) all c.turns.invariant);
     }

@@ -1,4 +1,4 @@
-use Rattle.std.proofs.Common.{◌≡◌, ℕ, false, List, Ok, Err, Vec, Global, refl, sym, ap, subst, ◌∙◌, length}
+use Rattle.std.proofs.Common.{◌≡◌, false, List, Ok, Err, Vec, Global, refl, sym, ap, subst, ◌∙◌, length}
 use Rattle.room_tree.specs.Rows.{Rows}
 use Rattle.room_tree.specs.declared.node.Node.{Node}
 use Rattle.room_tree.proofs.Steps.{Laws}
@@ -19,9 +19,9 @@ returns g c =
     let apart : meets_again c.args.which c.args.start above children ≡ false = ap (meets_again c.args.which c.args.start above) (sym c.as_slice.ensures) ∙ c.in_ok-next.ensures.not_met in
     record {
       turn = turn_done k.rows k.failures k.writes k.Follows k.IsTrusted laws m.are_rows c.args.which c.args.start above children c.args.keep.now c.children.new.self c.in_ok-children.ensures.read
-        next c.store_lists.new.keep made apart
-        (subst (λ (l : List Node). IsCarried k.rows k.failures k.writes k.Follows (λ old new. k.IsTrusted old new × AreKnown c.args.which l (k.rows old).read) (λ _. length l) c.children.new.self c.store_lists.new.keep (Ok c.in_ok-store_lists.field-0) (λ _. ⊥) (StoresLists l)) c.as_slice-2.ensures.value c.in_ok-store_lists.ensures.stored)
-        c.in_ok-next.next (λ v. length v.items) (λ v. v.items) refl refl;
+          next c.store_lists.new.keep made apart
+          (subst (λ (l : List Node). IsCarried k.rows k.failures k.writes k.Follows (λ old new. k.IsTrusted old new × AreKnown c.args.which l (k.rows old).read) (λ _. length l) c.children.new.self c.store_lists.new.keep (Ok c.in_ok-store_lists.field-0) (λ _. ⊥) (StoresLists l)) c.as_slice-2.ensures.value c.in_ok-store_lists.ensures.stored)
+          c.in_ok-next.next (λ v. length v.items) (λ v. v.items) refl refl;
     }
 
 pub returns-in_err-store_lists : goal.returns-in_err-store_lists
@@ -38,7 +38,7 @@ returns-in_err-store_lists g c =
     let Becomes : Rows → Vec Node Global → Rows → Type 0 = λ old v new. IsTurn c.args.which c.args.start above old v.items new in
     record {
       turn = subst (λ r. IsCarried k.rows k.failures k.writes k.Follows k.IsTrusted (λ v. length v.items) c.args.keep.now c.store_lists.new.keep r (MeetsAgain c.args.which c.args.start above) Becomes) (sym is)
-        (turn_fails k.rows k.failures k.writes k.Follows k.IsTrusted laws m.are_rows c.args.which c.args.start above children c.args.keep.now c.children.new.self c.in_ok-children.ensures.read
+          (turn_fails k.rows k.failures k.writes k.Follows k.IsTrusted laws m.are_rows c.args.which c.args.start above children c.args.keep.now c.children.new.self c.in_ok-children.ensures.read
           next c.store_lists.new.keep fault made
           (subst (λ (l : List Node). IsCarried k.rows k.failures k.writes k.Follows (λ old new. k.IsTrusted old new × AreKnown c.args.which l (k.rows old).read) {X = Unit {0}} (λ _. length l) c.children.new.self c.store_lists.new.keep (Err fault) (λ _. ⊥) (StoresLists l)) c.as_slice-2.ensures.value c.in_err-store_lists.ensures.stored)
           (λ (v : Vec Node Global). length v.items) Becomes);

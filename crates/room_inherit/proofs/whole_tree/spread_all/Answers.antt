@@ -1,5 +1,4 @@
-use Rattle.std.proofs.Common.{◌≡◌, ℕ, ◌+◌, Result, Ok, Err, sym, subst}
-use Rattle.room_tree.specs.Keep.{capped}
+use Rattle.std.proofs.Common.{ℕ, Result, Ok, sym, subst}
 use Rattle.room_tree.proofs.Steps.{Laws}
 use Rattle.room_inherit.specs.declared.outcome.Spread.{Spread}
 use Rattle.room_inherit.specs.declared.outcome.SpreadFault.{SpreadFault}
@@ -35,5 +34,5 @@ returns g c =
     let a = c.args.keep.now in
     record {
       spread = subst (λ (n : ℕ). SpreadsAll k.rows k.failures k.writes k.Follows k.IsTrusted a c.sweep-2.new.keep (Ok (record { changed = n }))) (sym c.saturating_add.ensures)
-        (both_done k.rows k.failures k.writes k.Follows k.IsTrusted laws a c.sweep.new.keep c.sweep-2.new.keep c.in_ok-dacls.dacls c.in_ok-dacls.ensures.swept c.in_ok-sacls.sacls c.in_ok-sacls.ensures.swept);
+          (both_done k.rows k.failures k.writes k.Follows k.IsTrusted laws a c.sweep.new.keep c.sweep-2.new.keep c.in_ok-dacls.dacls c.in_ok-dacls.ensures.swept c.in_ok-sacls.sacls c.in_ok-sacls.ensures.swept);
     }

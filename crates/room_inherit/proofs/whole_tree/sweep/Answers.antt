@@ -1,10 +1,10 @@
-use Rattle.std.proofs.Common.{◌≡◌, ℕ, ◌+◌, ◌-◌, ◌<◌, ◌≤◌, ◌^◌, min, length, List, [], ◌∷◌, ◌++◌, Option, Some, None, Result, Ok, Err, Vec, Global, refl, sym, ap, subst, ◌∙◌, arith, inl, inr}
+use Rattle.std.proofs.Common.{◌≡◌, ℕ, ◌+◌, ◌<◌, ◌^◌, length, List, [], ◌∷◌, ◌++◌, Result, Err, sym, ap, subst, ◌∙◌, arith}
 use Rattle.std.proofs.lemmas.Bool.{eqb-true, eqb-false}
-use Rattle.room_tree.specs.declared.keep.KeepFault.TheVariants.{Memory, Damaged}
+use Rattle.room_tree.specs.declared.keep.KeepFault.TheVariants.{Memory}
 use Rattle.room_tree.specs.declared.node.Node.{Node}
-use Rattle.room_tree.specs.Keep.{IsRead, HasNoRoot, IsRootOf, IsNever, AreNumbers, capped}
+use Rattle.room_tree.specs.Keep.{HasNoRoot, IsRootOf, IsNever, AreNumbers}
 use Rattle.room_tree.specs.Rows.{Rows}
-use Rattle.room_tree.proofs.Steps.{Laws, HasRead, seen, read_on}
+use Rattle.room_tree.proofs.Steps.{Laws, seen, read_on}
 use Rattle.room_inherit.specs.SpreadAll.{IsVisit}
 use Rattle.room_inherit.specs.declared.outcome.SpreadFault.{SpreadFault}
 use Rattle.room_inherit.specs.declared.outcome.SpreadFault.TheVariants.{Keeper}
@@ -22,7 +22,7 @@ returns-in_err-ids g c =
     let is = handed_on c.from_residual.result (Keeper c.in_err-ids.field-0.0) c.from_residual.ensures.1 in
     record {
       swept = subst (λ (r : Result ℕ SpreadFault). Sweeps k.rows k.failures k.writes k.Follows k.IsTrusted c.args.which a c.ids.new.self r) (sym is)
-        (sweep_reads_fail k.rows k.failures k.writes k.Follows k.IsTrusted laws m.are_rows (λ s. (m.counts_end s).1) c.args.which a c.ids.new.self c.in_err-ids.field-0.0 IsNever AreNumbers (λ r at never. absurd never) c.in_err-ids.ensures.read);
+          (sweep_reads_fail k.rows k.failures k.writes k.Follows k.IsTrusted laws m.are_rows (λ s. (m.counts_end s).1) c.args.which a c.ids.new.self c.in_err-ids.field-0.0 IsNever AreNumbers (λ r at never. absurd never) c.in_err-ids.ensures.read);
     }
 
 pub returns-in_err-root : goal.returns-in_err-root
@@ -35,7 +35,7 @@ returns-in_err-root g c =
     let both = read_on k.rows k.failures k.writes k.Follows k.IsTrusted laws a c.ids.new.self c.root.new.self (Err c.in_err-root.field-0.0) (seen k.rows k.failures k.writes k.Follows k.IsTrusted a c.ids.new.self c.in_ok-ids.field-0 c.in_ok-ids.ensures.read) c.in_err-root.ensures.read in
     record {
       swept = subst (λ (r : Result ℕ SpreadFault). Sweeps k.rows k.failures k.writes k.Follows k.IsTrusted c.args.which a c.root.new.self r) (sym is)
-        (sweep_reads_fail k.rows k.failures k.writes k.Follows k.IsTrusted laws m.are_rows (λ s. (m.counts_end s).1) c.args.which a c.root.new.self c.in_err-root.field-0.0 HasNoRoot IsRootOf (λ r at damaged. damaged) both);
+          (sweep_reads_fail k.rows k.failures k.writes k.Follows k.IsTrusted laws m.are_rows (λ s. (m.counts_end s).1) c.args.which a c.root.new.self c.in_err-root.field-0.0 HasNoRoot IsRootOf (λ r at damaged. damaged) both);
     }
 
 pub returns-in_err-push : goal.returns-in_err-push
@@ -52,7 +52,7 @@ returns-in_err-push g c =
     let is = handed_on c.from_residual-in_err-push.result (Keeper Memory) c.from_residual-in_err-push.ensures.1 in
     record {
       swept = subst (λ (r : Result ℕ SpreadFault). Sweeps k.rows k.failures k.writes k.Follows k.IsTrusted c.args.which a c.root.new.self r) (sym is)
-        (sweep_without_memory k.rows k.failures k.writes k.Follows k.IsTrusted laws m.are_rows (λ s. (m.counts_end s).1) c.args.which root.id 0 (root ∷ []) 0 most a c.root.new.self first);
+          (sweep_without_memory k.rows k.failures k.writes k.Follows k.IsTrusted laws m.are_rows (λ s. (m.counts_end s).1) c.args.which root.id 0 (root ∷ []) 0 most a c.root.new.self first);
     }
 
 pub turns-init : goal.turns-init
@@ -79,7 +79,7 @@ returns-in_default g c =
     let none : c.turns.waiting.items ≡ [] = no_length c.turns.waiting.items (sym c.turns.waiting.ok.0 ∙ c.in_default.ensures.cases.0) in
     record {
       swept = sweeps_to_end k.rows k.failures k.writes k.Follows k.IsTrusted laws m.are_rows (λ s. (m.counts_end s).1) c.args.which c.in_ok-root.root.id c.turns._turn c.turns.changed most a c.turns.keep
-        (subst (λ (l : List Node). Sweeping k.rows k.failures k.writes k.Follows k.IsTrusted c.args.which c.in_ok-root.root.id c.turns._turn l c.turns.changed most a c.turns.keep) none c.turns.invariant);
+          (subst (λ (l : List Node). Sweeping k.rows k.failures k.writes k.Follows k.IsTrusted c.args.which c.in_ok-root.root.id c.turns._turn l c.turns.changed most a c.turns.keep) none c.turns.invariant);
     }
 
 pub returns-in_err-written : goal.returns-in_err-written
@@ -99,7 +99,7 @@ returns-in_err-written g c =
     let Becomes : Rows → ℕ → Rows → Type 0 = IsVisit c.args.which start w rest c.visit_children.new.waiting.items in
     record {
       swept = subst (λ (r : Result ℕ SpreadFault). Sweeps k.rows k.failures k.writes k.Follows k.IsTrusted c.args.which a c.visit_children.new.keep r) (sym is)
-        (sweep_gives_up k.rows k.failures k.writes k.Follows k.IsTrusted laws m.are_rows (λ s. (m.counts_end s).1) c.args.which start c.turns._turn rest w c.turns.changed most fault a c.turns.keep c.visit_children.new.keep (λ (n : ℕ). n) Becomes sofar c.in_err-written.ensures.visit);
+          (sweep_gives_up k.rows k.failures k.writes k.Follows k.IsTrusted laws m.are_rows (λ s. (m.counts_end s).1) c.args.which start c.turns._turn rest w c.turns.changed most fault a c.turns.keep c.visit_children.new.keep (λ (n : ℕ). n) Becomes sofar c.in_err-written.ensures.visit);
     }
 
 pub turns-preserved : goal.turns-preserved
@@ -128,7 +128,7 @@ returns-then-is_empty g c =
     let none : c.turns.waiting.items ≡ [] = no_length c.turns.waiting.items (sym c.turns.waiting.ok.0 ∙ eqb-true c.turns.waiting.len 0 (sym c.is_empty.ensures ∙ c.if-is_empty.true)) in
     record {
       swept = sweeps_to_end k.rows k.failures k.writes k.Follows k.IsTrusted laws m.are_rows (λ s. (m.counts_end s).1) c.args.which c.in_ok-root.root.id c.turns._turn c.turns.changed most a c.turns.keep
-        (subst (λ (l : List Node). Sweeping k.rows k.failures k.writes k.Follows k.IsTrusted c.args.which c.in_ok-root.root.id c.turns._turn l c.turns.changed most a c.turns.keep) none c.turns.invariant);
+          (subst (λ (l : List Node). Sweeping k.rows k.failures k.writes k.Follows k.IsTrusted c.args.which c.in_ok-root.root.id c.turns._turn l c.turns.changed most a c.turns.keep) none c.turns.invariant);
     }
 
 pub returns : goal.returns
@@ -142,5 +142,5 @@ returns g c =
     let all : c.turns._turn ≡ most = let below = c.turns-test.false in let ends = c.turns.auto._turn-end in omega (arith, below, ends) in
     record {
       swept = sweep_never_too_many k.rows k.failures k.writes k.Follows k.IsTrusted laws m.are_rows (λ s. (m.counts_end s).1) c.args.which c.in_ok-root.root.id c.turns.waiting.items c.turns.changed most c.in_ok-root.root.id a c.turns.keep some
-        (subst (λ (n : ℕ). Sweeping k.rows k.failures k.writes k.Follows k.IsTrusted c.args.which c.in_ok-root.root.id n c.turns.waiting.items c.turns.changed most a c.turns.keep) all c.turns.invariant);
+          (subst (λ (n : ℕ). Sweeping k.rows k.failures k.writes k.Follows k.IsTrusted c.args.which c.in_ok-root.root.id n c.turns.waiting.items c.turns.changed most a c.turns.keep) all c.turns.invariant);
     }

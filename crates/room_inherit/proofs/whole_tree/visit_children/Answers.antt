@@ -1,5 +1,4 @@
-use Rattle.std.proofs.Common.{◌≡◌, ℕ, ◌-◌, ◌≤◌, ◌^◌, ◌++◌, length, List, Result, Ok, Err, Vec, Global, refl, sym, ap, subst, ◌∙◌}
-use Rattle.room_tree.specs.declared.keep.KeepFault.TheVariants.{Memory}
+use Rattle.std.proofs.Common.{◌≡◌, ℕ, ◌++◌, length, List, Result, Err, Vec, Global, refl, sym, ap, subst, ◌∙◌}
 use Rattle.room_tree.specs.declared.node.Node.{Node}
 use Rattle.room_tree.specs.Keep.{AreChildrenOf}
 use Rattle.room_tree.specs.Rows.{Rows}
@@ -24,7 +23,7 @@ returns-in_err-renew_children g c =
     let is = handed_on c.from_residual.result fault c.from_residual.ensures.1 in
     record {
       visit = subst (λ (r : Result ℕ SpreadFault). Visited k.rows k.failures k.writes k.Follows k.IsTrusted laws m.are_rows (λ s. (m.counts_end s).1) c.args.which c.args.start above before before a c.renew_children.new.keep r) (sym is)
-        (visit_gives_up k.rows k.failures k.writes k.Follows k.IsTrusted laws m.are_rows (λ s. (m.counts_end s).1) c.args.which c.args.start above before a c.renew_children.new.keep fault before (λ (v : Vec Node Global). length v.items) Becomes c.in_err-renew_children.ensures.turn);
+          (visit_gives_up k.rows k.failures k.writes k.Follows k.IsTrusted laws m.are_rows (λ s. (m.counts_end s).1) c.args.which c.args.start above before a c.renew_children.new.keep fault before (λ (v : Vec Node Global). length v.items) Becomes c.in_err-renew_children.ensures.turn);
     }
 
 pub returns-in_err-children : goal.returns-in_err-children
@@ -40,7 +39,7 @@ returns-in_err-children g c =
     let is = handed_on c.from_residual-in_err-children.result (Keeper fault) c.from_residual-in_err-children.ensures.1 in
     record {
       visit = subst (λ (r : Result ℕ SpreadFault). Visited k.rows k.failures k.writes k.Follows k.IsTrusted laws m.are_rows (λ s. (m.counts_end s).1) c.args.which c.args.start above before before a c.children.new.self r) (sym is)
-        (visit_read_fails k.rows k.failures k.writes k.Follows k.IsTrusted laws m.are_rows (λ s. (m.counts_end s).1) c.args.which c.args.start above before a c.renew_children.new.keep c.in_ok-renew_children.field-0 (λ (v : Vec Node Global). length v.items) (λ (v : Vec Node Global). v.items) refl c.in_ok-renew_children.ensures.turn before c.children.new.self fault (AreChildrenOf above.id) c.in_err-children.ensures.read);
+          (visit_read_fails k.rows k.failures k.writes k.Follows k.IsTrusted laws m.are_rows (λ s. (m.counts_end s).1) c.args.which c.args.start above before a c.renew_children.new.keep c.in_ok-renew_children.field-0 (λ (v : Vec Node Global). length v.items) (λ (v : Vec Node Global). v.items) refl c.in_ok-renew_children.ensures.turn before c.children.new.self fault (AreChildrenOf above.id) c.in_err-children.ensures.read);
     }
 
 pub returns-in_err-push_copies : goal.returns-in_err-push_copies
@@ -55,7 +54,7 @@ returns-in_err-push_copies g c =
     let is = handed_on c.from_residual-in_err-push_copies.result c.in_err-push_copies.field-0.0 c.from_residual-in_err-push_copies.ensures.1 ∙ ap (λ (e : SpreadFault). Err e) c.in_err-push_copies.ensures.memory in
     record {
       visit = subst (λ (r : Result ℕ SpreadFault). Visited k.rows k.failures k.writes k.Follows k.IsTrusted laws m.are_rows (λ s. (m.counts_end s).1) c.args.which c.args.start above before c.push_copies.new.waiting.items a c.children.new.self r) (sym is)
-        (visit_without_memory k.rows k.failures k.writes k.Follows k.IsTrusted laws m.are_rows (λ s. (m.counts_end s).1) c.args.which c.args.start above before a c.renew_children.new.keep c.in_ok-renew_children.field-0 (λ (v : Vec Node Global). length v.items) (λ (v : Vec Node Global). v.items) refl c.in_ok-renew_children.ensures.turn c.push_copies.new.waiting.items c.children.new.self c.in_ok-children.ensures.read.follows);
+          (visit_without_memory k.rows k.failures k.writes k.Follows k.IsTrusted laws m.are_rows (λ s. (m.counts_end s).1) c.args.which c.args.start above before a c.renew_children.new.keep c.in_ok-renew_children.field-0 (λ (v : Vec Node Global). length v.items) (λ (v : Vec Node Global). v.items) refl c.in_ok-renew_children.ensures.turn c.push_copies.new.waiting.items c.children.new.self c.in_ok-children.ensures.read.follows);
     }
 
 pub returns : goal.returns
