@@ -2,6 +2,7 @@
 //! text of entries and lists.
 #![tactic(auto)]
 
+mod comparing;
 mod entry;
 mod entry_text;
 mod failure;

@@ -1,0 +1,156 @@
+-- One list carried down after the other.
+use Rattle.std.proofs.Common.{◌≡◌, ℕ, zero, suc, ◌+◌, Bool, true, false, cond, ◌&&◌, List, [], ◌∷◌, map, length, Option, Some, None, Result, Ok, Err, refl, sym, ap, subst, ◌∙◌, inl, inr, arith}
+use Rattle.std.specs.Prelude.{is_none, option_and_then}
+use Rattle.std.specs.List.{list_all, find}
+use Rattle.std.specs.Option.{option_map, option_map_or}
+use Rattle.std.proofs.lemmas.List.{length-map}
+use Rattle.room_ace.specs.Ace.{Ace}
+use Rattle.room_ace.specs.declared.object.Which.{Which}
+use Rattle.room_ace.specs.declared.object.Which.TheVariants.{Dacl, Sacl}
+use Rattle.room_tree.specs.declared.node.Node.{Node}
+use Rattle.room_tree.specs.Content.{Content, node_at, parent_of, root_of, is_root, is_linked_in, reaches_root}
+use Rattle.room_tree.specs.Counts.{capped_below}
+use Rattle.room_tree.specs.Held.{held_of, is_linked}
+use Rattle.room_tree.specs.Keep.{HasNoRoot, capped, reading}
+use Rattle.room_tree.specs.Rows.{Rows, is_unreadable}
+use Rattle.room_tree.proofs.Steps.{Laws, later_cause}
+use Rattle.room_inherit.specs.Law.{AllAgree, agrees, agrees_with}
+use Rattle.room_inherit.specs.Spread.{HasSpreadCause, is_changed, with_lists}
+use Rattle.room_inherit.specs.SpreadAll.{IsCarriedDown, IsSpreadAll, IsSwept, IsTree}
+use Rattle.room_inherit.specs.declared.outcome.Spread.{Spread}
+use Rattle.room_inherit.specs.declared.outcome.SpreadFault.{SpreadFault}
+use Rattle.room_inherit.specs.declared.outcome.SpreadFault.TheVariants.{Keeper, Loop}
+use Rattle.room_inherit.proofs.Kinship.{same_parent}
+use Rattle.room_inherit.proofs.Members.{count-is, count_length, count_map}
+use Rattle.room_inherit.proofs.Renewing.{map_map}
+use Rattle.room_inherit.proofs.Frontier.{set, find_set}
+use Rattle.room_inherit.proofs.Calls.{capped_add}
+
+all_map : (p q : Node → Bool) (g : Node → Node) → ((n : Node) → p (g n) ≡ q n) → (xs : List Node) → list_all p (map g xs) ≡ list_all q xs
+all_map p q g same [] = refl
+all_map p q g same (x ∷ xs) = λ i. same x i && all_map p q g same xs i
+
+-- the parent of an object is found with its other list
+parent_set : (which : Which) (f : Node → List Ace) (old : Content) (n : Node) → parent_of (with_lists which f old) (set which f n) ≡ option_map (set which f) (parent_of old n)
+parent_set which f old n = ap (option_and_then (node_at (with_lists which f old))) (same_parent which (f n) n) ∙ on n.parent
+  where
+    on : (o : Option ℕ) → option_and_then (node_at (with_lists which f old)) o ≡ option_map (set which f) (option_and_then (node_at old) o)
+    on None = refl
+    on (Some p) = find_set which f p old.nodes
+
+-- ---- dacls first
+
+module _ (f : Node → List Ace) (old : Content) where
+  abbrev mid : Content
+  mid = with_lists Dacl f old
+
+  linked_mid : (n : Node) → is_linked_in mid Sacl (set Dacl f n) ≡ is_linked_in old Sacl n
+  linked_mid n = ap (λ o. is_linked (held_of Sacl n) (option_map (held_of Sacl) o)) (parent_set Dacl f old n) ∙ on (parent_of old n)
+    where
+      on : (o : Option Node) → is_linked (held_of Sacl n) (option_map (held_of Sacl) (option_map (set Dacl f) o)) ≡ is_linked (held_of Sacl n) (option_map (held_of Sacl) o)
+      on None = refl
+      on (Some q) = refl
+
+  there_mid : (n : Node) → node_at old n.id ≡ Some n → node_at mid (set Dacl f n).id ≡ Some (set Dacl f n)
+  there_mid n there = find_set Dacl f n.id old.nodes ∙ ap (option_map (set Dacl f)) there
+
+  reaches_mid : (k : ℕ) (o : Option ℕ) → reaches_root k mid o ≡ reaches_root k old o
+  reaches_mid k None = refl
+  reaches_mid zero (Some p) = refl
+  reaches_mid (suc k) (Some p) = ap (λ o. option_map_or (λ (q : Node). reaches_root k mid q.parent) o false) (find_set Dacl f p old.nodes) ∙ on (node_at old p) (λ o. reaches_mid k o)
+    where
+      on : (o : Option Node) → ((x : Option ℕ) → reaches_root k mid x ≡ reaches_root k old x)
+          → option_map_or (λ (q : Node). reaches_root k mid q.parent) (option_map (set Dacl f) o) false ≡ option_map_or (λ (q : Node). reaches_root k old q.parent) o false
+      on None before = refl
+      on (Some q) before = before q.parent
+
+  tree_mid : IsTree old → IsTree mid
+  tree_mid tree = record {
+    one_root = count_length is_root (map (set Dacl f) old.nodes) ∙ count_map is_root (set Dacl f) old.nodes ∙ sym (count_length is_root old.nodes) ∙ tree.one_root;
+    connected = all_map (λ node. reaches_root (length mid.nodes) mid node.parent) (λ node. reaches_root (length old.nodes) old node.parent) (set Dacl f)
+        (λ n. reaches_mid (length mid.nodes) n.parent ∙ ap (λ k. reaches_root k old n.parent) (length-map old.nodes (set Dacl f))) old.nodes ∙ tree.connected;
+  }
+
+  root_mid : (nodes : List Node) → find (λ node. is_none node.parent) (map (set Dacl f) nodes) ≡ None → find (λ node. is_none node.parent) nodes ≡ None
+  root_mid [] none = refl
+  root_mid (x ∷ xs) none = on (is_none x.parent) none (λ rest. root_mid xs rest)
+    where
+      on : (t : Bool) → cond t (Some (set Dacl f x)) (find (λ node. is_none node.parent) (map (set Dacl f) xs)) ≡ None → (find (λ node. is_none node.parent) (map (set Dacl f) xs) ≡ None → find (λ node. is_none node.parent) xs ≡ None)
+          → cond t (Some x) (find (λ node. is_none node.parent) xs) ≡ None
+      on true is rest = absurd (let wrong : ⊥ = cc in wrong)
+      on false is rest = rest is
+
+  -- the law of dacls doesn't look at sacls
+  law_stays : (g : Node → List Ace) (content : Content) → AllAgree content Dacl → AllAgree (with_lists Sacl g content) Dacl
+  law_stays g content law = all_map (agrees (with_lists Sacl g content) Dacl) (agrees content Dacl) (set Sacl g) one content.nodes ∙ law
+    where
+      on : (n : Node) (o : Option Node) → option_map_or (agrees_with Dacl (set Sacl g n)) (option_map (set Sacl g) o) true ≡ option_map_or (agrees_with Dacl n) o true
+      on n None = refl
+      on n (Some q) = refl
+
+      one : (n : Node) → agrees (with_lists Sacl g content) Dacl (set Sacl g n) ≡ agrees content Dacl n
+      one n = ap (λ o. option_map_or (agrees_with Dacl (set Sacl g n)) o true) (parent_set Sacl g content n) ∙ on n (parent_of content n)
+
+-- ---- rows
+
+pub both_swept : (old mid new : Rows) (d s : ℕ) → IsSwept Dacl old mid d → IsSwept Sacl mid new s → IsSpreadAll old new (capped (d + s))
+both_swept old middle new d s first last =
+    let f = first.lists in
+    let m = mid f old.read in
+    let next : IsSwept Sacl (reading old (mid f old.read)) new s = subst (λ (r : Rows). IsSwept Sacl r new s) first.becomes last in
+    let g = next.lists in
+    let sacls : Node → List Ace = λ n. g (set Dacl f n) in
+    record {
+      dacls = f;
+      sacls = sacls;
+      becomes = next.becomes ∙ ap (λ (ns : List Node). reading old (record old.read { nodes = ns })) (map_map (set Sacl g) (set Dacl f) old.read.nodes);
+      linked_dacls = first.linked;
+      linked_sacls = λ n there changed. sym (linked_mid f old.read n) ∙ next.linked (set Dacl f n) (there_mid f old.read n there) changed;
+      counted = capped_below (d + s) (let a = first.few in let b = last.few in omega (arith, a, b))
+          ∙ (λ i. first.counted i + (next.counted ∙ count-is (is_changed Sacl g) (map (set Dacl f) old.read.nodes) ∙ count_map (is_changed Sacl g) (set Dacl f) old.read.nodes ∙ sym (count-is (is_changed Sacl sacls) old.read.nodes)) i);
+      law = λ tree which. on which tree (λ t. subst (λ (r : Rows). AllAgree r.read Dacl) (sym next.becomes) (law_stays f old.read g (mid f old.read) (subst (λ (r : Rows). AllAgree r.read Dacl) first.becomes (first.law t)))) (λ t. next.law (tree_mid f old.read t));
+    }
+  where
+    on : (which : Which) → IsTree old.read → (IsTree old.read → AllAgree new.read Dacl) → (IsTree old.read → AllAgree new.read Sacl) → AllAgree new.read which
+    on Dacl tree dacl sacl = dacl tree
+    on Sacl tree dacl sacl = sacl tree
+
+no_root_before : (old mid : Rows) (d at : ℕ) → IsSwept Dacl old mid d → HasNoRoot mid at → HasNoRoot old at
+no_root_before old middle d at first (inl damaged) = inl (ap (λ (r : Rows). is_unreadable r at) (sym first.becomes) ∙ damaged)
+no_root_before old middle d at first (inr none) = inr (none.0, root_mid first.lists old.read old.read.nodes (ap (λ (r : Rows). root_of r.read) (sym first.becomes) ∙ none.1))
+
+-- ---- calls
+
+module _ {S : Type 0} (rows : S → Rows) (failures writes : S → ℕ) (Follows IsTrusted : S → S → Type 0) where
+  abbrev pub SpreadsAll : S → S → Result Spread SpreadFault → Type 0
+  SpreadsAll a b result = IsCarriedDown rows failures writes Follows IsTrusted {X = Spread} (λ s. s.changed) a b result (λ old s new. IsSpreadAll old new s.changed)
+
+  abbrev pub Sweeping : Which → S → S → Result ℕ SpreadFault → Type 0
+  Sweeping which a b result = IsCarriedDown rows failures writes Follows IsTrusted {X = ℕ} (λ changed. changed) a b result (λ old changed new. IsSwept which old new changed)
+
+  pub first_fails : (a b : S) (e : SpreadFault) → Sweeping Dacl a b (Err e) → SpreadsAll a b (Err e)
+  first_fails a b e sweep = record { follows = sweep.follows; written = tt; becomes = λ t. tt; fault = sweep.fault }
+
+  module _ (laws : Laws rows failures writes Follows IsTrusted) (a b c : S) (d : ℕ) (first : Sweeping Dacl a b (Ok d)) where
+    pub second_fails : (e : SpreadFault) → Sweeping Sacl b c (Err e) → SpreadsAll a c (Err e)
+    second_fails e sweep = record {
+      follows = laws.on a b c first.follows sweep.follows;
+      written = tt;
+      becomes = λ t. tt;
+      fault = cause e sweep.fault;
+    }
+      where
+        cause : (e : SpreadFault) → HasSpreadCause (failures b) (failures c) (λ at. IsTrusted b c → HasNoRoot (rows b) at) (IsTrusted b c → ⊥) e
+            → HasSpreadCause (failures a) (failures c) (λ at. IsTrusted a c → HasNoRoot (rows a) at) (IsTrusted a c → ⊥) e
+        cause (Keeper f) h = later_cause (failures a) (failures b) (failures c) f _ _ (laws.rise a b first.follows) (laws.rise b c sweep.follows)
+            (λ at damaged t. no_root_before (rows a) (rows b) d at (first.becomes (laws.first a b c first.follows sweep.follows t)) (damaged (laws.last a b c first.follows sweep.follows t)))
+            h
+        cause Loop h = λ t. h (laws.last a b c first.follows sweep.follows t)
+
+    pub both_done : (s : ℕ) → Sweeping Sacl b c (Ok s) → SpreadsAll a c (Ok (record { changed = capped (d + s) }))
+    both_done s sweep = record {
+      follows = laws.on a b c first.follows sweep.follows;
+      written = sweep.written ∙ ap (λ k. capped (k + s)) first.written ∙ capped_add (writes a + d) s ∙ ap capped (omega arith) ∙ sym (capped_add (d + s) (writes a)) ∙ ap capped (omega arith);
+      becomes = λ t. both_swept (rows a) (rows b) (rows c) d s (first.becomes (laws.first a b c first.follows sweep.follows t)) (sweep.becomes (laws.last a b c first.follows sweep.follows t));
+      fault = tt;
+    }

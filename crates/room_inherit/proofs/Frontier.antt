@@ -1,0 +1,91 @@
+-- The objects that wait, while a change of a list is carried down.
+use Rattle.std.proofs.Common.{◌≡◌, ℕ, ◌==◌, Bool, true, false, cond, ◌||◌, List, [], ◌∷◌, ◌++◌, map, Option, Some, refl, ap, ◌∙◌, ◌⊎◌}
+use Rattle.std.specs.Option.{option_map, option_map_or}
+use Rattle.room_ace.specs.Ace.{Ace}
+use Rattle.room_ace.specs.declared.object.Which.{Which}
+use Rattle.room_tree.specs.declared.node.Node.{Node}
+use Rattle.room_tree.specs.Content.{Content, node_at, has_parent}
+use Rattle.room_tree.specs.Finding.{find_id}
+use Rattle.room_tree.specs.Held.{held_of, is_linked}
+use Rattle.room_tree.specs.Keep.{with_inh}
+use Rattle.room_inherit.specs.Pass.{pass}
+use Rattle.room_inherit.specs.Law.{AllAgreeBut}
+use Rattle.room_inherit.specs.Spread.{is_changed, IsLinkedBelow}
+use Rattle.room_inherit.proofs.Kinship.{same_id, same_parent, held_with}
+use Rattle.room_inherit.proofs.Members.{Each}
+use Rattle.room_inherit.proofs.Children.{has_id, Apart, ids_of}
+use Rattle.room_inherit.proofs.Renewing.{map_agree, map_map}
+
+-- ---- objects with other lists
+
+module _ (which : Which) (f : Node → List Ace) where
+  abbrev pub set : Node → Node
+  set node = with_inh which (f node) node
+
+  pub set_id : (n : Node) → (set n).id ≡ n.id
+  set_id n = same_id which (f n) n
+
+  pub set_parent : (id : ℕ) (n : Node) → has_parent id (set n) ≡ has_parent id n
+  set_parent id n = ap (λ (p : Option ℕ). option_map_or (λ parent. parent == id) p false) (same_parent which (f n) n)
+
+  pub set_held : (n : Node) → held_of which (set n) ≡ record (held_of which n) { inh = f n }
+  set_held n = held_with which (f n) n
+
+  -- the same objects are found, with their other lists
+  pub find_set : (id : ℕ) (nodes : List Node) → find_id id (map set nodes) ≡ option_map set (find_id id nodes)
+  find_set id [] = refl
+  find_set id (x ∷ xs) = ap (λ (i : ℕ). cond (i == id) (Some (set x)) (find_id id (map set xs))) (set_id x) ∙ on (x.id == id) (find_set id xs)
+    where
+      on : (t : Bool) → find_id id (map set xs) ≡ option_map set (find_id id xs) → cond t (Some (set x)) (find_id id (map set xs)) ≡ option_map set (cond t (Some x) (find_id id xs))
+      on true rest = refl
+      on false rest = rest
+
+  pub ids_set : (nodes : List Node) → ids_of (map set nodes) ≡ ids_of nodes
+  ids_set nodes = map_map (λ (n : Node). n.id) set nodes ∙ map_agree (λ n. (set n).id) (λ (n : Node). n.id) nodes (every nodes)
+    where
+      every : (xs : List Node) → Each (λ n. (set n).id ≡ n.id) xs
+      every [] = tt
+      every (x ∷ xs) = (set_id x, every xs)
+
+-- whether the list of an object is linked to that of another
+abbrev pub links : Which → Node → Node → Bool
+links which above node = is_linked (held_of which node) (Some (held_of which above))
+
+-- what an object passes to one below, with these lists
+abbrev pub passes : Which → (Node → List Ace) → Node → Node → List Ace
+passes which f above node = pass node.kind ((held_of which above).own ++ f above)
+
+-- where it all began, or with another list than before
+abbrev pub is_reached : Which → ℕ → (Node → List Ace) → Node → Bool
+is_reached which start f node = (node.id == start) || is_changed which f node
+
+module _ (which : Which) (start : ℕ) (old : Content) where
+  abbrev pub There : Node → Type 0
+  There node = node_at old node.id ≡ Some node
+
+  -- an object that waits, with its list
+  pub record Waits (f : Node → List Ace) (waiting : Node) : Type 0 where
+    pub base : Node
+    pub there : There base
+    pub is : waiting ≡ set which f base
+    pub reached : is_reached which start f base ≡ true
+
+  -- how an object came to its list
+  pub record Came (f : Node → List Ace) (waiting : List Node) (node : Node) : Type 0 where
+    pub isnt_start : (node.id == start) ≡ false
+    pub below : IsLinkedBelow old which start node
+    pub parent : Node
+    pub there : There parent
+    pub has : has_parent parent.id node ≡ true
+    pub reached : is_reached which start f parent ≡ true
+    pub taken : has_id parent.id waiting ≡ false
+
+  -- an object agrees with its parent, or the parent waits
+  abbrev pub AgreesOrWaits : (Node → List Ace) → List Node → Type 0
+  AgreesOrWaits f waiting = (node parent : Node) → There node → There parent → has_parent parent.id node ≡ true → links which parent node ≡ true → (has_id parent.id waiting ≡ true) ⊎ (f node ≡ passes which f parent node)
+
+  pub record Frontier (f : Node → List Ace) (waiting : List Node) : Type 0 where
+    pub known : Each (Waits f) waiting
+    pub apart : Apart waiting
+    pub came : (node : Node) → There node → is_changed which f node ≡ true → Came f waiting node
+    pub law : AllAgreeBut old which start → AgreesOrWaits f waiting

@@ -1,0 +1,89 @@
+-- Parents and names that have been given.
+use Rattle.std.proofs.Common.{◌≡◌, ℕ, ◌==◌, ◌<◌, ◌+◌, ◌&&◌, ◌||◌, Bool, true, false, cond, not, List, [], ◌∷◌, ◌++◌, Option, Some, None, length, get_or, take, nat_lt, refl, sym, ap, ◌∙◌, arith}
+use Rattle.std.specs.Borrow.{Bor}
+use Rattle.std.specs.List.{list_any}
+use Rattle.std.specs.Option.{option_map_or}
+use Rattle.std.specs.Ordering.{nat_cmp, ordering_then, is_eq}
+use Rattle.std.specs.Cmp.Lexicographic.{slice_cmp}
+use Rattle.std.specs.declared.cmp.Ordering.{Ordering}
+use Rattle.std.specs.declared.cmp.Ordering.TheVariants.{Less, Equal, Greater}
+use Rattle.std.proofs.lemmas.Bool.{eqb-true, ltb-true}
+use Rattle.std.proofs.lemmas.List.{take_more}
+use Rattle.std.proofs.lemmas.List.Recursion.{or_push}
+use Rattle.std.proofs.lemmas.Map.Text.{is_eq-slice_cmp}
+use Rattle.room_ace.specs.Pieces.{same_text}
+use Rattle.room_tree.specs.declared.node.Node.{Node}
+use Rattle.room_tree.specs.Content.{has_parent, same_parent}
+use Rattle.room_tree.specs.Paths.{is_object_name}
+use Rattle.room_inherit.specs.Objects.{are_rising, only}
+use Rattle.room_inherit.specs.Sound.{has_sound_name, same_place}
+use Rattle.room_inherit.proofs.Numbers.{any_before}
+
+-- a parent and a name
+abbrev pub Key : Type 0
+Key = ℕ × Bor (List ℕ)
+
+-- by the parent, then by the name
+abbrev pub key_order : Key → Key → Ordering
+key_order x y = ordering_then (nat_cmp x.0 y.0) (slice_cmp nat_cmp x.1.now y.1.now)
+
+-- the object stands under this parent by this name
+abbrev pub holds : Key → Node → Bool
+holds key node = has_parent key.0 node && same_text node.name key.1.now
+
+both_equal : (a b : Ordering) → is_eq (ordering_then a b) ≡ (is_eq a && is_eq b)
+both_equal Less b = refl
+both_equal Equal b = refl
+both_equal Greater b = refl
+
+numbers_equal : (x y : ℕ) → is_eq (nat_cmp x y) ≡ (x == y)
+numbers_equal x y = on (nat_lt x y) (x == y) refl refl
+  where
+    on : (t u : Bool) → nat_lt x y ≡ t → (x == y) ≡ u → is_eq (cond t Less (cond u Equal Greater)) ≡ u
+    on true true below same = let lt = ltb-true x y below in let e = eqb-true x y same in absurd (omega (arith, lt, e))
+    on true false below same = refl
+    on false true below same = refl
+    on false false below same = refl
+
+key_equal : (x y : Key) → is_eq (key_order x y) ≡ ((x.0 == y.0) && same_text x.1.now y.1.now)
+key_equal x y =
+    both_equal (nat_cmp x.0 y.0) (slice_cmp nat_cmp x.1.now y.1.now)
+    ∙ ap (λ t. t && is_eq (slice_cmp nat_cmp x.1.now y.1.now)) (numbers_equal x.0 y.0) ∙ ap (λ t. (x.0 == y.0) && t) (is_eq-slice_cmp x.1.now y.1.now)
+
+or_swapped : (t u : Bool) → cond t true u ≡ (u || t)
+or_swapped true true = refl
+or_swapped true false = refl
+or_swapped false true = refl
+or_swapped false false = refl
+
+module _ (nodes : List Node) (i : ℕ) (node : Node) (parent : ℕ) (name : Bor (List ℕ)) (below : i < length nodes) (is : node ≡ get_or nodes i node) (under : node.parent ≡ Some parent) (named : name.now ≡ node.name) where
+  here : (q : Key) → is_eq (key_order (parent, name) q) ≡ holds q node
+  here q =
+      key_equal (parent, name) q ∙ ap (λ t. (parent == q.0) && same_text t q.1.now) named
+      ∙ ap (λ (o : Option ℕ). option_map_or (λ p. p == q.0) o false && same_text node.name q.1.now) (sym under)
+
+  -- the set with one more
+  pub one_more : (old new : Key → Bool) → ((q : Key) → old q ≡ list_any (holds q) (take i nodes)) → ((q : Key) → new q ≡ cond (is_eq (key_order (parent, name) q)) true (old q)) → (q : Key) → new q ≡ list_any (holds q) (take (i + 1) nodes)
+  one_more old new was adds q =
+      adds q ∙ ap (λ t. cond t true (old q)) (here q) ∙ ap (λ t. cond (holds q node) true t) (was q) ∙ or_swapped (holds q node) (list_any (holds q) (take i nodes))
+      ∙ sym (or_push (list_any (holds q)) (holds q) refl (λ _ _. refl) (take i nodes) node)
+      ∙ ap (λ x. list_any (holds q) (take i nodes ++ x ∷ [])) is ∙ ap (list_any (holds q)) (sym (take_more nodes i node below))
+
+  same_parents : (above : Option ℕ) → same_parent above node.parent ≡ option_map_or (λ p. p == parent) above false
+  same_parents above = ap (same_parent above) under ∙ on above
+    where
+      on : (above : Option ℕ) → same_parent above (Some parent) ≡ option_map_or (λ p. p == parent) above false
+      on None = refl
+      on (Some id) = refl
+
+  same_holds : (other : Node) → same_place other node ≡ holds (parent, name) other
+  same_holds other = ap (λ t. t && same_text other.name node.name) (same_parents other.parent) ∙ ap (λ t. has_parent parent other && same_text other.name t) (sym named)
+
+  -- the test of the name, by those that stand before
+  pub name_test : are_rising nodes ≡ true → has_sound_name (only nodes) node ≡ (is_object_name node.name && not (list_any (holds (parent, name)) (take i nodes)))
+  name_test rises =
+      ap (λ (o : Option ℕ). Rattle.std.specs.Prelude.is_none o || (is_object_name node.name && not (list_any (λ (other : Node). nat_lt other.id node.id && same_place other node) nodes))) under
+      ∙ ap (λ t. is_object_name node.name && not t) (
+      ap (λ (x : Node). list_any (λ (other : Node). nat_lt other.id x.id && same_place other node) nodes) is
+      ∙ any_before 0 (λ other. same_place other node) nodes rises i node below
+      ∙ (λ j. list_any (λ other. same_holds other j) (take i nodes)))

@@ -1,0 +1,32 @@
+-- An object with other inherited entries.
+use Rattle.std.proofs.Common.{◌≡◌, List, refl}
+use Rattle.room_ace.specs.Ace.{Ace}
+use Rattle.room_ace.specs.declared.object.Which.{Which}
+use Rattle.room_ace.specs.declared.object.Which.TheVariants.{Dacl, Sacl}
+use Rattle.room_tree.specs.declared.node.Node.{Node}
+use Rattle.room_tree.specs.Held.{held_of}
+use Rattle.room_tree.specs.Keep.{with_inh}
+
+pub same_id : (which : Which) (entries : List Ace) (node : Node) → (with_inh which entries node).id ≡ node.id
+same_id Dacl entries node = refl
+same_id Sacl entries node = refl
+
+pub same_parent : (which : Which) (entries : List Ace) (node : Node) → (with_inh which entries node).parent ≡ node.parent
+same_parent Dacl entries node = refl
+same_parent Sacl entries node = refl
+
+pub same_kind : (which : Which) (entries : List Ace) (node : Node) → (with_inh which entries node).kind ≡ node.kind
+same_kind Dacl entries node = refl
+same_kind Sacl entries node = refl
+
+pub held_with : (which : Which) (entries : List Ace) (node : Node) → held_of which (with_inh which entries node) ≡ record (held_of which node) { inh = entries }
+held_with Dacl entries node = refl
+held_with Sacl entries node = refl
+
+pub with_last : (which : Which) (entries before : List Ace) (node : Node) → with_inh which entries (with_inh which before node) ≡ with_inh which entries node
+with_last Dacl entries before node = refl
+with_last Sacl entries before node = refl
+
+pub with_own : (which : Which) (node : Node) → with_inh which (held_of which node).inh node ≡ node
+with_own Dacl node = refl
+with_own Sacl node = refl

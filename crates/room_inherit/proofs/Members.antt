@@ -1,0 +1,139 @@
+-- What holds of each member of a list, which tests some member passes, and how many pass.
+use Rattle.std.proofs.Common.{◌≡◌, ℕ, ◌+◌, ◌≤◌, Bool, true, false, cond, ◌&&◌, ◌||◌, List, [], ◌∷◌, ◌++◌, map, filter, length, refl, ap, ◌∙◌, arith}
+use Rattle.std.specs.Prelude.{count_by}
+use Rattle.std.specs.List.{list_any, list_all}
+use Rattle.std.proofs.lemmas.List.Sums.{sum_by-cons}
+use Rattle.std.proofs.lemmas.Bool.{and_from, or_parts, or_from, and_right}
+
+abbrev pub Each : {A : Type 0} → (A → Type 0) → List A → Type 0
+Each P [] = Unit {0}
+Each P (x ∷ xs) = P x × Each P xs
+
+pub each_append : {A : Type 0} (P : A → Type 0) (xs ys : List A) → Each P xs → Each P ys → Each P (xs ++ ys)
+each_append P [] ys front back = back
+each_append P (x ∷ xs) ys front back = (front.0, each_append P xs ys front.1 back)
+
+pub each_front : {A : Type 0} (P : A → Type 0) (xs ys : List A) → Each P (xs ++ ys) → Each P xs
+each_front P [] ys all = tt
+each_front P (x ∷ xs) ys all = (all.0, each_front P xs ys all.1)
+
+pub each_back : {A : Type 0} (P : A → Type 0) (xs ys : List A) → Each P (xs ++ ys) → Each P ys
+each_back P [] ys all = all
+each_back P (x ∷ xs) ys all = each_back P xs ys all.1
+
+pub each_map : {A B : Type 0} (P : A → Type 0) (f : B → A) (xs : List B) → Each (λ x. P (f x)) xs → Each P (map f xs)
+each_map P f [] all = tt
+each_map P f (x ∷ xs) all = (all.0, each_map P f xs all.1)
+
+pub each_weaker : {A : Type 0} (P Q : A → Type 0) → ((x : A) → P x → Q x) → (xs : List A) → Each P xs → Each Q xs
+each_weaker P Q weaker [] all = tt
+each_weaker P Q weaker (x ∷ xs) all = (weaker x all.0, each_weaker P Q weaker xs all.1)
+
+pub each_filter : {A : Type 0} (P : A → Type 0) (q : A → Bool) (xs : List A) → Each (λ x. q x ≡ true → P x) xs → Each P (filter q xs)
+each_filter P q [] all = tt
+each_filter P q (x ∷ xs) all = on (q x) all.0 (each_filter P q xs all.1)
+  where
+    on : (t : Bool) → (t ≡ true → P x) → Each P (filter q xs) → Each P (cond t (x ∷ filter q xs) (filter q xs))
+    on true here rest = (here refl, rest)
+    on false here rest = rest
+
+pub each_unfiltered : {A : Type 0} (P : A → Type 0) (q : A → Bool) (xs : List A) → Each P (filter q xs) → Each (λ x. q x ≡ true → P x) xs
+each_unfiltered P q [] all = tt
+each_unfiltered P q (x ∷ xs) all = on (q x) refl (λ every. each_unfiltered P q xs every) all
+  where
+    on : (t : Bool) → q x ≡ t → (Each P (filter q xs) → Each (λ y. q y ≡ true → P y) xs) → Each P (cond t (x ∷ filter q xs) (filter q xs)) → (q x ≡ true → P x) × Each (λ y. q y ≡ true → P y) xs
+    on true is rest every = (λ _. every.0, rest every.1)
+    on false is rest every = (λ passes. absurd (let wrong : ⊥ = cc in wrong), rest every)
+
+-- ---- tests
+
+pub any_filter : {A : Type 0} (p q : A → Bool) (xs : List A) → list_any p (filter q xs) ≡ list_any (λ x. q x && p x) xs
+any_filter p q [] = refl
+any_filter p q (x ∷ xs) = on (q x) (any_filter p q xs)
+  where
+    on : (t : Bool) → list_any p (filter q xs) ≡ list_any (λ y. q y && p y) xs → list_any p (cond t (x ∷ filter q xs) (filter q xs)) ≡ ((t && p x) || list_any (λ y. q y && p y) xs)
+    on true rest = ap (λ r. p x || r) rest
+    on false rest = rest
+
+pub any_map : {A B : Type 0} (p : A → Bool) (f : B → A) (xs : List B) → list_any p (map f xs) ≡ list_any (λ x. p (f x)) xs
+any_map p f [] = refl
+any_map p f (x ∷ xs) = ap (λ r. p (f x) || r) (any_map p f xs)
+
+pub any_agree : {A : Type 0} (p q : A → Bool) (xs : List A) → Each (λ x. p x ≡ q x) xs → list_any p xs ≡ list_any q xs
+any_agree p q [] all = refl
+any_agree p q (x ∷ xs) all = ap (λ t. t || list_any p xs) all.0 ∙ ap (λ r. q x || r) (any_agree p q xs all.1)
+
+pub any_none : {A : Type 0} (p : A → Bool) (xs : List A) → Each (λ x. p x ≡ false) xs → list_any p xs ≡ false
+any_none p [] all = refl
+any_none p (x ∷ xs) all = or_from (p x) (list_any p xs) all.0 (any_none p xs all.1)
+
+pub each_fails : {A : Type 0} (p : A → Bool) (xs : List A) → list_any p xs ≡ false → Each (λ x. p x ≡ false) xs
+each_fails p [] none = tt
+each_fails p (x ∷ xs) none = let parts = or_parts (p x) (list_any p xs) none in (parts.0, each_fails p xs parts.1)
+
+-- none passes both tests if none passes one
+pub none_of_both : {A : Type 0} (p q : A → Bool) (xs : List A) → list_any p xs ≡ false → list_any (λ x. q x && p x) xs ≡ false
+none_of_both p q xs none = any_none (λ x. q x && p x) xs (each_weaker _ _ (λ x fails. and_right (q x) (p x) fails) xs (each_fails p xs none))
+
+pub none_filter : {A : Type 0} (p q : A → Bool) (xs : List A) → list_any p xs ≡ false → list_any p (filter q xs) ≡ false
+none_filter p q xs none = any_filter p q xs ∙ none_of_both p q xs none
+
+pub all_each : {A : Type 0} (p : A → Bool) (xs : List A) → Each (λ x. p x ≡ true) xs → list_all p xs ≡ true
+all_each p [] all = refl
+all_each p (x ∷ xs) all = and_from (p x) (list_all p xs) all.0 (all_each p xs all.1)
+
+-- ---- counts
+
+abbrev pub one_if : Bool → ℕ
+one_if t = cond t 1 0
+
+abbrev pub count : {A : Type 0} → (A → Bool) → List A → ℕ
+count p [] = 0
+count p (x ∷ xs) = one_if (p x) + count p xs
+
+pub count-is : {A : Type 0} (p : A → Bool) (xs : List A) → count_by p xs ≡ count p xs
+count-is p [] = refl
+count-is p (x ∷ xs) = sum_by-cons (λ y. cond (p y) 1 0) x xs ∙ ap (λ n. one_if (p x) + n) (count-is p xs)
+
+pub count_length : {A : Type 0} (p : A → Bool) (xs : List A) → length (filter p xs) ≡ count p xs
+count_length p [] = refl
+count_length p (x ∷ xs) = on (p x) (count_length p xs)
+  where
+    on : (t : Bool) → length (filter p xs) ≡ count p xs → length (cond t (x ∷ filter p xs) (filter p xs)) ≡ one_if t + count p xs
+    on true rest = omega (arith, rest)
+    on false rest = omega (arith, rest)
+
+pub count_filter : {A : Type 0} (p q : A → Bool) (xs : List A) → count q (filter p xs) ≡ count (λ x. p x && q x) xs
+count_filter p q [] = refl
+count_filter p q (x ∷ xs) = on (p x) (count_filter p q xs)
+  where
+    on : (s : Bool) → count q (filter p xs) ≡ count (λ y. p y && q y) xs → count q (cond s (x ∷ filter p xs) (filter p xs)) ≡ one_if (s && q x) + count (λ y. p y && q y) xs
+    on true rest = ap (λ n. one_if (q x) + n) rest
+    on false rest = omega (arith, rest)
+
+pub count_map : {A B : Type 0} (q : A → Bool) (f : B → A) (xs : List B) → count q (map f xs) ≡ count (λ x. q (f x)) xs
+count_map q f [] = refl
+count_map q f (x ∷ xs) = ap (λ n. one_if (q (f x)) + n) (count_map q f xs)
+
+pub count_agree : {A : Type 0} (p q : A → Bool) (xs : List A) → Each (λ x. p x ≡ q x) xs → count p xs ≡ count q xs
+count_agree p q [] all = refl
+count_agree p q (x ∷ xs) all = ap (λ t. one_if t + count p xs) all.0 ∙ ap (λ n. one_if (q x) + n) (count_agree p q xs all.1)
+
+-- those that pass one of two tests, of which none passes both
+pub count_either : {A : Type 0} (p q r : A → Bool) (xs : List A) → Each (λ x. (r x ≡ (p x || q x)) × (q x ≡ true → p x ≡ false)) xs → count r xs ≡ count p xs + count q xs
+count_either p q r [] all = refl
+count_either p q r (x ∷ xs) all = ap (λ t. one_if t + count r xs) all.0.0 ∙ on (p x) (q x) all.0.1 (count_either p q r xs all.1)
+  where
+    on : (s t : Bool) → (t ≡ true → s ≡ false) → count r xs ≡ count p xs + count q xs → one_if (s || t) + count r xs ≡ (one_if s + count p xs) + (one_if t + count q xs)
+    on true true apart rest = absurd (let wrong : true ≡ false = apart refl in cc)
+    on true false apart rest = omega (arith, rest)
+    on false true apart rest = omega (arith, rest)
+    on false false apart rest = omega (arith, rest)
+
+pub count_ends : {A : Type 0} (p : A → Bool) (xs : List A) → count p xs ≤ length xs
+count_ends p [] = omega arith
+count_ends p (x ∷ xs) = on (p x) (count_ends p xs)
+  where
+    on : (t : Bool) → count p xs ≤ length xs → one_if t + count p xs ≤ length (x ∷ xs)
+    on true rest = omega (arith, rest)
+    on false rest = omega (arith, rest)

@@ -1,0 +1,365 @@
+-- The tree gone through from the root down.
+use Rattle.std.proofs.Common.{◌≡◌, ◌+◌, ◌==◌, Bool, true, false, cond, not, ◌&&◌, ◌||◌, List, [], ◌∷◌, ◌++◌, map, filter, length, Some, None, refl, sym, ap, ◌∙◌, inl, inr, ◌⊎◌}
+use Rattle.std.specs.Option.{option_map}
+use Rattle.std.proofs.lemmas.Bool.{cases_Bool, and_parts, and_left, or_cases, or_parts, or_from, or_left, or_right, not-true, not-false, not_from_false, false≢true, eq-eqb, eqb-true, cond-true, cond-false, false_from_ne_true}
+use Rattle.std.proofs.lemmas.List.{length-map}
+use Rattle.room_ace.specs.Ace.{Ace}
+use Rattle.room_ace.specs.Same.{same_entries}
+use Rattle.room_ace.specs.declared.object.ObjKind.{ObjKind}
+use Rattle.room_ace.specs.declared.object.Which.{Which}
+use Rattle.room_ace.proofs.Same.{entries_equal}
+use Rattle.room_ace.proofs.Alike.{equal_entries}
+use Rattle.room_tree.specs.declared.node.Held.{Held}
+use Rattle.room_tree.specs.declared.node.Node.{Node}
+use Rattle.room_tree.specs.Content.{Content, node_at, parent_of, has_parent, children_of, is_linked_in, is_rising, with_each}
+use Rattle.room_tree.specs.Finding.{find_id}
+use Rattle.room_tree.specs.Held.{held_of, full_of, is_linked}
+use Rattle.room_tree.specs.Keep.{with_inh}
+use Rattle.room_inherit.specs.Pass.{pass}
+use Rattle.room_inherit.specs.Spread.{with_lists, is_changed}
+use Rattle.room_inherit.specs.Turn.{is_linked_to, is_outdated, renewed, renewals, renewed_below, is_met_again, meets_again}
+use Rattle.room_inherit.proofs.Kinship.{same_kind, with_last}
+use Rattle.room_inherit.proofs.Members.{Each, each_append, each_front, each_back, each_weaker, count, count_length, count_map, count_agree, count_either}
+use Rattle.room_inherit.proofs.Children.{has_id, Apart, ids_of, each_there, apart_rising, apart_map, each_child, apart_children, count_children, some_child, is_child, length_children}
+use Rattle.room_inherit.proofs.Renewing.{map_agree, map_map, one_object}
+use Rattle.room_inherit.proofs.Frontier.{set, set_id, set_parent, set_held, find_set, links, passes}
+use Rattle.room_inherit.proofs.OneTurn.{parent_is, parent_found, same_above, has_either, apart_join, apart_front, apart_last, has_last, or_false, base_of}
+
+module _ (which : Which) (old : Content) (root : Node) where
+  abbrev pub There : Node → Type 0
+  There node = node_at old node.id ≡ Some node
+
+  -- an object that waits, with its list
+  pub record Visits (f : Node → List Ace) (seen : Node → Bool) (waiting : Node) : Type 0 where
+    pub base : Node
+    pub there : There base
+    pub is : waiting ≡ set which f base
+    pub seen_is : seen base ≡ true
+
+  -- an object was met below one that was taken
+  pub record WasMet (seen : Node → Bool) (waiting : List Node) (node : Node) : Type 0 where
+    pub parent : Node
+    pub there : There parent
+    pub has : has_parent parent.id node ≡ true
+    pub seen_is : seen parent ≡ true
+    pub taken : has_id parent.id waiting ≡ false
+
+  -- the children of one that was taken were met, and agree with it
+  abbrev pub Closed : (Node → List Ace) → (Node → Bool) → List Node → Type 0
+  Closed f seen waiting =
+      (n p : Node) → There n → There p → has_parent p.id n ≡ true → seen p ≡ true → (has_id p.id waiting ≡ true) ⊎ ((seen n ≡ true) × (links which p n ≡ true → f n ≡ passes which f p n))
+
+  pub record Sweep (f : Node → List Ace) (seen : Node → Bool) (waiting : List Node) : Type 0 where
+    pub known : Each (Visits f seen) waiting
+    pub apart : Apart waiting
+    pub came : (node : Node) → There node → seen node ≡ true → (node ≡ root) ⊎ WasMet seen waiting node
+    pub closed : Closed f seen waiting
+    pub fresh : (node : Node) → There node → seen node ≡ false → is_changed which f node ≡ false
+    pub linked : (node : Node) → There node → is_changed which f node ≡ true → is_linked_in old which node ≡ true
+    pub from_root : seen root ≡ true
+
+module _ (which : Which) (old : Content) (rises : is_rising (0 ∷ ids_of old.nodes) ≡ true) (root : Node) (top : root.parent ≡ None) (f : Node → List Ace) (seen : Node → Bool) (rest : List Node) (w : Node)
+    (front : Sweep which old root f seen (rest ++ w ∷ [])) where
+  abbrev now : Content
+  now = with_lists which f old
+
+  apart_old : Apart old.nodes
+  apart_old = apart_rising 0 old.nodes rises
+
+  apart_now : Apart now.nodes
+  apart_now = apart_map (set which f) (set_id which f) old.nodes apart_old
+
+  there_now : (n : Node) → There which old root n → node_at now (set which f n).id ≡ Some (set which f n)
+  there_now n there = ap (λ i. find_id i (map (set which f) old.nodes)) (set_id which f n) ∙ find_set which f n.id old.nodes ∙ ap (option_map (set which f)) there
+
+  -- ---- the object that is taken
+
+  pub waits : Visits which old root f seen w
+  waits = (each_back (Visits which old root f seen) rest (w ∷ []) front.known).0
+
+  abbrev w0 : Node
+  w0 = waits.base
+
+  w_id : w.id ≡ w0.id
+  w_id = ap (λ (n : Node). n.id) waits.is ∙ set_id which f w0
+
+  w_held : held_of which w ≡ record (held_of which w0) { inh = f w0 }
+  w_held = ap (held_of which) waits.is ∙ set_held which f w0
+
+  -- ---- the children that are outdated
+
+  abbrev stale : Node → Bool
+  stale n = has_parent w.id n && (links which w0 n && not (same_entries (f n) (passes which f w0 n)))
+
+  abbrev outdated_by : Held → Held → ObjKind → Bool
+  outdated_by held above kind = is_linked held (Some above) && not (same_entries held.inh (pass kind (full_of above)))
+
+  stale_is : (n : Node) → (has_parent w.id (set which f n) && is_outdated which w (set which f n)) ≡ stale n
+  stale_is n = λ i. set_parent which f w.id n i && outdated_by (set_held which f n i) (w_held i) (same_kind which (f n) n i)
+
+  linked_is : (n : Node) → is_linked_to which w (set which f n) ≡ links which w0 n
+  linked_is n = λ i. is_linked (set_held which f n i) (Some (w_held i))
+
+  -- ---- the lists afterwards
+
+  abbrev pub after : Node → List Ace
+  after n = cond (stale n) (passes which f w0 n) (f n)
+
+  renewed_is : (n : Node) → renewed which w (set which f n) ≡ with_inh which (passes which f w0 n) n
+  renewed_is n = (λ i. with_inh which (pass (same_kind which (f n) n i) (full_of (w_held i))) (set which f n)) ∙ with_last which (passes which f w0 n) (f n) n
+
+  after_is : (n : Node) → renewed_below which w (set which f n) ≡ set which after n
+  after_is n = ap (λ t. cond t (renewed which w (set which f n)) (set which f n)) (stale_is n) ∙ ap (λ m. cond (stale n) m (set which f n)) (renewed_is n) ∙ on (stale n)
+    where
+      on : (t : Bool) → cond t (with_inh which (passes which f w0 n) n) (with_inh which (f n) n) ≡ with_inh which (cond t (passes which f w0 n) (f n)) n
+      on true = refl
+      on false = refl
+
+  pub rows_after : with_each now (renewed_below which w) ≡ with_lists which after old
+  rows_after = ap (λ (ns : List Node). record old { nodes = ns }) (map_map (renewed_below which w) (set which f) old.nodes ∙ map_agree (λ n. renewed_below which w (set which f n)) (set which after) old.nodes (every old.nodes))
+    where
+      every : (xs : List Node) → Each (λ n. renewed_below which w (set which f n) ≡ set which after n) xs
+      every [] = tt
+      every (x ∷ xs) = (after_is x, every xs)
+
+  -- ---- what is known of children
+
+  abbrev child : Node → Bool
+  child n = has_parent w.id n
+
+  abbrev pub seen_after : Node → Bool
+  seen_after n = seen n || child n
+
+  unseen_child : (n : Node) → There which old root n → child n ≡ true → seen n ≡ false
+  unseen_child n there has = false_from_ne_true (seen n) (λ is. elim (front.came n there is) [
+    | inl same ↦ no_parent (sym top ∙ ap (λ (x : Node). x.parent) (sym same) ∙ parent_is w.id n has)
+    | inr c ↦ false≢true (sym c.taken ∙ ap (λ i. has_id i (rest ++ w ∷ [])) (same_above c.parent.id w.id n c.has has) ∙ has_last rest w)
+  ])
+    where
+      no_parent : None ≡ Some w.id → ⊥
+      no_parent e = cc
+
+  seen_apart : (n : Node) → There which old root n → seen n ≡ true → child n ≡ false
+  seen_apart n there is = false_from_ne_true (child n) (λ has. false≢true (sym (unseen_child n there has) ∙ is))
+
+  child_unchanged : (n : Node) → There which old root n → child n ≡ true → is_changed which f n ≡ false
+  child_unchanged n there has = front.fresh n there (unseen_child n there has)
+
+  not_stale : (n : Node) → child n ≡ false → stale n ≡ false
+  not_stale n isnt = and_left (child n) (links which w0 n && not (same_entries (f n) (passes which f w0 n))) isnt
+
+  abbrev StaleParts : Node → Type 0
+  StaleParts n = (has_parent w.id n ≡ true) × (links which w0 n ≡ true) × (same_entries (f n) (passes which f w0 n) ≡ false)
+
+  stale_parts : (n : Node) → stale n ≡ true → StaleParts n
+  stale_parts n is =
+      let first = and_parts (has_parent w.id n) (links which w0 n && not (same_entries (f n) (passes which f w0 n))) is in
+      let second = and_parts (links which w0 n) (not (same_entries (f n) (passes which f w0 n))) first.1 in
+      (first.0, second.0, not-true (same_entries (f n) (passes which f w0 n)) second.1)
+
+  keeps : (n : Node) → stale n ≡ false → after n ≡ f n
+  keeps n isnt = cond-false (stale n) (passes which f w0 n) (f n) isnt
+
+  takes : (n : Node) → stale n ≡ true → after n ≡ passes which f w0 n
+  takes n is = cond-true (stale n) (passes which f w0 n) (f n) is
+
+  changed_stale : (n : Node) → There which old root n → stale n ≡ true → is_changed which after n ≡ true
+  changed_stale n there is =
+      let parts = stale_parts n is in
+      let before : f n ≡ (held_of which n).inh = entries_equal (f n) (held_of which n).inh (not-false (same_entries (f n) (held_of which n).inh) (child_unchanged n there parts.0)) in
+      not_from_false (same_entries (after n) (held_of which n).inh) (false_from_ne_true (same_entries (after n) (held_of which n).inh) (λ same.
+      false≢true (sym parts.2 ∙ equal_entries (f n) (passes which f w0 n) (before ∙ sym (entries_equal (after n) (held_of which n).inh same) ∙ takes n is))))
+
+  changed_is : (n : Node) → There which old root n → is_changed which after n ≡ (is_changed which f n || stale n)
+  changed_is n there = elim (cases_Bool (stale n)) [
+    | inl is ↦ changed_stale n there is ∙ sym (or_right (is_changed which f n) (stale n) is)
+    | inr isnt ↦ ap (λ e. not (same_entries e (held_of which n).inh)) (keeps n isnt) ∙ sym (or_false (is_changed which f n)) ∙ ap (λ t. is_changed which f n || t) (sym isnt)
+  ]
+
+  -- ---- those that wait next
+
+  abbrev later : Content
+  later = with_lists which after old
+
+  apart_later : Apart later.nodes
+  apart_later = apart_map (set which after) (set_id which after) old.nodes apart_old
+
+  there_later : (n : Node) → There which old root n → node_at later (set which after n).id ≡ Some (set which after n)
+  there_later n there = ap (λ i. find_id i (map (set which after) old.nodes)) (set_id which after n) ∙ find_set which after n.id old.nodes ∙ ap (option_map (set which after)) there
+
+  abbrev pub kids : List Node
+  kids = children_of later w.id
+
+  kids_has : (n : Node) → There which old root n → has_id n.id kids ≡ child n
+  kids_has n there = ap (λ i. has_id i kids) (sym (set_id which after n)) ∙ is_child later apart_later w.id (set which after n) (there_later n there) ∙ set_parent which after w.id n
+
+  kids_visit : Each (Visits which old root after seen_after) kids
+  kids_visit = each_child later apart_later (Visits which old root after seen_after) w.id kid
+    where
+      kid : (m : Node) → node_at later m.id ≡ Some m → has_parent w.id m ≡ true → Visits which old root after seen_after m
+      kid m there has =
+          let b = base_of which after m (find_id m.id old.nodes) (sym (find_set which after m.id old.nodes) ∙ there) in
+          record {
+            base = b.0;
+            there = ap (λ i. node_at old i) (sym (set_id which after b.0) ∙ ap (λ (x : Node). x.id) (sym b.2)) ∙ b.1;
+            is = b.2;
+            seen_is = or_right (seen b.0) (child b.0) (sym (set_parent which after w.id b.0) ∙ ap (has_parent w.id) (sym b.2) ∙ has);
+          }
+
+  keeps_seen : (n : Node) → There which old root n → seen n ≡ true → after n ≡ f n
+  keeps_seen n there is = keeps n (not_stale n (seen_apart n there is))
+
+  rest_visits : (r : Node) → Visits which old root f seen r → Visits which old root after seen_after r
+  rest_visits r known = record {
+    base = known.base;
+    there = known.there;
+    is = known.is ∙ ap (λ e. with_inh which e known.base) (sym (keeps_seen known.base known.there known.seen_is));
+    seen_is = or_left (seen known.base) (child known.base) known.seen_is;
+  }
+
+  rest_apart : (r : Node) → Visits which old root f seen r → has_id r.id kids ≡ false
+  rest_apart r known = ap (λ i. has_id i kids) (ap (λ (n : Node). n.id) known.is ∙ set_id which f known.base) ∙ kids_has known.base known.there ∙ seen_apart known.base known.there known.seen_is
+
+  taken_on : (p : Node) → There which old root p → seen p ≡ true → has_id p.id rest ≡ false → has_id p.id (rest ++ kids) ≡ false
+  taken_on p there is none = has_either p.id rest kids ∙ or_from (has_id p.id rest) (has_id p.id kids) none (kids_has p there ∙ seen_apart p there is)
+
+  abbrev Came : Node → Type 0
+  Came n = (n ≡ root) ⊎ WasMet which old root seen_after (rest ++ kids) n
+
+  came_before : (n : Node) → (n ≡ root) ⊎ WasMet which old root seen (rest ++ w ∷ []) n → Came n
+  came_before n (inl is) = inl is
+  came_before n (inr c) = inr (record {
+    parent = c.parent;
+    there = c.there;
+    has = c.has;
+    seen_is = or_left (seen c.parent) (child c.parent) c.seen_is;
+    taken = taken_on c.parent c.there c.seen_is (or_parts (has_id c.parent.id rest) (has_id c.parent.id (w ∷ [])) (sym (has_either c.parent.id rest (w ∷ [])) ∙ c.taken)).0;
+  })
+
+  came_now : (n : Node) → child n ≡ true → Came n
+  came_now n has = inr (record {
+    parent = w0;
+    there = waits.there;
+    has = ap (λ i. has_parent i n) (sym w_id) ∙ has;
+    seen_is = or_left (seen w0) (child w0) waits.seen_is;
+    taken = taken_on w0 waits.there waits.seen_is (ap (λ i. has_id i rest) (sym w_id) ∙ apart_last rest w front.apart);
+  })
+
+  abbrev Goal : Node → Node → Type 0
+  Goal n p = (has_id p.id (rest ++ kids) ≡ true) ⊎ ((seen_after n ≡ true) × (links which p n ≡ true → after n ≡ passes which after p n))
+
+  child_agrees : (n p : Node) → There which old root n → There which old root p → has_parent p.id n ≡ true → links which p n ≡ true → p.id ≡ w.id → after n ≡ passes which after p n
+  child_agrees n p there there' has link is =
+      let one : w0 ≡ p = one_object old.nodes w0 p waits.there there' (sym w_id ∙ sym is) in
+      let gives : passes which f w0 n ≡ passes which after p n =
+      ap (λ l. pass n.kind ((held_of which w0).own ++ l)) (sym (keeps_seen w0 waits.there waits.seen_is)) ∙ ap (λ x. passes which after x n) one in
+      elim (cases_Bool (stale n)) [
+        | inl st ↦ takes n st ∙ gives
+        | inr fresh ↦
+            let has_w : has_parent w.id n ≡ true = ap (λ i. has_parent i n) (sym is) ∙ has in
+            let link_w : links which w0 n ≡ true = ap (λ x. links which x n) one ∙ link in
+            let same : same_entries (f n) (passes which f w0 n) ≡ true = not-false (same_entries (f n) (passes which f w0 n)) (sym (λ i. has_w i && (link_w i && not (same_entries (f n) (passes which f w0 n)))) ∙ fresh) in
+            keeps n fresh ∙ entries_equal (f n) (passes which f w0 n) same ∙ gives
+      ]
+
+  other_agrees : (n p : Node) → There which old root n → There which old root p → has_parent p.id n ≡ true → seen p ≡ true → (p.id == w.id) ≡ false
+      → (has_id p.id (rest ++ w ∷ []) ≡ true) ⊎ ((seen n ≡ true) × (links which p n ≡ true → f n ≡ passes which f p n)) → Goal n p
+  other_agrees n p there there' has is other (inl waiting) =
+      elim (or_cases (has_id p.id rest) (has_id p.id (w ∷ [])) (sym (has_either p.id rest (w ∷ [])) ∙ waiting)) [
+        | inl still ↦ inl (has_either p.id rest kids ∙ or_left (has_id p.id rest) (has_id p.id kids) still)
+        | inr last ↦ absurd (false≢true (sym other ∙ eq-eqb p.id w.id (sym (eqb-true w.id p.id (sym (or_false (w.id == p.id)) ∙ last)))))
+      ]
+  other_agrees n p there there' has is other (inr agrees) =
+      let isnt : child n ≡ false = false_from_ne_true (child n) (λ has'. false≢true (sym other ∙ eq-eqb p.id w.id (same_above p.id w.id n has has'))) in
+      inr (
+        or_left (seen n) (child n) agrees.0,
+        λ link. keeps n (not_stale n isnt) ∙ agrees.1 link ∙ ap (λ l. pass n.kind ((held_of which p).own ++ l)) (sym (keeps_seen p there' is)),
+      )
+
+  closed_after : Closed which old root after seen_after (rest ++ kids)
+  closed_after n p there there' has is = elim (cases_Bool (p.id == w.id)) [
+    | inl same ↦
+        let e = eqb-true p.id w.id same in
+        inr (or_right (seen n) (child n) (ap (λ i. has_parent i n) (sym e) ∙ has), λ link. child_agrees n p there there' has link e)
+    | inr other ↦ elim (or_cases (seen p) (child p) is) [
+      | inl before ↦ other_agrees n p there there' has before other (front.closed n p there there' has before)
+      | inr now_met ↦ inl (has_either p.id rest kids ∙ or_right (has_id p.id rest) (has_id p.id kids) (kids_has p there' ∙ now_met))
+    ]
+  ]
+
+  linked_now : (n : Node) → stale n ≡ true → is_linked_in old which n ≡ true
+  linked_now n is =
+      let parts = stale_parts n is in
+      let above : parent_of old n ≡ Some w0 = parent_found old w0 n waits.there (ap (λ i. has_parent i n) (sym w_id) ∙ parts.0) in
+      ap (λ o. is_linked (held_of which n) (option_map (held_of which) o)) above ∙ parts.1
+
+  pub sweep_after : Sweep which old root after seen_after (rest ++ kids)
+  sweep_after = record {
+    known = each_append (Visits which old root after seen_after) rest kids (each_weaker (Visits which old root f seen) (Visits which old root after seen_after) rest_visits rest (each_front (Visits which old root f seen) rest (w ∷ []) front.known)) kids_visit;
+    apart = apart_join rest kids (apart_front rest (w ∷ []) front.apart) (apart_children later apart_later w.id) (each_weaker (Visits which old root f seen) (λ r. has_id r.id kids ≡ false) rest_apart rest (each_front (Visits which old root f seen) rest (w ∷ []) front.known));
+    came = λ n there is. elim (or_cases (seen n) (child n) is) [
+      | inl before ↦ came_before n (front.came n there before)
+      | inr has ↦ came_now n has
+    ];
+    closed = closed_after;
+    fresh = λ n there isnt.
+        let parts = or_parts (seen n) (child n) isnt in
+        ap (λ e. not (same_entries e (held_of which n).inh)) (keeps n (not_stale n parts.1)) ∙ front.fresh n there parts.0;
+    linked = λ n there changed. elim (or_cases (is_changed which f n) (stale n) (sym (changed_is n there) ∙ changed)) [
+      | inl before ↦ front.linked n there before
+      | inr st ↦ linked_now n st
+    ];
+    from_root = or_left (seen root) (child root) front.from_root;
+  }
+
+  -- ---- counts
+
+  pub count_seen : count seen_after old.nodes ≡ count seen old.nodes + length kids
+  count_seen =
+      count_either seen child seen_after old.nodes (each_there (λ n. (seen_after n ≡ (seen n || child n)) × (child n ≡ true → seen n ≡ false)) old.nodes apart_old (λ n there. (refl, unseen_child n there)))
+      ∙ ap (λ k. count seen old.nodes + k) (sym number)
+    where
+      every : (xs : List Node) → Each (λ n. has_parent w.id (set which after n) ≡ child n) xs
+      every [] = tt
+      every (x ∷ xs) = (set_parent which after w.id x, every xs)
+
+      number : length kids ≡ count child old.nodes
+      number = length_children later apart_later w.id ∙ count_map (has_parent w.id) (set which after) old.nodes ∙ count_agree (λ n. has_parent w.id (set which after n)) child old.nodes (every old.nodes)
+
+  abbrev pub written : List Node
+  written = renewals which w (children_of now w.id)
+
+  pub count_after : count (is_changed which after) old.nodes ≡ count (is_changed which f) old.nodes + length written
+  count_after =
+      count_either (is_changed which f) stale (is_changed which after) old.nodes
+      (each_there (λ n. (is_changed which after n ≡ (is_changed which f n || stale n)) × (stale n ≡ true → is_changed which f n ≡ false)) old.nodes apart_old
+      (λ n there. (changed_is n there, λ st. child_unchanged n there (stale_parts n st).0)))
+      ∙ ap (λ k. count (is_changed which f) old.nodes + k) (sym number)
+    where
+      every : (xs : List Node) → Each (λ n. (has_parent w.id (set which f n) && is_outdated which w (set which f n)) ≡ stale n) xs
+      every [] = tt
+      every (x ∷ xs) = (stale_is x, every xs)
+
+      number : length written ≡ count stale old.nodes
+      number =
+          length-map (filter (is_outdated which w) (children_of now w.id)) (renewed which w) ∙ count_length (is_outdated which w) (children_of now w.id) ∙ count_children now apart_now (is_outdated which w) w.id
+          ∙ count_map (λ m. has_parent w.id m && is_outdated which w m) (set which f) old.nodes
+          ∙ count_agree (λ n. has_parent w.id (set which f n) && is_outdated which w (set which f n)) stale old.nodes (every old.nodes)
+
+  -- ---- no loop
+
+  pub not_met_again : There which old root root → meets_again which root.id w (children_of now w.id) ≡ false
+  not_met_again there = false_from_ne_true (meets_again which root.id w (children_of now w.id)) (λ met. some_child now apart_now (is_met_again which root.id w) w.id ⊥ found met)
+    where
+      no_parent : None ≡ Some w.id → ⊥
+      no_parent e = cc
+
+      found : (m : Node) → node_at now m.id ≡ Some m → has_parent w.id m ≡ true → is_met_again which root.id w m ≡ true → ⊥
+      found m there_m has met_m =
+          let b = base_of which f m (find_id m.id old.nodes) (sym (find_set which f m.id old.nodes) ∙ there_m) in
+          let n = b.0 in
+          let is_start : m.id ≡ root.id = eqb-true m.id root.id (and_parts (m.id == root.id) (is_linked_to which w m) met_m).0 in
+          let n_id : n.id ≡ m.id = sym (set_id which f n) ∙ ap (λ (x : Node). x.id) (sym b.2) in
+          let same : n ≡ root = one_object old.nodes n root (ap (λ i. node_at old i) n_id ∙ b.1) there (n_id ∙ is_start) in
+          let has_n : has_parent w.id n ≡ true = sym (set_parent which f w.id n) ∙ ap (has_parent w.id) (sym b.2) ∙ has in
+          no_parent (sym top ∙ ap (λ (x : Node). x.parent) (sym same) ∙ parent_is w.id n has_n)

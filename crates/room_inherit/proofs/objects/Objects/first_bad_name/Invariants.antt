@@ -1,0 +1,16 @@
+use Rattle.std.proofs.Common.{◌≡◌, ℕ, not, List, drop, take}
+use Rattle.std.specs.Borrow.{Bor}
+use Rattle.std.specs.List.{find, list_any}
+use Rattle.std.specs.BTreeSet.{contains}
+use Rattle.room_tree.specs.declared.node.Node.{Node}
+use Rattle.room_inherit.specs.Objects.{only}
+use Rattle.room_inherit.specs.Sound.{has_sound_name}
+use Rattle.room_inherit.proofs.Given.{key_order, holds}
+use Rattle.room_inherit.proofs.objects.Objects.first_bad_name.Given as goal
+
+-- what is left has the same answer, and the set has the parents and names so far
+abbrev pub invariant-nodes : goal.invariant-nodes
+invariant-nodes l = record {
+  same : find (λ (n : Node). not (has_sound_name (only l.self) n)) (drop l.node-index l.node-items) ≡ find (λ (n : Node). not (has_sound_name (only l.self) n)) l.self;
+  given : (key : ℕ × Bor (List ℕ)) → contains key_order l.given key ≡ list_any (holds key) (take l.node-index l.node-items);
+}

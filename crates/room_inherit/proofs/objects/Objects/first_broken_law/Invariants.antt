@@ -1,0 +1,10 @@
+use Rattle.std.proofs.Common.{◌≡◌, not, drop}
+use Rattle.std.specs.List.{find}
+use Rattle.room_tree.specs.declared.node.Node.{Node}
+use Rattle.room_inherit.specs.Objects.{only}
+use Rattle.room_inherit.specs.Sound.{keeps_law}
+use Rattle.room_inherit.proofs.objects.Objects.first_broken_law.Given as goal
+
+-- what is left has the same answer
+abbrev pub invariant-nodes : goal.invariant-nodes
+invariant-nodes l = find (λ (n : Node). not (keeps_law (only l.self) n)) (drop l.node-index l.node-items) ≡ find (λ (n : Node). not (keeps_law (only l.self) n)) l.self

@@ -1,0 +1,9 @@
+use Rattle.std.proofs.Common.{◌≡◌, ◌-◌, length}
+use Rattle.room_tree.specs.Content.{reaches_root}
+use Rattle.room_inherit.specs.Objects.{only}
+use Rattle.room_inherit.specs.Sound.{reaches}
+use Rattle.room_inherit.proofs.objects.Objects.reaches_root.Given as goal
+
+-- the steps that are left lead to the root exactly if all do
+abbrev pub invariant-steps : goal.invariant-steps
+invariant-steps l = reaches_root (length l.self - l.step) (only l.self) l.above ≡ reaches (only l.self) l.node

@@ -1,0 +1,72 @@
+use Rattle.std.proofs.Common.{◌≡◌, ℕ, ◌++◌, length, List, Result, Err, Vec, Global, refl, sym, ap, subst, ◌∙◌}
+use Rattle.room_tree.specs.declared.node.Node.{Node}
+use Rattle.room_tree.specs.Keep.{AreChildrenOf}
+use Rattle.room_tree.specs.Rows.{Rows}
+use Rattle.room_tree.proofs.Steps.{Laws}
+use Rattle.room_inherit.specs.Turn.{IsTurn}
+use Rattle.room_inherit.specs.declared.outcome.SpreadFault.{SpreadFault}
+use Rattle.room_inherit.specs.declared.outcome.SpreadFault.TheVariants.{Keeper}
+use Rattle.room_inherit.proofs.Calls.{handed_on}
+use Rattle.room_inherit.proofs.SweepCalls.{Visited, visit_done, visit_without_memory, visit_read_fails, visit_gives_up}
+use Rattle.room_inherit.proofs.whole_tree.visit_children.Goals as goal
+
+pub returns-in_err-renew_children : goal.returns-in_err-renew_children
+returns-in_err-renew_children g c =
+    let k = g.K.Keep in
+    let m = g.met.K.Keep in
+    let laws : Laws k.rows k.failures k.writes k.Follows k.IsTrusted = record { itself = m.follows_itself; on = m.follows_on; rise = m.failures_rise; first = m.trusted_first; last = m.trusted_last } in
+    let a = c.args.keep.now in
+    let above = c.args.above.now in
+    let before = c.args.waiting.now.items in
+    let Becomes : Rows → Vec Node Global → Rows → Type 0 = λ old v new. IsTurn c.args.which c.args.start above old v.items new in
+    let fault = c.in_err-renew_children.field-0.0 in
+    let is = handed_on c.from_residual.result fault c.from_residual.ensures.1 in
+    record {
+      visit = subst (λ (r : Result ℕ SpreadFault). Visited k.rows k.failures k.writes k.Follows k.IsTrusted laws m.are_rows (λ s. (m.counts_end s).1) c.args.which c.args.start above before before a c.renew_children.new.keep r) (sym is)
+          (visit_gives_up k.rows k.failures k.writes k.Follows k.IsTrusted laws m.are_rows (λ s. (m.counts_end s).1) c.args.which c.args.start above before a c.renew_children.new.keep fault before (λ (v : Vec Node Global). length v.items) Becomes c.in_err-renew_children.ensures.turn);
+    }
+
+pub returns-in_err-children : goal.returns-in_err-children
+returns-in_err-children g c =
+    let k = g.K.Keep in
+    let m = g.met.K.Keep in
+    let laws : Laws k.rows k.failures k.writes k.Follows k.IsTrusted = record { itself = m.follows_itself; on = m.follows_on; rise = m.failures_rise; first = m.trusted_first; last = m.trusted_last } in
+    let a = c.args.keep.now in
+    let above = c.args.above.now in
+    let before = c.args.waiting.now.items in
+    let Becomes : Rows → Vec Node Global → Rows → Type 0 = λ old v new. IsTurn c.args.which c.args.start above old v.items new in
+    let fault = c.in_err-children.field-0.0 in
+    let is = handed_on c.from_residual-in_err-children.result (Keeper fault) c.from_residual-in_err-children.ensures.1 in
+    record {
+      visit = subst (λ (r : Result ℕ SpreadFault). Visited k.rows k.failures k.writes k.Follows k.IsTrusted laws m.are_rows (λ s. (m.counts_end s).1) c.args.which c.args.start above before before a c.children.new.self r) (sym is)
+          (visit_read_fails k.rows k.failures k.writes k.Follows k.IsTrusted laws m.are_rows (λ s. (m.counts_end s).1) c.args.which c.args.start above before a c.renew_children.new.keep c.in_ok-renew_children.field-0 (λ (v : Vec Node Global). length v.items) (λ (v : Vec Node Global). v.items) refl c.in_ok-renew_children.ensures.turn before c.children.new.self fault (AreChildrenOf above.id) c.in_err-children.ensures.read);
+    }
+
+pub returns-in_err-push_copies : goal.returns-in_err-push_copies
+returns-in_err-push_copies g c =
+    let k = g.K.Keep in
+    let m = g.met.K.Keep in
+    let laws : Laws k.rows k.failures k.writes k.Follows k.IsTrusted = record { itself = m.follows_itself; on = m.follows_on; rise = m.failures_rise; first = m.trusted_first; last = m.trusted_last } in
+    let a = c.args.keep.now in
+    let above = c.args.above.now in
+    let before = c.args.waiting.now.items in
+    let Becomes : Rows → Vec Node Global → Rows → Type 0 = λ old v new. IsTurn c.args.which c.args.start above old v.items new in
+    let is = handed_on c.from_residual-in_err-push_copies.result c.in_err-push_copies.field-0.0 c.from_residual-in_err-push_copies.ensures.1 ∙ ap (λ (e : SpreadFault). Err e) c.in_err-push_copies.ensures.memory in
+    record {
+      visit = subst (λ (r : Result ℕ SpreadFault). Visited k.rows k.failures k.writes k.Follows k.IsTrusted laws m.are_rows (λ s. (m.counts_end s).1) c.args.which c.args.start above before c.push_copies.new.waiting.items a c.children.new.self r) (sym is)
+          (visit_without_memory k.rows k.failures k.writes k.Follows k.IsTrusted laws m.are_rows (λ s. (m.counts_end s).1) c.args.which c.args.start above before a c.renew_children.new.keep c.in_ok-renew_children.field-0 (λ (v : Vec Node Global). length v.items) (λ (v : Vec Node Global). v.items) refl c.in_ok-renew_children.ensures.turn c.push_copies.new.waiting.items c.children.new.self c.in_ok-children.ensures.read.follows);
+    }
+
+pub returns : goal.returns
+returns g c =
+    let k = g.K.Keep in
+    let m = g.met.K.Keep in
+    let laws : Laws k.rows k.failures k.writes k.Follows k.IsTrusted = record { itself = m.follows_itself; on = m.follows_on; rise = m.failures_rise; first = m.trusted_first; last = m.trusted_last } in
+    let a = c.args.keep.now in
+    let above = c.args.above.now in
+    let before = c.args.waiting.now.items in
+    let Becomes : Rows → Vec Node Global → Rows → Type 0 = λ old v new. IsTurn c.args.which c.args.start above old v.items new in
+    let behind : c.push_copies.new.waiting.items ≡ before ++ c.in_ok-children.children = c.in_ok-push_copies.ensures.ok ∙ ap (λ (l : List Node). before ++ l) c.as_slice.ensures in
+    record {
+      visit = visit_done k.rows k.failures k.writes k.Follows k.IsTrusted laws m.are_rows (λ s. (m.counts_end s).1) c.args.which c.args.start above before a c.renew_children.new.keep c.in_ok-renew_children.field-0 (λ (v : Vec Node Global). length v.items) (λ (v : Vec Node Global). v.items) refl c.in_ok-renew_children.ensures.turn c.in_ok-children.children c.push_copies.new.waiting.items c.children.new.self c.in_ok-children.ensures.read behind c.len-written.result (c.len-written.ensures ∙ c.in_ok-renew_children.field-0.ok.0);
+    }

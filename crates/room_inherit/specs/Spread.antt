@@ -1,0 +1,71 @@
+-- How a change of a list is carried down to the stored lists below it (RFC 8881, section 6.4.3).
+use Rattle.std.specs.Prelude.{◌≡◌, ℕ, zero, suc, ◌+◌, ◌&&◌, ◌||◌, Bool, false, not, List, Some, Result, IfOk, IfErr, IsTrue, count_by}
+use Rattle.std.specs.Option.{option_map_or}
+use Rattle.room_ace.specs.Ace.{Ace}
+use Rattle.room_ace.specs.Same.{same_entries}
+use Rattle.room_ace.specs.declared.object.Which.{Which}
+use Rattle.room_tree.specs.declared.node.Node.{Node}
+use Rattle.room_tree.specs.Content.{Content, node_at, parent_of, has_parent, is_linked_in, with_each}
+use Rattle.room_tree.specs.Held.{held_of}
+use Rattle.room_tree.specs.Keep.{HasCause, IsUnreadable, capped, reading, with_inh}
+use Rattle.room_tree.specs.Rows.{Rows}
+use Rattle.room_inherit.specs.Law.{AllAgree, AllAgreeBut}
+use Rattle.room_inherit.specs.declared.outcome.SpreadFault.{SpreadFault}
+use Rattle.room_inherit.specs.declared.outcome.SpreadFault.TheVariants.{Keeper, Loop}
+
+-- ---- below an object
+
+-- at most so many steps below the object of this number
+abbrev pub is_within : ℕ → Content → ℕ → Node → Bool
+is_within zero rows id node = false
+is_within (suc n) rows id node = has_parent id node || option_map_or (is_within n rows id) (parent_of rows node) false
+
+abbrev pub IsBelow : Content → ℕ → Node → Type 0
+IsBelow rows id node = (n : ℕ) × IsTrue (is_within n rows id node)
+
+-- an object that is below itself
+abbrev pub IsOwnAncestor : Content → ℕ → Type 0
+IsOwnAncestor rows id = (node : Node) × (node_at rows id ≡ Some node) × IsBelow rows id node
+
+-- the same through linked objects alone
+abbrev pub is_linked_within : ℕ → Content → Which → ℕ → Node → Bool
+is_linked_within zero rows which id node = false
+is_linked_within (suc n) rows which id node = is_linked_in rows which node && (has_parent id node || option_map_or (is_linked_within n rows which id) (parent_of rows node) false)
+
+abbrev pub IsLinkedBelow : Content → Which → ℕ → Node → Type 0
+IsLinkedBelow rows which id node = (n : ℕ) × IsTrue (is_linked_within n rows which id node)
+
+-- ---- what is different afterwards
+
+-- each object with these inherited entries, and else as it was
+abbrev pub with_lists : Which → (Node → List Ace) → Content → Content
+with_lists which lists content = with_each content (λ node. with_inh which (lists node) node)
+
+-- the object gets a list that it didn't have
+abbrev pub is_changed : Which → (Node → List Ace) → Node → Bool
+is_changed which lists node = not (same_entries (lists node) (held_of which node).inh)
+
+-- The rows are as they were but for inherited entries of this attribute at objects that are linked below this one, of which so many are different now. If the law held but for the object's children, it holds.
+pub record IsSpread (which : Which) (id : ℕ) (old new : Rows) (changed : ℕ) : Type 0 where
+  pub lists : Node → List Ace
+  pub becomes : new ≡ reading old (with_lists which lists old.read)
+  pub below : (node : Node) → node_at old.read node.id ≡ Some node → IsTrue (is_changed which lists node) → IsLinkedBelow old.read which id node
+  pub counted : changed ≡ count_by (is_changed which lists) old.read.nodes
+  pub law : AllAgreeBut old.read which id → AllAgree new.read which
+
+-- ---- why there is no answer
+
+-- A fault of the keeper has that call's cause. `Loop` comes where there is one.
+abbrev pub HasSpreadCause : ℕ → ℕ → (ℕ → Type 0) → Type 0 → SpreadFault → Type 0
+HasSpreadCause before after damaged loops (Keeper fault) = HasCause before after damaged fault
+HasSpreadCause before after damaged loops Loop = loops
+
+-- ---- calls that read and write lists
+
+module _ {S : Type 0} (rows : S → Rows) (failures writes : S → ℕ) (Follows IsTrusted : S → S → Type 0) where
+  -- As long as the keeper answers by its rows: an answer tells what became of them and how often was written, and a fault blames a row that can't be read or a loop.
+  pub record IsCarried {X : Type 0} (count : X → ℕ) (old new : S) (result : Result X SpreadFault) (Loops : Rows → Type 0) (Becomes : Rows → X → Rows → Type 0) : Type 0 where
+    pub follows : Follows old new
+    pub written : IfOk result (λ answer. writes new ≡ capped (writes old + count answer))
+    pub becomes : IsTrusted old new → IfOk result (λ answer. Becomes (rows old) answer (rows new))
+    pub fault : IfErr result (HasSpreadCause (failures old) (failures new) (λ at. IsTrusted old new → IsUnreadable (rows old) at) (IsTrusted old new → Loops (rows old)))

@@ -1,0 +1,57 @@
+-- All lists carried down from the root (RFC 8881, section 6.4.3).
+use Rattle.std.specs.Prelude.{◌≡◌, ℕ, ◌+◌, ◌<◌, ◌^◌, ◌++◌, List, Some, Result, IfOk, IfErr, IsTrue, filter, length, count_by}
+use Rattle.std.specs.List.{list_all}
+use Rattle.room_ace.specs.Ace.{Ace}
+use Rattle.room_ace.specs.declared.object.Which.{Which}
+use Rattle.room_ace.specs.declared.object.Which.TheVariants.{Dacl, Sacl}
+use Rattle.room_tree.specs.declared.node.Node.{Node}
+use Rattle.room_tree.specs.Content.{Content, node_at, children_of, is_linked_in, is_root, reaches_root, with_each}
+use Rattle.room_tree.specs.Keep.{HasNoRoot, capped, reading, with_inh}
+use Rattle.room_tree.specs.Rows.{Rows}
+use Rattle.room_inherit.specs.Law.{AllAgree}
+use Rattle.room_inherit.specs.Spread.{HasSpreadCause, is_changed, with_lists}
+use Rattle.room_inherit.specs.Turn.{IsTurn}
+use Rattle.room_inherit.specs.declared.outcome.SpreadFault.{SpreadFault}
+
+-- One object has no parent, and the parents of each lead to it.
+pub record IsTree (rows : Content) : Type 0 where
+  pub one_root : length (filter is_root rows.nodes) ≡ 1
+  pub connected : IsTrue (list_all (λ node. reaches_root (length rows.nodes) rows node.parent) rows.nodes)
+
+-- The rows are as they were but for inherited entries of this attribute at linked objects, of which so many are different now, fewer than 2 ^ 63. In a tree the law holds.
+pub record IsSwept (which : Which) (old new : Rows) (changed : ℕ) : Type 0 where
+  pub lists : Node → List Ace
+  pub becomes : new ≡ reading old (with_lists which lists old.read)
+  pub linked : (node : Node) → node_at old.read node.id ≡ Some node → IsTrue (is_changed which lists node) → IsTrue (is_linked_in old.read which node)
+  pub counted : changed ≡ count_by (is_changed which lists) old.read.nodes
+  pub few : changed < 2 ^ 63
+  pub law : IsTree old.read → AllAgree new.read which
+
+-- each object with these inherited entries of both lists, and else as it was
+abbrev pub with_both : (Node → List Ace) → (Node → List Ace) → Content → Content
+with_both dacls sacls content = with_each content (λ node. with_inh Sacl (sacls node) (with_inh Dacl (dacls node) node))
+
+-- The rows are as they were but for inherited entries at linked objects, of which so many lists are different now. In a tree the law of both holds.
+pub record IsSpreadAll (old new : Rows) (changed : ℕ) : Type 0 where
+  pub dacls : Node → List Ace
+  pub sacls : Node → List Ace
+  pub becomes : new ≡ reading old (with_both dacls sacls old.read)
+  pub linked_dacls : (node : Node) → node_at old.read node.id ≡ Some node → IsTrue (is_changed Dacl dacls node) → IsTrue (is_linked_in old.read Dacl node)
+  pub linked_sacls : (node : Node) → node_at old.read node.id ≡ Some node → IsTrue (is_changed Sacl sacls node) → IsTrue (is_linked_in old.read Sacl node)
+  pub counted : changed ≡ count_by (is_changed Dacl dacls) old.read.nodes + count_by (is_changed Sacl sacls) old.read.nodes
+  pub law : IsTree old.read → (which : Which) → AllAgree new.read which
+
+-- one object's children renewed, and all of them put behind those that wait
+pub record IsVisit (which : Which) (start : ℕ) (above : Node) (before after : List Node) (old : Rows) (written : ℕ) (new : Rows) : Type 0 where
+  pub next : List Node
+  pub turn : IsTurn which start above old next new
+  pub counted : written ≡ length next
+  pub waits : after ≡ before ++ children_of new.read above.id
+
+module _ {S : Type 0} (rows : S → Rows) (failures writes : S → ℕ) (Follows IsTrusted : S → S → Type 0) where
+  -- As long as the keeper answers by its rows: an answer tells what became of them and how often was written, and a fault blames a row that can't be read or the want of a root. There is never a loop.
+  pub record IsCarriedDown {X : Type 0} (count : X → ℕ) (old new : S) (result : Result X SpreadFault) (Becomes : Rows → X → Rows → Type 0) : Type 0 where
+    pub follows : Follows old new
+    pub written : IfOk result (λ answer. writes new ≡ capped (writes old + count answer))
+    pub becomes : IsTrusted old new → IfOk result (λ answer. Becomes (rows old) answer (rows new))
+    pub fault : IfErr result (HasSpreadCause (failures old) (failures new) (λ at. IsTrusted old new → HasNoRoot (rows old) at) (IsTrusted old new → ⊥))

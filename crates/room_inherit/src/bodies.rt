@@ -1,0 +1,40 @@
+//! Whether the bytes are as the kinds of the objects ask.
+ghost use Rattle.std.specs.Prelude.{◌≡◌, List, ℕ, Option};
+ghost use Rattle.room_tree.specs.Keep.{IsNever, IsRead};
+ghost use Rattle.room_inherit.specs.Reading.{IsBadBody};
+ghost use Rattle.room_inherit.specs.Sound.{fits_kind};
+
+use crate::objects::Objects;
+use room_ace::ObjKind;
+use room_tree::{Bytes, Keep, KeepFault, Node};
+
+/// The most bytes that a document has.
+const MOST_BYTES: usize = 1_048_576;
+
+/// The first object that is a document without bytes or with too many, or a folder with bytes.
+pub(crate) fn first_bad_body<'a, K: Keep>(
+    keep: &mut K,
+    objects: &'a Objects,
+) -> Result<Option<&'a Node>, KeepFault>
+    ensures read { IsRead K.rows K.failures K.writes K.Follows K.IsTrusted keep.old keep.new result IsNever (IsBadBody objects.now) }
+{
+    'nodes: for node in objects.as_slice() {
+        let body = keep.body(node.id)?;
+        if !fits_kind(node.kind, &body) {
+            return Ok(Some(node));
+        }
+    }
+    Ok(None)
+}
+
+// Whether an object of this kind may have these bytes, or none.
+fn fits_kind(kind: ObjKind, body: &Option<Bytes>) -> bool
+    ensures { result ≡ fits_kind kind body.now }
+{
+    match (kind, body) {
+        (ObjKind::Document, Some(bytes)) => bytes.as_slice().len() <= MOST_BYTES,
+        (ObjKind::Document, None) => false,
+        (ObjKind::Folder, Some(_)) => false,
+        (ObjKind::Folder, None) => true,
+    }
+}

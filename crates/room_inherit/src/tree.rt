@@ -1,0 +1,130 @@
+//! Whether the objects stand below one another as they should.
+ghost use Rattle.std.specs.Prelude.{◌≡◌, IfOk, filter};
+ghost use Rattle.std.specs.Option.{option_copied};
+ghost use Rattle.room_tree.specs.Content.{has_folder_above, is_root};
+ghost use Rattle.room_inherit.specs.Objects.{only};
+ghost use Rattle.room_inherit.specs.Sound.{bad_root, first_failing, has_sound_name, reaches, tree_fault};
+
+use crate::objects::Objects;
+use crate::report::{Report, Unsound, fault_of_number};
+use room_ace::ObjKind;
+use room_tree::{Node, is_object_name};
+use std::alloc::{AllocError, Global};
+use std::collections::BTreeSet;
+
+/// What is wrong with the objects without a parent: the number of the second, or of the only one where
+/// it is no folder, or 0 where there is none.
+pub(crate) fn bad_root(nodes: &[Node]) -> Option<u64>
+    ensures { result ≡ bad_root (filter is_root nodes.now) }
+{
+    let mut root: Option<&Node> = None;
+    'nodes: for node in nodes {
+        if node.parent.is_none() {
+            if root.is_some() {
+                return Some(node.id);
+            }
+            root = Some(node);
+        }
+    }
+    match root {
+        None => Some(0),
+        Some(root) if root.kind == ObjKind::Folder => None,
+        Some(root) => Some(root.id),
+    }
+}
+
+impl Objects {
+    /// The first object whose parent isn't there or is no folder.
+    pub(crate) fn first_bad_parent(&self) -> Option<&Node>
+        ensures { option_copied result ≡ first_failing (has_folder_above (only self.now)) (only self.now) }
+    {
+        'nodes: for node in self.as_slice() {
+            if !self.has_folder_above(node) {
+                return Some(node);
+            }
+        }
+        None
+    }
+
+    fn has_folder_above(&self, node: &Node) -> bool
+        ensures { result ≡ has_folder_above (only self.now) node.now }
+    {
+        if node.parent.is_none() {
+            return true;
+        }
+        match self.parent_of(node) {
+            None => false,
+            Some(parent) => parent.kind == ObjKind::Folder,
+        }
+    }
+
+    /// The first object from which the parents never reach an object without one.
+    pub(crate) fn first_loop(&self) -> Option<&Node>
+        ensures { option_copied result ≡ first_failing (reaches (only self.now)) (only self.now) }
+    {
+        'nodes: for node in self.as_slice() {
+            if !self.reaches_root(node) {
+                return Some(node);
+            }
+        }
+        None
+    }
+
+    // A way to the root has fewer steps than there are objects.
+    fn reaches_root(&self, node: &Node) -> bool
+        ensures { result ≡ reaches (only self.now) node.now }
+    {
+        let mut above = node.parent;
+        'steps: for step in 0..self.as_slice().len() {
+            let Some(id) = above else {
+                return true;
+            };
+            let Some(parent) = self.at(id) else {
+                return false;
+            };
+            above = parent.parent;
+        }
+        above.is_none()
+    }
+
+    /// The first object whose name is no object name, or has been given under its parent before.
+    pub(crate) fn first_bad_name(&self, alloc: Global) -> Result<Option<&Node>, AllocError>
+        ensures { IfOk result (λ found. option_copied found ≡ first_failing (has_sound_name (only self.now)) (only self.now)) }
+    {
+        let mut given: BTreeSet<(u64, &str)> = BTreeSet::new(alloc);
+        'nodes: for node in self.as_slice() {
+            let Some(parent) = node.parent else {
+                continue;
+            };
+            let name = node.name.as_str();
+            if !is_object_name(name) || !given.insert((parent, name))? {
+                return Ok(Some(node));
+            }
+        }
+        Ok(None)
+    }
+
+    /// The first fault in how the objects stand below one another.
+    pub(crate) fn tree_fault(&self, alloc: Global) -> Result<Option<Report>, AllocError>
+        ensures { IfOk result (λ found. found ≡ tree_fault (only self.now)) }
+    {
+        match bad_root(self.as_slice()) {
+            Some(id) => return Ok(Some(fault_of_number(alloc, id, Unsound::BadRoot)?)),
+            None => {}
+        }
+        match self.first_bad_parent() {
+            Some(node) => {
+                return Ok(Some(fault_of_number(alloc, node.id, Unsound::BadParent)?));
+            }
+            None => {}
+        }
+        match self.first_loop() {
+            Some(node) => return Ok(Some(fault_of_number(alloc, node.id, Unsound::Loop)?)),
+            None => {}
+        }
+        match self.first_bad_name(alloc)? {
+            Some(node) => Ok(Some(self.fault_of(alloc, node, Unsound::BadName)?)),
+            None => Ok(None),
+        }
+    }
+}
