@@ -1,6 +1,6 @@
 -- Equal entries are the same, and a turn of a comparison.
-use Rattle.std.proofs.Common.{ℕ, ◌≡◌, ◌<◌, ◌+◌, suc, Bool, true, false, cond, not, ◌&&◌, List, [], ◌∷◌, length, drop, get_or, refl, sym, ap, ◌∙◌, add-one, drop-cons}
-use Rattle.std.proofs.lemmas.Bool.{and_from, and_parts, false≢true}
+use Rattle.std.proofs.Common.{ℕ, ◌≡◌, ◌<◌, ◌+◌, suc, Bool, true, false, ◌&&◌, List, [], ◌∷◌, length, drop, get_or, refl, sym, ap, ◌∙◌, add-one, drop-cons}
+use Rattle.std.proofs.lemmas.Bool.{and_from}
 use Rattle.std.specs.Cmp.Lexicographic.{same_text as text_equal, bytes_decides}
 use Rattle.room_ace.specs.Pieces.{same_text}
 use Rattle.room_ace.specs.Ace.{Ace}
