@@ -6,7 +6,7 @@ use std::alloc::{AllocError, Global};
 use std::rt::Clock;
 use std::time::Instant;
 
-// Rounds are repeated until this much time is up, so that one round can be told.
+// One round is too short to be told alone.
 const ROUNDS: u32 = 100;
 
 /// Judges a list of so many entries, and tells the time of one round.

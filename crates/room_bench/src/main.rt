@@ -2,6 +2,10 @@
 #![tactic(auto)]
 
 mod check;
+mod groups;
+mod passing;
+mod tree;
+mod walking;
 
 use anyhow::{Context, Result, bail};
 use std::env;
@@ -18,6 +22,10 @@ fn main(rt: HostRuntime) -> Result<()> {
         .context("reading the size")?;
     match workload.as_str() {
         "check" => check::run(&rt, size),
+        "groups" => groups::run(&rt, size),
+        "walk" => walking::run(&rt, size),
+        "spread" => passing::spread_all_changed(&rt, size),
+        "verify" => passing::verify_all(&rt, size),
         other => bail!("no workload {other}"),
     }
 }

@@ -2,7 +2,7 @@
 use Rattle.std.specs.Prelude.{◌≡◌, ◌⊎◌, ℕ, ◌+◌, ◌≤◌, true, false, List, [], ◌∷◌, length, Option, Some, None, Result, Ok, Err, if◌then◌else◌}
 use Rattle.std.specs.List.{list_all}
 use Rattle.std.specs.Borrow.{Bor}
-use Rattle.csv.specs.Reading.{Ready, default_config, records_from, reader_config, reader_state, reader_trim, source_of}
+use Rattle.csv.specs.Reading.{Ready, default_config, is_flexible, records_from, reader_config, reader_state, reader_trim, source_of}
 use Rattle.csv.specs.declared.parser.State.{State}
 use Rattle.csv.specs.declared.parser.State.TheVariants as st
 use Rattle.csv.specs.declared.reader.Reader.{Reader}
@@ -41,7 +41,7 @@ IsBetween state = (state ≡ st.StartRecord) ⊎ (state ≡ st.AfterCr)
 abbrev pub GoesOn : Rows → Type 0
 GoesOn reader =
     (reader_trim reader ≡ trim.None) × Ready reader × (reader_config reader ≡ default_config) × IsBetween (reader_state reader)
-    × (bytes : List ℕ) × (unread reader ≡ Some bytes)
+    × (is_flexible reader ≡ true) × (bytes : List ℕ) × (unread reader ≡ Some bytes)
 
 -- what was found of the rows before, and the rows after it
 abbrev pub Took : Rows → Rows → List (List ℕ) → NextRow → Type 0

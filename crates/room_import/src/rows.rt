@@ -42,7 +42,10 @@ pub(crate) fn next_row(
         Ok(false) => Ok(NextRow::End),
         Err(error) => match error.kind() {
             ErrorKind::Utf8 { .. } => Ok(NextRow::NotText),
-            _ => Err(AllocError),
+            ErrorKind::Io(_) | ErrorKind::OutOfMemory => Err(AllocError),
+            ErrorKind::UnequalLengths { .. } => unreachable!(),
+            ErrorKind::Serialize(_) => unreachable!(),
+            ErrorKind::Deserialize { .. } => unreachable!(),
         },
     }
 }
