@@ -61,7 +61,7 @@ fn spread_reads_once(rt: HostRuntime) -> Result<(), Fail> {
     Ok(())
 }
 
-// The object's number, its parent's children, the write and the written one's children are asked for.
+// The calls: all numbers, the folder, its children, the one write, the written one's children.
 #[test]
 fn spread_writes(rt: HostRuntime) -> Result<(), Fail> {
     let alloc = rt.alloc();
