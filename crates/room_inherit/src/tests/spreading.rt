@@ -1,4 +1,5 @@
 //! How many stored lists a change reaches, and by how many calls.
+use crate::tests::counting::Counting;
 use crate::tests::rooms::{looping_room, open_room, set_own, stored};
 use crate::{Spread, SpreadFault, spread, spread_all};
 use room_ace::Which;
@@ -47,37 +48,20 @@ fn room_before(alloc: Global, own: &[&str]) -> Result<MemKeep, Fail> {
 }
 
 #[test]
-fn spread_reads_once(rt: HostRuntime) -> Result<(), Fail> {
-    let alloc = rt.alloc();
-    for (calls, want) in [
-        (2, Err(SpreadFault::Keeper(KeepFault::Store))),
-        (3, Ok(Spread { changed: 0 })),
-    ] {
-        let keep = room_before(alloc, &["A:d:alice:r", "D::bob:r"])?;
-        let mut failing = FailKeep::new(keep, calls);
-        let answer = spread(alloc, &mut failing, 2, Which::Dacl);
-        assert_eq!(rt; answer, want, "passing {calls}");
-    }
-    Ok(())
-}
-
-// The calls: all numbers, the folder, its children, the one write, the written one's children.
-#[test]
 fn spread_writes(rt: HostRuntime) -> Result<(), Fail> {
     let alloc = rt.alloc();
-    let old = "A:I:root:rwanNxDtThHdcCoy";
-    let new = "A:I:carol:t / A:I:root:rwanNxDtThHdcCoy";
-    for (calls, want, is_done) in [(3, old, false), (4, new, false), (5, new, true)] {
-        let keep = room_before(alloc, &["A:d:alice:r", "D::bob:r", "A:fn:carol:t"])?;
-        let mut failing = FailKeep::new(keep, calls);
-        let answer = spread(alloc, &mut failing, 2, Which::Dacl);
-        assert_eq!(rt; answer.is_ok(), is_done, "passing {calls}");
-        let mut keep = failing.into_keeper();
-        assert_eq!(rt;
-            stored(alloc, &mut keep, 5)?.as_str(),
-            want,
-            "passing {calls}"
-        );
+    let unpassed = ["A:d:alice:r", "D::bob:r"];
+    let passed = ["A:d:alice:r", "D::bob:r", "A:fn:carol:t"];
+    for (own, children, inherited) in [(unpassed.as_slice(), 1, 0), (passed.as_slice(), 2, 1)] {
+        let mut counting = Counting {
+            keeper: room_before(alloc, own)?,
+            children: 0,
+            inherited: 0,
+        };
+        let changed = spread(alloc, &mut counting, 2, Which::Dacl)?.changed;
+        assert_eq!(rt; changed, inherited);
+        assert_eq!(rt; counting.children, children, "with {changed} written");
+        assert_eq!(rt; counting.inherited, inherited);
     }
     Ok(())
 }
