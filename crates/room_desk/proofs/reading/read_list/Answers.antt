@@ -1,0 +1,48 @@
+use Rattle.std.proofs.Common.{◌≡◌, ℕ, List, [], ◌∷◌, Option, Some, None, true, false, not, refl, sym, ap, subst, ◌∙◌, get_or, length, take, arith, inl}
+use Rattle.room_desk.proofs.Calls.{Ruled, none_done, then, then_known, damaged, finish, tail, fails, memory, done, of_read, of_write, as_well}
+use Rattle.room_desk.specs.Stored.{found_site}
+use Rattle.room_desk.specs.Judged.{IsJudged, noted, through, name_after}
+use Rattle.room_desk.specs.Judge.{records_of}
+use Rattle.room_desk.specs.Plan.{Check}
+use Rattle.room_tree.specs.Rows.{Rows}
+use Rattle.room_tree.specs.Keep.{IsUnreadable, HasNoRoot}
+use Rattle.room_desk.proofs.SoundParts.{rootless_unsound, readable_unsound}
+use Rattle.room_desk.proofs.Serving.{DocumentAt, FolderAt, CheckAt, reached_as, reached_rows, reached_then, not_served, served_bytes, no_bytes, served_list, served_attr, served_rulings, served_names}
+use Rattle.room_desk.specs.Judged.{IsReached, of_kind, NotSound}
+use Rattle.room_desk.specs.Site.{Site}
+use Rattle.room_tree.specs.Content.{body_of}
+use Rattle.room_desk.specs.declared.arrival.Arrival.TheVariants.{At, Ended}
+use Rattle.room_desk.specs.declared.request.Request.TheVariants.{Read, List as ListFolder, ReadList, ReadAttr, Can}
+use Rattle.room_ace.specs.declared.object.ObjKind.TheVariants.{Document, Folder}
+use Rattle.room_ace.specs.Rights.{read_data, read_acl, read_attributes}
+use Rattle.room_desk.proofs.reading.read_list.Goals as goal
+
+pub returns-in_err-arrival : goal.returns-in_err-arrival
+returns-in_err-arrival g c =
+    let k = g.K.Keep in
+    let m = g.met.K.Keep in
+    let laws : Ruled k.rows k.failures k.Follows k.IsTrusted = record { itself = m.follows_itself; on = m.follows_on; rise = m.failures_rise; first = m.trusted_first; last = m.trusted_last; are = m.are_rows } in
+    record { done = fails laws (none_done laws c.args.keep.now) c.in_err-arrival.ensures.done (λ old mid at same h. subst (λ (r : Rows). NotSound r at) same (rootless_unsound mid at h)) c.from_residual.result c.from_residual.ensures.1 }
+
+pub returns-in-Ended : goal.returns-in-Ended
+returns-in-Ended g c =
+    let k = g.K.Keep in
+    let m = g.met.K.Keep in
+    let laws : Ruled k.rows k.failures k.Follows k.IsTrusted = record { itself = m.follows_itself; on = m.follows_on; rise = m.failures_rise; first = m.trusted_first; last = m.trusted_last; are = m.are_rows } in
+    record { done = finish laws _ (done c.in_ok-arrival.ensures.done) (λ old new are reached.
+      not_served c.args.asker.now c.args.path.now (ReadList c.args.path.now c.args.which) (CheckAt (read_acl ∷ [])) (λ content. refl) (λ site. refl) old new c.in-Ended.reply are (reached_as c.args.asker.now c.args.path.now CheckAt c.read_acl.result (read_acl ∷ []) _ (Ended c.in-Ended.reply) old new c.read_acl.ensures c.in-Ended.is reached)) }
+
+pub returns-in_err-list_reply-in-At : goal.returns-in_err-list_reply-in-At
+returns-in_err-list_reply-in-At g c =
+    let k = g.K.Keep in
+    let m = g.met.K.Keep in
+    let laws : Ruled k.rows k.failures k.Follows k.IsTrusted = record { itself = m.follows_itself; on = m.follows_on; rise = m.failures_rise; first = m.trusted_first; last = m.trusted_last; are = m.are_rows } in
+    record { done = memory laws (done c.in_ok-arrival.ensures.done) c.from_residual-in_err-list_reply-in-At.result c.from_residual-in_err-list_reply-in-At.ensures.1 }
+
+pub returns-in_ok-list_reply-in-At : goal.returns-in_ok-list_reply-in-At
+returns-in_ok-list_reply-in-At g c =
+    let k = g.K.Keep in
+    let m = g.met.K.Keep in
+    let laws : Ruled k.rows k.failures k.Follows k.IsTrusted = record { itself = m.follows_itself; on = m.follows_on; rise = m.failures_rise; first = m.trusted_first; last = m.trusted_last; are = m.are_rows } in
+    record { done = finish laws _ (done c.in_ok-arrival.ensures.done) (λ old new are reached.
+      served_list c.args.asker.now c.args.path.now c.args.which old new c.in-At.node _ are (reached_as c.args.asker.now c.args.path.now CheckAt c.read_acl.result (read_acl ∷ []) _ (At c.in-At.node) old new c.read_acl.ensures c.in-At.is reached) c.in_ok-list_reply-in-At.ensures) }

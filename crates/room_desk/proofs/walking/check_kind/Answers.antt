@@ -1,0 +1,41 @@
+use Rattle.std.proofs.Common.{◌≡◌, ℕ, List, [], ◌∷◌, Option, Some, None, true, false, not, refl, sym, ap, subst, ◌∙◌, get_or}
+use Rattle.room_desk.proofs.Calls.{Ruled, none_done, then, finish, tail, fails, memory, done, of_read, of_write, as_well}
+use Rattle.room_desk.specs.Stored.{found_site}
+use Rattle.room_desk.specs.Judged.{IsJudged, noted, through, name_after}
+use Rattle.room_desk.specs.Judge.{records_of}
+use Rattle.room_desk.specs.Plan.{Check}
+use Rattle.room_tree.specs.Rows.{Rows}
+use Rattle.room_tree.specs.Keep.{IsUnreadable, HasNoRoot}
+use Rattle.room_desk.proofs.Judging.{judged_none, judged_check, refuses, passes_on, none_is, judged_as, blames_first}
+use Rattle.room_desk.specs.Judged.{is_other, of_kind}
+use Rattle.room_desk.specs.Plan.{Item, Refusal}
+use Rattle.room_desk.specs.declared.reply.Reason.TheVariants.{WrongKind}
+use Rattle.room_desk.proofs.Judging.{kind_item}
+use Rattle.room_desk.proofs.walking.check_kind.Goals as goal
+
+pub returns-in_err-refused : goal.returns-in_err-refused
+returns-in_err-refused g c =
+    let k = g.K.Keep in
+    let m = g.met.K.Keep in
+    let laws : Ruled k.rows k.failures k.Follows k.IsTrusted = record { itself = m.follows_itself; on = m.follows_on; rise = m.failures_rise; first = m.trusted_first; last = m.trusted_last; are = m.are_rows } in
+    record { done = memory laws (none_done laws c.args.keep.now) c.from_residual.result c.from_residual.ensures.1 }
+
+pub returns-in_ok-refused : goal.returns-in_ok-refused
+returns-in_ok-refused g c =
+    let k = g.K.Keep in
+    let m = g.met.K.Keep in
+    let laws : Ruled k.rows k.failures k.Follows k.IsTrusted = record { itself = m.follows_itself; on = m.follows_on; rise = m.failures_rise; first = m.trusted_first; last = m.trusted_last; are = m.are_rows } in
+    let site = found_site c.args.path.now c.args.found.now in
+    record { done = finish laws _ (none_done laws c.args.keep.now) (λ old new are same.
+      subst (λ (item : Item). IsJudged c.args.asker.now (item ∷ Check site c.args.mask ∷ []) old (Some _) new) (sym (kind_item c.args.kind site))
+        (refuses c.args.asker.now site.path WrongKind (is_other site.node.kind c.args.kind) (Check site c.args.mask ∷ []) old new _ c.in_ok-refused.ensures (sym c.is_other_kind-is_other.ensures ∙ c.if-is_other.true) same)) }
+
+pub returns : goal.returns
+returns g c =
+    let k = g.K.Keep in
+    let m = g.met.K.Keep in
+    let laws : Ruled k.rows k.failures k.Follows k.IsTrusted = record { itself = m.follows_itself; on = m.follows_on; rise = m.failures_rise; first = m.trusted_first; last = m.trusted_last; are = m.are_rows } in
+    let site = found_site c.args.path.now c.args.found.now in
+    record { done = as_well c.check.ensures.done (λ old at never. never) (λ old answer new judged.
+      subst (λ (item : Item). IsJudged c.args.asker.now (item ∷ Check site c.args.mask ∷ []) old answer new) (sym (kind_item c.args.kind site))
+        (passes_on c.args.asker.now site.path WrongKind (is_other site.node.kind c.args.kind) (Check site c.args.mask ∷ []) old new answer (sym c.is_other_kind-is_other.ensures ∙ c.if-is_other.false) judged)) }
