@@ -45,10 +45,12 @@ module _ {S : Type 0} {rows : S → Rows} {failures : S → ℕ} {Follows IsTrus
       joined : (r : Result X KeepFault) → IfOk r (λ x. Becomes (rows a) x (rows b)) → IfOk r (λ x. Becomes' (rows a) x (rows b))
       joined (Ok x) h = joins (rows a) x (rows b) h
       joined (Err e) h = tt
+
       blamed : (e : KeepFault) → HasCause (failures a) (failures b) (λ at. IsTrusted a b → Blames (rows a) at) e → HasCause (failures a) (failures b) (λ at. IsTrusted a b → Blames' (rows a) at) e
       blamed Memory h = tt
       blamed Store h = h
       blamed (Damaged id) h = λ t. blames (rows a) id (h t)
+
       cause : (r : Result X KeepFault) → IfErr r (HasCause (failures a) (failures b) (λ at. IsTrusted a b → Blames (rows a) at)) → IfErr r (HasCause (failures a) (failures b) (λ at. IsTrusted a b → Blames' (rows a) at))
       cause (Ok x) h = tt
       cause (Err e) h = blamed e h
@@ -93,18 +95,19 @@ module _ {S : Type 0} {rows : S → Rows} {failures : S → ℕ} {Follows IsTrus
         → ((old mid : Rows) (at : ℕ) → Before old mid → Blames mid at → Blames' old at) → ((old mid : Rows) (x : X) (new : Rows) → Before old mid → After mid x new → Becomes old x new)
         → IsDone rows failures Follows IsTrusted a c r Blames' Becomes
     tail {X = X} {a = a} {b = b} {c = c} {r = r} {Blames = Blames} {Blames' = Blames'} {After = After} {Becomes = Becomes} before after blames joins = record {
-        follows = laws.on a b c before.follows after.follows;
-        becomes = λ t. joined r (λ x. joins (rows a) (rows b) x (rows c) (before.becomes (laws.first a b c before.follows after.follows t))) (after.becomes (laws.last a b c before.follows after.follows t));
-        fault = cause r after.fault;
-      }
+      follows = laws.on a b c before.follows after.follows;
+      becomes = λ t. joined r (λ x. joins (rows a) (rows b) x (rows c) (before.becomes (laws.first a b c before.follows after.follows t))) (after.becomes (laws.last a b c before.follows after.follows t));
+      fault = cause r after.fault;
+    }
       where
         joined : (r : Result X KeepFault) → ((x : X) → After (rows b) x (rows c) → Becomes (rows a) x (rows c)) → IfOk r (λ x. After (rows b) x (rows c)) → IfOk r (λ x. Becomes (rows a) x (rows c))
         joined (Ok x) on h = on x h
         joined (Err e) on h = tt
+
         cause : (r : Result X KeepFault) → IfErr r (HasCause (failures b) (failures c) (λ at. IsTrusted b c → Blames (rows b) at)) → IfErr r (HasCause (failures a) (failures c) (λ at. IsTrusted a c → Blames' (rows a) at))
         cause (Ok x) h = tt
         cause (Err e) h = later_cause (failures a) (failures b) (failures c) e _ _ (laws.rise a b before.follows) (laws.rise b c after.follows)
-          (λ at damaged t. blames (rows a) (rows b) at (before.becomes (laws.first a b c before.follows after.follows t)) (damaged (laws.last a b c before.follows after.follows t))) h
+            (λ at damaged t. blames (rows a) (rows b) at (before.becomes (laws.first a b c before.follows after.follows t)) (damaged (laws.last a b c before.follows after.follows t))) h
 
     -- a call has a fault, which is handed on
     pub fails : {X Y : Type 0} {a b c : S} {e : KeepFault} {Before : Rows → Rows → Type 0} {Blames Blames' : Rows → ℕ → Type 0} {After : Rows → X → Rows → Type 0} {Becomes : Rows → Y → Rows → Type 0}
@@ -113,12 +116,12 @@ module _ {S : Type 0} {rows : S → Rows} {failures : S → ℕ} {Follows IsTrus
         → IsDone rows failures Follows IsTrusted a c r Blames' Becomes
     fails before after blames (Ok y) is = absurd is
     fails {a = a} {b = b} {c = c} {e = e} {Blames = Blames} {Blames' = Blames'} before after blames (Err f) is = record {
-        follows = laws.on a b c before.follows after.follows;
-        becomes = λ t. tt;
-        fault = subst (HasCause (failures a) (failures c) (λ at. IsTrusted a c → Blames' (rows a) at)) (sym is)
+      follows = laws.on a b c before.follows after.follows;
+      becomes = λ t. tt;
+      fault = subst (HasCause (failures a) (failures c) (λ at. IsTrusted a c → Blames' (rows a) at)) (sym is)
           (later_cause (failures a) (failures b) (failures c) e _ _ (laws.rise a b before.follows) (laws.rise b c after.follows)
-            (λ at damaged t. blames (rows a) (rows b) at (before.becomes (laws.first a b c before.follows after.follows t)) (damaged (laws.last a b c before.follows after.follows t))) after.fault);
-      }
+          (λ at damaged t. blames (rows a) (rows b) at (before.becomes (laws.first a b c before.follows after.follows t)) (damaged (laws.last a b c before.follows after.follows t))) after.fault);
+    }
 
     -- there is no memory for what comes next
     pub memory : {Y : Type 0} {a b : S} {Before : Rows → Rows → Type 0} {Blames : Rows → ℕ → Type 0} {Becomes : Rows → Y → Rows → Type 0}

@@ -88,9 +88,9 @@ pub plan_judged : (asker : Asker) (path : List (List ℕ)) (items : Site → Lis
     → IsJudged asker (to_stored old.read path items) old answer new → IsJudged asker (to_target (meaning old.read) path items) old answer new
 plan_judged asker path items old new answer are parts same judged =
     judged_filled asker (to_target (meaning old.read) path items) old new answer
-      (subst (λ list. IsJudged asker list old answer new)
-        (ap (λ sites. way false sites path ++ where_found (site_at sites path) items) (sym (sites_filled old are parts path)) ∙ target_filled path items same (sites_along (meaning old.read) path))
-        judged)
+    (subst (λ list. IsJudged asker list old answer new)
+    (ap (λ sites. way false sites path ++ where_found (site_at sites path) items) (sym (sites_filled old are parts path)) ∙ target_filled path items same (sites_along (meaning old.read) path))
+    judged)
 
 -- the target among the sites of the plan
 pub record IsTarget (content : Content) (path : List (List ℕ)) (site : Site) : Type 0 where

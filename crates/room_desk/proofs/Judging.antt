@@ -56,6 +56,7 @@ module _ (caller : Caller) (moment : ℤ) where
     where
       here : List AuditRow
       here = records_of_checks caller moment (passes caller item) (checks_of caller item)
+
       on : (o : Option Reply) (first : List AuditRow)
           → first ++ cond (is_none o) (records_of_plan caller moment items ++ cond (is_none (first_failure caller items)) (records_of_plan caller moment others) []) []
           ≡ (first ++ cond (is_none o) (records_of_plan caller moment items) []) ++ cond (is_none (or_else o (first_failure caller items))) (records_of_plan caller moment others) []
@@ -102,17 +103,19 @@ module _ (asker : Asker) where
   pub judged_deletion : (target parent : Site) (second : List ℕ) (old mid new : Rows) (answer : Option Reply) → answer ≡ failure asker.caller (Deletion target parent) → second ≡ cond (by_adding asker.caller target parent) write_data delete_child ∷ []
       → mid ≡ noted old (records_of asker.caller asker.at (is_none answer) (target, delete ∷ [])) → new ≡ noted mid (records_of asker.caller asker.at (is_none answer) (parent, second)) → IsJudged asker (Deletion target parent ∷ []) old answer new
   judged_deletion target parent second old mid new answer is rights first then = record {
-      answers = is ∙ sym (or_else_none (failure asker.caller (Deletion target parent)));
-      notes = then ∙ ap (λ r. noted r (records_of asker.caller asker.at (is_none answer) (parent, second))) first ∙ noted_more old (of_target (is_none answer)) (records_of asker.caller asker.at (is_none answer) (parent, second))
+    answers = is ∙ sym (or_else_none (failure asker.caller (Deletion target parent)));
+    notes = then ∙ ap (λ r. noted r (records_of asker.caller asker.at (is_none answer) (parent, second))) first ∙ noted_more old (of_target (is_none answer)) (records_of asker.caller asker.at (is_none answer) (parent, second))
         ∙ ap (λ s. noted old (of_target (is_none answer) ++ records_of asker.caller asker.at (is_none answer) (parent, s))) rights
         ∙ ap (λ o. noted old (of_target (is_none o) ++ of_parent (is_none o))) is
         ∙ ap (noted old) (sym (plain (passes asker.caller (Deletion target parent))));
-    }
+  }
     where
       of_target : Bool → List AuditRow
       of_target t = records_of asker.caller asker.at t (target, delete ∷ [])
+
       of_parent : Bool → List AuditRow
       of_parent t = records_of asker.caller asker.at t (parent, cond (by_adding asker.caller target parent) write_data delete_child ∷ [])
+
       plain : (t : Bool) → (of_target t ++ (of_parent t ++ [])) ++ cond t [] [] ≡ of_target t ++ of_parent t
       plain true = append-nil _ ∙ ap (λ l. of_target true ++ l) (append-nil (of_parent true))
       plain false = append-nil _ ∙ ap (λ l. of_target false ++ l) (append-nil (of_parent false))
@@ -127,18 +130,18 @@ module _ (asker : Asker) where
   -- a refusal that comes first
   pub refuses : (path : List (List ℕ)) (why : Reason) (holds : Bool) (items : List Item) (old new : Rows) (reply : Reply) → reply ≡ Refused path why → holds ≡ true → new ≡ old → IsJudged asker (Refusal path why holds ∷ items) old (Some reply) new
   refuses path why holds items old new reply replies is same = record {
-      answers = ap (λ (r : Reply). Some r) replies ∙ ap (λ t. or_else (cond t (Some (Refused path why)) None) (first_failure asker.caller items)) (sym is);
-      notes = same ∙ sym (noted_none old) ∙ ap (λ t. noted old (cond (is_none (refusal t)) (records_of_plan asker.caller asker.at items) [])) (sym is);
-    }
+    answers = ap (λ (r : Reply). Some r) replies ∙ ap (λ t. or_else (cond t (Some (Refused path why)) None) (first_failure asker.caller items)) (sym is);
+    notes = same ∙ sym (noted_none old) ∙ ap (λ t. noted old (cond (is_none (refusal t)) (records_of_plan asker.caller asker.at items) [])) (sym is);
+  }
     where
       refusal : Bool → Option Reply
       refusal t = cond t (Some (Refused path why)) None
 
   pub passes_on : (path : List (List ℕ)) (why : Reason) (holds : Bool) (items : List Item) (old new : Rows) (answer : Option Reply) → holds ≡ false → IsJudged asker items old answer new → IsJudged asker (Refusal path why holds ∷ items) old answer new
   passes_on path why holds items old new answer isnt judged = record {
-      answers = judged.answers ∙ ap (λ t. or_else (cond t (Some (Refused path why)) None) (first_failure asker.caller items)) (sym isnt);
-      notes = judged.notes ∙ ap (λ t. noted old (cond (is_none (refusal t)) (records_of_plan asker.caller asker.at items) [])) (sym isnt);
-    }
+    answers = judged.answers ∙ ap (λ t. or_else (cond t (Some (Refused path why)) None) (first_failure asker.caller items)) (sym isnt);
+    notes = judged.notes ∙ ap (λ t. noted old (cond (is_none (refusal t)) (records_of_plan asker.caller asker.at items) [])) (sym isnt);
+  }
     where
       refusal : Bool → Option Reply
       refusal t = cond t (Some (Refused path why)) None
@@ -148,14 +151,14 @@ module _ (asker : Asker) where
   fails_first items others old new reply judged = record {
     answers = sym (failure_of_parts asker.caller asker.at items others ∙ ap (λ o. or_else o (first_failure asker.caller others)) (sym judged.answers));
     notes = judged.notes ∙ ap (noted old) (sym (records_of_parts asker.caller asker.at items others
-      ∙ ap (λ o. records_of_plan asker.caller asker.at items ++ cond (is_none o) (records_of_plan asker.caller asker.at others) []) (sym judged.answers) ∙ append-nil _));
+        ∙ ap (λ o. records_of_plan asker.caller asker.at items ++ cond (is_none o) (records_of_plan asker.caller asker.at others) []) (sym judged.answers) ∙ append-nil _));
   }
 
   pub passes_first : (items others : List Item) (old mid new : Rows) (answer : Option Reply) → IsJudged asker items old None mid → IsJudged asker others mid answer new → IsJudged asker (items ++ others) old answer new
   passes_first items others old mid new answer first second = record {
     answers = second.answers ∙ sym (failure_of_parts asker.caller asker.at items others ∙ ap (λ o. or_else o (first_failure asker.caller others)) (sym first.answers));
     notes = second.notes ∙ ap (λ r. noted r (records_of_plan asker.caller asker.at others)) first.notes ∙ noted_more old (records_of_plan asker.caller asker.at items) (records_of_plan asker.caller asker.at others)
-      ∙ ap (noted old) (sym (records_of_parts asker.caller asker.at items others
+        ∙ ap (noted old) (sym (records_of_parts asker.caller asker.at items others
         ∙ ap (λ o. records_of_plan asker.caller asker.at items ++ cond (is_none o) (records_of_plan asker.caller asker.at others) []) (sym first.answers)));
   }
 
@@ -184,7 +187,7 @@ module _ (asker : Asker) where
   pub so_far_fails : (all items rest : List Item) (old mid new : Rows) (reply : Reply) → SoFar asker all (items ++ rest) old mid → IsJudged asker items mid (Some reply) new → IsJudged asker all old (Some reply) new
   so_far_fails all items rest old mid new reply sofar judged =
       subst (λ list. IsJudged asker list old (Some reply) new) (sym sofar.parts)
-        (passes_first asker sofar.front (items ++ rest) old mid new (Some reply) sofar.judged (fails_first asker items rest mid new reply judged))
+      (passes_first asker sofar.front (items ++ rest) old mid new (Some reply) sofar.judged (fails_first asker items rest mid new reply judged))
 
   pub so_far_last : (all rest : List Item) (old mid new : Rows) (answer : Option Reply) → SoFar asker all rest old mid → IsJudged asker rest mid answer new → IsJudged asker all old answer new
   so_far_last all rest old mid new answer sofar judged =

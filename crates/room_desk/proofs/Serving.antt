@@ -57,9 +57,9 @@ module _ (asker : Asker) (path : List (List ℕ)) (request : Request) (items : S
   served act acts old new node reply are reached replies known sound =
       let target = target_there old are (sound_parts old sound) path (stored_site path node) reached.found in
       served_step asker request old known sound new reply
-        (λ id. acts (meaning old.read) id ∙ ap (λ o. with_site (meaning old.read) o (λ t. (act (meaning old.read) t, meaning old.read))) target.at
-          ∙ ap (λ (r : Reply). (r, meaning old.read)) (replies target.planned target.filled))
-        (plan_is old new None are sound reached.judged)
+      (λ id. acts (meaning old.read) id ∙ ap (λ o. with_site (meaning old.read) o (λ t. (act (meaning old.read) t, meaning old.read))) target.at
+      ∙ ap (λ (r : Reply). (r, meaning old.read)) (replies target.planned target.filled))
+      (plan_is old new None are sound reached.judged)
 
 -- ---- what a target with its stored lists says
 
@@ -75,7 +75,11 @@ stored_full : (which : Which) (path : List (List ℕ)) (node : Node) → full_at
 stored_full Dacl path node = refl
 stored_full Sacl path node = refl
 
-names_kept : (content : Content) (nodes : List Node) → map (λ (node : Node). (node.name, node.kind)) (map (kept_node content) nodes) ≡ map (λ (node : Node). (node.name, node.kind)) nodes
+-- what is told of a child
+abbrev pub shown : Node → List ℕ × ObjKind
+shown node = (node.name, node.kind)
+
+names_kept : (content : Content) (nodes : List Node) → map shown (map (kept_node content) nodes) ≡ map shown nodes
 names_kept content [] = refl
 names_kept content (node ∷ nodes) = ap (λ rest. (node.name, node.kind) ∷ rest) (names_kept content nodes)
 
@@ -84,39 +88,39 @@ module _ (asker : Asker) (path : List (List ℕ)) where
       → CarriesOut asker (Read path) old (Bytes bytes) new
   served_bytes old new node bytes are reached body =
       served asker path (Read path) (λ target. of_kind Document target ∷ Check target (read_data ∷ []) ∷ []) (λ content. refl) (λ site. refl)
-        (λ content target. Bytes (unwrap_or (body_of content target.node.id) [])) (λ content id. refl) old new node (Bytes bytes) are reached
-        (λ target filled. ap (λ (s : Site). Bytes (unwrap_or (body_of old.read s.node.id) [])) filled ∙ ap (λ (o : Option (List ℕ)). Bytes (unwrap_or o [])) (sym body))
+      (λ content target. Bytes (unwrap_or (body_of content target.node.id) [])) (λ content id. refl) old new node (Bytes bytes) are reached
+      (λ target filled. ap (λ (s : Site). Bytes (unwrap_or (body_of old.read s.node.id) [])) filled ∙ ap (λ (o : Option (List ℕ)). Bytes (unwrap_or o [])) (sym body))
 
   pub served_names : (old new : Rows) (node : Node) (names : List (List ℕ × ObjKind)) → AreRows old → IsReached asker path (λ target. of_kind Folder target ∷ Check target (read_data ∷ []) ∷ []) old (At node) new
-      → names ≡ map (λ (child : Node). (child.name, child.kind)) (children_of old.read node.id) → CarriesOut asker (ListFolder path) old (Names names) new
+      → names ≡ map shown (children_of old.read node.id) → CarriesOut asker (ListFolder path) old (Names names) new
   served_names old new node names are reached listed =
       served asker path (ListFolder path) (λ target. of_kind Folder target ∷ Check target (read_data ∷ []) ∷ []) (λ content. refl) (λ site. refl)
-        (λ content target. Names (map (λ (child : Node). (child.name, child.kind)) (children_of content target.node.id))) (λ content id. refl) old new node (Names names) are reached
-        (λ target filled. ap (λ (s : Site). Names (map (λ (child : Node). (child.name, child.kind)) (children_of (meaning old.read) s.node.id))) filled
-          ∙ ap (λ (nodes : List Node). Names (map (λ (child : Node). (child.name, child.kind)) nodes)) (children_of-with_each old.read (kept_node old.read) (keeps_places old.read (kept_node old.read) (λ n. record { number = refl; parent = refl; name = refl })) node.id)
-          ∙ ap (λ (l : List (List ℕ × ObjKind)). Names l) (names_kept old.read (children_of old.read node.id) ∙ sym listed))
+      (λ content target. Names (map shown (children_of content target.node.id))) (λ content id. refl) old new node (Names names) are reached
+      (λ target filled. ap (λ (s : Site). Names (map shown (children_of (meaning old.read) s.node.id))) filled
+      ∙ ap (λ (nodes : List Node). Names (map shown nodes)) (children_of-with_each old.read (kept_node old.read) (keeps_places old.read (kept_node old.read) (λ n. record { number = refl; parent = refl; name = refl })) node.id)
+      ∙ ap (λ (l : List (List ℕ × ObjKind)). Names l) (names_kept old.read (children_of old.read node.id) ∙ sym listed))
 
   pub served_list : (which : Which) (old new : Rows) (node : Node) (reply : Reply) → AreRows old → IsReached asker path (λ target. Check target (read_acl ∷ []) ∷ []) old (At node) new
       → reply ≡ Lists (held_of which node).flags (full_of (held_of which node)) → CarriesOut asker (ReadList path which) old reply new
   served_list which old new node reply are reached replies =
       served asker path (ReadList path which) (λ target. Check target (read_acl ∷ []) ∷ []) (λ content. refl) (λ site. refl)
-        (λ content target. Lists (held_of which target.node).flags (full_at which target)) (λ content id. refl) old new node reply are reached
-        (λ target filled. ap (λ f. Lists f (full_at which target)) (sym (flags_of which target)) ∙ ap (λ l. Lists (held_of which (fill target).node).flags l) (sym (fulls_of which target))
-          ∙ ap (λ (s : Site). Lists (held_of which s.node).flags (full_at which s)) filled ∙ ap (λ l. Lists (held_of which node).flags l) (stored_full which path node) ∙ sym replies)
+      (λ content target. Lists (held_of which target.node).flags (full_at which target)) (λ content id. refl) old new node reply are reached
+      (λ target filled. ap (λ f. Lists f (full_at which target)) (sym (flags_of which target)) ∙ ap (λ l. Lists (held_of which (fill target).node).flags l) (sym (fulls_of which target))
+      ∙ ap (λ (s : Site). Lists (held_of which s.node).flags (full_at which s)) filled ∙ ap (λ l. Lists (held_of which node).flags l) (stored_full which path node) ∙ sym replies)
 
   pub served_attr : (old new : Rows) (node : Node) (reply : Reply) → AreRows old → IsReached asker path (λ target. Check target (read_attributes ∷ []) ∷ []) old (At node) new → reply ≡ Attr node.kind node.owners → CarriesOut asker (ReadAttr path) old reply new
   served_attr old new node reply are reached replies =
       served asker path (ReadAttr path) (λ target. Check target (read_attributes ∷ []) ∷ []) (λ content. refl) (λ site. refl)
-        (λ content target. Attr target.node.kind target.node.owners) (λ content id. refl) old new node reply are reached
-        (λ target filled. ap (λ (s : Site). Attr s.node.kind s.node.owners) filled ∙ sym replies)
+      (λ content target. Attr target.node.kind target.node.owners) (λ content id. refl) old new node reply are reached
+      (λ target filled. ap (λ (s : Site). Attr s.node.kind s.node.owners) filled ∙ sym replies)
 
   pub served_rulings : (mask : List ℕ) (old new : Rows) (node : Node) (rulings : List (List ℕ × Rattle.room_eval.specs.declared.outcome.Ruling.Ruling)) → AreRows old → IsReached asker path (λ _. []) old (At node) new
       → rulings ≡ map (λ bit. (bit ∷ [], ruling_of (full_of node.dacl) asker.caller node.owners bit)) mask → CarriesOut asker (Can path mask) old (Rulings rulings) new
   served_rulings mask old new node rulings are reached ruled =
       served asker path (Can path mask) (λ _. []) (λ content. refl) (λ site. refl)
-        (λ content target. Rulings (map (λ bit. (bit ∷ [], ruling_of (full_at Dacl target) asker.caller target.node.owners bit)) mask)) (λ content id. refl) old new node (Rulings rulings) are reached
-        (λ target filled. ap (λ (s : Site). Rulings (map (λ bit. (bit ∷ [], ruling_of (full_at Dacl s) asker.caller s.node.owners bit)) mask)) filled
-          ∙ ap (λ (l : List (List ℕ × Rattle.room_eval.specs.declared.outcome.Ruling.Ruling)). Rulings l) (sym ruled))
+      (λ content target. Rulings (map (λ bit. (bit ∷ [], ruling_of (full_at Dacl target) asker.caller target.node.owners bit)) mask)) (λ content id. refl) old new node (Rulings rulings) are reached
+      (λ target filled. ap (λ (s : Site). Rulings (map (λ bit. (bit ∷ [], ruling_of (full_at Dacl s) asker.caller s.node.owners bit)) mask)) filled
+      ∙ ap (λ (l : List (List ℕ × Rattle.room_eval.specs.declared.outcome.Ruling.Ruling)). Rulings l) (sym ruled))
 
 -- ---- the same, as the calls give it
 
@@ -184,7 +188,7 @@ no_bytes asker path bits old new node at are reached lacks sound =
     let site : Site = stored_site path node in
     let there : node_at old.read node.id ≡ Some node = along_there old.read are.numbers path site reached.found in
     let judged : None ≡ first_failure asker.caller (way false (stored_along old.read path) path ++ (no_folder site ∷ Check site bits ∷ [])) =
-      reached.judged.answers ∙ ap (λ o. first_failure asker.caller (way false (stored_along old.read path) path ++ where_found o (λ target. no_folder target ∷ Check target bits ∷ []))) reached.found in
+    reached.judged.answers ∙ ap (λ o. first_failure asker.caller (way false (stored_along old.read path) path ++ where_found o (λ target. no_folder target ∷ Check target bits ∷ []))) reached.found in
     let at_site = none_both (first_failure asker.caller (way false (stored_along old.read path) path)) _ (judged ∙ failure_of_parts asker.caller asker.at (way false (stored_along old.read path) path) (no_folder site ∷ Check site bits ∷ [])) in
     let kind : is_document node.kind ≡ true = folder_fails asker.caller site (none_both (failure asker.caller (no_folder site)) (first_failure asker.caller (Check site bits ∷ [])) at_site.1).0 in
     let fits : has_sound_body old.read node ≡ true = passes_test (has_sound_body old.read) (λ n. n.id == node.id) old.read.nodes node (sound_parts old sound).bodies there in

@@ -105,14 +105,14 @@ module _ (rows : Rows) (are : AreRows rows) (parts : SoundParts rows) where
           ap (λ (n : Node). cond (is_linked (kept child).dacl (Some n.dacl)) (pass child.kind (full_at Dacl site)) (kept child).dacl.inh) found
           ∙ ap (λ (s : Site). cond (is_linked (kept child).dacl (Some (kept node).dacl)) (pass child.kind (full_at Dacl s)) (kept child).dacl.inh) filled
           ∙ inherits_stored (is_linked_in content Dacl child) (is_linked_in content Dacl node) child.dacl node.dacl (pass child.kind (full_of node.dacl)) (linked_here Dacl)
-            (λ linked. stored_as_passed Dacl (and_parts (agrees content Dacl child) (agrees content Sacl child) law_here).0 (linked_here Dacl ∙ linked))
+          (λ linked. stored_as_passed Dacl (and_parts (agrees content Dacl child) (agrees content Sacl child) law_here).0 (linked_here Dacl ∙ linked))
 
       sacl_is : below.sacl ≡ child.sacl.inh
       sacl_is =
           ap (λ (n : Node). cond (is_linked (kept child).sacl (Some n.sacl)) (pass child.kind (full_at Sacl site)) (kept child).sacl.inh) found
           ∙ ap (λ (s : Site). cond (is_linked (kept child).sacl (Some (kept node).sacl)) (pass child.kind (full_at Sacl s)) (kept child).sacl.inh) filled
           ∙ inherits_stored (is_linked_in content Sacl child) (is_linked_in content Sacl node) child.sacl node.sacl (pass child.kind (full_of node.sacl)) (linked_here Sacl)
-            (λ linked. stored_as_passed Sacl (and_parts (agrees content Dacl child) (agrees content Sacl child) law_here).1 (linked_here Sacl ∙ linked))
+          (λ linked. stored_as_passed Sacl (and_parts (agrees content Dacl child) (agrees content Sacl child) law_here).1 (linked_here Sacl ∙ linked))
 
       below_filled : fill below ≡ stored_site (path ++ name ∷ []) child
       below_filled =
@@ -135,7 +135,7 @@ module _ (rows : Rows) (are : AreRows rows) (parts : SoundParts rows) where
       ap (λ o. map fill (site ∷ sites_below site (option_map_or (λ child. child ∷ chain_below (meaning content) child names) o []))) (child_of-with_each content kept same_places node.id name)
       ∙ ap (λ s. s ∷ map fill (sites_below site (option_map_or (λ child. child ∷ chain_below (meaning content) child names) (option_map kept (child_of content node.id name)) []))) filled
       ∙ ap (λ rest. stored_site path node ∷ rest) (on (child_of content node.id name) (λ child is.
-        filled_from names (path ++ name ∷ []) child (site_below site (kept child)) (child_of-is_there content rises node.id name child is) refl (below_filled node child there name is path site found filled)))
+      filled_from names (path ++ name ∷ []) child (site_below site (kept child)) (child_of-is_there content rises node.id name child is) refl (below_filled node child there name is path site found filled)))
     where
       on : (o : Option Node) → ((child : Node) → o ≡ Some child → map fill (site_below site (kept child) ∷ sites_below (site_below site (kept child)) (chain_below (meaning content) (kept child) names)) ≡ stored_from content (path ++ name ∷ []) child names)
           → map fill (sites_below site (option_map_or (λ child. child ∷ chain_below (meaning content) child names) (option_map kept o) [])) ≡ option_map_or (λ child. stored_from content (path ++ name ∷ []) child names) o []

@@ -64,10 +64,10 @@ module _ (rows : Rows) where
   pub sound_parts : AreSound rows → SoundParts rows
   sound_parts sound =
       let rest : or_sound (or_else (lists_fault (first_bad_list rows)) (or_else (root_fault (bad_root (filter is_root rows.read.nodes)))
-        (or_else (by_number BadParent (first_failing (has_folder_above rows.read) rows.read)) (or_else (by_number Loop (first_failing (reaches rows.read) rows.read))
-        (or_else (by_path BadName (first_failing (has_sound_name rows.read) rows.read)) (or_else (by_path BadBody (first_failing (has_sound_body rows.read) rows.read)) (by_path BrokenLaw (first_failing (keeps_law rows.read) rows.read)))))))) ≡ Sound =
-        ap or_sound (sym (flat (lists_fault (first_bad_list rows)) (root_fault (bad_root (filter is_root rows.read.nodes))) (by_number BadParent (first_failing (has_folder_above rows.read) rows.read)) (by_number Loop (first_failing (reaches rows.read) rows.read))
-          (by_path BadName (first_failing (has_sound_name rows.read) rows.read)) (by_path BadBody (first_failing (has_sound_body rows.read) rows.read)) (by_path BrokenLaw (first_failing (keeps_law rows.read) rows.read)))) ∙ sound in
+      (or_else (by_number BadParent (first_failing (has_folder_above rows.read) rows.read)) (or_else (by_number Loop (first_failing (reaches rows.read) rows.read))
+      (or_else (by_path BadName (first_failing (has_sound_name rows.read) rows.read)) (or_else (by_path BadBody (first_failing (has_sound_body rows.read) rows.read)) (by_path BrokenLaw (first_failing (keeps_law rows.read) rows.read)))))))) ≡ Sound =
+      ap or_sound (sym (flat (lists_fault (first_bad_list rows)) (root_fault (bad_root (filter is_root rows.read.nodes))) (by_number BadParent (first_failing (has_folder_above rows.read) rows.read)) (by_number Loop (first_failing (reaches rows.read) rows.read))
+      (by_path BadName (first_failing (has_sound_name rows.read) rows.read)) (by_path BadBody (first_failing (has_sound_body rows.read) rows.read)) (by_path BrokenLaw (first_failing (keeps_law rows.read) rows.read)))) ∙ sound in
       let lists = passed numbered BadList (first_bad_list rows) _ rest in
       let root = passed numbered BadRoot (bad_root (filter is_root rows.read.nodes)) _ lists.1 in
       let parents = passed (λ (node : Node). numbered node.id) BadParent (first_failing (has_folder_above rows.read) rows.read) _ root.1 in
@@ -79,13 +79,13 @@ module _ (rows : Rows) where
   pub parts_sound : SoundParts rows → AreSound rows
   parts_sound parts =
       ap or_sound (flat (lists_fault (first_bad_list rows)) (root_fault (bad_root (filter is_root rows.read.nodes))) (by_number BadParent (first_failing (has_folder_above rows.read) rows.read)) (by_number Loop (first_failing (reaches rows.read) rows.read))
-        (by_path BadName (first_failing (has_sound_name rows.read) rows.read)) (by_path BadBody (first_failing (has_sound_body rows.read) rows.read)) (by_path BrokenLaw (first_failing (keeps_law rows.read) rows.read)))
+      (by_path BadName (first_failing (has_sound_name rows.read) rows.read)) (by_path BadBody (first_failing (has_sound_body rows.read) rows.read)) (by_path BrokenLaw (first_failing (keeps_law rows.read) rows.read)))
       ∙ ap (λ o. or_sound (or_else (lists_fault o) (or_else (root_fault (bad_root (filter is_root rows.read.nodes))) (or_else (by_number BadParent (first_failing (has_folder_above rows.read) rows.read)) (or_else (by_number Loop (first_failing (reaches rows.read) rows.read))
-        (or_else (by_path BadName (first_failing (has_sound_name rows.read) rows.read)) (or_else (by_path BadBody (first_failing (has_sound_body rows.read) rows.read)) (by_path BrokenLaw (first_failing (keeps_law rows.read) rows.read))))))))) parts.lists
+      (or_else (by_path BadName (first_failing (has_sound_name rows.read) rows.read)) (or_else (by_path BadBody (first_failing (has_sound_body rows.read) rows.read)) (by_path BrokenLaw (first_failing (keeps_law rows.read) rows.read))))))))) parts.lists
       ∙ ap (λ o. or_sound (or_else (root_fault o) (or_else (by_number BadParent (first_failing (has_folder_above rows.read) rows.read)) (or_else (by_number Loop (first_failing (reaches rows.read) rows.read))
-        (or_else (by_path BadName (first_failing (has_sound_name rows.read) rows.read)) (or_else (by_path BadBody (first_failing (has_sound_body rows.read) rows.read)) (by_path BrokenLaw (first_failing (keeps_law rows.read) rows.read)))))))) parts.root
+      (or_else (by_path BadName (first_failing (has_sound_name rows.read) rows.read)) (or_else (by_path BadBody (first_failing (has_sound_body rows.read) rows.read)) (by_path BrokenLaw (first_failing (keeps_law rows.read) rows.read)))))))) parts.root
       ∙ ap (λ o. or_sound (or_else (by_number BadParent o) (or_else (by_number Loop (first_failing (reaches rows.read) rows.read))
-        (or_else (by_path BadName (first_failing (has_sound_name rows.read) rows.read)) (or_else (by_path BadBody (first_failing (has_sound_body rows.read) rows.read)) (by_path BrokenLaw (first_failing (keeps_law rows.read) rows.read))))))) parts.parents
+      (or_else (by_path BadName (first_failing (has_sound_name rows.read) rows.read)) (or_else (by_path BadBody (first_failing (has_sound_body rows.read) rows.read)) (by_path BrokenLaw (first_failing (keeps_law rows.read) rows.read))))))) parts.parents
       ∙ ap (λ o. or_sound (or_else (by_number Loop o) (or_else (by_path BadName (first_failing (has_sound_name rows.read) rows.read)) (or_else (by_path BadBody (first_failing (has_sound_body rows.read) rows.read)) (by_path BrokenLaw (first_failing (keeps_law rows.read) rows.read)))))) parts.reached
       ∙ ap (λ o. or_sound (or_else (by_path BadName o) (or_else (by_path BadBody (first_failing (has_sound_body rows.read) rows.read)) (by_path BrokenLaw (first_failing (keeps_law rows.read) rows.read))))) parts.names
       ∙ ap (λ o. or_sound (or_else (by_path BadBody o) (by_path BrokenLaw (first_failing (keeps_law rows.read) rows.read)))) parts.bodies
@@ -147,7 +147,7 @@ any_at : (test : ℕ → Bool) (ids : List ℕ) (id : ℕ) → is_among ids id �
 any_at test [] id among passes = among
 any_at test (x ∷ xs) id among passes =
     elim (cases_Bool (x == id)) [
-      inl same ↦ or_left _ _ (ap test (eqb-true x id same) ∙ passes)
+      | inl same ↦ or_left _ _ (ap test (eqb-true x id same) ∙ passes)
       | inr other ↦ or_right _ _ (any_at test xs id (ap (λ t. t || is_among xs id) (sym other) ∙ among) passes)
     ]
 

@@ -45,6 +45,6 @@ module _ (asker : Asker) (request : Request) (old : Rows) (known : IsKnown asker
   served_step new reply serves judged =
       let free = some_free content in
       by_records free.0 free.1 new reply
-        (ap (λ o. recorded (answered o content (effect content asker.caller free.0 request)) (records_of_plan asker.caller asker.at (plan_of content request))) (sym judged.answers)
-          ∙ ap (λ d. recorded d (records_of_plan asker.caller asker.at (plan_of content request))) (serves free.0))
-        judged.notes
+      (ap (λ o. recorded (answered o content (effect content asker.caller free.0 request)) (records_of_plan asker.caller asker.at (plan_of content request))) (sym judged.answers)
+      ∙ ap (λ d. recorded d (records_of_plan asker.caller asker.at (plan_of content request))) (serves free.0))
+      judged.notes

@@ -47,9 +47,9 @@ module _ (asker : Asker) (path : List (List ℕ)) (from : Found) (below : from.d
       let same_child : child_of mid.read from.node.id name ≡ child_of old.read from.node.id name = ap (λ (r : Rows). child_of r.read from.node.id name) judged.notes in
       record {
         judged = passes_first asker (through site) (Refusal (site.path ++ name ∷ []) NoSuch (is_none (child_of old.read from.node.id name)) ∷ []) old mid new (ended arrival) judged
-          (refusal_alone asker (site.path ++ name ∷ []) (is_none (child_of old.read from.node.id name)) mid new (ended arrival)
+            (refusal_alone asker (site.path ++ name ∷ []) (is_none (child_of old.read from.node.id name)) mid new (ended arrival)
             (finds.answers ∙ ap (λ (o : Option Node). cond (is_none o) (Some (Refused (take (from.depth + 1) path) NoSuch)) None) same_child
-              ∙ ap (λ (p : List (List ℕ)). cond (is_none (child_of old.read from.node.id name)) (Some (Refused p NoSuch)) None) (one_name_more path from.depth below))
+            ∙ ap (λ (p : List (List ℕ)). cond (is_none (child_of old.read from.node.id name)) (Some (Refused p NoSuch)) None) (one_name_more path from.depth below))
             finds.same);
         found = moved arrival finds.found;
       }
@@ -148,7 +148,7 @@ module _ (asker : Asker) (path : List (List ℕ)) where
     pub way_ends : (old now new : Rows) (reply : Reply) → IsOnWay asker path from old now → IsStepDown asker path from now (Ended reply) new → IsReached asker path (λ _. []) old (Ended reply) new
     way_ends old now new reply on_way step = record {
       judged = subst (λ items. IsJudged asker items old (Some reply) new) (sym (plain_way old))
-        (so_far_fails asker (all_of old) (step_items old) (items_below old) old now new reply
+          (so_far_fails asker (all_of old) (step_items old) (items_below old) old now new reply
           (so_far_as asker (all_of old) _ (step_items old ++ items_below old) old now (way_here old) on_way.so_far)
           (subst (λ items. IsJudged asker items now (Some reply) new) (at_first old now on_way) step.judged));
       found = tt;
@@ -160,18 +160,18 @@ module _ (asker : Asker) (path : List (List ℕ)) where
         let path_then : take from.depth path ++ next_name ∷ [] ≡ take next.depth path = sym (one_name_more path from.depth below) ∙ ap (λ (d : ℕ). take d path) (sym deeper) in
         let names_then : names_left ≡ drop next.depth path = ap (λ (d : ℕ). drop d path) (sym deeper) in
         let below_here : items_below old ≡ way false (stored_from old.read (take next.depth path) next.node (drop next.depth path)) (drop next.depth path) =
-          ap (λ o. option_map_or (λ c. way false (stored_from old.read (take from.depth path ++ next_name ∷ []) c names_left) names_left) o []) child
-          ∙ ap (λ p. way false (stored_from old.read p next.node names_left) names_left) path_then
-          ∙ ap (λ names. way false (stored_from old.read (take next.depth path) next.node names) names) names_then in
+        ap (λ o. option_map_or (λ c. way false (stored_from old.read (take from.depth path ++ next_name ∷ []) c names_left) names_left) o []) child
+        ∙ ap (λ p. way false (stored_from old.read p next.node names_left) names_left) path_then
+        ∙ ap (λ names. way false (stored_from old.read (take next.depth path) next.node names) names) names_then in
         record {
           so_far = so_far_as asker (all_of old) (items_below old) _ old new below_here
-            (so_far_on asker (all_of old) (step_items old) (items_below old) old now new
+              (so_far_on asker (all_of old) (step_items old) (items_below old) old now new
               (so_far_as asker (all_of old) _ (step_items old ++ items_below old) old now (way_here old) on_way.so_far)
               (subst (λ items. IsJudged asker items now None new) (at_first old now on_way) step.judged));
           found = on_way.found ∙ ap (λ names. site_at (stored_from old.read (take from.depth path) from.node names) names) here
-            ∙ ap (λ o. site_at (option_map_or (λ c. stored_from old.read (take from.depth path ++ next_name ∷ []) c names_left) o []) names_left) child
-            ∙ ap (λ p. site_at (stored_from old.read p next.node names_left) names_left) path_then
-            ∙ ap (λ names. site_at (stored_from old.read (take next.depth path) next.node names) names) names_then;
+              ∙ ap (λ o. site_at (option_map_or (λ c. stored_from old.read (take from.depth path ++ next_name ∷ []) c names_left) o []) names_left) child
+              ∙ ap (λ p. site_at (stored_from old.read p next.node names_left) names_left) path_then
+              ∙ ap (λ names. site_at (stored_from old.read (take next.depth path) next.node names) names) names_then;
         }
 
   -- all steps are done
@@ -181,7 +181,7 @@ module _ (asker : Asker) (path : List (List ℕ)) where
       let whole : take from.depth path ≡ path = ap (λ (d : ℕ). take d path) full ∙ take-length path in
       record {
         judged = subst (λ items. IsJudged asker items old None now) (sym (plain_way old))
-          (so_far_last asker (all_of old) [] old now now None
+            (so_far_last asker (all_of old) [] old now now None
             (so_far_as asker (all_of old) _ [] old now (ap (λ names. way false (stored_from old.read (take from.depth path) from.node names) names) none_left) on_way.so_far)
             (judged_none asker now now refl));
         found = on_way.found ∙ ap (λ names. site_at (stored_from old.read (take from.depth path) from.node names) names) none_left ∙ ap (λ p. Some (stored_site p from.node)) whole;
@@ -193,17 +193,17 @@ module _ (asker : Asker) (path : List (List ℕ)) where
     pub not_reached : (old new : Rows) (reply : Reply) → IsReached asker path (λ _. []) old (Ended reply) new → IsReached asker path items old (Ended reply) new
     not_reached old new reply reached = record {
       judged = fails_first asker (all_of old) (where_found (site_at (stored_along old.read path) path) items) old new reply
-        (subst (λ list. IsJudged asker list old (Some reply) new) (plain_way old) reached.judged);
+          (subst (λ list. IsJudged asker list old (Some reply) new) (plain_way old) reached.judged);
       found = tt;
     }
 
     at_target : (old mid new : Rows) (target : Found) (answer : Option Reply) → target.depth ≡ length path → IsReached asker path (λ _. []) old (At target.node) mid → IsJudged asker (items (found_site path target)) mid answer new → IsJudged asker (to_stored old.read path items) old answer new
     at_target old mid new target answer deep reached judged =
         let site : site_at (stored_along old.read path) path ≡ Some (found_site path target) =
-          reached.found ∙ ap (λ p. Some (stored_site p target.node)) (sym (ap (λ (d : ℕ). take d path) deep ∙ take-length path)) in
+        reached.found ∙ ap (λ p. Some (stored_site p target.node)) (sym (ap (λ (d : ℕ). take d path) deep ∙ take-length path)) in
         passes_first asker (all_of old) (where_found (site_at (stored_along old.read path) path) items) old mid new answer
-          (subst (λ list. IsJudged asker list old None mid) (plain_way old) reached.judged)
-          (subst (λ list. IsJudged asker list mid answer new) (sym (ap (λ o. where_found o items) site)) judged)
+        (subst (λ list. IsJudged asker list old None mid) (plain_way old) reached.judged)
+        (subst (λ list. IsJudged asker list mid answer new) (sym (ap (λ o. where_found o items) site)) judged)
 
     pub target_refused : (old mid new : Rows) (target : Found) (reply : Reply) → target.depth ≡ length path → IsReached asker path (λ _. []) old (At target.node) mid → IsJudged asker (items (found_site path target)) mid (Some reply) new → IsReached asker path items old (Ended reply) new
     target_refused old mid new target reply deep reached judged = record { judged = at_target old mid new target (Some reply) deep reached judged; found = tt }

@@ -17,7 +17,11 @@ pub(crate) struct Asker {
 }
 
 // The caller of this name with the groups that are paired with it, or one without a name.
-pub(crate) fn caller_of<K: Keep>(alloc: Global, keep: &mut K, user: Option<&Name>) -> Result<Caller, KeepFault>
+pub(crate) fn caller_of<K: Keep>(
+    alloc: Global,
+    keep: &mut K,
+    user: Option<&Name>,
+) -> Result<Caller, KeepFault>
     ensures read { IsRead K.rows K.failures K.writes K.Follows K.IsTrusted keep.old keep.new result IsNever (λ rows caller. caller ≡ caller_in rows.read (option_copied user.entry)) }
 {
     match user {

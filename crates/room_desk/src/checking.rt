@@ -16,7 +16,12 @@ use room_tree::{AuditRow, Keep, KeepFault, Path, RecordKind};
 use std::alloc::{AllocError, Global};
 
 /// The refusal at the object after so many names of the path.
-pub(crate) fn refused(alloc: Global, path: &Path, depth: usize, why: Reason) -> Result<Reply, AllocError>
+pub(crate) fn refused(
+    alloc: Global,
+    path: &Path,
+    depth: usize,
+    why: Reason,
+) -> Result<Reply, AllocError>
     ensures { IfOk result (λ reply. reply ≡ Refused (take depth path.now) why) }
 {
     Ok(Reply::Refused {
@@ -26,7 +31,13 @@ pub(crate) fn refused(alloc: Global, path: &Path, depth: usize, why: Reason) -> 
 }
 
 /// The denial of these bits on the object, with the entry at the place.
-pub(crate) fn denied(alloc: Global, path: &Path, found: &Found, bits: Mask, place: Option<usize>) -> Result<Reply, AllocError>
+pub(crate) fn denied(
+    alloc: Global,
+    path: &Path,
+    found: &Found,
+    bits: Mask,
+    place: Option<usize>,
+) -> Result<Reply, AllocError>
     ensures { IfOk result (λ reply. Some reply ≡ denied_at (found_site path.now found.now) bits place) }
 {
     let entries = found.node.dacl.full()?;
@@ -52,7 +63,13 @@ fn entry_copy(entries: &[Entry], place: Option<usize>) -> Result<Option<Entry>, 
 }
 
 // The reply where the object's dacl doesn't grant the bits.
-fn denial(alloc: Global, asker: &Asker, path: &Path, found: &Found, mask: Mask) -> Result<Option<Reply>, AllocError>
+fn denial(
+    alloc: Global,
+    asker: &Asker,
+    path: &Path,
+    found: &Found,
+    mask: Mask,
+) -> Result<Option<Reply>, AllocError>
     ensures { IfOk result (λ reply. reply ≡ failure asker.now.caller (Check (found_site path.now found.now) mask)) }
 {
     let entries = found.node.dacl.full()?;
@@ -76,7 +93,16 @@ fn record_kind(entries: &[Entry], place: usize) -> RecordKind
 }
 
 // The record of a check that the entry at this place of a sacl calls for.
-fn row_of(alloc: Global, asker: &Asker, path: &Path, depth: usize, bits: Mask, granted: bool, place: usize, kind: RecordKind) -> Result<AuditRow, AllocError>
+fn row_of(
+    alloc: Global,
+    asker: &Asker,
+    path: &Path,
+    depth: usize,
+    bits: Mask,
+    granted: bool,
+    place: usize,
+    kind: RecordKind,
+) -> Result<AuditRow, AllocError>
     ensures { IfOk result (λ row. row ≡ record { at = asker.now.at; user = asker.now.caller.user; path = take depth path.now; bits = bits; granted = granted; place = place; kind = kind }) }
 {
     Ok(AuditRow {
@@ -91,11 +117,26 @@ fn row_of(alloc: Global, asker: &Asker, path: &Path, depth: usize, bits: Mask, g
 }
 
 /// Notes the records of one check of these bits on the object.
-pub(crate) fn note_check<K: Keep>(alloc: Global, keep: &mut K, asker: &Asker, path: &Path, found: &Found, mask: Mask, granted: bool) -> Result<(), KeepFault>
+pub(crate) fn note_check<K: Keep>(
+    alloc: Global,
+    keep: &mut K,
+    asker: &Asker,
+    path: &Path,
+    found: &Found,
+    mask: Mask,
+    granted: bool,
+) -> Result<(), KeepFault>
     ensures done { IsDone K.rows K.failures K.Follows K.IsTrusted keep.old keep.new result IsNever (λ old _ new. new ≡ noted old (records_of asker.now.caller asker.now.at granted (found_site path.now found.now, mask))) }
 {
     let sacl = found.node.sacl.full()?;
-    let places = events(alloc, sacl.as_slice(), &asker.caller, &found.node.owners, mask, granted)?;
+    let places = events(
+        alloc,
+        sacl.as_slice(),
+        &asker.caller,
+        &found.node.owners,
+        mask,
+        granted,
+    )?;
     'places: for place in places.as_slice() {
         let kind = record_kind(sacl.as_slice(), *place);
         let row = row_of(alloc, asker, path, found.depth, mask, granted, *place, kind)?;
@@ -105,7 +146,14 @@ pub(crate) fn note_check<K: Keep>(alloc: Global, keep: &mut K, asker: &Asker, pa
 }
 
 /// One check of these bits on the object: the reply where they are denied. Its records are noted.
-pub(crate) fn check<K: Keep>(alloc: Global, keep: &mut K, asker: &Asker, path: &Path, found: &Found, mask: Mask) -> Result<Option<Reply>, KeepFault>
+pub(crate) fn check<K: Keep>(
+    alloc: Global,
+    keep: &mut K,
+    asker: &Asker,
+    path: &Path,
+    found: &Found,
+    mask: Mask,
+) -> Result<Option<Reply>, KeepFault>
     ensures done { IsDone K.rows K.failures K.Follows K.IsTrusted keep.old keep.new result IsNever (IsJudged asker.now (Check (found_site path.now found.now) mask ∷ [])) }
 {
     let reply = denial(alloc, asker, path, found, mask)?;

@@ -27,7 +27,13 @@ pub trait Desk {
 
     /// Carries out one request of a caller, who is anonymous without a name, at a moment in seconds
     /// from 1970-01-01 00:00 UTC. A fault leaves what is kept as it was.
-    fn run(&mut self, alloc: Global, caller: Option<&Name>, at: i64, request: &Request) -> Result<Reply, DeskFault>
+    fn run(
+        &mut self,
+        alloc: Global,
+        caller: Option<&Name>,
+        at: i64,
+        request: &Request,
+    ) -> Result<Reply, DeskFault>
         ensures step { sound self.old → MatchResult result
             (λ reply. Step (content self.old) (option_copied caller.entry) at request.now reply (content self.new))
             (λ _. content self.new ≡ content self.old) }

@@ -14,10 +14,22 @@ use room_tree::{Keep, KeepFault, Node, Path};
 use std::alloc::{AllocError, Global};
 
 /// The bytes of a document.
-pub(crate) fn read<K: Keep>(alloc: Global, keep: &mut K, asker: &Asker, path: &Path) -> Result<Reply, KeepFault>
+pub(crate) fn read<K: Keep>(
+    alloc: Global,
+    keep: &mut K,
+    asker: &Asker,
+    path: &Path,
+) -> Result<Reply, KeepFault>
     ensures done { IsDone K.rows K.failures K.Follows K.IsTrusted keep.old keep.new result NotSound (CarriesOut asker.now (Read path.now)) }
 {
-    let arrival = reach_kind(alloc, keep, asker, path, ObjKind::Document, Mask::read_data())?;
+    let arrival = reach_kind(
+        alloc,
+        keep,
+        asker,
+        path,
+        ObjKind::Document,
+        Mask::read_data(),
+    )?;
     match arrival {
         Arrival::Ended(reply) => Ok(reply),
         Arrival::At(node) => {
@@ -31,7 +43,13 @@ pub(crate) fn read<K: Keep>(alloc: Global, keep: &mut K, asker: &Asker, path: &P
 }
 
 /// The flags and the full list of an object.
-pub(crate) fn read_list<K: Keep>(alloc: Global, keep: &mut K, asker: &Asker, path: &Path, which: Which) -> Result<Reply, KeepFault>
+pub(crate) fn read_list<K: Keep>(
+    alloc: Global,
+    keep: &mut K,
+    asker: &Asker,
+    path: &Path,
+    which: Which,
+) -> Result<Reply, KeepFault>
     ensures done { IsDone K.rows K.failures K.Follows K.IsTrusted keep.old keep.new result NotSound (CarriesOut asker.now (ReadList path.now which)) }
 {
     let arrival = reach(alloc, keep, asker, path, Mask::read_acl())?;
@@ -50,7 +68,12 @@ fn list_reply(node: &Node, which: Which) -> Result<Reply, AllocError>
 }
 
 /// The kind and the owners of an object.
-pub(crate) fn read_attr<K: Keep>(alloc: Global, keep: &mut K, asker: &Asker, path: &Path) -> Result<Reply, KeepFault>
+pub(crate) fn read_attr<K: Keep>(
+    alloc: Global,
+    keep: &mut K,
+    asker: &Asker,
+    path: &Path,
+) -> Result<Reply, KeepFault>
     ensures done { IsDone K.rows K.failures K.Follows K.IsTrusted keep.old keep.new result NotSound (CarriesOut asker.now (ReadAttr path.now)) }
 {
     let arrival = reach(alloc, keep, asker, path, Mask::read_attributes())?;
@@ -61,7 +84,12 @@ pub(crate) fn read_attr<K: Keep>(alloc: Global, keep: &mut K, asker: &Asker, pat
 }
 
 /// The names and kinds of the children of a folder, in order of name.
-pub(crate) fn list<K: Keep>(alloc: Global, keep: &mut K, asker: &Asker, path: &Path) -> Result<Reply, KeepFault>
+pub(crate) fn list<K: Keep>(
+    alloc: Global,
+    keep: &mut K,
+    asker: &Asker,
+    path: &Path,
+) -> Result<Reply, KeepFault>
     ensures done { IsDone K.rows K.failures K.Follows K.IsTrusted keep.old keep.new result NotSound (CarriesOut asker.now (List path.now)) }
 {
     let arrival = reach_kind(alloc, keep, asker, path, ObjKind::Folder, Mask::read_data())?;

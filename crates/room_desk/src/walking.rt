@@ -14,7 +14,13 @@ use room_tree::{Keep, KeepFault, Path};
 use std::alloc::Global;
 
 // Passes through an object on the way: it has to be a folder and to grant EXECUTE.
-pub(crate) fn pass_through<K: Keep>(alloc: Global, keep: &mut K, asker: &Asker, path: &Path, found: &Found) -> Result<Option<Reply>, KeepFault>
+pub(crate) fn pass_through<K: Keep>(
+    alloc: Global,
+    keep: &mut K,
+    asker: &Asker,
+    path: &Path,
+    found: &Found,
+) -> Result<Option<Reply>, KeepFault>
     ensures done { IsDone K.rows K.failures K.Follows K.IsTrusted keep.old keep.new result IsNever (IsJudged asker.now (through (found_site path.now found.now))) }
 {
     match found.node.kind {
@@ -24,7 +30,13 @@ pub(crate) fn pass_through<K: Keep>(alloc: Global, keep: &mut K, asker: &Asker, 
 }
 
 // One step down the way: the child of the next name, behind the object that has to let through.
-fn step_down<K: Keep>(alloc: Global, keep: &mut K, asker: &Asker, path: &Path, found: &Found) -> Result<Arrival, KeepFault>
+fn step_down<K: Keep>(
+    alloc: Global,
+    keep: &mut K,
+    asker: &Asker,
+    path: &Path,
+    found: &Found,
+) -> Result<Arrival, KeepFault>
     requires { found.now.depth < length path.now }
     ensures done { IsDone K.rows K.failures K.Follows K.IsTrusted keep.old keep.new result IsUnreadable (IsStepDown asker.now path.now found.now) }
 {
@@ -36,7 +48,12 @@ fn step_down<K: Keep>(alloc: Global, keep: &mut K, asker: &Asker, path: &Path, f
 }
 
 // The child of the next name.
-fn find_next<K: Keep>(alloc: Global, keep: &mut K, path: &Path, found: &Found) -> Result<Arrival, KeepFault>
+fn find_next<K: Keep>(
+    alloc: Global,
+    keep: &mut K,
+    path: &Path,
+    found: &Found,
+) -> Result<Arrival, KeepFault>
     requires { found.now.depth < length path.now }
     ensures done { IsDone K.rows K.failures K.Follows K.IsTrusted keep.old keep.new result IsUnreadable (FindsNext path.now found.now) }
 {
@@ -49,7 +66,12 @@ fn find_next<K: Keep>(alloc: Global, keep: &mut K, path: &Path, found: &Found) -
 }
 
 /// The walk to the object at the path, as far as it is let through.
-pub(crate) fn walk_to<K: Keep>(alloc: Global, keep: &mut K, asker: &Asker, path: &Path) -> Result<Arrival, KeepFault>
+pub(crate) fn walk_to<K: Keep>(
+    alloc: Global,
+    keep: &mut K,
+    asker: &Asker,
+    path: &Path,
+) -> Result<Arrival, KeepFault>
     ensures done { IsDone K.rows K.failures K.Follows K.IsTrusted keep.old keep.new result HasNoRoot (IsReached asker.now path.now (λ _. [])) }
 {
     let root = keep.root()?;
@@ -73,7 +95,13 @@ pub(crate) fn walk_to<K: Keep>(alloc: Global, keep: &mut K, asker: &Asker, path:
 }
 
 /// The walk to the object at the path, and a check of these bits on it.
-pub(crate) fn reach<K: Keep>(alloc: Global, keep: &mut K, asker: &Asker, path: &Path, mask: Mask) -> Result<Arrival, KeepFault>
+pub(crate) fn reach<K: Keep>(
+    alloc: Global,
+    keep: &mut K,
+    asker: &Asker,
+    path: &Path,
+    mask: Mask,
+) -> Result<Arrival, KeepFault>
     ensures done { IsDone K.rows K.failures K.Follows K.IsTrusted keep.old keep.new result HasNoRoot (IsReached asker.now path.now (λ target. Check target mask ∷ [])) }
 {
     let arrival = walk_to(alloc, keep, asker, path)?;
@@ -101,7 +129,14 @@ fn arrival_at(found: Found, refusal: Option<Reply>) -> Arrival
 }
 
 /// The walk to the object at the path, which has to be of this kind, and a check of these bits on it.
-pub(crate) fn reach_kind<K: Keep>(alloc: Global, keep: &mut K, asker: &Asker, path: &Path, kind: ObjKind, mask: Mask) -> Result<Arrival, KeepFault>
+pub(crate) fn reach_kind<K: Keep>(
+    alloc: Global,
+    keep: &mut K,
+    asker: &Asker,
+    path: &Path,
+    kind: ObjKind,
+    mask: Mask,
+) -> Result<Arrival, KeepFault>
     ensures done { IsDone K.rows K.failures K.Follows K.IsTrusted keep.old keep.new result HasNoRoot (IsReached asker.now path.now (λ target. of_kind kind target ∷ Check target mask ∷ [])) }
 {
     let arrival = walk_to(alloc, keep, asker, path)?;
@@ -119,7 +154,15 @@ pub(crate) fn reach_kind<K: Keep>(alloc: Global, keep: &mut K, asker: &Asker, pa
 }
 
 // The object has to be of this kind and to grant these bits.
-fn check_kind<K: Keep>(alloc: Global, keep: &mut K, asker: &Asker, path: &Path, found: &Found, kind: ObjKind, mask: Mask) -> Result<Option<Reply>, KeepFault>
+fn check_kind<K: Keep>(
+    alloc: Global,
+    keep: &mut K,
+    asker: &Asker,
+    path: &Path,
+    found: &Found,
+    kind: ObjKind,
+    mask: Mask,
+) -> Result<Option<Reply>, KeepFault>
     ensures done { IsDone K.rows K.failures K.Follows K.IsTrusted keep.old keep.new result IsNever (IsJudged asker.now (of_kind kind (found_site path.now found.now) ∷ Check (found_site path.now found.now) mask ∷ [])) }
 {
     let is_other = is_other_kind(found.node.kind, kind);

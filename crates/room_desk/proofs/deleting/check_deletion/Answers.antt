@@ -34,8 +34,10 @@ returns g c =
     let target = found_site c.args.path.now c.args.target.now in
     let parent = found_site c.args.path.now c.args.parent.now in
     let granted = none_is c.in_ok-reply.reply c.is_none-granted.result c.is_none-granted.ensures in
-    record { done = finish laws c.in_ok-reply.reply (then laws (done c.in_ok-note_check.ensures.done) (done c.in_ok-note_second.ensures.done) (λ old mid new first second.
-      judged_deletion c.args.asker.now target parent c.in_ok-right.right old mid new c.in_ok-reply.reply c.in_ok-reply.ensures c.in_ok-right.ensures
-        (first ∙ ap (λ t. noted old (records_of c.args.asker.now.caller c.args.asker.now.at t (target, c.delete.result))) granted ∙ ap (λ bits. noted old (records_of c.args.asker.now.caller c.args.asker.now.at (is_none c.in_ok-reply.reply) (target, bits))) c.delete.ensures)
-        (second ∙ ap (λ t. noted mid (records_of c.args.asker.now.caller c.args.asker.now.at t (parent, c.in_ok-right.right))) granted)))
-      (λ old new are judged. judged) }
+    record {
+      done = finish laws c.in_ok-reply.reply (then laws (done c.in_ok-note_check.ensures.done) (done c.in_ok-note_second.ensures.done) (λ old mid new first second.
+          judged_deletion c.args.asker.now target parent c.in_ok-right.right old mid new c.in_ok-reply.reply c.in_ok-reply.ensures c.in_ok-right.ensures
+          (first ∙ ap (λ t. noted old (records_of c.args.asker.now.caller c.args.asker.now.at t (target, c.delete.result))) granted ∙ ap (λ bits. noted old (records_of c.args.asker.now.caller c.args.asker.now.at (is_none c.in_ok-reply.reply) (target, bits))) c.delete.ensures)
+          (second ∙ ap (λ t. noted mid (records_of c.args.asker.now.caller c.args.asker.now.at t (parent, c.in_ok-right.right))) granted)))
+          (λ old new are judged. judged);
+    }

@@ -29,13 +29,17 @@ returns-in-Ended g c =
     let k = g.K.Keep in
     let m = g.met.K.Keep in
     let laws : Ruled k.rows k.failures k.Follows k.IsTrusted = record { itself = m.follows_itself; on = m.follows_on; rise = m.failures_rise; first = m.trusted_first; last = m.trusted_last; are = m.are_rows } in
-    record { done = finish laws _ (done c.in_ok-arrival.ensures.done) (λ old new are reached.
-      not_served c.args.asker.now c.args.path.now (ReadAttr c.args.path.now) (CheckAt (read_attributes ∷ [])) (λ content. refl) (λ site. refl) old new c.in-Ended.reply are (reached_as c.args.asker.now c.args.path.now CheckAt c.read_attributes.result (read_attributes ∷ []) _ (Ended c.in-Ended.reply) old new c.read_attributes.ensures c.in-Ended.is reached)) }
+    record {
+      done = finish laws _ (done c.in_ok-arrival.ensures.done) (λ old new are reached.
+          not_served c.args.asker.now c.args.path.now (ReadAttr c.args.path.now) (CheckAt (read_attributes ∷ [])) (λ content. refl) (λ site. refl) old new c.in-Ended.reply are (reached_as c.args.asker.now c.args.path.now CheckAt c.read_attributes.result (read_attributes ∷ []) _ (Ended c.in-Ended.reply) old new c.read_attributes.ensures c.in-Ended.is reached));
+    }
 
 pub returns-in-At : goal.returns-in-At
 returns-in-At g c =
     let k = g.K.Keep in
     let m = g.met.K.Keep in
     let laws : Ruled k.rows k.failures k.Follows k.IsTrusted = record { itself = m.follows_itself; on = m.follows_on; rise = m.failures_rise; first = m.trusted_first; last = m.trusted_last; are = m.are_rows } in
-    record { done = finish laws _ (done c.in_ok-arrival.ensures.done) (λ old new are reached.
-      served_attr c.args.asker.now c.args.path.now old new c.in-At.node _ are (reached_as c.args.asker.now c.args.path.now CheckAt c.read_attributes.result (read_attributes ∷ []) _ (At c.in-At.node) old new c.read_attributes.ensures c.in-At.is reached) refl) }
+    record {
+      done = finish laws _ (done c.in_ok-arrival.ensures.done) (λ old new are reached.
+          served_attr c.args.asker.now c.args.path.now old new c.in-At.node _ are (reached_as c.args.asker.now c.args.path.now CheckAt c.read_attributes.result (read_attributes ∷ []) _ (At c.in-At.node) old new c.read_attributes.ensures c.in-At.is reached) refl);
+    }

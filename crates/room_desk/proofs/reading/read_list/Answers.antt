@@ -29,8 +29,10 @@ returns-in-Ended g c =
     let k = g.K.Keep in
     let m = g.met.K.Keep in
     let laws : Ruled k.rows k.failures k.Follows k.IsTrusted = record { itself = m.follows_itself; on = m.follows_on; rise = m.failures_rise; first = m.trusted_first; last = m.trusted_last; are = m.are_rows } in
-    record { done = finish laws _ (done c.in_ok-arrival.ensures.done) (λ old new are reached.
-      not_served c.args.asker.now c.args.path.now (ReadList c.args.path.now c.args.which) (CheckAt (read_acl ∷ [])) (λ content. refl) (λ site. refl) old new c.in-Ended.reply are (reached_as c.args.asker.now c.args.path.now CheckAt c.read_acl.result (read_acl ∷ []) _ (Ended c.in-Ended.reply) old new c.read_acl.ensures c.in-Ended.is reached)) }
+    record {
+      done = finish laws _ (done c.in_ok-arrival.ensures.done) (λ old new are reached.
+          not_served c.args.asker.now c.args.path.now (ReadList c.args.path.now c.args.which) (CheckAt (read_acl ∷ [])) (λ content. refl) (λ site. refl) old new c.in-Ended.reply are (reached_as c.args.asker.now c.args.path.now CheckAt c.read_acl.result (read_acl ∷ []) _ (Ended c.in-Ended.reply) old new c.read_acl.ensures c.in-Ended.is reached));
+    }
 
 pub returns-in_err-list_reply-in-At : goal.returns-in_err-list_reply-in-At
 returns-in_err-list_reply-in-At g c =
@@ -44,5 +46,7 @@ returns-in_ok-list_reply-in-At g c =
     let k = g.K.Keep in
     let m = g.met.K.Keep in
     let laws : Ruled k.rows k.failures k.Follows k.IsTrusted = record { itself = m.follows_itself; on = m.follows_on; rise = m.failures_rise; first = m.trusted_first; last = m.trusted_last; are = m.are_rows } in
-    record { done = finish laws _ (done c.in_ok-arrival.ensures.done) (λ old new are reached.
-      served_list c.args.asker.now c.args.path.now c.args.which old new c.in-At.node _ are (reached_as c.args.asker.now c.args.path.now CheckAt c.read_acl.result (read_acl ∷ []) _ (At c.in-At.node) old new c.read_acl.ensures c.in-At.is reached) c.in_ok-list_reply-in-At.ensures) }
+    record {
+      done = finish laws _ (done c.in_ok-arrival.ensures.done) (λ old new are reached.
+          served_list c.args.asker.now c.args.path.now c.args.which old new c.in-At.node _ are (reached_as c.args.asker.now c.args.path.now CheckAt c.read_acl.result (read_acl ∷ []) _ (At c.in-At.node) old new c.read_acl.ensures c.in-At.is reached) c.in_ok-list_reply-in-At.ensures);
+    }

@@ -20,15 +20,17 @@ returns-in_err-refused g c =
     let laws : Ruled k.rows k.failures k.Follows k.IsTrusted = record { itself = m.follows_itself; on = m.follows_on; rise = m.failures_rise; first = m.trusted_first; last = m.trusted_last; are = m.are_rows } in
     record { done = memory laws (none_done laws c.args.keep.now) c.from_residual.result c.from_residual.ensures.1 }
 
-pub returns-in_ok-refused : goal.returns-in_ok-refused
-returns-in_ok-refused g c =
+pub returns-then-is_other : goal.returns-then-is_other
+returns-then-is_other g c =
     let k = g.K.Keep in
     let m = g.met.K.Keep in
     let laws : Ruled k.rows k.failures k.Follows k.IsTrusted = record { itself = m.follows_itself; on = m.follows_on; rise = m.failures_rise; first = m.trusted_first; last = m.trusted_last; are = m.are_rows } in
     let site = found_site c.args.path.now c.args.found.now in
-    record { done = finish laws _ (none_done laws c.args.keep.now) (λ old new are same.
-      subst (λ (item : Item). IsJudged c.args.asker.now (item ∷ Check site c.args.mask ∷ []) old (Some _) new) (sym (kind_item c.args.kind site))
-        (refuses c.args.asker.now site.path WrongKind (is_other site.node.kind c.args.kind) (Check site c.args.mask ∷ []) old new _ c.in_ok-refused.ensures (sym c.is_other_kind-is_other.ensures ∙ c.if-is_other.true) same)) }
+    record {
+      done = finish laws _ (none_done laws c.args.keep.now) (λ old new are same.
+          subst (λ (item : Item). IsJudged c.args.asker.now (item ∷ Check site c.args.mask ∷ []) old (Some c.in_ok-refused.field-0) new) (sym (kind_item c.args.kind site))
+          (refuses c.args.asker.now site.path WrongKind (is_other site.node.kind c.args.kind) (Check site c.args.mask ∷ []) old new c.in_ok-refused.field-0 c.in_ok-refused.ensures (sym c.is_other_kind-is_other.ensures ∙ c.if-is_other.true) same));
+    }
 
 pub returns : goal.returns
 returns g c =
@@ -36,6 +38,8 @@ returns g c =
     let m = g.met.K.Keep in
     let laws : Ruled k.rows k.failures k.Follows k.IsTrusted = record { itself = m.follows_itself; on = m.follows_on; rise = m.failures_rise; first = m.trusted_first; last = m.trusted_last; are = m.are_rows } in
     let site = found_site c.args.path.now c.args.found.now in
-    record { done = as_well c.check.ensures.done (λ old at never. never) (λ old answer new judged.
-      subst (λ (item : Item). IsJudged c.args.asker.now (item ∷ Check site c.args.mask ∷ []) old answer new) (sym (kind_item c.args.kind site))
-        (passes_on c.args.asker.now site.path WrongKind (is_other site.node.kind c.args.kind) (Check site c.args.mask ∷ []) old new answer (sym c.is_other_kind-is_other.ensures ∙ c.if-is_other.false) judged)) }
+    record {
+      done = as_well c.check.ensures.done (λ old at never. never) (λ old answer new judged.
+          subst (λ (item : Item). IsJudged c.args.asker.now (item ∷ Check site c.args.mask ∷ []) old answer new) (sym (kind_item c.args.kind site))
+          (passes_on c.args.asker.now site.path WrongKind (is_other site.node.kind c.args.kind) (Check site c.args.mask ∷ []) old new answer (sym c.is_other_kind-is_other.ensures ∙ c.if-is_other.false) judged));
+    }

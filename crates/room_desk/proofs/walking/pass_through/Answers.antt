@@ -25,16 +25,20 @@ returns-in_ok-refused-in-Document g c =
     let k = g.K.Keep in
     let m = g.met.K.Keep in
     let laws : Ruled k.rows k.failures k.Follows k.IsTrusted = record { itself = m.follows_itself; on = m.follows_on; rise = m.failures_rise; first = m.trusted_first; last = m.trusted_last; are = m.are_rows } in
-    record { done = finish laws _ (none_done laws c.args.keep.now) (λ old new are same.
-      let site = found_site c.args.path.now c.args.found.now in
-      refuses c.args.asker.now site.path NotFolder (not (not (is_document site.node.kind))) (Check site (execute ∷ []) ∷ []) old new _ c.in_ok-refused-in-Document.ensures (ap (λ (kind : ObjKind). not (not (is_document kind))) c.in-Document.is) same) }
+    record {
+      done = finish laws _ (none_done laws c.args.keep.now) (λ old new are same.
+          let site = found_site c.args.path.now c.args.found.now in
+          refuses c.args.asker.now site.path NotFolder (not (not (is_document site.node.kind))) (Check site (execute ∷ []) ∷ []) old new _ c.in_ok-refused-in-Document.ensures (ap (λ (kind : ObjKind). not (not (is_document kind))) c.in-Document.is) same);
+    }
 
 pub returns-in-Folder : goal.returns-in-Folder
 returns-in-Folder g c =
     let k = g.K.Keep in
     let m = g.met.K.Keep in
     let laws : Ruled k.rows k.failures k.Follows k.IsTrusted = record { itself = m.follows_itself; on = m.follows_on; rise = m.failures_rise; first = m.trusted_first; last = m.trusted_last; are = m.are_rows } in
-    record { done = as_well c.check.ensures.done (λ old at never. never) (λ old answer new judged.
-      let site = found_site c.args.path.now c.args.found.now in
-      passes_on c.args.asker.now site.path NotFolder (not (not (is_document site.node.kind))) (Check site (execute ∷ []) ∷ []) old new answer (ap (λ (kind : ObjKind). not (not (is_document kind))) c.in-Folder.is)
-        (subst (λ (bits : List ℕ). IsJudged c.args.asker.now (Check site bits ∷ []) old answer new) c.execute.ensures judged)) }
+    record {
+      done = as_well c.check.ensures.done (λ old at never. never) (λ old answer new judged.
+          let site = found_site c.args.path.now c.args.found.now in
+          passes_on c.args.asker.now site.path NotFolder (not (not (is_document site.node.kind))) (Check site (execute ∷ []) ∷ []) old new answer (ap (λ (kind : ObjKind). not (not (is_document kind))) c.in-Folder.is)
+          (subst (λ (bits : List ℕ). IsJudged c.args.asker.now (Check site bits ∷ []) old answer new) c.execute.ensures judged));
+    }

@@ -30,8 +30,10 @@ returns-in-Ended g c =
     let k = g.K.Keep in
     let m = g.met.K.Keep in
     let laws : Ruled k.rows k.failures k.Follows k.IsTrusted = record { itself = m.follows_itself; on = m.follows_on; rise = m.failures_rise; first = m.trusted_first; last = m.trusted_last; are = m.are_rows } in
-    record { done = finish laws _ (done c.in_ok-arrival.ensures.done) (λ old new are reached.
-      not_reached c.args.asker.now c.args.path.now (λ (target : Site). of_kind c.args.kind target ∷ Check target c.args.mask ∷ []) old new c.in-Ended.reply (subst (λ (a : Arrival). IsReached c.args.asker.now c.args.path.now (λ _. []) old a new) c.in-Ended.is reached)) }
+    record {
+      done = finish laws _ (done c.in_ok-arrival.ensures.done) (λ old new are reached.
+          not_reached c.args.asker.now c.args.path.now (λ (target : Site). of_kind c.args.kind target ∷ Check target c.args.mask ∷ []) old new c.in-Ended.reply (subst (λ (a : Arrival). IsReached c.args.asker.now c.args.path.now (λ _. []) old a new) c.in-Ended.is reached));
+    }
 
 pub returns-in_err-refusal-in-At : goal.returns-in_err-refusal-in-At
 returns-in_err-refusal-in-At g c =
@@ -40,12 +42,14 @@ returns-in_err-refusal-in-At g c =
     let laws : Ruled k.rows k.failures k.Follows k.IsTrusted = record { itself = m.follows_itself; on = m.follows_on; rise = m.failures_rise; first = m.trusted_first; last = m.trusted_last; are = m.are_rows } in
     record { done = fails laws (done c.in_ok-arrival.ensures.done) c.in_err-refusal-in-At.ensures.done (λ old mid at reached never. absurd never) c.from_residual-in_err-refusal-in-At.result c.from_residual-in_err-refusal-in-At.ensures.1 }
 
-pub returns-in-At : goal.returns-in-At
-returns-in-At g c =
+pub returns-in_ok-refusal-in-At : goal.returns-in_ok-refusal-in-At
+returns-in_ok-refusal-in-At g c =
     let k = g.K.Keep in
     let m = g.met.K.Keep in
     let laws : Ruled k.rows k.failures k.Follows k.IsTrusted = record { itself = m.follows_itself; on = m.follows_on; rise = m.failures_rise; first = m.trusted_first; last = m.trusted_last; are = m.are_rows } in
     let made : List (List ℕ) → Found = λ names. record { node = c.in-At.node; depth = length names } in
-    record { done = finish laws _ (then laws (done c.in_ok-arrival.ensures.done) (done c.in_ok-refusal-in-At.ensures.done) (λ old mid new reached judged.
-      reaches_with c.args.asker.now c.args.path.now (λ (target : Site). of_kind c.args.kind target ∷ Check target c.args.mask ∷ []) old mid new c.in-At.node (made c.names.result.now) c.in_ok-refusal-in-At.refusal (ap made c.names.ensures) (subst (λ (a : Arrival). IsReached c.args.asker.now c.args.path.now (λ _. []) old a mid) c.in-At.is reached) judged))
-      (λ old new are reached. subst (λ (a : Arrival). IsReached c.args.asker.now c.args.path.now (λ (target : Site). of_kind c.args.kind target ∷ Check target c.args.mask ∷ []) old a new) (sym c.arrival_at.ensures) reached) }
+    record {
+      done = finish laws _ (then laws (done c.in_ok-arrival.ensures.done) (done c.in_ok-refusal-in-At.ensures.done) (λ old mid new reached judged.
+          reaches_with c.args.asker.now c.args.path.now (λ (target : Site). of_kind c.args.kind target ∷ Check target c.args.mask ∷ []) old mid new c.in-At.node (made c.names.result.now) c.in_ok-refusal-in-At.refusal (ap made c.names.ensures) (subst (λ (a : Arrival). IsReached c.args.asker.now c.args.path.now (λ _. []) old a mid) c.in-At.is reached) judged))
+          (λ old new are reached. subst (λ (a : Arrival). IsReached c.args.asker.now c.args.path.now (λ (target : Site). of_kind c.args.kind target ∷ Check target c.args.mask ∷ []) old a new) (sym c.arrival_at.ensures) reached);
+    }

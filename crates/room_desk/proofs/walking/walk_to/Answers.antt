@@ -41,8 +41,11 @@ names-preserved g c =
     let m = g.met.K.Keep in
     let laws : Ruled k.rows k.failures k.Follows k.IsTrusted = record { itself = m.follows_itself; on = m.follows_on; rise = m.failures_rise; first = m.trusted_first; last = m.trusted_last; are = m.are_rows } in
     let below : c.names.found.depth < length c.args.path.now = (omega (arith, c.names.invariant.deep, c.names-test.true, ap (λ (l : List (List ℕ)). length l) c.names-index-end.ensures)) in
-    record { deep = refl; done = then laws c.names.invariant.done (done c.in_ok-arrival.ensures.done) (λ old now new on_way step.
-      way_goes_on c.args.asker.now c.args.path.now c.names.found below old now new (record { node = c.in-At.next; depth = c.names.index + 1 }) (ap (λ (n : ℕ). n + 1) (sym c.names.invariant.deep)) on_way (subst (λ (a : Arrival). IsStepDown c.args.asker.now c.args.path.now c.names.found now a new) c.in-At.is step)) }
+    record {
+      deep = refl;
+      done = then laws c.names.invariant.done (done c.in_ok-arrival.ensures.done) (λ old now new on_way step.
+          way_goes_on c.args.asker.now c.args.path.now c.names.found below old now new (record { node = c.in-At.next; depth = c.names.index + 1 }) (ap (λ (n : ℕ). n + 1) (sym c.names.invariant.deep)) on_way (subst (λ (a : Arrival). IsStepDown c.args.asker.now c.args.path.now c.names.found now a new) c.in-At.is step));
+    }
 
 pub returns-in_err-arrival : goal.returns-in_err-arrival
 returns-in_err-arrival g c =
@@ -57,8 +60,10 @@ returns-in-Ended g c =
     let m = g.met.K.Keep in
     let laws : Ruled k.rows k.failures k.Follows k.IsTrusted = record { itself = m.follows_itself; on = m.follows_on; rise = m.failures_rise; first = m.trusted_first; last = m.trusted_last; are = m.are_rows } in
     let below : c.names.found.depth < length c.args.path.now = (omega (arith, c.names.invariant.deep, c.names-test.true, ap (λ (l : List (List ℕ)). length l) c.names-index-end.ensures)) in
-    record { done = finish laws _ (then laws c.names.invariant.done (done c.in_ok-arrival.ensures.done) (λ old now new on_way step.
-      way_ends c.args.asker.now c.args.path.now c.names.found below old now new c.in-Ended.reply on_way (subst (λ (a : Arrival). IsStepDown c.args.asker.now c.args.path.now c.names.found now a new) c.in-Ended.is step))) (λ old new are reached. reached) }
+    record {
+      done = finish laws _ (then laws c.names.invariant.done (done c.in_ok-arrival.ensures.done) (λ old now new on_way step.
+          way_ends c.args.asker.now c.args.path.now c.names.found below old now new c.in-Ended.reply on_way (subst (λ (a : Arrival). IsStepDown c.args.asker.now c.args.path.now c.names.found now a new) c.in-Ended.is step))) (λ old new are reached. reached);
+    }
 
 pub returns : goal.returns
 returns g c =
