@@ -1,5 +1,5 @@
 -- Calls of a keeper one after the other, in the form in which a request is carried out.
-use Rattle.std.proofs.Common.{◌≡◌, ℕ, ◌≤◌, Option, Result, Ok, Err, IfOk, IfErr, refl, sym, ap, subst, ◌∙◌}
+use Rattle.std.proofs.Common.{◌≡◌, ℕ, ◌≤◌, Result, Ok, Err, IfOk, IfErr, refl, sym, subst}
 use Rattle.std.specs.Result.{IsErrAnd}
 use Rattle.room_tree.specs.declared.keep.KeepFault.{KeepFault}
 use Rattle.room_tree.specs.declared.keep.KeepFault.TheVariants.{Memory, Store, Damaged}

@@ -1,13 +1,12 @@
 -- Items judged at objects with their stored lists are those of the plan.
-use Rattle.std.proofs.Common.{◌≡◌, ℕ, ℤ, Bool, true, false, cond, not, ◌&&◌, List, [], ◌∷◌, ◌++◌, map, Option, Some, None, refl, sym, ap, subst, ◌∙◌}
+use Rattle.std.proofs.Common.{◌≡◌, ℕ, ℤ, Bool, false, cond, not, ◌&&◌, List, [], ◌∷◌, ◌++◌, map, Option, Some, None, refl, sym, ap, subst, ◌∙◌}
 use Rattle.std.specs.Prelude.{is_none}
-use Rattle.std.specs.Option.{option_map, option_map_or}
+use Rattle.std.specs.Option.{option_map}
 use Rattle.std.proofs.lemmas.List.{map-append}
 use Rattle.room_ace.specs.Rights.{execute}
 use Rattle.room_ace.specs.declared.parties.Caller.{Caller}
-use Rattle.room_tree.specs.declared.node.AuditRow.{AuditRow}
 use Rattle.room_tree.specs.Content.{Content, is_empty, is_folder}
-use Rattle.room_tree.specs.Meaning.{meaning}
+use Rattle.room_tree.specs.Meaning.{kept_node, meaning}
 use Rattle.room_tree.specs.Rows.{Rows, AreRows}
 use Rattle.room_desk.specs.declared.asker.Asker.{Asker}
 use Rattle.room_desk.specs.declared.reply.Reply.{Reply}
@@ -15,10 +14,11 @@ use Rattle.room_desk.specs.declared.reply.Reason.TheVariants.{NotFolder, NoSuch}
 use Rattle.room_desk.specs.Site.{Site, sites_along, site_at}
 use Rattle.room_desk.specs.Plan.{Item, Check, Deletion, Refusal, way, where_found, to_target}
 use Rattle.room_desk.specs.Judge.{failure, passes, or_else, first_failure, checks_of, records_of_checks, records_of_plan}
-use Rattle.room_desk.specs.Stored.{stored_site, stored_along, to_stored}
+use Rattle.room_desk.specs.Stored.{stored_along, to_stored}
 use Rattle.room_desk.specs.Judged.{IsJudged, noted}
 use Rattle.room_desk.proofs.SoundParts.{SoundParts}
 use Rattle.room_desk.proofs.Sites.{fill, sites_filled}
+use Rattle.room_desk.proofs.Targets.{target_kept}
 
 abbrev pub fill_item : Item → Item
 fill_item (Check site bits) = Check (fill site) bits
@@ -93,14 +93,16 @@ plan_judged asker path items old new answer are parts same judged =
     judged)
 
 -- the target among the sites of the plan
-pub record IsTarget (content : Content) (path : List (List ℕ)) (site : Site) : Type 0 where
+pub record IsTarget (rows : Content) (path : List (List ℕ)) (site : Site) : Type 0 where
   pub planned : Site
-  pub at : site_at (sites_along content path) path ≡ Some planned
+  pub at : site_at (sites_along (meaning rows) path) path ≡ Some planned
   pub filled : fill planned ≡ site
+  pub kept : planned.node ≡ kept_node rows site.node
 
-pub target_there : (old : Rows) → AreRows old → SoundParts old → (path : List (List ℕ)) (site : Site) → site_at (stored_along old.read path) path ≡ Some site → IsTarget (meaning old.read) path site
-target_there old are parts path site is = on (site_at (sites_along (meaning old.read) path) path) refl (sym (site_filled (sites_along (meaning old.read) path) path) ∙ ap (λ sites. site_at sites path) (sites_filled old are parts path) ∙ is)
+pub target_there : (old : Rows) → AreRows old → SoundParts old → (path : List (List ℕ)) (site : Site) → site_at (stored_along old.read path) path ≡ Some site → IsTarget old.read path site
+target_there old are parts path site is =
+    on (site_at (sites_along (meaning old.read) path) path) refl (sym (site_filled (sites_along (meaning old.read) path) path) ∙ ap (λ sites. site_at sites path) (sites_filled old are parts path) ∙ is)
   where
-    on : (o : Option Site) → site_at (sites_along (meaning old.read) path) path ≡ o → option_map fill o ≡ Some site → IsTarget (meaning old.read) path site
+    on : (o : Option Site) → site_at (sites_along (meaning old.read) path) path ≡ o → option_map fill o ≡ Some site → IsTarget old.read path site
     on None found same = absurd (let wrong : ⊥ = cc in wrong)
-    on (Some planned) found same = record { planned = planned; at = found; filled = (let e : fill planned ≡ site = cc in e) }
+    on (Some planned) found same = record { planned = planned; at = found; filled = (let e : fill planned ≡ site = cc in e); kept = target_kept old.read path planned site found is }

@@ -5,7 +5,6 @@ use Rattle.std.specs.Prelude.{is_none, is_some}
 use Rattle.room_ace.specs.Rights.{delete, delete_child, write_data}
 use Rattle.room_ace.specs.declared.parties.Caller.{Caller}
 use Rattle.room_tree.specs.declared.node.AuditRow.{AuditRow}
-use Rattle.room_tree.specs.Content.{Content}
 use Rattle.room_tree.specs.Keep.{IsUnreadable, reading}
 use Rattle.room_tree.specs.Rows.{Rows}
 use Rattle.room_desk.specs.declared.asker.Asker.{Asker}

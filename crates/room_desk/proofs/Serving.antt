@@ -1,9 +1,8 @@
 -- The replies of requests that change nothing but records.
-use Rattle.std.proofs.Common.{◌≡◌, ℕ, ℤ, Bool, true, false, cond, not, List, [], ◌∷◌, ◌++◌, map, Option, Some, None, refl, sym, ap, subst, ◌∙◌}
+use Rattle.std.proofs.Common.{◌≡◌, ℕ, Bool, true, false, cond, not, List, [], ◌∷◌, ◌++◌, map, Option, Some, None, refl, sym, ap, subst, ◌∙◌}
 use Rattle.std.specs.Prelude.{unwrap_or, is_none, nat_le, length, ◌==◌}
 use Rattle.std.specs.Option.{option_map_or}
 use Rattle.std.proofs.lemmas.Bool.{false≢true}
-use Rattle.room_ace.specs.Ace.{Ace}
 use Rattle.room_ace.specs.Rights.{read_data, read_acl, read_attributes}
 use Rattle.room_ace.specs.Valid.{is_document}
 use Rattle.room_ace.specs.declared.object.ObjKind.{ObjKind}
@@ -13,11 +12,11 @@ use Rattle.room_ace.specs.declared.object.Which.TheVariants.{Dacl, Sacl}
 use Rattle.room_eval.specs.Verdict.{ruling_of}
 use Rattle.room_tree.specs.declared.node.Node.{Node}
 use Rattle.room_tree.specs.Held.{held_of, full_of}
-use Rattle.room_tree.specs.Content.{Content, node_at, root_of, child_of, body_of, children_of, is_folder}
+use Rattle.room_tree.specs.Content.{Content, node_at, root_of, child_of, body_of, children_of}
 use Rattle.room_tree.specs.Meaning.{meaning, kept_node}
 use Rattle.room_tree.specs.Rows.{Rows, AreRows}
 use Rattle.room_tree.proofs.Frames.{Rises, root_of-is_there, child_of-is_there, keeps_places, children_of-with_each}
-use Rattle.room_inherit.specs.Sound.{AreSound, has_sound_body, fits_kind}
+use Rattle.room_inherit.specs.Sound.{AreSound, has_sound_body}
 use Rattle.room_tree.specs.declared.node.AuditRow.{AuditRow}
 use Rattle.room_tree.specs.Content.{with_records}
 use Rattle.room_desk.specs.declared.arrival.Arrival.{Arrival}
@@ -32,10 +31,10 @@ use Rattle.room_desk.specs.Plan.{Item, Check, to_target, plan_of, where_found, n
 use Rattle.room_desk.specs.Judge.{failure, first_failure, or_else}
 use Rattle.room_desk.specs.Effect.{effect, with_site}
 use Rattle.room_desk.specs.Stored.{stored_site, stored_from, stored_along}
-use Rattle.room_desk.specs.Judged.{IsJudged, IsReached, IsKnown, CarriesOut, NotSound, IsStepOfRows, of_kind}
+use Rattle.room_desk.specs.Judged.{IsJudged, IsReached, CarriesOut, NotSound, of_kind}
 use Rattle.room_desk.proofs.Judging.{failure_of_parts}
 use Rattle.room_tree.specs.Keep.{IsUnreadable}
-use Rattle.room_desk.proofs.SoundParts.{SoundParts, sound_parts, passes_test, readable_unsound}
+use Rattle.room_desk.proofs.SoundParts.{sound_parts, passes_test, readable_unsound}
 use Rattle.room_desk.proofs.Sites.{fill}
 use Rattle.room_desk.proofs.Filled.{fill_item, plan_judged, target_there}
 use Rattle.room_desk.proofs.Stepping.{refused_step, served_step}

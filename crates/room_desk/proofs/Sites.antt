@@ -1,7 +1,6 @@
 -- On sound rows, the objects that a walk finds have the lists that are stored.
-use Rattle.std.proofs.Common.{◌≡◌, ℕ, Bool, true, false, cond, not, ◌&&◌, ◌||◌, List, [], ◌∷◌, ◌++◌, map, Option, Some, None, refl, sym, ap, subst, ◌∙◌}
-use Rattle.std.specs.Prelude.{option_and_then, is_none, length}
-use Rattle.std.specs.List.{find}
+use Rattle.std.proofs.Common.{◌≡◌, ℕ, Bool, true, false, cond, not, ◌&&◌, ◌||◌, List, [], ◌∷◌, ◌++◌, map, Option, Some, None, refl, sym, ap, ◌∙◌}
+use Rattle.std.specs.Prelude.{option_and_then, length}
 use Rattle.std.specs.Option.{option_map, option_map_or}
 use Rattle.std.proofs.lemmas.Bool.{and_parts}
 use Rattle.room_ace.specs.Ace.{Ace}
@@ -15,7 +14,7 @@ use Rattle.room_ace.specs.Pieces.{same_text}
 use Rattle.room_tree.specs.Content.{Content, has_parent, node_at, root_of, child_of, parent_of, is_linked_in}
 use Rattle.room_tree.specs.Meaning.{kept_held, kept_node, meaning}
 use Rattle.room_tree.specs.Rows.{Rows, AreRows}
-use Rattle.room_tree.specs.Walk.{walk_of, walk_from, behind}
+use Rattle.room_tree.specs.Walk.{walk_from, behind}
 use Rattle.room_tree.proofs.Frames.{Rises, KeepsPlaces, keeps_places, root_of-with_each, child_of-with_each, root_of-is_there, root_of-parent, child_of-is_there, child_of-parent, child_of-name}
 use Rattle.room_inherit.specs.Pass.{pass}
 use Rattle.room_inherit.specs.Law.{agrees_with, agrees}

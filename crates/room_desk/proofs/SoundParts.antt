@@ -1,13 +1,13 @@
 -- Sound rows, test by test.
-use Rattle.std.proofs.Common.{◌≡◌, ℕ, zero, suc, ◌==◌, ◌||◌, ◌⊎◌, Bool, true, false, cond, not, List, [], ◌∷◌, ◌++◌, map, filter, length, Option, Some, None, nat_lt, refl, sym, ap, subst, ◌∙◌, inl, inr}
-use Rattle.std.specs.Prelude.{is_none, is_some, option_and_then}
+use Rattle.std.proofs.Common.{◌≡◌, ℕ, zero, suc, ◌==◌, ◌||◌, Bool, true, false, cond, not, List, [], ◌∷◌, map, filter, length, Option, Some, None, nat_lt, refl, sym, ap, ◌∙◌, inl, inr}
+use Rattle.std.specs.Prelude.{is_none}
 use Rattle.std.specs.List.{find, list_any}
 use Rattle.std.specs.Option.{option_map, option_map_or}
 use Rattle.std.proofs.lemmas.Bool.{cases_Bool, false≢true, eqb-true, eq-eqb, or_left, or_right}
 use Rattle.room_ace.specs.Pieces.{is_among}
 use Rattle.room_tree.specs.declared.node.AuditRow.{AuditRow}
 use Rattle.room_tree.specs.declared.node.Node.{Node}
-use Rattle.room_tree.specs.Content.{Content, node_at, root_of, is_root, is_folder, has_folder_above, reaches_root, with_records}
+use Rattle.room_tree.specs.Content.{Content, node_at, is_root, has_folder_above, reaches_root, with_records}
 use Rattle.room_tree.specs.Keep.{HasNoRoot, IsUnreadable}
 use Rattle.room_tree.specs.Rows.{Rows, is_unreadable, numbers_of, put_number, put_numbers}
 use Rattle.room_inherit.specs.declared.report.Report.{Report}

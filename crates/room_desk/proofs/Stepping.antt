@@ -1,5 +1,5 @@
 -- A request that changes nothing but records is a step.
-use Rattle.std.proofs.Common.{◌≡◌, ℕ, ℤ, List, [], ◌∷◌, Option, Some, None, refl, sym, ap, subst, ◌∙◌}
+use Rattle.std.proofs.Common.{◌≡◌, ℕ, List, Option, Some, None, refl, sym, ap, subst, ◌∙◌}
 use Rattle.room_ace.specs.declared.parties.Caller.{Caller}
 use Rattle.room_tree.specs.Content.{Content}
 use Rattle.room_tree.specs.Meaning.{meaning}

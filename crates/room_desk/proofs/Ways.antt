@@ -1,11 +1,11 @@
 -- The way to an object, one step after the other.
-use Rattle.std.proofs.Common.{◌≡◌, ℕ, ◌<◌, ◌+◌, suc, Bool, true, false, cond, not, ◌&&◌, List, [], ◌∷◌, ◌++◌, length, take, drop, get_or, Option, Some, None, refl, sym, ap, subst, ◌∙◌, add-one, drop-cons}
+use Rattle.std.proofs.Common.{◌≡◌, ℕ, ◌<◌, ◌+◌, Bool, true, false, cond, not, ◌&&◌, List, [], ◌∷◌, ◌++◌, length, take, drop, get_or, Option, Some, None, refl, sym, ap, subst, ◌∙◌}
 use Rattle.std.specs.Prelude.{is_none}
 use Rattle.std.specs.Option.{option_map_or}
 use Rattle.std.proofs.lemmas.List.{append-nil, take_more, drop_more, get_or_read}
 use Rattle.std.proofs.Math.Seq.{take-length, drop-length}
 use Rattle.room_tree.specs.declared.node.Node.{Node}
-use Rattle.room_tree.specs.Content.{Content, child_of, root_of, is_empty, is_folder}
+use Rattle.room_tree.specs.Content.{Content, child_of, root_of, is_empty}
 use Rattle.room_tree.specs.Keep.{IsUnreadable}
 use Rattle.room_tree.specs.Rows.{Rows}
 use Rattle.room_desk.specs.declared.arrival.Arrival.{Arrival}
@@ -17,9 +17,8 @@ use Rattle.room_desk.specs.declared.reply.Reply.TheVariants.{Refused}
 use Rattle.room_desk.specs.declared.reply.Reason.TheVariants.{NoSuch}
 use Rattle.room_desk.specs.Site.{Site, site_at}
 use Rattle.room_desk.specs.Plan.{Item, Refusal, way, where_found}
-use Rattle.room_desk.specs.Judge.{records_of_plan, or_else}
 use Rattle.room_desk.specs.Stored.{stored_site, stored_from, stored_along, found_site, to_stored}
-use Rattle.room_desk.specs.Judged.{IsJudged, IsStepDown, IsReached, FindsNext, IfAt, ended, name_after, noted, through, arrival_of}
+use Rattle.room_desk.specs.Judged.{IsJudged, IsStepDown, IsReached, FindsNext, IfAt, ended, name_after, through, arrival_of}
 use Rattle.room_desk.proofs.Judging.{SoFar, fails_first, passes_first, judged_none, refuses, passes_on, so_far_none, so_far_as, so_far_on, so_far_fails, so_far_last}
 
 -- ---- one step

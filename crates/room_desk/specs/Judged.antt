@@ -4,11 +4,10 @@ use Rattle.room_ace.specs.Rights.{execute}
 use Rattle.room_ace.specs.declared.object.ObjKind.{ObjKind}
 use Rattle.room_ace.specs.declared.object.ObjKind.TheVariants.{Document, Folder}
 use Rattle.room_ace.specs.Valid.{is_document}
-use Rattle.room_ace.specs.declared.parties.Caller.{Caller}
 use Rattle.room_tree.specs.declared.keep.KeepFault.{KeepFault}
 use Rattle.room_tree.specs.declared.node.AuditRow.{AuditRow}
 use Rattle.room_tree.specs.declared.node.Node.{Node}
-use Rattle.room_tree.specs.Content.{Content, child_of, is_folder, with_records}
+use Rattle.room_tree.specs.Content.{child_of, is_folder, with_records}
 use Rattle.room_tree.specs.Keep.{HasCause, reading}
 use Rattle.room_tree.specs.Meaning.{meaning}
 use Rattle.room_tree.specs.Rows.{Rows}

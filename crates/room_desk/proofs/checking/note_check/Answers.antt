@@ -1,14 +1,9 @@
-use Rattle.std.proofs.Common.{◌≡◌, ℕ, List, [], ◌∷◌, Option, Some, None, true, false, not, refl, sym, ap, subst, ◌∙◌, get_or, length, take, arith}
-use Rattle.room_desk.proofs.Calls.{Ruled, none_done, then, finish, tail, fails, memory, done, of_read, of_write, as_well}
+use Rattle.std.proofs.Common.{◌≡◌, List, ap, ◌∙◌, get_or, length, arith}
+use Rattle.room_desk.proofs.Calls.{Ruled, none_done, then, finish, fails, memory, done, of_write}
 use Rattle.room_desk.specs.Stored.{found_site}
-use Rattle.room_desk.specs.Judged.{IsJudged, noted, through, name_after}
-use Rattle.room_desk.specs.Judge.{records_of}
-use Rattle.room_desk.specs.Plan.{Check}
-use Rattle.room_tree.specs.Rows.{Rows}
-use Rattle.room_tree.specs.Keep.{IsUnreadable, HasNoRoot}
 use Rattle.room_ace.specs.Ace.{Ace}
 use Rattle.room_eval.specs.Events.{events_of}
-use Rattle.room_desk.proofs.Noting.{Notes, notes_none, notes_one, notes_all, record_is}
+use Rattle.room_desk.proofs.Noting.{notes_none, notes_one, notes_all, record_is}
 use Rattle.room_desk.proofs.checking.note_check.Goals as goal
 
 pub places-init : goal.places-init

@@ -1,13 +1,9 @@
-use Rattle.std.proofs.Common.{◌≡◌, ℕ, List, [], ◌∷◌, Option, Some, None, true, false, not, refl, sym, ap, subst, ◌∙◌, get_or, length, take, arith, inl}
-use Rattle.room_desk.proofs.Calls.{Ruled, none_done, then, then_known, damaged, finish, tail, fails, memory, done, of_read, of_write, as_well}
+use Rattle.std.proofs.Common.{ap, ◌∙◌}
+use Rattle.room_desk.proofs.Calls.{Ruled, none_done, then, finish, fails, done}
 use Rattle.room_desk.specs.Stored.{found_site}
-use Rattle.room_desk.specs.Judged.{IsJudged, noted, through, name_after}
+use Rattle.room_desk.specs.Judged.{noted}
 use Rattle.room_desk.specs.Judge.{records_of}
-use Rattle.room_desk.specs.Plan.{Check}
-use Rattle.room_tree.specs.Rows.{Rows}
-use Rattle.room_tree.specs.Keep.{IsUnreadable, HasNoRoot}
-use Rattle.room_desk.proofs.Judging.{judged_none, judged_check, refuses, passes_on, none_is, judged_as, blames_first}
-use Rattle.room_ace.specs.Rights.{delete}
+use Rattle.room_desk.proofs.Judging.{none_is}
 use Rattle.std.specs.Prelude.{is_none}
 use Rattle.room_desk.proofs.Judging.{judged_deletion}
 use Rattle.room_desk.proofs.deleting.check_deletion.Goals as goal

@@ -1,20 +1,12 @@
-use Rattle.std.proofs.Common.{◌≡◌, ℕ, List, [], ◌∷◌, Option, Some, None, true, false, not, refl, sym, ap, subst, ◌∙◌, get_or, length, take, arith, inl}
-use Rattle.room_desk.proofs.Calls.{Ruled, none_done, then, then_known, damaged, finish, tail, fails, memory, done, of_read, of_write, as_well}
-use Rattle.room_desk.specs.Stored.{found_site}
-use Rattle.room_desk.specs.Judged.{IsJudged, noted, through, name_after}
-use Rattle.room_desk.specs.Judge.{records_of}
-use Rattle.room_desk.specs.Plan.{Check}
+use Rattle.std.proofs.Common.{[], ◌∷◌, refl, subst}
+use Rattle.room_desk.proofs.Calls.{Ruled, none_done, finish, fails, done}
 use Rattle.room_tree.specs.Rows.{Rows}
-use Rattle.room_tree.specs.Keep.{IsUnreadable, HasNoRoot}
-use Rattle.room_desk.proofs.SoundParts.{rootless_unsound, readable_unsound}
-use Rattle.room_desk.proofs.Serving.{DocumentAt, FolderAt, CheckAt, reached_as, reached_rows, reached_then, not_served, served_bytes, no_bytes, served_list, served_attr, served_rulings, served_names}
-use Rattle.room_desk.specs.Judged.{IsReached, of_kind, NotSound}
-use Rattle.room_desk.specs.Site.{Site}
-use Rattle.room_tree.specs.Content.{body_of}
+use Rattle.room_desk.proofs.SoundParts.{rootless_unsound}
+use Rattle.room_desk.proofs.Serving.{CheckAt, reached_as, not_served, served_attr}
+use Rattle.room_desk.specs.Judged.{NotSound}
 use Rattle.room_desk.specs.declared.arrival.Arrival.TheVariants.{At, Ended}
-use Rattle.room_desk.specs.declared.request.Request.TheVariants.{Read, List as ListFolder, ReadList, ReadAttr, Can}
-use Rattle.room_ace.specs.declared.object.ObjKind.TheVariants.{Document, Folder}
-use Rattle.room_ace.specs.Rights.{read_data, read_acl, read_attributes}
+use Rattle.room_desk.specs.declared.request.Request.TheVariants.{ReadAttr}
+use Rattle.room_ace.specs.Rights.{read_attributes}
 use Rattle.room_desk.proofs.reading.read_attr.Goals as goal
 
 pub returns-in_err-arrival : goal.returns-in_err-arrival

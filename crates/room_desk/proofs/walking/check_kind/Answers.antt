@@ -1,14 +1,11 @@
-use Rattle.std.proofs.Common.{◌≡◌, ℕ, List, [], ◌∷◌, Option, Some, None, true, false, not, refl, sym, ap, subst, ◌∙◌, get_or}
-use Rattle.room_desk.proofs.Calls.{Ruled, none_done, then, finish, tail, fails, memory, done, of_read, of_write, as_well}
+use Rattle.std.proofs.Common.{[], ◌∷◌, Some, sym, subst, ◌∙◌}
+use Rattle.room_desk.proofs.Calls.{Ruled, none_done, finish, memory, as_well}
 use Rattle.room_desk.specs.Stored.{found_site}
-use Rattle.room_desk.specs.Judged.{IsJudged, noted, through, name_after}
-use Rattle.room_desk.specs.Judge.{records_of}
+use Rattle.room_desk.specs.Judged.{IsJudged}
 use Rattle.room_desk.specs.Plan.{Check}
-use Rattle.room_tree.specs.Rows.{Rows}
-use Rattle.room_tree.specs.Keep.{IsUnreadable, HasNoRoot}
-use Rattle.room_desk.proofs.Judging.{judged_none, judged_check, refuses, passes_on, none_is, judged_as, blames_first}
-use Rattle.room_desk.specs.Judged.{is_other, of_kind}
-use Rattle.room_desk.specs.Plan.{Item, Refusal}
+use Rattle.room_desk.proofs.Judging.{refuses, passes_on}
+use Rattle.room_desk.specs.Judged.{is_other}
+use Rattle.room_desk.specs.Plan.{Item}
 use Rattle.room_desk.specs.declared.reply.Reason.TheVariants.{WrongKind}
 use Rattle.room_desk.proofs.Judging.{kind_item}
 use Rattle.room_desk.proofs.walking.check_kind.Goals as goal

@@ -1,12 +1,9 @@
-use Rattle.std.proofs.Common.{◌≡◌, ℕ, List, [], ◌∷◌, Option, Some, None, true, false, not, refl, sym, ap, subst, ◌∙◌, get_or}
-use Rattle.room_desk.proofs.Calls.{Ruled, none_done, then, finish, tail, fails, memory, done, of_read, of_write, as_well}
+use Rattle.std.proofs.Common.{ℕ, List, [], ◌∷◌, not, ap, subst}
+use Rattle.room_desk.proofs.Calls.{Ruled, none_done, finish, memory, as_well}
 use Rattle.room_desk.specs.Stored.{found_site}
-use Rattle.room_desk.specs.Judged.{IsJudged, noted, through, name_after}
-use Rattle.room_desk.specs.Judge.{records_of}
+use Rattle.room_desk.specs.Judged.{IsJudged}
 use Rattle.room_desk.specs.Plan.{Check}
-use Rattle.room_tree.specs.Rows.{Rows}
-use Rattle.room_tree.specs.Keep.{IsUnreadable, HasNoRoot}
-use Rattle.room_desk.proofs.Judging.{judged_none, judged_check, refuses, passes_on, none_is, judged_as, blames_first}
+use Rattle.room_desk.proofs.Judging.{refuses, passes_on}
 use Rattle.room_ace.specs.Rights.{execute}
 use Rattle.room_ace.specs.declared.object.ObjKind.{ObjKind}
 use Rattle.room_ace.specs.Valid.{is_document}

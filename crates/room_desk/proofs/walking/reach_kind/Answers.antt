@@ -1,18 +1,11 @@
-use Rattle.std.proofs.Common.{◌≡◌, ℕ, List, [], ◌∷◌, Option, Some, None, true, false, not, refl, sym, ap, subst, ◌∙◌, get_or, length, take, arith}
-use Rattle.room_desk.proofs.Calls.{Ruled, none_done, then, finish, tail, fails, memory, done, of_read, of_write, as_well}
-use Rattle.room_desk.specs.Stored.{found_site}
-use Rattle.room_desk.specs.Judged.{IsJudged, noted, through, name_after}
-use Rattle.room_desk.specs.Judge.{records_of}
+use Rattle.std.proofs.Common.{ℕ, List, [], ◌∷◌, sym, ap, subst, length}
+use Rattle.room_desk.proofs.Calls.{Ruled, none_done, then, finish, fails, done}
 use Rattle.room_desk.specs.Plan.{Check}
 use Rattle.room_tree.specs.Rows.{Rows}
-use Rattle.room_tree.specs.Keep.{IsUnreadable, HasNoRoot}
-use Rattle.room_desk.proofs.Ways.{IsOnWay, reached_blames, step_ends, step_goes_on, found_next, none_next, way_begins, way_ends, way_goes_on, way_done, not_reached, target_refused, target_passed}
-use Rattle.room_desk.proofs.Judging.{judged_none, judged_check, refuses, passes_on, none_is, judged_as, blames_first}
-use Rattle.std.proofs.Common.{inl}
-use Rattle.room_desk.specs.Judged.{IsReached, arrival_of, of_kind}
+use Rattle.room_tree.specs.Keep.{HasNoRoot}
+use Rattle.room_desk.proofs.Ways.{not_reached}
+use Rattle.room_desk.specs.Judged.{IsReached, of_kind}
 use Rattle.room_desk.specs.Site.{Site}
-use Rattle.room_desk.specs.Plan.{Item}
-use Rattle.room_desk.specs.declared.reply.Reply.{Reply}
 use Rattle.room_desk.specs.declared.arrival.Arrival.{Arrival}
 use Rattle.room_desk.specs.declared.arrival.Found.{Found}
 use Rattle.room_desk.proofs.Ways.{reaches_with}

@@ -1,13 +1,6 @@
-use Rattle.std.proofs.Common.{◌≡◌, ℕ, List, [], ◌∷◌, Option, Some, None, true, false, not, refl, sym, ap, subst, ◌∙◌, get_or}
-use Rattle.room_desk.proofs.Calls.{Ruled, none_done, then, finish, tail, fails, memory, done, of_read, of_write, as_well}
-use Rattle.room_desk.specs.Stored.{found_site}
-use Rattle.room_desk.specs.Judged.{IsJudged, noted, through, name_after}
-use Rattle.room_desk.specs.Judge.{records_of}
-use Rattle.room_desk.specs.Plan.{Check}
-use Rattle.room_tree.specs.Rows.{Rows}
-use Rattle.room_tree.specs.Keep.{IsUnreadable, HasNoRoot}
-use Rattle.room_desk.proofs.Ways.{IsOnWay, step_ends, step_goes_on, found_next, none_next, way_begins, way_ends, way_goes_on, way_done, not_reached, target_refused, target_passed}
-use Rattle.room_desk.proofs.Judging.{judged_none, judged_check, refuses, passes_on, none_is, judged_as, blames_first}
+use Rattle.room_desk.proofs.Calls.{Ruled, none_done, finish, tail, fails, done}
+use Rattle.room_desk.proofs.Ways.{step_ends, step_goes_on}
+use Rattle.room_desk.proofs.Judging.{judged_as, blames_first}
 use Rattle.room_desk.proofs.walking.step_down.Goals as goal
 
 pub returns-in_err-refusal : goal.returns-in_err-refusal
