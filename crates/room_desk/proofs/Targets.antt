@@ -67,9 +67,9 @@ module _ (content : Content) where
   pub target_kept : (path : List (List ℕ)) (planned site : Site) → site_at (sites_along (meaning content) path) path ≡ Some planned → site_at (stored_along content path) path ≡ Some site → planned.node ≡ kept site.node
   target_kept path planned site at there =
       let same : Some planned.node ≡ Some (kept site.node) =
-        ap (option_map node_of) (sym at)
-        ∙ part_at node_of (sites_along (meaning content) path) path
-        ∙ ap (λ nodes. picked nodes path) (nodes_of (walk_of (meaning content) path).chain ∙ kept_along path)
-        ∙ sym (part_at kept_of (stored_along content path) path)
-        ∙ ap (option_map kept_of) there in
+      ap (option_map node_of) (sym at)
+      ∙ part_at node_of (sites_along (meaning content) path) path
+      ∙ ap (λ nodes. picked nodes path) (nodes_of (walk_of (meaning content) path).chain ∙ kept_along path)
+      ∙ sym (part_at kept_of (stored_along content path) path)
+      ∙ ap (option_map kept_of) there in
       cc
