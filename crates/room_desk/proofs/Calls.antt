@@ -109,6 +109,26 @@ module _ {S : Type 0} {rows : S → Rows} {failures : S → ℕ} {Follows IsTrus
         cause (Err e) h = later_cause (failures a) (failures b) (failures c) e _ _ (laws.rise a b before.follows) (laws.rise b c after.follows)
             (λ at damaged t. blames (rows a) (rows b) at (before.becomes (laws.first a b c before.follows after.follows t)) (damaged (laws.last a b c before.follows after.follows t))) h
 
+    -- the same, of rows with their numbers in order
+    pub tail_known : {X : Type 0} {a b c : S} {r : Result X KeepFault} {Before : Rows → Rows → Type 0} {Blames Blames' : Rows → ℕ → Type 0} {After Becomes : Rows → X → Rows → Type 0}
+        → HasDone rows Follows IsTrusted a b Before → IsDone rows failures Follows IsTrusted b c r Blames After
+        → ((old mid : Rows) (at : ℕ) → AreRows old → Before old mid → Blames mid at → Blames' old at) → ((old mid : Rows) (x : X) (new : Rows) → AreRows old → Before old mid → After mid x new → Becomes old x new)
+        → IsDone rows failures Follows IsTrusted a c r Blames' Becomes
+    tail_known {X = X} {a = a} {b = b} {c = c} {r = r} {Blames = Blames} {Blames' = Blames'} {After = After} {Becomes = Becomes} before after blames joins = record {
+      follows = laws.on a b c before.follows after.follows;
+      becomes = λ t. joined r (λ x. joins (rows a) (rows b) x (rows c) (laws.are a c t) (before.becomes (laws.first a b c before.follows after.follows t))) (after.becomes (laws.last a b c before.follows after.follows t));
+      fault = cause r after.fault;
+    }
+      where
+        joined : (r : Result X KeepFault) → ((x : X) → After (rows b) x (rows c) → Becomes (rows a) x (rows c)) → IfOk r (λ x. After (rows b) x (rows c)) → IfOk r (λ x. Becomes (rows a) x (rows c))
+        joined (Ok x) on h = on x h
+        joined (Err e) on h = tt
+
+        cause : (r : Result X KeepFault) → IfErr r (HasCause (failures b) (failures c) (λ at. IsTrusted b c → Blames (rows b) at)) → IfErr r (HasCause (failures a) (failures c) (λ at. IsTrusted a c → Blames' (rows a) at))
+        cause (Ok x) h = tt
+        cause (Err e) h = later_cause (failures a) (failures b) (failures c) e _ _ (laws.rise a b before.follows) (laws.rise b c after.follows)
+            (λ at damaged t. blames (rows a) (rows b) at (laws.are a c t) (before.becomes (laws.first a b c before.follows after.follows t)) (damaged (laws.last a b c before.follows after.follows t))) h
+
     -- a call has a fault, which is handed on
     pub fails : {X Y : Type 0} {a b c : S} {e : KeepFault} {Before : Rows → Rows → Type 0} {Blames Blames' : Rows → ℕ → Type 0} {After : Rows → X → Rows → Type 0} {Becomes : Rows → Y → Rows → Type 0}
         → HasDone rows Follows IsTrusted a b Before → IsDone rows failures Follows IsTrusted {X = X} b c (Err e) Blames After

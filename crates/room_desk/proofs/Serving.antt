@@ -181,17 +181,21 @@ folder_fails caller site passes = on (is_document site.node.kind) passes
     on true passes = refl
     on false passes = absurd (let wrong : ⊥ = cc in wrong)
 
--- a document that was reached lacks bytes, which isn't so in sound rows
-pub no_bytes : (asker : Asker) (path : List (List ℕ)) (bits : List ℕ) (old new : Rows) (node : Node) (at : ℕ) → AreRows old → IsReached asker path (λ target. of_kind Document target ∷ Check target bits ∷ []) old (At node) new → None ≡ body_of old.read node.id → NotSound old at
-no_bytes asker path bits old new node at are reached lacks sound =
+-- a document that was reached is there, and is one
+pub document_there : (asker : Asker) (path : List (List ℕ)) (bits : List ℕ) (old new : Rows) (node : Node) → AreRows old → IsReached asker path (DocumentAt bits) old (At node) new → (node_at old.read node.id ≡ Some node) × (is_document node.kind ≡ true)
+document_there asker path bits old new node are reached =
     let site : Site = stored_site path node in
-    let there : node_at old.read node.id ≡ Some node = along_there old.read are.numbers path site reached.found in
     let judged : None ≡ first_failure asker.caller (way false (stored_along old.read path) path ++ (no_folder site ∷ Check site bits ∷ [])) =
-    reached.judged.answers ∙ ap (λ o. first_failure asker.caller (way false (stored_along old.read path) path ++ where_found o (λ target. no_folder target ∷ Check target bits ∷ []))) reached.found in
+      reached.judged.answers ∙ ap (λ o. first_failure asker.caller (way false (stored_along old.read path) path ++ where_found o (λ target. no_folder target ∷ Check target bits ∷ []))) reached.found in
     let at_site = none_both (first_failure asker.caller (way false (stored_along old.read path) path)) _ (judged ∙ failure_of_parts asker.caller asker.at (way false (stored_along old.read path) path) (no_folder site ∷ Check site bits ∷ [])) in
-    let kind : is_document node.kind ≡ true = folder_fails asker.caller site (none_both (failure asker.caller (no_folder site)) (first_failure asker.caller (Check site bits ∷ [])) at_site.1).0 in
-    let fits : has_sound_body old.read node ≡ true = passes_test (has_sound_body old.read) (λ n. n.id == node.id) old.read.nodes node (sound_parts old sound).bodies there in
-    absurd (wrong (is_document node.kind) (body_of old.read node.id) kind lacks fits)
+    (along_there old.read are.numbers path site reached.found, folder_fails asker.caller site (none_both (failure asker.caller (no_folder site)) (first_failure asker.caller (Check site bits ∷ [])) at_site.1).0)
+
+-- that it lacks bytes isn't so in sound rows
+pub no_bytes : (asker : Asker) (path : List (List ℕ)) (bits : List ℕ) (old new : Rows) (node : Node) (at : ℕ) → AreRows old → IsReached asker path (DocumentAt bits) old (At node) new → None ≡ body_of old.read node.id → NotSound old at
+no_bytes asker path bits old new node at are reached lacks sound =
+    let document = document_there asker path bits old new node are reached in
+    let fits : has_sound_body old.read node ≡ true = passes_test (has_sound_body old.read) (λ n. n.id == node.id) old.read.nodes node (sound_parts old sound).bodies document.0 in
+    absurd (wrong (is_document node.kind) (body_of old.read node.id) document.1 lacks fits)
   where
     wrong : (t : Bool) (o : Option (List ℕ)) → t ≡ true → None ≡ o → cond t (option_map_or (λ bytes. nat_le (length bytes) 1048576) o false) (is_none o) ≡ true → ⊥
     wrong true None is none fits = false≢true fits

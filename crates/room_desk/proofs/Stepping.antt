@@ -1,7 +1,7 @@
 -- A request that changes nothing but records is a step.
 use Rattle.std.proofs.Common.{◌≡◌, ℕ, List, Option, Some, None, refl, sym, ap, subst, ◌∙◌}
 use Rattle.room_ace.specs.declared.parties.Caller.{Caller}
-use Rattle.room_tree.specs.Content.{Content}
+use Rattle.room_tree.specs.Content.{Content, with_records}
 use Rattle.room_tree.specs.Meaning.{meaning}
 use Rattle.room_tree.specs.Rows.{Rows}
 use Rattle.room_inherit.specs.Sound.{AreSound}
@@ -48,3 +48,16 @@ module _ (asker : Asker) (request : Request) (old : Rows) (known : IsKnown asker
       (ap (λ o. recorded (answered o content (effect content asker.caller free.0 request)) (records_of_plan asker.caller asker.at (plan_of content request))) (sym judged.answers)
       ∙ ap (λ d. recorded d (records_of_plan asker.caller asker.at (plan_of content request))) (serves free.0))
       judged.notes
+
+  -- none fails, and the request changes more than records
+  pub changed_step : (mid new : Rows) (reply : Reply) (after : Content) → IsJudged asker (plan_of content request) old None mid → ((id : ℕ) → effect content asker.caller id request ≡ (reply, after))
+      → meaning new.read ≡ with_records after (records_of_plan asker.caller asker.at (plan_of content request)) → AreSound new → IsStepOfRows asker.caller.user asker.at request old reply new
+  changed_step mid new reply after judged changes means stays =
+      let free = some_free content in
+      record {
+        step = (free.0, free.1, ap (made free.0) (caller_kept old.read asker.caller.user ∙ sym known)
+          ∙ ap (λ o. recorded (answered o content (effect content asker.caller free.0 request)) (records_of_plan asker.caller asker.at (plan_of content request))) (sym judged.answers)
+          ∙ ap (λ d. recorded d (records_of_plan asker.caller asker.at (plan_of content request))) (changes free.0)
+          ∙ ap (λ (c : Content). (reply, c)) (sym means));
+        sound = stays;
+      }
