@@ -186,7 +186,7 @@ pub document_there : (asker : Asker) (path : List (List ℕ)) (bits : List ℕ) 
 document_there asker path bits old new node are reached =
     let site : Site = stored_site path node in
     let judged : None ≡ first_failure asker.caller (way false (stored_along old.read path) path ++ (no_folder site ∷ Check site bits ∷ [])) =
-      reached.judged.answers ∙ ap (λ o. first_failure asker.caller (way false (stored_along old.read path) path ++ where_found o (λ target. no_folder target ∷ Check target bits ∷ []))) reached.found in
+    reached.judged.answers ∙ ap (λ o. first_failure asker.caller (way false (stored_along old.read path) path ++ where_found o (λ target. no_folder target ∷ Check target bits ∷ []))) reached.found in
     let at_site = none_both (first_failure asker.caller (way false (stored_along old.read path) path)) _ (judged ∙ failure_of_parts asker.caller asker.at (way false (stored_along old.read path) path) (no_folder site ∷ Check site bits ∷ [])) in
     (along_there old.read are.numbers path site reached.found, folder_fails asker.caller site (none_both (failure asker.caller (no_folder site)) (first_failure asker.caller (Check site bits ∷ [])) at_site.1).0)
 

@@ -55,9 +55,13 @@ module _ (asker : Asker) (request : Request) (old : Rows) (known : IsKnown asker
   changed_step mid new reply after judged changes means stays =
       let free = some_free content in
       record {
-        step = (free.0, free.1, ap (made free.0) (caller_kept old.read asker.caller.user ∙ sym known)
-          ∙ ap (λ o. recorded (answered o content (effect content asker.caller free.0 request)) (records_of_plan asker.caller asker.at (plan_of content request))) (sym judged.answers)
-          ∙ ap (λ d. recorded d (records_of_plan asker.caller asker.at (plan_of content request))) (changes free.0)
-          ∙ ap (λ (c : Content). (reply, c)) (sym means));
+        step = (
+          free.0,
+          free.1,
+          ap (made free.0) (caller_kept old.read asker.caller.user ∙ sym known)
+              ∙ ap (λ o. recorded (answered o content (effect content asker.caller free.0 request)) (records_of_plan asker.caller asker.at (plan_of content request))) (sym judged.answers)
+              ∙ ap (λ d. recorded d (records_of_plan asker.caller asker.at (plan_of content request))) (changes free.0)
+              ∙ ap (λ (c : Content). (reply, c)) (sym means),
+        );
         sound = stays;
       }

@@ -1,5 +1,5 @@
 -- What becomes of the bytes of a document.
-use Rattle.std.specs.Prelude.{◌≡◌, ℕ, ◌⊎◌, Bool, true, false, List, ◌++◌, length, Option, Some, None, nat_lt, if◌then◌else◌}
+use Rattle.std.specs.Prelude.{◌≡◌, ℕ, ◌⊎◌, Bool, true, false, List, ◌++◌, length, Some, None, nat_lt, if◌then◌else◌}
 use Rattle.room_tree.specs.Content.{body_of}
 use Rattle.room_tree.specs.Keep.{IsUnreadable, SetsBody}
 use Rattle.room_tree.specs.Rows.{Rows}

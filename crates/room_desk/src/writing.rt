@@ -18,10 +18,23 @@ use std::alloc::{AllocError, Global};
 const MOST_BYTES: usize = 1_048_576;
 
 /// Adds bytes at the end of a document.
-pub(crate) fn append<K: Keep>(alloc: Global, keep: &mut K, asker: &Asker, path: &Path, bytes: &Bytes) -> Result<Reply, KeepFault>
+pub(crate) fn append<K: Keep>(
+    alloc: Global,
+    keep: &mut K,
+    asker: &Asker,
+    path: &Path,
+    bytes: &Bytes,
+) -> Result<Reply, KeepFault>
     ensures done { IsDone K.rows K.failures K.Follows K.IsTrusted keep.old keep.new result NotSound (CarriesOut asker.now (Append path.now bytes.now)) }
 {
-    let arrival = reach_kind(alloc, keep, asker, path, ObjKind::Document, Mask::append_data())?;
+    let arrival = reach_kind(
+        alloc,
+        keep,
+        asker,
+        path,
+        ObjKind::Document,
+        Mask::append_data(),
+    )?;
     match arrival {
         Arrival::Ended(reply) => Ok(reply),
         Arrival::At(node) => append_at(alloc, keep, path, node.id, bytes),
@@ -29,7 +42,13 @@ pub(crate) fn append<K: Keep>(alloc: Global, keep: &mut K, asker: &Asker, path: 
 }
 
 // Adds the bytes to those of the document of this number.
-fn append_at<K: Keep>(alloc: Global, keep: &mut K, path: &Path, id: u64, bytes: &Bytes) -> Result<Reply, KeepFault>
+fn append_at<K: Keep>(
+    alloc: Global,
+    keep: &mut K,
+    path: &Path,
+    id: u64,
+    bytes: &Bytes,
+) -> Result<Reply, KeepFault>
     ensures done { IsDone K.rows K.failures K.Follows K.IsTrusted keep.old keep.new result (HasNoBytes id) (IsAppended path.now id bytes.now) }
 {
     let body = keep.body(id)?;
@@ -52,7 +71,13 @@ fn join(before: Bytes, bytes: &Bytes) -> Result<Vec<u8>, AllocError>
 }
 
 // Gives the document of this number these bytes, if there aren't too many.
-fn put_bytes<K: Keep>(alloc: Global, keep: &mut K, path: &Path, id: u64, bytes: &[u8]) -> Result<Reply, KeepFault>
+fn put_bytes<K: Keep>(
+    alloc: Global,
+    keep: &mut K,
+    path: &Path,
+    id: u64,
+    bytes: &[u8],
+) -> Result<Reply, KeepFault>
     ensures done { IsDone K.rows K.failures K.Follows K.IsTrusted keep.old keep.new result IsUnreadable (IsPut path.now id bytes.now) }
 {
     let too_many = bytes.len() > MOST_BYTES;

@@ -1,12 +1,8 @@
-use Rattle.std.proofs.Common.{◌≡◌, ℕ, List, [], ◌∷◌, Option, Some, None, true, false, not, refl, sym, ap, subst, ◌∙◌, get_or, length, take, arith, inl, inr}
-use Rattle.room_desk.proofs.Calls.{Ruled, none_done, then, then_known, tail_known, damaged, finish, tail, fails, memory, done, of_read, of_write, as_well}
-use Rattle.room_desk.specs.Stored.{found_site}
-use Rattle.room_desk.specs.Judged.{IsJudged, noted, through, name_after}
-use Rattle.room_desk.specs.Judge.{records_of}
-use Rattle.room_desk.specs.Plan.{Check}
+use Rattle.std.proofs.Common.{sym, subst, ◌∙◌, inl, inr}
+use Rattle.room_desk.proofs.Calls.{Ruled, none_done, damaged, tail, fails, memory, done, of_read}
 use Rattle.room_tree.specs.Rows.{Rows}
-use Rattle.room_tree.specs.Keep.{IsUnreadable, HasNoRoot}
-use Rattle.room_desk.proofs.Appending.{put_refused, put_set, put_as, append_ended, append_done, append_blames}
+use Rattle.room_tree.specs.Keep.{IsUnreadable}
+use Rattle.room_desk.proofs.Appending.{put_as}
 use Rattle.room_desk.proofs.writing.append_at.Goals as goal
 
 pub returns-in_err-body : goal.returns-in_err-body
@@ -35,5 +31,7 @@ returns-in_ok-joined-in-Some g c =
     let k = g.K.Keep in
     let m = g.met.K.Keep in
     let laws : Ruled k.rows k.failures k.Follows k.IsTrusted = record { itself = m.follows_itself; on = m.follows_on; rise = m.failures_rise; first = m.trusted_first; last = m.trusted_last; are = m.are_rows } in
-    record { done = tail laws (done (of_read c.in_ok-body.ensures.read)) c.put_bytes.ensures.done (λ old mid at both h. inl (subst (λ (r : Rows). IsUnreadable r at) both.1 h)) (λ old mid reply new both put.
-      record { before = c.in-Some.before; were = sym both.0 ∙ c.in-Some.is; put = put_as c.args.path.now c.args.id c.as_slice.result.now _ old mid new reply (c.as_slice.ensures.value ∙ c.in_ok-joined-in-Some.ensures) both.1 put }) }
+    record {
+      done = tail laws (done (of_read c.in_ok-body.ensures.read)) c.put_bytes.ensures.done (λ old mid at both h. inl (subst (λ (r : Rows). IsUnreadable r at) both.1 h)) (λ old mid reply new both put.
+          record { before = c.in-Some.before; were = sym both.0 ∙ c.in-Some.is; put = put_as c.args.path.now c.args.id c.as_slice.result.now _ old mid new reply (c.as_slice.ensures.value ∙ c.in_ok-joined-in-Some.ensures) both.1 put });
+    }

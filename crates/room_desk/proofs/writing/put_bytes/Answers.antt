@@ -1,12 +1,8 @@
-use Rattle.std.proofs.Common.{◌≡◌, ℕ, List, [], ◌∷◌, Option, Some, None, true, false, not, refl, sym, ap, subst, ◌∙◌, get_or, length, take, arith, inl, inr}
-use Rattle.room_desk.proofs.Calls.{Ruled, none_done, then, then_known, tail_known, damaged, finish, tail, fails, memory, done, of_read, of_write, as_well}
-use Rattle.room_desk.specs.Stored.{found_site}
-use Rattle.room_desk.specs.Judged.{IsJudged, noted, through, name_after}
-use Rattle.room_desk.specs.Judge.{records_of}
-use Rattle.room_desk.specs.Plan.{Check}
+use Rattle.std.proofs.Common.{ℕ, List, ap, subst, ◌∙◌, length, take}
+use Rattle.room_desk.proofs.Calls.{Ruled, none_done, finish, fails, memory, done, of_write}
 use Rattle.room_tree.specs.Rows.{Rows}
-use Rattle.room_tree.specs.Keep.{IsUnreadable, HasNoRoot}
-use Rattle.room_desk.proofs.Appending.{put_refused, put_set, put_as, append_ended, append_done, append_blames}
+use Rattle.room_tree.specs.Keep.{IsUnreadable}
+use Rattle.room_desk.proofs.Appending.{put_refused, put_set}
 use Rattle.std.proofs.Math.Seq.{take-length}
 use Rattle.std.proofs.lemmas.Bool.{lt-ltb, le-ltb}
 use Rattle.room_desk.specs.declared.reply.Reply.TheVariants.{Refused}
@@ -25,9 +21,11 @@ returns-then-too_many g c =
     let k = g.K.Keep in
     let m = g.met.K.Keep in
     let laws : Ruled k.rows k.failures k.Follows k.IsTrusted = record { itself = m.follows_itself; on = m.follows_on; rise = m.failures_rise; first = m.trusted_first; last = m.trusted_last; are = m.are_rows } in
-    record { done = finish laws _ (none_done laws c.args.keep.now) (λ old new are same.
-      put_refused c.args.path.now c.args.id c.args.bytes.now old new c.in_ok-refused.field-0 (lt-ltb 1048576 (length c.args.bytes.now) c.if-too_many.true)
-        (c.in_ok-refused.ensures ∙ ap (λ (p : List (List ℕ)). Refused p TooLarge) (ap (λ (l : List (List ℕ)). take (length l) c.args.path.now) c.names.ensures ∙ take-length c.args.path.now)) same) }
+    record {
+      done = finish laws _ (none_done laws c.args.keep.now) (λ old new are same.
+          put_refused c.args.path.now c.args.id c.args.bytes.now old new c.in_ok-refused.field-0 (lt-ltb 1048576 (length c.args.bytes.now) c.if-too_many.true)
+          (c.in_ok-refused.ensures ∙ ap (λ (p : List (List ℕ)). Refused p TooLarge) (ap (λ (l : List (List ℕ)). take (length l) c.args.path.now) c.names.ensures ∙ take-length c.args.path.now)) same);
+    }
 
 pub returns-in_err-set_body : goal.returns-in_err-set_body
 returns-in_err-set_body g c =
