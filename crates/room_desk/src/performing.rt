@@ -1,0 +1,61 @@
+//! One request carried out on a keeper.
+ghost use Rattle.std.specs.Option.{option_copied};
+ghost use Rattle.room_desk.specs.Judged.{CarriesOut, IsDone, NotSound, Performs};
+
+use crate::asker::{Asker, caller_of};
+use crate::asking::can;
+use crate::making::{make_folder, put};
+use crate::moving::move_object;
+use crate::owning::set_owners;
+use crate::reading::{list, read, read_attr, read_list};
+use crate::removing::remove;
+use crate::reply::Reply;
+use crate::request::Request;
+use crate::setting::set_list;
+use crate::writing::append;
+use room_ace::Name;
+use room_tree::{Keep, KeepFault};
+use std::alloc::Global;
+
+/// Carries out one request of a caller, who is anonymous without a name, at a moment in seconds from
+/// 1970-01-01 00:00 UTC. From sound rows the reply and what the rows then mean are a step of the room
+/// machine, and the rows are sound again. After a fault of the keeper, which is answered at once, only
+/// the transaction round the call says what the keeper holds.
+pub fn perform<K: Keep>(
+    alloc: Global,
+    keep: &mut K,
+    user: Option<&Name>,
+    at: i64,
+    request: &Request,
+) -> Result<Reply, KeepFault>
+    ensures done { IsDone K.rows K.failures K.Follows K.IsTrusted keep.old keep.new result NotSound (Performs (option_copied user.entry) at request.now) }
+{
+    let caller = caller_of(alloc, keep, user)?;
+    let asker = Asker { caller, at };
+    carry_out(alloc, keep, &asker, request)
+}
+
+// Carries out one request of a caller whose groups are known.
+fn carry_out<K: Keep>(
+    alloc: Global,
+    keep: &mut K,
+    asker: &Asker,
+    request: &Request,
+) -> Result<Reply, KeepFault>
+    ensures done { IsDone K.rows K.failures K.Follows K.IsTrusted keep.old keep.new result NotSound (CarriesOut asker.now request.now) }
+{
+    match request {
+        Request::Read(path) => read(alloc, keep, asker, path),
+        Request::List(path) => list(alloc, keep, asker, path),
+        Request::Put(path, bytes) => put(alloc, keep, asker, path, bytes),
+        Request::Append(path, bytes) => append(alloc, keep, asker, path, bytes),
+        Request::MakeFolder(path) => make_folder(alloc, keep, asker, path),
+        Request::Remove(path) => remove(alloc, keep, asker, path),
+        Request::Move(path, to) => move_object(alloc, keep, asker, path, to),
+        Request::ReadList(path, which) => read_list(alloc, keep, asker, path, *which),
+        Request::SetList(path, which, sent) => set_list(alloc, keep, asker, path, *which, sent),
+        Request::ReadAttr(path) => read_attr(alloc, keep, asker, path),
+        Request::SetOwners(path, owners) => set_owners(alloc, keep, asker, path, owners),
+        Request::Can(path, mask) => can(alloc, keep, asker, path, *mask),
+    }
+}

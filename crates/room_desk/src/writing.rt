@@ -1,0 +1,89 @@
+//! Requests that change the bytes of documents.
+ghost use Rattle.std.specs.Prelude.{◌≡◌, ◌++◌, IfOk};
+ghost use Rattle.room_tree.specs.Keep.{IsUnreadable};
+ghost use Rattle.room_desk.specs.Judged.{CarriesOut, IsDone, NotSound};
+ghost use Rattle.room_desk.specs.Written.{HasNoBytes, IsAppended, IsPut};
+ghost use Rattle.room_desk.specs.declared.request.Request.TheVariants.{Append};
+
+use crate::arrival::Arrival;
+use crate::asker::Asker;
+use crate::checking::refused;
+use crate::reply::{Reason, Reply};
+use crate::walking::reach_kind;
+use room_ace::{Mask, ObjKind};
+use room_tree::{Bytes, Keep, KeepFault, Path};
+use std::alloc::{AllocError, Global};
+
+/// The most bytes that a document has.
+const MOST_BYTES: usize = 1_048_576;
+
+/// Adds bytes at the end of a document.
+pub(crate) fn append<K: Keep>(
+    alloc: Global,
+    keep: &mut K,
+    asker: &Asker,
+    path: &Path,
+    bytes: &Bytes,
+) -> Result<Reply, KeepFault>
+    ensures done { IsDone K.rows K.failures K.Follows K.IsTrusted keep.old keep.new result NotSound (CarriesOut asker.now (Append path.now bytes.now)) }
+{
+    let arrival = reach_kind(
+        alloc,
+        keep,
+        asker,
+        path,
+        ObjKind::Document,
+        Mask::append_data(),
+    )?;
+    match arrival {
+        Arrival::Ended(reply) => Ok(reply),
+        Arrival::At(node) => append_at(alloc, keep, path, node.id, bytes),
+    }
+}
+
+// Adds the bytes to those of the document of this number.
+fn append_at<K: Keep>(
+    alloc: Global,
+    keep: &mut K,
+    path: &Path,
+    id: u64,
+    bytes: &Bytes,
+) -> Result<Reply, KeepFault>
+    ensures done { IsDone K.rows K.failures K.Follows K.IsTrusted keep.old keep.new result (HasNoBytes id) (IsAppended path.now id bytes.now) }
+{
+    let body = keep.body(id)?;
+    match body {
+        None => Err(KeepFault::Damaged { id }),
+        Some(before) => {
+            let joined = join(before, bytes)?;
+            put_bytes(alloc, keep, path, id, joined.as_slice())
+        }
+    }
+}
+
+// The bytes, and then those others.
+fn join(before: Bytes, bytes: &Bytes) -> Result<Vec<u8>, AllocError>
+    ensures { IfOk result (λ all. all.items ≡ before ++ bytes.now) }
+{
+    let mut all = before.into_vec();
+    all.extend_from_slice(bytes.as_slice())?;
+    Ok(all)
+}
+
+// Gives the document of this number these bytes, if there aren't too many.
+fn put_bytes<K: Keep>(
+    alloc: Global,
+    keep: &mut K,
+    path: &Path,
+    id: u64,
+    bytes: &[u8],
+) -> Result<Reply, KeepFault>
+    ensures done { IsDone K.rows K.failures K.Follows K.IsTrusted keep.old keep.new result IsUnreadable (IsPut path.now id bytes.now) }
+{
+    let too_many = bytes.len() > MOST_BYTES;
+    if too_many {
+        return Ok(refused(alloc, path, path.names().len(), Reason::TooLarge)?);
+    }
+    keep.set_body(id, bytes)?;
+    Ok(Reply::Done)
+}
