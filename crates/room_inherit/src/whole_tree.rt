@@ -39,7 +39,10 @@ fn sweep<K: Keep>(alloc: Global, keep: &mut K, which: Which) -> Result<u64, Spre
         let Some(above) = waiting.pop() else {
             return Ok(changed);
         };
-        let written = visit_children(alloc, keep, start, &above, which, &mut waiting)?;
+        let visited = visit_children(alloc, keep, start, &above, which, &mut waiting);
+        // Let go here, and so not part by part on each way out.
+        drop(above);
+        let written = visited?;
         changed = changed.saturating_add(written);
     }
     if waiting.is_empty() {
