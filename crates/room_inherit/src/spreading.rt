@@ -30,7 +30,10 @@ pub fn spread<K: Keep>(
         let Some(above) = waiting.pop() else {
             return Ok(Spread { changed });
         };
-        let mut next = renew_children(alloc, keep, id, &above, which)?;
+        let renewed = renew_children(alloc, keep, id, &above, which);
+        // Let go here, and so not part by part on each way out.
+        drop(above);
+        let mut next = renewed?;
         changed = changed.saturating_add(next.len() as u64);
         waiting.append(&mut next)?;
     }

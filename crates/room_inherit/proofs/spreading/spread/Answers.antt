@@ -113,8 +113,8 @@ returns-in_err-next g c =
     let fault = c.in_err-next.field-0.0 in
     let is = handed_on c.from_residual-in_err-next.result fault c.from_residual-in_err-next.ensures.1 in
     record {
-      spread = subst (λ (r : Result Spread SpreadFault). Spreads k.rows k.failures k.writes k.Follows k.IsTrusted c.args.which start a c.renew_children.new.keep r) (sym is)
-          (turn_gives_up k.rows k.failures k.writes k.Follows k.IsTrusted laws m.are_rows (λ s. (m.counts_end s).1) c.args.which start c.turns._turn rest w c.turns.changed most fault a c.turns.keep c.renew_children.new.keep (λ (v : Vec Node Global). length v.items) Becomes sofar c.in_err-next.ensures.turn);
+      spread = subst (λ (r : Result Spread SpreadFault). Spreads k.rows k.failures k.writes k.Follows k.IsTrusted c.args.which start a c.renew_children-renewed.new.keep r) (sym is)
+          (turn_gives_up k.rows k.failures k.writes k.Follows k.IsTrusted laws m.are_rows (λ s. (m.counts_end s).1) c.args.which start c.turns._turn rest w c.turns.changed most fault a c.turns.keep c.renew_children-renewed.new.keep (λ (v : Vec Node Global). length v.items) Becomes sofar c.in_err-next.ensures.turn);
     }
 
 pub returns-in_err-append : goal.returns-in_err-append
@@ -131,11 +131,11 @@ returns-in_err-append g c =
     let sofar = subst (λ (l : List Node). Carrying k.rows k.failures k.writes k.Follows k.IsTrusted c.args.which start c.turns._turn l c.turns.changed most a c.turns.keep) parts c.turns.invariant in
     let Becomes : Rows → Vec Node Global → Rows → Type 0 = λ old v new. IsTurn c.args.which start w old v.items new in
     let next = c.in_ok-next.next.items in
-    let further = carries_on k.rows k.failures k.writes k.Follows k.IsTrusted laws m.are_rows (λ s. (m.counts_end s).1) c.args.which start c.turns._turn rest w c.turns.changed most next a c.turns.keep c.renew_children.new.keep c.in_ok-next.next (λ v. length v.items) (λ v. v.items) refl refl sofar c.in_ok-next.ensures.turn in
+    let further = carries_on k.rows k.failures k.writes k.Follows k.IsTrusted laws m.are_rows (λ s. (m.counts_end s).1) c.args.which start c.turns._turn rest w c.turns.changed most next a c.turns.keep c.renew_children-renewed.new.keep c.in_ok-next.next (λ v. length v.items) (λ v. v.items) refl refl sofar c.in_ok-next.ensures.turn in
     let is = handed_on c.from_residual-in_err-append.result (Keeper Memory) c.from_residual-in_err-append.ensures.1 in
     record {
-      spread = subst (λ (r : Result Spread SpreadFault). Spreads k.rows k.failures k.writes k.Follows k.IsTrusted c.args.which start a c.renew_children.new.keep r) (sym is)
-          (without_memory k.rows k.failures k.writes k.Follows k.IsTrusted laws m.are_rows (λ s. (m.counts_end s).1) c.args.which start (c.turns._turn + 1) (rest ++ next) (capped (c.turns.changed + length next)) most a c.renew_children.new.keep further);
+      spread = subst (λ (r : Result Spread SpreadFault). Spreads k.rows k.failures k.writes k.Follows k.IsTrusted c.args.which start a c.renew_children-renewed.new.keep r) (sym is)
+          (without_memory k.rows k.failures k.writes k.Follows k.IsTrusted laws m.are_rows (λ s. (m.counts_end s).1) c.args.which start (c.turns._turn + 1) (rest ++ next) (capped (c.turns.changed + length next)) most a c.renew_children-renewed.new.keep further);
     }
 
 pub turns-preserved : goal.turns-preserved
@@ -152,11 +152,11 @@ turns-preserved g c =
     let sofar = subst (λ (l : List Node). Carrying k.rows k.failures k.writes k.Follows k.IsTrusted c.args.which start c.turns._turn l c.turns.changed most a c.turns.keep) parts c.turns.invariant in
     let Becomes : Rows → Vec Node Global → Rows → Type 0 = λ old v new. IsTurn c.args.which start w old v.items new in
     let next = c.in_ok-next.next.items in
-    let further = carries_on k.rows k.failures k.writes k.Follows k.IsTrusted laws m.are_rows (λ s. (m.counts_end s).1) c.args.which start c.turns._turn rest w c.turns.changed most next a c.turns.keep c.renew_children.new.keep c.in_ok-next.next (λ v. length v.items) (λ v. v.items) refl refl sofar c.in_ok-next.ensures.turn in
+    let further = carries_on k.rows k.failures k.writes k.Follows k.IsTrusted laws m.are_rows (λ s. (m.counts_end s).1) c.args.which start c.turns._turn rest w c.turns.changed most next a c.turns.keep c.renew_children-renewed.new.keep c.in_ok-next.next (λ v. length v.items) (λ v. v.items) refl refl sofar c.in_ok-next.ensures.turn in
     let items : c.append.new.self.items ≡ rest ++ next = c.in_ok-append.ensures.items in
     let sum : c.saturating_add-changed.result ≡ capped (c.turns.changed + length next) = c.saturating_add-changed.ensures ∙ ap (λ (n : ℕ). capped (c.turns.changed + n)) (c.len.ensures ∙ c.in_ok-next.next.ok.0) in
-    subst (λ (l : List Node). Carrying k.rows k.failures k.writes k.Follows k.IsTrusted c.args.which start (c.turns._turn + 1) l c.saturating_add-changed.result most a c.renew_children.new.keep) (sym items)
-    (subst (λ (n : ℕ). Carrying k.rows k.failures k.writes k.Follows k.IsTrusted c.args.which start (c.turns._turn + 1) (rest ++ next) n most a c.renew_children.new.keep) (sym sum) further)
+    subst (λ (l : List Node). Carrying k.rows k.failures k.writes k.Follows k.IsTrusted c.args.which start (c.turns._turn + 1) l c.saturating_add-changed.result most a c.renew_children-renewed.new.keep) (sym items)
+    (subst (λ (n : ℕ). Carrying k.rows k.failures k.writes k.Follows k.IsTrusted c.args.which start (c.turns._turn + 1) (rest ++ next) n most a c.renew_children-renewed.new.keep) (sym sum) further)
 
 pub returns-then-is_empty : goal.returns-then-is_empty
 returns-then-is_empty g c =

@@ -96,10 +96,10 @@ returns-in_err-written g c =
     let start = c.in_ok-root.root.id in
     let fault = c.in_err-written.field-0.0 in
     let is = handed_on c.from_residual-in_err-written.result fault c.from_residual-in_err-written.ensures.1 in
-    let Becomes : Rows → ℕ → Rows → Type 0 = IsVisit c.args.which start w rest c.visit_children.new.waiting.items in
+    let Becomes : Rows → ℕ → Rows → Type 0 = IsVisit c.args.which start w rest c.visit_children-visited.new.waiting.items in
     record {
-      swept = subst (λ (r : Result ℕ SpreadFault). Sweeps k.rows k.failures k.writes k.Follows k.IsTrusted c.args.which a c.visit_children.new.keep r) (sym is)
-          (sweep_gives_up k.rows k.failures k.writes k.Follows k.IsTrusted laws m.are_rows (λ s. (m.counts_end s).1) c.args.which start c.turns._turn rest w c.turns.changed most fault a c.turns.keep c.visit_children.new.keep (λ (n : ℕ). n) Becomes sofar c.in_err-written.ensures.visit);
+      swept = subst (λ (r : Result ℕ SpreadFault). Sweeps k.rows k.failures k.writes k.Follows k.IsTrusted c.args.which a c.visit_children-visited.new.keep r) (sym is)
+          (sweep_gives_up k.rows k.failures k.writes k.Follows k.IsTrusted laws m.are_rows (λ s. (m.counts_end s).1) c.args.which start c.turns._turn rest w c.turns.changed most fault a c.turns.keep c.visit_children-visited.new.keep (λ (n : ℕ). n) Becomes sofar c.in_err-written.ensures.visit);
     }
 
 pub turns-preserved : goal.turns-preserved
@@ -115,8 +115,8 @@ turns-preserved g c =
     let sofar = subst (λ (l : List Node). Sweeping k.rows k.failures k.writes k.Follows k.IsTrusted c.args.which c.in_ok-root.root.id c.turns._turn l c.turns.changed most a c.turns.keep) parts c.turns.invariant in
     let start = c.in_ok-root.root.id in
     let number = c.in_ok-written.written in
-    let further = sweeps_on k.rows k.failures k.writes k.Follows k.IsTrusted laws m.are_rows (λ s. (m.counts_end s).1) c.args.which start c.turns._turn rest w c.turns.changed most number c.visit_children.new.waiting.items a c.turns.keep c.visit_children.new.keep sofar c.in_ok-written.ensures.visit in
-    subst (λ (n : ℕ). Sweeping k.rows k.failures k.writes k.Follows k.IsTrusted c.args.which start (c.turns._turn + 1) c.visit_children.new.waiting.items n most a c.visit_children.new.keep) (sym c.saturating_add-changed.ensures) further
+    let further = sweeps_on k.rows k.failures k.writes k.Follows k.IsTrusted laws m.are_rows (λ s. (m.counts_end s).1) c.args.which start c.turns._turn rest w c.turns.changed most number c.visit_children-visited.new.waiting.items a c.turns.keep c.visit_children-visited.new.keep sofar c.in_ok-written.ensures.visit in
+    subst (λ (n : ℕ). Sweeping k.rows k.failures k.writes k.Follows k.IsTrusted c.args.which start (c.turns._turn + 1) c.visit_children-visited.new.waiting.items n most a c.visit_children-visited.new.keep) (sym c.saturating_add-changed.ensures) further
 
 pub returns-then-is_empty : goal.returns-then-is_empty
 returns-then-is_empty g c =
