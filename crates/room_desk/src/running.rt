@@ -1,4 +1,5 @@
 //! Requests carried out one after another.
+ghost use Rattle.std.specs.Prelude.{◌≡◌, [], ◌∷◌, ◌++◌, OnOk};
 ghost use Rattle.room_desk.specs.Judged.{IsDone, NotSound, Performs};
 ghost use Rattle.room_desk.specs.InTurn.{RunsAll};
 
@@ -31,7 +32,7 @@ pub fn perform_all<K: Keep>(
     let mut replies = Vec::new(alloc);
     'requests: for one in asked {
         let reply = perform_one(alloc, keep, one)?;
-        replies.push(reply).map_err(AllocError::from)?;
+        add_reply(&mut replies, reply)?;
     }
     Ok(replies)
 }
@@ -41,4 +42,12 @@ fn perform_one<K: Keep>(alloc: Global, keep: &mut K, asked: &Asked) -> Result<Re
     ensures done { IsDone K.rows K.failures K.Follows K.IsTrusted keep.old keep.new result NotSound (Performs asked.now.user asked.now.at asked.now.request) }
 {
     perform(alloc, keep, asked.user.as_ref(), asked.at, &asked.request)
+}
+
+// Adds a reply behind the others.
+fn add_reply(replies: &mut Vec<Reply>, reply: Reply) -> Result<(), AllocError>
+    ensures { OnOk result (replies.new.items ≡ replies.old.items ++ reply ∷ []) }
+{
+    replies.push(reply)?;
+    Ok(())
 }
