@@ -36,6 +36,15 @@ impl Bodies {
         }
     }
 
+    /// A copy.
+    pub(crate) fn copy(&self) -> Result<Bodies, AllocError>
+        ensures { IfOk result (λ copy. copy ≡ self.now) }
+    {
+        Ok(Bodies {
+            items: self.items.clone()?,
+        })
+    }
+
     /// A copy of the bytes of this number.
     pub(crate) fn at(&self, id: u64) -> Result<Option<Bytes>, AllocError>
         ensures { IfOk result (λ found. found ≡ body_in self.now id) }

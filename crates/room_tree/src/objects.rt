@@ -56,6 +56,16 @@ impl Objects {
         })
     }
 
+    /// A copy.
+    pub(crate) fn copy(&self) -> Result<Objects, AllocError>
+        ensures { IfOk result (λ copy. copy ≡ self.now) }
+    {
+        Ok(Objects {
+            by_number: self.by_number.clone()?,
+            places: self.places.copy()?,
+        })
+    }
+
     /// A copy of the object of this number.
     pub(crate) fn at(&self, id: u64) -> Result<Option<Node>, AllocError>
         ensures { IfOk result (λ found. found ≡ find_id id self.now) }

@@ -1,5 +1,5 @@
 //! Where objects stand: their numbers by parent and name.
-ghost use Rattle.std.specs.Prelude.{◌≡◌, [], Some, IfOk, OnOk, OnErr, string_bytes};
+ghost use Rattle.std.specs.Prelude.{◌≡◌, [], Some, None, IfOk, OnOk, OnErr, string_bytes};
 ghost use Rattle.std.specs.BTreeMap.{IsOrdered};
 ghost use Rattle.std.specs.Option.{option_map};
 ghost use Rattle.std.specs.Ordering.{nat_cmp, ordering_then};
@@ -34,6 +34,15 @@ impl Places {
         Places {
             ids: BTreeMap::new(alloc),
         }
+    }
+
+    /// A copy.
+    pub(crate) fn copy(&self) -> Result<Places, AllocError>
+        ensures { IfOk result (λ copy. KeepsOtherPlaces None self.now.ids.entries copy.ids.entries) }
+    {
+        Ok(Places {
+            ids: self.ids.clone()?,
+        })
     }
 
     /// The number that is listed at the place.

@@ -1,0 +1,24 @@
+-- Runs over lists of requests.
+use Rattle.std.specs.Prelude.{◌≡◌, List, [], ◌∷◌, length}
+use Rattle.room_tree.specs.Meaning.{meaning}
+use Rattle.room_tree.specs.Rows.{Rows}
+use Rattle.room_inherit.specs.Sound.{AreSound}
+use Rattle.room_desk.specs.declared.running.Asked.{Asked}
+use Rattle.room_desk.specs.declared.reply.Reply.{Reply}
+use Rattle.room_desk.specs.Run.{Event, Run, Asked as HasAsked}
+
+-- what happens where the requests have these replies, in turn
+abbrev pub events_of : List Asked → List Reply → List Event
+events_of [] replies = []
+events_of (asked ∷ others) [] = []
+events_of (asked ∷ others) (reply ∷ replies) = HasAsked asked.user asked.at asked.request reply ∷ events_of others replies
+
+-- Each request has a reply, and from sound rows a run of the machine leads from what they mean to what the new ones mean, and these are sound.
+pub record IsRunOfRows (asked : List Asked) (old : Rows) (replies : List Reply) (new : Rows) : Type 0 where
+  pub each : length replies ≡ length asked
+  pub run : Run (meaning old.read) (events_of asked replies) (meaning new.read)
+  pub sound : AreSound new
+
+-- What `perform_all` promises.
+abbrev pub RunsAll : List Asked → Rows → List Reply → Rows → Type 0
+RunsAll asked old replies new = AreSound old → IsRunOfRows asked old replies new

@@ -1,0 +1,86 @@
+//! A desk over a keeper in memory.
+ghost use Rattle.std.specs.Prelude.{◌≡◌, IfOk};
+ghost use Rattle.std.specs.Option.{option_copied};
+ghost use Rattle.room_desk.specs.Memory.{content_in, IsSoundKeep, Tries};
+
+use crate::desk::{Desk, DeskFault};
+use crate::performing::perform;
+use crate::reply::Reply;
+use crate::request::Request;
+use room_ace::Name;
+use room_tree::{KeepFault, MemKeep};
+use std::alloc::Global;
+
+/// A desk over a keeper in memory. It carries out each request on a copy, and takes the copy over where
+/// there was no fault.
+#[derive(Drop)]
+pub struct MemDesk {
+    keep: MemKeep,
+    faults: u64,
+}
+
+impl MemDesk {
+    /// A desk that keeps what the keeper holds, and has had no fault.
+    pub fn new(keep: MemKeep) -> MemDesk
+        ensures keeps { result.keep ≡ keep }
+        ensures faults { result.faults ≡ 0 }
+    {
+        MemDesk { keep, faults: 0 }
+    }
+
+    /// What holds the content.
+    pub fn keep(&self) -> &MemKeep
+        ensures { result.now ≡ self.now.keep }
+    {
+        &self.keep
+    }
+
+    /// What holds the content, without the desk.
+    pub fn into_keep(self) -> MemKeep
+        ensures { result ≡ self.keep }
+    {
+        self.keep
+    }
+
+    // The reply, and the keeper as it is after the request.
+    fn tried(
+        &self,
+        alloc: Global,
+        caller: Option<&Name>,
+        at: i64,
+        request: &Request,
+    ) -> Result<(MemKeep, Reply), KeepFault>
+        ensures { IfOk result (λ done. Tries (option_copied caller.entry) at request.now self.now.keep done.1 done.0) }
+    {
+        let mut keep = self.keep.copy()?;
+        let reply = perform(alloc, &mut keep, caller, at, request)?;
+        Ok((keep, reply))
+    }
+}
+
+impl Desk for MemDesk {
+    ghost content = { λ desk. content_in desk.keep };
+
+    ghost sound = { λ desk. IsSoundKeep desk.keep };
+
+    ghost faults = { λ desk. desk.faults };
+
+    fn run(
+        &mut self,
+        alloc: Global,
+        caller: Option<&Name>,
+        at: i64,
+        request: &Request,
+    ) -> Result<Reply, DeskFault> {
+        match self.tried(alloc, caller, at, request) {
+            Ok((keep, reply)) => {
+                self.keep = keep;
+                Ok(reply)
+            }
+            Err(_) => {
+                self.faults = self.faults.saturating_add(1);
+                Err(DeskFault)
+            }
+        }
+    }
+}
