@@ -22,6 +22,11 @@ pub path_parts : (path : List (List ℕ)) → 0 < length path → front path ++ 
 path_parts [] some = absurd (let wrong : ⊥ = omega arith in wrong)
 path_parts (name ∷ names) some = front_and_last name names
 
+pub last_of : (names : List (List ℕ)) (name : List ℕ) → last_name (names ++ name ∷ []) ≡ name
+last_of [] name = refl
+last_of (first ∷ []) name = refl
+last_of (first ∷ next ∷ names) name = last_of (next ∷ names) name
+
 module _ (path : List (List ℕ)) (depth : ℕ) (deep : length path ≡ depth + 1) where
   parts : front path ++ last_name path ∷ [] ≡ path
   parts = path_parts path (omega arith)

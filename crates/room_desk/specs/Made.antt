@@ -1,5 +1,5 @@
 -- How an object is made, and what answers a request that changes an object.
-use Rattle.std.specs.Prelude.{◌≡◌, ℕ, false, List, [], Option, Some, None, unwrap_or}
+use Rattle.std.specs.Prelude.{◌≡◌, ℕ, ◌<◌, false, List, [], length, Option, Some, None, unwrap_or, IsTrue}
 use Rattle.room_ace.specs.declared.object.ObjKind.{ObjKind}
 use Rattle.room_ace.specs.declared.parties.Caller.{Caller}
 use Rattle.room_tree.specs.declared.node.Held.{Held}
@@ -7,14 +7,22 @@ use Rattle.room_tree.specs.declared.node.NewNode.{NewNode}
 use Rattle.room_tree.specs.declared.node.Node.{Node}
 use Rattle.room_tree.specs.Held.{full_of}
 use Rattle.room_tree.specs.Keep.{Adds}
+use Rattle.room_tree.specs.Paths.{is_object_name}
 use Rattle.room_tree.specs.Rows.{Rows}
 use Rattle.room_inherit.specs.Pass.{pass}
 use Rattle.room_desk.specs.declared.asker.Asker.{Asker}
 use Rattle.room_desk.specs.declared.reply.Reply.{Reply}
 use Rattle.room_desk.specs.Plan.{Item}
+use Rattle.room_desk.specs.Site.{last_name}
 use Rattle.room_desk.specs.Judged.{IsJudged}
 
 -- ---- a new object, as it is stored
+
+-- The path has a last name, which is this one, and it is an object name.
+pub record IsNameOf (path : List (List ℕ)) (name : List ℕ) : Type 0 where
+  pub some : 0 < length path
+  pub last : name ≡ last_name path
+  pub sound : IsTrue (is_object_name name)
 
 -- It stores what its parent passes, whether it is linked or not.
 abbrev pub passed_held : ObjKind → Held → Held

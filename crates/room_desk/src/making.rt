@@ -4,9 +4,8 @@ ghost use Rattle.room_ace.specs.Rights.{append_data, write_data};
 ghost use Rattle.room_ace.specs.declared.object.ObjKind.TheVariants.{Document as DocumentKind, Folder as FolderKind};
 ghost use Rattle.room_tree.specs.Keep.{IsUnreadable, SetsBody};
 ghost use Rattle.room_desk.specs.Judged.{CarriesOut, IsDone, NotSound};
-ghost use Rattle.room_desk.specs.Made.{IsMade, IsServed, new_child, passed_held};
+ghost use Rattle.room_desk.specs.Made.{IsMade, IsNameOf, IsServed, new_child, passed_held};
 ghost use Rattle.room_desk.specs.Plan.{Check, Refusal, no_folder, not_over};
-ghost use Rattle.room_desk.specs.Site.{last_name};
 ghost use Rattle.room_desk.specs.Stored.{found_site};
 ghost use Rattle.room_desk.specs.declared.reply.Reason.TheVariants.{Exists};
 ghost use Rattle.room_desk.specs.declared.reply.Reply.TheVariants.{Done, Made};
@@ -19,7 +18,7 @@ use crate::placing::walk_to_spot;
 use crate::reply::{Reason, Reply};
 use crate::walking::check_kind;
 use crate::writing::{MOST_BYTES, put_bytes};
-use room_ace::{Entries, ListFlags, Mask, Name, ObjKind};
+use room_ace::{Entries, ListFlags, Mask, Name, ObjKind, Owners};
 use room_inherit::pass;
 use room_tree::{Bytes, Held, Keep, KeepFault, NewNode, Node, Path, Text};
 use std::alloc::{AllocError, Global};
@@ -34,16 +33,31 @@ pub(crate) fn put<K: Keep>(
 ) -> Result<Reply, KeepFault>
     ensures done { IsDone K.rows K.failures K.Follows K.IsTrusted keep.old keep.new result NotSound (CarriesOut asker.now (Put path.now bytes.now)) }
 {
-    if path.is_root() {
-        return Ok(refused(alloc, path, 0, Reason::WrongKind)?);
+    match path.split_last() {
+        None => Ok(refused(alloc, path, 0, Reason::WrongKind)?),
+        Some((name, _)) => put_below(alloc, keep, asker, path, name, bytes),
     }
+}
+
+// The same at a path with a last name.
+fn put_below<K: Keep>(
+    alloc: Global,
+    keep: &mut K,
+    asker: &Asker,
+    path: &Path,
+    name: &Text,
+    bytes: &Bytes,
+) -> Result<Reply, KeepFault>
+    requires { IsNameOf path.now name.now }
+    ensures done { IsDone K.rows K.failures K.Follows K.IsTrusted keep.old keep.new result NotSound (CarriesOut asker.now (Put path.now bytes.now)) }
+{
     let spot = walk_to_spot(alloc, keep, asker, path)?;
     let depth = path.names().len();
     match spot {
         Spot::Barred(reply) => Ok(reply),
         Spot::Under { folder, child } => match child {
             Some(node) => put_there(alloc, keep, asker, path, &Found { node, depth }, bytes),
-            None => put_new(alloc, keep, asker, path, &folder, bytes),
+            None => put_new(alloc, keep, asker, path, name, &folder, bytes),
         },
     }
 }
@@ -80,10 +94,11 @@ fn put_new<K: Keep>(
     keep: &mut K,
     asker: &Asker,
     path: &Path,
+    name: &Text,
     folder: &Found,
     bytes: &Bytes,
 ) -> Result<Reply, KeepFault>
-    ensures done { IsDone K.rows K.failures K.Follows K.IsTrusted keep.old keep.new result IsUnreadable (IsServed asker.now (Check (found_site path.now folder.now) (write_data ∷ []) ∷ not_over path.now (length bytes.now) ∷ []) Made (IsMade (new_child asker.now.caller DocumentKind folder.now.node (last_name path.now) bytes.now))) }
+    ensures done { IsDone K.rows K.failures K.Follows K.IsTrusted keep.old keep.new result IsUnreadable (IsServed asker.now (Check (found_site path.now folder.now) (write_data ∷ []) ∷ not_over path.now (length bytes.now) ∷ []) Made (IsMade (new_child asker.now.caller DocumentKind folder.now.node name.now bytes.now))) }
 {
     let refusal = check(alloc, keep, asker, path, folder, Mask::write_data())?;
     match refusal {
@@ -93,7 +108,7 @@ fn put_new<K: Keep>(
             if too_many {
                 return Ok(refused(alloc, path, path.names().len(), Reason::TooLarge)?);
             }
-            let node = child_at(alloc, asker, path, &folder.node, ObjKind::Document, bytes)?;
+            let node = child_at(alloc, asker, name, &folder.node, ObjKind::Document, bytes)?;
             keep.add(node)?;
             Ok(Reply::Made)
         }
@@ -109,14 +124,28 @@ pub(crate) fn make_folder<K: Keep>(
 ) -> Result<Reply, KeepFault>
     ensures done { IsDone K.rows K.failures K.Follows K.IsTrusted keep.old keep.new result NotSound (CarriesOut asker.now (MakeFolder path.now)) }
 {
-    if path.is_root() {
-        return Ok(refused(alloc, path, 0, Reason::Exists)?);
+    match path.split_last() {
+        None => Ok(refused(alloc, path, 0, Reason::Exists)?),
+        Some((name, _)) => make_below(alloc, keep, asker, path, name),
     }
+}
+
+// The same at a path with a last name.
+fn make_below<K: Keep>(
+    alloc: Global,
+    keep: &mut K,
+    asker: &Asker,
+    path: &Path,
+    name: &Text,
+) -> Result<Reply, KeepFault>
+    requires { IsNameOf path.now name.now }
+    ensures done { IsDone K.rows K.failures K.Follows K.IsTrusted keep.old keep.new result NotSound (CarriesOut asker.now (MakeFolder path.now)) }
+{
     let spot = walk_to_spot(alloc, keep, asker, path)?;
     match spot {
         Spot::Barred(reply) => Ok(reply),
         Spot::Under { folder, child } => {
-            make_new(alloc, keep, asker, path, &folder, child.is_some())
+            make_new(alloc, keep, asker, path, name, &folder, child.is_some())
         }
     }
 }
@@ -127,10 +156,11 @@ fn make_new<K: Keep>(
     keep: &mut K,
     asker: &Asker,
     path: &Path,
+    name: &Text,
     folder: &Found,
     is_there: bool,
 ) -> Result<Reply, KeepFault>
-    ensures done { IsDone K.rows K.failures K.Follows K.IsTrusted keep.old keep.new result IsUnreadable (IsServed asker.now (Check (found_site path.now folder.now) (append_data ∷ []) ∷ Refusal path.now Exists is_there ∷ []) Made (IsMade (new_child asker.now.caller FolderKind folder.now.node (last_name path.now) []))) }
+    ensures done { IsDone K.rows K.failures K.Follows K.IsTrusted keep.old keep.new result IsUnreadable (IsServed asker.now (Check (found_site path.now folder.now) (append_data ∷ []) ∷ Refusal path.now Exists is_there ∷ []) Made (IsMade (new_child asker.now.caller FolderKind folder.now.node name.now []))) }
 {
     let refusal = check(alloc, keep, asker, path, folder, Mask::append_data())?;
     match refusal {
@@ -140,31 +170,32 @@ fn make_new<K: Keep>(
                 return Ok(refused(alloc, path, path.names().len(), Reason::Exists)?);
             }
             let none = Bytes::new(alloc);
-            let node = child_at(alloc, asker, path, &folder.node, ObjKind::Folder, &none)?;
+            let node = child_at(alloc, asker, name, &folder.node, ObjKind::Folder, &none)?;
             keep.add(node)?;
             Ok(Reply::Made)
         }
     }
 }
 
-// A new object of this kind under the parent, by the last name of the path.
+// A new object of this kind and name under the parent.
 fn child_at(
     alloc: Global,
     asker: &Asker,
-    path: &Path,
+    name: &Text,
     parent: &Node,
     kind: ObjKind,
     bytes: &Bytes,
 ) -> Result<NewNode, AllocError>
-    ensures { IfOk result (λ node. node ≡ new_child asker.now.caller kind parent.now (last_name path.now) bytes.now) }
+    ensures { IfOk result (λ node. node ≡ new_child asker.now.caller kind parent.now name.now bytes.now) }
 {
-    let mut owners = parent.owners.copy()?;
-    owners.owner = owner_of(&asker.caller.user, &parent.owners.owner)?;
     Ok(NewNode {
         parent: Some(parent.id),
-        name: last_of(alloc, path)?,
+        name: name.copy()?,
         kind,
-        owners,
+        owners: Owners {
+            owner: owner_of(&asker.caller.user, &parent.owners.owner)?,
+            group: parent.owners.group.copy()?,
+        },
         dacl: passed_list(alloc, kind, &parent.dacl)?,
         sacl: passed_list(alloc, kind, &parent.sacl)?,
         bytes: bytes.copy()?,
@@ -178,16 +209,6 @@ fn owner_of(user: &Option<Name>, other: &Name) -> Result<Name, AllocError>
     match user {
         Some(name) => name.copy(),
         None => other.copy(),
-    }
-}
-
-// The last name of the path; the root's has none.
-fn last_of(alloc: Global, path: &Path) -> Result<Text, AllocError>
-    ensures { IfOk result (λ name. name ≡ last_name path.now) }
-{
-    match path.split_last() {
-        Some((name, _)) => name.copy(),
-        None => Ok(Text::new(alloc)),
     }
 }
 
