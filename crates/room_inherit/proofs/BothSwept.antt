@@ -25,6 +25,7 @@ use Rattle.room_inherit.proofs.Members.{count-is, count_length, count_map}
 use Rattle.room_inherit.proofs.Renewing.{map_map}
 use Rattle.room_inherit.proofs.Frontier.{set, find_set}
 use Rattle.room_inherit.proofs.Calls.{capped_add}
+use Rattle.room_inherit.proofs.NoFault.{checked_is_tree}
 
 all_map : (p q : Node → Bool) (g : Node → Node) → ((n : Node) → p (g n) ≡ q n) → (xs : List Node) → list_all p (map g xs) ≡ list_all q xs
 all_map p q g same [] = refl
@@ -100,6 +101,8 @@ both_swept old middle new d s first last =
     let next : IsSwept Sacl (reading old (mid f old.read)) new s = subst (λ (r : Rows). IsSwept Sacl r new s) first.becomes last in
     let g = next.lists in
     let sacls : Node → List Ace = λ n. g (set Dacl f n) in
+    let both : IsTree old.read → (which : Which) → AllAgree new.read which = λ tree which.
+    on which tree (λ t. subst (λ (r : Rows). AllAgree r.read Dacl) (sym next.becomes) (law_stays f old.read g (mid f old.read) (subst (λ (r : Rows). AllAgree r.read Dacl) first.becomes (first.law t)))) (λ t. next.law (tree_mid f old.read t)) in
     record {
       dacls = f;
       sacls = sacls;
@@ -108,7 +111,8 @@ both_swept old middle new d s first last =
       linked_sacls = λ n there changed. sym (linked_mid f old.read n) ∙ next.linked (set Dacl f n) (there_mid f old.read n there) changed;
       counted = capped_below (d + s) (let a = first.few in let b = last.few in omega (arith, a, b))
           ∙ (λ i. first.counted i + (next.counted ∙ count-is (is_changed Sacl g) (map (set Dacl f) old.read.nodes) ∙ count_map (is_changed Sacl g) (set Dacl f) old.read.nodes ∙ sym (count-is (is_changed Sacl sacls) old.read.nodes)) i);
-      law = λ tree which. on which tree (λ t. subst (λ (r : Rows). AllAgree r.read Dacl) (sym next.becomes) (law_stays f old.read g (mid f old.read) (subst (λ (r : Rows). AllAgree r.read Dacl) first.becomes (first.law t)))) (λ t. next.law (tree_mid f old.read t));
+      law = λ none. both (checked_is_tree old none);
+      in_tree = both;
     }
   where
     on : (which : Which) → IsTree old.read → (IsTree old.read → AllAgree new.read Dacl) → (IsTree old.read → AllAgree new.read Sacl) → AllAgree new.read which

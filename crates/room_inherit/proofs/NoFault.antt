@@ -1,5 +1,5 @@
 -- Sound rows have no fault.
-use Rattle.std.proofs.Common.{◌≡◌, ℕ, Bool, true, false, cond, not, ◌&&◌, List, [], ◌∷◌, filter, Option, Some, None, refl, sym, ◌∙◌}
+use Rattle.std.proofs.Common.{◌≡◌, ℕ, Bool, true, false, cond, not, ap, ◌&&◌, List, [], ◌∷◌, filter, length, Option, Some, None, refl, sym, ◌∙◌}
 use Rattle.std.specs.List.{find, list_all}
 use Rattle.std.specs.Option.{option_map}
 use Rattle.room_tree.specs.declared.node.Node.{Node}
@@ -8,7 +8,7 @@ use Rattle.room_tree.specs.Rows.{Rows, numbers_of}
 use Rattle.room_inherit.specs.declared.report.Report.{Report}
 use Rattle.room_inherit.specs.declared.report.Report.TheVariants.{Sound, Fault}
 use Rattle.room_inherit.specs.declared.report.Unsound.TheVariants.{Loop, BadList, BrokenLaw, BadRoot, BadParent, BadName, BadBody}
-use Rattle.room_inherit.specs.Laws.{HasNoFault, SoundIsNoFault}
+use Rattle.room_inherit.specs.Laws.{CheckedIsTree, HasNoFault, SoundIsNoFault}
 use Rattle.room_inherit.specs.Sound.{AreSound, bad_root, fault_of, first_bad_list, first_failing, has_bad_list, has_sound_body, has_sound_name, keeps_law, numbered, or_else, or_sound, reaches, true_path}
 
 -- ---- a test that finds nothing, passed by all
@@ -83,3 +83,20 @@ sound rows none =
 
 pub sound_is_no_fault : SoundIsNoFault
 sound_is_no_fault rows = (no_fault rows, sound rows)
+
+-- ---- a tree, where all tests but the last find nothing
+
+root_alone : (roots : List Node) → bad_root roots ≡ None → length roots ≡ 1
+root_alone [] none = absurd (let wrong : ⊥ = cc in wrong)
+root_alone (root ∷ []) none = refl
+root_alone (root ∷ other ∷ others) none = absurd (let wrong : ⊥ = cc in wrong)
+
+pub checked_is_tree : CheckedIsTree
+checked_is_tree rows unfaulted =
+    let tree = rows.read in
+    let none = each_none (true_path tree) (first_bad_list rows) (bad_root (filter is_root tree.nodes)) (first_failing (has_folder_above tree) tree) (first_failing (reaches tree) tree) (first_failing (has_sound_name tree) tree)
+    (first_failing (has_sound_body tree) tree) None (ap (λ f. or_sound (or_else f None)) unfaulted) in
+    record {
+      one_root = root_alone (filter is_root tree.nodes) none.1;
+      connected = all_pass (reaches tree) tree.nodes none.3;
+    }

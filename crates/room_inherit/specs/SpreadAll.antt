@@ -1,5 +1,5 @@
 -- All lists carried down from the root (RFC 8881, section 6.4.3).
-use Rattle.std.specs.Prelude.{◌≡◌, ℕ, ◌+◌, ◌<◌, ◌^◌, ◌++◌, List, Some, Result, IfOk, IfErr, IsTrue, filter, length, count_by}
+use Rattle.std.specs.Prelude.{◌≡◌, ℕ, ◌+◌, ◌<◌, ◌^◌, ◌++◌, List, Some, None, Result, IfOk, IfErr, IsTrue, filter, length, count_by}
 use Rattle.std.specs.List.{list_all}
 use Rattle.room_ace.specs.Ace.{Ace}
 use Rattle.room_ace.specs.declared.object.Which.{Which}
@@ -9,6 +9,7 @@ use Rattle.room_tree.specs.Content.{Content, node_at, children_of, is_linked_in,
 use Rattle.room_tree.specs.Keep.{HasNoRoot, capped, reading, with_inh}
 use Rattle.room_tree.specs.Rows.{Rows}
 use Rattle.room_inherit.specs.Law.{AllAgree}
+use Rattle.room_inherit.specs.Sound.{first_fault}
 use Rattle.room_inherit.specs.Spread.{HasSpreadCause, is_changed, with_lists}
 use Rattle.room_inherit.specs.Turn.{IsTurn}
 use Rattle.room_inherit.specs.declared.outcome.SpreadFault.{SpreadFault}
@@ -31,7 +32,7 @@ pub record IsSwept (which : Which) (old new : Rows) (changed : ℕ) : Type 0 whe
 abbrev pub with_both : (Node → List Ace) → (Node → List Ace) → Content → Content
 with_both dacls sacls content = with_each content (λ node. with_inh Sacl (sacls node) (with_inh Dacl (dacls node) node))
 
--- The rows are as they were but for inherited entries at linked objects, of which so many lists are different now. In a tree the law of both holds.
+-- The rows are as they were but for inherited entries at linked objects, of which so many lists are different now. Where the first six tests of all rows found no fault, the law of both holds, and so it does in any other tree.
 pub record IsSpreadAll (old new : Rows) (changed : ℕ) : Type 0 where
   pub dacls : Node → List Ace
   pub sacls : Node → List Ace
@@ -39,7 +40,8 @@ pub record IsSpreadAll (old new : Rows) (changed : ℕ) : Type 0 where
   pub linked_dacls : (node : Node) → node_at old.read node.id ≡ Some node → IsTrue (is_changed Dacl dacls node) → IsTrue (is_linked_in old.read Dacl node)
   pub linked_sacls : (node : Node) → node_at old.read node.id ≡ Some node → IsTrue (is_changed Sacl sacls node) → IsTrue (is_linked_in old.read Sacl node)
   pub counted : changed ≡ count_by (is_changed Dacl dacls) old.read.nodes + count_by (is_changed Sacl sacls) old.read.nodes
-  pub law : IsTree old.read → (which : Which) → AllAgree new.read which
+  pub law : first_fault old ≡ None → (which : Which) → AllAgree new.read which
+  pub in_tree : IsTree old.read → (which : Which) → AllAgree new.read which
 
 -- one object's children renewed, and all of them put behind those that wait
 pub record IsVisit (which : Which) (start : ℕ) (above : Node) (before after : List Node) (old : Rows) (written : ℕ) (new : Rows) : Type 0 where

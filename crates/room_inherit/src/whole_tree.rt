@@ -11,8 +11,9 @@ use room_tree::{Keep, KeepFault, Node};
 use std::alloc::Global;
 
 /// Brings the stored inherited entries of every linked object up to date, for both lists, from the
-/// root down. The rows are to be a tree: one object has no parent, and the parents of each lead to
-/// it. `changed` counts the lists that became different.
+/// root down. For that the first six tests of `verify` are to find no fault; it is enough that the
+/// rows are a tree: one object has no parent, and the parents of each lead to it. `changed` counts
+/// the lists that became different.
 pub fn spread_all<K: Keep>(alloc: Global, keep: &mut K) -> Result<Spread, SpreadFault>
     ensures spread { IsCarriedDown K.rows K.failures K.writes K.Follows K.IsTrusted (λ spread. spread.changed) keep.old keep.new result (λ old spread new. IsSpreadAll old new spread.changed) }
 {
