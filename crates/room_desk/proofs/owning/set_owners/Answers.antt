@@ -3,7 +3,7 @@ use Rattle.room_desk.proofs.Calls.{Ruled, none_done, then_known, finish, fails, 
 use Rattle.room_tree.specs.Rows.{Rows}
 use Rattle.room_desk.proofs.SoundParts.{rootless_unsound}
 use Rattle.room_desk.proofs.Serving.{CheckAt, reached_as, reached_unsound, not_served}
-use Rattle.room_desk.proofs.Owning.{owners_set}
+use Rattle.room_desk.proofs.OwnersSet.{owners_set}
 use Rattle.room_desk.specs.Judged.{NotSound}
 use Rattle.room_desk.specs.declared.arrival.Arrival.TheVariants.{At, Ended}
 use Rattle.room_desk.specs.declared.request.Request.TheVariants.{SetOwners}
@@ -34,8 +34,8 @@ returns-in_err-set_owners-in-At g c =
     let laws : Ruled k.rows k.failures k.Follows k.IsTrusted = record { itself = m.follows_itself; on = m.follows_on; rise = m.failures_rise; first = m.trusted_first; last = m.trusted_last; are = m.are_rows } in
     record { done = fails laws (done c.in_ok-arrival.ensures.done) (of_write c.in_err-set_owners-in-At.ensures.written) (λ old mid at reached h. reached_unsound c.args.asker.now c.args.path.now _ _ old mid at reached h) c.from_residual-in_err-set_owners-in-At.result c.from_residual-in_err-set_owners-in-At.ensures.1 }
 
-pub returns-in-At : goal.returns-in-At
-returns-in-At g c =
+pub returns-in_ok-set_owners-in-At : goal.returns-in_ok-set_owners-in-At
+returns-in_ok-set_owners-in-At g c =
     let k = g.K.Keep in
     let m = g.met.K.Keep in
     let laws : Ruled k.rows k.failures k.Follows k.IsTrusted = record { itself = m.follows_itself; on = m.follows_on; rise = m.failures_rise; first = m.trusted_first; last = m.trusted_last; are = m.are_rows } in

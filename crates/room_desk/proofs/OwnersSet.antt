@@ -1,5 +1,6 @@
 -- A request that gives an object other owners is a step.
 use Rattle.std.proofs.Common.{◌≡◌, ℕ, List, [], ◌∷◌, Option, Some, None, refl, sym, ap, subst, ◌∙◌}
+use Rattle.std.specs.Option.{option_map}
 use Rattle.room_ace.specs.Rights.{write_owner}
 use Rattle.room_ace.specs.declared.parties.Owners.{Owners}
 use Rattle.room_tree.specs.declared.node.Node.{Node}
@@ -7,7 +8,7 @@ use Rattle.room_tree.specs.Content.{node_at, with_each, with_node}
 use Rattle.room_tree.specs.Keep.{Changes, reading, with_owners}
 use Rattle.room_tree.specs.Meaning.{kept_node, meaning}
 use Rattle.room_tree.specs.Rows.{Rows, AreRows}
-use Rattle.room_tree.proofs.Frames.{keeps_places, node_at-with_each, rises-with_each}
+use Rattle.room_tree.proofs.Frames.{Rises, keeps_places, node_at-with_each, rises-with_each}
 use Rattle.room_inherit.specs.Sound.{AreSound}
 use Rattle.room_desk.specs.declared.arrival.Arrival.TheVariants.{At}
 use Rattle.room_desk.specs.declared.asker.Asker.{Asker}
@@ -27,12 +28,12 @@ pub owners_set : (asker : Asker) (path : List (List ℕ)) (owners : Owners) (old
     → CarriesOut asker (SetOwners path owners) old Done new
 owners_set asker path owners old mid new node are reached changes known sound =
     let target = target_there old are (sound_parts old sound) path (stored_site path node) reached.found in
-    changed_step asker (SetOwners path owners) old known sound mid new Done (with_each (meaning old.read) (owned node.id owners))
-    (plan_judged asker path (CheckAt (write_owner ∷ [])) old mid None are (sound_parts old sound) (λ site. refl) reached.judged)
+    let judged = plan_judged asker path (CheckAt (write_owner ∷ [])) old mid None are (sound_parts old sound) (λ site. refl) reached.judged in
+    changed_step asker (SetOwners path owners) old known sound mid new Done (with_each (meaning old.read) (owned node.id owners)) judged
     (λ id. ap (λ o. with_site (meaning old.read) o (λ t. (Done, with_node (meaning old.read) (with_owners owners t.node)))) target.at
     ∙ ap (λ (n : Node). (Done, with_node (meaning old.read) (with_owners owners n))) target.kept
     ∙ ap (λ c. (Done, c)) means_owned)
-    (ap (λ (r : Rows). meaning r.read) new_is ∙ owned_means mid.read node.id owners ∙ ap (λ (r : Rows). with_each (meaning r.read) (owned node.id owners)) reached.judged.notes)
+    (ap (λ (r : Rows). meaning r.read) new_is ∙ owned_means mid.read node.id owners ∙ ap (λ (r : Rows). with_each (meaning r.read) (owned node.id owners)) judged.notes)
     (subst AreSound (sym (new_is ∙ ap (λ (r : Rows). reading r (with_each r.read (owned node.id owners))) reached.judged.notes)) (sound_noted (reading old (with_each old.read (owned node.id owners))) _ (sound_owned old node.id owners sound)))
   where
     there : node_at old.read node.id ≡ Some node
@@ -42,10 +43,10 @@ owners_set asker path owners old mid new node are reached changes known sound =
     there_mid = ap (λ (r : Rows). node_at r.read node.id) reached.judged.notes ∙ there
 
     new_is : new ≡ reading mid (with_each mid.read (owned node.id owners))
-    new_is = changes node there_mid ∙ ap (reading mid) (put_owned mid.read (subst (λ (r : Rows). Rattle.room_tree.proofs.Frames.Rises r.read) (sym reached.judged.notes) are.numbers) node.id owners node there_mid)
+    new_is = changes node there_mid ∙ ap (reading mid) (put_owned mid.read (subst (λ (r : Rows). Rises r.read) (sym reached.judged.notes) are.numbers) node.id owners node there_mid)
 
     means_owned : with_node (meaning old.read) (with_owners owners (kept_node old.read node)) ≡ with_each (meaning old.read) (owned node.id owners)
     means_owned =
         let places = keeps_places old.read (kept_node old.read) (λ n. record { number = refl; parent = refl; name = refl }) in
         put_owned (meaning old.read) (rises-with_each old.read (kept_node old.read) places are.numbers) node.id owners (kept_node old.read node)
-        (node_at-with_each old.read (kept_node old.read) places node.id ∙ ap (Rattle.std.specs.Option.option_map (kept_node old.read)) there)
+        (node_at-with_each old.read (kept_node old.read) places node.id ∙ ap (option_map (kept_node old.read)) there)
