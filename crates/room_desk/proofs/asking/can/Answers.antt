@@ -34,8 +34,8 @@ returns-in_err-rulings_at-in-At g c =
     let laws : Ruled k.rows k.failures k.Follows k.IsTrusted = record { itself = m.follows_itself; on = m.follows_on; rise = m.failures_rise; first = m.trusted_first; last = m.trusted_last; are = m.are_rows } in
     record { done = memory laws (done c.in_ok-arrival.ensures.done) c.from_residual-in_err-rulings_at-in-At.result c.from_residual-in_err-rulings_at-in-At.ensures.1 }
 
-pub returns-in-At : goal.returns-in-At
-returns-in-At g c =
+pub returns-in_ok-rulings_at-in-At : goal.returns-in_ok-rulings_at-in-At
+returns-in_ok-rulings_at-in-At g c =
     let k = g.K.Keep in
     let m = g.met.K.Keep in
     let laws : Ruled k.rows k.failures k.Follows k.IsTrusted = record { itself = m.follows_itself; on = m.follows_on; rise = m.failures_rise; first = m.trusted_first; last = m.trusted_last; are = m.are_rows } in
