@@ -24,11 +24,11 @@ none_sorted (x ∷ xs) none = absurd (true≢false (ap is_empty (sym none) ∙ p
 
 none_chosen : (p : Node → Bool) (nodes : List Node) → filter p nodes ≡ [] → AllByRecursion (λ n. p n ≡ false) nodes
 none_chosen p [] none = tt
-none_chosen p (x ∷ xs) none = on (p x) refl none
+none_chosen p (x ∷ xs) none = on (p x) refl none (none_chosen p xs)
   where
-    on : (t : Bool) → p x ≡ t → cond t (x ∷ filter p xs) (filter p xs) ≡ [] → (p x ≡ false) × AllByRecursion (λ n. p n ≡ false) xs
-    on true is none = absurd (let wrong : ⊥ = cc in wrong)
-    on false is none = (is, none_chosen p xs none)
+    on : (t : Bool) → p x ≡ t → cond t (x ∷ filter p xs) (filter p xs) ≡ [] → (filter p xs ≡ [] → AllByRecursion (λ n. p n ≡ false) xs) → (p x ≡ false) × AllByRecursion (λ n. p n ≡ false) xs
+    on true is none rest = absurd (let wrong : ⊥ = cc in wrong)
+    on false is none rest = (is, rest none)
 
 -- no object stands below it
 pub childless : (content : Content) (id : ℕ) → children_of content id ≡ [] → AllByRecursion (λ n. has_parent id n ≡ false) content.nodes

@@ -1,6 +1,7 @@
 -- A request that removes an object is a step.
-use Rattle.std.proofs.Common.{◌≡◌, ℕ, ◌<◌, Bool, true, false, cond, not, List, [], ◌∷◌, ◌++◌, map, length, take, Option, Some, None, refl, sym, ap, subst, ◌∙◌, inl, inr}
+use Rattle.std.proofs.Common.{◌≡◌, ℕ, ◌<◌, ◌==◌, Bool, true, false, cond, not, List, [], ◌∷◌, ◌++◌, map, length, take, Option, Some, None, refl, sym, ap, subst, ◌∙◌, arith}
 use Rattle.std.proofs.Math.Seq.{take-length}
+use Rattle.std.proofs.lemmas.Bool.{eqb-true}
 use Rattle.std.specs.Option.{option_map, option_map_or}
 use Rattle.std.proofs.lemmas.List.{map-append}
 use Rattle.room_ace.specs.declared.parties.Caller.{Caller}
@@ -35,6 +36,17 @@ use Rattle.room_desk.proofs.Sites.{fill, sites_filled}
 use Rattle.room_desk.proofs.Filled.{fill_item, judged_filled, site_filled, target_there, way_filled}
 use Rattle.room_desk.proofs.Stepping.{changed_step, refused_step}
 use Rattle.room_desk.proofs.Serving.{along_there}
+
+pub has_name : (path : List (List ℕ)) → 0 < length path → is_empty path ≡ false
+has_name [] some = absurd (omega arith)
+has_name (name ∷ names) some = refl
+
+pub no_names : (path names : List (List ℕ)) (t : Bool) → names ≡ path → t ≡ (length names == 0) → t ≡ true → path ≡ []
+no_names [] names t same is holds = refl
+no_names (name ∷ more) names t same is holds =
+    let none = eqb-true (length names) 0 (sym is ∙ holds) in
+    let long = sym (ap (λ (l : List (List ℕ)). length l) same) ∙ none in
+    absurd (let wrong : ⊥ = omega (arith, long) in wrong)
 
 -- what is known of items that pass
 none_left : (a b : Option Reply) → None ≡ or_else a b → None ≡ b
