@@ -1,6 +1,7 @@
 pub mod Gives
 pub mod Rights
 pub mod Bits
+pub mod Single
 pub mod BitLaws
 pub mod Pieces
 pub mod Names

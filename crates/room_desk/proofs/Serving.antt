@@ -167,7 +167,8 @@ site_there content rises path (name ∷ names) node site there is = on (child_of
     on None known is = absurd (let wrong : ⊥ = cc in wrong)
     on (Some child) known is = known child refl is
 
-along_there : (content : Content) → Rises content → (path : List (List ℕ)) (site : Site) → site_at (stored_along content path) path ≡ Some site → node_at content site.node.id ≡ Some site.node
+-- what was reached is there
+pub along_there : (content : Content) → Rises content → (path : List (List ℕ)) (site : Site) → site_at (stored_along content path) path ≡ Some site → node_at content site.node.id ≡ Some site.node
 along_there content rises path site is = on (root_of content) (λ root found. root_of-is_there content rises root found) is
   where
     on : (o : Option Node) → ((root : Node) → o ≡ Some root → node_at content root.id ≡ Some root) → site_at (option_map_or (λ root. stored_from content [] root path) o []) path ≡ Some site → node_at content site.node.id ≡ Some site.node
