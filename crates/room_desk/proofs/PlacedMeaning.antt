@@ -20,8 +20,9 @@ use Rattle.room_desk.specs.Effect.{moved_held, moved_node}
 use Rattle.room_desk.specs.Moving.{CanPlace}
 use Rattle.room_desk.specs.Stored.{stored_site}
 use Rattle.room_desk.proofs.Climbing.{node_at-changed}
-use Rattle.room_desk.proofs.PlacedParts.{apart, linked_above, linked_flags, lists, placed_held}
-use Rattle.room_desk.proofs.PlacedTree.{IsThere, above_elsewhere, above_here, after, change, content, is_target}
+use Rattle.room_desk.proofs.PlacedLinks.{linked_elsewhere, linked_here}
+use Rattle.room_desk.proofs.PlacedParts.{apart, lists}
+use Rattle.room_desk.proofs.PlacedTree.{after, change, is_target}
 
 -- ---- the entries that one list keeps
 
@@ -51,30 +52,14 @@ module _ (old : Rows) (target folder : Node) (name : List ℕ) (can : CanPlace t
   abbrev is_there : Node → Type 0
   is_there n = node_at before n.id ≡ Some n
 
-  flags_now : (which : Which) (n : Node) → (held_of which (moved n)).flags ≡ (held_of which n).flags
-  flags_now which n = ap (λ (h : Held). h.flags) (placed_held target.id folder.id name d s which n)
-
-  linked_elsewhere : (which : Which) (n : Node) → (n.id == target.id) ≡ false → is_linked_in now which (moved n) ≡ is_linked_in before which n
-  linked_elsewhere which n isnt =
-      ap (λ o. is_linked (held_of which (moved n)) (option_map (held_of which) o)) (above_elsewhere old target folder name can d s n isnt)
-      ∙ linked_above (held_of which (moved n)) which (parent_of before n) moved (flags_now which)
-      ∙ linked_flags (held_of which (moved n)) (held_of which n) (option_map (held_of which) (parent_of before n)) (flags_now which n)
-
-  linked_here : (which : Which) (n : Node) → (n.id == target.id) ≡ true → is_linked_in now which (moved n) ≡ is_linked (held_of which n) (Some (held_of which folder))
-  linked_here which n is =
-      ap (λ o. is_linked (held_of which (moved n)) (option_map (held_of which) o)) (above_here old target folder name can d s n is)
-      ∙ linked_above (held_of which (moved n)) which (Some folder) moved (flags_now which)
-      ∙ linked_flags (held_of which (moved n)) (held_of which n) (Some (held_of which folder)) (flags_now which n)
-
-
   held_elsewhere : (which : Which) (n : Node) → is_there n → (n.id == target.id) ≡ false
       → kept_held (is_linked_in now which (moved n)) (record (held_of which n) { inh = lists target.id folder.id name d s which n }) ≡ kept_held (is_linked_in before which n) (held_of which n)
-  held_elsewhere which n there isnt = kept_same (is_linked_in now which (moved n)) (is_linked_in before which n) (held_of which n) (lists target.id folder.id name d s which n) (linked_elsewhere which n isnt) (kept which n there)
+  held_elsewhere which n there isnt = kept_same (is_linked_in now which (moved n)) (is_linked_in before which n) (held_of which n) (lists target.id folder.id name d s which n) (linked_elsewhere old target folder name can d s which n isnt) (kept which n there)
 
   held_here : (which : Which) (n : Node) → is_there n → (n.id == target.id) ≡ true
       → kept_held (is_linked_in now which (moved n)) (record (held_of which n) { inh = lists target.id folder.id name d s which n }) ≡ record (held_of which n) { inh = cond (is_linked (held_of which n) (Some (held_of which folder))) [] (held_of which n).inh }
   held_here which n there is =
-      kept_moved (is_linked_in now which (moved n)) (is_linked (held_of which n) (Some (held_of which folder))) (held_of which n) (lists target.id folder.id name d s which n) (linked_here which n is) (kept which n there)
+      kept_moved (is_linked_in now which (moved n)) (is_linked (held_of which n) (Some (held_of which folder))) (held_of which n) (lists target.id folder.id name d s which n) (linked_here old target folder name can d s which n is) (kept which n there)
 
   kept_elsewhere : (n : Node) → is_there n → (n.id == target.id) ≡ false → kept_node now (moved n) ≡ kept_node before n
   kept_elsewhere n there isnt =

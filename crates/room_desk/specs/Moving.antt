@@ -1,11 +1,11 @@
 -- How an object gets another place.
-use Rattle.std.specs.Prelude.{◌≡◌, ℕ, zero, suc, ◌==◌, ◌&&◌, Bool, true, false, not, List, [], ◌∷◌, ◌++◌, Option, Some, None, is_some, IsTrue}
-use Rattle.std.specs.List.{list_all, list_any}
+use Rattle.std.specs.Prelude.{◌≡◌, ℕ, zero, suc, ◌==◌, ◌&&◌, Bool, true, false, not, List, [], ◌∷◌, ◌++◌, Option, Some, None, is_some, IsTrue, map}
+use Rattle.std.specs.List.{list_any}
 use Rattle.std.specs.Option.{option_map_or}
 use Rattle.room_ace.specs.Ace.{Ace}
 use Rattle.room_ace.specs.declared.object.Which.{Which}
 use Rattle.room_tree.specs.declared.node.Node.{Node}
-use Rattle.room_tree.specs.Content.{Content, node_at, child_of, is_folder, is_linked_in, reaches_root, with_node}
+use Rattle.room_tree.specs.Content.{Content, node_at, child_of, is_folder, is_linked_in, is_rising, reaches_root, with_node}
 use Rattle.room_tree.specs.Held.{held_of}
 use Rattle.room_tree.specs.Keep.{reading}
 use Rattle.room_tree.specs.Meaning.{meaning}
@@ -94,7 +94,7 @@ NeverPlacing target folder name old at = CanPlace target folder name old → ⊥
 
 -- The target stands in the folder, each with this list. The law holds everywhere else.
 pub record CanRenew (which : Which) (target folder : Node) (rows : Rows) : Type 0 where
-  pub are : AreRows rows
+  pub rises : IsTrue (is_rising (0 ∷ map (λ node. node.id) rows.read.nodes))
   pub readable : rows.unreadable ≡ []
   pub there : Node
   pub there_is : node_at rows.read target.id ≡ Some there

@@ -10,10 +10,11 @@ ghost use Rattle.room_desk.specs.Site.{front};
 ghost use Rattle.room_desk.specs.declared.reply.Reason.TheVariants.{Loop};
 
 use crate::arrival::Found;
+use crate::carrying::carry_down;
 use crate::checking::refused;
 use crate::reply::{Reason, Reply};
 use room_ace::Which;
-use room_inherit::{SpreadFault, linked, pass, spread};
+use room_inherit::{linked, pass};
 use room_tree::{Keep, KeepFault, Node, Path, walk};
 use std::alloc::Global;
 
@@ -95,9 +96,5 @@ fn renew_list<K: Keep>(
     let above = folder.held(which).full()?;
     let passed = pass(alloc, target.kind, above.as_slice())?;
     keep.set_inh(target.id, which, passed.as_slice())?;
-    match spread(alloc, keep, target.id, which) {
-        Ok(_) => Ok(()),
-        Err(SpreadFault::Keeper(fault)) => Err(fault),
-        Err(SpreadFault::Loop) => Err(KeepFault::Damaged { id: target.id }),
-    }
+    carry_down(alloc, keep, target.id, which)
 }
