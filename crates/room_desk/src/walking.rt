@@ -153,8 +153,8 @@ pub(crate) fn reach_kind<K: Keep>(
     }
 }
 
-// The object has to be of this kind and to grant these bits.
-fn check_kind<K: Keep>(
+/// The object has to be of this kind and to grant these bits.
+pub(crate) fn check_kind<K: Keep>(
     alloc: Global,
     keep: &mut K,
     asker: &Asker,

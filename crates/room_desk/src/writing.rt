@@ -15,7 +15,7 @@ use room_tree::{Bytes, Keep, KeepFault, Path};
 use std::alloc::{AllocError, Global};
 
 /// The most bytes that a document has.
-const MOST_BYTES: usize = 1_048_576;
+pub(crate) const MOST_BYTES: usize = 1_048_576;
 
 /// Adds bytes at the end of a document.
 pub(crate) fn append<K: Keep>(
@@ -70,8 +70,8 @@ fn join(before: Bytes, bytes: &Bytes) -> Result<Vec<u8>, AllocError>
     Ok(all)
 }
 
-// Gives the document of this number these bytes, if there aren't too many.
-fn put_bytes<K: Keep>(
+/// Gives the document of this number these bytes, if there aren't too many.
+pub(crate) fn put_bytes<K: Keep>(
     alloc: Global,
     keep: &mut K,
     path: &Path,
