@@ -104,7 +104,6 @@ module _ (content : Content) (which : Which)
     (own : (node : Node) → node_at content node.id ≡ Some node → (before : List Ace) × (is_sound_held which node.kind (record (held_of which node) { inh = before }) ≡ true))
     (unlinked : (node : Node) → node_at content node.id ≡ Some node → is_linked_in content which node ≡ false → is_sound_held which node.kind (held_of which node) ≡ true)
     (numbered : (id : ℕ) (node : Node) → node_at content id ≡ Some node → node_at content node.id ≡ Some node) where
-
   abbrev IsSoundAt : Node → Type 0
   IsSoundAt node = is_sound_held which node.kind (held_of which node) ≡ true
 

@@ -39,17 +39,17 @@ module _ (old : Rows) (target folder : Node) (name : List ℕ) (can : CanPlace t
   before = old.read
 
   -- the rows with the object at its place, and these entries
-  abbrev state : (Node → List Ace) → (Node → List Ace) → Rows
+  abbrev pub state : (Node → List Ace) → (Node → List Ace) → Rows
   state d s = new old target folder name can d s
 
   abbrev moved : (Node → List Ace) → (Node → List Ace) → Node → Node
   moved d s = change old target folder name can d s
 
   -- the entries as they were stored
-  abbrev own_dacl : Node → List Ace
+  abbrev pub own_dacl : Node → List Ace
   own_dacl n = n.dacl.inh
 
-  abbrev own_sacl : Node → List Ace
+  abbrev pub own_sacl : Node → List Ace
   own_sacl n = n.sacl.inh
 
   -- ---- placed

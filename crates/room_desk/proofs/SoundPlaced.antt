@@ -68,12 +68,13 @@ module _ (old : Rows) (target folder : Node) (name : List ℕ) (can : CanPlace t
 
   own_now : (which : Which) (m : Node) → node_at now m.id ≡ Some m → (l : List Ace) × (is_sound_held which m.kind (record (held_of which m) { inh = l }) ≡ true)
   own_now which m there =
-      let earlier = was m.id m there in
-      ((held_of which earlier.0).inh,
-      ap (λ (x : Node). is_sound_held which x.kind (record (held_of which x) { inh = (held_of which earlier.0).inh })) earlier.2
-      ∙ ap (λ k. is_sound_held which k (record (held_of which (moved earlier.0)) { inh = (held_of which earlier.0).inh })) (kind old target folder name can d s earlier.0)
-      ∙ ap (λ (h : Held). is_sound_held which earlier.0.kind (record h { inh = (held_of which earlier.0).inh })) (held_now which earlier.0)
-      ∙ held_was which earlier.0 earlier.1)
+      let earlier = was m.id m there in (
+        (held_of which earlier.0).inh,
+        ap (λ (x : Node). is_sound_held which x.kind (record (held_of which x) { inh = (held_of which earlier.0).inh })) earlier.2
+            ∙ ap (λ k. is_sound_held which k (record (held_of which (moved earlier.0)) { inh = (held_of which earlier.0).inh })) (kind old target folder name can d s earlier.0)
+            ∙ ap (λ (h : Held). is_sound_held which earlier.0.kind (record h { inh = (held_of which earlier.0).inh })) (held_now which earlier.0)
+            ∙ held_was which earlier.0 earlier.1,
+      )
 
   unlinked_now : (which : Which) (m : Node) → node_at now m.id ≡ Some m → is_linked_in now which m ≡ false → is_sound_held which m.kind (held_of which m) ≡ true
   unlinked_now which m there isnt =
