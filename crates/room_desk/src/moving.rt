@@ -1,10 +1,24 @@
 //! The request that moves an object.
-ghost use Rattle.room_desk.specs.Judged.{CarriesOut, IsDone, NotSound};
+ghost use Rattle.std.specs.Prelude.{◌≡◌, ◌+◌, ◌<◌, true, [], ◌∷◌, ◌++◌, length};
+ghost use Rattle.room_tree.specs.Keep.{HasNoRoot, IsNever};
+ghost use Rattle.room_desk.specs.Judged.{CarriesOut, IsDone, IsJudged, IsReached, NotSound, through};
+ghost use Rattle.room_desk.specs.Moving.{MovesOn, NeverMoving, at_place, leaving};
+ghost use Rattle.room_desk.specs.Plan.{Deletion, Refusal, right_to_add};
+ghost use Rattle.room_desk.specs.Site.{front};
+ghost use Rattle.room_desk.specs.Stored.{found_site};
+ghost use Rattle.room_desk.specs.declared.reply.Reason.TheVariants.{Exists};
 ghost use Rattle.room_desk.specs.declared.request.Request.TheVariants.{Move};
 
+use crate::arrival::{Arrival, Found, Pair};
 use crate::asker::Asker;
-use crate::reply::Reply;
-use room_tree::{Keep, KeepFault, Path};
+use crate::checking::{check, refused};
+use crate::deleting::check_deletion;
+use crate::moved::{check_free, place_at};
+use crate::placing::walk_to_pair;
+use crate::reply::{Reason, Reply};
+use crate::walking::{pass_through, walk_to};
+use room_ace::Mask;
+use room_tree::{Keep, KeepFault, Node, Path};
 use std::alloc::Global;
 
 /// Moves an object, with all below it, to another folder or name.
@@ -17,5 +31,163 @@ pub(crate) fn move_object<K: Keep>(
 ) -> Result<Reply, KeepFault>
     ensures done { IsDone K.rows K.failures K.Follows K.IsTrusted keep.old keep.new result NotSound (CarriesOut asker.now (Move path.now to.now)) }
 {
-    Err(KeepFault::Memory)
+    if path.is_root() {
+        return Ok(refused(alloc, path, 0, Reason::Root)?);
+    }
+    let pair = walk_to_pair(alloc, keep, asker, path)?;
+    match pair {
+        Pair::Halted(reply) => Ok(reply),
+        Pair::Both { folder, target } => move_found(alloc, keep, asker, path, to, &folder, &target),
+    }
+}
+
+// Moves the object that was found in this folder.
+fn move_found<K: Keep>(
+    alloc: Global,
+    keep: &mut K,
+    asker: &Asker,
+    path: &Path,
+    to: &Path,
+    from: &Found,
+    target: &Found,
+) -> Result<Reply, KeepFault>
+    ensures done { IsDone K.rows K.failures K.Follows K.IsTrusted keep.old keep.new result (NeverMoving asker.now path.now from.now target.now) (MovesOn asker.now path.now to.now from.now target.now) }
+{
+    match to.split_last() {
+        None => refuse_root(alloc, keep, asker, path, to, from, target),
+        Some((name, _)) => {
+            let arrival = reach_place(alloc, keep, asker, path, to, from, target)?;
+            match arrival {
+                Arrival::Ended(reply) => Ok(reply),
+                Arrival::At(folder) => {
+                    place_at(alloc, keep, &target.node, &folder, name.as_str())?;
+                    Ok(Reply::Done)
+                }
+            }
+        }
+    }
+}
+
+// The root's place is never free.
+fn refuse_root<K: Keep>(
+    alloc: Global,
+    keep: &mut K,
+    asker: &Asker,
+    path: &Path,
+    to: &Path,
+    from: &Found,
+    target: &Found,
+) -> Result<Reply, KeepFault>
+    requires { to.now ≡ [] }
+    ensures done { IsDone K.rows K.failures K.Follows K.IsTrusted keep.old keep.new result IsNever (λ old reply new. IsJudged asker.now (Deletion (found_site path.now target.now) (found_site path.now from.now) ∷ Refusal [] Exists true ∷ []) old (Some reply) new) }
+{
+    let refusal = check_deletion(alloc, keep, asker, path, target, from)?;
+    match refusal {
+        Some(reply) => Ok(reply),
+        None => Ok(refused(alloc, to, 0, Reason::Exists)?),
+    }
+}
+
+// The walk to the new folder, and what is judged there.
+fn reach_place<K: Keep>(
+    alloc: Global,
+    keep: &mut K,
+    asker: &Asker,
+    path: &Path,
+    to: &Path,
+    from: &Found,
+    target: &Found,
+) -> Result<Arrival, KeepFault>
+    requires { 0 < length to.now }
+    ensures done { IsDone K.rows K.failures K.Follows K.IsTrusted keep.old keep.new result HasNoRoot (λ old arrival new. IsReached asker.now (front to.now) (at_place old.read to.now (found_site path.now target.now) (found_site path.now from.now)) old arrival new) }
+{
+    let depth = to.names().len() - 1;
+    let front = to.front(alloc, depth)?;
+    let arrival = walk_to(alloc, keep, asker, &front)?;
+    match arrival {
+        Arrival::Ended(reply) => Ok(Arrival::Ended(reply)),
+        Arrival::At(node) => {
+            let folder = Found { node, depth };
+            let refusal = check_place(alloc, keep, asker, path, to, from, target, &folder)?;
+            match refusal {
+                Some(reply) => Ok(Arrival::Ended(reply)),
+                None => Ok(Arrival::At(folder.node)),
+            }
+        }
+    }
+}
+
+// What is judged at the new folder.
+fn check_place<K: Keep>(
+    alloc: Global,
+    keep: &mut K,
+    asker: &Asker,
+    path: &Path,
+    to: &Path,
+    from: &Found,
+    target: &Found,
+    folder: &Found,
+) -> Result<Option<Reply>, KeepFault>
+    requires { length to.now ≡ folder.now.depth + 1 }
+    ensures done { IsDone K.rows K.failures K.Follows K.IsTrusted keep.old keep.new result HasNoRoot (λ old answer new. IsJudged asker.now (at_place old.read to.now (found_site path.now target.now) (found_site path.now from.now) (found_site to.now folder.now)) old answer new) }
+{
+    let refusal = check_rights(alloc, keep, asker, path, to, from, target, folder)?;
+    match refusal {
+        Some(reply) => Ok(Some(reply)),
+        None => check_free(alloc, keep, to, target.node.id, folder),
+    }
+}
+
+// The new folder lets through, the object may leave its own, and may come into the new one.
+fn check_rights<K: Keep>(
+    alloc: Global,
+    keep: &mut K,
+    asker: &Asker,
+    path: &Path,
+    to: &Path,
+    from: &Found,
+    target: &Found,
+    folder: &Found,
+) -> Result<Option<Reply>, KeepFault>
+    ensures done { IsDone K.rows K.failures K.Follows K.IsTrusted keep.old keep.new result IsNever (IsJudged asker.now (through (found_site to.now folder.now) ++ leaving (found_site path.now target.now) (found_site path.now from.now) (found_site to.now folder.now))) }
+{
+    let refusal = pass_through(alloc, keep, asker, to, folder)?;
+    match refusal {
+        Some(reply) => Ok(Some(reply)),
+        None => check_leaving(alloc, keep, asker, path, to, from, target, folder),
+    }
+}
+
+// The object may leave its folder, and may come into the new one.
+fn check_leaving<K: Keep>(
+    alloc: Global,
+    keep: &mut K,
+    asker: &Asker,
+    path: &Path,
+    to: &Path,
+    from: &Found,
+    target: &Found,
+    folder: &Found,
+) -> Result<Option<Reply>, KeepFault>
+    ensures done { IsDone K.rows K.failures K.Follows K.IsTrusted keep.old keep.new result IsNever (IsJudged asker.now (leaving (found_site path.now target.now) (found_site path.now from.now) (found_site to.now folder.now))) }
+{
+    let refusal = check_deletion(alloc, keep, asker, path, target, from)?;
+    match refusal {
+        Some(reply) => Ok(Some(reply)),
+        None => {
+            let right = right_to_add(&target.node);
+            check(alloc, keep, asker, to, folder, right)
+        }
+    }
+}
+
+// What a folder has to grant for the object to come into it.
+fn right_to_add(node: &Node) -> Mask
+    ensures { result ≡ right_to_add node.now ∷ [] }
+{
+    if node.is_document() {
+        Mask::write_data()
+    } else {
+        Mask::append_data()
+    }
 }

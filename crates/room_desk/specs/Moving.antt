@@ -1,0 +1,123 @@
+-- How an object gets another place.
+use Rattle.std.specs.Prelude.{◌≡◌, ℕ, zero, suc, ◌==◌, ◌&&◌, Bool, true, false, not, List, [], ◌∷◌, ◌++◌, Option, Some, None, is_some, IsTrue, map}
+use Rattle.std.specs.List.{list_any}
+use Rattle.std.specs.Option.{option_map_or}
+use Rattle.room_ace.specs.Ace.{Ace}
+use Rattle.room_ace.specs.declared.object.Which.{Which}
+use Rattle.room_tree.specs.declared.node.Node.{Node}
+use Rattle.room_tree.specs.Content.{Content, node_at, child_of, is_folder, is_linked_in, is_rising, reaches_root, with_node}
+use Rattle.room_tree.specs.Held.{held_of}
+use Rattle.room_tree.specs.Keep.{reading}
+use Rattle.room_tree.specs.Meaning.{meaning}
+use Rattle.room_tree.specs.Paths.{is_object_name}
+use Rattle.room_tree.specs.Rows.{Rows, AreRows}
+use Rattle.room_tree.specs.Walk.{walk_of}
+use Rattle.room_inherit.specs.Law.{agrees, AllAgree}
+use Rattle.room_inherit.specs.Sound.{AreSound}
+use Rattle.room_inherit.specs.Spread.{with_lists}
+use Rattle.room_desk.specs.declared.arrival.Found.{Found}
+use Rattle.room_desk.specs.declared.arrival.Pair.TheVariants.{Both}
+use Rattle.room_desk.specs.declared.asker.Asker.{Asker}
+use Rattle.room_desk.specs.declared.reply.Reply.{Reply}
+use Rattle.room_desk.specs.declared.reply.Reason.TheVariants.{Exists, Loop}
+use Rattle.room_desk.specs.declared.request.Request.TheVariants.{Move}
+use Rattle.room_desk.specs.Site.{Site, front, last_name}
+use Rattle.room_desk.specs.Plan.{Item, Check, Deletion, Refusal, right_to_add}
+use Rattle.room_desk.specs.Effect.{moved_node}
+use Rattle.room_desk.specs.Spot.{IsPaired}
+use Rattle.room_desk.specs.Stored.{stored_site}
+use Rattle.room_desk.specs.Judged.{IsJudged, CarriesOut, NotSound, through}
+
+-- ---- what is judged
+
+-- the target may leave its folder, and may come into the other one
+abbrev pub leaving : Site → Site → Site → List Item
+leaving target from folder = Deletion target from ∷ Check folder (right_to_add target.node ∷ []) ∷ []
+
+-- nothing has the new name, and the target doesn't stand on the way to the new folder
+abbrev pub free_place : Content → List (List ℕ) → ℕ → Node → List Item
+free_place rows to target folder =
+    Refusal to Exists (is_some (child_of rows folder.id (last_name to)))
+    ∷ Refusal to Loop (list_any (λ node. node.id == target) (walk_of rows (front to)).chain)
+    ∷ []
+
+-- all that is judged at the new folder, behind the way to it
+abbrev pub at_place : Content → List (List ℕ) → Site → Site → Site → List Item
+at_place rows to target from folder = (through folder ++ leaving target from folder) ++ free_place rows to target.node.id folder.node
+
+-- The items don't ask who it is.
+abbrev pub JudgesAll : (Rows → List Item) → Rows → Option Reply → Rows → Type 0
+JudgesAll items old answer new = (asker : Asker) → IsJudged asker (items old) old answer new
+
+-- ---- the whole request, once the way to the object has been walked
+
+abbrev pub MovesOn : Asker → List (List ℕ) → List (List ℕ) → Found → Found → Rows → Reply → Rows → Type 0
+MovesOn asker path to from target mid reply new = (old : Rows) → AreRows old → IsPaired asker path old (Both from target) mid → CarriesOut asker (Move path to) old reply new
+
+abbrev pub NeverMoving : Asker → List (List ℕ) → Found → Found → Rows → ℕ → Type 0
+NeverMoving asker path from target mid at = (old : Rows) → AreRows old → IsPaired asker path old (Both from target) mid → NotSound old at
+
+-- ---- the change
+
+-- Going up from this number, at most so many steps lead to the root, and none to the other object.
+abbrev pub goes_past : ℕ → Content → ℕ → Option ℕ → Bool
+goes_past n rows other None = true
+goes_past zero rows other (Some id) = false
+goes_past (suc n) rows other (Some id) = not (id == other) && option_map_or (λ node. goes_past n rows other node.parent) (node_at rows id) false
+
+-- The rows are sound, the folder is one that is neither the target nor below it, and the name is free there.
+pub record CanPlace (target folder : Node) (name : List ℕ) (rows : Rows) : Type 0 where
+  pub are : AreRows rows
+  pub sound : AreSound rows
+  pub target_there : node_at rows.read target.id ≡ Some target
+  pub folder_there : node_at rows.read folder.id ≡ Some folder
+  pub folder_is : is_folder folder ≡ true
+  pub parent : ℕ
+  pub has_parent : target.parent ≡ Some parent
+  pub is_name : is_object_name name ≡ true
+  pub is_free : child_of rows.read folder.id name ≡ None
+  pub steps : ℕ
+  pub past : goes_past steps rows.read target.id (Some folder.id) ≡ true
+
+-- The target stands there, with the lists that a move gives it, and the rows are sound.
+pub record IsPlaced (target folder : Node) (name : List ℕ) (old new : Rows) : Type 0 where
+  pub means : meaning new.read ≡ with_node (meaning old.read) (moved_node (stored_site [] target) (stored_site [] folder) name)
+  pub sound : AreSound new
+
+abbrev pub PlacesAt : Node → Node → List ℕ → Rows → Unit {0} → Rows → Type 0
+PlacesAt target folder name old answer new = CanPlace target folder name old → IsPlaced target folder name old new
+
+abbrev pub NeverPlacing : Node → Node → List ℕ → Rows → ℕ → Type 0
+NeverPlacing target folder name old at = CanPlace target folder name old → ⊥
+
+-- ---- one attribute at the new place
+
+-- The target stands in the folder, each with this list. The law holds everywhere else.
+pub record CanRenew (which : Which) (target folder : Node) (rows : Rows) : Type 0 where
+  pub rises : IsTrue (is_rising (0 ∷ map (λ node. node.id) rows.read.nodes))
+  pub readable : rows.unreadable ≡ []
+  pub there : Node
+  pub there_is : node_at rows.read target.id ≡ Some there
+  pub there_held : held_of which there ≡ held_of which target
+  pub there_kind : there.kind ≡ target.kind
+  pub there_parent : there.parent ≡ Some folder.id
+  pub above : Node
+  pub above_is : node_at rows.read folder.id ≡ Some above
+  pub above_held : held_of which above ≡ held_of which folder
+  pub apart : folder.id ≡ target.id → ⊥
+  pub steps : ℕ
+  pub rooted : reaches_root steps rows.read (Some folder.id) ≡ true
+  pub others : (node : Node) → node_at rows.read node.id ≡ Some node → (node.id ≡ target.id → ⊥) → agrees rows.read which node ≡ true
+
+-- Linked lists alone are other ones, and the law holds everywhere.
+pub record IsRenewed (which : Which) (old new : Rows) : Type 0 where
+  pub lists : Node → List Ace
+  pub becomes : new ≡ reading old (with_lists which lists old.read)
+  pub kept : (node : Node) → node_at old.read node.id ≡ Some node → is_linked_in old.read which node ≡ false → lists node ≡ (held_of which node).inh
+  pub law : AllAgree new.read which
+
+abbrev pub Renews : Which → Node → Node → Rows → Unit {0} → Rows → Type 0
+Renews which target folder old answer new = CanRenew which target folder old → IsRenewed which old new
+
+abbrev pub NeverRenewing : Which → Node → Node → Rows → ℕ → Type 0
+NeverRenewing which target folder old at = CanRenew which target folder old → ⊥
