@@ -24,7 +24,7 @@ use Rattle.room_inherit.proofs.Members.{Each, each_back, each_map, each_weaker, 
 use Rattle.room_inherit.proofs.Children.{ids_of, each_found, found_id, each_there, apart_rising, apart_map, some_child}
 use Rattle.room_inherit.proofs.Renewing.{map_agree}
 use Rattle.room_inherit.proofs.Frontier.{set, set_id, set_parent, set_held, find_set, links, passes, There, Waits, Came, AgreesOrWaits, Frontier}
-use Rattle.room_inherit.proofs.OneTurn.{parent_is, parent_found, base_of}
+use Rattle.room_inherit.proofs.Outdated.{parent_is, parent_found, base_of}
 
 pub each_all : (p : Node → Bool) (xs : List Node) → list_all p xs ≡ true → Each (λ x. p x ≡ true) xs
 each_all p [] all = tt

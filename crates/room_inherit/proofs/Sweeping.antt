@@ -1,29 +1,24 @@
 -- The tree gone through from the root down.
-use Rattle.std.proofs.Common.{◌≡◌, ◌+◌, ◌==◌, Bool, true, false, cond, not, ◌&&◌, ◌||◌, List, [], ◌∷◌, ◌++◌, map, filter, length, Some, None, refl, sym, ap, ◌∙◌, inl, inr, ◌⊎◌}
+use Rattle.std.proofs.Common.{◌≡◌, ◌+◌, ◌==◌, Bool, true, false, not, ◌&&◌, ◌||◌, List, [], ◌∷◌, ◌++◌, map, length, Some, None, refl, sym, ap, ◌∙◌, inl, inr, ◌⊎◌}
 use Rattle.std.specs.Option.{option_map}
-use Rattle.std.proofs.lemmas.Bool.{cases_Bool, and_parts, and_left, or_cases, or_parts, or_from, or_left, or_right, not-true, not-false, not_from_false, false≢true, eq-eqb, eqb-true, cond-true, cond-false, false_from_ne_true}
-use Rattle.std.proofs.lemmas.List.{length-map}
+use Rattle.std.proofs.lemmas.Bool.{cases_Bool, and_parts, and_left, or_cases, or_parts, or_from, or_left, or_right, false≢true, eq-eqb, eqb-true, false_from_ne_true}
 use Rattle.room_ace.specs.Ace.{Ace}
 use Rattle.room_ace.specs.Same.{same_entries}
-use Rattle.room_ace.specs.declared.object.ObjKind.{ObjKind}
 use Rattle.room_ace.specs.declared.object.Which.{Which}
-use Rattle.room_ace.proofs.Same.{entries_equal}
-use Rattle.room_ace.proofs.Alike.{equal_entries}
-use Rattle.room_tree.specs.declared.node.Held.{Held}
 use Rattle.room_tree.specs.declared.node.Node.{Node}
 use Rattle.room_tree.specs.Content.{Content, node_at, parent_of, has_parent, children_of, is_linked_in, is_rising, with_each}
 use Rattle.room_tree.specs.Finding.{find_id}
-use Rattle.room_tree.specs.Held.{held_of, full_of, is_linked}
+use Rattle.room_tree.specs.Held.{held_of, is_linked}
 use Rattle.room_tree.specs.Keep.{with_inh}
 use Rattle.room_inherit.specs.Pass.{pass}
 use Rattle.room_inherit.specs.Spread.{with_lists, is_changed}
-use Rattle.room_inherit.specs.Turn.{is_linked_to, is_outdated, renewed, renewals, renewed_below, is_met_again, meets_again}
-use Rattle.room_inherit.proofs.Kinship.{same_kind, with_last}
-use Rattle.room_inherit.proofs.Members.{Each, each_append, each_front, each_back, each_weaker, count, count_length, count_map, count_agree, count_either}
-use Rattle.room_inherit.proofs.Children.{has_id, Apart, ids_of, each_there, apart_rising, apart_map, each_child, apart_children, count_children, some_child, is_child, length_children}
-use Rattle.room_inherit.proofs.Renewing.{map_agree, map_map, one_object}
-use Rattle.room_inherit.proofs.Frontier.{set, set_id, set_parent, set_held, find_set, links, passes}
-use Rattle.room_inherit.proofs.OneTurn.{parent_is, parent_found, same_above, has_either, apart_join, apart_front, apart_last, has_last, or_false, base_of}
+use Rattle.room_inherit.specs.Turn.{is_linked_to, renewals, renewed_below, is_met_again, meets_again}
+use Rattle.room_inherit.proofs.Members.{Each, each_append, each_front, each_back, each_weaker, count, count_map, count_agree, count_either}
+use Rattle.room_inherit.proofs.Children.{has_id, Apart, ids_of, each_there, apart_rising, apart_map, each_child, apart_children, some_child, is_child, length_children}
+use Rattle.room_inherit.proofs.Renewing.{one_object}
+use Rattle.room_inherit.proofs.Frontier.{set, set_id, set_parent, find_set, links, passes}
+use Rattle.room_inherit.proofs.Outdated as step
+use Rattle.room_inherit.proofs.Outdated.{parent_is, parent_found, same_above, has_either, apart_join, apart_front, apart_last, has_last, or_false, base_of}
 
 module _ (which : Which) (old : Content) (root : Node) where
   abbrev pub There : Node → Type 0
@@ -69,9 +64,6 @@ module _ (which : Which) (old : Content) (rises : is_rising (0 ∷ ids_of old.no
   apart_now : Apart now.nodes
   apart_now = apart_map (set which f) (set_id which f) old.nodes apart_old
 
-  there_now : (n : Node) → There which old root n → node_at now (set which f n).id ≡ Some (set which f n)
-  there_now n there = ap (λ i. find_id i (map (set which f) old.nodes)) (set_id which f n) ∙ find_set which f n.id old.nodes ∙ ap (option_map (set which f)) there
-
   -- ---- the object that is taken
 
   pub waits : Visits which old root f seen w
@@ -83,44 +75,19 @@ module _ (which : Which) (old : Content) (rises : is_rising (0 ∷ ids_of old.no
   w_id : w.id ≡ w0.id
   w_id = ap (λ (n : Node). n.id) waits.is ∙ set_id which f w0
 
-  w_held : held_of which w ≡ record (held_of which w0) { inh = f w0 }
-  w_held = ap (held_of which) waits.is ∙ set_held which f w0
-
-  -- ---- the children that are outdated
-
-  abbrev stale : Node → Bool
-  stale n = has_parent w.id n && (links which w0 n && not (same_entries (f n) (passes which f w0 n)))
-
-  abbrev outdated_by : Held → Held → ObjKind → Bool
-  outdated_by held above kind = is_linked held (Some above) && not (same_entries held.inh (pass kind (full_of above)))
-
-  stale_is : (n : Node) → (has_parent w.id (set which f n) && is_outdated which w (set which f n)) ≡ stale n
-  stale_is n = λ i. set_parent which f w.id n i && outdated_by (set_held which f n i) (w_held i) (same_kind which (f n) n i)
-
-  linked_is : (n : Node) → is_linked_to which w (set which f n) ≡ links which w0 n
-  linked_is n = λ i. is_linked (set_held which f n i) (Some (w_held i))
-
   -- ---- the lists afterwards
 
+  abbrev stale : Node → Bool
+  stale n = step.stale which f w w0 n
+
   abbrev pub after : Node → List Ace
-  after n = cond (stale n) (passes which f w0 n) (f n)
-
-  renewed_is : (n : Node) → renewed which w (set which f n) ≡ with_inh which (passes which f w0 n) n
-  renewed_is n = (λ i. with_inh which (pass (same_kind which (f n) n i) (full_of (w_held i))) (set which f n)) ∙ with_last which (passes which f w0 n) (f n) n
-
-  after_is : (n : Node) → renewed_below which w (set which f n) ≡ set which after n
-  after_is n = ap (λ t. cond t (renewed which w (set which f n)) (set which f n)) (stale_is n) ∙ ap (λ m. cond (stale n) m (set which f n)) (renewed_is n) ∙ on (stale n)
-    where
-      on : (t : Bool) → cond t (with_inh which (passes which f w0 n) n) (with_inh which (f n) n) ≡ with_inh which (cond t (passes which f w0 n) (f n)) n
-      on true = refl
-      on false = refl
+  after n = step.after which f w w0 n
 
   pub rows_after : with_each now (renewed_below which w) ≡ with_lists which after old
-  rows_after = ap (λ (ns : List Node). record old { nodes = ns }) (map_map (renewed_below which w) (set which f) old.nodes ∙ map_agree (λ n. renewed_below which w (set which f n)) (set which after) old.nodes (every old.nodes))
-    where
-      every : (xs : List Node) → Each (λ n. renewed_below which w (set which f n) ≡ set which after n) xs
-      every [] = tt
-      every (x ∷ xs) = (after_is x, every xs)
+  rows_after = step.rows_renewed which f w w0 waits.is old
+
+  keeps : (n : Node) → stale n ≡ false → after n ≡ f n
+  keeps = step.keeps which f w w0
 
   -- ---- what is known of children
 
@@ -148,33 +115,8 @@ module _ (which : Which) (old : Content) (rises : is_rising (0 ∷ ids_of old.no
   not_stale : (n : Node) → child n ≡ false → stale n ≡ false
   not_stale n isnt = and_left (child n) (links which w0 n && not (same_entries (f n) (passes which f w0 n))) isnt
 
-  abbrev StaleParts : Node → Type 0
-  StaleParts n = (has_parent w.id n ≡ true) × (links which w0 n ≡ true) × (same_entries (f n) (passes which f w0 n) ≡ false)
-
-  stale_parts : (n : Node) → stale n ≡ true → StaleParts n
-  stale_parts n is =
-      let first = and_parts (has_parent w.id n) (links which w0 n && not (same_entries (f n) (passes which f w0 n))) is in
-      let second = and_parts (links which w0 n) (not (same_entries (f n) (passes which f w0 n))) first.1 in
-      (first.0, second.0, not-true (same_entries (f n) (passes which f w0 n)) second.1)
-
-  keeps : (n : Node) → stale n ≡ false → after n ≡ f n
-  keeps n isnt = cond-false (stale n) (passes which f w0 n) (f n) isnt
-
-  takes : (n : Node) → stale n ≡ true → after n ≡ passes which f w0 n
-  takes n is = cond-true (stale n) (passes which f w0 n) (f n) is
-
-  changed_stale : (n : Node) → There which old root n → stale n ≡ true → is_changed which after n ≡ true
-  changed_stale n there is =
-      let parts = stale_parts n is in
-      let before : f n ≡ (held_of which n).inh = entries_equal (f n) (held_of which n).inh (not-false (same_entries (f n) (held_of which n).inh) (child_unchanged n there parts.0)) in
-      not_from_false (same_entries (after n) (held_of which n).inh) (false_from_ne_true (same_entries (after n) (held_of which n).inh) (λ same.
-      false≢true (sym parts.2 ∙ equal_entries (f n) (passes which f w0 n) (before ∙ sym (entries_equal (after n) (held_of which n).inh same) ∙ takes n is))))
-
   changed_is : (n : Node) → There which old root n → is_changed which after n ≡ (is_changed which f n || stale n)
-  changed_is n there = elim (cases_Bool (stale n)) [
-    | inl is ↦ changed_stale n there is ∙ sym (or_right (is_changed which f n) (stale n) is)
-    | inr isnt ↦ ap (λ e. not (same_entries e (held_of which n).inh)) (keeps n isnt) ∙ sym (or_false (is_changed which f n)) ∙ ap (λ t. is_changed which f n || t) (sym isnt)
-  ]
+  changed_is = step.changed_is which f w w0 old child_unchanged
 
   -- ---- those that wait next
 
@@ -248,19 +190,8 @@ module _ (which : Which) (old : Content) (rises : is_rising (0 ∷ ids_of old.no
   abbrev Goal : Node → Node → Type 0
   Goal n p = (has_id p.id (rest ++ kids) ≡ true) ⊎ ((seen_after n ≡ true) × (links which p n ≡ true → after n ≡ passes which after p n))
 
-  child_agrees : (n p : Node) → There which old root n → There which old root p → has_parent p.id n ≡ true → links which p n ≡ true → p.id ≡ w.id → after n ≡ passes which after p n
-  child_agrees n p there there' has link is =
-      let one : w0 ≡ p = one_object old.nodes w0 p waits.there there' (sym w_id ∙ sym is) in
-      let gives : passes which f w0 n ≡ passes which after p n =
-      ap (λ l. pass n.kind ((held_of which w0).own ++ l)) (sym (keeps_seen w0 waits.there waits.seen_is)) ∙ ap (λ x. passes which after x n) one in
-      elim (cases_Bool (stale n)) [
-        | inl st ↦ takes n st ∙ gives
-        | inr fresh ↦
-            let has_w : has_parent w.id n ≡ true = ap (λ i. has_parent i n) (sym is) ∙ has in
-            let link_w : links which w0 n ≡ true = ap (λ x. links which x n) one ∙ link in
-            let same : same_entries (f n) (passes which f w0 n) ≡ true = not-false (same_entries (f n) (passes which f w0 n)) (sym (λ i. has_w i && (link_w i && not (same_entries (f n) (passes which f w0 n)))) ∙ fresh) in
-            keeps n fresh ∙ entries_equal (f n) (passes which f w0 n) same ∙ gives
-      ]
+  child_agrees : (n p : Node) → There which old root p → has_parent p.id n ≡ true → links which p n ≡ true → p.id ≡ w.id → after n ≡ passes which after p n
+  child_agrees = step.child_agrees which f w w0 old waits.there w_id (not_stale w0 (seen_apart w0 waits.there waits.seen_is))
 
   other_agrees : (n p : Node) → There which old root n → There which old root p → has_parent p.id n ≡ true → seen p ≡ true → (p.id == w.id) ≡ false
       → (has_id p.id (rest ++ w ∷ []) ≡ true) ⊎ ((seen n ≡ true) × (links which p n ≡ true → f n ≡ passes which f p n)) → Goal n p
@@ -280,7 +211,7 @@ module _ (which : Which) (old : Content) (rises : is_rising (0 ∷ ids_of old.no
   closed_after n p there there' has is = elim (cases_Bool (p.id == w.id)) [
     | inl same ↦
         let e = eqb-true p.id w.id same in
-        inr (or_right (seen n) (child n) (ap (λ i. has_parent i n) (sym e) ∙ has), λ link. child_agrees n p there there' has link e)
+        inr (or_right (seen n) (child n) (ap (λ i. has_parent i n) (sym e) ∙ has), λ link. child_agrees n p there' has link e)
     | inr other ↦ elim (or_cases (seen p) (child p) is) [
       | inl before ↦ other_agrees n p there there' has before other (front.closed n p there there' has before)
       | inr now_met ↦ inl (has_either p.id rest kids ∙ or_right (has_id p.id rest) (has_id p.id kids) (kids_has p there' ∙ now_met))
@@ -289,7 +220,7 @@ module _ (which : Which) (old : Content) (rises : is_rising (0 ∷ ids_of old.no
 
   linked_now : (n : Node) → stale n ≡ true → is_linked_in old which n ≡ true
   linked_now n is =
-      let parts = stale_parts n is in
+      let parts = step.stale_parts which f w w0 n is in
       let above : parent_of old n ≡ Some w0 = parent_found old w0 n waits.there (ap (λ i. has_parent i n) (sym w_id) ∙ parts.0) in
       ap (λ o. is_linked (held_of which n) (option_map (held_of which) o)) above ∙ parts.1
 
@@ -330,21 +261,7 @@ module _ (which : Which) (old : Content) (rises : is_rising (0 ∷ ids_of old.no
   written = renewals which w (children_of now w.id)
 
   pub count_after : count (is_changed which after) old.nodes ≡ count (is_changed which f) old.nodes + length written
-  count_after =
-      count_either (is_changed which f) stale (is_changed which after) old.nodes
-      (each_there (λ n. (is_changed which after n ≡ (is_changed which f n || stale n)) × (stale n ≡ true → is_changed which f n ≡ false)) old.nodes apart_old
-      (λ n there. (changed_is n there, λ st. child_unchanged n there (stale_parts n st).0)))
-      ∙ ap (λ k. count (is_changed which f) old.nodes + k) (sym number)
-    where
-      every : (xs : List Node) → Each (λ n. (has_parent w.id (set which f n) && is_outdated which w (set which f n)) ≡ stale n) xs
-      every [] = tt
-      every (x ∷ xs) = (stale_is x, every xs)
-
-      number : length written ≡ count stale old.nodes
-      number =
-          length-map (filter (is_outdated which w) (children_of now w.id)) (renewed which w) ∙ count_length (is_outdated which w) (children_of now w.id) ∙ count_children now apart_now (is_outdated which w) w.id
-          ∙ count_map (λ m. has_parent w.id m && is_outdated which w m) (set which f) old.nodes
-          ∙ count_agree (λ n. has_parent w.id (set which f n) && is_outdated which w (set which f n)) stale old.nodes (every old.nodes)
+  count_after = step.count_renewed which f w w0 old child_unchanged waits.is apart_old
 
   -- ---- no loop
 
