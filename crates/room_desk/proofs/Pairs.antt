@@ -24,7 +24,7 @@ child_from content (name ∷ next ∷ names) path node folder target above at = 
     on : (o : Option Node) → parent_at (option_map_or (λ child. stored_from content (path ++ name ∷ []) child (next ∷ names)) o []) (next ∷ names) ≡ Some folder
         → site_at (option_map_or (λ child. stored_from content (path ++ name ∷ []) child (next ∷ names)) o []) (next ∷ names) ≡ Some target
         → ((child : Node) → parent_at (stored_from content (path ++ name ∷ []) child (next ∷ names)) (next ∷ names) ≡ Some folder → site_at (stored_from content (path ++ name ∷ []) child (next ∷ names)) (next ∷ names) ≡ Some target
-            → child_of content folder.node.id (last_name (next ∷ names)) ≡ Some target.node)
+        → child_of content folder.node.id (last_name (next ∷ names)) ≡ Some target.node)
         → child_of content folder.node.id (last_name (next ∷ names)) ≡ Some target.node
     on None above at below = absurd (let wrong : ⊥ = cc in wrong)
     on (Some child) above at below = below child above at
