@@ -139,7 +139,7 @@ module _ (asker : Asker) (path : List (List ℕ)) (some : 0 < length path) where
         ∙ ap (λ t. stem old.read path ++ Refusal (site.path ++ last_name path ∷ []) NoSuch t ∷ []) (and_false (is_none (child_of old.read site.node.id (last_name path)))))
         judged)
 
-    stem_of : IsJudged asker (stem old.read path) old answer new
+    pub stem_of : IsJudged asker (stem old.read path) old answer new
     stem_of = on_stem (folder_along old.read path) refl
 
   pub pair_barred : (old new : Rows) (reply : Reply) → IsSpotted asker path old (Barred reply) new → IsPaired asker path old (Halted reply) new
@@ -155,7 +155,7 @@ module _ (asker : Asker) (path : List (List ℕ)) (some : 0 < length path) where
     site : Site
     site = found_site path folder
 
-    folder_is : folder_along old.read path ≡ Some (found_site path folder)
+    pub folder_is : folder_along old.read path ≡ Some (found_site path folder)
     folder_is = sym (folder_found old.read path some) ∙ spotted.folder
 
     whole : (found_site path folder).path ++ last_name path ∷ [] ≡ path
@@ -170,7 +170,7 @@ module _ (asker : Asker) (path : List (List ℕ)) (some : 0 < length path) where
         on (Some x) None same = absurd (let wrong : ⊥ = cc in wrong)
         on (Some x) (Some y) same = refl
 
-    lacks : is_none (child_of old.read folder.node.id (last_name path)) ≡ is_none child
+    pub lacks : is_none (child_of old.read folder.node.id (last_name path)) ≡ is_none child
     lacks = missing_is child
         (ap (λ p. option_map (stored_site p) (child_of old.read folder.node.id (last_name path))) (sym whole)
         ∙ ap (option_and_then (below_of old.read (last_name path))) (sym folder_is) ∙ sym (target_found old.read path some) ∙ spotted.child)

@@ -49,19 +49,23 @@ module _ (asker : Asker) (request : Request) (old : Rows) (known : IsKnown asker
       ∙ ap (λ d. recorded d (records_of_plan asker.caller asker.at (plan_of content request))) (serves free.0))
       judged.notes
 
-  -- none fails, and the request changes more than records
+  -- none fails, and the request changes more than records, with this number for a new object
+  pub made_step : (id : ℕ) → Rattle.room_desk.specs.Step.IsFree content id → (mid new : Rows) (reply : Reply) (after : Content) → IsJudged asker (plan_of content request) old None mid → effect content asker.caller id request ≡ (reply, after)
+      → meaning new.read ≡ with_records after (records_of_plan asker.caller asker.at (plan_of content request)) → AreSound new → IsStepOfRows asker.caller.user asker.at request old reply new
+  made_step id free mid new reply after judged changes means stays = record {
+    step = (
+      id,
+      free,
+      ap (made id) (caller_kept old.read asker.caller.user ∙ sym known)
+          ∙ ap (λ o. recorded (answered o content (effect content asker.caller id request)) (records_of_plan asker.caller asker.at (plan_of content request))) (sym judged.answers)
+          ∙ ap (λ d. recorded d (records_of_plan asker.caller asker.at (plan_of content request))) changes
+          ∙ ap (λ (c : Content). (reply, c)) (sym means),
+    );
+    sound = stays;
+  }
+
+  -- the same, where the number doesn't matter
   pub changed_step : (mid new : Rows) (reply : Reply) (after : Content) → IsJudged asker (plan_of content request) old None mid → ((id : ℕ) → effect content asker.caller id request ≡ (reply, after))
       → meaning new.read ≡ with_records after (records_of_plan asker.caller asker.at (plan_of content request)) → AreSound new → IsStepOfRows asker.caller.user asker.at request old reply new
   changed_step mid new reply after judged changes means stays =
-      let free = some_free content in
-      record {
-        step = (
-          free.0,
-          free.1,
-          ap (made free.0) (caller_kept old.read asker.caller.user ∙ sym known)
-              ∙ ap (λ o. recorded (answered o content (effect content asker.caller free.0 request)) (records_of_plan asker.caller asker.at (plan_of content request))) (sym judged.answers)
-              ∙ ap (λ d. recorded d (records_of_plan asker.caller asker.at (plan_of content request))) (changes free.0)
-              ∙ ap (λ (c : Content). (reply, c)) (sym means),
-        );
-        sound = stays;
-      }
+      let free = some_free content in made_step free.0 free.1 mid new reply after judged (changes free.0) means stays

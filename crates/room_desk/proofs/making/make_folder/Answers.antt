@@ -1,0 +1,2 @@
+use Rattle.room_desk.proofs.FolderMade.{make_in}
+use Rattle.room_desk.proofs.making.make_folder.Goals as goal
