@@ -1,8 +1,8 @@
 -- How the list of an object that was found is set.
-use Rattle.std.specs.Prelude.{◌≡◌, ℕ, zero, suc, ◌-◌, ◌⊎◌, ◌&&◌, Bool, true, false, not, List, [], ◌∷◌, length, take, Option, Some, None, if◌then◌else◌}
+use Rattle.std.specs.Prelude.{◌≡◌, ℕ, zero, suc, ◌-◌, ◌⊎◌, ◌&&◌, Bool, not, List, [], ◌∷◌, filter, length, take, Option, Some, None, if◌then◌else◌}
 use Rattle.std.specs.Option.{option_map, option_map_or}
 use Rattle.room_ace.specs.Ace.{Ace}
-use Rattle.room_ace.specs.Sent.{Sent, inherited_of, own_of}
+use Rattle.room_ace.specs.Sent.{Sent, inherited_of, limit_fault, own_of}
 use Rattle.room_ace.specs.declared.fault.ListFault.{ListFault}
 use Rattle.room_ace.specs.declared.flags.ListFlags.{ListFlags}
 use Rattle.room_ace.specs.declared.object.ObjKind.{ObjKind}
@@ -38,8 +38,7 @@ fault_in place which kind entries = reason_of (first_invalid place which kind en
 
 -- the entries with the flag of inherited ones, or those without it
 abbrev pub marked : Bool → List Ace → List Ace
-marked true entries = inherited_of entries
-marked false entries = own_of entries
+marked inherited entries = filter (λ entry. if inherited then entry.flags.inherited else not entry.flags.inherited) entries
 
 -- ---- the list as it is stored
 
@@ -83,7 +82,12 @@ pub record IsSetWell (which : Which) (sent : Sent) (node : Node) (old new : Rows
   pub sound : AreSound new
 
 abbrev pub IsSet : Which → Sent → Node → Rows → Rows → Type 0
-IsSet which sent node old new = node_at old.read node.id ≡ Some node → fault_in 1 which node.kind sent.entries ≡ None → AreSound old → IsSetWell which sent node old new
+IsSet which sent node old new =
+    node_at old.read node.id ≡ Some node → fault_in 1 which node.kind sent.entries ≡ None → limit_fault sent.entries ≡ None → AreSound old → IsSetWell which sent node old new
+
+-- the list is stored already as it is to be
+abbrev pub IsStored : Which → Sent → Node → Rows → Type 0
+IsStored which sent node rows = stored_held which sent node.kind (parent_of rows.read node) ≡ held_of which node
 
 -- no row of sound rows that have the object
 abbrev pub SetsBadly : Node → Rows → ℕ → Type 0
@@ -93,9 +97,10 @@ abbrev pub SetUnless : Option Reason → Which → Sent → Node → Rows → Ro
 SetUnless None which sent node old new = IsSet which sent node old new
 SetUnless (Some why) which sent node old new = new ≡ old
 
--- The list of the object at the path is set, or refused for its first entry that may not stand there.
+-- The list of the object at the path is set, or refused for its first entry that may not stand there. It is within the limits of what is sent.
 pub record IsSetOrRefused (path : List (List ℕ)) (which : Which) (sent : Sent) (node : Node) (old : Rows) (reply : Reply) (new : Rows) : Type 0 where
   pub replies : reply ≡ option_map_or (λ why. Refused path why) (fault_in 1 which node.kind sent.entries) Done
+  pub few : limit_fault sent.entries ≡ None
   pub becomes : SetUnless (fault_in 1 which node.kind sent.entries) which sent node old new
 
 -- ---- the operator's reset

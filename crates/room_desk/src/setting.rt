@@ -11,6 +11,7 @@ ghost use Rattle.room_desk.specs.Setting.{
   IsPassingParent,
   IsSet,
   IsSetOrRefused,
+  IsStored,
   SetsBadly,
   fault_in,
   marked,
@@ -93,6 +94,7 @@ fn set_at<K: Keep>(
     sent: &SentList,
 ) -> Result<(), KeepFault>
     ensures done { IsDone K.rows K.failures K.Follows K.IsTrusted keep.old keep.new result (SetsBadly node.now) (λ old _ new. IsSet which sent.now node.now old new) }
+    ensures quiet { K.IsTrusted keep.old keep.new → IsStored which sent.now node.now (K.rows keep.old) → IfOk result (λ _. K.writes keep.new ≡ K.writes keep.old) }
 {
     let held = new_held(alloc, keep, node, which, sent)?;
     if is_same_held(&held, node.held(which)) {
@@ -173,7 +175,7 @@ fn sent_entries(alloc: Global, sent: &SentList, inherited: bool) -> Result<Entri
     ensures { IfOk result (λ entries. entries ≡ marked inherited sent.now.entries) }
 {
     let mut entries = Entries::new(alloc);
-    'entries: for entry in sent.entries().as_slice() {
+    'sent: for entry in sent.entries().as_slice() {
         if entry.flags().inherited == inherited {
             entries.push(entry.clone()?)?;
         }
