@@ -71,7 +71,7 @@ site_filled [] names = refl
 site_filled (site ∷ sites) [] = refl
 site_filled (site ∷ sites) (name ∷ names) = site_filled sites names
 
-target_filled : (path : List (List ℕ)) (items : Site → List Item) → ((site : Site) → items (fill site) ≡ map fill_item (items site)) → (sites : List Site)
+pub target_filled : (path : List (List ℕ)) (items : Site → List Item) → ((site : Site) → items (fill site) ≡ map fill_item (items site)) → (sites : List Site)
     → way false (map fill sites) path ++ where_found (site_at (map fill sites) path) items ≡ map fill_item (way false sites path ++ where_found (site_at sites path) items)
 target_filled path items same sites =
     ap (λ w. w ++ where_found (site_at (map fill sites) path) items) (way_filled false sites path)

@@ -1,9 +1,12 @@
 //! The operator's reset of a list.
 ghost use Rattle.room_desk.specs.Judged.{IsDone, NotSound, Resets};
+ghost use Rattle.room_desk.specs.Setting.{IsResetAtEnd, SetsBadly};
 
-use crate::reply::Reply;
-use room_ace::{SentList, Which};
-use room_tree::{Keep, KeepFault, Path};
+use crate::checking::refused;
+use crate::reply::{Reason, Reply};
+use crate::setting::set_found;
+use room_ace::{ObjKind, SentList, Which};
+use room_tree::{Keep, KeepFault, Node, Path, walk};
 use std::alloc::Global;
 
 /// Sets one of an object's lists as the request does, but asks no bits and leaves no record. The reply
@@ -17,5 +20,43 @@ pub fn reset<K: Keep>(
 ) -> Result<Reply, KeepFault>
     ensures done { IsDone K.rows K.failures K.Follows K.IsTrusted keep.old keep.new result NotSound (Resets path.now which sent.now) }
 {
-    Err(KeepFault::Memory)
+    let found = walk(alloc, keep, path)?;
+    let rest = found.rest;
+    let mut chain = found.chain.into_vec();
+    match chain.pop() {
+        None => Err(KeepFault::Damaged { id: 0 }),
+        Some(last) => reset_at_end(alloc, keep, path, &last, rest, which, sent),
+    }
+}
+
+// Sets the list of the last object that the walk found, where no names are left over.
+fn reset_at_end<K: Keep>(
+    alloc: Global,
+    keep: &mut K,
+    path: &Path,
+    last: &Node,
+    rest: usize,
+    which: Which,
+    sent: &SentList,
+) -> Result<Reply, KeepFault>
+    ensures done { IsDone K.rows K.failures K.Follows K.IsTrusted keep.old keep.new result (SetsBadly last.now) (IsResetAtEnd path.now which sent.now last.now rest) }
+{
+    if rest == 0 {
+        return set_found(alloc, keep, path, last, which, sent);
+    }
+    let count = path.names().len();
+    match last.kind {
+        ObjKind::Document => Ok(refused(
+            alloc,
+            path,
+            count.saturating_sub(rest),
+            Reason::NotFolder,
+        )?),
+        ObjKind::Folder => Ok(refused(
+            alloc,
+            path,
+            count.saturating_sub(rest - 1),
+            Reason::NoSuch,
+        )?),
+    }
 }

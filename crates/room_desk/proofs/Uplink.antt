@@ -1,0 +1,77 @@
+-- The object at the end of a path, and the one above it.
+use Rattle.std.proofs.Common.{◌≡◌, ℕ, Bool, List, [], ◌∷◌, ◌++◌, Option, Some, None, refl, sym, ap, ◌∙◌}
+use Rattle.std.specs.Prelude.{option_and_then}
+use Rattle.std.specs.Option.{option_map, option_map_or}
+use Rattle.room_tree.specs.declared.node.Node.{Node}
+use Rattle.room_tree.specs.Content.{Content, child_of, node_at, parent_of, root_of}
+use Rattle.room_tree.proofs.Frames.{Rises, child_of-is_there, child_of-parent, root_of-is_there, root_of-parent}
+use Rattle.room_desk.specs.Site.{Site, front, site_at}
+use Rattle.room_desk.specs.Stored.{stored_along, stored_from, stored_site}
+
+-- an object that is there
+abbrev pub Stands : Content → Node → Type 0
+Stands rows node = node_at rows node.id ≡ Some node
+
+same_target : (p q : List (List ℕ)) (x y : Node) → Some (stored_site p x) ≡ Some (stored_site q y) → x ≡ y
+same_target p q x y same = let sites : stored_site p x ≡ stored_site q y = cc in ap (λ (s : Site). s.node) sites
+
+module _ (rows : Content) (rises : Rises rows) where
+  -- along the names from an object
+  end_stands : (names p q : List (List ℕ)) (from target : Node) → Stands rows from → site_at (stored_from rows p from names) names ≡ Some (stored_site q target) → Stands rows target
+  end_stands [] p q from target there is = let same = same_target p q from target is in ap (λ (n : Node). node_at rows n.id) (sym same) ∙ there ∙ ap (λ n. Some n) same
+  end_stands (name ∷ names) p q from target there is = on (child_of rows from.id name) (λ child found rest. end_stands names (p ++ name ∷ []) q child target (child_of-is_there rows rises from.id name child found) rest) is
+    where
+      on : (o : Option Node) → ((child : Node) → o ≡ Some child → site_at (stored_from rows (p ++ name ∷ []) child names) names ≡ Some (stored_site q target) → Stands rows target)
+          → site_at (option_map_or (λ child. stored_from rows (p ++ name ∷ []) child names) o []) names ≡ Some (stored_site q target) → Stands rows target
+      on None next is = absurd (let wrong : ⊥ = cc in wrong)
+      on (Some child) next is = next child refl is
+
+  -- the object before the last name
+  pub record IsAbove (sites : List Site) (names : List (List ℕ)) (target : Node) : Type 0 where
+    pub above : Node
+    pub path : List (List ℕ)
+    pub at : site_at sites (front names) ≡ Some (stored_site path above)
+    pub parent : parent_of rows target ≡ Some above
+
+  end_above : (name : List ℕ) (names p q : List (List ℕ)) (from target : Node) → Stands rows from → site_at (stored_from rows p from (name ∷ names)) (name ∷ names) ≡ Some (stored_site q target)
+      → IsAbove (stored_from rows p from (name ∷ names)) (name ∷ names) target
+  end_above name [] p q from target there is = on (child_of rows from.id name) (λ child found. child_of-parent rows from.id name child found) is
+    where
+      on : (o : Option Node) → ((child : Node) → o ≡ Some child → child.parent ≡ Some from.id) → site_at (option_map_or (λ child. stored_from rows (p ++ name ∷ []) child []) o []) [] ≡ Some (stored_site q target)
+          → IsAbove (stored_site p from ∷ option_map_or (λ child. stored_from rows (p ++ name ∷ []) child []) o []) (name ∷ []) target
+      on None known is = absurd (let wrong : ⊥ = cc in wrong)
+      on (Some child) known is =
+          let same = same_target (p ++ name ∷ []) q child target is in
+          record { above = from; path = p; at = refl; parent = ap (λ (n : Node). option_and_then (node_at rows) n.parent) (sym same) ∙ ap (option_and_then (node_at rows)) (known child refl) ∙ there }
+  end_above name (next ∷ names) p q from target there is =
+      on (child_of rows from.id name) (λ child found rest. end_above next names (p ++ name ∷ []) q child target (child_of-is_there rows rises from.id name child found) rest) is
+    where
+      on : (o : Option Node)
+          → ((child : Node) → o ≡ Some child → site_at (stored_from rows (p ++ name ∷ []) child (next ∷ names)) (next ∷ names) ≡ Some (stored_site q target) → IsAbove (stored_from rows (p ++ name ∷ []) child (next ∷ names)) (next ∷ names) target)
+          → site_at (option_map_or (λ child. stored_from rows (p ++ name ∷ []) child (next ∷ names)) o []) (next ∷ names) ≡ Some (stored_site q target)
+          → IsAbove (stored_site p from ∷ option_map_or (λ child. stored_from rows (p ++ name ∷ []) child (next ∷ names)) o []) (name ∷ next ∷ names) target
+      on None known is = absurd (let wrong : ⊥ = cc in wrong)
+      on (Some child) known is = let up = known child refl is in record { above = up.above; path = up.path; at = up.at; parent = up.parent }
+
+  -- along a path from the root
+  pub target_stands : (path q : List (List ℕ)) (target : Node) → site_at (stored_along rows path) path ≡ Some (stored_site q target) → Stands rows target
+  target_stands path q target is = on (root_of rows) (λ root found. root_of-is_there rows rises root found) is
+    where
+      on : (o : Option Node) → ((root : Node) → o ≡ Some root → Stands rows root) → site_at (option_map_or (λ root. stored_from rows [] root path) o []) path ≡ Some (stored_site q target) → Stands rows target
+      on None known is = absurd (let wrong : ⊥ = cc in wrong)
+      on (Some root) known is = end_stands path [] q root target (known root refl) is
+
+  pub target_above : (name : List ℕ) (names q : List (List ℕ)) (target : Node) → site_at (stored_along rows (name ∷ names)) (name ∷ names) ≡ Some (stored_site q target) → IsAbove (stored_along rows (name ∷ names)) (name ∷ names) target
+  target_above name names q target is = on (root_of rows) (λ root found. root_of-is_there rows rises root found) is
+    where
+      on : (o : Option Node) → ((root : Node) → o ≡ Some root → Stands rows root) → site_at (option_map_or (λ root. stored_from rows [] root (name ∷ names)) o []) (name ∷ names) ≡ Some (stored_site q target)
+          → IsAbove (option_map_or (λ root. stored_from rows [] root (name ∷ names)) o []) (name ∷ names) target
+      on None known is = absurd (let wrong : ⊥ = cc in wrong)
+      on (Some root) known is = end_above name names [] q root target (known root refl) is
+
+  pub root_alone : (q : List (List ℕ)) (target : Node) → site_at (stored_along rows []) [] ≡ Some (stored_site q target) → parent_of rows target ≡ None
+  root_alone q target is = on (root_of rows) (λ root found. root_of-parent rows root found) is
+    where
+      on : (o : Option Node) → ((root : Node) → o ≡ Some root → root.parent ≡ None) → site_at (option_map_or (λ root. stored_from rows [] root []) o []) [] ≡ Some (stored_site q target) → parent_of rows target ≡ None
+      on None known is = absurd (let wrong : ⊥ = cc in wrong)
+      on (Some root) known is = ap (λ (n : Node). option_and_then (node_at rows) n.parent) (sym (same_target [] q root target is)) ∙ ap (option_and_then (node_at rows)) (known root refl)
