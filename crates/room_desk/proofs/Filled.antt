@@ -59,7 +59,7 @@ empty_filled : (sites : List Site) → is_empty (map fill sites) ≡ is_empty si
 empty_filled [] = refl
 empty_filled (site ∷ sites) = refl
 
-way_filled : (lack : Bool) (sites : List Site) (names : List (List ℕ)) → way lack (map fill sites) names ≡ map fill_item (way lack sites names)
+pub way_filled : (lack : Bool) (sites : List Site) (names : List (List ℕ)) → way lack (map fill sites) names ≡ map fill_item (way lack sites names)
 way_filled lack [] names = refl
 way_filled lack (site ∷ sites) [] = refl
 way_filled lack (site ∷ sites) (name ∷ names) =

@@ -152,7 +152,7 @@ reached_then asker path items arrival old mid new same reached = subst (λ (r : 
 
 -- ---- a document has bytes
 
-none_both : (a b : Option Reply) → None ≡ or_else a b → (None ≡ a) × (None ≡ b)
+pub none_both : (a b : Option Reply) → None ≡ or_else a b → (None ≡ a) × (None ≡ b)
 none_both None b is = (refl, is)
 none_both (Some reply) b is = absurd (let wrong : ⊥ = cc in wrong)
 
@@ -167,14 +167,14 @@ site_there content rises path (name ∷ names) node site there is = on (child_of
     on None known is = absurd (let wrong : ⊥ = cc in wrong)
     on (Some child) known is = known child refl is
 
-along_there : (content : Content) → Rises content → (path : List (List ℕ)) (site : Site) → site_at (stored_along content path) path ≡ Some site → node_at content site.node.id ≡ Some site.node
+pub along_there : (content : Content) → Rises content → (path : List (List ℕ)) (site : Site) → site_at (stored_along content path) path ≡ Some site → node_at content site.node.id ≡ Some site.node
 along_there content rises path site is = on (root_of content) (λ root found. root_of-is_there content rises root found) is
   where
     on : (o : Option Node) → ((root : Node) → o ≡ Some root → node_at content root.id ≡ Some root) → site_at (option_map_or (λ root. stored_from content [] root path) o []) path ≡ Some site → node_at content site.node.id ≡ Some site.node
     on None known is = absurd (let wrong : ⊥ = cc in wrong)
     on (Some root) known is = site_there content rises [] path root site (known root refl) is
 
-folder_fails : (caller : Rattle.room_ace.specs.declared.parties.Caller.Caller) (site : Site) → None ≡ failure caller (no_folder site) → is_document site.node.kind ≡ true
+pub folder_fails : (caller : Rattle.room_ace.specs.declared.parties.Caller.Caller) (site : Site) → None ≡ failure caller (no_folder site) → is_document site.node.kind ≡ true
 folder_fails caller site passes = on (is_document site.node.kind) passes
   where
     on : (t : Bool) → None ≡ cond (not t) (Some (Rattle.room_desk.specs.declared.reply.Reply.TheVariants.Refused site.path Rattle.room_desk.specs.declared.reply.Reason.TheVariants.WrongKind)) None → t ≡ true
