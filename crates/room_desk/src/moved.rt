@@ -31,10 +31,11 @@ pub(crate) fn check_free<K: Keep>(
 {
     let name = &to.names()[folder.depth];
     let child = keep.child(folder.node.id, name.as_str())?;
-    match child {
-        Some(_) => Ok(Some(refused(alloc, to, to.names().len(), Reason::Exists)?)),
-        None => check_loop(alloc, keep, to, target, folder.depth),
+    let is_free = child.is_none();
+    if !is_free {
+        return Ok(Some(refused(alloc, to, to.names().len(), Reason::Exists)?));
     }
+    check_loop(alloc, keep, to, target, folder.depth)
 }
 
 // The object doesn't stand on the way to the new folder.

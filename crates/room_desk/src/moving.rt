@@ -171,8 +171,8 @@ fn check_leaving<K: Keep>(
 ) -> Result<Option<Reply>, KeepFault>
     ensures done { IsDone K.rows K.failures K.Follows K.IsTrusted keep.old keep.new result IsNever (IsJudged asker.now (leaving (found_site path.now target.now) (found_site path.now from.now) (found_site to.now folder.now))) }
 {
-    let refusal = check_deletion(alloc, keep, asker, path, target, from)?;
-    match refusal {
+    let denial = check_deletion(alloc, keep, asker, path, target, from)?;
+    match denial {
         Some(reply) => Ok(Some(reply)),
         None => {
             let right = right_to_add(&target.node);
