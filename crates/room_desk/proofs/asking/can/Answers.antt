@@ -1,11 +1,10 @@
-use Rattle.std.proofs.Common.{[], ◌∷◌, refl, subst}
+use Rattle.std.proofs.Common.{[], refl, subst}
 use Rattle.room_desk.proofs.Calls.{Ruled, none_done, finish, fails, memory, done}
 use Rattle.room_tree.specs.Rows.{Rows}
 use Rattle.room_desk.proofs.SoundParts.{rootless_unsound}
 use Rattle.room_desk.proofs.Serving.{not_served, served_rulings}
 use Rattle.room_desk.specs.Judged.{IsReached, NotSound}
 use Rattle.room_desk.specs.declared.arrival.Arrival.{Arrival}
-use Rattle.room_desk.specs.declared.arrival.Arrival.TheVariants.{At, Ended}
 use Rattle.room_desk.specs.declared.request.Request.TheVariants.{Can}
 use Rattle.room_desk.proofs.asking.can.Goals as goal
 

@@ -1,4 +1,4 @@
-use Rattle.std.proofs.Common.{ℕ, List, [], ◌≡◌, ◌==◌, length, subst, sym, ap, ◌∙◌, take}
+use Rattle.std.proofs.Common.{ℕ, List, [], ◌≡◌, subst, sym, ap, ◌∙◌, take}
 use Rattle.room_desk.proofs.Calls.{Ruled, none_done, finish}
 use Rattle.room_desk.proofs.GoneSteps.{no_names, root_kept}
 use Rattle.room_desk.specs.Judged.{CarriesOut}

@@ -1,4 +1,4 @@
-use Rattle.std.proofs.Common.{[], ◌∷◌, Option, Some, None, subst}
+use Rattle.std.proofs.Common.{[], ◌∷◌, Option, subst}
 use Rattle.room_desk.proofs.Calls.{Ruled, tail, finish, done}
 use Rattle.room_tree.specs.Keep.{IsUnreadable}
 use Rattle.room_tree.specs.Rows.{Rows}
