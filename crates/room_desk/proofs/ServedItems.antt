@@ -1,5 +1,5 @@
 -- What is judged before an object is changed or made, as the calls give it.
-use Rattle.std.proofs.Common.{◌≡◌, ℕ, ◌<◌, ◌+◌, Bool, true, false, cond, List, [], ◌∷◌, ◌++◌, length, Option, Some, None, nat_lt, refl, sym, ap, subst, ◌∙◌, arith, length-append}
+use Rattle.std.proofs.Common.{◌≡◌, ℕ, ◌+◌, Bool, true, false, cond, List, [], ◌∷◌, ◌++◌, length, Option, Some, None, nat_lt, refl, sym, ap, subst, ◌∙◌, arith, length-append}
 use Rattle.room_ace.specs.Rights.{write_data}
 use Rattle.room_tree.specs.declared.node.NewNode.{NewNode}
 use Rattle.room_tree.specs.Keep.{Adds, IsUnreadable, SetsBody}
@@ -12,7 +12,7 @@ use Rattle.room_desk.specs.declared.reply.Reply.TheVariants.{Done, Made, Refused
 use Rattle.room_desk.specs.declared.reply.Reason.{Reason}
 use Rattle.room_desk.specs.declared.reply.Reason.TheVariants.{TooLarge}
 use Rattle.room_desk.specs.Site.{Site, last_name}
-use Rattle.room_desk.specs.Plan.{Item, Check, Refusal, no_folder, not_over}
+use Rattle.room_desk.specs.Plan.{Check, Refusal, no_folder, not_over}
 use Rattle.room_desk.specs.Judged.{IsJudged, NotSound}
 use Rattle.room_desk.specs.Made.{IsMade, IsNameOf, IsServed}
 use Rattle.room_desk.specs.Spot.{IsSpotted}

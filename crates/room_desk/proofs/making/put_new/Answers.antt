@@ -1,4 +1,4 @@
-use Rattle.std.proofs.Common.{ℕ, ◌≡◌, ◌≤◌, false, List, [], ◌∷◌, nat_lt, length, subst, ◌∙◌}
+use Rattle.std.proofs.Common.{ℕ, ◌≡◌, ◌≤◌, false, [], ◌∷◌, nat_lt, length, subst}
 use Rattle.std.proofs.lemmas.Bool.{le-ltb}
 use Rattle.room_ace.specs.Rights.{write_data}
 use Rattle.room_ace.specs.declared.object.ObjKind.TheVariants.{Document as DocumentKind}
