@@ -1,7 +1,6 @@
 -- The folder that a walk came to is there, and is one, and what isn't found under it isn't there.
-use Rattle.std.proofs.Common.{◌≡◌, ℕ, ◌<◌, Bool, true, false, cond, not, List, [], ◌∷◌, ◌++◌, length, Option, Some, None, refl, sym, ap, ◌∙◌}
+use Rattle.std.proofs.Common.{◌≡◌, ℕ, ◌<◌, Bool, true, false, cond, not, List, [], ◌∷◌, ◌++◌, length, Option, Some, None, refl, ap, ◌∙◌}
 use Rattle.std.specs.Prelude.{is_none}
-use Rattle.std.proofs.lemmas.Bool.{false≢true}
 use Rattle.room_ace.specs.Rights.{execute}
 use Rattle.room_tree.specs.declared.node.Node.{Node}
 use Rattle.room_tree.specs.Content.{node_at, child_of, is_folder}
@@ -9,7 +8,6 @@ use Rattle.room_tree.specs.Rows.{Rows, AreRows}
 use Rattle.room_desk.specs.declared.arrival.Found.{Found}
 use Rattle.room_desk.specs.declared.arrival.Spot.TheVariants.{Under}
 use Rattle.room_desk.specs.declared.asker.Asker.{Asker}
-use Rattle.room_desk.specs.declared.reply.Reply.{Reply}
 use Rattle.room_desk.specs.declared.reply.Reply.TheVariants.{Refused}
 use Rattle.room_desk.specs.declared.reply.Reason.TheVariants.{NotFolder}
 use Rattle.room_desk.specs.Site.{Site, front, last_name}
@@ -20,7 +18,7 @@ use Rattle.room_desk.specs.Judged.{through}
 use Rattle.room_desk.specs.Spot.{IsSpotted}
 use Rattle.room_desk.proofs.Judging.{failure_of_parts}
 use Rattle.room_desk.proofs.Serving.{none_both, along_there}
-use Rattle.room_desk.proofs.Spots.{stem, folder_along}
+use Rattle.room_desk.proofs.Spots.{folder_along}
 use Rattle.room_desk.proofs.Spotting.{stem_of, folder_is, lacks}
 
 pub record IsFoundFolder (old : Rows) (path : List (List ℕ)) (folder : Node) (child : Option Node) : Type 0 where

@@ -1,5 +1,5 @@
 -- A request that makes a folder is a step.
-use Rattle.std.proofs.Common.{◌≡◌, ℕ, ◌<◌, Bool, true, false, cond, not, List, [], ◌∷◌, ◌++◌, length, take, Option, Some, None, refl, sym, ap, subst, ◌∙◌}
+use Rattle.std.proofs.Common.{◌≡◌, ℕ, ◌<◌, Bool, true, cond, List, [], ◌∷◌, length, take, Option, Some, None, refl, sym, ap, subst, ◌∙◌}
 use Rattle.std.specs.Prelude.{is_none, is_some}
 use Rattle.std.specs.Option.{option_map}
 use Rattle.std.proofs.lemmas.Bool.{false≢true}
@@ -17,8 +17,8 @@ use Rattle.room_desk.specs.declared.reply.Reply.{Reply}
 use Rattle.room_desk.specs.declared.reply.Reply.TheVariants.{Made, Refused}
 use Rattle.room_desk.specs.declared.reply.Reason.TheVariants.{Exists}
 use Rattle.room_desk.specs.declared.request.Request.TheVariants.{MakeFolder}
-use Rattle.room_desk.specs.Site.{Site, last_name, parent_at, site_at, sites_along}
-use Rattle.room_desk.specs.Plan.{Item, Check, Refusal, plan_of, way, where_found}
+use Rattle.room_desk.specs.Site.{Site, last_name, parent_at, site_at}
+use Rattle.room_desk.specs.Plan.{Check, Refusal, plan_of, way, where_found}
 use Rattle.room_desk.specs.Effect.{new_node, with_site}
 use Rattle.room_desk.specs.Judge.{failure, first_failure, records_of_plan}
 use Rattle.room_desk.specs.Stored.{stored_site, stored_along, found_site}

@@ -1,10 +1,9 @@
 -- Plans that look at the folder of a path's last name, over stored sites and over sites computed from the root.
-use Rattle.std.proofs.Common.{◌≡◌, ℕ, ◌<◌, ◌+◌, Bool, true, false, cond, not, List, [], ◌∷◌, ◌++◌, map, length, Option, Some, None, refl, sym, ap, subst, ◌∙◌, arith}
+use Rattle.std.proofs.Common.{◌≡◌, ℕ, ◌<◌, Bool, true, List, [], ◌∷◌, ◌++◌, map, length, Option, Some, None, refl, sym, ap, subst, ◌∙◌, arith}
 use Rattle.std.specs.Prelude.{is_some}
 use Rattle.std.specs.Option.{option_map}
 use Rattle.std.proofs.lemmas.List.{map-append}
 use Rattle.room_ace.specs.Rights.{append_data}
-use Rattle.room_tree.specs.Content.{Content}
 use Rattle.room_tree.specs.Meaning.{meaning}
 use Rattle.room_tree.specs.Rows.{Rows, AreRows}
 use Rattle.room_desk.specs.declared.asker.Asker.{Asker}

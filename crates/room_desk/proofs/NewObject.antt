@@ -1,13 +1,12 @@
 -- What a new object stores is sound, and what the rows mean that it is added to.
-use Rattle.std.proofs.Common.{◌≡◌, ℕ, ◌<◌, ◌==◌, Bool, true, false, cond, not, ◌&&◌, ◌||◌, List, [], ◌∷◌, ◌++◌, map, length, Option, Some, None, nat_lt, refl, sym, ap, subst, ◌∙◌, inl, inr}
-use Rattle.std.specs.Prelude.{is_none, nat_le, unwrap_or}
+use Rattle.std.proofs.Common.{◌≡◌, ℕ, ◌==◌, Bool, true, false, cond, not, ◌&&◌, ◌||◌, List, [], ◌∷◌, map, length, Option, Some, None, nat_lt, refl, sym, ap, ◌∙◌}
+use Rattle.std.specs.Prelude.{nat_le}
 use Rattle.std.specs.List.{list_all, cons_option}
 use Rattle.std.specs.Option.{option_map, option_map_or}
-use Rattle.std.proofs.lemmas.Bool.{cases_Bool, false≢true, and_parts, and_from, or_right, or_left, eqb-true, ne_eqb}
+use Rattle.std.proofs.lemmas.Bool.{false≢true, and_parts, and_from, or_right, eqb-true}
 use Rattle.room_ace.specs.Ace.{Ace}
 use Rattle.room_ace.specs.Pieces.{is_among}
-use Rattle.room_ace.specs.Same.{same_entries}
-use Rattle.room_ace.specs.Valid.{entry_fault, is_document}
+use Rattle.room_ace.specs.Valid.{is_document}
 use Rattle.room_ace.specs.declared.flags.EntryFlags.{EntryFlags}
 use Rattle.room_ace.specs.declared.object.ObjKind.{ObjKind}
 use Rattle.room_ace.specs.declared.object.ObjKind.TheVariants.{Document, Folder}
@@ -16,31 +15,26 @@ use Rattle.room_ace.specs.declared.object.Which.TheVariants.{Dacl, Sacl}
 use Rattle.room_ace.specs.declared.parties.Caller.{Caller}
 use Rattle.room_ace.proofs.Alike.{entries_themselves}
 use Rattle.room_tree.specs.declared.node.Held.{Held}
-use Rattle.room_tree.specs.declared.node.NewNode.{NewNode}
 use Rattle.room_tree.specs.declared.node.Node.{Node}
 use Rattle.room_tree.specs.Held.{held_of, full_of, is_linked}
-use Rattle.room_tree.specs.Content.{Content, node_at, child_of, is_folder, put_node, put_body, body_in, with_body}
+use Rattle.room_tree.specs.Content.{Content, node_at, child_of, is_folder, put_node, put_body, body_in}
 use Rattle.room_tree.specs.Finding.{find_id}
-use Rattle.room_tree.specs.Keep.{node_of, reading, with_new}
+use Rattle.room_tree.specs.Keep.{node_of, reading}
 use Rattle.room_tree.specs.Meaning.{kept_held, kept_node, meaning}
 use Rattle.room_tree.specs.Paths.{is_object_name}
 use Rattle.room_tree.specs.Rows.{Rows, AreRows, numbers_of, put_numbers}
 use Rattle.room_tree.proofs.Frames.{body_of-with_body, body_of-with_body-other}
 use Rattle.room_tree.proofs.Lookups.{not_none}
-use Rattle.room_inherit.specs.Law.{agrees_with}
 use Rattle.room_inherit.specs.Laws.{are_valid}
-use Rattle.room_inherit.specs.Pass.{pass, passed, passed_flags, ended, carried, waiting}
+use Rattle.room_inherit.specs.Pass.{pass, passed_flags, ended, carried, waiting}
 use Rattle.room_inherit.specs.Sound.{AreSound, fits_kind, has_sound_lists, is_sound_held}
 use Rattle.room_inherit.proofs.Children.{ids_of, each_there, apart_rising}
-use Rattle.room_inherit.proofs.Members.{Each}
 use Rattle.room_inherit.proofs.Renewing.{map_agree}
 use Rattle.room_inherit.proofs.Valid.{pass_is_valid}
 use Rattle.room_inherit.proofs.Whole.{none_unreadable}
-use Rattle.room_desk.specs.Site.{Site}
 use Rattle.room_desk.specs.Effect.{new_node}
 use Rattle.room_desk.specs.Made.{new_child, passed_held}
 use Rattle.room_desk.specs.Stored.{stored_site}
-use Rattle.room_desk.proofs.Added.{after}
 use Rattle.room_desk.proofs.SoundAdded.{above_new, above_old, lists_here, sound_added}
 use Rattle.room_desk.proofs.SoundParts.{sound_parts}
 

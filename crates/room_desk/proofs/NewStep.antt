@@ -1,5 +1,5 @@
 -- What becomes of the rows where an object is made.
-use Rattle.std.proofs.Common.{◌≡◌, ℕ, ◌<◌, Bool, true, false, cond, not, List, [], ◌∷◌, ◌++◌, length, Option, Some, None, refl, sym, ap, subst, ◌∙◌}
+use Rattle.std.proofs.Common.{◌≡◌, ℕ, true, cond, List, length, Option, Some, None, refl, sym, ap, subst, ◌∙◌}
 use Rattle.std.specs.Prelude.{is_none, nat_le}
 use Rattle.std.specs.Option.{option_map}
 use Rattle.room_ace.specs.Valid.{is_document}
@@ -10,7 +10,7 @@ use Rattle.room_tree.specs.declared.node.AuditRow.{AuditRow}
 use Rattle.room_tree.specs.declared.node.NewNode.{NewNode}
 use Rattle.room_tree.specs.declared.node.Node.{Node}
 use Rattle.room_tree.specs.Content.{Content, node_at, child_of, is_folder, put_node, with_records}
-use Rattle.room_tree.specs.Keep.{CanAdd, IsAdded, node_of, reading, with_new}
+use Rattle.room_tree.specs.Keep.{IsAdded, node_of, reading, with_new}
 use Rattle.room_tree.specs.Meaning.{kept_node, meaning}
 use Rattle.room_tree.specs.Paths.{is_object_name}
 use Rattle.room_tree.specs.Rows.{Rows, AreRows}
@@ -19,7 +19,6 @@ use Rattle.room_inherit.specs.Sound.{AreSound}
 use Rattle.room_desk.specs.Effect.{new_node}
 use Rattle.room_desk.specs.Judged.{noted}
 use Rattle.room_desk.specs.Made.{IsMade, new_child}
-use Rattle.room_desk.specs.Site.{Site}
 use Rattle.room_desk.specs.Step.{IsFree}
 use Rattle.room_desk.specs.Stored.{stored_site}
 use Rattle.room_desk.proofs.NewObject.{added, added_means, added_sound, bodies_then}

@@ -1,5 +1,5 @@
 -- A request that puts a document is a step.
-use Rattle.std.proofs.Common.{◌≡◌, ℕ, ◌<◌, Bool, true, false, cond, not, List, [], ◌∷◌, ◌++◌, filter, length, take, Option, Some, None, nat_lt, refl, sym, ap, subst, ◌∙◌}
+use Rattle.std.proofs.Common.{◌≡◌, ℕ, Bool, true, false, cond, List, [], ◌∷◌, filter, length, take, Option, Some, None, nat_lt, refl, sym, ap, subst, ◌∙◌}
 use Rattle.std.specs.Prelude.{is_none, nat_le}
 use Rattle.std.specs.Option.{option_map_or}
 use Rattle.std.proofs.lemmas.Bool.{false≢true, ltb-false, le-leb}
@@ -9,7 +9,7 @@ use Rattle.room_ace.specs.Rights.{write_data}
 use Rattle.room_ace.specs.Valid.{is_document}
 use Rattle.room_ace.specs.declared.object.ObjKind.TheVariants.{Document}
 use Rattle.room_tree.specs.declared.node.Node.{Node}
-use Rattle.room_tree.specs.Content.{node_at, child_of, root_of, is_folder, is_root, with_body, with_node}
+use Rattle.room_tree.specs.Content.{node_at, child_of, is_folder, is_root, with_body, with_node}
 use Rattle.room_tree.specs.Keep.{SetsBody, reading}
 use Rattle.room_tree.specs.Meaning.{meaning}
 use Rattle.room_tree.specs.Rows.{Rows, AreRows}
@@ -22,7 +22,7 @@ use Rattle.room_desk.specs.declared.reply.Reply.TheVariants.{Done, Made, Refused
 use Rattle.room_desk.specs.declared.reply.Reason.TheVariants.{TooLarge, WrongKind}
 use Rattle.room_desk.specs.declared.request.Request.TheVariants.{Put}
 use Rattle.room_desk.specs.Site.{Site, last_name, parent_at, site_at, sites_along}
-use Rattle.room_desk.specs.Plan.{Item, Check, Refusal, no_folder, not_over, plan_of, put_items, way}
+use Rattle.room_desk.specs.Plan.{Item, Check, no_folder, not_over, plan_of, put_items, way}
 use Rattle.room_desk.specs.Effect.{new_node, put_bytes}
 use Rattle.room_desk.specs.Judge.{failure, first_failure, records_of_plan}
 use Rattle.room_desk.specs.Stored.{stored_site, stored_from, stored_along, found_site}

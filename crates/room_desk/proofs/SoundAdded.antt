@@ -1,24 +1,23 @@
 -- Rows stay sound where an object is added.
-use Rattle.std.proofs.Common.{◌≡◌, ℕ, zero, suc, ◌+◌, ◌==◌, Bool, true, false, cond, not, ◌&&◌, ◌||◌, List, [], ◌∷◌, ◌++◌, map, filter, length, Option, Some, None, nat_lt, refl, sym, ap, subst, ◌∙◌, inl, inr, arith}
+use Rattle.std.proofs.Common.{◌≡◌, ℕ, suc, Bool, true, false, cond, not, ◌&&◌, ◌||◌, List, [], ◌∷◌, filter, length, Option, Some, None, nat_lt, refl, sym, ap, ◌∙◌, inl, inr, arith}
 use Rattle.std.specs.Prelude.{is_none}
 use Rattle.std.specs.List.{find, list_all, list_any}
 use Rattle.std.specs.Option.{option_map_or}
-use Rattle.std.proofs.lemmas.Bool.{cases_Bool, false≢true, and_parts, and_from, or_right, eqb-true, eq-eqb, le-ltb}
+use Rattle.std.proofs.lemmas.Bool.{cases_Bool, false≢true, and_parts, and_from, or_right, eqb-true, le-ltb}
 use Rattle.std.proofs.lemmas.List.Folds.{list_all-map}
 use Rattle.std.proofs.lemmas.Slice.Eq.{bytes_eq-Decides}
 use Rattle.room_ace.specs.Pieces.{is_among, same_text}
-use Rattle.room_ace.specs.declared.object.Which.{Which}
 use Rattle.room_ace.specs.declared.object.Which.TheVariants.{Dacl, Sacl}
 use Rattle.room_tree.specs.declared.node.Node.{Node}
 use Rattle.room_tree.specs.Content.{Content, node_at, child_of, parent_of, has_parent, has_folder_above, is_folder, is_root, same_parent, put_node, reaches_root, body_in}
 use Rattle.room_tree.specs.Finding.{find_id}
 use Rattle.room_tree.specs.Keep.{reading}
 use Rattle.room_tree.specs.Paths.{is_object_name}
-use Rattle.room_tree.specs.Rows.{Rows, AreRows, numbers_of, put_numbers}
+use Rattle.room_tree.specs.Rows.{Rows, AreRows, put_numbers}
 use Rattle.room_tree.proofs.Frames.{has_its_parent}
-use Rattle.room_inherit.specs.Law.{agrees, agrees_with}
+use Rattle.room_inherit.specs.Law.{agrees_with}
 use Rattle.room_inherit.specs.Laws.{HasNoFault}
-use Rattle.room_inherit.specs.Sound.{AreSound, bad_root, fits_kind, has_bad_list, has_sound_body, has_sound_lists, has_sound_name, keeps_law, reaches, same_place}
+use Rattle.room_inherit.specs.Sound.{AreSound, bad_root, fits_kind, has_sound_body, has_sound_lists, has_sound_name, keeps_law, reaches, same_place}
 use Rattle.room_inherit.proofs.Children.{ids_of, each_found}
 use Rattle.room_inherit.proofs.Ends.{each_all}
 use Rattle.room_inherit.proofs.Members.{Each, each_fails, any_none}

@@ -1,2 +1,0 @@
-use Rattle.room_desk.proofs.FolderMade.{make_in}
-use Rattle.room_desk.proofs.making.child_at.Goals as goal
