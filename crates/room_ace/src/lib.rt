@@ -19,8 +19,6 @@ mod object;
 mod parties;
 mod pieces;
 mod sent;
-#[cfg(test)]
-mod tests;
 mod validity;
 
 pub use entry::{Entries, Entry, EntryKind, Who};

@@ -125,6 +125,3 @@ fn push_line(alloc: Global, text: &mut String, entry: &Entry) -> Result<(), Allo
     text.push('\n')?;
     Ok(())
 }
-
-#[cfg(test)]
-mod tests;

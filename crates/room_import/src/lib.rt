@@ -7,8 +7,6 @@ mod laws;
 mod pairs;
 mod reading;
 mod rows;
-#[cfg(test)]
-mod tests;
 mod writing;
 
 pub use fault::{CsvFault, CsvWhy};

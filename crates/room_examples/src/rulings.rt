@@ -1,6 +1,6 @@
 //! Worked examples: lists in text, one caller, and what is told.
-use super::*;
 use room_ace::{Caller, Entries, Mask, Names, Owners, read_entry, read_mask, read_name};
+use room_eval::{DeleteVerdict, Ruling, Verdict, decide, events, may_delete, ruling};
 use std::alloc::Global;
 use std::test::Fail;
 

@@ -1,5 +1,6 @@
 //! Texts of lists, and what is read from them.
-use super::*;
+use room_ace::{Failure, print_list, read_list};
+use std::alloc::{AllocError, Global};
 use std::test::Fail;
 
 // The printed form of the list that the bytes spell, or its fault.

@@ -1,6 +1,6 @@
 //! The group file and the exports at written examples.
-use super::*;
 use room_ace::{Failure, Mask, read_name};
+use room_import::{Pairs, read_groups, write_audits, write_groups};
 use room_tree::{AuditRow, RecordKind, read_path};
 use std::alloc::{AllocError, Global};
 use std::fmt::Write;

@@ -1,5 +1,8 @@
 //! Worked examples: the text of entries, what may stand in a list, and copies.
-use super::*;
+use room_ace::{
+    Caller, Entries, EntryFlags, EntryKind, Failure, ListFault, ListFlags, Names, ObjKind, Owners,
+    SentList, Which, Who, matches, print_entry, print_list, read_entry, read_name, valid,
+};
 use std::alloc::Global;
 use std::test::Fail;
 
