@@ -1,21 +1,20 @@
 -- What carrying a list down leaves, once the list of one object is set.
-use Rattle.std.proofs.Common.{◌≡◌, ℕ, zero, suc, ◌==◌, ◌&&◌, ◌||◌, Bool, true, false, cond, not, List, [], ◌∷◌, map, length, Option, Some, None, refl, sym, ap, subst, ◌∙◌, inl, inr}
-use Rattle.std.specs.Prelude.{option_and_then}
+use Rattle.std.proofs.Common.{◌≡◌, ℕ, zero, suc, ◌==◌, ◌&&◌, ◌||◌, Bool, true, false, cond, not, List, [], ◌∷◌, map, Option, Some, None, refl, sym, ap, subst, ◌∙◌, inl, inr}
 use Rattle.std.specs.List.{AllByRecursion, list_all}
 use Rattle.std.specs.Option.{option_map, option_map_or}
 use Rattle.std.proofs.lemmas.Bool.{and_parts, and_from, cases_Bool, cond-true, false≢true, or_left, or_right}
 use Rattle.room_ace.specs.Ace.{Ace}
 use Rattle.room_ace.specs.Same.{same_entries}
-use Rattle.room_ace.specs.Sent.{Sent, inherited_of, own_of}
+use Rattle.room_ace.specs.Sent.{Sent, inherited_of}
 use Rattle.room_ace.specs.declared.object.ObjKind.{ObjKind}
 use Rattle.room_ace.specs.declared.object.Which.{Which}
 use Rattle.room_ace.proofs.Same.{entries_equal}
 use Rattle.room_tree.specs.declared.node.Held.{Held}
 use Rattle.room_tree.specs.declared.node.Node.{Node}
-use Rattle.room_tree.specs.Content.{Content, node_at, parent_of, has_parent, is_linked_in, reaches_root, with_each}
+use Rattle.room_tree.specs.Content.{Content, node_at, parent_of, has_parent, is_linked_in, reaches_root}
 use Rattle.room_tree.specs.Finding.{find_id}
 use Rattle.room_tree.specs.Held.{held_of, full_of, is_linked}
-use Rattle.room_tree.proofs.Frames.{Rises, node_at-number}
+use Rattle.room_tree.proofs.Frames.{Rises}
 use Rattle.room_tree.proofs.Lookups.{each_found, same_some}
 use Rattle.room_inherit.specs.Law.{AllAgree, AllAgreeBut, agrees, agrees_with}
 use Rattle.room_inherit.specs.Pass.{pass}

@@ -3,7 +3,7 @@ use Rattle.std.proofs.Common.{◌≡◌, ℕ, ◌+◌, ◌==◌, ◌&&◌, Bool,
 use Rattle.std.specs.Prelude.{is_none, nat_le, nat_lt}
 use Rattle.std.specs.List.{list_all}
 use Rattle.std.specs.Option.{option_map, option_map_or}
-use Rattle.std.proofs.lemmas.Bool.{and_from, and_parts, cases_Bool, false≢true, le-leb, ltb-false}
+use Rattle.std.proofs.lemmas.Bool.{and_from, and_parts, false≢true, le-leb, ltb-false}
 use Rattle.std.proofs.lemmas.List.{map-id}
 use Rattle.room_ace.specs.Ace.{Ace}
 use Rattle.room_ace.specs.Sent.{Sent, inherited_of, limit_fault, own_of}
@@ -17,7 +17,6 @@ use Rattle.room_tree.specs.declared.node.Node.{Node}
 use Rattle.room_tree.specs.Content.{Content, node_at, parent_of, has_parent, is_linked_in, with_each, with_node}
 use Rattle.room_tree.specs.Held.{held_of, full_of, is_linked, with_held}
 use Rattle.room_tree.specs.Keep.{IsUnreadable, reading}
-use Rattle.room_tree.specs.Meaning.{meaning}
 use Rattle.room_tree.specs.Rows.{Rows, AreRows}
 use Rattle.room_inherit.specs.Law.{AllAgree, agrees}
 use Rattle.room_inherit.specs.Laws.{are_valid}

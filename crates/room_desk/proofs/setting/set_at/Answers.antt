@@ -3,11 +3,10 @@ use Rattle.std.proofs.lemmas.Bool.{false≢true}
 use Rattle.std.specs.Result.{IsErrAnd}
 use Rattle.room_tree.specs.declared.keep.KeepFault.{KeepFault}
 use Rattle.room_desk.proofs.Calls.{Ruled, HasDone, none_done, then, finish, fails, tail_known, done, of_read, of_write}
-use Rattle.room_tree.specs.Content.{node_at, parent_of, with_node}
+use Rattle.room_tree.specs.Content.{node_at, with_node}
 use Rattle.room_tree.specs.Held.{with_held}
 use Rattle.room_tree.specs.Keep.{IsUnreadable, reading}
 use Rattle.room_tree.specs.Rows.{Rows}
-use Rattle.room_desk.specs.Setting.{stored_held}
 use Rattle.room_desk.proofs.SoundParts.{readable_unsound}
 use Rattle.room_desk.proofs.SetWell.{IsHeldWritten, carried_blames, carried_well, set_same, stopped_well}
 use Rattle.room_desk.proofs.setting.set_at.Goals as goal
