@@ -1,9 +1,9 @@
 -- Rows in which the objects have other lists of one attribute, and else are as they were.
-use Rattle.std.proofs.Common.{◌≡◌, ℕ, zero, suc, ◌==◌, ◌&&◌, ◌||◌, Bool, true, false, cond, not, List, [], ◌∷◌, map, filter, length, Option, Some, None, refl, sym, ap, subst, ◌∙◌, inl, inr}
+use Rattle.std.proofs.Common.{◌≡◌, ℕ, zero, suc, ◌&&◌, ◌||◌, Bool, true, false, cond, not, List, [], ◌∷◌, map, filter, length, Option, Some, None, refl, ap, ◌∙◌}
 use Rattle.std.specs.Prelude.{is_none, nat_lt}
 use Rattle.std.specs.List.{list_all, list_any}
 use Rattle.std.specs.Option.{option_map, option_map_or}
-use Rattle.std.proofs.lemmas.Bool.{and_parts, and_from, cases_Bool, false≢true}
+use Rattle.std.proofs.lemmas.Bool.{and_parts, and_from}
 use Rattle.std.proofs.lemmas.List.{length-map}
 use Rattle.room_ace.specs.declared.object.Which.{Which}
 use Rattle.room_ace.specs.declared.object.Which.TheVariants.{Dacl, Sacl}
@@ -13,10 +13,9 @@ use Rattle.room_tree.specs.Content.{Content, node_at, parent_of, is_root, is_fol
 use Rattle.room_tree.specs.Held.{held_of, with_held, is_linked}
 use Rattle.room_tree.specs.Keep.{reading}
 use Rattle.room_tree.specs.Meaning.{kept_held, kept_node}
-use Rattle.room_tree.specs.Rows.{Rows, AreRows, is_unreadable, numbers_of}
+use Rattle.room_tree.specs.Rows.{Rows, is_unreadable, numbers_of}
 use Rattle.room_tree.proofs.Frames.{KeepsPlaces, keeps_places, place-with_held, node_at-with_each, node_at-number, parent_of-with_each, numbers_of-reading, numbers-with_each}
 use Rattle.room_inherit.specs.Law.{AllAgree, agrees, agrees_with}
-use Rattle.room_inherit.specs.Laws.{HasNoFault}
 use Rattle.room_inherit.specs.Sound.{AreSound, bad_root, has_bad_list, has_sound_body, has_sound_lists, has_sound_name, is_sound_held, keeps_law, reaches}
 use Rattle.room_inherit.proofs.NoFault.{no_fault, sound}
 

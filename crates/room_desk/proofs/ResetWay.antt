@@ -1,17 +1,16 @@
 -- The way of a reset: what is refused, by where the walk comes to.
-use Rattle.std.proofs.Common.{◌≡◌, ℕ, zero, suc, ◌+◌, ◌-◌, ◌&&◌, Bool, true, false, cond, not, List, [], ◌∷◌, ◌++◌, map, filter, length, take, Option, Some, None, refl, sym, ap, ◌∙◌, append_assoc, arith, length-append}
-use Rattle.std.specs.Option.{option_map, option_map_or}
-use Rattle.room_ace.specs.Rights.{execute}
+use Rattle.std.proofs.Common.{◌≡◌, ℕ, zero, suc, ◌-◌, ◌&&◌, true, false, cond, not, List, [], ◌∷◌, ◌++◌, filter, length, take, Option, Some, None, refl, sym, ap, ◌∙◌, append_assoc, arith, length-append}
+use Rattle.std.specs.Option.{option_map_or}
 use Rattle.room_ace.specs.declared.parties.Caller.{Caller}
 use Rattle.room_tree.specs.declared.node.Node.{Node}
 use Rattle.room_tree.specs.declared.node.Walk.{Walk}
-use Rattle.room_tree.specs.Content.{Content, child_of, is_empty, is_folder, root_of}
-use Rattle.room_tree.specs.Walk.{behind, walk_from, walk_of}
+use Rattle.room_tree.specs.Content.{Content, child_of, is_empty, is_folder}
+use Rattle.room_tree.specs.Walk.{behind, walk_from}
 use Rattle.room_desk.specs.declared.reply.Reason.TheVariants.{NoSuch, NotFolder}
 use Rattle.room_desk.specs.declared.reply.Reply.{Reply}
 use Rattle.room_desk.specs.declared.reply.Reply.TheVariants.{Refused}
 use Rattle.room_desk.specs.Judge.{first_failure, or_else}
-use Rattle.room_desk.specs.Plan.{Item, Check, Refusal, way, where_found}
+use Rattle.room_desk.specs.Plan.{Item, way, where_found}
 use Rattle.room_desk.specs.Site.{Site, site_at}
 use Rattle.room_desk.specs.Step.{is_refusal}
 use Rattle.room_desk.specs.Stored.{stored_from, stored_site}

@@ -1,5 +1,5 @@
 -- Sent entries gone through one by one.
-use Rattle.std.proofs.Common.{◌≡◌, ℕ, ◌+◌, ◌<◌, Bool, true, false, cond, not, List, [], ◌∷◌, ◌++◌, filter, length, drop, get_or, Option, Some, None, Result, Ok, Err, refl, sym, ap, ◌∙◌, append_assoc}
+use Rattle.std.proofs.Common.{◌≡◌, ℕ, ◌+◌, ◌<◌, Bool, true, false, cond, not, List, [], ◌∷◌, ◌++◌, length, drop, get_or, Option, Some, None, Result, Ok, Err, refl, sym, ap, ◌∙◌, append_assoc}
 use Rattle.std.specs.Prelude.{MatchOption}
 use Rattle.std.specs.Option.{option_map_or}
 use Rattle.std.proofs.lemmas.List.{drop_more}
@@ -11,7 +11,6 @@ use Rattle.room_ace.specs.declared.fault.ListFault.{ListFault}
 use Rattle.room_ace.specs.declared.flags.EntryFlags.{EntryFlags}
 use Rattle.room_ace.specs.declared.object.ObjKind.{ObjKind}
 use Rattle.room_ace.specs.declared.object.Which.{Which}
-use Rattle.room_desk.specs.declared.reply.Reason.{Reason}
 use Rattle.room_desk.specs.declared.reply.Reason.TheVariants.{BadList}
 use Rattle.room_desk.specs.Plan.{first_invalid}
 use Rattle.room_desk.specs.Setting.{fault_in, marked, reason_of}

@@ -1,7 +1,6 @@
 -- What a request that sets a list makes of what the rows mean.
-use Rattle.std.proofs.Common.{◌≡◌, ℕ, ◌&&◌, Bool, true, false, cond, not, List, [], ◌∷◌, ◌++◌, Option, Some, None, refl, sym, ap, ◌∙◌}
+use Rattle.std.proofs.Common.{◌≡◌, ℕ, ◌&&◌, Bool, true, false, cond, not, List, [], ◌∷◌, Option, Some, None, refl, sym, ap, ◌∙◌}
 use Rattle.std.specs.Option.{option_map}
-use Rattle.room_ace.specs.Ace.{Ace}
 use Rattle.room_ace.specs.Sent.{Sent, inherited_of, own_of}
 use Rattle.room_ace.specs.declared.object.Which.{Which}
 use Rattle.room_ace.specs.declared.object.Which.TheVariants.{Dacl, Sacl}
@@ -12,7 +11,6 @@ use Rattle.room_tree.specs.Content.{Content, has_parent, is_linked_in, parent_of
 use Rattle.room_tree.specs.Held.{held_of, with_held}
 use Rattle.room_tree.specs.Meaning.{kept_held, kept_node, meaning}
 use Rattle.room_tree.specs.Rows.{Rows, AreRows}
-use Rattle.room_desk.specs.declared.reply.Reply.{Reply}
 use Rattle.room_desk.specs.declared.reply.Reply.TheVariants.{Done}
 use Rattle.room_desk.specs.declared.request.Request.TheVariants.{SetList}
 use Rattle.room_desk.specs.Effect.{effect, kept_by_child, sent_held, set_list, with_site}

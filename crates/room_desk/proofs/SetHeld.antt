@@ -12,7 +12,7 @@ use Rattle.room_tree.specs.declared.node.Node.{Node}
 use Rattle.room_tree.specs.Content.{Content, node_at, parent_of, has_parent, is_linked_in, with_each, with_node}
 use Rattle.room_tree.specs.Finding.{find_id}
 use Rattle.room_tree.specs.Held.{held_of, with_held, is_linked}
-use Rattle.room_tree.specs.Keep.{reading, with_inh}
+use Rattle.room_tree.specs.Keep.{with_inh}
 use Rattle.room_tree.specs.Rows.{Rows, is_unreadable, put_numbers}
 use Rattle.room_tree.proofs.Frames.{Rises, node_at-number, place-with_held, with_each-with_each, with_node-replaces}
 use Rattle.room_tree.proofs.Lookups.{each_found, replaced, same_some}
@@ -20,7 +20,7 @@ use Rattle.room_inherit.specs.Law.{AllAgree}
 use Rattle.room_inherit.specs.Sound.{AreSound, has_bad_list, has_sound_lists, is_sound_held, reaches}
 use Rattle.room_inherit.specs.Spread.{with_lists}
 use Rattle.room_inherit.proofs.NoFault.{no_fault}
-use Rattle.room_desk.proofs.Relisted.{relist, relisted, found_relisted, held_relisted, kind_kept, parent_kept, number_kept, linked_relisted, folders_kept, reach_kept, one_list, relisted_sound}
+use Rattle.room_desk.proofs.Relisted.{relist, relisted, found_relisted, held_relisted, kind_kept, number_kept, linked_relisted, folders_kept, reach_kept, one_list, relisted_sound}
 use Rattle.room_desk.proofs.SoundParts.{none_unreadable, sound_parts}
 use Rattle.room_desk.proofs.ValidDown.{are_inherited, are_own, all_found, held_parts, valid_down}
 

@@ -1,8 +1,8 @@
 -- What rows mean once a list is set and carried down is what setting that list makes of what they meant.
-use Rattle.std.proofs.Common.{◌≡◌, ℕ, ◌==◌, ◌&&◌, Bool, true, false, cond, not, List, [], ◌++◌, Option, Some, None, refl, sym, ap, ◌∙◌, inl, inr}
+use Rattle.std.proofs.Common.{◌≡◌, ◌==◌, ◌&&◌, Bool, true, false, cond, not, List, [], ◌++◌, Option, Some, None, refl, sym, ap, ◌∙◌, inl, inr}
 use Rattle.std.specs.Prelude.{option_and_then}
 use Rattle.std.specs.Option.{option_map, option_map_or}
-use Rattle.std.proofs.lemmas.Bool.{cases_Bool, cond-true, cond-false, false≢true, eqb-true}
+use Rattle.std.proofs.lemmas.Bool.{cases_Bool, cond-true, cond-false}
 use Rattle.room_ace.specs.Ace.{Ace}
 use Rattle.room_ace.specs.Sent.{Sent, inherited_of, own_of}
 use Rattle.room_ace.specs.declared.object.ObjKind.{ObjKind}
@@ -17,7 +17,7 @@ use Rattle.room_tree.proofs.Frames.{Rises, keeps_places, node_at-number, node_at
 use Rattle.room_tree.proofs.Lookups.{IsSamePlace, replaced}
 use Rattle.room_inherit.specs.Pass.{pass}
 use Rattle.room_desk.specs.Effect.{kept_by_child, sent_held, set_list}
-use Rattle.room_desk.specs.Setting.{kept_site, stored_held, stored_inh, passing}
+use Rattle.room_desk.specs.Setting.{kept_site, stored_held}
 use Rattle.room_desk.specs.Site.{full_at}
 use Rattle.room_desk.proofs.Relisted.{relist, kept_relisted}
 use Rattle.room_desk.proofs.SetHeld.{base, base_here, base_elsewhere, each_same, ends, final, links, linked_finally, mid, other_links, own_held, same_object, unlinked_kept}

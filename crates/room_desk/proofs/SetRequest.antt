@@ -13,17 +13,16 @@ use Rattle.room_tree.specs.Rows.{Rows, AreRows}
 use Rattle.room_inherit.specs.Sound.{AreSound}
 use Rattle.room_desk.specs.declared.arrival.Arrival.TheVariants.{At, Ended}
 use Rattle.room_desk.specs.declared.asker.Asker.{Asker}
-use Rattle.room_desk.specs.declared.reply.Reason.{Reason}
 use Rattle.room_desk.specs.declared.reply.Reason.TheVariants.{BadList}
 use Rattle.room_desk.specs.declared.reply.Reply.{Reply}
 use Rattle.room_desk.specs.declared.reply.Reply.TheVariants.{Done, Refused}
 use Rattle.room_desk.specs.declared.request.Request.TheVariants.{SetList}
 use Rattle.room_desk.specs.Effect.{set_list}
-use Rattle.room_desk.specs.Judged.{CarriesOut, IsJudged, IsReached, NotSound, noted}
-use Rattle.room_desk.specs.Plan.{Item, Refusal, bad_list, first_invalid, plan_of, way, where_found}
-use Rattle.room_desk.specs.Setting.{IsSet, IsSetOrRefused, IsSetWell, SetUnless, SetsBadly, fault_in, kept_site, reason_of}
+use Rattle.room_desk.specs.Judged.{CarriesOut, IsJudged, IsReached, NotSound}
+use Rattle.room_desk.specs.Plan.{Item, bad_list, first_invalid, plan_of, way, where_found}
+use Rattle.room_desk.specs.Setting.{IsSetOrRefused, IsSetWell, SetUnless, SetsBadly, kept_site, reason_of}
 use Rattle.room_desk.specs.Site.{Site, site_at}
-use Rattle.room_desk.specs.Stored.{stored_along, stored_site, to_stored}
+use Rattle.room_desk.specs.Stored.{stored_along, to_stored}
 use Rattle.room_desk.proofs.Filled.{fill_item, plan_judged}
 use Rattle.room_desk.proofs.Judging.{fails_first, judged_none, passes_first, refuses}
 use Rattle.room_desk.proofs.Serving.{CheckAt}

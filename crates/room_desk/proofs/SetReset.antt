@@ -1,37 +1,36 @@
 -- The operator's reset of a list is its step.
-use Rattle.std.proofs.Common.{◌≡◌, ◌||◌, ℕ, zero, suc, Bool, true, false, cond, not, List, [], ◌∷◌, ◌++◌, filter, length, map, Option, Some, None, refl, sym, ap, subst, ◌∙◌}
+use Rattle.std.proofs.Common.{◌≡◌, ◌||◌, ℕ, zero, suc, true, false, cond, List, [], ◌∷◌, ◌++◌, filter, length, map, Option, Some, None, refl, sym, ap, subst, ◌∙◌}
 use Rattle.std.specs.Prelude.{is_none, option_and_then}
-use Rattle.std.specs.Option.{option_map, option_map_or}
+use Rattle.std.specs.Option.{option_map_or}
 use Rattle.room_ace.specs.Sent.{Sent}
 use Rattle.room_ace.specs.declared.fault.ListFault.{ListFault}
 use Rattle.room_ace.specs.declared.object.Which.{Which}
 use Rattle.room_ace.specs.declared.parties.Caller.{Caller}
 use Rattle.room_tree.specs.declared.node.Node.{Node}
 use Rattle.room_tree.specs.declared.node.Walk.{Walk}
-use Rattle.room_tree.specs.Content.{Content, child_of, has_folder_above, is_folder, is_root, node_at, parent_of, root_of}
+use Rattle.room_tree.specs.Content.{Content, child_of, has_folder_above, is_folder, node_at, parent_of}
 use Rattle.room_tree.specs.Meaning.{meaning}
 use Rattle.room_tree.specs.Rows.{Rows, AreRows}
 use Rattle.room_tree.specs.Walk.{walk_of, walk_from}
 use Rattle.room_tree.proofs.Frames.{child_of-is_there, child_of-parent, root_of-is_there}
 use Rattle.room_inherit.specs.Sound.{AreSound}
 use Rattle.room_inherit.proofs.NoFault.{no_fault}
-use Rattle.room_desk.specs.declared.reply.Reason.TheVariants.{BadList}
 use Rattle.room_desk.specs.declared.reply.Reply.{Reply}
 use Rattle.room_desk.specs.declared.reply.Reply.TheVariants.{Done, Refused}
 use Rattle.room_desk.specs.declared.request.Request.TheVariants.{SetList}
-use Rattle.room_desk.specs.Effect.{effect, set_list}
+use Rattle.room_desk.specs.Effect.{effect}
 use Rattle.room_desk.specs.Judge.{first_failure, or_else}
 use Rattle.room_desk.specs.Judged.{NotSound, Resets}
 use Rattle.room_desk.specs.Plan.{Item, Check, Deletion, Refusal, bad_list, first_invalid, plan_of, way, where_found}
-use Rattle.room_desk.specs.Setting.{IsResetAtEnd, IsSetOrRefused, SetUnless, SetsBadly, ended_at, kept_site, reason_of}
+use Rattle.room_desk.specs.Setting.{IsResetAtEnd, IsSetOrRefused, SetUnless, SetsBadly, reason_of}
 use Rattle.room_desk.specs.Site.{Site, site_at, sites_along}
 use Rattle.room_desk.specs.Step.{answered, is_refusal, reset}
-use Rattle.room_desk.specs.Stored.{stored_along, stored_from, stored_site, to_stored}
+use Rattle.room_desk.specs.Stored.{stored_along, stored_from, stored_site}
 use Rattle.room_desk.proofs.Filled.{fill_item, target_filled}
-use Rattle.room_desk.proofs.ResetWay.{Comes, IsWalkEnd, comes, end_from, refusals, same_last, walk_end}
+use Rattle.room_desk.proofs.ResetWay.{Comes, comes, end_from, refusals, same_last, walk_end}
 use Rattle.room_desk.proofs.SetEffect.{set_effect}
 use Rattle.room_desk.proofs.SetRequest.{items, items_filled}
-use Rattle.room_desk.proofs.Sites.{fill, sites_filled}
+use Rattle.room_desk.proofs.Sites.{sites_filled}
 use Rattle.room_desk.proofs.SoundParts.{root_there, sound_parts}
 use Rattle.room_desk.proofs.ValidDown.{all_found}
 

@@ -1,21 +1,20 @@
 -- What carrying a list down leaves, once the list of one object is set.
-use Rattle.std.proofs.Common.{◌≡◌, ℕ, zero, suc, ◌==◌, ◌&&◌, ◌||◌, Bool, true, false, cond, not, List, [], ◌∷◌, map, length, Option, Some, None, refl, sym, ap, subst, ◌∙◌, inl, inr}
-use Rattle.std.specs.Prelude.{option_and_then}
+use Rattle.std.proofs.Common.{◌≡◌, ℕ, zero, suc, ◌==◌, ◌&&◌, ◌||◌, Bool, true, false, cond, not, List, [], ◌∷◌, map, Option, Some, None, refl, sym, ap, subst, ◌∙◌, inl, inr}
 use Rattle.std.specs.List.{AllByRecursion, list_all}
 use Rattle.std.specs.Option.{option_map, option_map_or}
-use Rattle.std.proofs.lemmas.Bool.{and_parts, and_from, cases_Bool, false≢true, or_left, or_right}
+use Rattle.std.proofs.lemmas.Bool.{and_parts, and_from, cases_Bool, cond-true, false≢true, or_left, or_right}
 use Rattle.room_ace.specs.Ace.{Ace}
 use Rattle.room_ace.specs.Same.{same_entries}
-use Rattle.room_ace.specs.Sent.{Sent, inherited_of, own_of}
+use Rattle.room_ace.specs.Sent.{Sent, inherited_of}
 use Rattle.room_ace.specs.declared.object.ObjKind.{ObjKind}
 use Rattle.room_ace.specs.declared.object.Which.{Which}
 use Rattle.room_ace.proofs.Same.{entries_equal}
 use Rattle.room_tree.specs.declared.node.Held.{Held}
 use Rattle.room_tree.specs.declared.node.Node.{Node}
-use Rattle.room_tree.specs.Content.{Content, node_at, parent_of, has_parent, is_linked_in, reaches_root, with_each}
+use Rattle.room_tree.specs.Content.{Content, node_at, parent_of, has_parent, is_linked_in, reaches_root}
 use Rattle.room_tree.specs.Finding.{find_id}
 use Rattle.room_tree.specs.Held.{held_of, full_of, is_linked}
-use Rattle.room_tree.proofs.Frames.{Rises, node_at-number}
+use Rattle.room_tree.proofs.Frames.{Rises}
 use Rattle.room_tree.proofs.Lookups.{each_found, same_some}
 use Rattle.room_inherit.specs.Law.{AllAgree, AllAgreeBut, agrees, agrees_with}
 use Rattle.room_inherit.specs.Pass.{pass}
@@ -79,20 +78,44 @@ module _ (which : Which) (rows : Content) (node : Node) (held : Held) (rises : R
         ∙ sym (ap (λ o. option_map_or (agrees_with which n) o true) is) ∙ all_found (agrees rows which) rows n.id n law found
   ]
 
+  -- what an object agrees with, once the lists are changed
+  agrees_up : (n : Node) (o : Option Node) → ((above : Node) → o ≡ Some above → agreed (with n) (with above) n.kind ≡ true) → option_map_or (agrees_with which (relist which with n)) (option_map (relist which with) o) true ≡ true
+  agrees_up n None agree = refl
+  agrees_up n (Some above) agree =
+      ap (λ h. agreed h (held_of which (relist which with above)) (relist which with n).kind) (held_relisted which with n)
+      ∙ ap (λ h. agreed (with n) h (relist which with n).kind) (held_relisted which with above)
+      ∙ ap (agreed (with n) (with above)) (kind_kept which with n) ∙ agree above refl
+
   relisted_agrees : (n : Node) → node_at rows n.id ≡ Some n → (has_parent node.id (relist which with n) || agrees (relisted which with rows) which (relist which with n)) ≡ true
   relisted_agrees n found = elim (cases_Bool (has_parent node.id n)) [
     | inl is ↦ or_left (has_parent node.id (relist which with n)) (agrees (relisted which with rows) which (relist which with n)) (ap (λ o. option_map_or (λ p. p == node.id) o false) (parent_kept which with n) ∙ is)
     | inr isnt ↦
         or_right (has_parent node.id (relist which with n)) (agrees (relisted which with rows) which (relist which with n))
-        (ap (λ o. option_map_or (agrees_with which (relist which with n)) o true) (parent_relisted which with rows n) ∙ on (parent_of rows n) (λ above is. one_agrees n found above is (other_parent which rows node held n.parent above isnt is)))
+        (ap (λ o. option_map_or (agrees_with which (relist which with n)) o true) (parent_relisted which with rows n) ∙ agrees_up n (parent_of rows n) (λ above is. one_agrees n found above is (other_parent which rows node held n.parent above isnt is)))
   ]
-    where
-      on : (o : Option Node) → ((above : Node) → o ≡ Some above → agreed (with n) (with above) n.kind ≡ true) → option_map_or (agrees_with which (relist which with n)) (option_map (relist which with) o) true ≡ true
-      on None agree = refl
-      on (Some above) agree =
-          ap (λ h. agreed h (held_of which (relist which with above)) (relist which with n).kind) (held_relisted which with n)
-          ∙ ap (λ h. agreed (with n) h (relist which with n).kind) (held_relisted which with above)
-          ∙ ap (agreed (with n) (with above)) (kind_kept which with n) ∙ agree above refl
+
+  -- a list without AUTO_INHERIT passes nothing, so the law holds below it too
+  module _ (stops : held.flags.auto ≡ false) where
+    under_stopped : (n : Node) → agreed (with n) held n.kind ≡ true
+    under_stopped n = ap (λ t. not (not (with n).flags.protect && t) || same_entries (with n).inh (pass n.kind (full_of held))) stops ∙ on (not (with n).flags.protect)
+      where
+        on : (t : Bool) → (not (t && false) || same_entries (with n).inh (pass n.kind (full_of held))) ≡ true
+        on true = refl
+        on false = refl
+
+    stopped_agrees : (n : Node) → node_at rows n.id ≡ Some n → agrees (relisted which with rows) which (relist which with n) ≡ true
+    stopped_agrees n found = ap (λ o. option_map_or (agrees_with which (relist which with n)) o true) (parent_relisted which with rows n) ∙ agrees_up n (parent_of rows n) one
+      where
+        one : (above : Node) → parent_of rows n ≡ Some above → agreed (with n) (with above) n.kind ≡ true
+        one above is = elim (cases_Bool (above.id == node.id)) [
+          | inl here ↦ ap (λ h. agreed (with n) h n.kind) (cond-true (above.id == node.id) held (held_of which above) here) ∙ under_stopped n
+          | inr other ↦ one_agrees n found above is other
+        ]
+
+    pub agree_all : AllAgree (mid which rows node held) which
+    agree_all =
+        subst (λ (c : Content). AllAgree c which) (sym (mid_is which rows node held (λ n. []) rises there))
+        (all_of_each (agrees (relisted which with rows) which) (relist which with) (λ n. find_id n.id rows.nodes ≡ Some n) stopped_agrees rows.nodes (each_found 0 rows.nodes rises))
 
   -- the law holds but for the children of the object
   pub agree_but : AllAgreeBut (mid which rows node held) which node.id

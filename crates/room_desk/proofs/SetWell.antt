@@ -3,7 +3,7 @@ use Rattle.std.proofs.Common.{◌≡◌, ℕ, ◌+◌, ◌==◌, ◌&&◌, Bool,
 use Rattle.std.specs.Prelude.{is_none, nat_le, nat_lt}
 use Rattle.std.specs.List.{list_all}
 use Rattle.std.specs.Option.{option_map, option_map_or}
-use Rattle.std.proofs.lemmas.Bool.{and_from, and_parts, cases_Bool, false≢true, le-leb, ltb-false}
+use Rattle.std.proofs.lemmas.Bool.{and_from, and_parts, false≢true, le-leb, ltb-false}
 use Rattle.std.proofs.lemmas.List.{map-id}
 use Rattle.room_ace.specs.Ace.{Ace}
 use Rattle.room_ace.specs.Sent.{Sent, inherited_of, limit_fault, own_of}
@@ -17,13 +17,13 @@ use Rattle.room_tree.specs.declared.node.Node.{Node}
 use Rattle.room_tree.specs.Content.{Content, node_at, parent_of, has_parent, is_linked_in, with_each, with_node}
 use Rattle.room_tree.specs.Held.{held_of, full_of, is_linked, with_held}
 use Rattle.room_tree.specs.Keep.{IsUnreadable, reading}
-use Rattle.room_tree.specs.Meaning.{meaning}
 use Rattle.room_tree.specs.Rows.{Rows, AreRows}
 use Rattle.room_inherit.specs.Law.{AllAgree, agrees}
 use Rattle.room_inherit.specs.Laws.{are_valid}
 use Rattle.room_inherit.specs.Pass.{pass}
 use Rattle.room_inherit.specs.Sound.{AreSound, keeps_law, reaches}
 use Rattle.room_inherit.specs.Spread.{IsOwnAncestor, IsSpread, with_lists}
+use Rattle.room_inherit.proofs.Kinship.{with_own}
 use Rattle.room_inherit.proofs.NoFault.{no_fault}
 use Rattle.room_inherit.proofs.Rooted.{rooted_no_loop}
 use Rattle.room_desk.specs.Plan.{first_invalid}
@@ -32,7 +32,7 @@ use Rattle.room_desk.proofs.SoundParts.{readable_unsound}
 use Rattle.room_desk.proofs.Relisted.{all_implied, held_relisted, one_agrees, relist}
 use Rattle.room_desk.proofs.SetHeld.{base, base_here, each_same, ends, ends_is, final, links, mid, other_links, own_held, same_node, same_object, set_sound}
 use Rattle.room_desk.proofs.SetMeaning.{set_means}
-use Rattle.room_desk.proofs.SetSpread.{agree_but, loop_before, not_own_parent, unlinked_unchanged}
+use Rattle.room_desk.proofs.SetSpread.{agree_all, agree_but, loop_before, not_own_parent, unlinked_unchanged}
 use Rattle.room_desk.proofs.ValidDown.{all_found, are_inherited, are_own, linked_above}
 
 -- ---- the sent entries
@@ -150,8 +150,8 @@ module _ (which : Which) (sent : Sent) (node : Node) (old : Rows) (are : AreRows
         stay : Node → List Ace
         stay x = (held_of which x).inh
 
-        with_own : (n : Node) → node_at rows n.id ≡ Some n → base which rows node held n ≡ held_of which n
-        with_own n found = on (n.id == node.id) refl
+        with_before : (n : Node) → node_at rows n.id ≡ Some n → base which rows node held n ≡ held_of which n
+        with_before n found = on (n.id == node.id) refl
           where
             on : (t : Bool) → (n.id == node.id) ≡ t → cond t held (held_of which n) ≡ held_of which n
             on true is = same ∙ ap (held_of which) (sym (same_object which rows node held there n found is))
@@ -160,10 +160,24 @@ module _ (which : Which) (sent : Sent) (node : Node) (old : Rows) (are : AreRows
         one : (n : Node) → node_at rows n.id ≡ Some n → relist which (final which rows node held stay) n ≡ n
         one n found =
             ap (λ entries. relist which (λ m. record (base which rows node held m) { inh = entries }) n) (ap (λ (h : Held). h.inh) (held_relisted which (base which rows node held) n))
-            ∙ ap (λ h. relist which (λ m. h) n) (with_own n found) ∙ sym (own_held which n)
+            ∙ ap (λ h. relist which (λ m. h) n) (with_before n found) ∙ sym (own_held which n)
 
         as_before : ends which rows node held stay ≡ rows
         as_before = each_same rows are.numbers (relist which (final which rows node held stay)) (λ n. n) one ∙ ap (λ (nodes : List Node). record rows { nodes = nodes }) (map-id rows.nodes)
+
+    -- the list is written, and passes nothing on
+    pub set_still : (new : Rows) → held.flags.auto ≡ false → new ≡ reading old (mid which rows node held) → IsSetWell which sent node old new
+    set_still new stops written =
+        subst (IsSetWell which sent node old) (ap (reading old) (sym (ends_is which rows node held stay are.numbers there) ∙ unmoved) ∙ sym written)
+        (set_ends stay (λ x found isnt. refl) (subst (λ (c : Content). AllAgree c which) (sym unmoved) (agree_all which rows node held are.numbers there sent stored law_before stops)))
+      where
+        stay : Node → List Ace
+        stay x = (held_of which x).inh
+
+        unmoved : with_lists which stay (mid which rows node held) ≡ mid which rows node held
+        unmoved =
+            (λ i. with_each (mid which rows node held) (λ n. with_own which n i))
+            ∙ ap (λ (nodes : List Node). record (mid which rows node held) { nodes = nodes }) (map-id (mid which rows node held).nodes)
 
     -- the list is written, and carried down
     pub set_spread : (mid_rows new : Rows) (changed : ℕ) → mid_rows ≡ reading old (mid which rows node held) → IsSpread which node.id mid_rows new changed → IsSetWell which sent node old new
@@ -188,3 +202,6 @@ module _ (which : Which) (sent : Sent) (node : Node) (held : Held) (old mid_rows
 
   pub carried_well : (new : Rows) → AreRows old → IsHeldWritten which sent node held old mid_rows → ((changed : ℕ) × IsSpread which node.id mid_rows new changed) → IsSet which sent node old new
   carried_well new are written carried there valid few sound = set_spread which sent node old are there sound held written.stored valid few mid_rows new carried.0 (written.becomes there) carried.1
+
+  pub stopped_well : (new : Rows) → AreRows old → held.flags.auto ≡ false → IsHeldWritten which sent node held old mid_rows → new ≡ mid_rows → IsSet which sent node old new
+  stopped_well new are stops written same there valid few sound = set_still which sent node old are there sound held written.stored valid few new stops (same ∙ written.becomes there)

@@ -13,12 +13,12 @@ use Rattle.room_ace.specs.declared.object.Which.{Which}
 use Rattle.room_ace.proofs.Same.{entries_equal}
 use Rattle.room_tree.specs.declared.node.Held.{Held}
 use Rattle.room_tree.specs.declared.node.Node.{Node}
-use Rattle.room_tree.specs.Content.{Content, node_at, parent_of, is_folder, is_root, has_folder_above, reaches_root, is_linked_in}
+use Rattle.room_tree.specs.Content.{Content, node_at, parent_of, is_folder, has_folder_above, reaches_root, is_linked_in}
 use Rattle.room_tree.specs.Held.{held_of, full_of, is_linked}
 use Rattle.room_tree.proofs.Frames.{node_at-number}
 use Rattle.room_inherit.specs.Law.{AllAgree, agrees, agrees_with}
 use Rattle.room_inherit.specs.Laws.{are_valid}
-use Rattle.room_inherit.specs.Pass.{pass, passed, passed_flags, ended, carried, waiting}
+use Rattle.room_inherit.specs.Pass.{pass, passed_flags, ended, carried, waiting}
 use Rattle.room_inherit.specs.Sound.{is_sound_held}
 use Rattle.room_inherit.proofs.Valid.{pass_is_valid}
 

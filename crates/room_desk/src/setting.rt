@@ -85,7 +85,8 @@ fn bad_entry(entries: &[Entry], which: Which, kind: ObjKind) -> Option<Reason>
     None
 }
 
-// Sets the list of an object, and carries it down. Where the list is what it was, nothing is written.
+// Sets the list of an object, and carries it down where it passes entries on. Where the list is what it
+// was, nothing is written.
 fn set_at<K: Keep>(
     alloc: Global,
     keep: &mut K,
@@ -101,7 +102,11 @@ fn set_at<K: Keep>(
         return Ok(());
     }
     keep.set_held(node.id, which, &held)?;
-    carry_down(alloc, keep, node.id, which)
+    if held.flags.auto {
+        carry_down(alloc, keep, node.id, which)
+    } else {
+        Ok(())
+    }
 }
 
 // Whether the flags and entries are the same.

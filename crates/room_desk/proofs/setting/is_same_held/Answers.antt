@@ -1,4 +1,4 @@
-use Rattle.std.proofs.Common.{◌≡◌, true, sym, ap, ◌∙◌}
+use Rattle.std.proofs.Common.{sym, ap, ◌∙◌}
 use Rattle.std.proofs.lemmas.Bool.{false≢true}
 use Rattle.room_ace.specs.Same.{same_entries}
 use Rattle.room_desk.proofs.SameHeld.{held_equal, flags_itself, own_itself, inh_itself}
