@@ -1,21 +1,41 @@
 //! How many calls of the keeper requests make.
 use crate::desk::rooms::open_room;
-use crate::desk::scripts::strays;
+use crate::desk::scripts::{agree, play};
 use crate::desk::tally::{Calls, Tally};
+use room_tree::MemKeep;
 use std::alloc::Global;
 use std::test::Fail;
 
-// The calls that the second script makes in an open room where the first was played.
-fn calls_of(alloc: Global, made: &str, asked: &str) -> Result<Calls, Fail> {
-    let mut keep = open_room(alloc)?;
-    let mut astray = strays(alloc, &mut keep, 1000, made)?;
-    let mut tally = Tally::of(keep);
-    let later = strays(alloc, &mut tally, 1000, asked)?;
-    astray.push_str(later.as_str())?;
-    if !astray.is_empty() {
-        return Err(Fail::new(astray));
+// What was written by these calls, with nothing for what wasn't called.
+fn written_text(alloc: Global, calls: &Calls) -> Result<String, Fail> {
+    let writes = calls.writes;
+    let notes = calls.notes;
+    match (writes, notes) {
+        (0, 0) => Ok(String::new(alloc)),
+        (_, 0) => Ok(format!(in alloc; "writes {writes}")?),
+        (0, _) => Ok(format!(in alloc; "records {notes}")?),
+        _ => Ok(format!(in alloc; "writes {writes} records {notes}")?),
     }
-    Ok(tally.calls)
+}
+
+// Plays one line, behind which ` # ` stands before what it writes, if it writes anything.
+fn count_line(alloc: Global, tally: &mut Tally<MemKeep>, line: &str) -> Result<(), Fail> {
+    let (line, written) = line.split_once(" # ").unwrap_or((line, ""));
+    tally.calls = Calls::none();
+    play(alloc, tally, 1000, line)?;
+    let told = written_text(alloc, &tally.calls)?;
+    agree(alloc, line, told.as_str(), written)
+}
+
+// Plays the first script, and then the second, whose lines say what they write.
+fn counts(alloc: Global, made: &str, script: &str) -> Result<(), Fail> {
+    let mut keep = open_room(alloc)?;
+    play(alloc, &mut keep, 1000, made)?;
+    let mut tally = Tally::of(keep);
+    'lines: for line in script.lines() {
+        count_line(alloc, &mut tally, line)?;
+    }
+    Ok(())
 }
 
 const DEEP: &str = "\
@@ -25,24 +45,31 @@ root MakeFolder /a/b/c => made
 root Put /a/d hi => made
 ";
 
+// Plays a line after the first script, and compares all calls that it makes.
+fn asks(alloc: Global, line: &str, wanted: &str) -> Result<(), Fail> {
+    let mut keep = open_room(alloc)?;
+    play(alloc, &mut keep, 1000, DEEP)?;
+    let mut tally = Tally::of(keep);
+    play(alloc, &mut tally, 1000, line)?;
+    let calls = tally.calls;
+    let told = format!(in alloc; "{calls:?}")?;
+    agree(alloc, line, told.as_str(), wanted)
+}
+
 #[test]
 fn read_asks_once(rt: HostRuntime) -> Result<(), Fail> {
-    let alloc = rt.alloc();
-    let mut want = Calls::none();
-    want.root = 1;
-    want.child = 2;
-    want.groups = 1;
-    want.body = 1;
-    let calls = calls_of(alloc, DEEP, "root Read /a/d => bytes hi\n")?;
-    assert_eq!(rt; calls, want);
-    want.body = 0;
-    let calls = calls_of(alloc, DEEP, "root ReadList /a/d sacl => list:a\n")?;
-    assert_eq!(rt; calls, want);
-    want.groups = 0;
-    want.child = 1;
-    let asked = "- Read /a/d => denied at /a bits x no-place no-entry\n";
-    assert_eq!(rt; calls_of(alloc, DEEP, asked)?, want);
-    Ok(())
+    let line = "root Read /a/d => bytes hi";
+    let wanted =
+        "Calls { root: 1, child: 2, children: 0, body: 1, groups: 1, node: 0, ids: 0, writes: 0, notes: 0 }";
+    asks(rt.alloc(), line, wanted)
+}
+
+#[test]
+fn nameless_asks_for_no_groups(rt: HostRuntime) -> Result<(), Fail> {
+    let line = "- Read /a/d => denied at /a bits x no-place no-entry";
+    let wanted =
+        "Calls { root: 1, child: 1, children: 0, body: 0, groups: 0, node: 0, ids: 0, writes: 0, notes: 0 }";
+    asks(rt.alloc(), line, wanted)
 }
 
 // Requests that read, and some that are denied and refused.
@@ -73,10 +100,7 @@ operator Reset /a dacl list: / U::bob:r => refused at /a N8 entry 1 A9 type not 
 
 #[test]
 fn unchanging_writes_nothing(rt: HostRuntime) -> Result<(), Fail> {
-    let calls = calls_of(rt.alloc(), DEEP, UNCHANGING)?;
-    assert_eq!(rt; calls.writes, 0);
-    assert_eq!(rt; calls.notes, 0);
-    Ok(())
+    counts(rt.alloc(), DEEP, UNCHANGING)
 }
 
 // A list with kept entries, a protected one, and records of each setting.
@@ -90,61 +114,36 @@ root SetList /a/b sacl list:a / U:S:root:C => done
 
 const SAME_LISTS: &str = "\
 root SetList /a dacl list:p / A:fd:alice:r / D:I:bob:r / A:fdI:root:ALL => done
-root SetList /a/b dacl list:ap / A:fdI:root:ALL => done
-root SetList /a/b sacl list:a / U:S:root:C => done
+root SetList /a/b dacl list:ap / A:fdI:root:ALL => done # records 1
+root SetList /a/b sacl list:a / U:S:root:C => done # records 1
 operator Reset /a/b sacl list:a / U:S:root:C => done
 ";
 
 #[test]
 fn same_lists_write_records(rt: HostRuntime) -> Result<(), Fail> {
-    let calls = calls_of(rt.alloc(), LISTS, SAME_LISTS)?;
-    assert_eq!(rt; calls.writes, 0);
-    assert_eq!(rt; calls.notes, 2);
-    Ok(())
+    counts(rt.alloc(), LISTS, SAME_LISTS)
 }
 
-const FIRST_LIST: &str = "\
+const TWICE: &str = "\
+root SetList /a dacl list:a / A:fd:alice:r => done # writes 4
 root SetList /a dacl list:a / A:fd:alice:r => done
 ";
 
 #[test]
 fn same_list_twice(rt: HostRuntime) -> Result<(), Fail> {
-    let alloc = rt.alloc();
-    let mut keep = open_room(alloc)?;
-    assert_eq!(rt; strays(alloc, &mut keep, 1000, DEEP)?.as_str(), "");
-    let mut tally = Tally::of(keep);
-    assert_eq!(rt; strays(alloc, &mut tally, 1000, FIRST_LIST)?.as_str(), "");
-    assert_eq!(rt; tally.calls.writes, 4);
-    tally.calls = Calls::none();
-    assert_eq!(rt; strays(alloc, &mut tally, 1000, FIRST_LIST)?.as_str(), "");
-    assert_eq!(rt; tally.calls.writes, 0);
-    Ok(())
+    counts(rt.alloc(), DEEP, TWICE)
 }
 
 // What the lists that follow each other write: the object's own, and those that become different.
+const FOLLOWING: &str = "\
+root SetList /a dacl list:a / A:fd:alice:r => done # writes 4
+root SetList /a dacl list:a / A:d:alice:r => done # writes 4
+root SetList /a dacl list:a / A:d:alice:r / D::bob:r => done # writes 1
+root SetList /a dacl list:a / A:d:alice:r / D::bob:r / A:fn:carol:t => done # writes 2
+root SetList /a dacl list: / A:fd:alice:r => done # writes 1
+";
+
 #[test]
 fn set_list_writes(rt: HostRuntime) -> Result<(), Fail> {
-    let alloc = rt.alloc();
-    let mut keep = open_room(alloc)?;
-    assert_eq!(rt; strays(alloc, &mut keep, 1000, DEEP)?.as_str(), "");
-    let mut tally = Tally::of(keep);
-    let steps = [
-        (FIRST_LIST, 4),
-        ("root SetList /a dacl list:a / A:d:alice:r => done", 4),
-        (
-            "root SetList /a dacl list:a / A:d:alice:r / D::bob:r => done",
-            1,
-        ),
-        (
-            "root SetList /a dacl list:a / A:d:alice:r / D::bob:r / A:fn:carol:t => done",
-            2,
-        ),
-        ("root SetList /a dacl list: / A:fd:alice:r => done", 1),
-    ];
-    for (step, writes) in steps {
-        tally.calls = Calls::none();
-        assert_eq!(rt; strays(alloc, &mut tally, 1000, step)?.as_str(), "");
-        assert_eq!(rt; tally.calls.writes, writes, "by {step}");
-    }
-    Ok(())
+    counts(rt.alloc(), DEEP, FOLLOWING)
 }

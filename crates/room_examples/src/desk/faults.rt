@@ -13,7 +13,7 @@ use std::alloc::Global;
 use std::test::Fail;
 
 // How a request ends whose keeper may fail.
-#[derive(Clone, Copy, Debug, PartialEq, Eq)]
+#[derive(Drop)]
 enum End {
     /// At the fault, which is the answer.
     Stopped,
@@ -73,11 +73,10 @@ fn stops_in_turn(alloc: Global, script: &str, index: usize) -> Result<bool, Fail
     'calls: for calls in 0..200 {
         let alone = end_at(alloc, script, index, calls, true)?;
         let lasting = end_at(alloc, script, index, calls, false)?;
-        if alone != lasting || alone == End::Astray {
-            return Ok(false);
-        }
-        if alone == End::Served {
-            return Ok(calls > 0);
+        match (alone, lasting) {
+            (End::Stopped, End::Stopped) => {}
+            (End::Served, End::Served) => return Ok(calls > 0),
+            _ => return Ok(false),
         }
     }
     Ok(false)
@@ -88,54 +87,50 @@ fn is_asked(line: &str) -> bool {
     !line.starts_with("operator ") || line.starts_with("operator Reset ")
 }
 
-// The first line of the script that doesn't stop at each fault in turn, or no text.
-fn unstopped<'a>(alloc: Global, script: &'a str) -> Result<&'a str, Fail> {
+// Each request of the scripts stops at each fault in turn. The first that doesn't is the error.
+fn stop(alloc: Global, scripts: &[&str]) -> Result<(), Fail> {
+    'scripts: for script in scripts {
+        all_stop(alloc, *script)?;
+    }
+    Ok(())
+}
+
+fn all_stop(alloc: Global, script: &str) -> Result<(), Fail> {
     'lines: for (index, line) in script.lines().enumerate() {
         if is_asked(line) && !stops_in_turn(alloc, script, index)? {
-            return Ok(line);
+            return Err(Fail::new(String::from_str(alloc, line)?));
         }
     }
-    Ok("")
+    Ok(())
 }
 
 #[test]
 fn faults_end_each_request(rt: HostRuntime) -> Result<(), Fail> {
-    assert_eq!(rt; unstopped(rt.alloc(), ALL_SERVED)?, "");
-    Ok(())
+    stop(rt.alloc(), &[ALL_SERVED])
 }
 
 #[test]
 fn faults_end_deletions(rt: HostRuntime) -> Result<(), Fail> {
-    let alloc = rt.alloc();
-    for script in [BY_PARENT_RIGHT, BY_ADDING_RIGHT, DENIED_AT_TARGET] {
-        assert_eq!(rt; unstopped(alloc, script)?, "");
-    }
-    Ok(())
+    stop(
+        rt.alloc(),
+        &[BY_PARENT_RIGHT, BY_ADDING_RIGHT, DENIED_AT_TARGET],
+    )
 }
 
 #[test]
 fn faults_end_settings(rt: HostRuntime) -> Result<(), Fail> {
-    let alloc = rt.alloc();
-    for script in [WRITE_BACK, PROTECTED, CLEARED, THREE_BITS] {
-        assert_eq!(rt; unstopped(alloc, script)?, "");
-    }
-    Ok(())
+    stop(rt.alloc(), &[WRITE_BACK, PROTECTED, CLEARED, THREE_BITS])
 }
 
 #[test]
 fn faults_end_moves(rt: HostRuntime) -> Result<(), Fail> {
-    let alloc = rt.alloc();
-    for script in [MOVES_REFUSED, OUT_AND_BACK] {
-        assert_eq!(rt; unstopped(alloc, script)?, "");
-    }
-    Ok(())
+    stop(rt.alloc(), &[MOVES_REFUSED, OUT_AND_BACK])
 }
 
 #[test]
 fn faults_end_recording(rt: HostRuntime) -> Result<(), Fail> {
-    let alloc = rt.alloc();
-    for script in [FAILED_READ, TWO_RECORDS, DENIED_DELETION, MOVED] {
-        assert_eq!(rt; unstopped(alloc, script)?, "");
-    }
-    Ok(())
+    stop(
+        rt.alloc(),
+        &[FAILED_READ, TWO_RECORDS, DENIED_DELETION, MOVED],
+    )
 }

@@ -1,18 +1,28 @@
 //! Examples of records.
 use crate::desk::rendering::records_text;
 use crate::desk::rooms::{empty_room, open_room};
-use crate::desk::scripts::strays;
+use crate::desk::scripts::{agree, play};
 use room_ace::read_name;
 use room_tree::MemKeep;
 use std::alloc::Global;
 use std::test::Fail;
 
-// The records of a room, and what was answered otherwise than the script says.
-fn told(alloc: Global, keep: &mut MemKeep, at: i64, script: &str) -> Result<String, Fail> {
-    let mut text = strays(alloc, keep, at, script)?;
-    let records = records_text(alloc, keep.notes())?;
-    text.push_str(records.as_str())?;
-    Ok(text)
+// Plays a script, after which these are the records of the room.
+fn records(
+    alloc: Global,
+    keep: &mut MemKeep,
+    at: i64,
+    script: &str,
+    wanted: &str,
+) -> Result<(), Fail> {
+    play(alloc, keep, at, script)?;
+    let told = records_text(alloc, keep.notes())?;
+    agree(alloc, "records", told.as_str(), wanted)
+}
+
+// Plays a script in an open room at moment 7, after which these are the records.
+fn records_at_7(alloc: Global, script: &str, wanted: &str) -> Result<(), Fail> {
+    records(alloc, &mut open_room(alloc)?, 7, script, wanted)
 }
 
 pub(crate) const FAILED_READ: &str = "\
@@ -32,11 +42,9 @@ alice Read /f => denied at /f bits r no-place no-entry
 #[test]
 fn failed_read_recorded(rt: HostRuntime) -> Result<(), Fail> {
     let alloc = rt.alloc();
-    let told_of_failed = told(alloc, &mut open_room(alloc)?, 1000, FAILED_READ)?;
-    assert_eq!(rt; told_of_failed.as_str(), "1000 alice /f r no 1 audit");
-    let told_of_none = told(alloc, &mut open_room(alloc)?, 1000, NO_OUTCOME)?;
-    assert_eq!(rt; told_of_none.as_str(), "");
-    Ok(())
+    let wanted = "1000 alice /f r no 1 audit";
+    records(alloc, &mut open_room(alloc)?, 1000, FAILED_READ, wanted)?;
+    records(alloc, &mut open_room(alloc)?, 1000, NO_OUTCOME, "")
 }
 
 const ALARM_LISTS: &str = "\
@@ -57,18 +65,11 @@ alice Read /f => bytes hi
 fn alarm_and_audit_records(rt: HostRuntime) -> Result<(), Fail> {
     let alloc = rt.alloc();
     let mut keep = open_room(alloc)?;
-    assert_eq!(rt; told(alloc, &mut keep, 1000, ALARM_LISTS)?.as_str(), "");
-    let first = told(alloc, &mut keep, 2000, ALARM_NAMELESS)?;
-    assert_eq!(rt;
-        first.as_str(),
-        "2000 - /f r no 1 alarm / 2000 - /f r no 2 audit"
-    );
-    let second = told(alloc, &mut keep, 2001, ALARM_ALICE)?;
-    assert_eq!(rt;
-        second.as_str(),
-        "2000 - /f r no 1 alarm / 2000 - /f r no 2 audit / 2001 alice /f r yes 2 audit"
-    );
-    Ok(())
+    records(alloc, &mut keep, 1000, ALARM_LISTS, "")?;
+    let two = "2000 - /f r no 1 alarm / 2000 - /f r no 2 audit";
+    records(alloc, &mut keep, 2000, ALARM_NAMELESS, two)?;
+    let three = "2000 - /f r no 1 alarm / 2000 - /f r no 2 audit / 2001 alice /f r yes 2 audit";
+    records(alloc, &mut keep, 2001, ALARM_ALICE, three)
 }
 
 pub(crate) const TWO_RECORDS: &str = "\
@@ -79,13 +80,8 @@ root Remove /f => done
 
 #[test]
 fn delete_two_records(rt: HostRuntime) -> Result<(), Fail> {
-    let alloc = rt.alloc();
-    let records = told(alloc, &mut open_room(alloc)?, 7, TWO_RECORDS)?;
-    assert_eq!(rt;
-        records.as_str(),
-        "7 root /f d yes 1 audit / 7 root / D yes 1 audit"
-    );
-    Ok(())
+    let wanted = "7 root /f d yes 1 audit / 7 root / D yes 1 audit";
+    records_at_7(rt.alloc(), TWO_RECORDS, wanted)
 }
 
 // Where neither list rules, the second check of a deletion asks w, and a denial is recorded at both.
@@ -98,13 +94,9 @@ alice Move /f /g => denied at / bits w no-place no-entry
 
 #[test]
 fn denied_deletion_recorded(rt: HostRuntime) -> Result<(), Fail> {
-    let alloc = rt.alloc();
-    let records = told(alloc, &mut open_room(alloc)?, 7, DENIED_DELETION)?;
-    assert_eq!(rt;
-        records.as_str(),
-        "7 alice /f d no 1 audit / 7 alice / w no 1 audit / 7 alice /f d no 1 audit / 7 alice / w no 1 audit"
-    );
-    Ok(())
+    let wanted =
+        "7 alice /f d no 1 audit / 7 alice / w no 1 audit / 7 alice /f d no 1 audit / 7 alice / w no 1 audit";
+    records_at_7(rt.alloc(), DENIED_DELETION, wanted)
 }
 
 // Each x on the way is a check, and so is the one that ends the way; what comes after isn't.
@@ -118,13 +110,9 @@ root Read /a/f => bytes hi
 
 #[test]
 fn way_recorded(rt: HostRuntime) -> Result<(), Fail> {
-    let alloc = rt.alloc();
-    let records = told(alloc, &mut open_room(alloc)?, 7, WAY)?;
-    assert_eq!(rt;
-        records.as_str(),
-        "7 alice / x yes 1 audit / 7 alice /a x no 1 audit / 7 root / x yes 1 audit / 7 root /a x yes 1 audit / 7 root /a/f r yes 1 audit"
-    );
-    Ok(())
+    let wanted =
+        "7 alice / x yes 1 audit / 7 alice /a x no 1 audit / 7 root / x yes 1 audit / 7 root /a x yes 1 audit / 7 root /a/f r yes 1 audit";
+    records_at_7(rt.alloc(), WAY, wanted)
 }
 
 // A move is recorded at the path that the object had before, and a refusal ends the checks.
@@ -139,13 +127,9 @@ root Remove / => refused at / N6
 
 #[test]
 fn move_recorded(rt: HostRuntime) -> Result<(), Fail> {
-    let alloc = rt.alloc();
-    let records = told(alloc, &mut open_room(alloc)?, 7, MOVED)?;
-    assert_eq!(rt;
-        records.as_str(),
-        "7 root / x yes 1 audit / 7 root / x yes 1 audit / 7 root / x yes 1 audit / 7 root /f d yes 1 audit / 7 root / D yes 1 audit / 7 root / w yes 1 audit / 7 root / x yes 1 audit / 7 root / x yes 1 audit / 7 root /g d yes 1 audit / 7 root / D yes 1 audit / 7 root / w yes 1 audit"
-    );
-    Ok(())
+    let wanted =
+        "7 root / x yes 1 audit / 7 root / x yes 1 audit / 7 root / x yes 1 audit / 7 root /f d yes 1 audit / 7 root / D yes 1 audit / 7 root / w yes 1 audit / 7 root / x yes 1 audit / 7 root / x yes 1 audit / 7 root /g d yes 1 audit / 7 root / D yes 1 audit / 7 root / w yes 1 audit";
+    records_at_7(rt.alloc(), MOVED, wanted)
 }
 
 const OWNERS: &str = "\
@@ -159,11 +143,7 @@ operator Verify / => sound
 #[test]
 fn owners_rule_attributes(rt: HostRuntime) -> Result<(), Fail> {
     let alloc = rt.alloc();
-    assert_eq!(rt;
-        told(alloc, &mut empty_room(alloc)?, 7, OWNERS)?.as_str(),
-        ""
-    );
-    Ok(())
+    play(alloc, &mut empty_room(alloc)?, 7, OWNERS)
 }
 
 const BEFORE_JOINING: &str = "\
@@ -181,8 +161,7 @@ alice Read /f => bytes hi
 fn group_entry_after_import(rt: HostRuntime) -> Result<(), Fail> {
     let alloc = rt.alloc();
     let mut keep = open_room(alloc)?;
-    assert_eq!(rt; strays(alloc, &mut keep, 7, BEFORE_JOINING)?.as_str(), "");
+    play(alloc, &mut keep, 7, BEFORE_JOINING)?;
     keep.join(&read_name(alloc, "sales")?, &read_name(alloc, "alice")?)?;
-    assert_eq!(rt; strays(alloc, &mut keep, 7, AFTER_JOINING)?.as_str(), "");
-    Ok(())
+    play(alloc, &mut keep, 7, AFTER_JOINING)
 }

@@ -1,5 +1,5 @@
 //! Each refusal at its path, and what comes before it.
-use crate::desk::rooms::played;
+use crate::desk::rooms::plays;
 use std::test::Fail;
 
 // Folders `/a` and `/a/b`, and the document `/f`.
@@ -29,11 +29,7 @@ operator Reset /q dacl list: => refused at /q N1
 
 #[test]
 fn refused_no_such(rt: HostRuntime) -> Result<(), Fail> {
-    assert_eq!(rt;
-        played(rt.alloc(), [MADE, NO_SUCH].as_slice())?.as_str(),
-        ""
-    );
-    Ok(())
+    plays(rt.alloc(), &[MADE, NO_SUCH])
 }
 
 const NOT_FOLDER: &str = "\
@@ -50,11 +46,7 @@ operator Reset /f/x dacl list: => refused at /f N2
 
 #[test]
 fn refused_not_folder(rt: HostRuntime) -> Result<(), Fail> {
-    assert_eq!(rt;
-        played(rt.alloc(), [MADE, NOT_FOLDER].as_slice())?.as_str(),
-        ""
-    );
-    Ok(())
+    plays(rt.alloc(), &[MADE, NOT_FOLDER])
 }
 
 const WRONG_KIND: &str = "\
@@ -70,11 +62,7 @@ alice Append / hi => refused at / N3
 
 #[test]
 fn refused_wrong_kind(rt: HostRuntime) -> Result<(), Fail> {
-    assert_eq!(rt;
-        played(rt.alloc(), [MADE, WRONG_KIND].as_slice())?.as_str(),
-        ""
-    );
-    Ok(())
+    plays(rt.alloc(), &[MADE, WRONG_KIND])
 }
 
 const EXISTS: &str = "\
@@ -94,8 +82,7 @@ alice Move /f / => denied at / bits w no-place no-entry
 
 #[test]
 fn refused_exists(rt: HostRuntime) -> Result<(), Fail> {
-    assert_eq!(rt; played(rt.alloc(), [MADE, EXISTS].as_slice())?.as_str(), "");
-    Ok(())
+    plays(rt.alloc(), &[MADE, EXISTS])
 }
 
 const NOT_EMPTY_OR_ROOT: &str = "\
@@ -115,11 +102,7 @@ operator Verify / => sound
 
 #[test]
 fn remove_not_empty(rt: HostRuntime) -> Result<(), Fail> {
-    assert_eq!(rt;
-        played(rt.alloc(), [MADE, NOT_EMPTY_OR_ROOT].as_slice())?.as_str(),
-        ""
-    );
-    Ok(())
+    plays(rt.alloc(), &[MADE, NOT_EMPTY_OR_ROOT])
 }
 
 const LOOPS: &str = "\
@@ -136,8 +119,7 @@ operator Verify / => sound
 
 #[test]
 fn refused_loop(rt: HostRuntime) -> Result<(), Fail> {
-    assert_eq!(rt; played(rt.alloc(), [MADE, LOOPS].as_slice())?.as_str(), "");
-    Ok(())
+    plays(rt.alloc(), &[MADE, LOOPS])
 }
 
 const BAD_LISTS: &str = "\
@@ -155,11 +137,7 @@ operator Verify / => sound
 
 #[test]
 fn refused_bad_list(rt: HostRuntime) -> Result<(), Fail> {
-    assert_eq!(rt;
-        played(rt.alloc(), [MADE, BAD_LISTS].as_slice())?.as_str(),
-        ""
-    );
-    Ok(())
+    plays(rt.alloc(), &[MADE, BAD_LISTS])
 }
 
 const TOO_LARGE: &str = "\
@@ -177,11 +155,7 @@ root Read /g => 1048576 bytes
 
 #[test]
 fn refused_too_large(rt: HostRuntime) -> Result<(), Fail> {
-    assert_eq!(rt;
-        played(rt.alloc(), [MADE, TOO_LARGE].as_slice())?.as_str(),
-        ""
-    );
-    Ok(())
+    plays(rt.alloc(), &[MADE, TOO_LARGE])
 }
 
 // alice may pass through `/a`, and delete `/f` and `/a/b`, but put nothing in `/a`.
@@ -203,9 +177,5 @@ operator Verify / => sound
 
 #[test]
 fn moves_denied(rt: HostRuntime) -> Result<(), Fail> {
-    assert_eq!(rt;
-        played(rt.alloc(), [MADE, MOVES_DENIED].as_slice())?.as_str(),
-        ""
-    );
-    Ok(())
+    plays(rt.alloc(), &[MADE, MOVES_DENIED])
 }

@@ -1,5 +1,5 @@
 //! Rooms in memory that have their root alone.
-use crate::desk::scripts::{sent_of, strays};
+use crate::desk::scripts::{play, sent_of};
 use room_ace::{Entries, Owners, read_name};
 use room_tree::{Held, MemKeep};
 use std::alloc::Global;
@@ -36,13 +36,11 @@ pub(crate) fn empty_room(alloc: Global) -> Result<MemKeep, Fail> {
     room_of(alloc, "list:a / A:fd:OWNER@:ALL", "list:a")
 }
 
-/// What is answered otherwise than these scripts say, which follow each other on an open room.
-pub(crate) fn played(alloc: Global, scripts: &[&str]) -> Result<String, Fail> {
+/// Plays these scripts one after the other in an open room.
+pub(crate) fn plays(alloc: Global, scripts: &[&str]) -> Result<(), Fail> {
     let mut keep = open_room(alloc)?;
-    let mut all = String::new(alloc);
     'scripts: for script in scripts {
-        let some = strays(alloc, &mut keep, 1000, *script)?;
-        all.push_str(some.as_str())?;
+        play(alloc, &mut keep, 1000, *script)?;
     }
-    Ok(all)
+    Ok(())
 }

@@ -1,6 +1,5 @@
 //! The desk's first examples, whose rows follow each other on one room, and what shows of it.
-use crate::desk::rooms::{open_room, played};
-use crate::desk::scripts::strays;
+use crate::desk::rooms::plays;
 use std::test::Fail;
 
 const FOLDER_DENIED: &str = "\
@@ -34,49 +33,43 @@ root AppendMany /q/f 1048572 => done
 
 #[test]
 fn desk_folder_denied(rt: HostRuntime) -> Result<(), Fail> {
-    let scripts = [FOLDER_DENIED];
-    assert_eq!(rt; played(rt.alloc(), scripts.as_slice())?.as_str(), "");
-    Ok(())
+    plays(rt.alloc(), &[FOLDER_DENIED])
 }
 
 #[test]
 fn desk_wrong_kind(rt: HostRuntime) -> Result<(), Fail> {
-    let scripts = [FOLDER_DENIED, WRONG_KIND];
-    assert_eq!(rt; played(rt.alloc(), scripts.as_slice())?.as_str(), "");
-    Ok(())
+    plays(rt.alloc(), &[FOLDER_DENIED, WRONG_KIND])
 }
 
 #[test]
 fn desk_attr_denied(rt: HostRuntime) -> Result<(), Fail> {
-    let scripts = [FOLDER_DENIED, WRONG_KIND, ATTR_DENIED];
-    assert_eq!(rt; played(rt.alloc(), scripts.as_slice())?.as_str(), "");
-    Ok(())
+    plays(rt.alloc(), &[FOLDER_DENIED, WRONG_KIND, ATTR_DENIED])
 }
 
 #[test]
 fn desk_put_append_read(rt: HostRuntime) -> Result<(), Fail> {
-    let scripts = [WRONG_KIND, ATTR_DENIED, PUT_APPEND_READ];
-    assert_eq!(rt; played(rt.alloc(), scripts.as_slice())?.as_str(), "");
-    Ok(())
+    plays(rt.alloc(), &[WRONG_KIND, ATTR_DENIED, PUT_APPEND_READ])
 }
 
 #[test]
 fn desk_put_folder_make_root(rt: HostRuntime) -> Result<(), Fail> {
-    let scripts = [WRONG_KIND, PUT_APPEND_READ, PUT_FOLDER_MAKE_ROOT];
-    assert_eq!(rt; played(rt.alloc(), scripts.as_slice())?.as_str(), "");
-    Ok(())
+    plays(
+        rt.alloc(),
+        &[WRONG_KIND, PUT_APPEND_READ, PUT_FOLDER_MAKE_ROOT],
+    )
 }
 
 #[test]
 fn desk_append_limit(rt: HostRuntime) -> Result<(), Fail> {
-    let scripts = [
-        WRONG_KIND,
-        PUT_APPEND_READ,
-        PUT_FOLDER_MAKE_ROOT,
-        APPEND_LIMIT,
-    ];
-    assert_eq!(rt; played(rt.alloc(), scripts.as_slice())?.as_str(), "");
-    Ok(())
+    plays(
+        rt.alloc(),
+        &[
+            WRONG_KIND,
+            PUT_APPEND_READ,
+            PUT_FOLDER_MAKE_ROOT,
+            APPEND_LIMIT,
+        ],
+    )
 }
 
 // What lies behind a folder that lets nobody but root through.
@@ -92,8 +85,7 @@ alice Move /a/x /z => denied at /a bits x no-place no-entry
 
 #[test]
 fn hidden_behind_folder(rt: HostRuntime) -> Result<(), Fail> {
-    assert_eq!(rt; played(rt.alloc(), [HIDDEN].as_slice())?.as_str(), "");
-    Ok(())
+    plays(rt.alloc(), &[HIDDEN])
 }
 
 // A caller without a name makes a document, which is the parent's owner's.
@@ -108,8 +100,7 @@ operator Verify / => sound
 
 #[test]
 fn anonymous_creates(rt: HostRuntime) -> Result<(), Fail> {
-    assert_eq!(rt; played(rt.alloc(), [NAMELESS].as_slice())?.as_str(), "");
-    Ok(())
+    plays(rt.alloc(), &[NAMELESS])
 }
 
 // Names stand in order of their bytes, and one that isn't there is no document.
@@ -124,8 +115,5 @@ root Read /q => refused at /q N1
 
 #[test]
 fn names_in_byte_order(rt: HostRuntime) -> Result<(), Fail> {
-    let alloc = rt.alloc();
-    let mut keep = open_room(alloc)?;
-    assert_eq!(rt; strays(alloc, &mut keep, 1000, NAMES)?.as_str(), "");
-    Ok(())
+    plays(rt.alloc(), &[NAMES])
 }

@@ -10,25 +10,28 @@ use room_tree::{Bytes, Held, Keep, KeepFault, Path, read_path, walk};
 use std::alloc::Global;
 use std::test::Fail;
 
-/// The lines of the script that are answered otherwise than they say, each with its answer.
-pub(crate) fn strays<K: Keep>(
+/// Plays a script on the rows of a keeper. The first line that is answered otherwise than it says is the
+/// error.
+pub(crate) fn play<K: Keep>(
     alloc: Global,
     keep: &mut K,
     at: i64,
     script: &str,
-) -> Result<String, Fail> {
-    let mut strays = String::new(alloc);
+) -> Result<(), Fail> {
     'lines: for line in script.lines() {
         let (asked, wanted) = line.split_once(" => ").ok_or("no arrow")?;
         let told = answer_to(alloc, keep, at, asked)?;
-        if told.as_str() != wanted {
-            strays.push_str(asked)?;
-            strays.push_str(" => ")?;
-            strays.push_str(told.as_str())?;
-            strays.push_str("\n")?;
-        }
+        agree(alloc, asked, told.as_str(), wanted)?;
     }
-    Ok(strays)
+    Ok(())
+}
+
+/// That what was told about something is what was wanted.
+pub(crate) fn agree(alloc: Global, about: &str, told: &str, wanted: &str) -> Result<(), Fail> {
+    if told == wanted {
+        return Ok(());
+    }
+    Err(Fail::new(format!(in alloc; "{about} => {told}, where wanted is {wanted}")?))
 }
 
 /// What is answered to one line of a script.

@@ -3,7 +3,7 @@ use room_ace::{Entry, Name, Names, Owners, Which};
 use room_tree::{AuditRow, Bytes, Held, Keep, KeepFault, NewNode, Node, Nodes, Numbers};
 
 /// How often each kind of call was made.
-#[derive(Clone, Copy, Debug, PartialEq, Eq)]
+#[derive(Clone, Copy, Debug)]
 pub(crate) struct Calls {
     pub(crate) root: u64,
     pub(crate) child: u64,

@@ -1,5 +1,5 @@
 //! The tree examples: deletion, lists that pass down, and moves.
-use crate::desk::rooms::played;
+use crate::desk::rooms::plays;
 use std::test::Fail;
 
 pub(crate) const BY_PARENT_RIGHT: &str = "\
@@ -14,11 +14,7 @@ operator Verify / => sound
 
 #[test]
 fn delete_by_parent_right(rt: HostRuntime) -> Result<(), Fail> {
-    assert_eq!(rt;
-        played(rt.alloc(), [BY_PARENT_RIGHT].as_slice())?.as_str(),
-        ""
-    );
-    Ok(())
+    plays(rt.alloc(), &[BY_PARENT_RIGHT])
 }
 
 pub(crate) const BY_ADDING_RIGHT: &str = "\
@@ -32,11 +28,7 @@ operator Verify / => sound
 
 #[test]
 fn delete_by_adding_right(rt: HostRuntime) -> Result<(), Fail> {
-    assert_eq!(rt;
-        played(rt.alloc(), [BY_ADDING_RIGHT].as_slice())?.as_str(),
-        ""
-    );
-    Ok(())
+    plays(rt.alloc(), &[BY_ADDING_RIGHT])
 }
 
 pub(crate) const DENIED_AT_TARGET: &str = "\
@@ -51,11 +43,7 @@ operator Verify / => sound
 
 #[test]
 fn delete_denied_at_target(rt: HostRuntime) -> Result<(), Fail> {
-    assert_eq!(rt;
-        played(rt.alloc(), [DENIED_AT_TARGET].as_slice())?.as_str(),
-        ""
-    );
-    Ok(())
+    plays(rt.alloc(), &[DENIED_AT_TARGET])
 }
 
 pub(crate) const WRITE_BACK: &str = "\
@@ -70,8 +58,7 @@ operator Verify / => sound
 
 #[test]
 fn write_back(rt: HostRuntime) -> Result<(), Fail> {
-    assert_eq!(rt; played(rt.alloc(), [WRITE_BACK].as_slice())?.as_str(), "");
-    Ok(())
+    plays(rt.alloc(), &[WRITE_BACK])
 }
 
 pub(crate) const PROTECTED: &str = "\
@@ -97,9 +84,7 @@ operator Verify / => sound
 
 #[test]
 fn protect_and_rejoin(rt: HostRuntime) -> Result<(), Fail> {
-    let scripts = [PROTECTED, REJOINED];
-    assert_eq!(rt; played(rt.alloc(), scripts.as_slice())?.as_str(), "");
-    Ok(())
+    plays(rt.alloc(), &[PROTECTED, REJOINED])
 }
 
 const EMPTIED: &str = "\
@@ -111,9 +96,7 @@ operator Stored /a/b/c dacl => list:a
 
 #[test]
 fn read_uses_stored_list(rt: HostRuntime) -> Result<(), Fail> {
-    let scripts = [PROTECTED, REJOINED, EMPTIED];
-    assert_eq!(rt; played(rt.alloc(), scripts.as_slice())?.as_str(), "");
-    Ok(())
+    plays(rt.alloc(), &[PROTECTED, REJOINED, EMPTIED])
 }
 
 pub(crate) const CLEARED: &str = "\
@@ -131,8 +114,7 @@ operator Verify / => sound
 
 #[test]
 fn clear_auto_inherit(rt: HostRuntime) -> Result<(), Fail> {
-    assert_eq!(rt; played(rt.alloc(), [CLEARED].as_slice())?.as_str(), "");
-    Ok(())
+    plays(rt.alloc(), &[CLEARED])
 }
 
 pub(crate) const THREE_BITS: &str = "\
@@ -146,8 +128,7 @@ operator Verify / => sound
 
 #[test]
 fn can_three_bits(rt: HostRuntime) -> Result<(), Fail> {
-    assert_eq!(rt; played(rt.alloc(), [THREE_BITS].as_slice())?.as_str(), "");
-    Ok(())
+    plays(rt.alloc(), &[THREE_BITS])
 }
 
 pub(crate) const MOVES_REFUSED: &str = "\
@@ -162,11 +143,7 @@ operator Verify / => sound
 
 #[test]
 fn move_refusals(rt: HostRuntime) -> Result<(), Fail> {
-    assert_eq!(rt;
-        played(rt.alloc(), [MOVES_REFUSED].as_slice())?.as_str(),
-        ""
-    );
-    Ok(())
+    plays(rt.alloc(), &[MOVES_REFUSED])
 }
 
 pub(crate) const OUT_AND_BACK: &str = "\
@@ -187,6 +164,5 @@ operator Verify / => sound
 
 #[test]
 fn move_out_and_back(rt: HostRuntime) -> Result<(), Fail> {
-    assert_eq!(rt; played(rt.alloc(), [OUT_AND_BACK].as_slice())?.as_str(), "");
-    Ok(())
+    plays(rt.alloc(), &[OUT_AND_BACK])
 }
