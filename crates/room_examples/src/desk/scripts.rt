@@ -41,16 +41,28 @@ pub(crate) fn answer_to<K: Keep>(
     at: i64,
     asked: &str,
 ) -> Result<String, Fail> {
-    let (who, rest) = asked.split_once(" ").ok_or("no caller")?;
-    let (verb, rest) = rest.split_once(" ").ok_or("no request")?;
-    let (place, rest) = rest.split_once(" ").unwrap_or((rest, ""));
-    let path = read_path(alloc, place.as_bytes())?;
-    if who == "operator" {
-        return Ok(operated(alloc, keep, verb, &path, rest)?);
+    match asked.strip_prefix("operator ") {
+        Some(step) => operated(alloc, keep, step),
+        None => {
+            let (caller, request) = asked_in(alloc, asked)?;
+            answer_text(alloc, perform(alloc, keep, caller.as_ref(), at, &request))
+        }
     }
-    let request = request_of(alloc, verb, path, rest)?;
+}
+
+/// The caller and the request of a line.
+pub(crate) fn asked_in(alloc: Global, asked: &str) -> Result<(Option<Name>, Request), Fail> {
+    let (who, rest) = asked.split_once(" ").ok_or("no caller")?;
+    let (verb, path, rest) = words_of(alloc, rest)?;
     let caller = caller_of(alloc, who)?;
-    answer_text(alloc, perform(alloc, keep, caller.as_ref(), at, &request))
+    Ok((caller, request_of(alloc, verb, path, rest)?))
+}
+
+// A word, a path, and what stands behind.
+fn words_of(alloc: Global, text: &str) -> Result<(&str, Path, &str), Fail> {
+    let (verb, rest) = text.split_once(" ").ok_or("no path")?;
+    let (place, rest) = rest.split_once(" ").unwrap_or((rest, ""));
+    Ok((verb, read_path(alloc, place.as_bytes())?, rest))
 }
 
 // The text of a reply, or of the fault that came in its place.
@@ -148,23 +160,19 @@ fn owners_of(alloc: Global, text: &str) -> Result<Owners, Fail> {
 }
 
 // What the operator, or a test, does without a caller.
-fn operated<K: Keep>(
-    alloc: Global,
-    keep: &mut K,
-    verb: &str,
-    path: &Path,
-    rest: &str,
-) -> Result<String, Fail> {
+fn operated<K: Keep>(alloc: Global, keep: &mut K, step: &str) -> Result<String, Fail> {
+    let (verb, path, rest) = words_of(alloc, step)?;
     let (which, text) = rest.split_once(" ").unwrap_or((rest, ""));
+    let which = which_of(which);
     match verb {
         "Verify" => verified(alloc, keep),
         "Reset" => {
             let sent = sent_of(alloc, text)?;
-            answer_text(alloc, reset(alloc, keep, path, which_of(which), &sent))
+            answer_text(alloc, reset(alloc, keep, &path, which, &sent))
         }
-        "Hold" => held(alloc, keep, path, which_of(which), &sent_of(alloc, text)?),
-        "Empty" => emptied(alloc, keep, path, which_of(which)),
-        "Stored" => stored(alloc, keep, path, which_of(which)),
+        "Hold" => held(alloc, keep, &path, which, &sent_of(alloc, text)?),
+        "Empty" => emptied(alloc, keep, &path, which),
+        "Stored" => stored(alloc, keep, &path, which),
         _ => Err(Fail::new("no such step")),
     }
 }
