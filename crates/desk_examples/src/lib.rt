@@ -1,0 +1,28 @@
+//! Tests of the room machine at written examples. There is nothing here but tests: a crate with tests is
+//! proved twice, and so the crates below are proved once.
+#![tactic(auto)]
+
+#[cfg(test)]
+mod changes;
+#[cfg(test)]
+mod counts;
+#[cfg(test)]
+mod faults;
+#[cfg(test)]
+mod records;
+#[cfg(test)]
+mod refusals;
+#[cfg(test)]
+mod rendering;
+#[cfg(test)]
+mod rooms;
+#[cfg(test)]
+mod rows;
+#[cfg(test)]
+mod scripts;
+#[cfg(test)]
+mod serving;
+#[cfg(test)]
+mod tally;
+#[cfg(test)]
+mod trees;
