@@ -7,6 +7,8 @@ mod changes;
 #[cfg(test)]
 mod counts;
 #[cfg(test)]
+mod desks;
+#[cfg(test)]
 mod faults;
 #[cfg(test)]
 mod records;
