@@ -57,6 +57,21 @@ fn mask_letters_sorted(rt: HostRuntime) -> Result<(), Fail> {
 }
 
 #[test]
+fn mask_taken_apart(rt: HostRuntime) -> Result<(), Fail> {
+    let mask = Mask::write_owner()
+        .union(Mask::read_data())
+        .union(Mask::execute());
+    let mut letters = String::new(rt.alloc());
+    for bit in mask.singles(rt.alloc())?.as_slice() {
+        bit.push_letters(&mut letters)?;
+        letters.push(' ')?;
+    }
+    assert_eq!(rt; letters.as_str(), "r x o ");
+    assert_eq!(rt; Mask::empty().singles(rt.alloc())?.len(), 0);
+    Ok(())
+}
+
+#[test]
 fn valid_on_folder(rt: HostRuntime) -> Result<(), Fail> {
     for (text, want) in [
         ("U:S:bob:r", "A9 type not of this attribute"),
