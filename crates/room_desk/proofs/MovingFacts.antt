@@ -11,7 +11,6 @@ use Rattle.room_tree.specs.declared.node.AuditRow.{AuditRow}
 use Rattle.room_tree.specs.Content.{Content, child_of, is_folder, node_at, root_of}
 use Rattle.room_tree.specs.Paths.{is_object_name}
 use Rattle.room_tree.specs.Rows.{Rows, AreRows}
-use Rattle.room_tree.specs.Walk.{walk_of}
 use Rattle.room_tree.proofs.Frames.{Rises, child_of-is_there, child_of-parent, root_of-is_there, root_of-parent}
 use Rattle.room_inherit.specs.Sound.{AreSound}
 use Rattle.room_desk.specs.declared.reply.Reply.{Reply}
@@ -22,10 +21,10 @@ use Rattle.room_desk.specs.Site.{Site, site_at, parent_at, front, last_name}
 use Rattle.room_desk.specs.Plan.{Item, Check, Deletion, Refusal, right_to_add}
 use Rattle.room_desk.specs.Stored.{stored_site, stored_from, stored_along}
 use Rattle.room_desk.specs.Judged.{noted}
-use Rattle.room_desk.specs.Moving.{CanPlace, at_place, free_place, goes_past}
+use Rattle.room_desk.specs.Moving.{CanPlace, at_place, begins, free_place, goes_past}
 use Rattle.room_desk.proofs.Climbing.{same_some}
-use Rattle.room_desk.proofs.FreePlaces.{walk_noted}
-use Rattle.room_desk.proofs.MovingPlan.{along_noted, any_along}
+use Rattle.room_desk.proofs.MovingPlan.{along_noted}
+use Rattle.room_desk.proofs.OnePath.{met_by_names}
 use Rattle.room_desk.proofs.Serving.{along_there, none_both}
 use Rattle.room_desk.proofs.SoundParts.{sound_noted}
 use Rattle.room_desk.proofs.Spots.{below_of, folder_along, folder_found, target_found}
@@ -44,16 +43,16 @@ none_there : {X : Type 0} (o : Option X) → is_some o ≡ false → o ≡ None
 none_there None is = refl
 none_there (Some x) is = absurd (false≢true (sym is))
 
--- the folder is one, the name is free there, and the object isn't on the way
-pub record IsFree (rows : Content) (to : List (List ℕ)) (target : ℕ) (folder : Node) : Type 0 where
+-- the folder is one, the name is free there, and the folder isn't below the object
+pub record IsFree (rows : Content) (to : List (List ℕ)) (is_below : Bool) (folder : Node) : Type 0 where
   pub folder_is : is_folder folder ≡ true
   pub name_is_free : child_of rows folder.id (last_name to) ≡ None
-  pub none_above : list_any (λ (n : Node). n.id == target) (walk_of rows (front to)).chain ≡ false
+  pub none_above : is_below ≡ false
 
-pub all_passed : (caller : Caller) (rows : Content) (to : List (List ℕ)) (target from folder : Site) → None ≡ first_failure caller (at_place rows to target from folder) → IsFree rows to target.node.id folder.node
-all_passed caller rows to target from folder none =
-    let last : Option Reply = first_failure caller (Refusal to Loop (list_any (λ (n : Node). n.id == target.node.id) (walk_of rows (front to)).chain) ∷ []) in
-    let fifth_rest : Option Reply = first_failure caller (free_place rows to target.node.id folder.node) in
+pub all_passed : (caller : Caller) (rows : Content) (to : List (List ℕ)) (is_below : Bool) (target from folder : Site) → None ≡ first_failure caller (at_place rows to is_below target from folder) → IsFree rows to is_below folder.node
+all_passed caller rows to is_below target from folder none =
+    let last : Option Reply = first_failure caller (Refusal to Loop is_below ∷ []) in
+    let fifth_rest : Option Reply = first_failure caller (free_place rows to is_below folder.node) in
     let fourth_rest : Option Reply = or_else (failure caller (Check folder (right_to_add target.node ∷ []))) fifth_rest in
     let third_rest : Option Reply = or_else (failure caller (Deletion target from)) fourth_rest in
     let second_rest : Option Reply = or_else (failure caller (Check folder (execute ∷ []))) third_rest in
@@ -62,11 +61,11 @@ all_passed caller rows to target from folder none =
     let third = none_both (failure caller (Deletion target from)) fourth_rest second.1 in
     let fourth = none_both (failure caller (Check folder (right_to_add target.node ∷ []))) fifth_rest third.1 in
     let fifth = none_both (failure caller (Refusal to Exists (is_some (child_of rows folder.node.id (last_name to))))) last fourth.1 in
-    let sixth = none_both (failure caller (Refusal to Loop (list_any (λ (n : Node). n.id == target.node.id) (walk_of rows (front to)).chain))) None fifth.1 in
+    let sixth = none_both (failure caller (Refusal to Loop is_below)) None fifth.1 in
     record {
       folder_is = unnot (is_folder folder.node) (refused_not (not (is_folder folder.node)) (Refused folder.path NotFolder) first.0);
       name_is_free = none_there (child_of rows folder.node.id (last_name to)) (refused_not (is_some (child_of rows folder.node.id (last_name to))) (Refused to Exists) fifth.0);
-      none_above = refused_not (list_any (λ (n : Node). n.id == target.node.id) (walk_of rows (front to)).chain) (Refused to Loop) sixth.0;
+      none_above = refused_not is_below (Refused to Loop) sixth.0;
     }
 
 -- ---- the way up from the folder
@@ -117,10 +116,10 @@ below_parent rows path from target some above is =
 
 pub placeable : (old : Rows) (records : List AuditRow) (path to : List (List ℕ)) (from : Site) (target folder : Node) → AreRows old → AreSound old → 0 < length path
     → parent_at (stored_along old.read path) path ≡ Some from → site_at (stored_along old.read path) path ≡ Some (stored_site path target) → site_at (stored_along old.read (front to)) (front to) ≡ Some (stored_site (front to) folder)
-    → IsFree old.read to target.id folder → is_object_name (last_name to) ≡ true → CanPlace target folder (last_name to) (noted old records)
+    → IsFree old.read to (begins path (front to)) folder → is_object_name (last_name to) ≡ true → CanPlace target folder (last_name to) (noted old records)
 placeable old records path to from target folder are sound some above found reached free named =
     let past = past_along (noted old records).read are.numbers target.id (front to) (stored_site (front to) folder)
-    (ap (list_any (λ (s : Site). s.node.id == target.id)) (along_noted old.read records (front to)) ∙ any_along old.read target.id (front to) ∙ free.none_above)
+    (ap (list_any (λ (s : Site). s.node.id == target.id)) (along_noted old.read records (front to)) ∙ met_by_names old.read are.numbers path (front to) (stored_site path target) (along_there old.read are.numbers path (stored_site path target) found) found ∙ free.none_above)
     (ap (λ sites. site_at sites (front to)) (along_noted old.read records (front to)) ∙ reached) in
     record {
       are = record { numbers = are.numbers; unreadable = are.unreadable; apart = are.apart; body_numbers = are.body_numbers; bodies = are.bodies; members = are.members };

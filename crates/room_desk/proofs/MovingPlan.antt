@@ -9,7 +9,6 @@ use Rattle.room_tree.specs.declared.node.AuditRow.{AuditRow}
 use Rattle.room_tree.specs.Content.{Content, child_of, is_empty, root_of, with_records}
 use Rattle.room_tree.specs.Meaning.{kept_node, meaning}
 use Rattle.room_tree.specs.Rows.{Rows, AreRows}
-use Rattle.room_tree.specs.Walk.{behind, walk_from, walk_of}
 use Rattle.room_tree.proofs.Frames.{child_of-with_each, keeps_places}
 use Rattle.room_inherit.proofs.Members.{any_map}
 use Rattle.room_desk.specs.declared.asker.Asker.{Asker}
@@ -20,21 +19,22 @@ use Rattle.room_desk.specs.Site.{Site, site_at, sites_along, parent_at, front, l
 use Rattle.room_desk.specs.Plan.{Item, Check, Deletion, Refusal, plan_of, move_items, move_to, way, where_found, to_target}
 use Rattle.room_desk.specs.Stored.{stored_site, stored_from, stored_along, to_stored}
 use Rattle.room_desk.specs.Judged.{IsJudged, noted, through}
-use Rattle.room_desk.specs.Moving.{at_place, free_place, leaving}
+use Rattle.room_desk.specs.Moving.{at_place, begins, leaving}
 use Rattle.room_desk.proofs.Filled.{fill_item, judged_filled, site_filled, way_filled}
-use Rattle.room_desk.proofs.FreePlaces.{free_noted}
+use Rattle.room_desk.proofs.OnePath.{met_by_names}
+use Rattle.room_desk.proofs.Serving.{along_there}
 use Rattle.room_desk.proofs.Sites.{fill, sites_filled}
 use Rattle.room_desk.proofs.SoundParts.{SoundParts}
 
 -- ---- items over stored sites
 
 -- what is judged of an object that was found with its folder
-abbrev pub stored_items : Content → List (List ℕ) → Site → Site → List Item
-stored_items rows [] target from = Deletion target from ∷ Refusal [] Exists true ∷ []
-stored_items rows (name ∷ names) target from = to_stored rows (front (name ∷ names)) (at_place rows (name ∷ names) target from)
+abbrev pub stored_items : Content → List (List ℕ) → Bool → Site → Site → List Item
+stored_items rows [] is_below target from = Deletion target from ∷ Refusal [] Exists true ∷ []
+stored_items rows (name ∷ names) is_below target from = to_stored rows (front (name ∷ names)) (at_place rows (name ∷ names) is_below target from)
 
 abbrev pub at_found : Content → List (List ℕ) → List (List ℕ) → Site → List Item
-at_found rows path to target = Refusal path Root (is_empty path) ∷ where_found (parent_at (stored_along rows path) path) (stored_items rows to target)
+at_found rows path to target = Refusal path Root (is_empty path) ∷ where_found (parent_at (stored_along rows path) path) (stored_items rows to (begins path (front to)) target)
 
 -- all that a move judges
 abbrev pub stored_move : Content → List (List ℕ) → List (List ℕ) → List Item
@@ -59,36 +59,10 @@ along_noted content records path = on (root_of content) (λ root. from_noted con
     on None same = refl
     on (Some root) same = same root
 
-pub place_noted : (old : Rows) (records : List AuditRow) (to : List (List ℕ)) (target from folder : Site) → at_place (noted old records).read to target from folder ≡ at_place old.read to target from folder
-place_noted old records to target from folder = ap (λ items. (through folder ++ leaving target from folder) ++ items) (free_noted old records to target.node.id folder.node)
-
-pub way_noted : (old : Rows) (records : List AuditRow) (to : List (List ℕ)) (target from : Site) → to_stored (noted old records).read (front to) (at_place (noted old records).read to target from) ≡ to_stored old.read (front to) (at_place old.read to target from)
-way_noted old records to target from =
-    ap (λ sites. way false sites (front to) ++ where_found (site_at sites (front to)) (at_place (noted old records).read to target from)) (along_noted old.read records (front to))
-    ∙ ap (λ items. way false (stored_along old.read (front to)) (front to) ++ items) (on (site_at (stored_along old.read (front to)) (front to)))
-  where
-    on : (o : Option Site) → where_found o (at_place (noted old records).read to target from) ≡ where_found o (at_place old.read to target from)
-    on None = refl
-    on (Some folder) = place_noted old records to target from folder
-
--- ---- the objects along a way
-
-any_from : (rows : Content) (id : ℕ) (names path : List (List ℕ)) (node : Node) → list_any (λ (site : Site). site.node.id == id) (stored_from rows path node names) ≡ list_any (λ (n : Node). n.id == id) (walk_from rows node names).chain
-any_from rows id [] path node = refl
-any_from rows id (name ∷ names) path node = on (child_of rows node.id name) (λ child. any_from rows id names (path ++ name ∷ []) child)
-  where
-    on : (o : Option Node) → ((child : Node) → list_any (λ (site : Site). site.node.id == id) (stored_from rows (path ++ name ∷ []) child names) ≡ list_any (λ (n : Node). n.id == id) (walk_from rows child names).chain)
-        → ((node.id == id) || list_any (λ (site : Site). site.node.id == id) (option_map_or (λ child. stored_from rows (path ++ name ∷ []) child names) o []))
-        ≡ list_any (λ (n : Node). n.id == id) (option_map_or (λ child. behind node (walk_from rows child names)) o (record { chain = node ∷ []; rest = length (name ∷ names) })).chain
-    on None rest = refl
-    on (Some child) rest = ap (λ t. (node.id == id) || t) (rest child)
-
-pub any_along : (rows : Content) (id : ℕ) (path : List (List ℕ)) → list_any (λ (site : Site). site.node.id == id) (stored_along rows path) ≡ list_any (λ (n : Node). n.id == id) (walk_of rows path).chain
-any_along rows id path = on (root_of rows)
-  where
-    on : (o : Option Node) → list_any (λ (site : Site). site.node.id == id) (option_map_or (λ root. stored_from rows [] root path) o []) ≡ list_any (λ (n : Node). n.id == id) (option_map_or (λ root. walk_from rows root path) o (record { chain = []; rest = length path })).chain
-    on None = refl
-    on (Some root) = any_from rows id path [] root
+pub way_noted : (old : Rows) (records : List AuditRow) (to : List (List ℕ)) (is_below : Bool) (target from : Site)
+    → to_stored (noted old records).read (front to) (at_place (noted old records).read to is_below target from) ≡ to_stored old.read (front to) (at_place old.read to is_below target from)
+way_noted old records to is_below target from =
+    ap (λ sites. way false sites (front to) ++ where_found (site_at sites (front to)) (at_place old.read to is_below target from)) (along_noted old.read records (front to))
 
 -- ---- the plan
 
@@ -96,15 +70,15 @@ parent_filled : (sites : List Site) (names : List (List ℕ)) → parent_at (map
 parent_filled sites [] = refl
 parent_filled sites (name ∷ names) = site_filled sites (front (name ∷ names))
 
-found_filled : (o : Option Site) (items others : Site → List Item) → ((site : Site) → items (fill site) ≡ map fill_item (others site)) → where_found (option_map fill o) items ≡ map fill_item (where_found o others)
+found_filled : (o : Option Site) (items others : Site → List Item) → ((site : Site) → o ≡ Some site → items (fill site) ≡ map fill_item (others site)) → where_found (option_map fill o) items ≡ map fill_item (where_found o others)
 found_filled None items others same = refl
-found_filled (Some site) items others same = same site
+found_filled (Some site) items others same = same site refl
 
 module _ (old : Rows) (are : AreRows old) (parts : SoundParts old) where
   abbrev means : Content
   means = meaning old.read
 
-  filled_with : (path : List (List ℕ)) (items others : Site → List Item) → ((site : Site) → items (fill site) ≡ map fill_item (others site)) → to_stored old.read path items ≡ map fill_item (to_target means path others)
+  filled_with : (path : List (List ℕ)) (items others : Site → List Item) → ((site : Site) → site_at (sites_along means path) path ≡ Some site → items (fill site) ≡ map fill_item (others site)) → to_stored old.read path items ≡ map fill_item (to_target means path others)
   filled_with path items others same =
       ap (λ sites. way false sites path ++ where_found (site_at sites path) items) (sym (sites_filled old are parts path))
       ∙ ap (λ w. w ++ where_found (site_at (map fill (sites_along means path)) path) items) (way_filled false (sites_along means path) path)
@@ -122,31 +96,37 @@ module _ (old : Rows) (are : AreRows old) (parts : SoundParts old) where
       on None = refl
       on (Some child) = refl
 
-  above_kept : (id : ℕ) (path : List (List ℕ)) → list_any (λ (n : Node). n.id == id) (walk_of old.read path).chain ≡ list_any (λ (site : Site). site.node.id == id) (sites_along means path)
-  above_kept id path =
-      sym (any_along old.read id path)
-      ∙ ap (list_any (λ (site : Site). site.node.id == id)) (sym (sites_filled old are parts path))
-      ∙ any_map (λ (site : Site). site.node.id == id) fill (sites_along means path)
+  -- the way to the new folder meets the object exactly if it begins with its path
+  met_kept : (path others : List (List ℕ)) (target : Site) → site_at (sites_along means path) path ≡ Some target → begins path others ≡ list_any (λ (site : Site). site.node.id == target.node.id) (sites_along means others)
+  met_kept path others target found =
+      let stored : site_at (stored_along old.read path) path ≡ Some (fill target) = ap (λ sites. site_at sites path) (sym (sites_filled old are parts path)) ∙ site_filled (sites_along means path) path ∙ ap (option_map fill) found in
+      sym (met_by_names old.read are.numbers path others (fill target) (along_there old.read are.numbers path (fill target) stored) stored)
+      ∙ ap (list_any (λ (site : Site). site.node.id == target.node.id)) (sym (sites_filled old are parts others))
+      ∙ any_map (λ (site : Site). site.node.id == target.node.id) fill (sites_along means others)
 
-  place_filled : (to : List (List ℕ)) (target from folder : Site) → at_place old.read to (fill target) (fill from) (fill folder)
-      ≡ map fill_item ((through folder ++ leaving target from folder) ++ Refusal to Exists (is_some (child_of means folder.node.id (last_name to))) ∷ Refusal to Loop (list_any (λ (site : Site). site.node.id == target.node.id) (sites_along means (front to))) ∷ [])
-  place_filled to target from folder =
-      ap (λ t. (through (fill folder) ++ leaving (fill target) (fill from) (fill folder)) ++ Refusal to Exists t ∷ Refusal to Loop (list_any (λ (n : Node). n.id == target.node.id) (walk_of old.read (front to)).chain) ∷ []) (child_kept folder.node.id (last_name to))
-      ∙ ap (λ t. (through (fill folder) ++ leaving (fill target) (fill from) (fill folder)) ++ Refusal to Exists (is_some (child_of means folder.node.id (last_name to))) ∷ Refusal to Loop t ∷ []) (above_kept target.node.id (front to))
+  abbrev planned_place : List (List ℕ) → Site → Site → Site → List Item
+  planned_place to target from folder =
+      (through folder ++ leaving target from folder) ++ Refusal to Exists (is_some (child_of means folder.node.id (last_name to))) ∷ Refusal to Loop (list_any (λ (site : Site). site.node.id == target.node.id) (sites_along means (front to))) ∷ []
 
-  items_filled : (to : List (List ℕ)) (target from : Site) → stored_items old.read to (fill target) (fill from) ≡ map fill_item (move_items means to target from)
-  items_filled [] target from = refl
-  items_filled (name ∷ names) target from =
-      filled_with (front (name ∷ names)) (at_place old.read (name ∷ names) (fill target) (fill from))
-      (λ folder. (through folder ++ leaving target from folder) ++ Refusal (name ∷ names) Exists (is_some (child_of means folder.node.id (last_name (name ∷ names)))) ∷ Refusal (name ∷ names) Loop (list_any (λ (site : Site). site.node.id == target.node.id) (sites_along means (front (name ∷ names)))) ∷ [])
-      (place_filled (name ∷ names) target from)
+  place_filled : (to : List (List ℕ)) (is_below : Bool) (target from folder : Site) → is_below ≡ list_any (λ (site : Site). site.node.id == target.node.id) (sites_along means (front to))
+      → at_place old.read to is_below (fill target) (fill from) (fill folder) ≡ map fill_item (planned_place to target from folder)
+  place_filled to is_below target from folder below =
+      ap (λ t. (through (fill folder) ++ leaving (fill target) (fill from) (fill folder)) ++ Refusal to Exists t ∷ Refusal to Loop is_below ∷ []) (child_kept folder.node.id (last_name to))
+      ∙ ap (λ t. (through (fill folder) ++ leaving (fill target) (fill from) (fill folder)) ++ Refusal to Exists (is_some (child_of means folder.node.id (last_name to))) ∷ Refusal to Loop t ∷ []) below
 
-  found_here : (path to : List (List ℕ)) (target : Site) → at_found old.read path to (fill target) ≡ map fill_item (Refusal path Root (is_empty path) ∷ where_found (parent_at (sites_along means path) path) (move_items means to target))
-  found_here path to target =
+  items_filled : (to : List (List ℕ)) (is_below : Bool) (target from : Site) → is_below ≡ list_any (λ (site : Site). site.node.id == target.node.id) (sites_along means (front to))
+      → stored_items old.read to is_below (fill target) (fill from) ≡ map fill_item (move_items means to target from)
+  items_filled [] is_below target from below = refl
+  items_filled (name ∷ names) is_below target from below =
+      filled_with (front (name ∷ names)) (at_place old.read (name ∷ names) is_below (fill target) (fill from)) (planned_place (name ∷ names) target from) (λ folder found. place_filled (name ∷ names) is_below target from folder below)
+
+  found_here : (path to : List (List ℕ)) (target : Site) → site_at (sites_along means path) path ≡ Some target
+      → at_found old.read path to (fill target) ≡ map fill_item (Refusal path Root (is_empty path) ∷ where_found (parent_at (sites_along means path) path) (move_items means to target))
+  found_here path to target found =
       ap (λ items. Refusal path Root (is_empty path) ∷ items)
-      (ap (λ sites. where_found (parent_at sites path) (stored_items old.read to (fill target))) (sym (sites_filled old are parts path))
-      ∙ ap (λ o. where_found o (stored_items old.read to (fill target))) (parent_filled (sites_along means path) path)
-      ∙ found_filled (parent_at (sites_along means path) path) (stored_items old.read to (fill target)) (move_items means to target) (items_filled to target))
+      (ap (λ sites. where_found (parent_at sites path) (stored_items old.read to (begins path (front to)) (fill target))) (sym (sites_filled old are parts path))
+      ∙ ap (λ o. where_found o (stored_items old.read to (begins path (front to)) (fill target))) (parent_filled (sites_along means path) path)
+      ∙ found_filled (parent_at (sites_along means path) path) (stored_items old.read to (begins path (front to)) (fill target)) (move_items means to target) (λ from known. items_filled to (begins path (front to)) target from (met_kept path (front to) target found)))
 
   pub move_judged : (asker : Asker) (path to : List (List ℕ)) (new : Rows) (answer : Option Reply) → IsJudged asker (stored_move old.read path to) old answer new → IsJudged asker (plan_of means (Move path to)) old answer new
   move_judged asker path to new answer judged =

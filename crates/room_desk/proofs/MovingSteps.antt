@@ -26,7 +26,7 @@ use Rattle.room_desk.specs.Effect.{moved_node, with_site}
 use Rattle.room_desk.specs.Stored.{found_site, stored_site, stored_from, stored_along, to_stored}
 use Rattle.room_desk.specs.Spot.{IsPaired}
 use Rattle.room_desk.specs.Judged.{CarriesOut, IsJudged, IsReached, NotSound, noted}
-use Rattle.room_desk.specs.Moving.{CanPlace, IsPlaced, MovesOn, NeverMoving, NeverPlacing, at_place}
+use Rattle.room_desk.specs.Moving.{CanPlace, IsPlaced, MovesOn, NeverMoving, NeverPlacing, at_place, begins}
 use Rattle.room_desk.proofs.Filled.{IsTarget, target_there}
 use Rattle.room_desk.proofs.Judging.{failure_of_parts, fails_first, passes_first, passes_on, refuses}
 use Rattle.room_desk.proofs.MovingFacts.{IsFree, all_passed, placeable}
@@ -63,9 +63,9 @@ some_name : (sites : List Site) (path : List (List ℕ)) (site : Site) → paren
 some_name sites [] site is = absurd (let wrong : ⊥ = cc in wrong)
 some_name sites (name ∷ names) site is = omega arith
 
-items_there : (rows : Content) (to : List (List ℕ)) (target from : Site) → 0 < length to → stored_items rows to target from ≡ to_stored rows (front to) (at_place rows to target from)
-items_there rows [] target from some = absurd (let wrong : ⊥ = omega arith in wrong)
-items_there rows (name ∷ names) target from some = refl
+items_there : (rows : Content) (to : List (List ℕ)) (is_below : Bool) (target from : Site) → 0 < length to → stored_items rows to is_below target from ≡ to_stored rows (front to) (at_place rows to is_below target from)
+items_there rows [] is_below target from some = absurd (let wrong : ⊥ = omega arith in wrong)
+items_there rows (name ∷ names) is_below target from some = refl
 
 module _ (asker : Asker) (path to : List (List ℕ)) (from target : Found) (old mid : Rows) (are : AreRows old) (paired : IsPaired asker path old (Both from target) mid) where
   abbrev target_site : Site
@@ -73,6 +73,10 @@ module _ (asker : Asker) (path to : List (List ℕ)) (from target : Found) (old 
 
   abbrev from_site : Site
   from_site = found_site path from
+
+  -- the new folder would be the object, or below it
+  abbrev is_below : Bool
+  is_below = begins path (front to)
 
   -- the records of the way to the object
   abbrev on_way : List AuditRow
@@ -94,52 +98,52 @@ module _ (asker : Asker) (path to : List (List ℕ)) (from target : Found) (old 
       on [] some = absurd (let wrong : ⊥ = omega arith in wrong)
       on (name ∷ names) some = refl
 
-  with_items : (new : Rows) (answer : Option Reply) → IsJudged asker (stored_items old.read to target_site from_site) mid answer new → IsJudged asker (stored_move old.read path to) old answer new
+  with_items : (new : Rows) (answer : Option Reply) → IsJudged asker (stored_items old.read to is_below target_site from_site) mid answer new → IsJudged asker (stored_move old.read path to) old answer new
   with_items new answer judged =
       passes_first asker (way false (stored_along old.read path) path) (where_found (site_at (stored_along old.read path) path) (at_found old.read path to)) old mid new answer paired.judged
       (subst (λ o. IsJudged asker (where_found o (at_found old.read path to)) mid answer new) (sym target_is)
-      (passes_on asker path Root (is_empty path) (where_found (parent_at (stored_along old.read path) path) (stored_items old.read to target_site)) mid new answer not_root
-      (subst (λ o. IsJudged asker (where_found o (stored_items old.read to target_site)) mid answer new) (sym paired.folder) judged)))
+      (passes_on asker path Root (is_empty path) (where_found (parent_at (stored_along old.read path) path) (stored_items old.read to is_below target_site)) mid new answer not_root
+      (subst (λ o. IsJudged asker (where_found o (stored_items old.read to is_below target_site)) mid answer new) (sym paired.folder) judged)))
 
-  ended : (new : Rows) (reply : Reply) → IsJudged asker (stored_items old.read to target_site from_site) mid (Some reply) new → CarriesOut asker (Move path to) old reply new
+  ended : (new : Rows) (reply : Reply) → IsJudged asker (stored_items old.read to is_below target_site from_site) mid (Some reply) new → CarriesOut asker (Move path to) old reply new
   ended new reply judged known sound = refused_step asker (Move path to) old known sound new reply (move_judged old are (sound_parts old sound) asker path to new (Some reply) (with_items new (Some reply) judged))
 
   pub root_refused : (new : Rows) (reply : Reply) → to ≡ [] → IsJudged asker (Deletion target_site from_site ∷ Refusal [] Exists true ∷ []) mid (Some reply) new → CarriesOut asker (Move path to) old reply new
-  root_refused new reply is judged = ended new reply (subst (λ p. IsJudged asker (stored_items old.read p target_site from_site) mid (Some reply) new) (sym is) judged)
+  root_refused new reply is judged = ended new reply (subst (λ p. IsJudged asker (stored_items old.read p is_below target_site from_site) mid (Some reply) new) (sym is) judged)
 
   pub never_rootless : (at : ℕ) → HasNoRoot mid at → NotSound old at
   never_rootless at h sound = rootless_unsound mid at h (subst AreSound (sym paired.judged.notes) (sound_noted old on_way sound))
 
   module _ (some_to : 0 < length to) where
-    at_first : to_stored mid.read (front to) (at_place mid.read to target_site from_site) ≡ to_stored old.read (front to) (at_place old.read to target_site from_site)
-    at_first = ap (λ (r : Rows). to_stored r.read (front to) (at_place r.read to target_site from_site)) paired.judged.notes ∙ way_noted old on_way to target_site from_site
+    at_first : to_stored mid.read (front to) (at_place mid.read to is_below target_site from_site) ≡ to_stored old.read (front to) (at_place old.read to is_below target_site from_site)
+    at_first = ap (λ (r : Rows). to_stored r.read (front to) (at_place r.read to is_below target_site from_site)) paired.judged.notes ∙ way_noted old on_way to is_below target_site from_site
 
-    pub place_ended : (new : Rows) (reply : Reply) → IsReached asker (front to) (at_place mid.read to target_site from_site) mid (Ended reply) new → CarriesOut asker (Move path to) old reply new
+    pub place_ended : (new : Rows) (reply : Reply) → IsReached asker (front to) (at_place mid.read to is_below target_site from_site) mid (Ended reply) new → CarriesOut asker (Move path to) old reply new
     place_ended new reply reached =
-        ended new reply (subst (λ items. IsJudged asker items mid (Some reply) new) (at_first ∙ sym (items_there old.read to target_site from_site some_to)) reached.judged)
+        ended new reply (subst (λ items. IsJudged asker items mid (Some reply) new) (at_first ∙ sym (items_there old.read to is_below target_site from_site some_to)) reached.judged)
 
     -- ---- once the new folder was reached
 
-    module _ (folder : Node) (last : Rows) (name : List ℕ) (is_last : name ≡ last_name to) (named : is_object_name name ≡ true) (reached : IsReached asker (front to) (at_place mid.read to target_site from_site) mid (At folder) last) where
+    module _ (folder : Node) (last : Rows) (name : List ℕ) (is_last : name ≡ last_name to) (named : is_object_name name ≡ true) (reached : IsReached asker (front to) (at_place mid.read to is_below target_site from_site) mid (At folder) last) where
       abbrev folder_site : Site
       folder_site = stored_site (front to) folder
 
       folder_is : site_at (stored_along old.read (front to)) (front to) ≡ Some folder_site
       folder_is = sym (ap (λ (r : Rows). site_at (stored_along r.read (front to)) (front to)) paired.judged.notes ∙ ap (λ sites. site_at sites (front to)) (along_noted old.read on_way (front to))) ∙ reached.found
 
-      judged_here : IsJudged asker (to_stored old.read (front to) (at_place old.read to target_site from_site)) mid None last
+      judged_here : IsJudged asker (to_stored old.read (front to) (at_place old.read to is_below target_site from_site)) mid None last
       judged_here = subst (λ items. IsJudged asker items mid None last) at_first reached.judged
 
       judged_all : IsJudged asker (stored_move old.read path to) old None last
-      judged_all = with_items last None (subst (λ items. IsJudged asker items mid None last) (sym (items_there old.read to target_site from_site some_to)) judged_here)
+      judged_all = with_items last None (subst (λ items. IsJudged asker items mid None last) (sym (items_there old.read to is_below target_site from_site some_to)) judged_here)
 
-      free : IsFree old.read to target.node.id folder
+      free : IsFree old.read to is_below folder
       free =
           let front_way : List Item = way false (stored_along old.read (front to)) (front to) in
-          let none : None ≡ first_failure asker.caller (front_way ++ at_place old.read to target_site from_site folder_site) =
-          judged_here.answers ∙ ap (λ o. first_failure asker.caller (way false (stored_along old.read (front to)) (front to) ++ where_found o (at_place old.read to target_site from_site))) folder_is in
-          all_passed asker.caller old.read to target_site from_site folder_site
-          (none_both (first_failure asker.caller front_way) (first_failure asker.caller (at_place old.read to target_site from_site folder_site)) (none ∙ failure_of_parts asker.caller asker.at front_way (at_place old.read to target_site from_site folder_site))).1
+          let none : None ≡ first_failure asker.caller (front_way ++ at_place old.read to is_below target_site from_site folder_site) =
+          judged_here.answers ∙ ap (λ o. first_failure asker.caller (way false (stored_along old.read (front to)) (front to) ++ where_found o (at_place old.read to is_below target_site from_site))) folder_is in
+          all_passed asker.caller old.read to is_below target_site from_site folder_site
+          (none_both (first_failure asker.caller front_way) (first_failure asker.caller (at_place old.read to is_below target_site from_site folder_site)) (none ∙ failure_of_parts asker.caller asker.at front_way (at_place old.read to is_below target_site from_site folder_site))).1
 
       can : AreSound old → CanPlace target.node folder name last
       can sound =

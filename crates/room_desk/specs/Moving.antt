@@ -1,8 +1,8 @@
 -- How an object gets another place.
 use Rattle.std.specs.Prelude.{◌≡◌, ℕ, zero, suc, ◌==◌, ◌&&◌, Bool, true, false, not, List, [], ◌∷◌, ◌++◌, Option, Some, None, is_some, IsTrue, map}
-use Rattle.std.specs.List.{list_any}
 use Rattle.std.specs.Option.{option_map_or}
 use Rattle.room_ace.specs.Ace.{Ace}
+use Rattle.room_ace.specs.Pieces.{same_text}
 use Rattle.room_ace.specs.declared.object.Which.{Which}
 use Rattle.room_tree.specs.declared.node.Node.{Node}
 use Rattle.room_tree.specs.Content.{Content, node_at, child_of, is_folder, is_linked_in, is_rising, reaches_root, with_node}
@@ -11,7 +11,6 @@ use Rattle.room_tree.specs.Keep.{reading}
 use Rattle.room_tree.specs.Meaning.{meaning}
 use Rattle.room_tree.specs.Paths.{is_object_name}
 use Rattle.room_tree.specs.Rows.{Rows, AreRows}
-use Rattle.room_tree.specs.Walk.{walk_of}
 use Rattle.room_inherit.specs.Law.{agrees, AllAgree}
 use Rattle.room_inherit.specs.Sound.{AreSound}
 use Rattle.room_inherit.specs.Spread.{with_lists}
@@ -21,7 +20,7 @@ use Rattle.room_desk.specs.declared.asker.Asker.{Asker}
 use Rattle.room_desk.specs.declared.reply.Reply.{Reply}
 use Rattle.room_desk.specs.declared.reply.Reason.TheVariants.{Exists, Loop}
 use Rattle.room_desk.specs.declared.request.Request.TheVariants.{Move}
-use Rattle.room_desk.specs.Site.{Site, front, last_name}
+use Rattle.room_desk.specs.Site.{Site, last_name}
 use Rattle.room_desk.specs.Plan.{Item, Check, Deletion, Refusal, right_to_add}
 use Rattle.room_desk.specs.Effect.{moved_node}
 use Rattle.room_desk.specs.Spot.{IsPaired}
@@ -34,16 +33,19 @@ use Rattle.room_desk.specs.Judged.{IsJudged, CarriesOut, NotSound, through}
 abbrev pub leaving : Site → Site → Site → List Item
 leaving target from folder = Deletion target from ∷ Check folder (right_to_add target.node ∷ []) ∷ []
 
--- nothing has the new name, and the target doesn't stand on the way to the new folder
-abbrev pub free_place : Content → List (List ℕ) → ℕ → Node → List Item
-free_place rows to target folder =
-    Refusal to Exists (is_some (child_of rows folder.id (last_name to)))
-    ∷ Refusal to Loop (list_any (λ node. node.id == target) (walk_of rows (front to)).chain)
-    ∷ []
+-- the names begin those others, or are all of them
+abbrev pub begins : List (List ℕ) → List (List ℕ) → Bool
+begins [] others = true
+begins (name ∷ names) [] = false
+begins (name ∷ names) (other ∷ others) = same_text name other && begins names others
+
+-- nothing has the new name, and it isn't below the target
+abbrev pub free_place : Content → List (List ℕ) → Bool → Node → List Item
+free_place rows to is_below folder = Refusal to Exists (is_some (child_of rows folder.id (last_name to))) ∷ Refusal to Loop is_below ∷ []
 
 -- all that is judged at the new folder, behind the way to it
-abbrev pub at_place : Content → List (List ℕ) → Site → Site → Site → List Item
-at_place rows to target from folder = (through folder ++ leaving target from folder) ++ free_place rows to target.node.id folder.node
+abbrev pub at_place : Content → List (List ℕ) → Bool → Site → Site → Site → List Item
+at_place rows to is_below target from folder = (through folder ++ leaving target from folder) ++ free_place rows to is_below folder.node
 
 -- The items don't ask who it is.
 abbrev pub JudgesAll : (Rows → List Item) → Rows → Option Reply → Rows → Type 0

@@ -1,13 +1,10 @@
 //! The new place of an object.
-ghost use Rattle.std.specs.Prelude.{◌≡◌, ◌==◌, ◌+◌, [], ◌∷◌, length};
-ghost use Rattle.std.specs.List.{list_any};
-ghost use Rattle.room_tree.specs.Keep.{HasNoRoot};
-ghost use Rattle.room_tree.specs.Walk.{walk_of};
+ghost use Rattle.std.specs.Prelude.{◌≡◌, ◌+◌, length};
+ghost use Rattle.room_ace.specs.Pieces.{same_text};
+ghost use Rattle.room_tree.specs.Keep.{IsUnreadable};
 ghost use Rattle.room_desk.specs.Judged.{IsDone};
-ghost use Rattle.room_desk.specs.Moving.{JudgesAll, NeverPlacing, NeverRenewing, PlacesAt, Renews, free_place};
-ghost use Rattle.room_desk.specs.Plan.{Refusal};
+ghost use Rattle.room_desk.specs.Moving.{JudgesAll, NeverPlacing, NeverRenewing, PlacesAt, Renews, begins, free_place};
 ghost use Rattle.room_desk.specs.Site.{front};
-ghost use Rattle.room_desk.specs.declared.reply.Reason.TheVariants.{Loop};
 
 use crate::arrival::Found;
 use crate::carrying::carry_down;
@@ -15,19 +12,19 @@ use crate::checking::refused;
 use crate::reply::{Reason, Reply};
 use room_ace::Which;
 use room_inherit::{linked, pass};
-use room_tree::{Keep, KeepFault, Node, Path, walk};
+use room_tree::{Keep, KeepFault, Node, Path, Text};
 use std::alloc::Global;
 
-/// Nothing has the new name, and the new folder is neither the object nor below it.
+/// Nothing has the new name, and the object's path doesn't begin that of the new folder.
 pub(crate) fn check_free<K: Keep>(
     alloc: Global,
     keep: &mut K,
+    path: &Path,
     to: &Path,
-    target: u64,
     folder: &Found,
 ) -> Result<Option<Reply>, KeepFault>
     requires { length to.now ≡ folder.now.depth + 1 }
-    ensures done { IsDone K.rows K.failures K.Follows K.IsTrusted keep.old keep.new result HasNoRoot (JudgesAll (λ rows. free_place rows.read to.now target folder.now.node)) }
+    ensures done { IsDone K.rows K.failures K.Follows K.IsTrusted keep.old keep.new result IsUnreadable (JudgesAll (λ rows. free_place rows.read to.now (begins path.now (front to.now)) folder.now.node)) }
 {
     let name = &to.names()[folder.depth];
     let child = keep.child(folder.node.id, name.as_str())?;
@@ -35,34 +32,34 @@ pub(crate) fn check_free<K: Keep>(
     if !is_free {
         return Ok(Some(refused(alloc, to, to.names().len(), Reason::Exists)?));
     }
-    check_loop(alloc, keep, to, target, folder.depth)
-}
-
-// The object doesn't stand on the way to the new folder.
-fn check_loop<K: Keep>(
-    alloc: Global,
-    keep: &mut K,
-    to: &Path,
-    target: u64,
-    depth: usize,
-) -> Result<Option<Reply>, KeepFault>
-    requires { length to.now ≡ depth + 1 }
-    ensures done { IsDone K.rows K.failures K.Follows K.IsTrusted keep.old keep.new result HasNoRoot (JudgesAll (λ rows. Refusal to.now Loop (list_any (λ node. node.id == target) (walk_of rows.read (front to.now)).chain) ∷ [])) }
-{
-    let front = to.front(alloc, depth)?;
-    let way = walk(alloc, keep, &front)?;
-    let is_above = has_number(way.chain.as_slice(), target);
-    if is_above {
+    let is_below = begins(path.names(), &to.names()[..folder.depth]);
+    if is_below {
         return Ok(Some(refused(alloc, to, to.names().len(), Reason::Loop)?));
     }
     Ok(None)
 }
 
-// Whether an object of this number is among them.
-fn has_number(nodes: &[Node], id: u64) -> bool
-    ensures { result ≡ list_any (λ node. node.id == id) nodes.now }
+// Whether the names begin those others, or are all of them.
+fn begins(names: &[Text], others: &[Text]) -> bool
+    ensures { result ≡ begins names.now others.now }
 {
-    nodes.iter().any(|node| node.id == id)
+    let are_more = names.len() > others.len();
+    if are_more {
+        return false;
+    }
+    'each: for (index, name) in names.iter().enumerate() {
+        let is_same = is_same_name(name, &others[index]);
+        if !is_same {
+            return false;
+        }
+    }
+    true
+}
+
+fn is_same_name(name: &Text, other: &Text) -> bool
+    ensures { result ≡ same_text name.now other.now }
+{
+    name.as_str() == other.as_str()
 }
 
 /// Gives the object another parent and another name. What is linked there takes the entries that the

@@ -1,8 +1,8 @@
 //! The request that moves an object.
 ghost use Rattle.std.specs.Prelude.{◌≡◌, ◌+◌, ◌<◌, true, [], ◌∷◌, ◌++◌, length};
-ghost use Rattle.room_tree.specs.Keep.{HasNoRoot, IsNever};
+ghost use Rattle.room_tree.specs.Keep.{HasNoRoot, IsNever, IsUnreadable};
 ghost use Rattle.room_desk.specs.Judged.{CarriesOut, IsDone, IsJudged, IsReached, NotSound, through};
-ghost use Rattle.room_desk.specs.Moving.{MovesOn, NeverMoving, at_place, leaving};
+ghost use Rattle.room_desk.specs.Moving.{MovesOn, NeverMoving, at_place, begins, leaving};
 ghost use Rattle.room_desk.specs.Plan.{Deletion, Refusal, right_to_add};
 ghost use Rattle.room_desk.specs.Site.{front};
 ghost use Rattle.room_desk.specs.Stored.{found_site};
@@ -99,7 +99,7 @@ fn reach_place<K: Keep>(
     target: &Found,
 ) -> Result<Arrival, KeepFault>
     requires { 0 < length to.now }
-    ensures done { IsDone K.rows K.failures K.Follows K.IsTrusted keep.old keep.new result HasNoRoot (λ old arrival new. IsReached asker.now (front to.now) (at_place old.read to.now (found_site path.now target.now) (found_site path.now from.now)) old arrival new) }
+    ensures done { IsDone K.rows K.failures K.Follows K.IsTrusted keep.old keep.new result HasNoRoot (λ old arrival new. IsReached asker.now (front to.now) (at_place old.read to.now (begins path.now (front to.now)) (found_site path.now target.now) (found_site path.now from.now)) old arrival new) }
 {
     let depth = to.names().len() - 1;
     let front = to.front(alloc, depth)?;
@@ -129,12 +129,12 @@ fn check_place<K: Keep>(
     folder: &Found,
 ) -> Result<Option<Reply>, KeepFault>
     requires { length to.now ≡ folder.now.depth + 1 }
-    ensures done { IsDone K.rows K.failures K.Follows K.IsTrusted keep.old keep.new result HasNoRoot (λ old answer new. IsJudged asker.now (at_place old.read to.now (found_site path.now target.now) (found_site path.now from.now) (found_site to.now folder.now)) old answer new) }
+    ensures done { IsDone K.rows K.failures K.Follows K.IsTrusted keep.old keep.new result IsUnreadable (λ old answer new. IsJudged asker.now (at_place old.read to.now (begins path.now (front to.now)) (found_site path.now target.now) (found_site path.now from.now) (found_site to.now folder.now)) old answer new) }
 {
     let refusal = check_rights(alloc, keep, asker, path, to, from, target, folder)?;
     match refusal {
         Some(reply) => Ok(Some(reply)),
-        None => check_free(alloc, keep, to, target.node.id, folder),
+        None => check_free(alloc, keep, path, to, folder),
     }
 }
 

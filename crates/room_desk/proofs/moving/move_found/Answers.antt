@@ -3,7 +3,7 @@ use Rattle.room_tree.specs.Keep.{HasNoRoot}
 use Rattle.room_tree.specs.Paths.{is_object_name}
 use Rattle.room_tree.specs.Rows.{Rows}
 use Rattle.room_desk.specs.Judged.{IsJudged, IsReached}
-use Rattle.room_desk.specs.Moving.{MovesOn, at_place}
+use Rattle.room_desk.specs.Moving.{MovesOn, at_place, begins}
 use Rattle.room_desk.specs.Plan.{Deletion, Refusal}
 use Rattle.room_desk.specs.Site.{front}
 use Rattle.room_desk.specs.Stored.{found_site}
@@ -35,7 +35,7 @@ returns-in_err-place_at-in-At g c =
     record {
       done = fails laws (done c.in_ok-arrival-in-Some.ensures.done) c.in_err-place_at-in-At.ensures.done (λ mid end at reached never first are paired.
           never_unplaced c.args.asker.now c.args.path.now c.args.to.now c.args.from.now c.args.target.now first mid are paired some c.in-At.folder end c.as_str.result.now last named
-          (subst (λ (a : Arrival). IsReached c.args.asker.now (front c.args.to.now) (at_place mid.read c.args.to.now (found_site c.args.path.now c.args.target.now) (found_site c.args.path.now c.args.from.now)) mid a end) c.in-At.is reached) at never)
+          (subst (λ (a : Arrival). IsReached c.args.asker.now (front c.args.to.now) (at_place mid.read c.args.to.now (begins c.args.path.now (front c.args.to.now)) (found_site c.args.path.now c.args.target.now) (found_site c.args.path.now c.args.from.now)) mid a end) c.in-At.is reached) at never)
           c.from_residual-in_err-place_at-in-At.result c.from_residual-in_err-place_at-in-At.ensures.1;
     }
 
@@ -59,7 +59,7 @@ returns-in-Ended g c =
     record {
       done = finish laws _ (done c.in_ok-arrival-in-Some.ensures.done) (λ mid new are_mid reached first are paired.
           place_ended c.args.asker.now c.args.path.now c.args.to.now c.args.from.now c.args.target.now first mid are paired some new c.in-Ended.reply
-          (subst (λ (a : Arrival). IsReached c.args.asker.now (front c.args.to.now) (at_place mid.read c.args.to.now (found_site c.args.path.now c.args.target.now) (found_site c.args.path.now c.args.from.now)) mid a new) c.in-Ended.is reached));
+          (subst (λ (a : Arrival). IsReached c.args.asker.now (front c.args.to.now) (at_place mid.read c.args.to.now (begins c.args.path.now (front c.args.to.now)) (found_site c.args.path.now c.args.target.now) (found_site c.args.path.now c.args.from.now)) mid a new) c.in-Ended.is reached));
     }
 
 pub returns-in_ok-place_at-in-At : goal.returns-in_ok-place_at-in-At
@@ -73,5 +73,5 @@ returns-in_ok-place_at-in-At g c =
     record {
       done = finish laws Done (then laws {Becomes = λ mid new. MovesOn c.args.asker.now c.args.path.now c.args.to.now c.args.from.now c.args.target.now mid Done new} (done c.in_ok-arrival-in-Some.ensures.done) (done c.in_ok-place_at-in-At.ensures.done) (λ mid end new reached places first are paired.
           moves c.args.asker.now c.args.path.now c.args.to.now c.args.from.now c.args.target.now first mid are paired some c.in-At.folder end c.as_str.result.now last named
-          (subst (λ (a : Arrival). IsReached c.args.asker.now (front c.args.to.now) (at_place mid.read c.args.to.now (found_site c.args.path.now c.args.target.now) (found_site c.args.path.now c.args.from.now)) mid a end) c.in-At.is reached) new places)) (λ mid new are_mid moved. moved);
+          (subst (λ (a : Arrival). IsReached c.args.asker.now (front c.args.to.now) (at_place mid.read c.args.to.now (begins c.args.path.now (front c.args.to.now)) (found_site c.args.path.now c.args.target.now) (found_site c.args.path.now c.args.from.now)) mid a end) c.in-At.is reached) new places)) (λ mid new are_mid moved. moved);
     }
