@@ -1,5 +1,5 @@
 -- What is known of a new folder once all that is judged there has passed.
-use Rattle.std.proofs.Common.{◌≡◌, ℕ, zero, suc, ◌<◌, ◌==◌, Bool, true, false, cond, not, ◌&&◌, ◌||◌, List, [], ◌∷◌, ◌++◌, length, Option, Some, None, refl, sym, ap, subst, ◌∙◌}
+use Rattle.std.proofs.Common.{◌≡◌, ℕ, suc, ◌<◌, ◌==◌, Bool, true, false, cond, not, List, [], ◌∷◌, ◌++◌, length, Option, Some, None, refl, sym, ap, ◌∙◌}
 use Rattle.std.specs.Prelude.{is_some}
 use Rattle.std.specs.List.{list_any}
 use Rattle.std.specs.Option.{option_map, option_map_or, option_and_then}
@@ -18,7 +18,7 @@ use Rattle.room_desk.specs.declared.reply.Reply.TheVariants.{Refused}
 use Rattle.room_desk.specs.declared.reply.Reason.TheVariants.{Exists, Loop, NotFolder}
 use Rattle.room_desk.specs.Judge.{failure, first_failure, or_else}
 use Rattle.room_desk.specs.Site.{Site, site_at, parent_at, front, last_name}
-use Rattle.room_desk.specs.Plan.{Item, Check, Deletion, Refusal, right_to_add}
+use Rattle.room_desk.specs.Plan.{Check, Deletion, Refusal, right_to_add}
 use Rattle.room_desk.specs.Stored.{stored_site, stored_from, stored_along}
 use Rattle.room_desk.specs.Judged.{noted}
 use Rattle.room_desk.specs.Moving.{CanPlace, at_place, begins, free_place, goes_past}
@@ -27,7 +27,7 @@ use Rattle.room_desk.proofs.MovingPlan.{along_noted}
 use Rattle.room_desk.proofs.OnePath.{met_by_names}
 use Rattle.room_desk.proofs.Serving.{along_there, none_both}
 use Rattle.room_desk.proofs.SoundParts.{sound_noted}
-use Rattle.room_desk.proofs.Spots.{below_of, folder_along, folder_found, target_found}
+use Rattle.room_desk.proofs.Spots.{below_of, folder_found, target_found}
 
 -- ---- nothing failed
 

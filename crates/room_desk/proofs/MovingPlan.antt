@@ -1,5 +1,5 @@
 -- The plan of a move, with the lists as rows store them.
-use Rattle.std.proofs.Common.{◌≡◌, ℕ, ◌==◌, Bool, true, false, cond, not, ◌||◌, List, [], ◌∷◌, ◌++◌, map, length, Option, Some, None, refl, sym, ap, subst, ◌∙◌}
+use Rattle.std.proofs.Common.{◌≡◌, ℕ, ◌==◌, Bool, true, false, List, [], ◌∷◌, ◌++◌, map, Option, Some, None, refl, sym, ap, subst, ◌∙◌}
 use Rattle.std.specs.Prelude.{is_some}
 use Rattle.std.specs.List.{list_any}
 use Rattle.std.specs.Option.{option_map, option_map_or}
@@ -16,7 +16,7 @@ use Rattle.room_desk.specs.declared.reply.Reply.{Reply}
 use Rattle.room_desk.specs.declared.reply.Reason.TheVariants.{Exists, Loop, Root}
 use Rattle.room_desk.specs.declared.request.Request.TheVariants.{Move}
 use Rattle.room_desk.specs.Site.{Site, site_at, sites_along, parent_at, front, last_name}
-use Rattle.room_desk.specs.Plan.{Item, Check, Deletion, Refusal, plan_of, move_items, move_to, way, where_found, to_target}
+use Rattle.room_desk.specs.Plan.{Item, Deletion, Refusal, plan_of, move_items, way, where_found, to_target}
 use Rattle.room_desk.specs.Stored.{stored_site, stored_from, stored_along, to_stored}
 use Rattle.room_desk.specs.Judged.{IsJudged, noted, through}
 use Rattle.room_desk.specs.Moving.{at_place, begins, leaving}

@@ -26,7 +26,7 @@ use Rattle.room_desk.specs.Effect.{moved_node, with_site}
 use Rattle.room_desk.specs.Stored.{found_site, stored_site, stored_from, stored_along, to_stored}
 use Rattle.room_desk.specs.Spot.{IsPaired}
 use Rattle.room_desk.specs.Judged.{CarriesOut, IsJudged, IsReached, NotSound, noted}
-use Rattle.room_desk.specs.Moving.{CanPlace, IsPlaced, MovesOn, NeverMoving, NeverPlacing, at_place, begins}
+use Rattle.room_desk.specs.Moving.{CanPlace, IsPlaced, NeverPlacing, at_place, begins}
 use Rattle.room_desk.proofs.Filled.{IsTarget, target_there}
 use Rattle.room_desk.proofs.Judging.{failure_of_parts, fails_first, passes_first, passes_on, refuses}
 use Rattle.room_desk.proofs.MovingFacts.{IsFree, all_passed, placeable}

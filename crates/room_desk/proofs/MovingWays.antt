@@ -1,13 +1,11 @@
 -- The way to the new folder of a move, and what is judged there.
-use Rattle.std.proofs.Common.{◌≡◌, ℕ, ◌+◌, Bool, List, [], length, take, Option, Some, None, refl, sym, ap, subst, ◌∙◌}
+use Rattle.std.proofs.Common.{◌≡◌, ℕ, ◌+◌, Bool, List, [], length, take, Option, refl, sym, ap, subst, ◌∙◌}
 use Rattle.std.proofs.Math.Seq.{take-length}
 use Rattle.room_tree.specs.declared.node.Node.{Node}
 use Rattle.room_tree.specs.Rows.{Rows}
 use Rattle.room_desk.specs.declared.arrival.Arrival.TheVariants.{At}
-use Rattle.room_desk.specs.declared.arrival.Found.{Found}
 use Rattle.room_desk.specs.declared.asker.Asker.{Asker}
 use Rattle.room_desk.specs.declared.reply.Reply.{Reply}
-use Rattle.room_desk.specs.Plan.{Item}
 use Rattle.room_desk.specs.Site.{Site, front}
 use Rattle.room_desk.specs.Stored.{found_site, stored_site}
 use Rattle.room_desk.specs.Judged.{IsJudged, IsReached, arrival_of}

@@ -1,16 +1,16 @@
 -- An object stands at one path, so what a way meets is told by names.
-use Rattle.std.proofs.Common.{◌≡◌, ℕ, zero, suc, ◌+◌, ◌==◌, Bool, true, false, ◌&&◌, ◌||◌, List, [], ◌∷◌, ◌++◌, ◌<◌, ◌≤◌, length, get_or, drop, Option, Some, None, refl, sym, ap, subst, ◌∙◌, inl, inr, append_assoc, arith}
+use Rattle.std.proofs.Common.{◌≡◌, ℕ, zero, suc, ◌+◌, ◌==◌, Bool, true, false, ◌&&◌, List, [], ◌∷◌, ◌++◌, ◌<◌, ◌≤◌, length, get_or, drop, Option, Some, None, refl, sym, ap, subst, ◌∙◌, inl, inr, append_assoc, arith}
 use Rattle.std.specs.Prelude.{option_and_then}
 use Rattle.std.specs.List.{list_any}
 use Rattle.std.specs.Option.{option_map_or}
-use Rattle.std.proofs.lemmas.Bool.{and_from, and_parts, cases_Bool, eq-eqb, eqb-true, false≢true, and_right, or_cases, or_left, or_right}
+use Rattle.std.proofs.lemmas.Bool.{and_from, and_parts, eq-eqb, eqb-true, false≢true, and_right, or_cases, or_left, or_right}
 use Rattle.std.proofs.lemmas.List.{append-nil, drop_more, get_or_read}
 use Rattle.std.proofs.Math.Seq.{drop-length}
 use Rattle.room_ace.specs.Pieces.{same_text}
 use Rattle.room_ace.proofs.Alike.{text_itself}
 use Rattle.room_ace.proofs.RoundTrip.{same_text-true}
 use Rattle.room_tree.specs.declared.node.Node.{Node}
-use Rattle.room_tree.specs.Content.{Content, child_of, node_at, parent_of, root_of}
+use Rattle.room_tree.specs.Content.{Content, child_of, node_at, root_of}
 use Rattle.room_tree.proofs.Frames.{Rises, child_of-is_there, child_of-name, child_of-parent, root_of-is_there, root_of-parent}
 use Rattle.room_inherit.specs.Sound.{names_up}
 use Rattle.room_desk.specs.Site.{Site, site_at}

@@ -7,7 +7,6 @@ use Rattle.std.proofs.lemmas.Bool.{cases_Bool, and_parts, and_from, false≢true
 use Rattle.std.proofs.lemmas.List.Folds.{list_all-append}
 use Rattle.room_ace.specs.Ace.{Ace}
 use Rattle.room_ace.specs.Valid.{entry_fault, is_document}
-use Rattle.room_ace.specs.declared.flags.EntryFlags.{EntryFlags}
 use Rattle.room_ace.specs.declared.object.ObjKind.{ObjKind}
 use Rattle.room_ace.specs.declared.object.ObjKind.TheVariants.{Document, Folder}
 use Rattle.room_ace.specs.declared.object.Which.{Which}
@@ -16,12 +15,12 @@ use Rattle.room_tree.specs.declared.node.Held.{Held}
 use Rattle.room_tree.specs.declared.node.Node.{Node}
 use Rattle.room_tree.specs.Held.{held_of, full_of, is_linked}
 use Rattle.room_tree.specs.Content.{Content, node_at, parent_of, is_folder, is_linked_in, has_folder_above, reaches_root}
-use Rattle.room_inherit.specs.Pass.{pass, passed, passed_flags, ended, carried, waiting}
+use Rattle.room_inherit.specs.Pass.{pass, passed, ended, carried, waiting}
 use Rattle.room_inherit.specs.Law.{agrees, agrees_with}
 use Rattle.room_inherit.specs.Laws.{are_valid}
 use Rattle.room_inherit.specs.Sound.{is_sound_held}
 use Rattle.room_inherit.proofs.Valid.{pass_is_valid}
-use Rattle.room_desk.proofs.Climbing.{step_up, same_some}
+use Rattle.room_desk.proofs.Climbing.{step_up}
 
 -- ---- what is passed is marked
 

@@ -1,5 +1,5 @@
 -- What rows mean where an object gets another place, and lists that aren't linked are as before.
-use Rattle.std.proofs.Common.{◌≡◌, ℕ, ◌==◌, Bool, true, false, cond, not, ◌&&◌, List, [], ◌∷◌, map, Option, Some, None, refl, sym, ap, subst, ◌∙◌, inl, inr}
+use Rattle.std.proofs.Common.{◌≡◌, ℕ, ◌==◌, Bool, true, false, cond, List, [], map, Some, refl, sym, ap, ◌∙◌, inl, inr}
 use Rattle.std.specs.Option.{option_map}
 use Rattle.std.proofs.lemmas.Bool.{cases_Bool, eqb-true, eqb-false}
 use Rattle.room_ace.specs.Ace.{Ace}
@@ -7,7 +7,7 @@ use Rattle.room_ace.specs.declared.object.Which.{Which}
 use Rattle.room_ace.specs.declared.object.Which.TheVariants.{Dacl, Sacl}
 use Rattle.room_tree.specs.declared.node.Held.{Held}
 use Rattle.room_tree.specs.declared.node.Node.{Node}
-use Rattle.room_tree.specs.Content.{Content, node_at, parent_of, is_linked_in, with_node, put_node}
+use Rattle.room_tree.specs.Content.{Content, node_at, is_linked_in, with_node}
 use Rattle.room_tree.specs.Held.{held_of, is_linked}
 use Rattle.room_tree.specs.Keep.{with_place}
 use Rattle.room_tree.specs.Meaning.{kept_held, kept_node, meaning}

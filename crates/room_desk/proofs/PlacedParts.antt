@@ -1,9 +1,8 @@
 -- The objects of rows in which one has another parent and name, and each perhaps other inherited entries.
-use Rattle.std.proofs.Common.{◌≡◌, ℕ, ◌==◌, Bool, true, false, cond, not, ◌&&◌, ◌||◌, List, [], ◌∷◌, map, filter, Option, Some, None, refl, sym, ap, ◌∙◌, inl, inr}
-use Rattle.std.specs.Prelude.{is_none, option_and_then}
+use Rattle.std.proofs.Common.{◌≡◌, ℕ, ◌==◌, Bool, true, false, cond, not, ◌&&◌, List, Option, Some, None, refl, sym, ap, ◌∙◌}
+use Rattle.std.specs.Prelude.{option_and_then}
 use Rattle.std.specs.List.{list_all}
-use Rattle.std.specs.Option.{option_map, option_map_or}
-use Rattle.std.proofs.lemmas.Bool.{cases_Bool, and_parts, false≢true, eqb-true, eq-eqb}
+use Rattle.std.specs.Option.{option_map}
 use Rattle.std.proofs.lemmas.List.Folds.{list_all-map}
 use Rattle.room_ace.specs.Ace.{Ace}
 use Rattle.room_ace.specs.declared.flags.ListFlags.{ListFlags}
@@ -11,13 +10,13 @@ use Rattle.room_ace.specs.declared.object.Which.{Which}
 use Rattle.room_ace.specs.declared.object.Which.TheVariants.{Dacl, Sacl}
 use Rattle.room_tree.specs.declared.node.Held.{Held}
 use Rattle.room_tree.specs.declared.node.Node.{Node}
-use Rattle.room_tree.specs.Content.{Content, node_at, parent_of, is_folder, is_linked_in, with_each}
+use Rattle.room_tree.specs.Content.{Content, node_at, parent_of, with_each}
 use Rattle.room_tree.specs.Held.{held_of, is_linked}
 use Rattle.room_tree.specs.Keep.{with_place}
 use Rattle.room_tree.proofs.Frames.{Rises, node_at-number}
 use Rattle.room_inherit.proofs.Children.{Apart, apart_rising, each_there, each_found}
 use Rattle.room_inherit.proofs.Ends.{each_all}
-use Rattle.room_inherit.proofs.Members.{Each, all_each}
+use Rattle.room_inherit.proofs.Members.{all_each}
 use Rattle.room_desk.proofs.Climbing.{node_at-changed, same_some}
 
 -- ---- the change of one object

@@ -1,36 +1,33 @@
 -- The rows while an object gets another place: placed, and then with one attribute after the other handed down.
-use Rattle.std.proofs.Common.{◌≡◌, ℕ, zero, suc, ◌==◌, Bool, true, false, cond, not, ◌&&◌, ◌||◌, List, [], ◌∷◌, map, Option, Some, None, refl, sym, ap, subst, ◌∙◌, inl, inr}
+use Rattle.std.proofs.Common.{◌≡◌, ℕ, zero, suc, ◌==◌, true, false, cond, not, ◌||◌, List, ◌∷◌, map, Option, Some, None, refl, sym, ap, subst, ◌∙◌, inl, inr}
 use Rattle.std.specs.Option.{option_map, option_map_or}
 use Rattle.std.specs.Prelude.{IsTrue}
-use Rattle.std.specs.List.{list_all}
 use Rattle.std.proofs.lemmas.Bool.{cases_Bool, and_parts, false≢true, eqb-true, eqb-false, eq-eqb, false_from_ne_true}
 use Rattle.room_ace.specs.Ace.{Ace}
 use Rattle.room_ace.specs.declared.object.Which.{Which}
 use Rattle.room_ace.specs.declared.object.Which.TheVariants.{Dacl, Sacl}
 use Rattle.room_tree.specs.declared.node.Held.{Held}
 use Rattle.room_tree.specs.declared.node.Node.{Node}
-use Rattle.room_tree.specs.Content.{Content, node_at, parent_of, is_linked_in, is_rising, with_each}
+use Rattle.room_tree.specs.Content.{Content, node_at, parent_of, is_linked_in, is_rising}
 use Rattle.room_tree.specs.Held.{held_of, full_of, is_linked}
 use Rattle.room_tree.specs.Keep.{Places, reading, with_inh, with_place}
 use Rattle.room_tree.specs.Rows.{Rows}
-use Rattle.room_tree.proofs.Frames.{node_at-number, with_each-with_each}
+use Rattle.room_tree.proofs.Frames.{with_each-with_each}
 use Rattle.room_tree.proofs.Lookups.{put-replaces, replaced, replaced_here, replaced_elsewhere}
 use Rattle.room_inherit.specs.Law.{agrees, agrees_with, AllAgree}
-use Rattle.room_inherit.specs.Laws.{HasNoFault}
 use Rattle.room_inherit.specs.Pass.{pass}
 use Rattle.room_ace.specs.Same.{same_entries}
 use Rattle.room_inherit.specs.Sound.{keeps_law}
 use Rattle.room_inherit.specs.Spread.{with_lists}
 use Rattle.room_inherit.proofs.Children.{each_found, each_there}
 use Rattle.room_inherit.proofs.Ends.{each_all}
-use Rattle.room_inherit.proofs.Members.{Each}
 use Rattle.room_inherit.proofs.Renewing.{map_agree, map_map}
 use Rattle.room_desk.specs.Moving.{CanPlace, CanRenew, IsPlaced, IsRenewed, goes_past}
 use Rattle.room_desk.proofs.Climbing.{past_reaches}
 use Rattle.room_desk.proofs.PlacedLinks.{linked_any}
 use Rattle.room_desk.proofs.PlacedMeaning.{means_placed}
 use Rattle.room_desk.proofs.PlacedParts.{apart as all_apart, base, change_there, lists, placed_held}
-use Rattle.room_desk.proofs.PlacedTree.{above_elsewhere, above_here, after, change, elsewhere, faultless, here, is_target, kind, new, number, passes_new, passes_old}
+use Rattle.room_desk.proofs.PlacedTree.{above_elsewhere, above_here, change, elsewhere, faultless, here, is_target, kind, new, number, passes_new, passes_old}
 use Rattle.room_desk.proofs.SoundParts.{none_unreadable, sound_parts}
 use Rattle.room_desk.proofs.SoundPlaced.{sound_placed}
 

@@ -1,9 +1,9 @@
 -- The tree of rows stays sound where an object gets another place.
-use Rattle.std.proofs.Common.{◌≡◌, ℕ, ◌==◌, Bool, true, false, cond, not, ◌&&◌, ◌||◌, List, [], ◌∷◌, map, filter, length, Option, Some, None, refl, sym, ap, subst, ◌∙◌, inl, inr, arith}
-use Rattle.std.specs.Prelude.{is_none, nat_lt, option_and_then}
+use Rattle.std.proofs.Common.{◌≡◌, ℕ, ◌==◌, Bool, true, false, cond, not, ◌&&◌, ◌||◌, List, [], ◌∷◌, map, filter, length, Option, Some, None, refl, sym, ap, ◌∙◌, inl, inr, arith}
+use Rattle.std.specs.Prelude.{is_none, nat_lt}
 use Rattle.std.specs.List.{find, list_all, list_any}
 use Rattle.std.specs.Option.{option_map, option_map_or}
-use Rattle.std.proofs.lemmas.Bool.{cases_Bool, and_parts, and_from, and_left, and_right, or_left, or_right, false≢true, eqb-true, eqb-false, eq-eqb, ne_eqb, ltb-true, ltb-false, false_from_ne_true}
+use Rattle.std.proofs.lemmas.Bool.{cases_Bool, and_parts, and_from, and_left, and_right, or_left, or_right, false≢true, eqb-true, eq-eqb, ltb-true, false_from_ne_true}
 use Rattle.std.proofs.lemmas.List.Folds.{list_all-map}
 use Rattle.room_ace.specs.Ace.{Ace}
 use Rattle.room_ace.specs.Pieces.{is_among, same_text}
@@ -12,27 +12,21 @@ use Rattle.room_ace.specs.declared.object.Which.{Which}
 use Rattle.room_ace.specs.declared.object.Which.TheVariants.{Dacl, Sacl}
 use Rattle.room_ace.proofs.Alike.{text_itself}
 use Rattle.room_ace.proofs.RoundTrip.{same_text-true}
-use Rattle.room_tree.specs.declared.node.Held.{Held}
 use Rattle.room_tree.specs.declared.node.Node.{Node}
-use Rattle.room_tree.specs.Content.{Content, node_at, parent_of, child_of, has_parent, is_root, is_folder, is_linked_in, has_folder_above, same_parent, reaches_root, body_of, with_each}
-use Rattle.room_tree.specs.Held.{held_of, full_of, is_linked}
+use Rattle.room_tree.specs.Content.{Content, node_at, parent_of, has_parent, is_root, is_folder, has_folder_above, same_parent, reaches_root, body_of, with_each}
+use Rattle.room_tree.specs.Held.{held_of}
 use Rattle.room_tree.specs.Keep.{reading}
 use Rattle.room_tree.specs.Paths.{is_object_name}
-use Rattle.room_tree.specs.Rows.{Rows, AreRows, is_unreadable, numbers_of, put_numbers}
-use Rattle.room_tree.proofs.Frames.{node_at-number}
-use Rattle.room_inherit.specs.Law.{agrees, AllAgree}
+use Rattle.room_tree.specs.Rows.{Rows, AreRows, numbers_of, put_numbers}
 use Rattle.room_inherit.specs.Laws.{HasNoFault}
-use Rattle.room_inherit.specs.Sound.{AreSound, bad_root, fits_kind, has_bad_list, has_sound_body, has_sound_lists, has_sound_name, is_sound_held, keeps_law, reaches, same_place}
+use Rattle.room_inherit.specs.Sound.{fits_kind, has_bad_list, has_sound_body, has_sound_lists, has_sound_name, is_sound_held, reaches, same_place}
 use Rattle.room_inherit.proofs.Children.{each_found, each_there}
-use Rattle.room_inherit.proofs.Ends.{each_all}
 use Rattle.room_inherit.proofs.Enough.{enough_steps}
-use Rattle.room_inherit.proofs.Members.{Each, all_each, any_map, any_none, each_fails}
-use Rattle.room_inherit.proofs.NoFault.{no_fault, sound}
+use Rattle.room_inherit.proofs.Members.{Each, any_map, any_none, each_fails}
+use Rattle.room_inherit.proofs.NoFault.{no_fault}
 use Rattle.room_desk.specs.Moving.{CanPlace}
-use Rattle.room_desk.proofs.Climbing.{node_at-changed, past_reaches, reaches_again}
-use Rattle.room_desk.proofs.PassedDown.{sound_down}
-use Rattle.room_desk.proofs.PlacedParts.{There, all_after, apart, base, change_there, lists, named_elsewhere, named_here, one_there, parent_after, parent_found, passes, placed, placed_elsewhere, placed_held, placed_here, placed_kind, placed_number, there_again}
-use Rattle.room_desk.proofs.SoundParts.{none_unreadable, sound_parts}
+use Rattle.room_desk.proofs.Climbing.{past_reaches, reaches_again}
+use Rattle.room_desk.proofs.PlacedParts.{all_after, apart, named_elsewhere, named_here, one_there, parent_after, parent_found, passes, placed, placed_elsewhere, placed_here, placed_kind, placed_number}
 
 -- ---- rows whose numbers are all readable
 

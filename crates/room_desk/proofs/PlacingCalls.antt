@@ -1,13 +1,13 @@
 -- The calls that give an object another place.
-use Rattle.std.proofs.Common.{◌≡◌, ℕ, Bool, true, false, List, [], refl, sym, ap, subst, ◌∙◌}
+use Rattle.std.proofs.Common.{◌≡◌, ℕ, List, [], refl, sym, ap, subst, ◌∙◌}
 use Rattle.std.proofs.lemmas.Bool.{false≢true}
 use Rattle.room_ace.specs.Pieces.{is_among}
 use Rattle.room_ace.specs.declared.object.Which.{Which}
 use Rattle.room_ace.specs.declared.object.Which.TheVariants.{Dacl, Sacl}
 use Rattle.room_tree.specs.declared.node.Node.{Node}
 use Rattle.room_tree.specs.Keep.{IsUnreadable, Places}
-use Rattle.room_tree.specs.Rows.{Rows, is_unreadable}
-use Rattle.room_desk.specs.Moving.{CanPlace, CanRenew, IsPlaced, IsRenewed, NeverPlacing, NeverRenewing, PlacesAt, Renews}
+use Rattle.room_tree.specs.Rows.{Rows}
+use Rattle.room_desk.specs.Moving.{CanPlace, CanRenew, IsRenewed, NeverPlacing, NeverRenewing, PlacesAt, Renews}
 use Rattle.room_desk.proofs.PlacedStates.{can_renew, can_renew_sacl, first_state, is_placed, mid_is, own_dacl, own_sacl, state}
 use Rattle.room_desk.proofs.SoundParts.{readable_unsound}
 

@@ -1,9 +1,8 @@
 -- One attribute of an object at its new place: it takes what the folder passes, and hands it down.
-use Rattle.std.proofs.Common.{◌≡◌, ℕ, zero, suc, ◌==◌, Bool, true, false, cond, not, ◌&&◌, ◌||◌, List, [], ◌∷◌, ◌++◌, map, Option, Some, None, refl, sym, ap, subst, ◌∙◌, inl, inr}
+use Rattle.std.proofs.Common.{◌≡◌, ℕ, zero, suc, ◌==◌, Bool, true, false, cond, not, ◌||◌, List, Option, Some, None, refl, sym, ap, subst, ◌∙◌, inl, inr}
 use Rattle.std.specs.Prelude.{option_and_then}
-use Rattle.std.specs.List.{list_all}
 use Rattle.std.specs.Option.{option_map, option_map_or}
-use Rattle.std.proofs.lemmas.Bool.{cases_Bool, and_parts, or_left, or_right, false≢true, eqb-true, eqb-false, eq-eqb, ne_eqb, false_from_ne_true}
+use Rattle.std.proofs.lemmas.Bool.{cases_Bool, and_parts, or_left, or_right, false≢true, eqb-true, eqb-false, false_from_ne_true}
 use Rattle.room_ace.specs.Ace.{Ace}
 use Rattle.room_ace.specs.Pieces.{is_among}
 use Rattle.room_ace.specs.Same.{same_entries}
@@ -12,15 +11,15 @@ use Rattle.room_ace.proofs.Alike.{equal_entries}
 use Rattle.room_ace.proofs.Same.{entries_equal}
 use Rattle.room_tree.specs.declared.node.Held.{Held}
 use Rattle.room_tree.specs.declared.node.Node.{Node}
-use Rattle.room_tree.specs.Content.{Content, node_at, parent_of, has_parent, is_linked_in, reaches_root, with_each, with_node}
+use Rattle.room_tree.specs.Content.{Content, node_at, parent_of, has_parent, is_linked_in, reaches_root, with_each}
 use Rattle.room_tree.specs.Held.{held_of, full_of, is_linked}
-use Rattle.room_tree.specs.Keep.{IsUnreadable, Changes, reading, with_inh}
+use Rattle.room_tree.specs.Keep.{Changes, reading, with_inh}
 use Rattle.room_tree.specs.Rows.{Rows, is_unreadable}
-use Rattle.room_tree.proofs.Frames.{Rises, node_at-number, held_of-with_inh, place-with_inh, with_node-replaces}
+use Rattle.room_tree.proofs.Frames.{node_at-number, held_of-with_inh, place-with_inh, with_node-replaces}
 use Rattle.room_tree.proofs.Lookups.{replaced, replaced_here, replaced_elsewhere}
-use Rattle.room_inherit.specs.Law.{agrees, agrees_with, AllAgree, AllAgreeBut}
+use Rattle.room_inherit.specs.Law.{agrees, agrees_with, AllAgreeBut}
 use Rattle.room_inherit.specs.Pass.{pass}
-use Rattle.room_inherit.specs.Spread.{IsLinkedBelow, IsOwnAncestor, IsSpread, is_changed, is_linked_within, with_lists}
+use Rattle.room_inherit.specs.Spread.{IsLinkedBelow, IsOwnAncestor, IsSpread, is_changed, is_linked_within}
 use Rattle.room_inherit.proofs.Children.{each_there}
 use Rattle.room_inherit.proofs.Ends.{own_lists, with_own_lists}
 use Rattle.room_inherit.proofs.Kinship.{same_id, same_parent, same_kind, with_last}
@@ -28,7 +27,7 @@ use Rattle.room_inherit.proofs.Members.{all_each}
 use Rattle.room_inherit.proofs.Renewing.{map_agree, map_map}
 use Rattle.room_inherit.proofs.Rooted.{rooted_no_loop}
 use Rattle.room_desk.specs.Carrying.{HasLoop}
-use Rattle.room_desk.specs.Moving.{CanRenew, IsRenewed, NeverRenewing}
+use Rattle.room_desk.specs.Moving.{CanRenew, IsRenewed}
 use Rattle.room_desk.proofs.Climbing.{node_at-changed, reaches-changed, same_some}
 use Rattle.room_desk.proofs.PlacedParts.{all_after, apart, change_there, linked_above, linked_flags, parent_after}
 

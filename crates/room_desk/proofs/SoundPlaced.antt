@@ -1,8 +1,8 @@
 -- Rows stay sound where an object gets another place, if the law holds again and lists that aren't linked are as before.
-use Rattle.std.proofs.Common.{◌≡◌, ℕ, ◌==◌, Bool, true, false, cond, not, ◌&&◌, ◌||◌, List, [], ◌∷◌, map, filter, length, Option, Some, None, refl, sym, ap, subst, ◌∙◌, inl, inr}
+use Rattle.std.proofs.Common.{◌≡◌, ℕ, ◌==◌, Bool, true, false, cond, List, [], filter, length, Some, None, refl, sym, ap, ◌∙◌}
 use Rattle.std.specs.Prelude.{is_none, option_and_then}
 use Rattle.std.specs.List.{list_all}
-use Rattle.std.specs.Option.{option_map, option_map_or}
+use Rattle.std.specs.Option.{option_map}
 use Rattle.std.proofs.lemmas.Bool.{and_from, false≢true, false_from_ne_true}
 use Rattle.std.proofs.lemmas.List.Folds.{list_all-map}
 use Rattle.room_ace.specs.Ace.{Ace}
@@ -10,23 +10,22 @@ use Rattle.room_ace.specs.declared.object.Which.{Which}
 use Rattle.room_ace.specs.declared.object.Which.TheVariants.{Dacl, Sacl}
 use Rattle.room_tree.specs.declared.node.Held.{Held}
 use Rattle.room_tree.specs.declared.node.Node.{Node}
-use Rattle.room_tree.specs.Content.{Content, node_at, parent_of, is_root, is_linked_in, has_folder_above, reaches_root}
+use Rattle.room_tree.specs.Content.{Content, node_at, is_root, is_linked_in, has_folder_above}
 use Rattle.room_tree.specs.Held.{held_of, is_linked}
 use Rattle.room_tree.specs.Keep.{with_place}
 use Rattle.room_tree.specs.Rows.{Rows}
 use Rattle.room_tree.proofs.Frames.{node_at-number}
 use Rattle.room_inherit.specs.Law.{agrees, AllAgree}
-use Rattle.room_inherit.specs.Laws.{HasNoFault}
 use Rattle.room_inherit.specs.Sound.{AreSound, bad_root, has_sound_lists, is_sound_held, keeps_law, reaches}
 use Rattle.room_inherit.proofs.Children.{each_found, each_there}
 use Rattle.room_inherit.proofs.Ends.{each_all}
-use Rattle.room_inherit.proofs.Members.{Each, all_each, each_weaker}
+use Rattle.room_inherit.proofs.Members.{all_each, each_weaker}
 use Rattle.room_inherit.proofs.NoFault.{sound}
 use Rattle.room_inherit.proofs.Renewing.{each_both}
 use Rattle.room_desk.specs.Moving.{CanPlace}
 use Rattle.room_desk.proofs.PassedDown.{sound_down}
-use Rattle.room_desk.proofs.PlacedParts.{apart, base, change_there, linked_above, linked_flags, lists, passes, placed, placed_held, there_again}
-use Rattle.room_desk.proofs.PlacedTree.{after, above_elsewhere, above_here, bodies_after, change, content, elsewhere, faultless, held_sound, here, is_target, kind, lists_there, names_after, new, no_bad_list, number, parents_after, passes_new, reach_after, root_none, roots_same, same_root, IsThere}
+use Rattle.room_desk.proofs.PlacedParts.{apart, base, lists, placed_held}
+use Rattle.room_desk.proofs.PlacedTree.{after, bodies_after, change, faultless, held_sound, is_target, kind, lists_there, names_after, new, no_bad_list, number, parents_after, reach_after, root_none, roots_same, same_root}
 use Rattle.room_desk.proofs.SoundParts.{none_unreadable, sound_parts}
 
 module _ (old : Rows) (target folder : Node) (name : List ℕ) (can : CanPlace target folder name old) (d s : Node → List Ace)

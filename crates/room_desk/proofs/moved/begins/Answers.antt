@@ -1,4 +1,4 @@
-use Rattle.std.proofs.Common.{◌≡◌, ◌<◌, length, sym, ◌∙◌, arith}
+use Rattle.std.proofs.Common.{◌≡◌, length, sym, ◌∙◌, arith}
 use Rattle.room_desk.proofs.OnePath.{all_compared, one_differs, one_same, too_many}
 use Rattle.room_desk.proofs.moved.begins.Goals as goal
 

@@ -1,13 +1,13 @@
-use Rattle.std.proofs.Common.{◌≡◌, [], ◌∷◌, ◌++◌, None, sym, ap, subst}
+use Rattle.std.proofs.Common.{◌++◌, subst}
 use Rattle.room_tree.specs.Keep.{IsUnreadable}
 use Rattle.room_tree.specs.Rows.{Rows}
-use Rattle.room_desk.specs.Judged.{IsJudged, through}
+use Rattle.room_desk.specs.Judged.{through}
 use Rattle.room_desk.specs.Moving.{begins, free_place, leaving}
 use Rattle.room_desk.specs.Site.{front}
 use Rattle.room_desk.specs.Stored.{found_site}
 use Rattle.room_desk.proofs.Calls.{Ruled, finish, tail, done}
 use Rattle.room_desk.proofs.FreePlaces.{free_after}
-use Rattle.room_desk.proofs.Judging.{fails_first, passes_first, judged_as}
+use Rattle.room_desk.proofs.Judging.{fails_first, judged_as}
 use Rattle.room_desk.proofs.moving.check_place.Goals as goal
 
 pub returns-in-Some : goal.returns-in-Some
