@@ -4,7 +4,7 @@ use room_ace::{
     Entries, Entry, ListFlags, Mask, Name, ObjKind, Owners, print_entry, read_entry, read_mask,
     read_name,
 };
-use room_tree::{Bytes, Held, MemKeep, NewNode, Path, Text, read_path};
+use room_tree::{Bytes, Held, Keep, KeepFault, MemKeep, NewNode, Path, Text, read_path};
 use std::alloc::{AllocError, Global};
 use std::test::Fail;
 
@@ -126,4 +126,21 @@ pub(crate) fn root_with(alloc: Global, own: &[&str]) -> Result<MemKeep, Fail> {
     let dacl = open_list(alloc, own)?;
     let owners = owned_by(alloc, "root")?;
     Ok(MemKeep::new(alloc, &owners, &dacl, &empty_list(alloc))?)
+}
+
+// Adds the object, without what the contract says of it.
+fn added<K: Keep>(keep: &mut K, node: NewNode) -> Result<u64, KeepFault> {
+    keep.add(node)
+}
+
+/// Adds an object without entries, and answers its number.
+pub(crate) fn add_object<K: Keep>(
+    alloc: Global,
+    keep: &mut K,
+    parent: u64,
+    name: &str,
+    kind: ObjKind,
+) -> Result<u64, Fail> {
+    let node = new_object(alloc, parent, name, kind)?;
+    Ok(added(keep, node)?)
 }

@@ -8,3 +8,7 @@ mod fixtures;
 mod keepers;
 #[cfg(test)]
 mod keeping;
+#[cfg(test)]
+mod paths;
+#[cfg(test)]
+mod walks;
