@@ -1,3 +1,0 @@
-//! Tests at written examples.
-mod paths;
-mod walks;

@@ -1,0 +1,14 @@
+//! Tests at written examples, of the crates below. There is nothing here but tests: a crate with tests is
+//! proved twice, and so the crates below are proved once.
+#![tactic(auto)]
+
+#[cfg(test)]
+mod fixtures;
+#[cfg(test)]
+mod keepers;
+#[cfg(test)]
+mod keeping;
+#[cfg(test)]
+mod paths;
+#[cfg(test)]
+mod walks;
