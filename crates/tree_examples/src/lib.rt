@@ -3,12 +3,22 @@
 #![tactic(auto)]
 
 #[cfg(test)]
+mod counting;
+#[cfg(test)]
 mod fixtures;
 #[cfg(test)]
 mod keepers;
 #[cfg(test)]
 mod keeping;
 #[cfg(test)]
+mod passing;
+#[cfg(test)]
 mod paths;
+#[cfg(test)]
+mod rooms;
+#[cfg(test)]
+mod spreading;
+#[cfg(test)]
+mod verifying;
 #[cfg(test)]
 mod walks;

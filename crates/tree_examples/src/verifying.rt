@@ -1,17 +1,23 @@
 //! Which rooms are sound.
-use crate::tests::rooms::{add_object, looping_room, open_room, set_own};
-use crate::{Report, verify};
+use crate::fixtures::add_object;
+use crate::rooms::{looping_room, open_room, set_own};
 use room_ace::{ObjKind, Which};
-use room_tree::{Keep, MemKeep};
-use std::alloc::Global;
+use room_inherit::{Report, verify};
+use room_tree::{Keep, KeepFault};
+use std::alloc::{AllocError, Global};
 use std::test::Fail;
 
-// What is found, as it is told.
-fn told(alloc: Global, keep: &mut MemKeep) -> Result<String, Fail> {
-    match verify(alloc, keep)? {
-        Report::Sound => Ok(String::from_str(alloc, "sound")?),
-        Report::Fault { path, why } => Ok(format!(in alloc; "{} {why}", path.as_str())?),
+fn report_text(alloc: Global, report: &Report) -> Result<String, AllocError> {
+    match report {
+        Report::Sound => String::from_str(alloc, "sound"),
+        Report::Fault { path, why } => format!(in alloc; "{} {why}", path.as_str()),
     }
+}
+
+// What is found, as it is told.
+fn told<K: Keep>(alloc: Global, keep: &mut K) -> Result<String, KeepFault> {
+    let report = verify(alloc, keep)?;
+    Ok(report_text(alloc, &report)?)
 }
 
 #[test]
@@ -30,11 +36,16 @@ fn verify_loop(rt: HostRuntime) -> Result<(), Fail> {
     Ok(())
 }
 
+// Takes the stored dacl entries of the object away.
+fn forget<K: Keep>(keep: &mut K, id: u64) -> Result<(), KeepFault> {
+    keep.set_inh(id, Which::Dacl, &[])
+}
+
 #[test]
 fn verify_broken_law(rt: HostRuntime) -> Result<(), Fail> {
     let alloc = rt.alloc();
     let mut keep = open_room(alloc)?;
-    keep.set_inh(4, Which::Dacl, &[])?;
+    forget(&mut keep, 4)?;
     assert_eq!(rt; told(alloc, &mut keep)?.as_str(), "/a/b/c V3 broken-law");
     Ok(())
 }

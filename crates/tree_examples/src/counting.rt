@@ -10,6 +10,17 @@ pub(crate) struct Counting<K> {
     pub(crate) inherited: u64,
 }
 
+impl<K> Counting<K> {
+    /// This keeper, and no calls yet.
+    pub(crate) fn new(keeper: K) -> Counting<K> {
+        Counting {
+            keeper,
+            children: 0,
+            inherited: 0,
+        }
+    }
+}
+
 impl<K: Keep> Keep for Counting<K> {
     ghost rows = { λ k. K.rows k.keeper };
 

@@ -1,36 +1,38 @@
 //! How many stored lists a change reaches, and by how many calls.
-use crate::tests::counting::Counting;
-use crate::tests::rooms::{looping_room, open_room, set_own, stored};
-use crate::{Spread, SpreadFault, spread, spread_all};
+use crate::counting::Counting;
+use crate::rooms::{looping_room, open_room, set_own, spread_from_root, stored};
 use room_ace::Which;
-use room_tree::{FailKeep, KeepFault, MemKeep};
+use room_inherit::{Spread, SpreadFault, spread};
+use room_tree::{FailKeep, Keep, KeepFault, MemKeep};
 use std::alloc::Global;
 use std::test::Fail;
+
+// Carries the dacl of `/a` down, without what the contract says of it.
+fn spread_below<K: Keep>(alloc: Global, keep: &mut K, id: u64) -> Result<Spread, SpreadFault> {
+    spread(alloc, keep, id, Which::Dacl)
+}
 
 // The number of lists that become different below `/a` with these entries.
 fn changed_by(alloc: Global, keep: &mut MemKeep, own: &[&str]) -> Result<u64, Fail> {
     set_own(alloc, keep, 2, own)?;
-    Ok(spread(alloc, keep, 2, Which::Dacl)?.changed)
+    Ok(spread_below(alloc, keep, 2)?.changed)
 }
+
+const OWN: [&str; 3] = ["A:d:alice:r", "D::bob:r", "A:fn:carol:t"];
 
 #[test]
 fn spread_counts(rt: HostRuntime) -> Result<(), Fail> {
     let alloc = rt.alloc();
     let mut keep = open_room(alloc)?;
-    assert_eq!(rt; changed_by(alloc, &mut keep, &["A:fd:alice:r"])?, 3);
-    assert_eq!(rt; changed_by(alloc, &mut keep, &["A:d:alice:r"])?, 3);
-    assert_eq!(rt;
-        changed_by(alloc, &mut keep, &["A:d:alice:r", "D::bob:r"])?,
-        0
-    );
-    assert_eq!(rt;
-        changed_by(
-            alloc,
-            &mut keep,
-            &["A:d:alice:r", "D::bob:r", "A:fn:carol:t"]
-        )?,
-        1
-    );
+    let steps = [
+        (["A:fd:alice:r"].as_slice(), 3),
+        (&OWN[..1], 3),
+        (&OWN[..2], 0),
+        (OWN.as_slice(), 1),
+    ];
+    for (own, want) in steps {
+        assert_eq!(rt; changed_by(alloc, &mut keep, own)?, want);
+    }
     assert_eq!(rt;
         stored(alloc, &mut keep, 5)?.as_str(),
         "A:I:carol:t / A:I:root:rwanNxDtThHdcCoy"
@@ -42,7 +44,7 @@ fn spread_counts(rt: HostRuntime) -> Result<(), Fail> {
 fn room_before(alloc: Global, own: &[&str]) -> Result<MemKeep, Fail> {
     let mut keep = open_room(alloc)?;
     set_own(alloc, &mut keep, 2, &["A:d:alice:r"])?;
-    spread(alloc, &mut keep, 2, Which::Dacl)?;
+    spread_below(alloc, &mut keep, 2)?;
     set_own(alloc, &mut keep, 2, own)?;
     Ok(keep)
 }
@@ -50,17 +52,11 @@ fn room_before(alloc: Global, own: &[&str]) -> Result<MemKeep, Fail> {
 #[test]
 fn spread_writes(rt: HostRuntime) -> Result<(), Fail> {
     let alloc = rt.alloc();
-    let unpassed = ["A:d:alice:r", "D::bob:r"];
-    let passed = ["A:d:alice:r", "D::bob:r", "A:fn:carol:t"];
-    for (own, children, inherited) in [(unpassed.as_slice(), 1, 0), (passed.as_slice(), 2, 1)] {
-        let mut counting = Counting {
-            keeper: room_before(alloc, own)?,
-            children: 0,
-            inherited: 0,
-        };
-        let changed = spread(alloc, &mut counting, 2, Which::Dacl)?.changed;
-        assert_eq!(rt; changed, inherited);
-        assert_eq!(rt; counting.children, children, "with {changed} written");
+    for (own, children, inherited) in [(&OWN[..2], 1, 0), (OWN.as_slice(), 2, 1)] {
+        let mut counting = Counting::new(room_before(alloc, own)?);
+        let answer = spread_below(alloc, &mut counting, 2);
+        assert_eq!(rt; answer, Ok(Spread { changed: inherited }));
+        assert_eq!(rt; counting.children, children, "with {inherited} written");
         assert_eq!(rt; counting.inherited, inherited);
     }
     Ok(())
@@ -70,11 +66,13 @@ fn spread_writes(rt: HostRuntime) -> Result<(), Fail> {
 fn spread_loop(rt: HostRuntime) -> Result<(), Fail> {
     let alloc = rt.alloc();
     let mut keep = looping_room(alloc)?;
-    assert_eq!(rt;
-        spread(alloc, &mut keep, 3, Which::Dacl),
-        Err(SpreadFault::Loop)
-    );
+    assert_eq!(rt; spread_below(alloc, &mut keep, 3), Err(SpreadFault::Loop));
     Ok(())
+}
+
+// The room of `spread_faults_in_turn`.
+fn room_to_change(alloc: Global) -> Result<MemKeep, Fail> {
+    room_before(alloc, &["A:fd:alice:rw"])
 }
 
 #[test]
@@ -86,13 +84,11 @@ fn spread_faults_in_turn(rt: HostRuntime) -> Result<(), Fail> {
         } else {
             Ok(Spread { changed: 3 })
         };
-        let keep = room_before(alloc, &["A:fd:alice:rw"])?;
-        let mut failing = FailKeep::new(keep, calls);
-        let answer = spread(alloc, &mut failing, 2, Which::Dacl);
+        let mut failing = FailKeep::new(room_to_change(alloc)?, calls);
+        let answer = spread_below(alloc, &mut failing, 2);
         assert_eq!(rt; answer, want, "passing {calls}");
-        let keep = room_before(alloc, &["A:fd:alice:rw"])?;
-        let mut failing = FailKeep::once(keep, calls);
-        let answer = spread(alloc, &mut failing, 2, Which::Dacl);
+        let mut failing = FailKeep::once(room_to_change(alloc)?, calls);
+        let answer = spread_below(alloc, &mut failing, 2);
         assert_eq!(rt; answer, want, "once, passing {calls}");
     }
     Ok(())
@@ -103,8 +99,10 @@ fn spread_all_from_the_root(rt: HostRuntime) -> Result<(), Fail> {
     let alloc = rt.alloc();
     let mut keep = open_room(alloc)?;
     set_own(alloc, &mut keep, 1, &["A:fd:alice:r"])?;
-    assert_eq!(rt; spread_all(alloc, &mut keep), Ok(Spread { changed: 4 }));
-    assert_eq!(rt; spread_all(alloc, &mut keep), Ok(Spread { changed: 0 }));
+    for changed in [4, 0] {
+        let answer = spread_from_root(alloc, &mut keep);
+        assert_eq!(rt; answer, Ok(Spread { changed }));
+    }
     assert_eq!(rt; stored(alloc, &mut keep, 4)?.as_str(), "A:fdI:alice:r");
     Ok(())
 }
