@@ -1,7 +1,7 @@
 //! Worked examples: the text of entries, what may stand in a list, and copies.
 use room_ace::{
-    Caller, Entries, EntryFlags, EntryKind, Failure, ListFault, ListFlags, Names, ObjKind, Owners,
-    SentList, Which, Who, matches, print_entry, print_list, read_entry, read_name, valid,
+    Caller, Entries, EntryFlags, EntryKind, Failure, ListFault, ListFlags, Mask, Names, ObjKind,
+    Owners, SentList, Which, Who, matches, print_entry, print_list, read_entry, read_name, valid,
 };
 use std::alloc::Global;
 use std::test::Fail;
