@@ -1,6 +1,7 @@
 -- A text is its first line and what follows it, and bytes are UTF-8 or not.
-use Rattle.std.proofs.Common.{ℕ, ◌≡◌, ◌<◌, ◌≤◌, ◌+◌, Bool, true, false, cond, List, [], ◌∷◌, ◌++◌, Some, None, length, take, drop, refl, sym, ap, ◌∙◌, inl, inr, arith}
+use Rattle.std.proofs.Common.{ℕ, ◌≡◌, ◌<◌, ◌≤◌, ◌+◌, Bool, true, false, cond, List, [], ◌∷◌, ◌++◌, Option, Some, None, length, take, drop, refl, sym, ap, ◌∙◌, inl, inr, arith}
 use Rattle.std.specs.Prelude.{◌==◌, nat_lt}
+use Rattle.std.specs.Option.{option_map_or}
 use Rattle.std.specs.List.{position, position_or_len, list_all}
 use Rattle.std.specs.Str.{IsUtf8, IsAscii}
 use Rattle.std.specs.Str.Lossy.{utf8_valid_len}
@@ -10,7 +11,7 @@ use Rattle.std.proofs.lemmas.List.Splits.{slice_split_first, length-slice_split}
 use Rattle.std.proofs.lemmas.Str.{utf8_valid_len-IsUtf8, IsUtf8-from_ascii}
 use Rattle.std.proofs.lemmas.Str.Ascii.{IsAscii-nil, IsAscii-cons}
 use Rattle.room_ace.specs.Pieces.{pieces}
-use Rattle.room_ace.specs.Lists.{lines_of, lines_of_pieces, without_return, is_utf8}
+use Rattle.room_ace.specs.Lists.{after_line, lines_of, lines_of_pieces, without_return, is_utf8}
 
 abbrev is_end : ℕ → Bool
 is_end byte = byte == 10
@@ -50,7 +51,7 @@ last_line [] some whole = absurd (some refl)
 last_line (byte ∷ bytes) some whole = ap lines_of_pieces whole
 
 -- where a line feed stands, the first line ends
-pub lines_of-cut : (bytes line rest : List ℕ) (i : ℕ) → Some i ≡ position is_end bytes → line ≡ without_return (take i bytes) → rest ≡ drop (i + 1) bytes → (lines_of bytes ≡ line ∷ lines_of rest) × (length rest < length bytes)
+pub lines_of-cut : (bytes line rest : List ℕ) (i : ℕ) → Some i ≡ position is_end bytes → line ≡ without_return (take i bytes) → rest ≡ drop (i + 1) bytes → (lines_of bytes ≡ line ∷ lines_of rest) × (length rest < length bytes) × (rest ≡ after_line bytes)
 lines_of-cut bytes line rest i found front back =
     let place = place_of (position_or_len is_end bytes) (length bytes) i (sym found) in
     let more = length-slice_split is_end (drop (i + 1) bytes) in
@@ -59,6 +60,7 @@ lines_of-cut bytes line rest i found front back =
     ∙ lines-cons (take i bytes) (pieces 10 (drop (i + 1) bytes)) (omega arith) in (
       cut ∙ ap (λ (start : List ℕ). start ∷ lines_of (drop (i + 1) bytes)) (sym front) ∙ ap (λ (after : List ℕ). line ∷ lines_of after) (sym back),
       omega (arith, ap length back, length-drop (i + 1) bytes),
+      back ∙ ap (λ (o : Option ℕ). option_map_or (λ end. drop (end + 1) bytes) o []) found,
     )
 
 drop_whole : (xs : List ℕ) → drop (length xs) xs ≡ []
@@ -66,12 +68,13 @@ drop_whole [] = refl
 drop_whole (x ∷ xs) = drop_whole xs
 
 -- with no line feed, the bytes are one line
-pub lines_of-uncut : (bytes line rest : List ℕ) → (bytes ≡ [] → ⊥) → None ≡ position is_end bytes → line ≡ without_return bytes → rest ≡ drop (length bytes) bytes → (lines_of bytes ≡ line ∷ lines_of rest) × (length rest < length bytes)
+pub lines_of-uncut : (bytes line rest : List ℕ) → (bytes ≡ [] → ⊥) → None ≡ position is_end bytes → line ≡ without_return bytes → rest ≡ drop (length bytes) bytes → (lines_of bytes ≡ line ∷ lines_of rest) × (length rest < length bytes) × (rest ≡ after_line bytes)
 lines_of-uncut bytes line rest some none front back =
     let past = none_of (position_or_len is_end bytes) (length bytes) (sym none) in
     let nothing : rest ≡ [] = back ∙ drop_whole bytes in (
       last_line bytes some (uncut bytes past) ∙ ap (λ (start : List ℕ). start ∷ []) (sym front) ∙ ap (λ (after : List ℕ). line ∷ lines_of after) (sym nothing),
       omega (arith, ap length nothing, some_length bytes some),
+      nothing ∙ ap (λ (o : Option ℕ). option_map_or (λ end. drop (end + 1) bytes) o []) none,
     )
   where
     some_length : (xs : List ℕ) → (xs ≡ [] → ⊥) → 0 < length xs

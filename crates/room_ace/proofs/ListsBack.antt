@@ -13,7 +13,9 @@ use Rattle.room_ace.specs.Ace.{Ace}
 use Rattle.room_ace.specs.Sent.{Sent, own_of, limit_fault}
 use Rattle.room_ace.specs.Text.{kind_text, letter_if, flags_text, mask_letters, mask_text, letter_of, who_text, entry_text, entry_of}
 use Rattle.room_ace.specs.Lists.{entry_lines, list_line, list_text, without_return, lines_of_pieces, lines_of, is_blank, is_comment, numbered_lines, is_utf8, flags_of_list, fault_at, with_entry, and_then, entries_after, sent_with, sent_of_lines}
+use Rattle.room_ace.specs.Column.{some_of, entry_in, entries_behind, entries_of}
 use Rattle.room_ace.specs.Laws.{has_name, IsEntry, ListReadsBack}
+use Rattle.std.specs.Prelude.{option_and_then}
 use Rattle.room_ace.specs.declared.entry.EntryKind.{EntryKind}
 use Rattle.room_ace.specs.declared.entry.EntryKind.TheVariants.{Allow, Deny, Audit, Alarm}
 use Rattle.room_ace.specs.declared.entry.Who.{Who}
@@ -133,6 +135,9 @@ ascii_byte byte shown =
 
 visible_utf8 : (text : List ℕ) → are_visible text ≡ true → is_utf8 text ≡ true
 visible_utf8 text shown = or_left (list_all (λ byte. nat_lt byte 128) text) _ (all_imply is_visible (λ byte. nat_lt byte 128) text ascii_byte shown)
+
+pub name_text : (name : List ℕ) → is_name name ≡ true → is_utf8 name ≡ true
+name_text name holds = visible_utf8 name (visible_name name holds)
 
 -- ---- lines of visible bytes
 
@@ -270,6 +275,32 @@ entries_say (entry ∷ entries) =
 entry_lines-texts : (entries : List Ace) → entry_lines entries ≡ lines_text (map entry_text entries)
 entry_lines-texts [] = refl
 entry_lines-texts (entry ∷ entries) = ap (λ (rest : List ℕ). (entry_text entry ++ 10 ∷ []) ++ rest) (entry_lines-texts entries)
+
+-- ---- entries with no list line
+
+entry_read : (entry : Ace) → IsEntry entry → entry_in (entry_text entry) ≡ Some entry
+entry_read entry ok = cond-true (is_utf8 (entry_text entry)) _ _ (visible_utf8 (entry_text entry) (visible_entry entry ok)) ∙ ap some_of (reads_back entry ok)
+
+entries_behind_back : (before entries : List Ace) → All IsEntry entries → entries_behind before (map entry_text entries) ≡ Some (before ++ entries)
+entries_behind_back before [] each = ap (λ (found : List Ace). Some found) (sym (append-nil before))
+entries_behind_back before (entry ∷ entries) each =
+    let line = entry_text entry in
+    let says_it = kind_says entry.kind (58 ∷ flags_text entry.flags) (58 ∷ who_text entry.who) (58 ∷ mask_text entry.mask) in
+    cond-false (is_blank line || is_comment line) _ _ (says_something (is_blank line || is_comment line) says_it)
+    ∙ ap (λ (found : Option Ace). option_and_then (λ e. entries_behind (before ++ e ∷ []) (map entry_text entries)) found) (entry_read entry (All-head IsEntry entry entries each))
+    ∙ entries_behind_back (before ++ entry ∷ []) entries (All-tail IsEntry entry entries each)
+    ∙ ap (λ (found : List Ace). Some found) (append_assoc before (entry ∷ []) entries)
+  where
+    says_something : (b : Bool) → not b ≡ true → b ≡ false
+    says_something true h = absurd (false≢true h)
+    says_something false h = refl
+
+-- what is printed of entries is read back, however many they are
+pub entries_read_back : (entries : List Ace) → All IsEntry entries → entries_of (entry_lines entries) ≡ Some entries
+entries_read_back entries each =
+    ap (λ (text : List ℕ). entries_behind [] (lines_of text)) (entry_lines-texts entries)
+    ∙ ap (entries_behind []) (lines_back (map entry_text entries) (entries_visible entries each))
+    ∙ entries_behind_back [] entries each
 
 -- ---- a list
 

@@ -1,9 +1,14 @@
 -- The code and the words of each fault of a text or a list (own).
-use Rattle.std.specs.Prelude.{ℕ, List, codes}
+use Rattle.std.specs.Prelude.{ℕ, List, ◌++◌, codes, decimal}
 use Rattle.room_ace.specs.declared.fault.TextFault.{TextFault}
-use Rattle.room_ace.specs.declared.fault.TextFault.TheVariants.{BadKind, BadFlag, BadWho, BadMask, NotFourParts}
+use Rattle.room_ace.specs.declared.fault.TextFault.TheVariants.{BadKind, BadFlag, BadWho, BadMask}
+use Rattle.room_ace.specs.declared.fault.TextFault.TheVariants.{NotFourParts}
 use Rattle.room_ace.specs.declared.fault.ListFault.{ListFault}
-use Rattle.room_ace.specs.declared.fault.ListFault.TheVariants.{TooManyEntries, TooManyOwn, WrongKind, AccessFlag, InheritOnlyAlone, InheritanceOnDocument}
+use Rattle.room_ace.specs.declared.fault.ListFault.TheVariants.{TooManyEntries, TooManyOwn}
+use Rattle.room_ace.specs.declared.fault.ListFault.TheVariants.{WrongKind, AccessFlag}
+use Rattle.room_ace.specs.declared.fault.ListFault.TheVariants.{InheritOnlyAlone}
+use Rattle.room_ace.specs.declared.fault.ListFault.TheVariants.{InheritanceOnDocument}
+use Rattle.room_ace.specs.declared.fault.LineFault.{LineFault}
 use Rattle.room_ace.specs.declared.fault.Why.{Why}
 use Rattle.room_ace.specs.declared.fault.Why.TheVariants.{Entry, List as Limit, NoListLine, NotUtf8}
 
@@ -27,3 +32,6 @@ why_text (Entry fault) = text_fault_text fault
 why_text (Limit fault) = list_fault_text fault
 why_text NoListLine = codes "A6 no list line"
 why_text NotUtf8 = codes "A13 not UTF-8"
+
+abbrev pub line_fault_text : LineFault → List ℕ
+line_fault_text fault = codes "line " ++ (decimal fault.line ++ (codes ": " ++ why_text fault.why))

@@ -15,3 +15,4 @@ pub mod Reading
 pub mod Valid
 pub mod Same
 pub mod Laws
+pub mod Column

@@ -1,11 +1,13 @@
 -- The steps in which the text of a list is read (own).
-use Rattle.std.specs.Prelude.{ℕ, ◌+◌, ◌||◌, not, List, filter, Option, Some, None, Result, Ok, Err, if◌then◌else◌, codes}
+use Rattle.std.specs.Prelude.{ℕ, ◌+◌, ◌||◌, not, List, filter, Option, Some, None, Result, Ok, Err}
+use Rattle.std.specs.Prelude.{if◌then◌else◌, codes}
 use Rattle.std.specs.List.{enumerate_from, list_all}
 use Rattle.room_ace.specs.Pieces.{is_among}
 use Rattle.room_ace.specs.Ace.{Ace}
 use Rattle.room_ace.specs.Text.{entry_of}
 use Rattle.room_ace.specs.Sent.{Sent, limit_fault}
-use Rattle.room_ace.specs.Lists.{lines_of, is_blank, is_comment, is_utf8, fault_at, and_then, with_entry, entries_after}
+use Rattle.room_ace.specs.Lists.{lines_of, is_blank, is_comment, is_utf8, fault_at, and_then}
+use Rattle.room_ace.specs.Lists.{with_entry, entries_after}
 use Rattle.room_ace.specs.declared.failure.Failure.{Failure}
 use Rattle.room_ace.specs.declared.failure.Failure.TheVariants.{OutOfMemory, Fault}
 use Rattle.room_ace.specs.declared.flags.ListFlags.{ListFlags}
@@ -16,11 +18,16 @@ use Rattle.room_ace.specs.declared.fault.Why.TheVariants.{NotUtf8}
 
 -- the lines of a text that say something, each with its number, where this many lines stand before
 abbrev pub lines_after : ℕ → List ℕ → List (ℕ × List ℕ)
-lines_after passed text = filter (λ line. not (is_blank line.1 || is_comment line.1)) (enumerate_from (passed + 1) (lines_of text))
+lines_after passed text =
+    filter (λ line. not (is_blank line.1 || is_comment line.1))
+    (enumerate_from (passed + 1) (lines_of text))
 
 -- the flags of the letters behind `list:`
 abbrev pub list_flags : List ℕ → Option ListFlags
-list_flags letters = if list_all (is_among (codes "ap")) letters then Some (record { auto = is_among letters 97; protect = is_among letters 112 }) else None
+list_flags letters =
+    if list_all (is_among (codes "ap")) letters
+    then Some (record { auto = is_among letters 97; protect = is_among letters 112 })
+    else None
 
 -- the value, unless there is a fault
 abbrev pub unless : {A F : Type 0} → Option F → A → Result A F
@@ -33,11 +40,14 @@ within_limits entries = unless (limit_fault entries) entries
 
 -- the entries before, with the one of this line
 abbrev pub with_line : ℕ → List Ace → List ℕ → Result (List Ace) LineFault
-with_line number before line = if is_utf8 line then with_entry number before (entry_of line) else fault_at number NotUtf8
+with_line number before line =
+    if is_utf8 line then with_entry number before (entry_of line) else fault_at number NotUtf8
 
 -- the list of these flags and the entries of the lines
 abbrev pub sent_after : ListFlags → List Ace → List (ℕ × List ℕ) → Result Sent LineFault
-sent_after flags before lines = and_then (entries_after before lines) (λ entries. Ok (record { flags = flags; entries = entries }))
+sent_after flags before lines =
+    and_then (entries_after before lines)
+    (λ entries. Ok (record { flags = flags; entries = entries }))
 
 -- the failure, told of a line
 abbrev pub failure_at : {F : Type 0} → ℕ → (F → Why) → Failure F → Failure LineFault

@@ -5,4 +5,6 @@ use Rattle.room_ace.specs.Pieces.{same_text}
 
 -- whether the number is that of a mask of one bit
 abbrev pub is_single : ℕ → Bool
-is_single number = nat_lt 0 number && (bit_and number 0x1F07FF == number) && same_text (bits_of number) (number ∷ [])
+is_single number =
+    nat_lt 0 number && (bit_and number 0x1F07FF == number)
+    && same_text (bits_of number) (number ∷ [])

@@ -1,9 +1,12 @@
 //! The text of an entry, `type:flags:who:mask`.
-ghost use Rattle.std.specs.Prelude.{◌≡◌, ◌++◌, ◌∷◌, [], IfOk, OnOk, MatchOption, Err, string_bytes, codes, ◌<◌};
+ghost use Rattle.std.specs.Prelude.{◌≡◌, ◌++◌, ◌∷◌, [], IfOk, OnOk, MatchOption, Err, string_bytes};
+ghost use Rattle.std.specs.Prelude.{codes, ◌<◌};
 ghost use Rattle.std.specs.List.{list_all};
 ghost use Rattle.room_ace.specs.Gives.{Gives};
 ghost use Rattle.room_ace.specs.Pieces.{is_among, pieces};
-ghost use Rattle.room_ace.specs.Text.{entry_of, entry_of_parts, flag_letters, flags_in, flags_of, kind_of, kind_text, who_of, flags_text, who_text, entry_text, letter_if};
+ghost use Rattle.room_ace.specs.Text.{entry_of, entry_of_parts, flag_letters, flags_in, flags_of};
+ghost use Rattle.room_ace.specs.Text.{kind_of, kind_text, who_of, flags_text, who_text, entry_text};
+ghost use Rattle.room_ace.specs.Text.{letter_if};
 
 use crate::entry::{Entry, EntryKind, Who};
 use crate::failure::Failure;
@@ -23,8 +26,8 @@ struct Parts<'a> {
     mask: &'a str,
 }
 
-/// The entry that the text spells, `type:flags:who:mask`, or its first fault: in its parts, its type,
-/// its flags, its who and its mask, in this order.
+/// The entry that the text spells, `type:flags:who:mask`, or its first fault: in its parts, its
+/// type, its flags, its who and its mask, in this order.
 pub fn read_entry(alloc: Global, text: &str) -> Result<Entry, Failure<TextFault>>
     ensures { Gives result (entry_of text.now) }
 {
@@ -35,7 +38,9 @@ pub fn read_entry(alloc: Global, text: &str) -> Result<Entry, Failure<TextFault>
 }
 
 fn four_parts(text: &str) -> Option<Parts<'_>>
-    ensures { MatchOption result (entry_of text.now ≡ Err TextFault.NotFourParts) (λ parts. pieces 58 text.now ≡ parts.kind.now ∷ parts.flags.now ∷ parts.who.now ∷ parts.mask.now ∷ []) }
+    ensures { MatchOption result (entry_of text.now ≡ Err TextFault.NotFourParts) (λ parts.
+        pieces 58 text.now
+        ≡ parts.kind.now ∷ parts.flags.now ∷ parts.who.now ∷ parts.mask.now ∷ []) }
 {
     let (kind, rest) = cut(text, ':')?;
     let (flags, rest) = cut(rest, ':')?;
@@ -52,7 +57,8 @@ fn four_parts(text: &str) -> Option<Parts<'_>>
 }
 
 fn entry_of(alloc: Global, parts: Parts<'_>) -> Result<Entry, Failure<TextFault>>
-    ensures { Gives result (entry_of_parts (parts.entry.kind.now ∷ parts.entry.flags.now ∷ parts.entry.who.now ∷ parts.entry.mask.now ∷ [])) }
+    ensures { let p = parts.entry in
+        Gives result (entry_of_parts (p.kind.now ∷ p.flags.now ∷ p.who.now ∷ p.mask.now ∷ [])) }
 {
     let Some(kind) = kind_of(parts.kind) else {
         return Err(Failure::Fault(TextFault::BadKind));

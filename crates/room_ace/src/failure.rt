@@ -7,7 +7,9 @@ use std::alloc::AllocError;
 /// Why a call that takes memory has no answer: want of memory, or a fault of what it was given.
 #[derive(Clone, Copy, Debug, PartialEq, Eq, Drop)]
 pub enum Failure<F> {
+    /// Memory ran out.
     OutOfMemory,
+    /// What was given has this fault.
     Fault(F),
 }
 

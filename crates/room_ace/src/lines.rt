@@ -1,12 +1,14 @@
 //! The lines of bytes, and their text.
 ghost use Rattle.std.specs.Prelude.{◌≡◌, ◌==◌, ◌∷◌, ◌<◌, [], true, false, length, MatchOption};
 ghost use Rattle.std.specs.List.{position};
-ghost use Rattle.room_ace.specs.Lists.{is_utf8, lines_of, without_return};
+ghost use Rattle.room_ace.specs.Lists.{after_line, is_utf8, lines_of, without_return};
 
-/// The first line of the bytes, without its end, and what follows it. A line ends at LF, and loses one
-/// CR before its end. Bytes after the last LF are a line if there are any.
+/// The first line of the bytes, without its end, and what follows it. A line ends at LF, and loses
+/// one CR before its end. Bytes after the last LF are a line if there are any.
 pub fn split_line(bytes: &[u8]) -> Option<(&[u8], &[u8])>
-    ensures { MatchOption result (bytes.now ≡ []) (λ cut. (lines_of bytes.now ≡ cut.0.now ∷ lines_of cut.1.now) × (length cut.1.now < length bytes.now)) }
+    ensures { MatchOption result (bytes.now ≡ []) (λ cut.
+        (lines_of bytes.now ≡ cut.0.now ∷ lines_of cut.1.now)
+        × (length cut.1.now < length bytes.now) × (cut.1.now ≡ after_line bytes.now)) }
 {
     if bytes.is_empty() {
         return None;
@@ -19,7 +21,8 @@ pub fn split_line(bytes: &[u8]) -> Option<(&[u8], &[u8])>
 
 /// The text that the bytes are, if they are UTF-8.
 pub fn text_of(bytes: &[u8]) -> Option<&str>
-    ensures { MatchOption result (is_utf8 bytes.now ≡ false) (λ text. (is_utf8 bytes.now ≡ true) × (text.now ≡ bytes.now)) }
+    ensures { MatchOption result (is_utf8 bytes.now ≡ false)
+        (λ text. (is_utf8 bytes.now ≡ true) × (text.now ≡ bytes.now)) }
 {
     match std::str::from_utf8(bytes) {
         Ok(text) => Some(text),

@@ -19,10 +19,15 @@ impl<'a> ListLines<'a> {
     /// The next line that is neither blank nor a comment; its number is then `passed`.
     pub(crate) fn next_line(&mut self) -> Option<&'a [u8]>
         requires { self.old.passed + length self.old.rest.now < 2 ^ 64 }
-        ensures line { MatchOption result (lines_after self.old.passed self.old.rest.now ≡ []) (λ line. lines_after self.old.passed self.old.rest.now ≡ (self.new.passed, line.now) ∷ lines_after self.new.passed self.new.rest.now) }
-        ensures all { self.new.passed + length (lines_of self.new.rest.now) ≡ self.old.passed + length (lines_of self.old.rest.now) }
-        ensures end { MatchOption result (self.new.rest.now ≡ []) (λ _. length self.new.rest.now < length self.old.rest.now) }
-        ensures bound { self.new.passed + length self.new.rest.now ≤ self.old.passed + length self.old.rest.now }
+        ensures line { MatchOption result (lines_after self.old.passed self.old.rest.now ≡ []) (λ line.
+            lines_after self.old.passed self.old.rest.now
+            ≡ (self.new.passed, line.now) ∷ lines_after self.new.passed self.new.rest.now) }
+        ensures all { self.new.passed + length (lines_of self.new.rest.now)
+            ≡ self.old.passed + length (lines_of self.old.rest.now) }
+        ensures end { MatchOption result (self.new.rest.now ≡ [])
+            (λ _. length self.new.rest.now < length self.old.rest.now) }
+        ensures bound { self.new.passed + length self.new.rest.now
+            ≤ self.old.passed + length self.old.rest.now }
     {
         while let Some((line, rest)) = split_line(self.rest) {
             self.rest = rest;
@@ -67,13 +72,13 @@ fn are_list_letters(letters: &[u8]) -> bool
 }
 
 // Nothing but spaces and tabs.
-fn is_blank(line: &[u8]) -> bool
+pub(crate) fn is_blank(line: &[u8]) -> bool
     ensures { result ≡ is_blank line.now }
 {
     line.iter().all(|byte| *byte == b' ' || *byte == b'\t')
 }
 
-fn is_comment(line: &[u8]) -> bool
+pub(crate) fn is_comment(line: &[u8]) -> bool
     ensures { result ≡ is_comment line.now }
 {
     line.starts_with(b"#")

@@ -1,5 +1,6 @@
 //! The text of a list: a line `list:` with the list's flags, then a line for each entry.
-ghost use Rattle.std.specs.Prelude.{◌≡◌, ◌++◌, ◌∷◌, ◌+◌, ◌<◌, ◌^◌, [], length, IfOk, OnOk, string_bytes};
+ghost use Rattle.std.specs.Prelude.{◌≡◌, ◌++◌, ◌∷◌, ◌+◌, ◌<◌, ◌^◌, [], length, IfOk, OnOk};
+ghost use Rattle.std.specs.Prelude.{string_bytes};
 ghost use Rattle.room_ace.specs.Text.{entry_text};
 ghost use Rattle.room_ace.specs.Lists.{list_text, sent_of};
 ghost use Rattle.room_ace.specs.Gives.{Gives};
@@ -46,7 +47,8 @@ fn read_entries(
     mut lines: ListLines,
 ) -> Result<SentList, Failure<LineFault>>
     requires { lines.passed + length lines.rest.now < 2 ^ 64 }
-    ensures { Gives result (sent_after flags [] (lines_after lines.entry.passed lines.entry.rest.now)) }
+    ensures { Gives result
+        (sent_after flags [] (lines_after lines.entry.passed lines.entry.rest.now)) }
 {
     let mut entries = EntriesWithin::new(alloc);
     while let Some(line) = lines.next_line() {
@@ -118,7 +120,8 @@ pub fn print_list(alloc: Global, flags: ListFlags, entries: &[Entry]) -> Result<
 
 // Adds the line of an entry.
 fn push_line(alloc: Global, text: &mut String, entry: &Entry) -> Result<(), AllocError>
-    ensures { OnOk result (string_bytes text.new ≡ string_bytes text.old ++ (entry_text entry.now ++ 10 ∷ [])) }
+    ensures { OnOk result
+        (string_bytes text.new ≡ string_bytes text.old ++ (entry_text entry.now ++ 10 ∷ [])) }
 {
     let line = print_entry(alloc, entry)?;
     text.push_str(line.as_str())?;

@@ -2,3 +2,4 @@ pub mod Checks
 pub mod Ascii
 pub mod Pieces
 pub mod Below
+pub mod Front

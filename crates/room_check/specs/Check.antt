@@ -1,14 +1,16 @@
 -- The judging of one list from bytes: four header lines, then the text of a list (own).
-use Rattle.std.specs.Prelude.{ℕ, ◌+◌, ◌==◌, ◌&&◌, not, ◌||◌, List, [], ◌∷◌, filter, length, drop, Option, Some, None, Result, Ok, Err, if◌then◌else◌, nat_lt, nat_eq, codes}
+use Rattle.std.specs.Prelude.{ℕ, ◌+◌, ◌==◌, ◌&&◌, not, ◌||◌, List, [], ◌∷◌, filter, length, drop}
+use Rattle.std.specs.Prelude.{Option, Some, None, Result, Ok, Err, if◌then◌else◌, nat_lt, nat_eq}
+use Rattle.std.specs.Prelude.{codes}
 use Rattle.std.specs.List.{list_all, enumerate_from, starts_with}
 use Rattle.std.specs.Option.{option_map_or, ok_or}
 use Rattle.room_ace.specs.Pieces.{pieces}
 use Rattle.room_ace.specs.Names.{is_name}
-use Rattle.room_ace.specs.Ace.{Ace}
 use Rattle.room_ace.specs.Text.{mask_of}
 use Rattle.room_ace.specs.Sent.{Sent}
 use Rattle.room_ace.specs.Lists.{lines_of, is_blank, is_comment, sent_of_lines}
-use Rattle.room_ace.specs.Valid.{entry_fault}
+use Rattle.room_ace.specs.Valid.{first_bad_entry}
+use Rattle.room_ace.specs.declared.limits.TheConstants.{MOST_BYTES}
 use Rattle.room_ace.specs.declared.object.Which.TheVariants.{Dacl}
 use Rattle.room_ace.specs.declared.object.ObjKind.TheVariants.{Folder}
 use Rattle.room_ace.specs.declared.parties.Owners.{Owners}
@@ -19,7 +21,6 @@ use Rattle.room_eval.specs.Verdict.{verdict}
 use Rattle.room_check.specs.declared.fault.InputWhy.{InputWhy}
 use Rattle.room_check.specs.declared.fault.InputWhy.TheVariants.{BadHeader, BadName, Text}
 use Rattle.room_check.specs.declared.fault.InputFault.{InputFault}
-use Rattle.room_check.specs.declared.fault.EntryFault.{EntryFault}
 use Rattle.room_check.specs.declared.question.Question.{Question}
 use Rattle.room_check.specs.declared.judging.Judged.{Judged}
 use Rattle.room_check.specs.declared.judging.Judged.TheVariants.{Says, TooLong, AtLine, AtEntry}
@@ -32,7 +33,9 @@ without_spaces (byte ∷ bytes) = if byte == 32 then without_spaces bytes else b
 
 -- what stands behind the word that the line begins with
 abbrev pub value_of : List ℕ → List ℕ → Result (List ℕ) InputWhy
-value_of word line = if starts_with nat_eq line word then Ok (without_spaces (drop (length word) line)) else Err BadHeader
+value_of word line =
+    if starts_with nat_eq line word then Ok (without_spaces (drop (length word) line))
+    else Err BadHeader
 
 abbrev pub name_in : List ℕ → Result (List ℕ) InputWhy
 name_in value = if is_name value then Ok value else Err BadName
@@ -53,7 +56,9 @@ groups_of None (byte ∷ bytes) = Err BadName
 groups_of (Some user) (byte ∷ bytes) = names_in (pieces 44 (byte ∷ bytes))
 
 abbrev pub owners_of_parts : List (List ℕ) → Result Owners InputWhy
-owners_of_parts (owner ∷ group ∷ []) = if is_name owner && is_name group then Ok (record { owner = owner; group = group }) else Err BadName
+owners_of_parts (owner ∷ group ∷ []) =
+    if is_name owner && is_name group then Ok (record { owner = owner; group = group })
+    else Err BadName
 owners_of_parts _ = Err BadName
 
 abbrev pub owners_of : List ℕ → Result Owners InputWhy
@@ -75,10 +80,12 @@ at_line number (Ok value) = Ok value
 -- the value of the header that the first line is, and the lines below
 abbrev pub cut_header : ℕ → List ℕ → List (List ℕ) → Result (List ℕ × List (List ℕ)) InputFault
 cut_header number word [] = at_line number (Err BadHeader)
-cut_header number word (line ∷ below) = and_then (at_line number (value_of word line)) (λ value. Ok (value, below))
+cut_header number word (line ∷ below) =
+    and_then (at_line number (value_of word line)) (λ value. Ok (value, below))
 
 -- what the value of that header says, and the lines below
-abbrev pub header : {A : Type 0} → ℕ → List ℕ → (List ℕ → Result A InputWhy) → List (List ℕ) → Result (A × List (List ℕ)) InputFault
+abbrev pub header : {A : Type 0} → ℕ → List ℕ → (List ℕ → Result A InputWhy)
+    → List (List ℕ) → Result (A × List (List ℕ)) InputFault
 header number word read lines =
     and_then (cut_header number word lines) (λ cut.
     and_then (at_line number (read cut.0)) (λ said. Ok (said, cut.1)))
@@ -86,7 +93,8 @@ header number word read lines =
 abbrev pub caller_line : List (List ℕ) → Result (Option (List ℕ) × List (List ℕ)) InputFault
 caller_line lines = header 1 (codes "caller:") user_of lines
 
-abbrev pub groups_line : Option (List ℕ) → List (List ℕ) → Result (List (List ℕ) × List (List ℕ)) InputFault
+abbrev pub groups_line : Option (List ℕ) → List (List ℕ)
+    → Result (List (List ℕ) × List (List ℕ)) InputFault
 groups_line user lines = header 2 (codes "groups:") (groups_of user) lines
 
 abbrev pub owners_line : List (List ℕ) → Result (Owners × List (List ℕ)) InputFault
@@ -103,7 +111,9 @@ in_list (Ok sent) = Ok sent
 
 -- the list begins below the headers, and its lines are counted with them
 abbrev pub list_below : List (List ℕ) → Result Sent InputFault
-list_below lines = in_list (sent_of_lines (4 + length lines) (filter (λ line. not (is_blank line.1 || is_comment line.1)) (enumerate_from 5 lines)))
+list_below lines =
+    in_list (sent_of_lines (4 + length lines)
+    (filter (λ line. not (is_blank line.1 || is_comment line.1)) (enumerate_from 5 lines)))
 
 -- what the lines ask, or the first fault of a line
 abbrev pub question_of : List (List ℕ) → Result Question InputFault
@@ -113,24 +123,29 @@ question_of lines =
     and_then (owners_line groups.1) (λ owners.
     and_then (ask_line owners.1) (λ asked.
     and_then (list_below asked.1) (λ list.
-    Ok (record { caller = record { user = caller.0; groups = groups.0 }; owners = owners.0; asked = asked.0; list = list }))))))
+    Ok (record {
+      caller = record { user = caller.0; groups = groups.0 };
+      owners = owners.0;
+      asked = asked.0;
+      list = list;
+    }))))))
 
 -- ---- the answer
 
--- the first of the entries that may not stand in the dacl of a folder, where the head stands at this place
-abbrev pub first_invalid : ℕ → List Ace → Option EntryFault
-first_invalid place [] = None
-first_invalid place (entry ∷ entries) =
-    option_map_or (λ why. Some (record { place = place; why = why })) (entry_fault entry Dacl Folder) (first_invalid (place + 1) entries)
-
+-- The first of the entries that may not stand in the dacl of a folder, or what the list says.
 abbrev pub answer_of : Question → Judged
 answer_of question =
-    option_map_or AtEntry (first_invalid 1 question.list.entries) (Says question.list (verdict question.list.entries question.caller question.owners question.asked))
+    option_map_or AtEntry (first_bad_entry 1 Dacl Folder question.list.entries)
+    (Says question.list
+    (verdict question.list.entries question.caller question.owners question.asked))
 
 abbrev pub judged_question : Result Question InputFault → Judged
 judged_question (Err fault) = AtLine fault
 judged_question (Ok question) = answer_of question
 
--- What the bytes are told: the first fault of their length, their lines and their entries, or what the list says.
+-- What the bytes are told: the first fault of their length, their lines and their entries, or what
+-- the list says.
 abbrev pub judged : List ℕ → Judged
-judged bytes = if nat_lt 1048576 (length bytes) then TooLong else judged_question (question_of (lines_of bytes))
+judged bytes =
+    if nat_lt MOST_BYTES (length bytes) then TooLong
+    else judged_question (question_of (lines_of bytes))

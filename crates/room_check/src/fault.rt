@@ -1,11 +1,12 @@
 //! Why an input is refused.
-ghost use Rattle.std.specs.Prelude.{◌≡◌};
-ghost use Rattle.room_check.specs.Reply.{input_why_text};
+ghost use Rattle.std.specs.Prelude.{◌≡◌, Some};
+ghost use Rattle.room_check.specs.Reply.{input_fault_text, input_why_text};
 
-use room_ace::{ListFault, Why};
+use room_ace::Why;
+use std::fmt;
 
 /// What is wrong with a line of the input.
-#[derive(Clone, Copy)]
+#[derive(Clone, Copy, Debug, PartialEq, Eq)]
 pub enum InputWhy {
     /// A header line is missing, or doesn't begin with its word.
     BadHeader,
@@ -16,17 +17,12 @@ pub enum InputWhy {
 }
 
 /// The first line of the input that has a fault, counted from 1, and the fault.
-#[derive(Clone, Copy)]
+#[derive(Clone, Copy, Debug, PartialEq, Eq)]
 pub struct InputFault {
+    /// The line, counted from 1.
     pub line: usize,
+    /// What is wrong with it.
     pub why: InputWhy,
-}
-
-/// The first entry that may not stand in the list, by its place, which counts from 1.
-#[derive(Clone, Copy)]
-pub struct EntryFault {
-    pub place: usize,
-    pub why: ListFault,
 }
 
 impl InputWhy {
@@ -39,5 +35,15 @@ impl InputWhy {
             InputWhy::BadName => "K2 bad name",
             InputWhy::Text(why) => why.as_str(),
         }
+    }
+}
+
+impl fmt::Display for InputFault {
+    ghost output = { λ fault. Some (input_fault_text fault) };
+
+    fn fmt<W: fmt::Write>(&self, f: &mut fmt::Formatter<W>) -> fmt::Result {
+        let line = self.line;
+        let why = self.why.as_str();
+        write!(f, "line {line}: {why}")
     }
 }

@@ -1,5 +1,6 @@
 //! The header lines of an input: who asks, at which object, for what.
-ghost use Rattle.std.specs.Prelude.{◌≡◌, ◌==◌, ℕ, ◌<◌, ◌≤◌, [], ◌∷◌, Result, Ok, Err, length, MatchOption};
+ghost use Rattle.std.specs.Prelude.{◌≡◌, ◌==◌, ℕ, ◌<◌, ◌≤◌, [], ◌∷◌, Result, Ok, Err, length};
+ghost use Rattle.std.specs.Prelude.{MatchOption};
 ghost use Rattle.std.specs.List.{position};
 ghost use Rattle.room_ace.specs.Gives.{Gives};
 ghost use Rattle.room_ace.specs.Lists.{lines_of};
@@ -7,17 +8,21 @@ ghost use Rattle.room_ace.specs.Pieces.{pieces};
 ghost use Rattle.room_check.specs.declared.fault.InputWhy.{InputWhy};
 ghost use Rattle.room_check.specs.declared.fault.InputWhy.TheVariants.{BadHeader};
 ghost use Rattle.room_check.specs.Given.{GivesBy};
-ghost use Rattle.room_check.specs.Check.{ask_line, asked_of, at_line, caller_line, cut_header, groups_line, groups_of, name_in, names_in, owners_line, owners_of, user_of, value_of, without_spaces};
+ghost use Rattle.room_check.specs.Check.{ask_line, asked_of, at_line, caller_line, cut_header};
+ghost use Rattle.room_check.specs.Check.{groups_line, groups_of, name_in, names_in, owners_line};
+ghost use Rattle.room_check.specs.Check.{owners_of, user_of, value_of, without_spaces};
 
 use crate::fault::{InputFault, InputWhy};
 use room_ace::{
-    Failure, Mask, Name, Names, Owners, TextFault, Why, read_mask, read_name, split_line, text_of,
+    Failure, Mask, Name, Names, Owners, TextFault, Why, names_are_text, read_mask, read_name,
+    split_line, text_of,
 };
 use std::alloc::Global;
 
 /// The caller's name in the first of the lines, if there is one. The lines below are left.
 pub fn read_caller(alloc: Global, rest: &mut &[u8]) -> Result<Option<Name>, Failure<InputFault>>
-    ensures said { GivesBy (λ user. (user, lines_of rest.new.now)) result (caller_line (lines_of rest.old.now)) }
+    ensures said { GivesBy (λ user. (user, lines_of rest.new.now)) result
+        (caller_line (lines_of rest.old.now)) }
     ensures left { length rest.new.now ≤ length rest.old.now }
 {
     let value = cut_header(1, b"caller:", rest)?;
@@ -30,7 +35,8 @@ pub fn read_groups(
     user: &Option<Name>,
     rest: &mut &[u8],
 ) -> Result<Names, Failure<InputFault>>
-    ensures said { GivesBy (λ groups. (groups, lines_of rest.new.now)) result (groups_line user.now (lines_of rest.old.now)) }
+    ensures said { GivesBy (λ groups. (groups, lines_of rest.new.now)) result
+        (groups_line user.now (lines_of rest.old.now)) }
     ensures left { length rest.new.now ≤ length rest.old.now }
 {
     let value = cut_header(2, b"groups:", rest)?;
@@ -39,7 +45,8 @@ pub fn read_groups(
 
 /// The owner and the owning group in the first of the lines. The lines below are left.
 pub fn read_owners(alloc: Global, rest: &mut &[u8]) -> Result<Owners, Failure<InputFault>>
-    ensures said { GivesBy (λ owners. (owners, lines_of rest.new.now)) result (owners_line (lines_of rest.old.now)) }
+    ensures said { GivesBy (λ owners. (owners, lines_of rest.new.now)) result
+        (owners_line (lines_of rest.old.now)) }
     ensures left { length rest.new.now ≤ length rest.old.now }
 {
     let value = cut_header(3, b"owners:", rest)?;
@@ -48,7 +55,8 @@ pub fn read_owners(alloc: Global, rest: &mut &[u8]) -> Result<Owners, Failure<In
 
 /// The bits that are asked in the first of the lines. The lines below are left.
 pub fn read_asked(rest: &mut &[u8]) -> Result<Mask, Failure<InputFault>>
-    ensures said { GivesBy (λ asked. (asked, lines_of rest.new.now)) result (ask_line (lines_of rest.old.now)) }
+    ensures said { GivesBy (λ asked. (asked, lines_of rest.new.now)) result
+        (ask_line (lines_of rest.old.now)) }
     ensures left { length rest.new.now ≤ length rest.old.now }
 {
     let value = cut_header(4, b"ask:", rest)?;
@@ -57,7 +65,8 @@ pub fn read_asked(rest: &mut &[u8]) -> Result<Mask, Failure<InputFault>>
 
 // What was read, with the line where its fault stands.
 fn in_line<T>(line: usize, read: Result<T, Failure<InputWhy>>) -> Result<T, Failure<InputFault>>
-    ensures { (defined : Result T InputWhy) → Gives read defined → Gives result (at_line line defined) }
+    ensures { (defined : Result T InputWhy)
+        → Gives read defined → Gives result (at_line line defined) }
 {
     match read {
         Ok(value) => Ok(value),
@@ -72,7 +81,8 @@ fn cut_header<'a>(
     word: &[u8],
     rest: &mut &'a [u8],
 ) -> Result<&'a [u8], Failure<InputFault>>
-    ensures said { GivesBy (λ value. (value.now, lines_of rest.new.now)) result (cut_header line word.now (lines_of rest.old.now)) }
+    ensures said { GivesBy (λ value. (value.now, lines_of rest.new.now)) result
+        (cut_header line word.now (lines_of rest.old.now)) }
     ensures left { length rest.new.now ≤ length rest.old.now }
 {
     let bad = Failure::Fault(InputFault {
@@ -93,7 +103,8 @@ fn cut_header<'a>(
 
 // What stands behind the word, if the line begins with it.
 fn value_of<'a>(word: &[u8], line: &'a [u8]) -> Option<&'a [u8]>
-    ensures { MatchOption result (value_of word.now line.now ≡ Err BadHeader) (λ value. value_of word.now line.now ≡ Ok value.now) }
+    ensures { MatchOption result (value_of word.now line.now ≡ Err BadHeader)
+        (λ value. value_of word.now line.now ≡ Ok value.now) }
 {
     if !line.starts_with(word) {
         return None;
@@ -117,6 +128,7 @@ fn without_spaces(bytes: &[u8]) -> &[u8]
 fn name_in(alloc: Global, value: &[u8]) -> Result<Name, Failure<InputWhy>>
     ensures { Gives result (name_in value.now) }
 {
+    names_are_text();
     let text = match text_of(value) {
         None => return Err(Failure::Fault(InputWhy::BadName)),
         Some(text) => text,
@@ -202,7 +214,9 @@ fn asked_in(value: &[u8]) -> Result<Mask, Failure<InputWhy>>
 
 // The bytes before the first separator, and those behind it.
 fn cut_at(separator: u8, bytes: &[u8]) -> Option<(&[u8], &[u8])>
-    ensures { MatchOption result (pieces separator bytes.now ≡ bytes.now ∷ []) (λ cut. (pieces separator bytes.now ≡ cut.0.now ∷ pieces separator cut.1.now) × (length cut.1.now < length bytes.now)) }
+    ensures { MatchOption result (pieces separator bytes.now ≡ bytes.now ∷ []) (λ cut.
+        (pieces separator bytes.now ≡ cut.0.now ∷ pieces separator cut.1.now)
+        × (length cut.1.now < length bytes.now)) }
 {
     match place_of(separator, bytes) {
         None => None,

@@ -2,16 +2,14 @@
 ghost use Rattle.std.specs.Prelude.{◌≡◌, IfOk, string_bytes};
 ghost use Rattle.room_ace.specs.Text.{mask_text};
 ghost use Rattle.room_check.specs.Check.{judged};
-ghost use Rattle.room_check.specs.Reply.{place_text, reply_status, reply_text, text_at, verdict_status, verdict_text};
+ghost use Rattle.room_check.specs.Reply.{place_text, reply_status, reply_text, text_at};
+ghost use Rattle.room_check.specs.Reply.{verdict_status, verdict_text};
 
-use crate::fault::{EntryFault, InputFault};
+use crate::fault::InputFault;
 use crate::question::read_question;
-use room_ace::{Entry, Failure, Mask, SentList, print_entry};
+use room_ace::{Entry, EntryFault, Failure, MOST_BYTES, Mask, SentList, print_entry};
 use room_eval::Verdict;
 use std::alloc::{AllocError, Global};
-
-/// The most bytes that an input has.
-pub const LONGEST_INPUT: usize = 1_048_576;
 
 /// What an input is told.
 #[derive(Drop)]
@@ -29,14 +27,18 @@ pub enum Judged {
 /// A line of text without its end, and the exit status.
 #[derive(Drop)]
 pub struct CheckReply {
+    /// The text.
     pub text: String,
+    /// 0 where all is granted, 1 where the list denies, and 2 where the input is refused.
     pub status: u8,
 }
 
-/// What `rooms check` tells of an input: four header lines, then the text of a list. The status is 0
-/// where all is granted, 1 where the list denies, and 2 where the input is refused.
+/// What `rooms check` tells of an input: four header lines, then the text of a list. The status is
+/// 0 where all is granted, 1 where the list denies, and 2 where the input is refused.
 pub fn check(alloc: Global, input: &[u8]) -> Result<CheckReply, AllocError>
-    ensures { IfOk result (λ reply. (string_bytes reply.text ≡ reply_text (judged input.now)) × (reply.status ≡ reply_status (judged input.now))) }
+    ensures { IfOk result (λ reply.
+        (string_bytes reply.text ≡ reply_text (judged input.now))
+        × (reply.status ≡ reply_status (judged input.now))) }
 {
     let told = judge(alloc, input)?;
     Ok(CheckReply {
@@ -49,7 +51,7 @@ pub fn check(alloc: Global, input: &[u8]) -> Result<CheckReply, AllocError>
 fn judge(alloc: Global, input: &[u8]) -> Result<Judged, AllocError>
     ensures { IfOk result (λ told. told ≡ judged input.now) }
 {
-    if input.len() > LONGEST_INPUT {
+    if input.len() > MOST_BYTES {
         return Ok(Judged::TooLong);
     }
     match read_question(alloc, input) {

@@ -1,7 +1,8 @@
-//! The judging of one list from the bytes of an input: who asks, at which object, for what, and the text
-//! of the list. It needs no room.
+//! The judging of one list from the bytes of an input: who asks, at which object, for what, and the
+//! text of the list. It needs no room.
 #![tactic(auto)]
 
+mod answering;
 mod fault;
 mod headers;
 mod judging;
@@ -9,6 +10,7 @@ mod question;
 #[cfg(test)]
 mod tests;
 
-pub use fault::{EntryFault, InputFault, InputWhy};
-pub use judging::{CheckReply, Judged, LONGEST_INPUT, check};
+pub use answering::answer;
+pub use fault::{InputFault, InputWhy};
+pub use judging::{CheckReply, Judged, check};
 pub use question::{Question, read_question};

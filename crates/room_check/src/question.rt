@@ -2,12 +2,14 @@
 ghost use Rattle.std.specs.Prelude.{◌≡◌, ◌+◌, ◌≤◌, length};
 ghost use Rattle.room_ace.specs.Gives.{Gives};
 ghost use Rattle.room_ace.specs.Lists.{lines_of};
-ghost use Rattle.room_check.specs.Check.{answer_of, first_invalid, list_below, question_of};
+ghost use Rattle.room_check.specs.Check.{answer_of, list_below, question_of};
 
-use crate::fault::{EntryFault, InputFault, InputWhy};
+use crate::fault::{InputFault, InputWhy};
 use crate::headers::{read_asked, read_caller, read_groups, read_owners};
 use crate::judging::Judged;
-use room_ace::{Caller, Entry, Failure, Mask, ObjKind, Owners, SentList, Which, read_list, valid};
+use room_ace::{
+    Caller, Failure, MOST_BYTES, Mask, ObjKind, Owners, SentList, Which, first_bad_entry, read_list,
+};
 use room_eval::decide;
 use std::alloc::Global;
 
@@ -17,15 +19,20 @@ const HEADERS: usize = 4;
 /// A caller, the owners of an object, the bits that are asked, and the list that decides.
 #[derive(Drop)]
 pub struct Question {
+    /// Who asks.
     pub caller: Caller,
+    /// Who owns the object.
     pub owners: Owners,
+    /// The bits that are asked.
     pub asked: Mask,
+    /// The object's list.
     pub list: SentList,
 }
 
-/// The question that the bytes spell, or the first fault of a line.
+/// The question that the bytes spell, or the first fault of a line. There are at most `MOST_BYTES`
+/// bytes.
 pub fn read_question(alloc: Global, bytes: &[u8]) -> Result<Question, Failure<InputFault>>
-    requires { length bytes.now ≤ 1048576 }
+    requires { length bytes.now ≤ MOST_BYTES }
     ensures { Gives result (question_of (lines_of bytes.now)) }
 {
     let mut rest = bytes;
@@ -44,7 +51,7 @@ pub fn read_question(alloc: Global, bytes: &[u8]) -> Result<Question, Failure<In
 
 // The list below the headers, whose lines count on from theirs.
 fn list_in(alloc: Global, bytes: &[u8]) -> Result<SentList, Failure<InputFault>>
-    requires { length bytes.now ≤ 1048576 }
+    requires { length bytes.now ≤ MOST_BYTES }
     ensures { Gives result (list_below (lines_of bytes.now)) }
 {
     match read_list(alloc, bytes) {
@@ -63,7 +70,7 @@ impl Question {
         ensures { result ≡ answer_of self }
     {
         let entries = self.list.entries().as_slice();
-        match first_invalid(entries) {
+        match first_bad_entry(entries, Which::Dacl, ObjKind::Folder) {
             Some(fault) => Judged::AtEntry(fault),
             None => {
                 let verdict = decide(entries, &self.caller, &self.owners, self.asked);
@@ -71,19 +78,4 @@ impl Question {
             }
         }
     }
-}
-
-// The first entry that may not stand in the dacl of a folder.
-fn first_invalid(entries: &[Entry]) -> Option<EntryFault>
-    ensures { result ≡ first_invalid 1 entries.now }
-{
-    for (index, entry) in entries.iter().enumerate() {
-        if let Err(why) = valid(entry, Which::Dacl, ObjKind::Folder) {
-            return Some(EntryFault {
-                place: index + 1,
-                why,
-            });
-        }
-    }
-    None
 }

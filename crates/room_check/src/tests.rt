@@ -1,6 +1,7 @@
 //! What is told of written inputs.
 
-use crate::judging::{LONGEST_INPUT, check};
+use crate::judging::check;
+use room_ace::MOST_BYTES;
 use std::process::Abort;
 use std::test::Fail;
 
@@ -20,7 +21,7 @@ fn expect_told(
 #[test]
 fn deny_after_allow(rt: HostRuntime) -> Result<(), Fail> {
     let input =
-        b"caller: alice\ngroups:\nowners: root:staff\nask: rw\nlist:\nA::alice:r\nD::EVERYONE@:rw\n";
+        b"caller: alice\ngroups:\nowners: root:all\nask: rw\nlist:\nA::alice:r\nD::EVERYONE@:rw\n";
     expect_told(&rt, input, "denied bits w entry 2 D::EVERYONE@:rw", 1)
 }
 
@@ -70,9 +71,9 @@ fn check_without_list(rt: HostRuntime) -> Result<(), Fail> {
 
 #[test]
 fn check_too_long(rt: HostRuntime) -> Result<(), Fail> {
-    let longest = vec![in rt.alloc(); b'#'; LONGEST_INPUT]?;
+    let longest = vec![in rt.alloc(); b'#'; MOST_BYTES]?;
     expect_told(&rt, longest.as_slice(), "refused: line 1: K1 bad header", 2)?;
-    let longer = vec![in rt.alloc(); b'#'; LONGEST_INPUT + 1]?;
+    let longer = vec![in rt.alloc(); b'#'; MOST_BYTES + 1]?;
     expect_told(&rt, longer.as_slice(), "refused: input too long", 2)
 }
 

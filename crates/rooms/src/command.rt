@@ -9,6 +9,31 @@ use room_ace::Failure;
 use std::alloc::{AllocError, Global};
 use std::convert::AsStr;
 
+// What `rooms --version` tells.
+const VERSION: &str = "0.1.0";
+
+// What `rooms check --help` tells of the input, the answers and the statuses.
+const CHECK_HELP: &str = "\
+The input has four lines of headers, and then the list:
+
+  caller: alice
+  groups: staff,sales
+  owners: root:staff
+  ask: r
+  list:
+  D::EVERYONE@:w
+  A:g:staff:r
+
+A caller without a name is anonymous, and then has no groups. The letters behind
+ask: are those of a mask, and a line of the list is TYPE:FLAGS:WHO:MASK.
+
+The answer is one line, and the status tells of it:
+
+  0  granted
+  1  denied bits LETTERS entry PLACE ENTRY, or: denied bits LETTERS no entry
+  2  refused: why
+  3  a fault, told on standard error";
+
 /// A subcommand and its words.
 #[derive(Clone, Copy, Debug, PartialEq, Eq)]
 pub enum Command {
@@ -39,10 +64,11 @@ pub fn read_command<S: AsStr>(alloc: Global, words: &[S]) -> Result<Command, Fai
 fn command_line<'a>(alloc: Global) -> Result<clap::Command<'a>, AllocError>
     ensures { IfOk result (λ line. app_of line ≡ command_line) }
 {
-    let check = clap::Command::new(alloc, "check").about(
-        "Judges the list on the standard input for a caller",
-    );
+    let check = clap::Command::new(alloc, "check")
+        .about("Judges the list on the standard input for a caller")
+        .after_help(CHECK_HELP);
     clap::Command::new(alloc, "rooms")
+        .version(VERSION)
         .about("A document room behind access lists")
         .subcommand_required(true)
         .disable_help_subcommand(true)

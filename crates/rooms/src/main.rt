@@ -7,9 +7,9 @@ mod stop;
 mod tests;
 
 use command::{Command, read_command};
-use room_check::{LONGEST_INPUT, check};
+use room_check::answer;
 use std::env;
-use std::io::{ErrorKind, Read};
+use std::io::{self, ErrorKind};
 use std::process::ExitCode;
 use stop::Stop;
 
@@ -29,7 +29,7 @@ fn main(rt: HostRuntime) -> ExitCode {
 fn run(rt: &HostRuntime) -> Result<u8, Stop> {
     let words = words_of(rt)?;
     match read_command(rt.alloc(), words.as_slice())? {
-        Command::Check => check_input(rt),
+        Command::Check => Ok(answer(rt.alloc(), rt.reader(), &mut io::writer(rt))?),
     }
 }
 
@@ -41,20 +41,4 @@ fn words_of(rt: &HostRuntime) -> Result<Vec<String>, Stop> {
             _ => Err(Stop::NotText),
         },
     }
-}
-
-// Tells what is said of the list on standard input.
-fn check_input(rt: &HostRuntime) -> Result<u8, Stop> {
-    let input = read_input(rt)?;
-    let reply = check(rt.alloc(), input.as_slice())?;
-    rt.println(reply.text.as_str())?;
-    Ok(reply.status)
-}
-
-// Standard input to its end, or as far as shows that it is too long.
-fn read_input(rt: &HostRuntime) -> Result<Vec<u8>, Stop> {
-    let mut input = Vec::new(rt.alloc());
-    let kept = LONGEST_INPUT as u64 + 1;
-    rt.reader().take(kept).read_to_end(&mut input)?;
-    Ok(input)
 }
