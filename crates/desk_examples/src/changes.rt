@@ -1,5 +1,5 @@
 //! What changes leave: lists of new objects, of moved ones, and of what hangs below.
-use crate::rooms::plays;
+use room_player::plays;
 use std::test::Fail;
 
 // A new object has its parent's flag and what the parent passes, also where it isn't linked.

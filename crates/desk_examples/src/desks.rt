@@ -1,9 +1,7 @@
 //! Requests at a desk, and requests carried out in turn.
-use crate::rendering::reply_text;
-use crate::rooms::open_room;
-use crate::scripts::{agree, asked_in};
-use room_desk::{Asked, Desk, MemDesk, Reply, perform_all};
-use room_tree::{FailKeep, KeepFault};
+use room_desk::{Asked, Desk, DeskFault, MemDesk, Reply, perform_all};
+use room_player::{Plan, agree, failing, open_keep, play, push_reply, spoken_in};
+use room_tree::{Keep, KeepFault};
 use std::alloc::Global;
 use std::test::Fail;
 
@@ -17,14 +15,35 @@ root Remove /a => refused at /a N5
 root Read /a/f => bytes hi!
 ";
 
+// What a desk answers, without what the contract says of it.
+fn run<D: Desk>(alloc: Global, desk: &mut D, asked: &Asked) -> Result<Reply, DeskFault> {
+    desk.run(alloc, asked.user.as_ref(), asked.at, &asked.request)
+}
+
+// The text of a desk's answer to one line.
+fn told_by<D: Desk>(alloc: Global, desk: &mut D, asked: &str) -> Result<String, Fail> {
+    let asked = asked_in(alloc, asked)?;
+    let answer = run(alloc, desk, &asked);
+    drop(asked);
+    reply_text(alloc, &answer?)
+}
+
+fn reply_text(alloc: Global, reply: &Reply) -> Result<String, Fail> {
+    let mut told = String::new(alloc);
+    push_reply(alloc, &mut told, reply)?;
+    Ok(told)
+}
+
+fn ask_line<D: Desk>(alloc: Global, desk: &mut D, line: &str) -> Result<(), Fail> {
+    let (asked, wanted) = line.split_once(" => ").ok_or("no arrow")?;
+    let told = told_by(alloc, desk, asked)?;
+    agree(asked, told.as_str(), wanted)
+}
+
 // Asks a desk what the lines of a script ask.
 fn ask<D: Desk>(alloc: Global, desk: &mut D, script: &str) -> Result<(), Fail> {
     'lines: for line in script.lines() {
-        let (asked, wanted) = line.split_once(" => ").ok_or("no arrow")?;
-        let (caller, request) = asked_in(alloc, asked)?;
-        let reply = desk.run(alloc, caller.as_ref(), 1000, &request)?;
-        let told = reply_text(alloc, &reply)?;
-        agree(alloc, asked, told.as_str(), wanted)?;
+        ask_line(alloc, desk, line)?;
     }
     Ok(())
 }
@@ -32,57 +51,88 @@ fn ask<D: Desk>(alloc: Global, desk: &mut D, script: &str) -> Result<(), Fail> {
 #[test]
 fn desk_in_memory(rt: HostRuntime) -> Result<(), Fail> {
     let alloc = rt.alloc();
-    let mut desk = MemDesk::new(open_room(alloc)?);
-    ask(alloc, &mut desk, SCRIPT)?;
-    let mut again = MemDesk::new(desk.into_keep());
-    ask(alloc, &mut again, "root Read /a/f => bytes hi!")
+    let mut desk = MemDesk::new(open_keep(alloc)?);
+    ask(alloc, &mut desk, SCRIPT)
 }
 
-// All that the lines of a script ask.
-fn all_asked(alloc: Global, script: &str) -> Result<Vec<Asked>, Fail> {
+// What a desk in memory keeps is lent, and given back.
+#[test]
+fn desk_lends_what_it_keeps(rt: HostRuntime) -> Result<(), Fail> {
+    let alloc = rt.alloc();
+    let mut desk = MemDesk::new(open_keep(alloc)?);
+    ask(alloc, &mut desk, SCRIPT)?;
+    let records = desk.keep().notes().len();
+    let mut keep = desk.into_keep();
+    assert_eq!(rt; records, 0);
+    play(alloc, &mut keep, 1000, "root Read /a/f => bytes hi!")
+}
+
+// What a line asks, at the moment 1000.
+fn asked_in(alloc: Global, asked: &str) -> Result<Asked, Fail> {
+    let spoken = spoken_in(alloc, asked)?;
+    Ok(Asked {
+        user: spoken.caller,
+        at: 1000,
+        request: spoken.request,
+    })
+}
+
+fn push_asked(alloc: Global, all: &mut Vec<Asked>, line: &str) -> Result<(), Fail> {
+    let (asked, _) = line.split_once(" => ").ok_or("no arrow")?;
+    Ok(all.push(asked_in(alloc, asked)?)?)
+}
+
+// All that the lines of the script ask.
+fn all_asked(alloc: Global) -> Result<Vec<Asked>, Fail> {
     let mut all = Vec::new(alloc);
-    'lines: for line in script.lines() {
-        let (asked, _) = line.split_once(" => ").ok_or("no arrow")?;
-        let (user, request) = asked_in(alloc, asked)?;
-        let at = 1000;
-        all.push(Asked { user, at, request })?;
+    'lines: for line in SCRIPT.lines() {
+        push_asked(alloc, &mut all, line)?;
     }
     Ok(all)
 }
 
-// The replies are those that the lines of a script say.
-fn answered(alloc: Global, replies: &[Reply], script: &str) -> Result<(), Fail> {
-    let mut told = String::new(alloc);
-    'replies: for reply in replies {
-        let text = reply_text(alloc, reply)?;
-        told.push_str(text.as_str())?;
-        told.push_str("\n")?;
+// The replies, without what the contract says of them.
+fn performed<K: Keep>(alloc: Global, keep: &mut K) -> Result<Result<Vec<Reply>, KeepFault>, Fail> {
+    let all = all_asked(alloc)?;
+    Ok(perform_all(alloc, keep, all.as_slice()))
+}
+
+// The reply is the one that the line says.
+fn expect_reply(alloc: Global, reply: &Reply, line: &str) -> Result<(), Fail> {
+    let (asked, wanted) = line.split_once(" => ").ok_or("no arrow")?;
+    let told = reply_text(alloc, reply)?;
+    agree(asked, told.as_str(), wanted)
+}
+
+// The replies are those that the lines of the script say.
+fn expect_replies(alloc: Global, replies: &[Reply]) -> Result<(), Fail> {
+    if replies.len() != SCRIPT.lines().count() {
+        return Err(Fail::new("not a reply for each line"));
     }
-    let mut wanted = String::new(alloc);
-    'lines: for line in script.lines() {
-        let (_, text) = line.split_once(" => ").ok_or("no arrow")?;
-        wanted.push_str(text)?;
-        wanted.push_str("\n")?;
+    'lines: for (reply, line) in replies.iter().zip(SCRIPT.lines()) {
+        expect_reply(alloc, reply, line)?;
     }
-    agree(alloc, "all", told.as_str(), wanted.as_str())
+    Ok(())
 }
 
 #[test]
 fn requests_in_turn(rt: HostRuntime) -> Result<(), Fail> {
     let alloc = rt.alloc();
-    let all = all_asked(alloc, SCRIPT)?;
-    let mut keep = open_room(alloc)?;
-    let replies = perform_all(alloc, &mut keep, all.as_slice())?;
-    answered(alloc, replies.as_slice(), SCRIPT)
+    let mut keep = open_keep(alloc)?;
+    let replies = performed(alloc, &mut keep)??;
+    expect_replies(alloc, replies.as_slice())
 }
 
 // The first fault ends all, and is the answer.
 #[test]
 fn fault_ends_requests(rt: HostRuntime) -> Result<(), Fail> {
     let alloc = rt.alloc();
-    let all = all_asked(alloc, SCRIPT)?;
-    let mut failing = FailKeep::once(open_room(alloc)?, 6);
-    match perform_all(alloc, &mut failing, all.as_slice()) {
+    let plan = Plan {
+        passing: 6,
+        alone: true,
+    };
+    let mut keep = failing(open_keep(alloc)?, plan);
+    match performed(alloc, &mut keep)? {
         Err(KeepFault::Store) => Ok(()),
         _ => Err(Fail::new("no fault")),
     }

@@ -1,5 +1,5 @@
-//! Tests of the room machine at written examples. There is nothing here but tests: a crate with tests is
-//! proved twice, and so the crates below are proved once.
+//! Tests of the room machine at written examples. There is nothing here but tests: a crate with
+//! tests is proved twice, and so the crates below are proved once.
 #![tactic(auto)]
 
 #[cfg(test)]
@@ -15,16 +15,8 @@ mod records;
 #[cfg(test)]
 mod refusals;
 #[cfg(test)]
-mod rendering;
-#[cfg(test)]
-mod rooms;
-#[cfg(test)]
 mod rows;
 #[cfg(test)]
-mod scripts;
-#[cfg(test)]
 mod serving;
-#[cfg(test)]
-mod tally;
 #[cfg(test)]
 mod trees;

@@ -1,5 +1,5 @@
 //! Each refusal at its path, and what comes before it.
-use crate::rooms::plays;
+use room_player::plays;
 use std::test::Fail;
 
 // Folders `/a` and `/a/b`, and the document `/f`.
@@ -127,10 +127,12 @@ root SetList /f dacl list: / U:S:bob:r => refused at /f N8 entry 1 A9 type not o
 root SetList /f sacl list: / A::bob:r => refused at /f N8 entry 1 A9 type not of this attribute
 root SetList /a dacl list: / A::bob:r / A:S:bob:r => refused at /a N8 entry 2 A10 S or F on A or D
 root SetList /a dacl list: / A::bob:r / A:iI:bob:r => refused at /a N8 entry 2 A11 i without f or d
-root SetList /f dacl list: / A:f:bob:r / U::bob:r => refused at /f N8 entry 1 A12 inheritance flag on a document
+root SetList /f dacl list: / A:f:bob:r / U::bob:r => \
+    refused at /f N8 entry 1 A12 inheritance flag on a document
 alice SetList /f dacl list: / U:S:bob:r => denied at /f bits C no-place no-entry
 operator Reset / dacl list: / A:i:bob:r => refused at / N8 entry 1 A11 i without f or d
-operator Reset /f sacl list: / U:n:bob:r => refused at /f N8 entry 1 A12 inheritance flag on a document
+operator Reset /f sacl list: / U:n:bob:r => \
+    refused at /f N8 entry 1 A12 inheritance flag on a document
 root ReadList /f dacl => list:a / A:I:root:ALL
 operator Verify / => sound
 ";

@@ -1,5 +1,5 @@
 //! The desk's first examples, whose rows follow each other on one room, and what shows of it.
-use crate::rooms::plays;
+use room_player::plays;
 use std::test::Fail;
 
 const FOLDER_DENIED: &str = "\

@@ -1,5 +1,5 @@
 //! Each request served once, and paths of the greatest length.
-use crate::rooms::plays;
+use room_player::{plays, push};
 use std::alloc::Global;
 use std::test::Fail;
 
@@ -31,48 +31,50 @@ fn each_request_served(rt: HostRuntime) -> Result<(), Fail> {
     plays(rt.alloc(), &[ALL_SERVED])
 }
 
-// The path of so many names of 255 bytes each.
-fn deep_path(alloc: Global, depth: usize) -> Result<String, Fail> {
-    let mut path = String::new(alloc);
+// Adds the path of so many names of 255 bytes each.
+fn push_deep(script: &mut String, depth: usize) -> Result<(), Fail> {
     for _ in 0..depth {
-        path.push_str("/")?;
+        push(script, "/")?;
         for _ in 0..51 {
-            path.push_str("names")?;
+            push(script, "names")?;
         }
     }
-    Ok(path)
+    Ok(())
+}
+
+// Adds a line with such a path in it.
+fn push_line(script: &mut String, front: &str, depth: usize, end: &str) -> Result<(), Fail> {
+    push(script, front)?;
+    push_deep(script, depth)?;
+    push(script, end)
 }
 
 // Folders of such names, one in the other, and a document at a path of 4,096 bytes.
-fn deep_script(alloc: Global) -> Result<String, Fail> {
-    let mut script = String::new(alloc);
+fn push_objects(script: &mut String) -> Result<(), Fail> {
     for depth in 1..16 {
-        let path = deep_path(alloc, depth)?;
-        script.push_str(format!(in alloc;
-            "root MakeFolder {} => made\n",
-            path.as_str()
-        )?.as_str())?;
+        push_line(script, "root MakeFolder ", depth, " => made\n")?;
     }
-    let path = deep_path(alloc, 16)?;
-    script.push_str(format!(in alloc; "root Put {} hi => made\n", path.as_str())?.as_str())?;
-    Ok(script)
+    push_line(script, "root Put ", 16, " hi => made\n")
 }
 
 // The uppermost folder moves down, so that the document's path is too long, and back again.
-fn deep_moves(alloc: Global) -> Result<String, Fail> {
-    let top = deep_path(alloc, 1)?;
-    let all = deep_path(alloc, 16)?;
-    let top = top.as_str();
-    Ok(format!(in alloc;
-        "root MakeFolder /a => made\nroot Move {top} /a/b => done\noperator Verify / => sound\nroot Move /a/b {top} => done\nroot Read {} => bytes hi\n",
-        all.as_str()
-    )?)
+fn push_moves(script: &mut String) -> Result<(), Fail> {
+    push(script, "root MakeFolder /a => made\n")?;
+    push_line(script, "root Move ", 1, " /a/b => done\n")?;
+    push(script, "operator Verify / => sound\n")?;
+    push_line(script, "root Move /a/b ", 1, " => done\n")?;
+    push_line(script, "root Read ", 16, " => bytes hi\n")
+}
+
+fn deep_script(alloc: Global) -> Result<String, Fail> {
+    let mut script = String::new(alloc);
+    push_objects(&mut script)?;
+    push_moves(&mut script)?;
+    Ok(script)
 }
 
 #[test]
 fn paths_at_the_limit(rt: HostRuntime) -> Result<(), Fail> {
-    let alloc = rt.alloc();
-    let made = deep_script(alloc)?;
-    let moved = deep_moves(alloc)?;
-    plays(alloc, &[made.as_str(), moved.as_str()])
+    let script = deep_script(rt.alloc())?;
+    plays(rt.alloc(), &[script.as_str()])
 }

@@ -1,5 +1,5 @@
 //! The tree examples: deletion, lists that pass down, and moves.
-use crate::rooms::plays;
+use room_player::plays;
 use std::test::Fail;
 
 pub(crate) const BY_PARENT_RIGHT: &str = "\
@@ -88,7 +88,7 @@ fn protect_and_rejoin(rt: HostRuntime) -> Result<(), Fail> {
 }
 
 const EMPTIED: &str = "\
-operator Empty /a/b/c dacl => emptied
+operator Empty /a/b/c dacl => done
 operator Verify / => /a/b/c V3 broken-law
 root ReadList /a/b/c dacl => denied at /a/b/c bits c no-place no-entry
 operator Stored /a/b/c dacl => list:a

@@ -5,11 +5,11 @@ use Rattle.std.specs.List.{list_all}
 use Rattle.std.specs.Option.{option_map_or}
 use Rattle.std.proofs.lemmas.Bool.{false≢true}
 use Rattle.std.proofs.lemmas.List.Elements.{filter-append}
-use Rattle.room_tree.specs.declared.node.Node.{Node}
-use Rattle.room_tree.specs.Content.{Content, node_at, parent_of, put_node, has_folder_above, is_folder, reaches_root}
-use Rattle.room_tree.specs.Finding.{find_id}
-use Rattle.room_tree.specs.Rows.{Rows, AreRows}
-use Rattle.room_tree.proofs.Lookups.{find-put_same, find-put_other, not_none}
+use Rattle.room_rows.specs.declared.node.Node.{Node}
+use Rattle.room_rows.specs.Content.{Content, node_at, parent_of, put_node, has_folder_above, is_folder, reaches_root}
+use Rattle.room_rows.specs.Finding.{find_id}
+use Rattle.room_rows.specs.Rows.{Rows, AreRows}
+use Rattle.room_rows.proofs.Lookups.{find-put_same, find-put_other, not_none}
 use Rattle.room_inherit.proofs.Members.{Each, each_append, each_front, each_back, all_each}
 use Rattle.room_inherit.proofs.Children.{each_there, apart_rising}
 

@@ -4,26 +4,26 @@ use Rattle.std.specs.Prelude.{unwrap_or, nat_lt, nat_le}
 use Rattle.std.proofs.lemmas.Bool.{ltb-false, le-leb}
 use Rattle.std.proofs.lemmas.List.{append-nil}
 use Rattle.room_ace.specs.Rights.{append_data}
-use Rattle.room_tree.specs.declared.node.Node.{Node}
-use Rattle.room_tree.specs.Content.{node_at, body_of, with_body}
-use Rattle.room_tree.specs.Keep.{IsUnreadable, SetsBody, reading}
-use Rattle.room_tree.specs.Meaning.{meaning}
-use Rattle.room_tree.specs.Rows.{Rows, AreRows}
+use Rattle.room_rows.specs.declared.node.Node.{Node}
+use Rattle.room_rows.specs.Content.{node_at, body_of, with_body}
+use Rattle.room_rows.specs.Keep.{IsDamaged, SetsBody, reading}
+use Rattle.room_rows.specs.Meaning.{meaning}
+use Rattle.room_rows.specs.Rows.{Rows, AreRows}
 use Rattle.room_inherit.specs.Sound.{AreSound}
-use Rattle.room_desk.specs.declared.arrival.Arrival.TheVariants.{At, Ended}
-use Rattle.room_desk.specs.declared.asker.Asker.{Asker}
-use Rattle.room_desk.specs.declared.reply.Reply.{Reply}
-use Rattle.room_desk.specs.declared.reply.Reply.TheVariants.{Done, Refused}
-use Rattle.room_desk.specs.declared.reply.Reason.TheVariants.{TooLarge}
-use Rattle.room_desk.specs.declared.request.Request.TheVariants.{Append}
-use Rattle.room_desk.specs.Site.{Site, site_at}
-use Rattle.room_desk.specs.Plan.{Item, plan_of, not_over, way, where_found}
-use Rattle.room_desk.specs.Effect.{with_site}
-use Rattle.room_desk.specs.Stored.{stored_site, stored_along, to_stored}
-use Rattle.room_desk.specs.Judged.{IsJudged, IsReached, CarriesOut, NotSound}
+use Rattle.room_judge.specs.declared.arrival.Arrival.TheVariants.{At, Ended}
+use Rattle.room_judge.specs.declared.asker.Asker.{Asker}
+use Rattle.room_machine.specs.declared.reply.Reply.{Reply}
+use Rattle.room_machine.specs.declared.reply.Reply.TheVariants.{Done, Refused}
+use Rattle.room_machine.specs.declared.reply.Reason.TheVariants.{TooLarge}
+use Rattle.room_machine.specs.declared.request.Request.TheVariants.{Append}
+use Rattle.room_machine.specs.Site.{Site, site_at}
+use Rattle.room_machine.specs.Plan.{Item, plan_of, not_over, way, where_found}
+use Rattle.room_machine.specs.Effect.{with_site}
+use Rattle.room_judge.specs.Stored.{stored_site, stored_along, to_stored}
+use Rattle.room_judge.specs.Judged.{IsJudged, IsReached, CarriesOut}
 use Rattle.room_desk.specs.Written.{HasNoBytes, IsAppended, IsPut, TakesBytes}
-use Rattle.room_desk.proofs.Judging.{fails_first, passes_first, refuses, passes_on, judged_none}
-use Rattle.room_desk.proofs.SoundParts.{sound_parts, sound_noted, readable_unsound}
+use Rattle.room_judge.proofs.Judging.{fails_first, passes_first, refuses, passes_on, judged_none}
+use Rattle.room_desk.proofs.SoundParts.{sound_parts, sound_noted}
 use Rattle.room_desk.proofs.SoundBytes.{sound_bytes}
 use Rattle.room_desk.proofs.Filled.{plan_judged, target_there}
 use Rattle.room_desk.proofs.Stepping.{refused_step, changed_step}
@@ -112,6 +112,5 @@ module _ (asker : Asker) (path : List (List ℕ)) (bytes : List ℕ) where
     append_done new reply appended =
         on_size appended.before (nat_lt 1048576 (length (appended.before ++ bytes))) new reply (sym (ap (λ (r : Rows). body_of r.read node.id) reached.judged.notes) ∙ appended.were) refl appended.put.replies appended.put.becomes
 
-    pub append_blames : (at : ℕ) → HasNoBytes node.id mid at → NotSound old at
-    append_blames at (inl unreadable) = readable_unsound old at (subst (λ (r : Rows). IsUnreadable r at) reached.judged.notes unreadable)
-    append_blames at (inr none) = no_bytes asker path (append_data ∷ []) old mid node at are reached (sym (sym (ap (λ (r : Rows). body_of r.read node.id) reached.judged.notes) ∙ none))
+    pub append_blames : (at : ℕ) → HasNoBytes node.id mid at → IsDamaged old at
+    append_blames at h = no_bytes asker path (append_data ∷ []) old mid node at are reached h

@@ -1,16 +1,16 @@
 -- What carrying down answers, as a call of a request.
-use Rattle.std.proofs.Common.{◌≡◌, ℕ, Ok, Err, sym, subst, inl, inr}
+use Rattle.std.proofs.Common.{◌≡◌, ℕ, Ok, Err, refl, sym, subst, inl, inr}
 use Rattle.room_ace.specs.declared.object.Which.{Which}
-use Rattle.room_tree.specs.declared.keep.KeepFault.{KeepFault}
-use Rattle.room_tree.specs.Keep.{IsUnreadable}
-use Rattle.room_tree.specs.Rows.{Rows}
+use Rattle.room_rows.specs.declared.keep.KeepFault.{KeepFault}
+use Rattle.room_rows.specs.Keep.{IsUnreadable}
+use Rattle.room_rows.specs.Rows.{Rows}
 use Rattle.room_inherit.specs.Spread.{IsCarried, IsOwnAncestor, IsSpread}
 use Rattle.room_inherit.specs.declared.outcome.Spread.{Spread}
 use Rattle.room_inherit.specs.declared.outcome.SpreadFault.{SpreadFault}
 use Rattle.room_inherit.specs.declared.outcome.SpreadFault.TheVariants.{Keeper, Loop}
 use Rattle.room_desk.specs.Carrying.{HasLoop, IsCarriedDown, keeper_fault}
-use Rattle.room_desk.specs.Judged.{IsDone}
-use Rattle.room_desk.proofs.Calls.{as_well}
+use Rattle.room_judge.specs.Judged.{IsDone}
+use Rattle.room_judge.proofs.Calls.{as_well}
 
 module _ {S : Type 0} {rows : S → Rows} {failures writes : S → ℕ} {Follows IsTrusted : S → S → Type 0} {a b : S} (which : Which) (id : ℕ) where
   pub carried_ok : (spread : Spread) → IsCarried rows failures writes Follows IsTrusted {X = Spread} (λ spread. spread.changed) a b (Ok spread) (λ r. IsOwnAncestor r.read id) (λ old spread new. IsSpread which id old new spread.changed)
@@ -24,5 +24,5 @@ module _ {S : Type 0} {rows : S → Rows} {failures writes : S → ℕ} {Follows
       let known : IsDone rows failures Follows IsTrusted {X = Unit {0}} a b (Err f) (HasLoop id) (IsCarriedDown which id) = as_well unread (λ old at h. inl h) (λ old x new h. h) in
       subst (λ (k : KeepFault). IsDone rows failures Follows IsTrusted {X = Unit {0}} a b (Err k) (HasLoop id) (IsCarriedDown which id)) (sym is) known
   carried_err Loop e is carried =
-      let known : IsDone rows failures Follows IsTrusted {X = Unit {0}} a b (Err (keeper_fault id Loop)) (HasLoop id) (IsCarriedDown which id) = record { follows = carried.follows; becomes = λ t. tt; fault = λ t. inr (carried.fault t) } in
+      let known : IsDone rows failures Follows IsTrusted {X = Unit {0}} a b (Err (keeper_fault id Loop)) (HasLoop id) (IsCarriedDown which id) = record { follows = carried.follows; becomes = λ t. tt; fault = λ t. inr (refl, carried.fault t) } in
       subst (λ (k : KeepFault). IsDone rows failures Follows IsTrusted {X = Unit {0}} a b (Err k) (HasLoop id) (IsCarriedDown which id)) (sym is) known

@@ -3,9 +3,9 @@ use Rattle.std.proofs.Common.{◌≡◌, ℕ, zero, suc, ◌==◌, Bool, true, f
 use Rattle.std.specs.List.{find}
 use Rattle.std.specs.Option.{option_map, option_map_or}
 use Rattle.std.proofs.lemmas.Bool.{cases_Bool, and_parts, false≢true}
-use Rattle.room_tree.specs.declared.node.Node.{Node}
-use Rattle.room_tree.specs.Content.{Content, node_at, reaches_root, with_each}
-use Rattle.room_tree.proofs.Frames.{node_at-number}
+use Rattle.room_rows.specs.declared.node.Node.{Node}
+use Rattle.room_rows.specs.Content.{Content, node_at, reaches_root, with_each}
+use Rattle.room_rows.proofs.Frames.{node_at-number}
 use Rattle.room_desk.specs.Moving.{goes_past}
 
 pub same_some : {X : Type 0} (x y : X) → Some x ≡ Some y → x ≡ y

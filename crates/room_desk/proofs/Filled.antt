@@ -5,17 +5,17 @@ use Rattle.std.specs.Option.{option_map}
 use Rattle.std.proofs.lemmas.List.{map-append}
 use Rattle.room_ace.specs.Rights.{execute}
 use Rattle.room_ace.specs.declared.parties.Caller.{Caller}
-use Rattle.room_tree.specs.Content.{Content, is_empty, is_folder}
-use Rattle.room_tree.specs.Meaning.{kept_node, meaning}
-use Rattle.room_tree.specs.Rows.{Rows, AreRows}
-use Rattle.room_desk.specs.declared.asker.Asker.{Asker}
-use Rattle.room_desk.specs.declared.reply.Reply.{Reply}
-use Rattle.room_desk.specs.declared.reply.Reason.TheVariants.{NotFolder, NoSuch}
-use Rattle.room_desk.specs.Site.{Site, sites_along, site_at}
-use Rattle.room_desk.specs.Plan.{Item, Check, Deletion, Refusal, way, where_found, to_target}
-use Rattle.room_desk.specs.Judge.{failure, passes, or_else, first_failure, checks_of, records_of_checks, records_of_plan}
-use Rattle.room_desk.specs.Stored.{stored_along, to_stored}
-use Rattle.room_desk.specs.Judged.{IsJudged, noted}
+use Rattle.room_rows.specs.Content.{Content, is_empty, is_folder}
+use Rattle.room_rows.specs.Meaning.{kept_node, meaning}
+use Rattle.room_rows.specs.Rows.{Rows, AreRows}
+use Rattle.room_judge.specs.declared.asker.Asker.{Asker}
+use Rattle.room_machine.specs.declared.reply.Reply.{Reply}
+use Rattle.room_machine.specs.declared.reply.Reason.TheVariants.{NotFolder, NoSuch}
+use Rattle.room_machine.specs.Site.{Site, sites_along, site_at}
+use Rattle.room_machine.specs.Plan.{Item, Check, Deletion, Refusal, way, where_found, to_target}
+use Rattle.room_machine.specs.Judge.{failure, passes, or_else, first_failure, checks_of, records_of_checks, records_of_plan}
+use Rattle.room_judge.specs.Stored.{stored_along, to_stored}
+use Rattle.room_judge.specs.Judged.{IsJudged, noted}
 use Rattle.room_desk.proofs.SoundParts.{SoundParts}
 use Rattle.room_desk.proofs.Sites.{fill, sites_filled}
 use Rattle.room_desk.proofs.Targets.{target_kept}

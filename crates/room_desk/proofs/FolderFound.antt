@@ -2,24 +2,24 @@
 use Rattle.std.proofs.Common.{◌≡◌, ℕ, ◌<◌, Bool, true, false, cond, not, List, [], ◌∷◌, ◌++◌, length, Option, Some, None, refl, ap, ◌∙◌}
 use Rattle.std.specs.Prelude.{is_none}
 use Rattle.room_ace.specs.Rights.{execute}
-use Rattle.room_tree.specs.declared.node.Node.{Node}
-use Rattle.room_tree.specs.Content.{node_at, child_of, is_folder}
-use Rattle.room_tree.specs.Rows.{Rows, AreRows}
-use Rattle.room_desk.specs.declared.arrival.Found.{Found}
-use Rattle.room_desk.specs.declared.arrival.Spot.TheVariants.{Under}
-use Rattle.room_desk.specs.declared.asker.Asker.{Asker}
-use Rattle.room_desk.specs.declared.reply.Reply.TheVariants.{Refused}
-use Rattle.room_desk.specs.declared.reply.Reason.TheVariants.{NotFolder}
-use Rattle.room_desk.specs.Site.{Site, front, last_name}
-use Rattle.room_desk.specs.Plan.{Item, Check, Refusal, way, where_found}
-use Rattle.room_desk.specs.Judge.{failure, first_failure}
-use Rattle.room_desk.specs.Stored.{stored_along, found_site}
-use Rattle.room_desk.specs.Judged.{through}
-use Rattle.room_desk.specs.Spot.{IsSpotted}
-use Rattle.room_desk.proofs.Judging.{failure_of_parts}
+use Rattle.room_rows.specs.declared.node.Node.{Node}
+use Rattle.room_rows.specs.Content.{node_at, child_of, is_folder}
+use Rattle.room_rows.specs.Rows.{Rows, AreRows}
+use Rattle.room_judge.specs.declared.arrival.Found.{Found}
+use Rattle.room_judge.specs.declared.arrival.Spot.TheVariants.{Under}
+use Rattle.room_judge.specs.declared.asker.Asker.{Asker}
+use Rattle.room_machine.specs.declared.reply.Reply.TheVariants.{Refused}
+use Rattle.room_machine.specs.declared.reply.Reason.TheVariants.{NotFolder}
+use Rattle.room_machine.specs.Site.{Site, front, last_name}
+use Rattle.room_machine.specs.Plan.{Item, Check, Refusal, way, where_found}
+use Rattle.room_machine.specs.Judge.{failure, first_failure}
+use Rattle.room_judge.specs.Stored.{stored_along, found_site}
+use Rattle.room_judge.specs.Judged.{through}
+use Rattle.room_judge.specs.Spot.{IsSpotted}
+use Rattle.room_judge.proofs.Judging.{failure_of_parts}
 use Rattle.room_desk.proofs.Serving.{none_both, along_there}
-use Rattle.room_desk.proofs.Spots.{folder_along}
-use Rattle.room_desk.proofs.Spotting.{stem_of, folder_is, lacks}
+use Rattle.room_judge.proofs.Spots.{folder_along}
+use Rattle.room_judge.proofs.Folders.{stem_of, folder_is, lacks}
 
 pub record IsFoundFolder (old : Rows) (path : List (List ℕ)) (folder : Node) (child : Option Node) : Type 0 where
   pub there : node_at old.read folder.id ≡ Some folder

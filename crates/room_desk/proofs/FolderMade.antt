@@ -5,27 +5,27 @@ use Rattle.std.specs.Option.{option_map}
 use Rattle.std.proofs.lemmas.Bool.{false≢true}
 use Rattle.room_ace.specs.Rights.{append_data}
 use Rattle.room_ace.specs.declared.object.ObjKind.TheVariants.{Folder}
-use Rattle.room_tree.specs.declared.node.Node.{Node}
-use Rattle.room_tree.specs.Content.{child_of, with_node}
-use Rattle.room_tree.specs.Meaning.{meaning}
-use Rattle.room_tree.specs.Rows.{Rows, AreRows}
+use Rattle.room_rows.specs.declared.node.Node.{Node}
+use Rattle.room_rows.specs.Content.{child_of, with_node}
+use Rattle.room_rows.specs.Meaning.{meaning}
+use Rattle.room_rows.specs.Rows.{Rows, AreRows}
 use Rattle.room_inherit.specs.Sound.{AreSound}
-use Rattle.room_desk.specs.declared.arrival.Found.{Found}
-use Rattle.room_desk.specs.declared.arrival.Spot.TheVariants.{Under, Barred}
-use Rattle.room_desk.specs.declared.asker.Asker.{Asker}
-use Rattle.room_desk.specs.declared.reply.Reply.{Reply}
-use Rattle.room_desk.specs.declared.reply.Reply.TheVariants.{Made, Refused}
-use Rattle.room_desk.specs.declared.reply.Reason.TheVariants.{Exists}
-use Rattle.room_desk.specs.declared.request.Request.TheVariants.{MakeFolder}
-use Rattle.room_desk.specs.Site.{Site, last_name, parent_at, site_at}
-use Rattle.room_desk.specs.Plan.{Check, Refusal, plan_of, way, where_found}
-use Rattle.room_desk.specs.Effect.{new_node, with_site}
-use Rattle.room_desk.specs.Judge.{failure, first_failure, records_of_plan}
-use Rattle.room_desk.specs.Stored.{stored_site, stored_along, found_site}
-use Rattle.room_desk.specs.Judged.{IsJudged, CarriesOut}
+use Rattle.room_judge.specs.declared.arrival.Found.{Found}
+use Rattle.room_judge.specs.declared.arrival.Spot.TheVariants.{Under, Barred}
+use Rattle.room_judge.specs.declared.asker.Asker.{Asker}
+use Rattle.room_machine.specs.declared.reply.Reply.{Reply}
+use Rattle.room_machine.specs.declared.reply.Reply.TheVariants.{Made, Refused}
+use Rattle.room_machine.specs.declared.reply.Reason.TheVariants.{Exists}
+use Rattle.room_machine.specs.declared.request.Request.TheVariants.{MakeFolder}
+use Rattle.room_machine.specs.Site.{Site, last_name, parent_at, site_at}
+use Rattle.room_machine.specs.Plan.{Check, Refusal, plan_of, way, where_found}
+use Rattle.room_machine.specs.Effect.{new_node, with_site}
+use Rattle.room_machine.specs.Judge.{failure, first_failure, records_of_plan}
+use Rattle.room_judge.specs.Stored.{stored_site, stored_along, found_site}
+use Rattle.room_judge.specs.Judged.{IsJudged, CarriesOut}
 use Rattle.room_desk.specs.Made.{Ends, IsMade, IsNameOf, IsServed, new_child}
-use Rattle.room_desk.specs.Spot.{IsSpotted}
-use Rattle.room_desk.proofs.Judging.{fails_first, passes_first, refuses}
+use Rattle.room_judge.specs.Spot.{IsSpotted}
+use Rattle.room_judge.proofs.Judging.{fails_first, passes_first, refuses}
 use Rattle.room_desk.proofs.Serving.{none_both}
 use Rattle.room_desk.proofs.SoundParts.{sound_parts}
 use Rattle.room_desk.proofs.FolderFound.{found_folder}

@@ -4,16 +4,16 @@ use Rattle.std.specs.Prelude.{is_some}
 use Rattle.std.specs.Option.{option_map}
 use Rattle.std.proofs.lemmas.List.{map-append}
 use Rattle.room_ace.specs.Rights.{append_data}
-use Rattle.room_tree.specs.Meaning.{meaning}
-use Rattle.room_tree.specs.Rows.{Rows, AreRows}
-use Rattle.room_desk.specs.declared.asker.Asker.{Asker}
-use Rattle.room_desk.specs.declared.reply.Reply.{Reply}
-use Rattle.room_desk.specs.declared.reply.Reason.TheVariants.{Exists}
-use Rattle.room_desk.specs.declared.request.Request.TheVariants.{Put, MakeFolder}
-use Rattle.room_desk.specs.Site.{Site, sites_along, site_at, parent_at, front}
-use Rattle.room_desk.specs.Plan.{Item, Check, Refusal, plan_of, put_items, way, where_found}
-use Rattle.room_desk.specs.Stored.{stored_along}
-use Rattle.room_desk.specs.Judged.{IsJudged}
+use Rattle.room_rows.specs.Meaning.{meaning}
+use Rattle.room_rows.specs.Rows.{Rows, AreRows}
+use Rattle.room_judge.specs.declared.asker.Asker.{Asker}
+use Rattle.room_machine.specs.declared.reply.Reply.{Reply}
+use Rattle.room_machine.specs.declared.reply.Reason.TheVariants.{Exists}
+use Rattle.room_machine.specs.declared.request.Request.TheVariants.{Put, MakeFolder}
+use Rattle.room_machine.specs.Site.{Site, sites_along, site_at, parent_at, front}
+use Rattle.room_machine.specs.Plan.{Item, Check, Refusal, plan_of, put_items, way, where_found}
+use Rattle.room_judge.specs.Stored.{stored_along}
+use Rattle.room_judge.specs.Judged.{IsJudged}
 use Rattle.room_desk.proofs.SoundParts.{SoundParts}
 use Rattle.room_desk.proofs.Sites.{fill, sites_filled}
 use Rattle.room_desk.proofs.Filled.{fill_item, judged_filled, site_filled, way_filled}

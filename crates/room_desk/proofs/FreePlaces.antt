@@ -1,21 +1,21 @@
 -- What is judged of a new name in a folder.
 use Rattle.std.proofs.Common.{◌≡◌, ℕ, ◌+◌, Bool, true, false, List, [], ◌∷◌, ◌++◌, take, length, Option, Some, None, refl, sym, ap, subst, ◌∙◌}
-use Rattle.std.specs.Prelude.{is_none, is_some}
+use Rattle.std.specs.Prelude.{is_some}
 use Rattle.std.proofs.Math.Seq.{take-length}
-use Rattle.room_tree.specs.declared.node.Node.{Node}
-use Rattle.room_tree.specs.Content.{child_of}
-use Rattle.room_tree.specs.Rows.{Rows}
-use Rattle.room_desk.specs.declared.asker.Asker.{Asker}
-use Rattle.room_desk.specs.declared.reply.Reply.{Reply}
-use Rattle.room_desk.specs.declared.reply.Reply.TheVariants.{Refused}
-use Rattle.room_desk.specs.declared.reply.Reason.{Reason}
-use Rattle.room_desk.specs.declared.reply.Reason.TheVariants.{Exists, Loop}
-use Rattle.room_desk.specs.Site.{front, last_name}
-use Rattle.room_desk.specs.Plan.{Item, Refusal}
-use Rattle.room_desk.specs.Judged.{IsJudged, name_after}
-use Rattle.room_desk.specs.Moving.{JudgesAll, begins, free_place}
-use Rattle.room_desk.proofs.Judging.{judged_none, passes_first, passes_on, refuses}
-use Rattle.room_desk.proofs.Spots.{name_is_last, take_front}
+use Rattle.room_rows.specs.declared.node.Node.{Node}
+use Rattle.room_rows.specs.Content.{child_of}
+use Rattle.room_rows.specs.Rows.{Rows}
+use Rattle.room_judge.specs.declared.asker.Asker.{Asker}
+use Rattle.room_machine.specs.declared.reply.Reply.{Reply}
+use Rattle.room_machine.specs.declared.reply.Reply.TheVariants.{Refused}
+use Rattle.room_machine.specs.declared.reply.Reason.{Reason}
+use Rattle.room_machine.specs.declared.reply.Reason.TheVariants.{Exists, Loop}
+use Rattle.room_machine.specs.Site.{front, last_name}
+use Rattle.room_machine.specs.Plan.{Item, Refusal}
+use Rattle.room_judge.specs.Judged.{IsJudged, name_after}
+use Rattle.room_desk.specs.Moving.{IsTaken, JudgesAll, begins, free_place}
+use Rattle.room_judge.proofs.Judging.{judged_none, passes_first, passes_on, refuses}
+use Rattle.room_judge.proofs.Spots.{name_is_last, take_front}
 
 -- ---- as the calls give it
 
@@ -26,37 +26,29 @@ module _ (to : List (List ℕ)) (is_below : Bool) (folder : Node) where
   whole : (why : Reason) (reply : Reply) (names : List (List ℕ)) → names ≡ to → reply ≡ Refused (take (length names) to) why → reply ≡ Refused to why
   whole why reply names are replies = replies ∙ ap (λ (l : List (List ℕ)). Refused (take (length l) to) why) are ∙ ap (λ (p : List (List ℕ)). Refused p why) (take-length to)
 
-  child_is : (depth : ℕ) (name : List ℕ) (old : Rows) (o : Option Node) → length to ≡ depth + 1 → name ≡ name_after to depth → o ≡ child_of old.read folder.id name → is_some (child_of old.read folder.id (last_name to)) ≡ is_some o
-  child_is depth name old o deep named is = sym (ap is_some (is ∙ ap (child_of old.read folder.id) (named ∙ name_is_last to depth deep)))
+  taken_is : (depth : ℕ) (name : List ℕ) (old : Rows) (taken : Bool) → length to ≡ depth + 1 → name ≡ name_after to depth → IsTaken folder.id name old taken → is_some (child_of old.read folder.id (last_name to)) ≡ taken
+  taken_is depth name old taken deep named is = sym (is ∙ ap (λ (n : List ℕ). is_some (child_of old.read folder.id n)) (named ∙ name_is_last to depth deep))
 
-  pub exists_refused : (old new : Rows) (reply : Reply) (child : Option Node) (names : List (List ℕ)) (depth : ℕ) (name : List ℕ) → length to ≡ depth + 1 → name ≡ name_after to depth → child ≡ child_of old.read folder.id name
-      → false ≡ is_none child → names ≡ to → reply ≡ Refused (take (length names) to) Exists → new ≡ old → JudgesAll items old (Some reply) new
-  exists_refused old new reply child names depth name deep named is taken are replies same asker =
-      refuses asker to Exists (is_some (child_of old.read folder.id (last_name to))) (Refusal to Loop is_below ∷ []) old new reply (whole Exists reply names are replies) (child_is depth name old child deep named is ∙ not_none child taken) same
-    where
-      not_none : (o : Option Node) → false ≡ is_none o → is_some o ≡ true
-      not_none None taken = taken
-      not_none (Some x) taken = refl
+  pub exists_refused : (old new : Rows) (reply : Reply) (taken : Bool) (names : List (List ℕ)) (depth : ℕ) (name : List ℕ) → length to ≡ depth + 1 → name ≡ name_after to depth → IsTaken folder.id name old taken
+      → taken ≡ true → names ≡ to → reply ≡ Refused (take (length names) to) Exists → new ≡ old → JudgesAll items old (Some reply) new
+  exists_refused old new reply taken names depth name deep named is holds are replies same asker =
+      refuses asker to Exists (is_some (child_of old.read folder.id (last_name to))) (Refusal to Loop is_below ∷ []) old new reply (whole Exists reply names are replies) (taken_is depth name old taken deep named is ∙ holds) same
 
   -- nothing has the name
-  free : (old new : Rows) (answer : Option Reply) (child : Option Node) (depth : ℕ) (name : List ℕ) → length to ≡ depth + 1 → name ≡ name_after to depth → child ≡ child_of old.read folder.id name → true ≡ is_none child
+  free : (old new : Rows) (answer : Option Reply) (taken : Bool) (depth : ℕ) (name : List ℕ) → length to ≡ depth + 1 → name ≡ name_after to depth → IsTaken folder.id name old taken → taken ≡ false
       → ((asker : Asker) → IsJudged asker (Refusal to Loop is_below ∷ []) old answer new) → JudgesAll items old answer new
-  free old new answer child depth name deep named is absent judged asker =
-      passes_on asker to Exists (is_some (child_of old.read folder.id (last_name to))) (Refusal to Loop is_below ∷ []) old new answer (child_is depth name old child deep named is ∙ none child absent) (judged asker)
-    where
-      none : (o : Option Node) → true ≡ is_none o → is_some o ≡ false
-      none None absent = refl
-      none (Some x) absent = absent
+  free old new answer taken depth name deep named is absent judged asker =
+      passes_on asker to Exists (is_some (child_of old.read folder.id (last_name to))) (Refusal to Loop is_below ∷ []) old new answer (taken_is depth name old taken deep named is ∙ absent) (judged asker)
 
-  pub loop_refused : (old new : Rows) (reply : Reply) (child : Option Node) (names : List (List ℕ)) (depth : ℕ) (name : List ℕ) → length to ≡ depth + 1 → name ≡ name_after to depth → child ≡ child_of old.read folder.id name → true ≡ is_none child
+  pub loop_refused : (old new : Rows) (reply : Reply) (taken : Bool) (names : List (List ℕ)) (depth : ℕ) (name : List ℕ) → length to ≡ depth + 1 → name ≡ name_after to depth → IsTaken folder.id name old taken → taken ≡ false
       → is_below ≡ true → names ≡ to → reply ≡ Refused (take (length names) to) Loop → new ≡ old → JudgesAll items old (Some reply) new
-  loop_refused old new reply child names depth name deep named is absent below are replies same =
-      free old new (Some reply) child depth name deep named is absent (λ asker. refuses asker to Loop is_below [] old new reply (whole Loop reply names are replies) below same)
+  loop_refused old new reply taken names depth name deep named is absent below are replies same =
+      free old new (Some reply) taken depth name deep named is absent (λ asker. refuses asker to Loop is_below [] old new reply (whole Loop reply names are replies) below same)
 
-  pub all_free : (old new : Rows) (child : Option Node) (depth : ℕ) (name : List ℕ) → length to ≡ depth + 1 → name ≡ name_after to depth → child ≡ child_of old.read folder.id name → true ≡ is_none child
+  pub all_free : (old new : Rows) (taken : Bool) (depth : ℕ) (name : List ℕ) → length to ≡ depth + 1 → name ≡ name_after to depth → IsTaken folder.id name old taken → taken ≡ false
       → is_below ≡ false → new ≡ old → JudgesAll items old None new
-  all_free old new child depth name deep named is absent apart same =
-      free old new None child depth name deep named is absent (λ asker. passes_on asker to Loop is_below [] old new None apart (judged_none asker old new same))
+  all_free old new taken depth name deep named is absent apart same =
+      free old new None taken depth name deep named is absent (λ asker. passes_on asker to Loop is_below [] old new None apart (judged_none asker old new same))
 
   -- behind items that passed
   pub free_after : (asker : Asker) (first : List Item) (old mid new : Rows) (answer : Option Reply) → IsJudged asker first old None mid → JudgesAll items mid answer new → IsJudged asker (first ++ items old) old answer new

@@ -5,29 +5,30 @@ use Rattle.std.proofs.lemmas.Bool.{eqb-true}
 use Rattle.std.specs.Option.{option_map, option_map_or}
 use Rattle.std.proofs.lemmas.List.{map-append}
 use Rattle.room_ace.specs.declared.parties.Caller.{Caller}
-use Rattle.room_tree.specs.declared.node.Node.{Node}
-use Rattle.room_tree.specs.Content.{Content, children_of, is_empty, node_at, with_records, without_node}
-use Rattle.room_tree.specs.Keep.{CanRemove, IsUnreadable, Removes, reading}
-use Rattle.room_tree.specs.Meaning.{kept_node, meaning}
-use Rattle.room_tree.specs.Rows.{Rows, AreRows}
-use Rattle.room_tree.proofs.Frames.{children_of-with_each, keeps_places}
+use Rattle.room_rows.specs.declared.node.Node.{Node}
+use Rattle.room_rows.specs.Content.{Content, children_of, is_empty, node_at, with_records, without_node}
+use Rattle.room_rows.specs.Keep.{CanRemove, IsUnreadable, Removes, reading}
+use Rattle.room_rows.specs.Meaning.{kept_node, meaning}
+use Rattle.room_rows.specs.Rows.{Rows, AreRows}
+use Rattle.room_rows.proofs.Frames.{children_of-with_each, keeps_places}
 use Rattle.room_inherit.specs.Sound.{AreSound}
-use Rattle.room_desk.specs.declared.arrival.Found.{Found}
-use Rattle.room_desk.specs.declared.arrival.Pair.TheVariants.{Both, Halted}
-use Rattle.room_desk.specs.declared.asker.Asker.{Asker}
-use Rattle.room_desk.specs.declared.reply.Reply.{Reply}
-use Rattle.room_desk.specs.declared.reply.Reply.TheVariants.{Done, Refused}
-use Rattle.room_desk.specs.declared.reply.Reason.TheVariants.{NotEmpty, Root}
-use Rattle.room_desk.specs.declared.request.Request.TheVariants.{Remove}
-use Rattle.room_desk.specs.Site.{Site, sites_along, site_at, parent_at, front}
-use Rattle.room_desk.specs.Plan.{Item, Deletion, Refusal, plan_of, way, where_found}
-use Rattle.room_desk.specs.Judge.{failure, first_failure, or_else, records_of_plan}
-use Rattle.room_desk.specs.Effect.{with_site}
-use Rattle.room_desk.specs.Stored.{found_site, stored_along, stored_from, stored_site}
-use Rattle.room_desk.specs.Judged.{CarriesOut, IsJudged, IsStepOfRows, NotSound}
-use Rattle.room_desk.specs.Spot.{IsPaired}
-use Rattle.room_desk.specs.Removed.{Acts, ActsAfter, has_children}
-use Rattle.room_desk.proofs.Judging.{fails_first, passes_first, passes_on, refuses}
+use Rattle.room_judge.specs.declared.arrival.Found.{Found}
+use Rattle.room_judge.specs.declared.arrival.Pair.TheVariants.{Both, Halted}
+use Rattle.room_judge.specs.declared.asker.Asker.{Asker}
+use Rattle.room_machine.specs.declared.reply.Reply.{Reply}
+use Rattle.room_machine.specs.declared.reply.Reply.TheVariants.{Done, Refused}
+use Rattle.room_machine.specs.declared.reply.Reason.TheVariants.{NotEmpty, Root}
+use Rattle.room_machine.specs.declared.request.Request.TheVariants.{Remove}
+use Rattle.room_machine.specs.Site.{Site, sites_along, site_at, parent_at, front}
+use Rattle.room_machine.specs.Plan.{Item, Deletion, Refusal, plan_of, way, where_found}
+use Rattle.room_machine.specs.Judge.{failure, first_failure, or_else, records_of_plan}
+use Rattle.room_machine.specs.Effect.{with_site}
+use Rattle.room_judge.specs.Stored.{found_site, stored_along, stored_from, stored_site}
+use Rattle.room_judge.specs.Judged.{CarriesOut, IsJudged, IsStepOfRows, NotSound}
+use Rattle.room_judge.specs.Spot.{IsPaired}
+use Rattle.room_desk.specs.Made.{Ends, IsServed}
+use Rattle.room_desk.specs.Removed.{has_children}
+use Rattle.room_judge.proofs.Judging.{fails_first, passes_first, passes_on, refuses}
 use Rattle.room_desk.proofs.SoundParts.{root_there, readable_unsound, sound_noted, sound_parts}
 use Rattle.room_desk.proofs.SoundRemoved.{CanGo, removed_means, sound_removed}
 use Rattle.room_desk.proofs.Childless.{childless}
@@ -130,7 +131,7 @@ module _ (asker : Asker) (path : List (List ℕ)) where
     below : target.node.parent ≡ Some folder.node.id
     below = parent_along old.read path (found_site path folder) (stored_site path target.node) paired.folder paired.target
 
-    removed : (last new : Rows) → AreSound old → IsJudged asker (removal mid (found_site path target)) mid None last → Removes id last new → (Rattle.room_desk.specs.Judged.IsKnown asker old) → IsStepOfRows asker.caller.user asker.at (Remove path) old Done new
+    removed : (last new : Rows) → AreSound old → IsJudged asker (removal mid (found_site path target)) mid None last → Removes id last new → (Rattle.room_judge.specs.Judged.IsKnown asker old) → IsStepOfRows asker.caller.user asker.at (Remove path) old Done new
     removed last new sound judged removes known =
         let all = judged_all last None sound judged in
         let records = records_of_plan asker.caller asker.at (plan_of (meaning old.read) (Remove path)) in
@@ -151,10 +152,10 @@ module _ (asker : Asker) (path : List (List ℕ)) where
         (ap (λ (r : Rows). meaning r.read) (removes may) ∙ ap (λ (r : Rows). meaning (without_node r.read id)) all.notes ∙ ap (λ (c : Content). with_records c records) (removed_means old.read id can))
         (subst AreSound (sym (removes may ∙ ap (λ (r : Rows). reading r (without_node r.read id)) all.notes)) (sound_noted (reading old (without_node old.read id)) records (sound_removed old id sound can)))
 
-    pub remove_done : (new : Rows) (reply : Reply) → Acts asker (removal mid (found_site path target)) (Removes id) mid reply new → CarriesOut asker (Remove path) old reply new
-    remove_done new reply acts known sound = on acts.answer acts.judged acts.acts
+    pub remove_done : (new : Rows) (reply : Reply) → IsServed asker (removal mid (found_site path target)) Done (Removes id) mid reply new → CarriesOut asker (Remove path) old reply new
+    remove_done new reply acts known sound = on acts.answer acts.judged acts.ends
       where
-        on : (answer : Option Reply) → IsJudged asker (removal mid (found_site path target)) mid answer acts.mid → ActsAfter answer (Removes id) acts.mid reply new → IsStepOfRows asker.caller.user asker.at (Remove path) old reply new
+        on : (answer : Option Reply) → IsJudged asker (removal mid (found_site path target)) mid answer acts.mid → Ends Done (Removes id) answer acts.mid reply new → IsStepOfRows asker.caller.user asker.at (Remove path) old reply new
         on (Some refusal) judged after =
             refused_step asker (Remove path) old known sound new reply
             (judged_all new (Some reply) sound (subst (λ (r : Rows). IsJudged asker (removal mid (found_site path target)) mid (Some reply) r) (sym after.1) (subst (λ (r : Reply). IsJudged asker (removal mid (found_site path target)) mid (Some r) acts.mid) (sym after.0) judged)))

@@ -4,17 +4,20 @@ use Rattle.std.proofs.lemmas.List.{take_more}
 use Rattle.std.proofs.Math.Seq.{take-length}
 use Rattle.room_ace.specs.declared.parties.Caller.{Caller}
 use Rattle.room_inherit.specs.Sound.{AreSound}
-use Rattle.room_tree.specs.Content.{Content}
-use Rattle.room_tree.specs.Meaning.{meaning}
-use Rattle.room_tree.specs.Rows.{Rows}
-use Rattle.room_desk.specs.declared.asker.Asker.{Asker}
-use Rattle.room_desk.specs.declared.reply.Reply.{Reply}
-use Rattle.room_desk.specs.declared.request.Request.{Request}
+use Rattle.room_rows.specs.Content.{Content}
+use Rattle.room_rows.specs.Keep.{IsDamaged}
+use Rattle.room_rows.specs.Meaning.{meaning}
+use Rattle.room_rows.specs.Rows.{Rows}
+use Rattle.room_judge.specs.declared.asker.Asker.{Asker}
+use Rattle.room_machine.specs.declared.reply.Reply.{Reply}
+use Rattle.room_machine.specs.declared.request.Request.{Request}
 use Rattle.room_desk.specs.declared.running.Asked.{Asked}
-use Rattle.room_desk.specs.InTurn.{events_of, IsRunOfRows, RunsAll}
-use Rattle.room_desk.specs.Judged.{CarriesOut, IsKnown, IsStepOfRows, NotSound, Performs}
-use Rattle.room_desk.specs.Run.{Event, Run, Asked as HasAsked}
-use Rattle.room_desk.specs.Step.{caller_in}
+use Rattle.room_desk.specs.InTurn.{AreFirst, IsDamagedAfter, IsRunOfRows, RunsAll, events_of}
+use Rattle.room_judge.specs.Judged.{CarriesOut, IsKnown, IsStepOfRows, Performs}
+use Rattle.room_machine.proofs.Meeting.{meet}
+use Rattle.room_desk.proofs.Blamed.{sound_undamaged}
+use Rattle.room_machine.specs.Run.{Event, Run, Asked as HasAsked}
+use Rattle.room_machine.specs.Step.{caller_in}
 
 -- ---- one request
 
@@ -28,11 +31,6 @@ carried user moment asker request old mid new reply at both carries sound =
     (subst (λ (r : Rows). IsStepOfRows asker.caller.user asker.at request r reply new) both.1 (carries known (subst AreSound (sym both.1) sound))))
 
 -- ---- several requests
-
--- two runs that meet are one run
-pub meet : (content mid after : Content) (events others : List Event) → Run content events mid → Run mid others after → Run content (events ++ others) after
-meet content mid after [] others first second = subst (λ (c : Content). Run c others after) first second
-meet content mid after (event ∷ events) others first second = (first.0, first.1, meet first.0 mid after events others first.2 second)
 
 events_more : (asked : List Asked) (replies : List Reply) (one : Asked) (reply : Reply) → length replies ≡ length asked → events_of (asked ++ one ∷ []) (replies ++ reply ∷ []) ≡ events_of asked replies ++ HasAsked one.user one.at one.request reply ∷ []
 events_more [] [] one reply each = refl
@@ -63,9 +61,25 @@ runs_more asked n one replies all reply old mid new below is made sofar more =
     (subst (λ (l : List Reply). RunsAll (take n asked ++ one ∷ []) old l new) (sym made)
     (run_more (take n asked) one replies reply old mid new sofar more))
 
--- a row of rows that aren't sound, where they weren't before
-pub runs_blame : (asked : List Asked) (replies : List Reply) (old mid : Rows) (at : ℕ) → RunsAll asked old replies mid → NotSound mid at → NotSound old at
-runs_blame asked replies old mid at sofar blames sound = let run : IsRunOfRows asked old replies mid = sofar sound in blames run.sound
+pub first_none : (asked : List Asked) (old new : Rows) → new ≡ old → AreFirst asked 0 old [] new
+first_none asked old new same = record { ran = runs_none asked old new same; none = λ is. same }
+
+pub first_more : (asked : List Asked) (n : ℕ) (one : Asked) (replies all : List Reply) (reply : Reply) (old mid new : Rows) → n < length asked → one ≡ get_or asked n one → all ≡ replies ++ reply ∷ []
+    → AreFirst asked n old replies mid → Performs one.user one.at one.request mid reply new → AreFirst asked (n + 1) old all new
+first_more asked n one replies all reply old mid new below is made first more = record {
+  ran = runs_more asked n one replies all reply old mid new below is made first.ran more;
+  none = λ zero_is. absurd (let wrong : ⊥ = omega (arith, zero_is) in wrong);
+}
+
+-- a row that is damaged behind the first requests
+pub blamed_after : (asked : List Asked) (n : ℕ) (replies : List Reply) (old mid : Rows) (at : ℕ) → n < length asked → AreFirst asked n old replies mid → IsDamaged mid at → IsDamagedAfter asked old at
+blamed_after asked n replies old mid at below first damaged = record { count = n; below = below; replies = replies; rows = mid; first = first; damaged = damaged }
+
+-- from sound rows they stay sound, and nothing is damaged
+pub never_after : (asked : List Asked) (rows : Rows) (at : ℕ) → AreSound rows → IsDamagedAfter asked rows at → ⊥
+never_after asked rows at sound after =
+    let run : IsRunOfRows (take after.count asked) rows after.replies after.rows = after.first.ran sound in
+    sound_undamaged after.rows at run.sound after.damaged
 
 pub runs_all : (asked : List Asked) (n : ℕ) (replies : List Reply) (old new : Rows) → n ≡ length asked → RunsAll (take n asked) old replies new → RunsAll asked old replies new
 runs_all asked n replies old new full sofar = subst (λ (l : List Asked). RunsAll l old replies new) (ap (λ (k : ℕ). take k asked) full ∙ take-length asked) sofar

@@ -6,28 +6,28 @@ use Rattle.std.specs.Option.{option_map, option_map_or, option_and_then}
 use Rattle.std.proofs.lemmas.Bool.{and_from, or_parts, false≢true}
 use Rattle.room_ace.specs.Rights.{execute}
 use Rattle.room_ace.specs.declared.parties.Caller.{Caller}
-use Rattle.room_tree.specs.declared.node.Node.{Node}
-use Rattle.room_tree.specs.declared.node.AuditRow.{AuditRow}
-use Rattle.room_tree.specs.Content.{Content, child_of, is_folder, node_at, root_of}
-use Rattle.room_tree.specs.Paths.{is_object_name}
-use Rattle.room_tree.specs.Rows.{Rows, AreRows}
-use Rattle.room_tree.proofs.Frames.{Rises, child_of-is_there, child_of-parent, root_of-is_there, root_of-parent}
+use Rattle.room_rows.specs.declared.node.Node.{Node}
+use Rattle.room_rows.specs.declared.node.AuditRow.{AuditRow}
+use Rattle.room_rows.specs.Content.{Content, child_of, is_folder, node_at, root_of}
+use Rattle.room_rows.specs.Paths.{is_object_name}
+use Rattle.room_rows.specs.Rows.{Rows, AreRows}
+use Rattle.room_rows.proofs.Frames.{Rises, child_of-is_there, child_of-parent, root_of-is_there, root_of-parent}
 use Rattle.room_inherit.specs.Sound.{AreSound}
-use Rattle.room_desk.specs.declared.reply.Reply.{Reply}
-use Rattle.room_desk.specs.declared.reply.Reply.TheVariants.{Refused}
-use Rattle.room_desk.specs.declared.reply.Reason.TheVariants.{Exists, Loop, NotFolder}
-use Rattle.room_desk.specs.Judge.{failure, first_failure, or_else}
-use Rattle.room_desk.specs.Site.{Site, site_at, parent_at, front, last_name}
-use Rattle.room_desk.specs.Plan.{Check, Deletion, Refusal, right_to_add}
-use Rattle.room_desk.specs.Stored.{stored_site, stored_from, stored_along}
-use Rattle.room_desk.specs.Judged.{noted}
-use Rattle.room_desk.specs.Moving.{CanPlace, at_place, begins, free_place, goes_past}
+use Rattle.room_machine.specs.declared.reply.Reply.{Reply}
+use Rattle.room_machine.specs.declared.reply.Reply.TheVariants.{Refused}
+use Rattle.room_machine.specs.declared.reply.Reason.TheVariants.{Exists, Loop, NotFolder}
+use Rattle.room_machine.specs.Judge.{failure, first_failure, or_else}
+use Rattle.room_machine.specs.Site.{Site, site_at, parent_at, front, last_name}
+use Rattle.room_machine.specs.Plan.{Check, Deletion, Refusal, right_to_add}
+use Rattle.room_judge.specs.Stored.{stored_site, stored_from, stored_along}
+use Rattle.room_judge.specs.Judged.{noted}
+use Rattle.room_desk.specs.Moving.{CanGo, CanPlace, at_place, begins, free_place, goes_past}
 use Rattle.room_desk.proofs.Climbing.{same_some}
 use Rattle.room_desk.proofs.MovingPlan.{along_noted}
 use Rattle.room_desk.proofs.OnePath.{met_by_names}
 use Rattle.room_desk.proofs.Serving.{along_there, none_both}
 use Rattle.room_desk.proofs.SoundParts.{sound_noted}
-use Rattle.room_desk.proofs.Spots.{below_of, folder_found, target_found}
+use Rattle.room_judge.proofs.Spots.{below_of, folder_found, target_found}
 
 -- ---- nothing failed
 
@@ -114,23 +114,36 @@ below_parent rows path from target some above is =
 
 -- ---- so it can be placed
 
-pub placeable : (old : Rows) (records : List AuditRow) (path to : List (List ℕ)) (from : Site) (target folder : Node) → AreRows old → AreSound old → 0 < length path
-    → parent_at (stored_along old.read path) path ≡ Some from → site_at (stored_along old.read path) path ≡ Some (stored_site path target) → site_at (stored_along old.read (front to)) (front to) ≡ Some (stored_site (front to) folder)
-    → IsFree old.read to (begins path (front to)) folder → is_object_name (last_name to) ≡ true → CanPlace target folder (last_name to) (noted old records)
-placeable old records path to from target folder are sound some above found reached free named =
+pub goable : (old : Rows) (records : List AuditRow) (path to : List (List ℕ)) (target folder : Node) → AreRows old
+    → site_at (stored_along old.read path) path ≡ Some (stored_site path target) → site_at (stored_along old.read (front to)) (front to) ≡ Some (stored_site (front to) folder)
+    → IsFree old.read to (begins path (front to)) folder → CanGo target folder (last_name to) (noted old records)
+goable old records path to target folder are found reached free =
     let past = past_along (noted old records).read are.numbers target.id (front to) (stored_site (front to) folder)
     (ap (list_any (λ (s : Site). s.node.id == target.id)) (along_noted old.read records (front to)) ∙ met_by_names old.read are.numbers path (front to) (stored_site path target) (along_there old.read are.numbers path (stored_site path target) found) found ∙ free.none_above)
     (ap (λ sites. site_at sites (front to)) (along_noted old.read records (front to)) ∙ reached) in
     record {
       are = record { numbers = are.numbers; unreadable = are.unreadable; apart = are.apart; body_numbers = are.body_numbers; bodies = are.bodies; members = are.members };
-      sound = sound_noted old records sound;
       target_there = along_there old.read are.numbers path (stored_site path target) found;
       folder_there = along_there old.read are.numbers (front to) (stored_site (front to) folder) reached;
       folder_is = free.folder_is;
-      parent = from.node.id;
-      has_parent = below_parent old.read path from (stored_site path target) some above found;
-      is_name = named;
       is_free = free.name_is_free;
       steps = past.0;
       past = past.1;
     }
+
+pub placeable : (old : Rows) (records : List AuditRow) (path to : List (List ℕ)) (from : Site) (target folder : Node) → AreSound old → 0 < length path
+    → parent_at (stored_along old.read path) path ≡ Some from → site_at (stored_along old.read path) path ≡ Some (stored_site path target)
+    → is_object_name (last_name to) ≡ true → CanGo target folder (last_name to) (noted old records) → CanPlace target folder (last_name to) (noted old records)
+placeable old records path to from target folder sound some above found named can = record {
+  are = can.are;
+  sound = sound_noted old records sound;
+  target_there = can.target_there;
+  folder_there = can.folder_there;
+  folder_is = can.folder_is;
+  parent = from.node.id;
+  has_parent = below_parent old.read path from (stored_site path target) some above found;
+  is_name = named;
+  is_free = can.is_free;
+  steps = can.steps;
+  past = can.past;
+}

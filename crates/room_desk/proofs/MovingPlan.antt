@@ -4,21 +4,21 @@ use Rattle.std.specs.Prelude.{is_some}
 use Rattle.std.specs.List.{list_any}
 use Rattle.std.specs.Option.{option_map, option_map_or}
 use Rattle.std.proofs.lemmas.List.{map-append}
-use Rattle.room_tree.specs.declared.node.Node.{Node}
-use Rattle.room_tree.specs.declared.node.AuditRow.{AuditRow}
-use Rattle.room_tree.specs.Content.{Content, child_of, is_empty, root_of, with_records}
-use Rattle.room_tree.specs.Meaning.{kept_node, meaning}
-use Rattle.room_tree.specs.Rows.{Rows, AreRows}
-use Rattle.room_tree.proofs.Frames.{child_of-with_each, keeps_places}
+use Rattle.room_rows.specs.declared.node.Node.{Node}
+use Rattle.room_rows.specs.declared.node.AuditRow.{AuditRow}
+use Rattle.room_rows.specs.Content.{Content, child_of, is_empty, root_of, with_records}
+use Rattle.room_rows.specs.Meaning.{kept_node, meaning}
+use Rattle.room_rows.specs.Rows.{Rows, AreRows}
+use Rattle.room_rows.proofs.Frames.{child_of-with_each, keeps_places}
 use Rattle.room_inherit.proofs.Members.{any_map}
-use Rattle.room_desk.specs.declared.asker.Asker.{Asker}
-use Rattle.room_desk.specs.declared.reply.Reply.{Reply}
-use Rattle.room_desk.specs.declared.reply.Reason.TheVariants.{Exists, Loop, Root}
-use Rattle.room_desk.specs.declared.request.Request.TheVariants.{Move}
-use Rattle.room_desk.specs.Site.{Site, site_at, sites_along, parent_at, front, last_name}
-use Rattle.room_desk.specs.Plan.{Item, Deletion, Refusal, plan_of, move_items, way, where_found, to_target}
-use Rattle.room_desk.specs.Stored.{stored_site, stored_from, stored_along, to_stored}
-use Rattle.room_desk.specs.Judged.{IsJudged, noted, through}
+use Rattle.room_judge.specs.declared.asker.Asker.{Asker}
+use Rattle.room_machine.specs.declared.reply.Reply.{Reply}
+use Rattle.room_machine.specs.declared.reply.Reason.TheVariants.{Exists, Loop, Root}
+use Rattle.room_machine.specs.declared.request.Request.TheVariants.{Move}
+use Rattle.room_machine.specs.Site.{Site, site_at, sites_along, parent_at, front, last_name}
+use Rattle.room_machine.specs.Plan.{Item, Deletion, Refusal, plan_of, move_items, way, where_found, to_target}
+use Rattle.room_judge.specs.Stored.{stored_site, stored_from, stored_along, to_stored}
+use Rattle.room_judge.specs.Judged.{IsJudged, noted, through}
 use Rattle.room_desk.specs.Moving.{at_place, begins, leaving}
 use Rattle.room_desk.proofs.Filled.{fill_item, judged_filled, site_filled, way_filled}
 use Rattle.room_desk.proofs.OnePath.{met_by_names}

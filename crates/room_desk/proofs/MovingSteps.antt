@@ -1,39 +1,40 @@
 -- A move is a step.
-use Rattle.std.proofs.Common.{◌≡◌, ℕ, ◌<◌, ◌==◌, Bool, true, false, List, [], ◌∷◌, ◌++◌, length, take, Option, Some, None, refl, sym, ap, subst, ◌∙◌, arith}
+use Rattle.std.proofs.Common.{◌≡◌, ℕ, ◌<◌, ◌==◌, Bool, true, false, List, [], ◌∷◌, ◌++◌, length, take, Option, Some, None, refl, sym, ap, subst, ◌∙◌, inl, arith}
 use Rattle.std.specs.Option.{option_map_or}
 use Rattle.std.proofs.lemmas.Bool.{eqb-true}
 use Rattle.std.proofs.Math.Seq.{take-length}
-use Rattle.room_tree.specs.declared.node.Node.{Node}
-use Rattle.room_tree.specs.declared.node.AuditRow.{AuditRow}
-use Rattle.room_tree.specs.Content.{Content, is_empty, root_of, with_node, with_records}
-use Rattle.room_tree.specs.Keep.{HasNoRoot}
-use Rattle.room_tree.specs.Meaning.{meaning}
-use Rattle.room_tree.specs.Paths.{is_object_name}
-use Rattle.room_tree.specs.Rows.{Rows, AreRows}
+use Rattle.room_rows.specs.declared.node.Node.{Node}
+use Rattle.room_rows.specs.declared.node.AuditRow.{AuditRow}
+use Rattle.room_rows.specs.Content.{Content, is_empty, root_of, with_node, with_records}
+use Rattle.room_rows.specs.Keep.{HasNoRoot, IsDamaged}
+use Rattle.room_rows.specs.Meaning.{meaning}
+use Rattle.room_rows.specs.Paths.{is_object_name}
+use Rattle.room_rows.specs.Rows.{Rows, AreRows}
 use Rattle.room_inherit.specs.Sound.{AreSound}
-use Rattle.room_desk.specs.declared.arrival.Arrival.TheVariants.{At, Ended}
-use Rattle.room_desk.specs.declared.arrival.Found.{Found}
-use Rattle.room_desk.specs.declared.arrival.Pair.TheVariants.{Both, Halted}
-use Rattle.room_desk.specs.declared.asker.Asker.{Asker}
-use Rattle.room_desk.specs.declared.reply.Reply.{Reply}
-use Rattle.room_desk.specs.declared.reply.Reply.TheVariants.{Done, Refused}
-use Rattle.room_desk.specs.declared.reply.Reason.TheVariants.{Exists, Root}
-use Rattle.room_desk.specs.declared.request.Request.TheVariants.{Move}
-use Rattle.room_desk.specs.Site.{Site, site_at, sites_along, parent_at, front, last_name}
-use Rattle.room_desk.specs.Plan.{Item, Deletion, Refusal, plan_of, way, where_found}
-use Rattle.room_desk.specs.Judge.{first_failure, records_of_plan}
-use Rattle.room_desk.specs.Effect.{moved_node, with_site}
-use Rattle.room_desk.specs.Stored.{found_site, stored_site, stored_from, stored_along, to_stored}
-use Rattle.room_desk.specs.Spot.{IsPaired}
-use Rattle.room_desk.specs.Judged.{CarriesOut, IsJudged, IsReached, NotSound, noted}
-use Rattle.room_desk.specs.Moving.{CanPlace, IsPlaced, NeverPlacing, at_place, begins}
+use Rattle.room_judge.specs.declared.arrival.Arrival.TheVariants.{At, Ended}
+use Rattle.room_judge.specs.declared.arrival.Found.{Found}
+use Rattle.room_judge.specs.declared.arrival.Pair.TheVariants.{Both, Halted}
+use Rattle.room_judge.specs.declared.asker.Asker.{Asker}
+use Rattle.room_machine.specs.declared.reply.Reply.{Reply}
+use Rattle.room_machine.specs.declared.reply.Reply.TheVariants.{Done, Refused}
+use Rattle.room_machine.specs.declared.reply.Reason.TheVariants.{Exists, Root}
+use Rattle.room_machine.specs.declared.request.Request.TheVariants.{Move}
+use Rattle.room_machine.specs.Site.{Site, site_at, sites_along, parent_at, front, last_name}
+use Rattle.room_machine.specs.Plan.{Item, Deletion, Refusal, plan_of, way, where_found}
+use Rattle.room_machine.specs.Judge.{first_failure, records_of_plan}
+use Rattle.room_machine.specs.Effect.{moved_node, with_site}
+use Rattle.room_judge.specs.Stored.{found_site, stored_site, stored_from, stored_along, to_stored}
+use Rattle.room_judge.specs.Spot.{IsPaired}
+use Rattle.room_judge.specs.Judged.{CarriesOut, IsJudged, IsReached, noted}
+use Rattle.room_desk.specs.Moving.{CanGo, CanPlace, FailsToPlace, IsPlaced, at_place, begins}
 use Rattle.room_desk.proofs.Filled.{IsTarget, target_there}
-use Rattle.room_desk.proofs.Judging.{failure_of_parts, fails_first, passes_first, passes_on, refuses}
-use Rattle.room_desk.proofs.MovingFacts.{IsFree, all_passed, placeable}
+use Rattle.room_judge.proofs.Judging.{failure_of_parts, fails_first, passes_first, passes_on, refuses}
+use Rattle.room_desk.proofs.MovingFacts.{IsFree, all_passed, goable, placeable}
 use Rattle.room_desk.proofs.MovingPlan.{along_noted, at_found, move_judged, stored_items, stored_move, way_noted}
+use Rattle.room_desk.proofs.Blamed.{noted_unread}
 use Rattle.room_desk.proofs.Serving.{none_both}
 use Rattle.room_desk.proofs.Sites.{fill}
-use Rattle.room_desk.proofs.SoundParts.{rootless_unsound, root_there, sound_noted, sound_parts}
+use Rattle.room_desk.proofs.SoundParts.{root_there, sound_noted, sound_parts}
 use Rattle.room_desk.proofs.Stepping.{changed_step, refused_step}
 
 -- ---- at the root, and where the way ends
@@ -111,8 +112,8 @@ module _ (asker : Asker) (path to : List (List ℕ)) (from target : Found) (old 
   pub root_refused : (new : Rows) (reply : Reply) → to ≡ [] → IsJudged asker (Deletion target_site from_site ∷ Refusal [] Exists true ∷ []) mid (Some reply) new → CarriesOut asker (Move path to) old reply new
   root_refused new reply is judged = ended new reply (subst (λ p. IsJudged asker (stored_items old.read p is_below target_site from_site) mid (Some reply) new) (sym is) judged)
 
-  pub never_rootless : (at : ℕ) → HasNoRoot mid at → NotSound old at
-  never_rootless at h sound = rootless_unsound mid at h (subst AreSound (sym paired.judged.notes) (sound_noted old on_way sound))
+  pub never_rootless : (at : ℕ) → HasNoRoot mid at → IsDamaged old at
+  never_rootless at h = inl (subst (λ (r : Rows). HasNoRoot r at) paired.judged.notes h)
 
   module _ (some_to : 0 < length to) where
     at_first : to_stored mid.read (front to) (at_place mid.read to is_below target_site from_site) ≡ to_stored old.read (front to) (at_place old.read to is_below target_site from_site)
@@ -145,14 +146,22 @@ module _ (asker : Asker) (path to : List (List ℕ)) (from target : Found) (old 
           all_passed asker.caller old.read to is_below target_site from_site folder_site
           (none_both (first_failure asker.caller front_way) (first_failure asker.caller (at_place old.read to is_below target_site from_site folder_site)) (none ∙ failure_of_parts asker.caller asker.at front_way (at_place old.read to is_below target_site from_site folder_site))).1
 
+      abbrev judgements : List AuditRow
+      judgements = records_of_plan asker.caller asker.at (stored_move old.read path to)
+
+      can_go : CanGo target.node folder (last_name to) (noted old judgements)
+      can_go = goable old judgements path to target.node folder are paired.target folder_is free
+
       can : AreSound old → CanPlace target.node folder name last
       can sound =
           subst (λ (r : Rows). CanPlace target.node folder name r) (sym judged_all.notes)
-          (subst (λ n. CanPlace target.node folder n (noted old (records_of_plan asker.caller asker.at (stored_move old.read path to)))) (sym is_last)
-          (placeable old (records_of_plan asker.caller asker.at (stored_move old.read path to)) path to from_site target.node folder are sound some paired.folder paired.target folder_is free (ap is_object_name (sym is_last) ∙ named)))
+          (subst (λ n. CanPlace target.node folder n (noted old judgements)) (sym is_last)
+          (placeable old judgements path to from_site target.node folder sound some paired.folder paired.target (ap is_object_name (sym is_last) ∙ named) can_go))
 
-      pub never_unplaced : (at : ℕ) → NeverPlacing target.node folder name last at → NotSound old at
-      never_unplaced at never sound = never (can sound)
+      pub never_unplaced : (at : ℕ) → FailsToPlace target.node folder name last at → IsDamaged old at
+      never_unplaced at fails =
+          noted_unread old last judgements at judged_all.notes
+          (fails (subst (λ (r : Rows). CanGo target.node folder name r) (sym judged_all.notes) (subst (λ n. CanGo target.node folder n (noted old judgements)) (sym is_last) can_go)))
 
       pub moves : (new : Rows) → (CanPlace target.node folder name last → IsPlaced target.node folder name last new) → CarriesOut asker (Move path to) old Done new
       moves new places known sound =

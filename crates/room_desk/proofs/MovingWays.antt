@@ -1,24 +1,31 @@
 -- The way to the new folder of a move, and what is judged there.
 use Rattle.std.proofs.Common.{◌≡◌, ℕ, ◌+◌, Bool, List, [], length, take, Option, refl, sym, ap, subst, ◌∙◌}
 use Rattle.std.proofs.Math.Seq.{take-length}
-use Rattle.room_tree.specs.declared.node.Node.{Node}
-use Rattle.room_tree.specs.Rows.{Rows}
-use Rattle.room_desk.specs.declared.arrival.Arrival.TheVariants.{At}
-use Rattle.room_desk.specs.declared.asker.Asker.{Asker}
-use Rattle.room_desk.specs.declared.reply.Reply.{Reply}
-use Rattle.room_desk.specs.Site.{Site, front}
-use Rattle.room_desk.specs.Stored.{found_site, stored_site}
-use Rattle.room_desk.specs.Judged.{IsJudged, IsReached, arrival_of}
+use Rattle.room_rows.specs.declared.node.Node.{Node}
+use Rattle.room_rows.specs.Rows.{Rows}
+use Rattle.room_judge.specs.declared.arrival.Arrival.{Arrival}
+use Rattle.room_judge.specs.declared.arrival.Arrival.TheVariants.{At}
+use Rattle.room_judge.specs.declared.asker.Asker.{Asker}
+use Rattle.room_machine.specs.declared.reply.Reply.{Reply}
+use Rattle.room_machine.specs.Site.{Site, front}
+use Rattle.room_judge.specs.Stored.{found_site, stored_site}
+use Rattle.room_judge.specs.Judged.{IsJudged, IsReached, arrival_of}
 use Rattle.room_desk.specs.Moving.{at_place}
-use Rattle.room_desk.proofs.Spots.{take_front}
-use Rattle.room_desk.proofs.Ways.{reaches_with}
+use Rattle.room_judge.proofs.Spots.{take_front}
+use Rattle.room_judge.proofs.Ways.{reaches_with}
+
+-- the way without the last name
+pub front_reached : (asker : Asker) (to : List (List ℕ)) (depth : ℕ) (arrival place : Arrival) (old new : Rows) → length to ≡ depth + 1 → arrival ≡ place → IsReached asker (take depth to) (λ _. []) old arrival new → IsReached asker (front to) (λ _. []) old place new
+front_reached asker to depth arrival place old new deep comes reached =
+    subst (λ (p : List (List ℕ)). IsReached asker p (λ _. []) old place new) (take_front to depth deep) (subst (λ (a : Arrival). IsReached asker (take depth to) (λ _. []) old a new) comes reached)
 
 -- what is judged at the folder is where the walk comes to
-pub place_reached : (asker : Asker) (to : List (List ℕ)) (is_below : Bool) (target from : Site) (old mid new : Rows) (node : Node) (depth : ℕ) (refusal other : Option Reply) → length to ≡ depth + 1 → IsReached asker (front to) (λ _. []) old (At node) mid
-    → refusal ≡ other → IsJudged asker (at_place mid.read to is_below target from (found_site to (record { node = node; depth = depth }))) mid refusal new → IsReached asker (front to) (at_place old.read to is_below target from) old (arrival_of node other) new
-place_reached asker to is_below target from old mid new node depth refusal other deep reached same judged =
-    reaches_with asker (front to) (at_place old.read to is_below target from) old mid new node (record { node = node; depth = length (front to) }) other refl reached
-    (subst (λ (o : Option Reply). IsJudged asker (at_place old.read to is_below target from (stored_site (take (length (front to)) (front to)) node)) mid o new) same
+pub place_reached : (asker : Asker) (to : List (List ℕ)) (is_below : Bool) (target from : Site) (old mid new : Rows) (node : Node) (depth : ℕ) (refusal : Option Reply) (arrival : Arrival) → arrival ≡ arrival_of node refusal → length to ≡ depth + 1
+    → IsReached asker (front to) (λ _. []) old (At node) mid → IsJudged asker (at_place mid.read to is_below target from (found_site to (record { node = node; depth = depth }))) mid refusal new
+    → IsReached asker (front to) (at_place old.read to is_below target from) old arrival new
+place_reached asker to is_below target from old mid new node depth refusal arrival comes deep reached judged =
+    subst (λ (a : Arrival). IsReached asker (front to) (at_place old.read to is_below target from) old a new) (sym comes)
+    (reaches_with asker (front to) (at_place old.read to is_below target from) old mid new node (record { node = node; depth = length (front to) }) refusal refl reached
     (subst (λ items. IsJudged asker items mid refusal new)
     (ap (λ p. at_place mid.read to is_below target from (stored_site p node)) (take_front to depth deep ∙ sym (take-length (front to)))
     ∙ ap (λ (r : Rows). at_place r.read to is_below target from (stored_site (take (length (front to)) (front to)) node)) reached.judged.notes)

@@ -14,17 +14,17 @@ use Rattle.room_ace.specs.declared.object.Which.{Which}
 use Rattle.room_ace.specs.declared.object.Which.TheVariants.{Dacl, Sacl}
 use Rattle.room_ace.specs.declared.parties.Caller.{Caller}
 use Rattle.room_ace.proofs.Alike.{entries_themselves}
-use Rattle.room_tree.specs.declared.node.Held.{Held}
-use Rattle.room_tree.specs.declared.node.Node.{Node}
-use Rattle.room_tree.specs.Held.{held_of, full_of, is_linked}
-use Rattle.room_tree.specs.Content.{Content, node_at, child_of, is_folder, put_node, put_body, body_in}
-use Rattle.room_tree.specs.Finding.{find_id}
-use Rattle.room_tree.specs.Keep.{node_of, reading}
-use Rattle.room_tree.specs.Meaning.{kept_held, kept_node, meaning}
-use Rattle.room_tree.specs.Paths.{is_object_name}
-use Rattle.room_tree.specs.Rows.{Rows, AreRows, numbers_of, put_numbers}
-use Rattle.room_tree.proofs.Frames.{body_of-with_body, body_of-with_body-other}
-use Rattle.room_tree.proofs.Lookups.{not_none}
+use Rattle.room_rows.specs.HeldList.{Held}
+use Rattle.room_rows.specs.declared.node.Node.{Node}
+use Rattle.room_rows.specs.Held.{held_of, full_of, is_linked}
+use Rattle.room_rows.specs.Content.{Content, node_at, child_of, is_folder, put_node, put_body, body_in}
+use Rattle.room_rows.specs.Finding.{find_id}
+use Rattle.room_rows.specs.Keep.{node_of, reading}
+use Rattle.room_rows.specs.Meaning.{kept_held, kept_node, meaning}
+use Rattle.room_rows.specs.Paths.{is_object_name}
+use Rattle.room_rows.specs.Rows.{Rows, AreRows, numbers_of, put_numbers}
+use Rattle.room_rows.proofs.Frames.{body_of-with_body, body_of-with_body-other}
+use Rattle.room_rows.proofs.Lookups.{not_none}
 use Rattle.room_inherit.specs.Laws.{are_valid}
 use Rattle.room_inherit.specs.Pass.{pass, passed_flags, ended, carried, waiting}
 use Rattle.room_inherit.specs.Sound.{AreSound, fits_kind, has_sound_lists, is_sound_held}
@@ -32,9 +32,9 @@ use Rattle.room_inherit.proofs.Children.{ids_of, each_there, apart_rising}
 use Rattle.room_inherit.proofs.Renewing.{map_agree}
 use Rattle.room_inherit.proofs.Valid.{pass_is_valid}
 use Rattle.room_inherit.proofs.Whole.{none_unreadable}
-use Rattle.room_desk.specs.Effect.{new_node}
+use Rattle.room_machine.specs.Effect.{new_node}
 use Rattle.room_desk.specs.Made.{new_child, passed_held}
-use Rattle.room_desk.specs.Stored.{stored_site}
+use Rattle.room_judge.specs.Stored.{stored_site}
 use Rattle.room_desk.proofs.SoundAdded.{above_new, above_old, lists_here, sound_added}
 use Rattle.room_desk.proofs.SoundParts.{sound_parts}
 

@@ -6,21 +6,21 @@ use Rattle.room_ace.specs.Valid.{is_document}
 use Rattle.room_ace.specs.declared.object.ObjKind.{ObjKind}
 use Rattle.room_ace.specs.declared.object.ObjKind.TheVariants.{Document, Folder}
 use Rattle.room_ace.specs.declared.parties.Caller.{Caller}
-use Rattle.room_tree.specs.declared.node.AuditRow.{AuditRow}
-use Rattle.room_tree.specs.declared.node.NewNode.{NewNode}
-use Rattle.room_tree.specs.declared.node.Node.{Node}
-use Rattle.room_tree.specs.Content.{Content, node_at, child_of, is_folder, put_node, with_records}
-use Rattle.room_tree.specs.Keep.{IsAdded, node_of, reading, with_new}
-use Rattle.room_tree.specs.Meaning.{kept_node, meaning}
-use Rattle.room_tree.specs.Paths.{is_object_name}
-use Rattle.room_tree.specs.Rows.{Rows, AreRows}
-use Rattle.room_tree.proofs.Frames.{keeps_places, node_at-with_each}
+use Rattle.room_rows.specs.declared.node.AuditRow.{AuditRow}
+use Rattle.room_rows.specs.declared.node.NewNode.{NewNode}
+use Rattle.room_rows.specs.declared.node.Node.{Node}
+use Rattle.room_rows.specs.Content.{Content, node_at, child_of, is_folder, put_node, with_records}
+use Rattle.room_rows.specs.Keep.{IsAdded, node_of, reading, with_new}
+use Rattle.room_rows.specs.Meaning.{kept_node, meaning}
+use Rattle.room_rows.specs.Paths.{is_object_name}
+use Rattle.room_rows.specs.Rows.{Rows, AreRows}
+use Rattle.room_rows.proofs.Frames.{keeps_places, node_at-with_each}
 use Rattle.room_inherit.specs.Sound.{AreSound}
-use Rattle.room_desk.specs.Effect.{new_node}
-use Rattle.room_desk.specs.Judged.{noted}
+use Rattle.room_machine.specs.Effect.{new_node}
+use Rattle.room_judge.specs.Judged.{noted}
 use Rattle.room_desk.specs.Made.{IsMade, new_child}
-use Rattle.room_desk.specs.Step.{IsFree}
-use Rattle.room_desk.specs.Stored.{stored_site}
+use Rattle.room_machine.specs.Step.{IsFree}
+use Rattle.room_judge.specs.Stored.{stored_site}
 use Rattle.room_desk.proofs.NewObject.{added, added_means, added_sound, bodies_then}
 use Rattle.room_desk.proofs.SoundParts.{sound_noted}
 

@@ -3,21 +3,21 @@ use Rattle.std.proofs.Common.{◌≡◌, ℕ, List, [], ◌∷◌, Option, Some,
 use Rattle.std.specs.Option.{option_map}
 use Rattle.room_ace.specs.Rights.{write_owner}
 use Rattle.room_ace.specs.declared.parties.Owners.{Owners}
-use Rattle.room_tree.specs.declared.node.Node.{Node}
-use Rattle.room_tree.specs.Content.{node_at, with_each, with_node}
-use Rattle.room_tree.specs.Keep.{Changes, reading, with_owners}
-use Rattle.room_tree.specs.Meaning.{kept_node, meaning}
-use Rattle.room_tree.specs.Rows.{Rows, AreRows}
-use Rattle.room_tree.proofs.Frames.{Rises, keeps_places, node_at-with_each, rises-with_each}
+use Rattle.room_rows.specs.declared.node.Node.{Node}
+use Rattle.room_rows.specs.Content.{node_at, with_each, with_node}
+use Rattle.room_rows.specs.Keep.{Changes, reading, with_owners}
+use Rattle.room_rows.specs.Meaning.{kept_node, meaning}
+use Rattle.room_rows.specs.Rows.{Rows, AreRows}
+use Rattle.room_rows.proofs.Frames.{Rises, keeps_places, node_at-with_each, rises-with_each}
 use Rattle.room_inherit.specs.Sound.{AreSound}
-use Rattle.room_desk.specs.declared.arrival.Arrival.TheVariants.{At}
-use Rattle.room_desk.specs.declared.asker.Asker.{Asker}
-use Rattle.room_desk.specs.declared.reply.Reply.TheVariants.{Done}
-use Rattle.room_desk.specs.declared.request.Request.TheVariants.{SetOwners}
-use Rattle.room_desk.specs.Site.{Site}
-use Rattle.room_desk.specs.Effect.{with_site}
-use Rattle.room_desk.specs.Stored.{stored_site}
-use Rattle.room_desk.specs.Judged.{IsReached, CarriesOut}
+use Rattle.room_judge.specs.declared.arrival.Arrival.TheVariants.{At}
+use Rattle.room_judge.specs.declared.asker.Asker.{Asker}
+use Rattle.room_machine.specs.declared.reply.Reply.TheVariants.{Done}
+use Rattle.room_machine.specs.declared.request.Request.TheVariants.{SetOwners}
+use Rattle.room_machine.specs.Site.{Site}
+use Rattle.room_machine.specs.Effect.{with_site}
+use Rattle.room_judge.specs.Stored.{stored_site}
+use Rattle.room_judge.specs.Judged.{IsReached, CarriesOut}
 use Rattle.room_desk.proofs.SoundParts.{sound_parts, sound_noted}
 use Rattle.room_desk.proofs.SoundOwners.{owned, owned_means, put_owned, sound_owned}
 use Rattle.room_desk.proofs.Filled.{plan_judged, target_there}

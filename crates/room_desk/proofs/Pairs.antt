@@ -1,11 +1,11 @@
 -- The object at a path, and the folder of the path's last name.
 use Rattle.std.proofs.Common.{◌≡◌, ℕ, List, [], ◌∷◌, ◌++◌, Option, Some, None, refl, sym, ap, ◌∙◌}
 use Rattle.std.specs.Option.{option_map_or}
-use Rattle.room_tree.specs.declared.node.Node.{Node}
-use Rattle.room_tree.specs.Content.{Content, child_of, root_of}
-use Rattle.room_tree.proofs.Frames.{child_of-parent}
-use Rattle.room_desk.specs.Site.{Site, site_at, parent_at, last_name}
-use Rattle.room_desk.specs.Stored.{stored_site, stored_from, stored_along}
+use Rattle.room_rows.specs.declared.node.Node.{Node}
+use Rattle.room_rows.specs.Content.{Content, child_of, root_of}
+use Rattle.room_rows.proofs.Frames.{child_of-parent}
+use Rattle.room_machine.specs.Site.{Site, site_at, parent_at, last_name}
+use Rattle.room_judge.specs.Stored.{stored_site, stored_from, stored_along}
 
 -- The object at the end of the names stands in the folder by the last name.
 child_from : (content : Content) (names path : List (List ℕ)) (node : Node) (folder target : Site) → parent_at (stored_from content path node names) names ≡ Some folder → site_at (stored_from content path node names) names ≡ Some target

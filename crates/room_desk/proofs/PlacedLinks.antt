@@ -4,11 +4,11 @@ use Rattle.std.specs.Option.{option_map}
 use Rattle.std.proofs.lemmas.Bool.{cases_Bool}
 use Rattle.room_ace.specs.Ace.{Ace}
 use Rattle.room_ace.specs.declared.object.Which.{Which}
-use Rattle.room_tree.specs.declared.node.Held.{Held}
-use Rattle.room_tree.specs.declared.node.Node.{Node}
-use Rattle.room_tree.specs.Content.{Content, parent_of, is_linked_in}
-use Rattle.room_tree.specs.Held.{held_of, is_linked}
-use Rattle.room_tree.specs.Rows.{Rows}
+use Rattle.room_rows.specs.HeldList.{Held}
+use Rattle.room_rows.specs.declared.node.Node.{Node}
+use Rattle.room_rows.specs.Content.{Content, parent_of, is_linked_in}
+use Rattle.room_rows.specs.Held.{held_of, is_linked}
+use Rattle.room_rows.specs.Rows.{Rows}
 use Rattle.room_desk.specs.Moving.{CanPlace}
 use Rattle.room_desk.proofs.PlacedParts.{linked_above, linked_flags, placed_held}
 use Rattle.room_desk.proofs.PlacedTree.{above_elsewhere, above_here, after, change}

@@ -5,20 +5,20 @@ use Rattle.std.proofs.lemmas.Bool.{cases_Bool, eqb-true, eqb-false}
 use Rattle.room_ace.specs.Ace.{Ace}
 use Rattle.room_ace.specs.declared.object.Which.{Which}
 use Rattle.room_ace.specs.declared.object.Which.TheVariants.{Dacl, Sacl}
-use Rattle.room_tree.specs.declared.node.Held.{Held}
-use Rattle.room_tree.specs.declared.node.Node.{Node}
-use Rattle.room_tree.specs.Content.{Content, node_at, is_linked_in, with_node}
-use Rattle.room_tree.specs.Held.{held_of, is_linked}
-use Rattle.room_tree.specs.Keep.{with_place}
-use Rattle.room_tree.specs.Meaning.{kept_held, kept_node, meaning}
-use Rattle.room_tree.specs.Rows.{Rows}
-use Rattle.room_tree.proofs.Frames.{KeepsPlaces, keeps_places, rises-with_each}
-use Rattle.room_tree.proofs.Lookups.{put-replaces, replaced, replaced_here, replaced_elsewhere}
+use Rattle.room_rows.specs.HeldList.{Held}
+use Rattle.room_rows.specs.declared.node.Node.{Node}
+use Rattle.room_rows.specs.Content.{Content, node_at, is_linked_in, with_node}
+use Rattle.room_rows.specs.Held.{held_of, is_linked}
+use Rattle.room_rows.specs.Keep.{with_place}
+use Rattle.room_rows.specs.Meaning.{kept_held, kept_node, meaning}
+use Rattle.room_rows.specs.Rows.{Rows}
+use Rattle.room_rows.proofs.Frames.{KeepsPlaces, keeps_places, rises-with_each}
+use Rattle.room_rows.proofs.Lookups.{put-replaces, replaced, replaced_here, replaced_elsewhere}
 use Rattle.room_inherit.proofs.Children.{each_there}
 use Rattle.room_inherit.proofs.Renewing.{map_agree, map_map}
-use Rattle.room_desk.specs.Effect.{moved_held, moved_node}
+use Rattle.room_machine.specs.Effect.{moved_held, moved_node}
 use Rattle.room_desk.specs.Moving.{CanPlace}
-use Rattle.room_desk.specs.Stored.{stored_site}
+use Rattle.room_judge.specs.Stored.{stored_site}
 use Rattle.room_desk.proofs.Climbing.{node_at-changed}
 use Rattle.room_desk.proofs.PlacedLinks.{linked_elsewhere, linked_here}
 use Rattle.room_desk.proofs.PlacedParts.{apart, lists}

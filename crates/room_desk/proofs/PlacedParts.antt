@@ -8,12 +8,12 @@ use Rattle.room_ace.specs.Ace.{Ace}
 use Rattle.room_ace.specs.declared.flags.ListFlags.{ListFlags}
 use Rattle.room_ace.specs.declared.object.Which.{Which}
 use Rattle.room_ace.specs.declared.object.Which.TheVariants.{Dacl, Sacl}
-use Rattle.room_tree.specs.declared.node.Held.{Held}
-use Rattle.room_tree.specs.declared.node.Node.{Node}
-use Rattle.room_tree.specs.Content.{Content, node_at, parent_of, with_each}
-use Rattle.room_tree.specs.Held.{held_of, is_linked}
-use Rattle.room_tree.specs.Keep.{with_place}
-use Rattle.room_tree.proofs.Frames.{Rises, node_at-number}
+use Rattle.room_rows.specs.HeldList.{Held}
+use Rattle.room_rows.specs.declared.node.Node.{Node}
+use Rattle.room_rows.specs.Content.{Content, node_at, parent_of, with_each}
+use Rattle.room_rows.specs.Held.{held_of, is_linked}
+use Rattle.room_rows.specs.Keep.{with_place}
+use Rattle.room_rows.proofs.Frames.{Rises, node_at-number}
 use Rattle.room_inherit.proofs.Children.{Apart, apart_rising, each_there, each_found}
 use Rattle.room_inherit.proofs.Ends.{each_all}
 use Rattle.room_inherit.proofs.Members.{all_each}

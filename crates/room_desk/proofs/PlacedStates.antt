@@ -6,14 +6,14 @@ use Rattle.std.proofs.lemmas.Bool.{cases_Bool, and_parts, false≢true, eqb-true
 use Rattle.room_ace.specs.Ace.{Ace}
 use Rattle.room_ace.specs.declared.object.Which.{Which}
 use Rattle.room_ace.specs.declared.object.Which.TheVariants.{Dacl, Sacl}
-use Rattle.room_tree.specs.declared.node.Held.{Held}
-use Rattle.room_tree.specs.declared.node.Node.{Node}
-use Rattle.room_tree.specs.Content.{Content, node_at, parent_of, is_linked_in, is_rising}
-use Rattle.room_tree.specs.Held.{held_of, full_of, is_linked}
-use Rattle.room_tree.specs.Keep.{Places, reading, with_inh, with_place}
-use Rattle.room_tree.specs.Rows.{Rows}
-use Rattle.room_tree.proofs.Frames.{with_each-with_each}
-use Rattle.room_tree.proofs.Lookups.{put-replaces, replaced, replaced_here, replaced_elsewhere}
+use Rattle.room_rows.specs.HeldList.{Held}
+use Rattle.room_rows.specs.declared.node.Node.{Node}
+use Rattle.room_rows.specs.Content.{Content, node_at, parent_of, is_linked_in, is_rising}
+use Rattle.room_rows.specs.Held.{held_of, full_of, is_linked}
+use Rattle.room_rows.specs.Keep.{Places, reading, with_inh, with_place}
+use Rattle.room_rows.specs.Rows.{Rows}
+use Rattle.room_rows.proofs.Frames.{with_each-with_each}
+use Rattle.room_rows.proofs.Lookups.{put-replaces, replaced, replaced_here, replaced_elsewhere}
 use Rattle.room_inherit.specs.Law.{agrees, agrees_with, AllAgree}
 use Rattle.room_inherit.specs.Pass.{pass}
 use Rattle.room_ace.specs.Same.{same_entries}

@@ -12,12 +12,12 @@ use Rattle.room_ace.specs.declared.object.Which.{Which}
 use Rattle.room_ace.specs.declared.object.Which.TheVariants.{Dacl, Sacl}
 use Rattle.room_ace.proofs.Alike.{text_itself}
 use Rattle.room_ace.proofs.RoundTrip.{same_text-true}
-use Rattle.room_tree.specs.declared.node.Node.{Node}
-use Rattle.room_tree.specs.Content.{Content, node_at, parent_of, has_parent, is_root, is_folder, has_folder_above, same_parent, reaches_root, body_of, with_each}
-use Rattle.room_tree.specs.Held.{held_of}
-use Rattle.room_tree.specs.Keep.{reading}
-use Rattle.room_tree.specs.Paths.{is_object_name}
-use Rattle.room_tree.specs.Rows.{Rows, AreRows, numbers_of, put_numbers}
+use Rattle.room_rows.specs.declared.node.Node.{Node}
+use Rattle.room_rows.specs.Content.{Content, node_at, parent_of, has_parent, is_root, is_folder, has_folder_above, same_parent, reaches_root, body_of, with_each}
+use Rattle.room_rows.specs.Held.{held_of}
+use Rattle.room_rows.specs.Keep.{reading}
+use Rattle.room_rows.specs.Paths.{is_object_name}
+use Rattle.room_rows.specs.Rows.{Rows, AreRows, numbers_of, put_numbers}
 use Rattle.room_inherit.specs.Laws.{HasNoFault}
 use Rattle.room_inherit.specs.Sound.{fits_kind, has_bad_list, has_sound_body, has_sound_lists, has_sound_name, is_sound_held, reaches, same_place}
 use Rattle.room_inherit.proofs.Children.{each_found, each_there}

@@ -8,28 +8,28 @@ use Rattle.std.specs.List.{find}
 use Rattle.room_ace.specs.Rights.{write_data}
 use Rattle.room_ace.specs.Valid.{is_document}
 use Rattle.room_ace.specs.declared.object.ObjKind.TheVariants.{Document}
-use Rattle.room_tree.specs.declared.node.Node.{Node}
-use Rattle.room_tree.specs.Content.{node_at, child_of, is_folder, is_root, with_body, with_node}
-use Rattle.room_tree.specs.Keep.{SetsBody, reading}
-use Rattle.room_tree.specs.Meaning.{meaning}
-use Rattle.room_tree.specs.Rows.{Rows, AreRows}
+use Rattle.room_rows.specs.declared.node.Node.{Node}
+use Rattle.room_rows.specs.Content.{node_at, child_of, is_folder, is_root, with_body, with_node}
+use Rattle.room_rows.specs.Keep.{SetsBody, reading}
+use Rattle.room_rows.specs.Meaning.{meaning}
+use Rattle.room_rows.specs.Rows.{Rows, AreRows}
 use Rattle.room_inherit.specs.Sound.{AreSound, bad_root}
-use Rattle.room_desk.specs.declared.arrival.Found.{Found}
-use Rattle.room_desk.specs.declared.arrival.Spot.TheVariants.{Under, Barred}
-use Rattle.room_desk.specs.declared.asker.Asker.{Asker}
-use Rattle.room_desk.specs.declared.reply.Reply.{Reply}
-use Rattle.room_desk.specs.declared.reply.Reply.TheVariants.{Done, Made, Refused}
-use Rattle.room_desk.specs.declared.reply.Reason.TheVariants.{TooLarge, WrongKind}
-use Rattle.room_desk.specs.declared.request.Request.TheVariants.{Put}
-use Rattle.room_desk.specs.Site.{Site, last_name, parent_at, site_at, sites_along}
-use Rattle.room_desk.specs.Plan.{Item, Check, no_folder, not_over, plan_of, put_items, way}
-use Rattle.room_desk.specs.Effect.{new_node, put_bytes}
-use Rattle.room_desk.specs.Judge.{failure, first_failure, records_of_plan}
-use Rattle.room_desk.specs.Stored.{stored_site, stored_from, stored_along, found_site}
-use Rattle.room_desk.specs.Judged.{IsJudged, CarriesOut}
+use Rattle.room_judge.specs.declared.arrival.Found.{Found}
+use Rattle.room_judge.specs.declared.arrival.Spot.TheVariants.{Under, Barred}
+use Rattle.room_judge.specs.declared.asker.Asker.{Asker}
+use Rattle.room_machine.specs.declared.reply.Reply.{Reply}
+use Rattle.room_machine.specs.declared.reply.Reply.TheVariants.{Done, Made, Refused}
+use Rattle.room_machine.specs.declared.reply.Reason.TheVariants.{TooLarge, WrongKind}
+use Rattle.room_machine.specs.declared.request.Request.TheVariants.{Put}
+use Rattle.room_machine.specs.Site.{Site, last_name, parent_at, site_at, sites_along}
+use Rattle.room_machine.specs.Plan.{Item, Check, no_folder, not_over, plan_of, put_items, way}
+use Rattle.room_machine.specs.Effect.{new_node, put_bytes}
+use Rattle.room_machine.specs.Judge.{failure, first_failure, records_of_plan}
+use Rattle.room_judge.specs.Stored.{stored_site, stored_from, stored_along, found_site}
+use Rattle.room_judge.specs.Judged.{IsJudged, CarriesOut}
 use Rattle.room_desk.specs.Made.{Ends, IsMade, IsNameOf, IsServed, new_child}
-use Rattle.room_desk.specs.Spot.{IsSpotted}
-use Rattle.room_desk.proofs.Judging.{fails_first, passes_first, refuses}
+use Rattle.room_judge.specs.Spot.{IsSpotted}
+use Rattle.room_judge.proofs.Judging.{fails_first, passes_first, refuses}
 use Rattle.room_desk.proofs.Serving.{none_both, along_there, folder_fails}
 use Rattle.room_desk.proofs.SoundBytes.{sound_bytes}
 use Rattle.room_desk.proofs.SoundParts.{sound_parts, sound_noted}

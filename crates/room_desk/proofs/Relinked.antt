@@ -9,14 +9,14 @@ use Rattle.room_ace.specs.Same.{same_entries}
 use Rattle.room_ace.specs.declared.object.Which.{Which}
 use Rattle.room_ace.proofs.Alike.{equal_entries}
 use Rattle.room_ace.proofs.Same.{entries_equal}
-use Rattle.room_tree.specs.declared.node.Held.{Held}
-use Rattle.room_tree.specs.declared.node.Node.{Node}
-use Rattle.room_tree.specs.Content.{Content, node_at, parent_of, has_parent, is_linked_in, reaches_root, with_each}
-use Rattle.room_tree.specs.Held.{held_of, full_of, is_linked}
-use Rattle.room_tree.specs.Keep.{Changes, reading, with_inh}
-use Rattle.room_tree.specs.Rows.{Rows, is_unreadable}
-use Rattle.room_tree.proofs.Frames.{node_at-number, held_of-with_inh, place-with_inh, with_node-replaces}
-use Rattle.room_tree.proofs.Lookups.{replaced, replaced_here, replaced_elsewhere}
+use Rattle.room_rows.specs.HeldList.{Held}
+use Rattle.room_rows.specs.declared.node.Node.{Node}
+use Rattle.room_rows.specs.Content.{Content, node_at, parent_of, has_parent, is_linked_in, reaches_root, with_each}
+use Rattle.room_rows.specs.Held.{held_of, full_of, is_linked}
+use Rattle.room_rows.specs.Keep.{Changes, reading, with_inh}
+use Rattle.room_rows.specs.Rows.{Rows, is_unreadable}
+use Rattle.room_rows.proofs.Frames.{node_at-number, held_of-with_inh, place-with_inh, with_node-replaces}
+use Rattle.room_rows.proofs.Lookups.{replaced, replaced_here, replaced_elsewhere}
 use Rattle.room_inherit.specs.Law.{agrees, agrees_with, AllAgreeBut}
 use Rattle.room_inherit.specs.Pass.{pass}
 use Rattle.room_inherit.specs.Spread.{IsLinkedBelow, IsOwnAncestor, IsSpread, is_changed, is_linked_within}
@@ -26,7 +26,6 @@ use Rattle.room_inherit.proofs.Kinship.{same_id, same_parent, same_kind, with_la
 use Rattle.room_inherit.proofs.Members.{all_each}
 use Rattle.room_inherit.proofs.Renewing.{map_agree, map_map}
 use Rattle.room_inherit.proofs.Rooted.{rooted_no_loop}
-use Rattle.room_desk.specs.Carrying.{HasLoop}
 use Rattle.room_desk.specs.Moving.{CanRenew, IsRenewed}
 use Rattle.room_desk.proofs.Climbing.{node_at-changed, reaches-changed, same_some}
 use Rattle.room_desk.proofs.PlacedParts.{all_after, apart, change_there, linked_above, linked_flags, parent_after}
@@ -66,22 +65,35 @@ module _ (which : Which) (target folder : Node) (old : Rows) (can : CanRenew whi
   abbrev agrees_there : Bool
   agrees_there = agrees content which can.there
 
-  pub not_linked : is_linked (held_of which target) (Some (held_of which folder)) ≡ false → IsRenewed which old old
-  not_linked isnt = record {
+  -- nothing changes where the object agrees
+  stays : agrees_there ≡ true → IsRenewed which old old
+  stays holds = record {
     lists = own_lists which;
     becomes = ap (reading old) (sym (with_own_lists which content));
     kept = λ n found unlinked. refl;
     law = all_each (agrees content which) content.nodes (each_there (λ n. agrees content which n ≡ true) content.nodes (apart content can.rises) (λ n found. elim (cases_Bool (n.id == target.id)) [
-      | inl is ↦ ap (agrees content which) (is_there n found is) ∙ unlinked_agrees
+      | inl is ↦ ap (agrees content which) (is_there n found is) ∙ holds
       | inr other_is ↦ can.others n found (other n other_is)
     ]));
   }
+
+  pub not_linked : is_linked (held_of which target) (Some (held_of which folder)) ≡ false → IsRenewed which old old
+  not_linked isnt = stays unlinked_agrees
     where
       unlinked_agrees : agrees content which can.there ≡ true
       unlinked_agrees =
           ap (λ o. option_map_or (agrees_with which can.there) o true) (ap (option_and_then (node_at content)) can.there_parent ∙ can.above_is)
           ∙ or_left (not (is_linked (held_of which can.there) (Some (held_of which can.above)))) (same_entries (held_of which can.there).inh (pass can.there.kind (full_of (held_of which can.above))))
           (ap not (ap (λ (h : Held). is_linked h (Some (held_of which can.above))) can.there_held ∙ ap (λ (h : Held). is_linked (held_of which target) (Some h)) can.above_held ∙ isnt))
+
+  -- it stores already what the folder passes
+  pub stored_already : (passed : List Ace) → passed ≡ pass target.kind (full_of (held_of which folder)) → passed ≡ (held_of which target).inh → IsRenewed which old old
+  stored_already passed is stored =
+      stays
+      (ap (λ o. option_map_or (agrees_with which can.there) o true) (ap (option_and_then (node_at content)) can.there_parent ∙ can.above_is)
+      ∙ or_right (not (is_linked (held_of which can.there) (Some (held_of which can.above)))) (same_entries (held_of which can.there).inh (pass can.there.kind (full_of (held_of which can.above))))
+      (equal_entries (held_of which can.there).inh (pass can.there.kind (full_of (held_of which can.above)))
+      (ap (λ (h : Held). h.inh) can.there_held ∙ sym stored ∙ is ∙ ap (λ k. pass k (full_of (held_of which folder))) (sym can.there_kind) ∙ ap (λ (h : Held). pass can.there.kind (full_of h)) (sym can.above_held))))
 
   -- ---- it takes what the folder passes
 
@@ -217,13 +229,3 @@ module _ (which : Which) (target folder : Node) (old : Rows) (can : CanRenew whi
             on : (b : Bool) → with_inh which l (cond b (with_inh which entries n) n) ≡ with_inh which l n
             on true = with_last which l entries n
             on false = refl
-
-    -- ---- no loop
-
-    pub never_loops : (mid : Rows) (at : ℕ) → Changes target.id (with_inh which entries) old mid → HasLoop target.id mid at → ⊥
-    never_loops mid at changes (inl unread) = false≢true (ap (λ l. is_among l at) (sym can.readable) ∙ ap (λ (r : Rows). is_unreadable r at) (sym (stored_given mid changes)) ∙ unread)
-    never_loops mid at changes (inr loop) =
-        let found : node_at after target.id ≡ Some (change can.there) = node_at-changed content change change_id target.id ∙ ap (option_map change) can.there_is in
-        rooted_no_loop after target.id can.steps (change can.there) found
-        (ap (reaches_root can.steps after) (change_parent can.there ∙ can.there_parent) ∙ reaches-changed content change change_id change_parent can.steps (Some folder.id) ∙ can.rooted)
-        (subst (λ (r : Rows). IsOwnAncestor r.read target.id) (stored_given mid changes) loop)

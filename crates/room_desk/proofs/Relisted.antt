@@ -7,14 +7,14 @@ use Rattle.std.proofs.lemmas.Bool.{and_parts, and_from}
 use Rattle.std.proofs.lemmas.List.{length-map}
 use Rattle.room_ace.specs.declared.object.Which.{Which}
 use Rattle.room_ace.specs.declared.object.Which.TheVariants.{Dacl, Sacl}
-use Rattle.room_tree.specs.declared.node.Held.{Held}
-use Rattle.room_tree.specs.declared.node.Node.{Node}
-use Rattle.room_tree.specs.Content.{Content, node_at, parent_of, is_root, is_folder, has_folder_above, reaches_root, is_linked_in, with_each}
-use Rattle.room_tree.specs.Held.{held_of, with_held, is_linked}
-use Rattle.room_tree.specs.Keep.{reading}
-use Rattle.room_tree.specs.Meaning.{kept_held, kept_node}
-use Rattle.room_tree.specs.Rows.{Rows, is_unreadable, numbers_of}
-use Rattle.room_tree.proofs.Frames.{KeepsPlaces, keeps_places, place-with_held, node_at-with_each, node_at-number, parent_of-with_each, numbers_of-reading, numbers-with_each}
+use Rattle.room_rows.specs.HeldList.{Held}
+use Rattle.room_rows.specs.declared.node.Node.{Node}
+use Rattle.room_rows.specs.Content.{Content, node_at, parent_of, is_root, is_folder, has_folder_above, reaches_root, is_linked_in, with_each}
+use Rattle.room_rows.specs.Held.{held_of, with_held, is_linked}
+use Rattle.room_rows.specs.Keep.{reading}
+use Rattle.room_rows.specs.Meaning.{kept_held, kept_node}
+use Rattle.room_rows.specs.Rows.{Rows, is_unreadable, numbers_of}
+use Rattle.room_rows.proofs.Frames.{KeepsPlaces, keeps_places, place-with_held, node_at-with_each, node_at-number, parent_of-with_each, numbers_of-reading, numbers-with_each}
 use Rattle.room_inherit.specs.Law.{AllAgree, agrees, agrees_with}
 use Rattle.room_inherit.specs.Sound.{AreSound, bad_root, has_bad_list, has_sound_body, has_sound_lists, has_sound_name, is_sound_held, keeps_law, reaches}
 use Rattle.room_inherit.proofs.NoFault.{no_fault, sound}
@@ -159,24 +159,24 @@ module _ (which : Which) (lists : Node → Held) where
     reach_kept node = ap (λ n. reaches_root n relisted (relist node).parent) (length-map rows.nodes relist) ∙ ap (reaches_root (length rows.nodes) relisted) (parent_kept node) ∙ reaches_kept (length rows.nodes) node.parent
 
     abbrev placed : Option ℕ → List ℕ → ℕ → Node → Bool
-    placed parent name id node = nat_lt node.id id && (Rattle.room_tree.specs.Content.same_parent node.parent parent && Rattle.room_ace.specs.Pieces.same_text node.name name)
+    placed parent name id node = nat_lt node.id id && (Rattle.room_rows.specs.Content.same_parent node.parent parent && Rattle.room_ace.specs.Pieces.same_text node.name name)
 
     sound_name_kept : (node : Node) → has_sound_name relisted (relist node) ≡ has_sound_name rows node
     sound_name_kept node =
-        ap (λ t. t || (Rattle.room_tree.specs.Paths.is_object_name (relist node).name && not (list_any (placed (relist node).parent (relist node).name (relist node).id) relisted.nodes))) (root_kept node)
-        ∙ ap (λ s. is_root node || (Rattle.room_tree.specs.Paths.is_object_name s && not (list_any (placed (relist node).parent s (relist node).id) relisted.nodes))) (name_kept node)
-        ∙ ap (λ o. is_root node || (Rattle.room_tree.specs.Paths.is_object_name node.name && not (list_any (placed o node.name (relist node).id) relisted.nodes))) (parent_kept node)
-        ∙ ap (λ n. is_root node || (Rattle.room_tree.specs.Paths.is_object_name node.name && not (list_any (placed node.parent node.name n) relisted.nodes))) (number_kept node)
-        ∙ ap (λ t. is_root node || (Rattle.room_tree.specs.Paths.is_object_name node.name && not t)) (any_changed relist (placed node.parent node.name node.id) (placed node.parent node.name node.id) one rows.nodes)
+        ap (λ t. t || (Rattle.room_rows.specs.Paths.is_object_name (relist node).name && not (list_any (placed (relist node).parent (relist node).name (relist node).id) relisted.nodes))) (root_kept node)
+        ∙ ap (λ s. is_root node || (Rattle.room_rows.specs.Paths.is_object_name s && not (list_any (placed (relist node).parent s (relist node).id) relisted.nodes))) (name_kept node)
+        ∙ ap (λ o. is_root node || (Rattle.room_rows.specs.Paths.is_object_name node.name && not (list_any (placed o node.name (relist node).id) relisted.nodes))) (parent_kept node)
+        ∙ ap (λ n. is_root node || (Rattle.room_rows.specs.Paths.is_object_name node.name && not (list_any (placed node.parent node.name n) relisted.nodes))) (number_kept node)
+        ∙ ap (λ t. is_root node || (Rattle.room_rows.specs.Paths.is_object_name node.name && not t)) (any_changed relist (placed node.parent node.name node.id) (placed node.parent node.name node.id) one rows.nodes)
       where
         one : (x : Node) → placed node.parent node.name node.id (relist x) ≡ placed node.parent node.name node.id x
         one x =
-            ap (λ n. nat_lt n node.id && (Rattle.room_tree.specs.Content.same_parent (relist x).parent node.parent && Rattle.room_ace.specs.Pieces.same_text (relist x).name node.name)) (number_kept x)
-            ∙ ap (λ o. nat_lt x.id node.id && (Rattle.room_tree.specs.Content.same_parent o node.parent && Rattle.room_ace.specs.Pieces.same_text (relist x).name node.name)) (parent_kept x)
-            ∙ ap (λ s. nat_lt x.id node.id && (Rattle.room_tree.specs.Content.same_parent x.parent node.parent && Rattle.room_ace.specs.Pieces.same_text s node.name)) (name_kept x)
+            ap (λ n. nat_lt n node.id && (Rattle.room_rows.specs.Content.same_parent (relist x).parent node.parent && Rattle.room_ace.specs.Pieces.same_text (relist x).name node.name)) (number_kept x)
+            ∙ ap (λ o. nat_lt x.id node.id && (Rattle.room_rows.specs.Content.same_parent o node.parent && Rattle.room_ace.specs.Pieces.same_text (relist x).name node.name)) (parent_kept x)
+            ∙ ap (λ s. nat_lt x.id node.id && (Rattle.room_rows.specs.Content.same_parent x.parent node.parent && Rattle.room_ace.specs.Pieces.same_text s node.name)) (name_kept x)
 
     body_kept : (node : Node) → has_sound_body relisted (relist node) ≡ has_sound_body rows node
-    body_kept node = ap (λ k. Rattle.room_inherit.specs.Sound.fits_kind k (Rattle.room_tree.specs.Content.body_of rows (relist node).id)) (kind_kept node) ∙ ap (λ n. Rattle.room_inherit.specs.Sound.fits_kind node.kind (Rattle.room_tree.specs.Content.body_of rows n)) (number_kept node)
+    body_kept node = ap (λ k. Rattle.room_inherit.specs.Sound.fits_kind k (Rattle.room_rows.specs.Content.body_of rows (relist node).id)) (kind_kept node) ∙ ap (λ n. Rattle.room_inherit.specs.Sound.fits_kind node.kind (Rattle.room_rows.specs.Content.body_of rows n)) (number_kept node)
 
     -- each object has a folder above it
     pub folders_kept : list_all (has_folder_above rows) rows.nodes ≡ true → list_all (has_folder_above relisted) relisted.nodes ≡ true
@@ -190,7 +190,7 @@ module _ (which : Which) (lists : Node → Held) where
         ∙ ap (λ k. agreed (held_of (other which) node) (held_of (other which) above) k) (kind_kept node)
       where
         agreed : Held → Held → Rattle.room_ace.specs.declared.object.ObjKind.ObjKind → Bool
-        agreed held up kind = not (is_linked held (Some up)) || Rattle.room_ace.specs.Same.same_entries held.inh (Rattle.room_inherit.specs.Pass.pass kind (Rattle.room_tree.specs.Held.full_of up))
+        agreed held up kind = not (is_linked held (Some up)) || Rattle.room_ace.specs.Same.same_entries held.inh (Rattle.room_inherit.specs.Pass.pass kind (Rattle.room_rows.specs.Held.full_of up))
 
     other_agrees : (node : Node) → agrees relisted (other which) (relist node) ≡ agrees rows (other which) node
     other_agrees node = ap (λ o. option_map_or (agrees_with (other which) (relist node)) o true) (parent_relisted node) ∙ on (parent_of rows node)

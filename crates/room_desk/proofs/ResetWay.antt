@@ -2,24 +2,24 @@
 use Rattle.std.proofs.Common.{◌≡◌, ℕ, zero, suc, ◌-◌, ◌&&◌, true, false, cond, not, List, [], ◌∷◌, ◌++◌, filter, length, take, Option, Some, None, refl, sym, ap, ◌∙◌, append_assoc, arith, length-append}
 use Rattle.std.specs.Option.{option_map_or}
 use Rattle.room_ace.specs.declared.parties.Caller.{Caller}
-use Rattle.room_tree.specs.declared.node.Node.{Node}
-use Rattle.room_tree.specs.declared.node.Walk.{Walk}
-use Rattle.room_tree.specs.Content.{Content, child_of, is_empty, is_folder}
-use Rattle.room_tree.specs.Walk.{behind, walk_from}
-use Rattle.room_desk.specs.declared.reply.Reason.TheVariants.{NoSuch, NotFolder}
-use Rattle.room_desk.specs.declared.reply.Reply.{Reply}
-use Rattle.room_desk.specs.declared.reply.Reply.TheVariants.{Refused}
-use Rattle.room_desk.specs.Judge.{first_failure, or_else}
-use Rattle.room_desk.specs.Plan.{Item, way, where_found}
-use Rattle.room_desk.specs.Site.{Site, site_at}
-use Rattle.room_desk.specs.Step.{is_refusal}
-use Rattle.room_desk.specs.Stored.{stored_from, stored_site}
+use Rattle.room_rows.specs.declared.node.Node.{Node}
+use Rattle.room_rows.specs.declared.node.Walk.{Walk}
+use Rattle.room_rows.specs.Content.{Content, child_of, is_empty, is_folder}
+use Rattle.room_rows.specs.Walk.{behind, walk_from}
+use Rattle.room_machine.specs.declared.reply.Reason.TheVariants.{NoSuch, NotFolder}
+use Rattle.room_machine.specs.declared.reply.Reply.{Reply}
+use Rattle.room_machine.specs.declared.reply.Reply.TheVariants.{Refused}
+use Rattle.room_machine.specs.Judge.{first_failure, or_else}
+use Rattle.room_machine.specs.Plan.{Item, way, where_found}
+use Rattle.room_machine.specs.Site.{Site, site_at}
+use Rattle.room_machine.specs.Step.{is_refusal}
+use Rattle.room_judge.specs.Stored.{stored_from, stored_site}
 use Rattle.std.proofs.Math.Seq.{take-append_seam}
 use Rattle.std.proofs.lemmas.List.{append-nil}
 use Rattle.room_ace.specs.declared.object.ObjKind.{ObjKind}
 use Rattle.room_ace.specs.declared.object.ObjKind.TheVariants.{Document, Folder}
-use Rattle.room_tree.specs.Content.{node_at}
-use Rattle.room_tree.proofs.Frames.{Rises, child_of-is_there}
+use Rattle.room_rows.specs.Content.{node_at}
+use Rattle.room_rows.proofs.Frames.{Rises, child_of-is_there}
 use Rattle.room_desk.specs.Setting.{ended_at}
 
 -- ---- the last of the chain

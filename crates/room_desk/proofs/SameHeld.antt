@@ -8,7 +8,7 @@ use Rattle.room_ace.specs.Same.{same_entries, same_entry, who_key}
 use Rattle.room_ace.specs.Text.{flags_text, kind_text}
 use Rattle.room_ace.specs.declared.flags.ListFlags.{ListFlags}
 use Rattle.room_ace.proofs.Same.{entries_equal}
-use Rattle.room_tree.specs.declared.node.Held.{Held}
+use Rattle.room_rows.specs.HeldList.{Held}
 
 abbrev pub flags_same : ListFlags → ListFlags → Bool
 flags_same a b = beq a.auto b.auto && beq a.protect b.protect

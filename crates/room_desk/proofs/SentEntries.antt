@@ -11,8 +11,8 @@ use Rattle.room_ace.specs.declared.fault.ListFault.{ListFault}
 use Rattle.room_ace.specs.declared.flags.EntryFlags.{EntryFlags}
 use Rattle.room_ace.specs.declared.object.ObjKind.{ObjKind}
 use Rattle.room_ace.specs.declared.object.Which.{Which}
-use Rattle.room_desk.specs.declared.reply.Reason.TheVariants.{BadList}
-use Rattle.room_desk.specs.Plan.{first_invalid}
+use Rattle.room_machine.specs.declared.reply.Reason.TheVariants.{BadList}
+use Rattle.room_machine.specs.Plan.{first_invalid}
 use Rattle.room_desk.specs.Setting.{fault_in, marked, reason_of}
 
 module _ (entries : List Ace) (i : ℕ) (entry : Ace) (below : i < length entries) (is : entry ≡ get_or entries i entry) where

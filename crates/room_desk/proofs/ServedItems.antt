@@ -1,25 +1,24 @@
 -- What is judged before an object is changed or made, as the calls give it.
-use Rattle.std.proofs.Common.{◌≡◌, ℕ, ◌+◌, Bool, true, false, cond, List, [], ◌∷◌, ◌++◌, length, Option, Some, None, nat_lt, refl, sym, ap, subst, ◌∙◌, arith, length-append}
+use Rattle.std.proofs.Common.{◌≡◌, ℕ, ◌+◌, Bool, true, false, cond, List, [], ◌∷◌, ◌++◌, length, Option, Some, None, nat_lt, refl, sym, ap, subst, ◌∙◌, inl, arith, length-append}
 use Rattle.room_ace.specs.Rights.{write_data}
-use Rattle.room_tree.specs.declared.node.NewNode.{NewNode}
-use Rattle.room_tree.specs.Keep.{Adds, IsUnreadable, SetsBody}
-use Rattle.room_tree.specs.Paths.{is_object_name}
-use Rattle.room_tree.specs.Rows.{Rows}
-use Rattle.room_desk.specs.declared.arrival.Spot.{Spot}
-use Rattle.room_desk.specs.declared.asker.Asker.{Asker}
-use Rattle.room_desk.specs.declared.reply.Reply.{Reply}
-use Rattle.room_desk.specs.declared.reply.Reply.TheVariants.{Done, Made, Refused}
-use Rattle.room_desk.specs.declared.reply.Reason.{Reason}
-use Rattle.room_desk.specs.declared.reply.Reason.TheVariants.{TooLarge}
-use Rattle.room_desk.specs.Site.{Site, last_name}
-use Rattle.room_desk.specs.Plan.{Check, Refusal, no_folder, not_over}
-use Rattle.room_desk.specs.Judged.{IsJudged, NotSound}
+use Rattle.room_rows.specs.declared.node.NewNode.{NewNode}
+use Rattle.room_rows.specs.Keep.{IsDamaged, IsUnreadable, SetsBody}
+use Rattle.room_rows.specs.Paths.{is_object_name}
+use Rattle.room_rows.specs.Rows.{Rows}
+use Rattle.room_judge.specs.declared.arrival.Spot.{Spot}
+use Rattle.room_judge.specs.declared.asker.Asker.{Asker}
+use Rattle.room_machine.specs.declared.reply.Reply.{Reply}
+use Rattle.room_machine.specs.declared.reply.Reply.TheVariants.{Done, Made, Refused}
+use Rattle.room_machine.specs.declared.reply.Reason.{Reason}
+use Rattle.room_machine.specs.declared.reply.Reason.TheVariants.{TooLarge}
+use Rattle.room_machine.specs.Site.{Site, last_name}
+use Rattle.room_machine.specs.Plan.{Check, Item, Refusal, no_folder, not_over}
+use Rattle.room_judge.specs.Judged.{IsJudged}
 use Rattle.room_desk.specs.Made.{IsMade, IsNameOf, IsServed}
-use Rattle.room_desk.specs.Spot.{IsSpotted}
+use Rattle.room_judge.specs.Spot.{IsSpotted}
 use Rattle.room_desk.specs.Written.{IsPut, TakesBytes}
-use Rattle.room_desk.proofs.Judging.{blames_first, judged_none, passes_first, passes_on, refuses}
-use Rattle.room_desk.proofs.SoundParts.{readable_unsound}
-use Rattle.room_desk.proofs.Spots.{last_of}
+use Rattle.room_judge.proofs.Judging.{blames_first, judged_none, passes_first, passes_on, refuses}
+use Rattle.room_judge.proofs.Spots.{last_of}
 
 -- the last part of a path that was split
 pub name_of_parts : (path names : List (List ℕ)) (name : List ℕ) → path ≡ names ++ name ∷ [] → is_object_name name ≡ true → IsNameOf path name
@@ -28,20 +27,23 @@ name_of_parts path names name parts sound =
     record { some = omega arith; last = sym (ap last_name parts ∙ last_of names name); sound = sound }
 
 -- a row that can't be read behind the way
-pub spotted_blames : (asker : Asker) (path : List (List ℕ)) (spot : Spot) (old mid : Rows) (at : ℕ) → IsSpotted asker path old spot mid → IsUnreadable mid at → NotSound old at
-spotted_blames asker path spot old mid at spotted h = readable_unsound old at (blames_first asker _ _ old mid at spotted.judged h)
+pub spotted_blames : (asker : Asker) (path : List (List ℕ)) (spot : Spot) (old mid : Rows) (at : ℕ) → IsSpotted asker path old spot mid → IsUnreadable mid at → IsDamaged old at
+spotted_blames asker path spot old mid at spotted h = inl (inl (blames_first asker _ _ old mid at spotted.judged h))
 
 module _ (asker : Asker) where
+  pub judged_unread : (items : List Item) (answer : Option Reply) (old mid : Rows) (at : ℕ) → IsJudged asker items old answer mid → IsUnreadable mid at → IsUnreadable old at
+  judged_unread items answer old mid at judged h = blames_first asker items answer old mid at judged h
+
   -- a check passed, and what a refusal asks for isn't so
-  pub added_behind : (site : Site) (mask bits : List ℕ) (at : List (List ℕ)) (why : Reason) (holds : Bool) (node other : NewNode) (id : ℕ) (old mid new : Rows) (answer : Option Reply) → mask ≡ bits → answer ≡ None → holds ≡ false → node ≡ other
-      → IsJudged asker (Check site mask ∷ []) old answer mid → Adds node mid id new → IsServed asker (Check site bits ∷ Refusal at why holds ∷ []) Made (IsMade other) old Made new
-  added_behind site mask bits at why holds node other id old mid new answer same passes isnt made judged adds = record {
+  pub added_behind : (site : Site) (mask bits : List ℕ) (at : List (List ℕ)) (why : Reason) (holds : Bool) (node : NewNode) (old mid new : Rows) (answer : Option Reply) (reply : Reply) → mask ≡ bits → answer ≡ None → holds ≡ false
+      → IsJudged asker (Check site mask ∷ []) old answer mid → (reply ≡ Made) × IsMade node mid new → IsServed asker (Check site bits ∷ Refusal at why holds ∷ []) Made (IsMade node) old reply new
+  added_behind site mask bits at why holds node old mid new answer reply same passes isnt judged made = record {
     answer = None;
     mid = mid;
     judged = passes_first asker (Check site bits ∷ []) (Refusal at why holds ∷ []) old mid mid None
         (subst (λ (b : List ℕ). IsJudged asker (Check site b ∷ []) old None mid) same (subst (λ (o : Option Reply). IsJudged asker (Check site mask ∷ []) old o mid) passes judged))
         (passes_on asker at why holds [] mid mid None isnt (judged_none asker mid mid refl));
-    ends = (refl, (id, subst (λ (n : NewNode). Adds n mid id new) made adds));
+    ends = made;
   }
 
   -- a document that is there passed, and gets the bytes if there aren't too many

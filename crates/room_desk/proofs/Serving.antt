@@ -1,5 +1,5 @@
 -- The replies of requests that change nothing but records.
-use Rattle.std.proofs.Common.{◌≡◌, ℕ, Bool, true, false, cond, not, List, [], ◌∷◌, ◌++◌, map, Option, Some, None, refl, sym, ap, subst, ◌∙◌}
+use Rattle.std.proofs.Common.{◌≡◌, ℕ, Bool, true, false, cond, not, List, [], ◌∷◌, ◌++◌, map, Option, Some, None, refl, sym, ap, subst, ◌∙◌, inl, inr}
 use Rattle.std.specs.Prelude.{unwrap_or, is_none, nat_le, length, ◌==◌}
 use Rattle.std.specs.Option.{option_map_or}
 use Rattle.std.proofs.lemmas.Bool.{false≢true}
@@ -10,38 +10,41 @@ use Rattle.room_ace.specs.declared.object.ObjKind.TheVariants.{Document, Folder}
 use Rattle.room_ace.specs.declared.object.Which.{Which}
 use Rattle.room_ace.specs.declared.object.Which.TheVariants.{Dacl, Sacl}
 use Rattle.room_eval.specs.Verdict.{ruling_of}
-use Rattle.room_tree.specs.declared.node.Node.{Node}
-use Rattle.room_tree.specs.Held.{held_of, full_of}
-use Rattle.room_tree.specs.Content.{Content, node_at, root_of, child_of, body_of, children_of}
-use Rattle.room_tree.specs.Meaning.{meaning, kept_node}
-use Rattle.room_tree.specs.Rows.{Rows, AreRows}
-use Rattle.room_tree.proofs.Frames.{Rises, root_of-is_there, child_of-is_there, keeps_places, children_of-with_each}
+use Rattle.room_rows.specs.declared.node.Node.{Node}
+use Rattle.room_rows.specs.Held.{held_of, full_of}
+use Rattle.room_rows.specs.Content.{Content, node_at, root_of, child_of, body_of, children_of}
+use Rattle.room_rows.specs.Meaning.{meaning, kept_node}
+use Rattle.room_rows.specs.Rows.{Rows, AreRows}
+use Rattle.room_rows.proofs.Frames.{Rises, root_of-is_there, child_of-is_there, keeps_places, children_of-with_each}
 use Rattle.room_inherit.specs.Sound.{AreSound, has_sound_body}
-use Rattle.room_tree.specs.declared.node.AuditRow.{AuditRow}
-use Rattle.room_tree.specs.Content.{with_records}
-use Rattle.room_desk.specs.declared.arrival.Arrival.{Arrival}
-use Rattle.room_desk.specs.declared.arrival.Arrival.TheVariants.{At, Ended}
-use Rattle.room_desk.specs.declared.asker.Asker.{Asker}
-use Rattle.room_desk.specs.declared.reply.Reply.{Reply}
-use Rattle.room_desk.specs.declared.reply.Reply.TheVariants.{Bytes, Names, Lists, Attr, Rulings, Done}
-use Rattle.room_desk.specs.declared.request.Request.{Request}
-use Rattle.room_desk.specs.declared.request.Request.TheVariants.{Read, List as ListFolder, ReadList, ReadAttr, Can}
-use Rattle.room_desk.specs.Site.{Site, full_at, sites_along, site_at}
-use Rattle.room_desk.specs.Plan.{Item, Check, to_target, plan_of, where_found, no_folder, way}
-use Rattle.room_desk.specs.Judge.{failure, first_failure, or_else}
-use Rattle.room_desk.specs.Effect.{effect, with_site}
-use Rattle.room_desk.specs.Stored.{stored_site, stored_from, stored_along}
-use Rattle.room_desk.specs.Judged.{IsJudged, IsReached, CarriesOut, NotSound, of_kind}
-use Rattle.room_desk.proofs.Judging.{failure_of_parts}
-use Rattle.room_tree.specs.Keep.{IsUnreadable}
-use Rattle.room_desk.proofs.SoundParts.{sound_parts, passes_test, readable_unsound}
+use Rattle.room_rows.specs.declared.node.AuditRow.{AuditRow}
+use Rattle.room_rows.specs.Content.{with_records}
+use Rattle.room_judge.specs.declared.arrival.Arrival.{Arrival}
+use Rattle.room_judge.specs.declared.arrival.Arrival.TheVariants.{At, Ended}
+use Rattle.room_judge.specs.declared.asker.Asker.{Asker}
+use Rattle.room_machine.specs.declared.reply.Reply.{Reply}
+use Rattle.room_machine.specs.declared.reply.Reply.TheVariants.{Bytes, Names, Lists, Attr, Rulings, Done}
+use Rattle.room_machine.specs.declared.request.Request.{Request}
+use Rattle.room_machine.specs.declared.request.Request.TheVariants.{Read, List as ListFolder, ReadList, ReadAttr, Can}
+use Rattle.room_machine.specs.Site.{Site, full_at, sites_along, site_at}
+use Rattle.room_machine.specs.Plan.{Item, Check, to_target, plan_of, where_found, no_folder, way}
+use Rattle.room_machine.specs.Judge.{failure, first_failure, or_else}
+use Rattle.room_machine.specs.Effect.{effect, with_site}
+use Rattle.room_judge.specs.Stored.{stored_site, stored_from, stored_along}
+use Rattle.room_judge.specs.Judged.{IsJudged, IsReached, CarriesOut, of_kind}
+use Rattle.room_judge.proofs.Judging.{failure_of_parts}
+use Rattle.room_rows.specs.Keep.{IsDamaged, IsUnreadable}
+use Rattle.room_desk.specs.Answered.{AreNamesOf, IsBytesOf}
+use Rattle.room_desk.specs.Asked.{rulings_at}
+use Rattle.room_desk.specs.Written.{HasNoBytes}
+use Rattle.room_desk.proofs.SoundParts.{sound_parts}
 use Rattle.room_desk.proofs.Sites.{fill}
 use Rattle.room_desk.proofs.Filled.{fill_item, plan_judged, target_there}
 use Rattle.room_desk.proofs.Stepping.{refused_step, served_step}
 
 module _ (asker : Asker) (path : List (List ℕ)) (request : Request) (items : Site → List Item)
     (planned : (content : Content) → plan_of content request ≡ to_target content path items) (same : (site : Site) → items (fill site) ≡ map fill_item (items site)) where
-  plan_is : (old new : Rows) (answer : Option Reply) → AreRows old → AreSound old → IsJudged asker (Rattle.room_desk.specs.Stored.to_stored old.read path items) old answer new → IsJudged asker (plan_of (meaning old.read) request) old answer new
+  plan_is : (old new : Rows) (answer : Option Reply) → AreRows old → AreSound old → IsJudged asker (Rattle.room_judge.specs.Stored.to_stored old.read path items) old answer new → IsJudged asker (plan_of (meaning old.read) request) old answer new
   plan_is old new answer are sound judged =
       subst (λ list. IsJudged asker list old answer new) (sym (planned (meaning old.read))) (plan_judged asker path items old new answer are (sound_parts old sound) same judged)
 
@@ -113,13 +116,12 @@ module _ (asker : Asker) (path : List (List ℕ)) where
       (λ content target. Attr target.node.kind target.node.owners) (λ content id. refl) old new node reply are reached
       (λ target filled. ap (λ (s : Site). Attr s.node.kind s.node.owners) filled ∙ sym replies)
 
-  pub served_rulings : (mask : List ℕ) (old new : Rows) (node : Node) (rulings : List (List ℕ × Rattle.room_eval.specs.declared.outcome.Ruling.Ruling)) → AreRows old → IsReached asker path (λ _. []) old (At node) new
-      → rulings ≡ map (λ bit. (bit ∷ [], ruling_of (full_of node.dacl) asker.caller node.owners bit)) mask → CarriesOut asker (Can path mask) old (Rulings rulings) new
-  served_rulings mask old new node rulings are reached ruled =
+  pub served_rulings : (mask : List ℕ) (old new : Rows) (node : Node) (reply : Reply) → AreRows old → IsReached asker path (λ _. []) old (At node) new
+      → reply ≡ Rulings (rulings_at asker node mask) → CarriesOut asker (Can path mask) old reply new
+  served_rulings mask old new node reply are reached replies =
       served asker path (Can path mask) (λ _. []) (λ content. refl) (λ site. refl)
-      (λ content target. Rulings (map (λ bit. (bit ∷ [], ruling_of (full_at Dacl target) asker.caller target.node.owners bit)) mask)) (λ content id. refl) old new node (Rulings rulings) are reached
-      (λ target filled. ap (λ (s : Site). Rulings (map (λ bit. (bit ∷ [], ruling_of (full_at Dacl s) asker.caller s.node.owners bit)) mask)) filled
-      ∙ ap (λ (l : List (List ℕ × Rattle.room_eval.specs.declared.outcome.Ruling.Ruling)). Rulings l) (sym ruled))
+      (λ content target. Rulings (map (λ bit. (bit ∷ [], ruling_of (full_at Dacl target) asker.caller target.node.owners bit)) mask)) (λ content id. refl) old new node reply are reached
+      (λ target filled. ap (λ (s : Site). Rulings (map (λ bit. (bit ∷ [], ruling_of (full_at Dacl s) asker.caller s.node.owners bit)) mask)) filled ∙ sym replies)
 
 -- ---- the same, as the calls give it
 
@@ -143,8 +145,8 @@ pub reached_rows : {X : Type 0} (part : Content → X) (asker : Asker) (path : L
 reached_rows part asker path items arrival old mid kept reached = ap (λ (r : Rows). part r.read) reached.judged.notes ∙ kept old.read _
 
 -- a row that can't be read then couldn't be read before
-pub reached_unsound : (asker : Asker) (path : List (List ℕ)) (items : Site → List Item) (arrival : Arrival) (old mid : Rows) (at : ℕ) → IsReached asker path items old arrival mid → IsUnreadable mid at → NotSound old at
-reached_unsound asker path items arrival old mid at reached h = readable_unsound old at (subst (λ (r : Rows). IsUnreadable r at) reached.judged.notes h)
+pub reached_damaged : (asker : Asker) (path : List (List ℕ)) (items : Site → List Item) (arrival : Arrival) (old mid : Rows) (at : ℕ) → IsReached asker path items old arrival mid → IsUnreadable mid at → IsDamaged old at
+reached_damaged asker path items arrival old mid at reached h = inl (inl (subst (λ (r : Rows). IsUnreadable r at) reached.judged.notes h))
 
 -- nothing is changed after the walk
 pub reached_then : (asker : Asker) (path : List (List ℕ)) (items : Site → List Item) (arrival : Arrival) (old mid new : Rows) → new ≡ mid → IsReached asker path items old arrival mid → IsReached asker path items old arrival new
@@ -178,7 +180,7 @@ along_there content rises path site is = on (root_of content) (λ root found. ro
 pub folder_fails : (caller : Rattle.room_ace.specs.declared.parties.Caller.Caller) (site : Site) → None ≡ failure caller (no_folder site) → is_document site.node.kind ≡ true
 folder_fails caller site passes = on (is_document site.node.kind) passes
   where
-    on : (t : Bool) → None ≡ cond (not t) (Some (Rattle.room_desk.specs.declared.reply.Reply.TheVariants.Refused site.path Rattle.room_desk.specs.declared.reply.Reason.TheVariants.WrongKind)) None → t ≡ true
+    on : (t : Bool) → None ≡ cond (not t) (Some (Rattle.room_machine.specs.declared.reply.Reply.TheVariants.Refused site.path Rattle.room_machine.specs.declared.reply.Reason.TheVariants.WrongKind)) None → t ≡ true
     on true passes = refl
     on false passes = absurd (let wrong : ⊥ = cc in wrong)
 
@@ -191,14 +193,24 @@ document_there asker path bits old new node are reached =
     let at_site = none_both (first_failure asker.caller (way false (stored_along old.read path) path)) _ (judged ∙ failure_of_parts asker.caller asker.at (way false (stored_along old.read path) path) (no_folder site ∷ Check site bits ∷ [])) in
     (along_there old.read are.numbers path site reached.found, folder_fails asker.caller site (none_both (failure asker.caller (no_folder site)) (first_failure asker.caller (Check site bits ∷ [])) at_site.1).0)
 
--- that it lacks bytes isn't so in sound rows
-pub no_bytes : (asker : Asker) (path : List (List ℕ)) (bits : List ℕ) (old new : Rows) (node : Node) (at : ℕ) → AreRows old → IsReached asker path (DocumentAt bits) old (At node) new → None ≡ body_of old.read node.id → NotSound old at
-no_bytes asker path bits old new node at are reached lacks sound =
-    let document = document_there asker path bits old new node are reached in
-    let fits : has_sound_body old.read node ≡ true = passes_test (has_sound_body old.read) (λ n. n.id == node.id) old.read.nodes node (sound_parts old sound).bodies document.0 in
-    absurd (wrong (is_document node.kind) (body_of old.read node.id) document.1 lacks fits)
-  where
-    wrong : (t : Bool) (o : Option (List ℕ)) → t ≡ true → None ≡ o → cond t (option_map_or (λ bytes. nat_le (length bytes) 1048576) o false) (is_none o) ≡ true → ⊥
-    wrong true None is none fits = false≢true fits
-    wrong true (Some x) is none fits = let no : ⊥ = cc in no
-    wrong false o is none fits = false≢true is
+-- a document that lacks bytes, behind the records of the way to it
+pub no_bytes : (asker : Asker) (path : List (List ℕ)) (bits : List ℕ) (old mid : Rows) (node : Node) (at : ℕ) → AreRows old → IsReached asker path (DocumentAt bits) old (At node) mid → HasNoBytes node.id mid at → IsDamaged old at
+no_bytes asker path bits old mid node at are reached (inl unreadable) = inl (inl (subst (λ (r : Rows). IsUnreadable r at) reached.judged.notes unreadable))
+no_bytes asker path bits old mid node at are reached (inr lacks) =
+    let document = document_there asker path bits old mid node are reached in
+    inr (node, ap (node_at old.read) lacks.0 ∙ document.0, document.1, ap (body_of old.read) lacks.0 ∙ sym (ap (λ (r : Rows). body_of r.read node.id) reached.judged.notes) ∙ lacks.1)
+
+-- ---- what is answered behind the walk
+
+module _ (asker : Asker) (path : List (List ℕ)) where
+  pub bytes_answered : (old mid new : Rows) (node : Node) (reply : Reply) → AreRows old → IsReached asker path (DocumentAt (read_data ∷ [])) old (At node) mid → IsBytesOf node.id mid reply → new ≡ mid → CarriesOut asker (Read path) old reply new
+  bytes_answered old mid new node reply are reached told same =
+      subst (λ (r : Reply). CarriesOut asker (Read path) old r new) (sym told.reply_is)
+      (served_bytes asker path old new node told.bytes are (reached_then asker path (DocumentAt (read_data ∷ [])) (At node) old mid new same reached)
+      (sym told.are ∙ ap (λ (r : Rows). body_of r.read node.id) reached.judged.notes))
+
+  pub names_answered : (old mid new : Rows) (node : Node) (reply : Reply) → AreRows old → IsReached asker path (FolderAt (read_data ∷ [])) old (At node) mid → AreNamesOf node.id mid reply → new ≡ mid → CarriesOut asker (ListFolder path) old reply new
+  names_answered old mid new node reply are reached told same =
+      subst (λ (r : Reply). CarriesOut asker (ListFolder path) old r new) (sym told)
+      (served_names asker path old new node (map shown (children_of mid.read node.id)) are (reached_then asker path (FolderAt (read_data ∷ [])) (At node) old mid new same reached)
+      (ap (λ (r : Rows). map shown (children_of r.read node.id)) reached.judged.notes))

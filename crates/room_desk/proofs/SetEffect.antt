@@ -5,18 +5,18 @@ use Rattle.room_ace.specs.Sent.{Sent, inherited_of, own_of}
 use Rattle.room_ace.specs.declared.object.Which.{Which}
 use Rattle.room_ace.specs.declared.object.Which.TheVariants.{Dacl, Sacl}
 use Rattle.room_ace.specs.declared.parties.Caller.{Caller}
-use Rattle.room_tree.specs.declared.node.Held.{Held}
-use Rattle.room_tree.specs.declared.node.Node.{Node}
-use Rattle.room_tree.specs.Content.{Content, has_parent, is_linked_in, parent_of, with_each, with_node}
-use Rattle.room_tree.specs.Held.{held_of, with_held}
-use Rattle.room_tree.specs.Meaning.{kept_held, kept_node, meaning}
-use Rattle.room_tree.specs.Rows.{Rows, AreRows}
-use Rattle.room_desk.specs.declared.reply.Reply.TheVariants.{Done}
-use Rattle.room_desk.specs.declared.request.Request.TheVariants.{SetList}
-use Rattle.room_desk.specs.Effect.{effect, kept_by_child, sent_held, set_list, with_site}
+use Rattle.room_rows.specs.HeldList.{Held}
+use Rattle.room_rows.specs.declared.node.Node.{Node}
+use Rattle.room_rows.specs.Content.{Content, has_parent, is_linked_in, parent_of, with_each, with_node}
+use Rattle.room_rows.specs.Held.{held_of, with_held}
+use Rattle.room_rows.specs.Meaning.{kept_held, kept_node, meaning}
+use Rattle.room_rows.specs.Rows.{Rows, AreRows}
+use Rattle.room_machine.specs.declared.reply.Reply.TheVariants.{Done}
+use Rattle.room_machine.specs.declared.request.Request.TheVariants.{SetList}
+use Rattle.room_machine.specs.Effect.{effect, kept_by_child, sent_held, set_list, with_site}
 use Rattle.room_desk.specs.Setting.{kept_site}
-use Rattle.room_desk.specs.Site.{Site, front, full_at, parent_at, site_at, sites_along}
-use Rattle.room_desk.specs.Stored.{stored_along, stored_site}
+use Rattle.room_machine.specs.Site.{Site, front, full_at, parent_at, site_at, sites_along}
+use Rattle.room_judge.specs.Stored.{stored_along, stored_site}
 use Rattle.room_desk.proofs.Filled.{IsTarget, site_filled, target_there}
 use Rattle.room_desk.proofs.Sites.{fill, sites_filled}
 use Rattle.room_desk.proofs.SoundParts.{SoundParts}

@@ -7,15 +7,15 @@ use Rattle.std.proofs.lemmas.Bool.{and_parts, and_from, cases_Bool, cond-true, c
 use Rattle.room_ace.specs.Ace.{Ace}
 use Rattle.room_ace.specs.declared.object.Which.{Which}
 use Rattle.room_ace.specs.declared.object.Which.TheVariants.{Dacl, Sacl}
-use Rattle.room_tree.specs.declared.node.Held.{Held}
-use Rattle.room_tree.specs.declared.node.Node.{Node}
-use Rattle.room_tree.specs.Content.{Content, node_at, parent_of, has_parent, is_linked_in, with_each, with_node}
-use Rattle.room_tree.specs.Finding.{find_id}
-use Rattle.room_tree.specs.Held.{held_of, with_held, is_linked}
-use Rattle.room_tree.specs.Keep.{with_inh}
-use Rattle.room_tree.specs.Rows.{Rows, is_unreadable, put_numbers}
-use Rattle.room_tree.proofs.Frames.{Rises, node_at-number, place-with_held, with_each-with_each, with_node-replaces}
-use Rattle.room_tree.proofs.Lookups.{each_found, replaced, same_some}
+use Rattle.room_rows.specs.HeldList.{Held}
+use Rattle.room_rows.specs.declared.node.Node.{Node}
+use Rattle.room_rows.specs.Content.{Content, node_at, parent_of, has_parent, is_linked_in, with_each, with_node}
+use Rattle.room_rows.specs.Finding.{find_id}
+use Rattle.room_rows.specs.Held.{held_of, with_held, is_linked}
+use Rattle.room_rows.specs.Keep.{with_inh}
+use Rattle.room_rows.specs.Rows.{Rows, is_unreadable, put_numbers}
+use Rattle.room_rows.proofs.Frames.{Rises, node_at-number, place-with_held, with_each-with_each, with_node-replaces}
+use Rattle.room_rows.proofs.Lookups.{each_found, replaced, same_some}
 use Rattle.room_inherit.specs.Law.{AllAgree}
 use Rattle.room_inherit.specs.Sound.{AreSound, has_bad_list, has_sound_lists, is_sound_held, reaches}
 use Rattle.room_inherit.specs.Spread.{with_lists}

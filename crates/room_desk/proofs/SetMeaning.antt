@@ -8,17 +8,17 @@ use Rattle.room_ace.specs.Sent.{Sent, inherited_of, own_of}
 use Rattle.room_ace.specs.declared.object.ObjKind.{ObjKind}
 use Rattle.room_ace.specs.declared.object.Which.{Which}
 use Rattle.room_ace.specs.declared.object.Which.TheVariants.{Dacl, Sacl}
-use Rattle.room_tree.specs.declared.node.Held.{Held}
-use Rattle.room_tree.specs.declared.node.Node.{Node}
-use Rattle.room_tree.specs.Content.{Content, node_at, parent_of, has_parent, is_linked_in, with_each, with_node}
-use Rattle.room_tree.specs.Held.{held_of, full_of, with_held, is_linked}
-use Rattle.room_tree.specs.Meaning.{kept_held, kept_node, meaning}
-use Rattle.room_tree.proofs.Frames.{Rises, keeps_places, node_at-number, node_at-with_each, parent_is, place-with_held, rises-with_each, with_each-with_each, with_node-replaces}
-use Rattle.room_tree.proofs.Lookups.{IsSamePlace, replaced}
+use Rattle.room_rows.specs.HeldList.{Held}
+use Rattle.room_rows.specs.declared.node.Node.{Node}
+use Rattle.room_rows.specs.Content.{Content, node_at, parent_of, has_parent, is_linked_in, with_each, with_node}
+use Rattle.room_rows.specs.Held.{held_of, full_of, with_held, is_linked}
+use Rattle.room_rows.specs.Meaning.{kept_held, kept_node, meaning}
+use Rattle.room_rows.proofs.Frames.{Rises, keeps_places, node_at-number, node_at-with_each, parent_is, place-with_held, rises-with_each, with_each-with_each, with_node-replaces}
+use Rattle.room_rows.proofs.Lookups.{IsSamePlace, replaced}
 use Rattle.room_inherit.specs.Pass.{pass}
-use Rattle.room_desk.specs.Effect.{kept_by_child, sent_held, set_list}
+use Rattle.room_machine.specs.Effect.{kept_by_child, sent_held, set_list}
 use Rattle.room_desk.specs.Setting.{kept_site, stored_held}
-use Rattle.room_desk.specs.Site.{full_at}
+use Rattle.room_machine.specs.Site.{full_at}
 use Rattle.room_desk.proofs.Relisted.{relist, kept_relisted}
 use Rattle.room_desk.proofs.SetHeld.{base, base_here, base_elsewhere, each_same, ends, final, links, linked_finally, mid, other_links, own_held, same_object, unlinked_kept}
 
@@ -183,7 +183,7 @@ module _ (which : Which) (rows : Content) (node : Node) (held : Held) (lists : N
         (node_at-with_each rows (λ n. changed (keeps n)) places node.id ∙ ap (option_map (λ n. changed (keeps n))) there) target_place)
         ∙ ap (λ (c : Content). with_node c (with_held which set (keeps node))) (sym (with_each-with_each rows keeps changed))
       where
-        places : Rattle.room_tree.proofs.Frames.KeepsPlaces rows (λ n. changed (keeps n))
+        places : Rattle.room_rows.proofs.Frames.KeepsPlaces rows (λ n. changed (keeps n))
         places = keeps_places rows (λ n. changed (keeps n)) (λ n. let p = place_changed (keeps n) in record { number = p.number; parent = p.parent; name = p.name })
 
         all_rise : Rises (with_each rows (λ n. changed (keeps n)))

@@ -6,25 +6,32 @@ use Rattle.room_ace.specs.Rights.{write_acl}
 use Rattle.room_ace.specs.Sent.{Sent}
 use Rattle.room_ace.specs.declared.fault.ListFault.{ListFault}
 use Rattle.room_ace.specs.declared.object.Which.{Which}
-use Rattle.room_tree.specs.declared.node.Node.{Node}
-use Rattle.room_tree.specs.Content.{node_at, parent_of}
-use Rattle.room_tree.specs.Meaning.{meaning}
-use Rattle.room_tree.specs.Rows.{Rows, AreRows}
+use Rattle.room_rows.specs.declared.node.Node.{Node}
+use Rattle.room_rows.specs.Content.{node_at, parent_of}
+use Rattle.room_rows.specs.Keep.{IsDamaged}
+use Rattle.room_rows.specs.Meaning.{meaning}
+use Rattle.room_rows.specs.declared.node.AuditRow.{AuditRow}
+use Rattle.room_machine.specs.Judge.{records_of_plan}
+use Rattle.room_rows.specs.Rows.{Rows, AreRows}
 use Rattle.room_inherit.specs.Sound.{AreSound}
-use Rattle.room_desk.specs.declared.arrival.Arrival.TheVariants.{At, Ended}
-use Rattle.room_desk.specs.declared.asker.Asker.{Asker}
-use Rattle.room_desk.specs.declared.reply.Reason.TheVariants.{BadList}
-use Rattle.room_desk.specs.declared.reply.Reply.{Reply}
-use Rattle.room_desk.specs.declared.reply.Reply.TheVariants.{Done, Refused}
-use Rattle.room_desk.specs.declared.request.Request.TheVariants.{SetList}
-use Rattle.room_desk.specs.Effect.{set_list}
-use Rattle.room_desk.specs.Judged.{CarriesOut, IsJudged, IsReached, NotSound}
-use Rattle.room_desk.specs.Plan.{Item, bad_list, first_invalid, plan_of, way, where_found}
-use Rattle.room_desk.specs.Setting.{IsSetOrRefused, IsSetWell, SetUnless, SetsBadly, kept_site, reason_of}
-use Rattle.room_desk.specs.Site.{Site, site_at}
-use Rattle.room_desk.specs.Stored.{stored_along, to_stored}
+use Rattle.room_judge.specs.declared.arrival.Arrival.TheVariants.{At, Ended}
+use Rattle.room_judge.specs.declared.asker.Asker.{Asker}
+use Rattle.room_machine.specs.declared.reply.Reason.TheVariants.{BadList}
+use Rattle.room_machine.specs.declared.reply.Reply.{Reply}
+use Rattle.room_machine.specs.declared.reply.Reply.TheVariants.{Done, Refused}
+use Rattle.room_machine.specs.declared.request.Request.TheVariants.{SetList}
+use Rattle.room_machine.specs.Effect.{set_list}
+use Rattle.room_judge.specs.Judged.{CarriesOut, IsJudged, IsReached, noted}
+use Rattle.room_machine.specs.Plan.{Item, bad_list, first_invalid, plan_of, way, where_found}
+use Rattle.room_desk.specs.Carrying.{IsRooted, IsUnreadableIfRooted}
+use Rattle.room_desk.proofs.Blamed.{noted_unread}
+use Rattle.room_desk.proofs.MovingPlan.{along_noted}
+use Rattle.room_desk.proofs.RootedWays.{rooted_along}
+use Rattle.room_desk.specs.Setting.{IsSetOrRefused, IsSetWell, SetUnless, kept_site, reason_of}
+use Rattle.room_machine.specs.Site.{Site, site_at}
+use Rattle.room_judge.specs.Stored.{stored_along, to_stored}
 use Rattle.room_desk.proofs.Filled.{fill_item, plan_judged}
-use Rattle.room_desk.proofs.Judging.{fails_first, judged_none, passes_first, refuses}
+use Rattle.room_judge.proofs.Judging.{fails_first, judged_none, passes_first, refuses}
 use Rattle.room_desk.proofs.Serving.{CheckAt}
 use Rattle.room_desk.proofs.SetEffect.{set_effect}
 use Rattle.room_desk.proofs.Sites.{fill}
@@ -103,5 +110,10 @@ module _ (asker : Asker) (path : List (List ℕ)) (which : Which) (sent : Sent) 
     pub set_done : (new : Rows) (reply : Reply) → IsSetOrRefused path which sent node mid reply new → CarriesOut asker (SetList path which sent) old reply new
     set_done new reply said = on_faults (first_invalid 1 which node.kind sent.entries) new reply refl said said.replies said.becomes
 
-    pub set_blames : (at : ℕ) → SetsBadly node mid at → NotSound old at
-    set_blames at bad sound = bad there_mid (subst AreSound (sym reached.judged.notes) (sound_noted old _ sound))
+    pub set_blames : (at : ℕ) → IsUnreadableIfRooted node.id mid at → IsDamaged old at
+    set_blames at fails =
+        let rooted : IsRooted node.id (noted old records) = rooted_along (noted old records) are.numbers path path node (ap (λ sites. site_at sites path) (along_noted old.read records path) ∙ reached.found) in
+        noted_unread old mid records at reached.judged.notes (fails (subst (IsRooted node.id) (sym reached.judged.notes) rooted))
+      where
+        records : List AuditRow
+        records = records_of_plan asker.caller asker.at (to_stored old.read path (CheckAt (write_acl ∷ [])))

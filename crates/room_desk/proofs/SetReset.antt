@@ -6,26 +6,30 @@ use Rattle.room_ace.specs.Sent.{Sent}
 use Rattle.room_ace.specs.declared.fault.ListFault.{ListFault}
 use Rattle.room_ace.specs.declared.object.Which.{Which}
 use Rattle.room_ace.specs.declared.parties.Caller.{Caller}
-use Rattle.room_tree.specs.declared.node.Node.{Node}
-use Rattle.room_tree.specs.declared.node.Walk.{Walk}
-use Rattle.room_tree.specs.Content.{Content, child_of, has_folder_above, is_folder, node_at, parent_of}
-use Rattle.room_tree.specs.Meaning.{meaning}
-use Rattle.room_tree.specs.Rows.{Rows, AreRows}
-use Rattle.room_tree.specs.Walk.{walk_of, walk_from}
-use Rattle.room_tree.proofs.Frames.{child_of-is_there, child_of-parent, root_of-is_there}
+use Rattle.room_rows.specs.declared.node.Node.{Node}
+use Rattle.room_rows.specs.declared.node.Walk.{Walk}
+use Rattle.room_rows.specs.Content.{Content, child_of, has_folder_above, is_folder, node_at, parent_of}
+use Rattle.room_rows.specs.Keep.{IsDamaged}
+use Rattle.room_rows.specs.Meaning.{meaning}
+use Rattle.room_rows.specs.Rows.{Rows, AreRows}
+use Rattle.room_rows.specs.Walk.{walk_of, walk_from}
+use Rattle.room_rows.proofs.Frames.{child_of-is_there, child_of-parent, root_of-is_there}
 use Rattle.room_inherit.specs.Sound.{AreSound}
 use Rattle.room_inherit.proofs.NoFault.{no_fault}
-use Rattle.room_desk.specs.declared.reply.Reply.{Reply}
-use Rattle.room_desk.specs.declared.reply.Reply.TheVariants.{Done, Refused}
-use Rattle.room_desk.specs.declared.request.Request.TheVariants.{SetList}
-use Rattle.room_desk.specs.Effect.{effect}
-use Rattle.room_desk.specs.Judge.{first_failure, or_else}
-use Rattle.room_desk.specs.Judged.{NotSound, Resets}
-use Rattle.room_desk.specs.Plan.{Item, Check, Deletion, Refusal, bad_list, first_invalid, plan_of, way, where_found}
-use Rattle.room_desk.specs.Setting.{IsResetAtEnd, IsSetOrRefused, SetUnless, SetsBadly, reason_of}
-use Rattle.room_desk.specs.Site.{Site, site_at, sites_along}
-use Rattle.room_desk.specs.Step.{answered, is_refusal, reset}
-use Rattle.room_desk.specs.Stored.{stored_along, stored_from, stored_site}
+use Rattle.room_machine.specs.declared.reply.Reply.{Reply}
+use Rattle.room_machine.specs.declared.reply.Reply.TheVariants.{Done, Refused}
+use Rattle.room_machine.specs.declared.request.Request.TheVariants.{SetList}
+use Rattle.room_machine.specs.Effect.{effect}
+use Rattle.room_machine.specs.Judge.{first_failure, or_else}
+use Rattle.room_judge.specs.Judged.{Resets}
+use Rattle.room_machine.specs.Plan.{Item, Check, Deletion, Refusal, bad_list, first_invalid, plan_of, way, where_found}
+use Rattle.room_desk.specs.Carrying.{IsRooted, IsUnreadableIfRooted}
+use Rattle.room_desk.proofs.Blamed.{unread_damaged}
+use Rattle.room_desk.proofs.RootedWays.{rooted_last}
+use Rattle.room_desk.specs.Setting.{IsResetAtEnd, IsSetOrRefused, SetUnless, reason_of}
+use Rattle.room_machine.specs.Site.{Site, site_at, sites_along}
+use Rattle.room_machine.specs.Step.{answered, is_refusal, reset}
+use Rattle.room_judge.specs.Stored.{stored_along, stored_from, stored_site}
 use Rattle.room_desk.proofs.Filled.{fill_item, target_filled}
 use Rattle.room_desk.proofs.ResetWay.{Comes, comes, end_from, refusals, same_last, walk_end}
 use Rattle.room_desk.proofs.SetEffect.{set_effect}
@@ -126,22 +130,5 @@ module _ (path : List (List ℕ)) (which : Which) (sent : Sent) (old mid : Rows)
       let came = came_to old are sound path which sent walk front last is chain in
       at_end old are sound path which sent last new reply walk.rest came.stands came.comes (subst (λ (r : Rows). IsResetAtEnd path which sent last walk.rest r reply new) same said) sound
 
-  pub reset_blames : (at : ℕ) → AreRows old → SetsBadly last mid at → NotSound old at
-  reset_blames at are bad sound =
-      let came = came_to old are sound path which sent walk front last is chain in
-      bad (ap (λ (r : Rows). node_at r.read last.id) same ∙ came.stands) (subst AreSound (sym same) sound)
-
--- a walk that finds nothing
-pub no_walk : (path : List (List ℕ)) (old : Rows) (walk : Walk) (at : ℕ) → walk ≡ walk_of old.read path → walk.chain ≡ [] → NotSound old at
-no_walk path old walk at is none sound =
-    let root = root_there old.read.nodes (no_fault old sound).root in
-    let from : walk_of old.read path ≡ walk_from old.read root.0 path = ap (λ o. option_map_or (λ r. walk_from old.read r path) o (record { chain = []; rest = length path })) root.1 in
-    starts old.read root.0 path (sym (ap (λ (w : Walk). w.chain) (is ∙ from)) ∙ none)
-  where
-    starts : (rows : Content) (node : Node) (names : List (List ℕ)) → (walk_from rows node names).chain ≡ [] → ⊥
-    starts rows node [] none = let wrong : ⊥ = cc in wrong
-    starts rows node (name ∷ names) none = on (child_of rows node.id name) none
-      where
-        on : (o : Option Node) → (option_map_or (λ child. Rattle.room_tree.specs.Walk.behind node (walk_from rows child names)) o (record { chain = node ∷ []; rest = length (name ∷ names) })).chain ≡ [] → ⊥
-        on None none = let wrong : ⊥ = cc in wrong
-        on (Some child) none = let wrong : ⊥ = cc in wrong
+  pub reset_blames : (at : ℕ) → AreRows old → IsUnreadableIfRooted last.id mid at → IsDamaged old at
+  reset_blames at are fails = unread_damaged old mid at same (fails (subst (IsRooted last.id) (sym same) (rooted_last old are.numbers path walk front last is chain)))

@@ -9,13 +9,13 @@ use Rattle.room_ace.specs.Sent.{Sent, inherited_of}
 use Rattle.room_ace.specs.declared.object.ObjKind.{ObjKind}
 use Rattle.room_ace.specs.declared.object.Which.{Which}
 use Rattle.room_ace.proofs.Same.{entries_equal}
-use Rattle.room_tree.specs.declared.node.Held.{Held}
-use Rattle.room_tree.specs.declared.node.Node.{Node}
-use Rattle.room_tree.specs.Content.{Content, node_at, parent_of, has_parent, is_linked_in, reaches_root}
-use Rattle.room_tree.specs.Finding.{find_id}
-use Rattle.room_tree.specs.Held.{held_of, full_of, is_linked}
-use Rattle.room_tree.proofs.Frames.{Rises}
-use Rattle.room_tree.proofs.Lookups.{each_found, same_some}
+use Rattle.room_rows.specs.HeldList.{Held}
+use Rattle.room_rows.specs.declared.node.Node.{Node}
+use Rattle.room_rows.specs.Content.{Content, node_at, parent_of, has_parent, is_linked_in, reaches_root}
+use Rattle.room_rows.specs.Finding.{find_id}
+use Rattle.room_rows.specs.Held.{held_of, full_of, is_linked}
+use Rattle.room_rows.proofs.Frames.{Rises}
+use Rattle.room_rows.proofs.Lookups.{each_found, same_some}
 use Rattle.room_inherit.specs.Law.{AllAgree, AllAgreeBut, agrees, agrees_with}
 use Rattle.room_inherit.specs.Pass.{pass}
 use Rattle.room_inherit.specs.Spread.{IsLinkedBelow, IsOwnAncestor, is_changed, is_linked_within, is_within}
@@ -122,22 +122,3 @@ module _ (which : Which) (rows : Content) (node : Node) (held : Held) (rises : R
   agree_but =
       subst (λ (c : Content). AllAgreeBut c which node.id) (sym (mid_is which rows node held (λ n. []) rises there))
       (all_of_each (λ n. has_parent node.id n || agrees (relisted which with rows) which n) (relist which with) (λ n. find_id n.id rows.nodes ≡ Some n) relisted_agrees rows.nodes (each_found 0 rows.nodes rises))
-
-  -- an object that is its own ancestor now was so before
-  pub loop_before : IsOwnAncestor (mid which rows node held) node.id → IsOwnAncestor rows node.id
-  loop_before loop =
-      let moved : IsOwnAncestor (relisted which with rows) node.id = subst (λ (c : Content). IsOwnAncestor c node.id) (mid_is which rows node held (λ n. []) rises there) loop in
-      let same : moved.0 ≡ relist which with node = same_some moved.0 (relist which with node) (sym moved.1 ∙ found_relisted which with rows node.id ∙ ap (option_map (relist which with)) there) in
-      (node, there, (moved.2.0, sym (within_kept moved.2.0 node) ∙ ap (is_within moved.2.0 (relisted which with rows) node.id) (sym same) ∙ moved.2.1))
-    where
-      within_kept : (k : ℕ) (n : Node) → is_within k (relisted which with rows) node.id (relist which with n) ≡ is_within k rows node.id n
-      within_kept zero n = refl
-      within_kept (suc k) n =
-          ap (λ t. t || option_map_or (is_within k (relisted which with rows) node.id) (parent_of (relisted which with rows) (relist which with n)) false) (ap (λ o. option_map_or (λ p. p == node.id) o false) (parent_kept which with n))
-          ∙ ap (λ o. has_parent node.id n || option_map_or (is_within k (relisted which with rows) node.id) o false) (parent_relisted which with rows n)
-          ∙ ap (λ t. has_parent node.id n || t) (on (parent_of rows n) (within_kept k))
-        where
-          on : (o : Option Node) → ((m : Node) → is_within k (relisted which with rows) node.id (relist which with m) ≡ is_within k rows node.id m)
-              → option_map_or (is_within k (relisted which with rows) node.id) (option_map (relist which with) o) false ≡ option_map_or (is_within k rows node.id) o false
-          on None same = refl
-          on (Some above) same = same above

@@ -12,12 +12,12 @@ use Rattle.room_ace.specs.declared.fault.ListFault.{ListFault}
 use Rattle.room_ace.specs.declared.fault.ListFault.TheVariants.{TooManyEntries, TooManyOwn}
 use Rattle.room_ace.specs.declared.object.ObjKind.{ObjKind}
 use Rattle.room_ace.specs.declared.object.Which.{Which}
-use Rattle.room_tree.specs.declared.node.Held.{Held}
-use Rattle.room_tree.specs.declared.node.Node.{Node}
-use Rattle.room_tree.specs.Content.{Content, node_at, parent_of, has_parent, is_linked_in, with_each, with_node}
-use Rattle.room_tree.specs.Held.{held_of, full_of, is_linked, with_held}
-use Rattle.room_tree.specs.Keep.{IsUnreadable, reading}
-use Rattle.room_tree.specs.Rows.{Rows, AreRows}
+use Rattle.room_rows.specs.HeldList.{Held}
+use Rattle.room_rows.specs.declared.node.Node.{Node}
+use Rattle.room_rows.specs.Content.{Content, node_at, parent_of, has_parent, is_linked_in, with_each, with_node}
+use Rattle.room_rows.specs.Held.{held_of, full_of, is_linked, with_held}
+use Rattle.room_rows.specs.Keep.{IsUnreadable, reading}
+use Rattle.room_rows.specs.Rows.{Rows, AreRows}
 use Rattle.room_inherit.specs.Law.{AllAgree, agrees}
 use Rattle.room_inherit.specs.Laws.{are_valid}
 use Rattle.room_inherit.specs.Pass.{pass}
@@ -25,14 +25,13 @@ use Rattle.room_inherit.specs.Sound.{AreSound, keeps_law, reaches}
 use Rattle.room_inherit.specs.Spread.{IsOwnAncestor, IsSpread, with_lists}
 use Rattle.room_inherit.proofs.Kinship.{with_own}
 use Rattle.room_inherit.proofs.NoFault.{no_fault}
-use Rattle.room_inherit.proofs.Rooted.{rooted_no_loop}
-use Rattle.room_desk.specs.Plan.{first_invalid}
-use Rattle.room_desk.specs.Setting.{HasLoop, IsSet, IsSetWell, SetsBadly, fault_in, reason_of, stored_held}
-use Rattle.room_desk.proofs.SoundParts.{readable_unsound}
+use Rattle.room_machine.specs.Plan.{first_invalid}
+use Rattle.room_desk.specs.Setting.{IsNewInh, IsSet, IsSetWell, Stores, fault_in, reason_of, sent_with, stored_held}
+use Rattle.room_desk.specs.Carrying.{GoesDown}
 use Rattle.room_desk.proofs.Relisted.{all_implied, held_relisted, one_agrees, relist}
 use Rattle.room_desk.proofs.SetHeld.{base, base_here, each_same, ends, ends_is, final, links, mid, other_links, own_held, same_node, same_object, set_sound}
 use Rattle.room_desk.proofs.SetMeaning.{set_means}
-use Rattle.room_desk.proofs.SetSpread.{agree_all, agree_but, loop_before, not_own_parent, unlinked_unchanged}
+use Rattle.room_desk.proofs.SetSpread.{agree_all, agree_but, not_own_parent, unlinked_unchanged}
 use Rattle.room_desk.proofs.ValidDown.{all_found, are_inherited, are_own, linked_above}
 
 -- ---- the sent entries
@@ -117,12 +116,6 @@ module _ (which : Which) (sent : Sent) (node : Node) (old : Rows) (are : AreRows
       ap (λ h. is_linked h (option_map (base which rows node held) (parent_of rows node))) (base_here which rows node held ∙ stored)
       ∙ ap (is_linked (stored_held which sent node.kind (parent_of rows node))) (other_links which rows node held node apart)
 
-  -- there is no loop
-  pub never_loops : (mid_rows : Rows) → mid_rows ≡ reading old (mid which rows node held) → IsOwnAncestor mid_rows.read node.id → ⊥
-  never_loops mid_rows written loop =
-      rooted_no_loop rows node.id (length rows.nodes) node there reaches_before
-      (loop_before which rows node held are.numbers there sent stored law_before (subst (λ (r : Rows). IsOwnAncestor r.read node.id) written loop))
-
   module _ (valid : fault_in 1 which node.kind sent.entries ≡ None) (few : limit_fault sent.entries ≡ None) where
     own : are_own which node.kind held.own ≡ true
     own = ap (λ (h : Held). are_own which node.kind h.own) stored ∙ own_sound which node.kind sent.entries valid few
@@ -190,18 +183,17 @@ module _ (which : Which) (sent : Sent) (node : Node) (old : Rows) (are : AreRows
 
 -- ---- as the calls give it
 
--- the list is written where the object is there
-pub record IsHeldWritten (which : Which) (sent : Sent) (node : Node) (held : Held) (old new : Rows) : Type 0 where
-  pub stored : held ≡ stored_held which sent node.kind (parent_of old.read node)
-  pub becomes : node_at old.read node.id ≡ Some node → new ≡ reading old (with_node old.read (with_held which held node))
+module _ (which : Which) (sent : Sent) (node : Node) (inh : List Ace) (old new : Rows) (are : AreRows old) (is : IsNewInh which sent node old inh) where
+  abbrev held : Held
+  held = sent_with sent inh
 
-module _ (which : Which) (sent : Sent) (node : Node) (held : Held) (old mid_rows : Rows) where
-  pub carried_blames : (at : ℕ) → AreRows old → IsHeldWritten which sent node held old mid_rows → HasLoop node.id mid_rows at → SetsBadly node old at
-  carried_blames at are written (inl unreadable) there sound = readable_unsound old at (subst (λ (r : Rows). IsUnreadable r at) (written.becomes there) unreadable) sound
-  carried_blames at are written (inr loop) there sound = never_loops which sent node old are there sound held written.stored mid_rows (written.becomes there) loop
+  stored : held ≡ stored_held which sent node.kind (parent_of old.read node)
+  stored = ap (sent_with sent) is
 
-  pub carried_well : (new : Rows) → AreRows old → IsHeldWritten which sent node held old mid_rows → ((changed : ℕ) × IsSpread which node.id mid_rows new changed) → IsSet which sent node old new
-  carried_well new are written carried there valid few sound = set_spread which sent node old are there sound held written.stored valid few mid_rows new carried.0 (written.becomes there) carried.1
-
-  pub stopped_well : (new : Rows) → AreRows old → held.flags.auto ≡ false → IsHeldWritten which sent node held old mid_rows → new ≡ mid_rows → IsSet which sent node old new
-  stopped_well new are stops written same there valid few sound = set_still which sent node old are there sound held written.stored valid few new stops (same ∙ written.becomes there)
+  pub well_stored : Stores which node held old tt new → IsSet which sent node old new
+  well_stored (inl stays) there valid few sound = set_same which sent node old are there sound held stored valid few new stays.0 stays.1
+  well_stored (inr written) there valid few sound = on sent.flags.auto refl written.goes
+    where
+      on : (t : Bool) → sent.flags.auto ≡ t → GoesDown t which node.id written.mid new → IsSetWell which sent node old new
+      on true is goes = set_spread which sent node old are there sound held stored valid few written.mid new goes.0 (written.writes node there) goes.1
+      on false is goes = set_still which sent node old are there sound held stored valid few new is (goes ∙ written.writes node there)

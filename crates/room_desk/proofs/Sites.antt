@@ -7,20 +7,20 @@ use Rattle.room_ace.specs.Ace.{Ace}
 use Rattle.room_ace.specs.declared.object.Which.{Which}
 use Rattle.room_ace.specs.declared.object.Which.TheVariants.{Dacl, Sacl}
 use Rattle.room_ace.proofs.Same.{entries_equal}
-use Rattle.room_tree.specs.declared.node.Held.{Held}
-use Rattle.room_tree.specs.declared.node.Node.{Node}
-use Rattle.room_tree.specs.Held.{held_of, full_of, is_linked}
+use Rattle.room_rows.specs.HeldList.{Held}
+use Rattle.room_rows.specs.declared.node.Node.{Node}
+use Rattle.room_rows.specs.Held.{held_of, full_of, is_linked}
 use Rattle.room_ace.specs.Pieces.{same_text}
-use Rattle.room_tree.specs.Content.{Content, has_parent, node_at, root_of, child_of, parent_of, is_linked_in}
-use Rattle.room_tree.specs.Meaning.{kept_held, kept_node, meaning}
-use Rattle.room_tree.specs.Rows.{Rows, AreRows}
-use Rattle.room_tree.specs.Walk.{walk_from, behind}
-use Rattle.room_tree.proofs.Frames.{Rises, KeepsPlaces, keeps_places, root_of-with_each, child_of-with_each, root_of-is_there, root_of-parent, child_of-is_there, child_of-parent, child_of-name}
+use Rattle.room_rows.specs.Content.{Content, has_parent, node_at, root_of, child_of, parent_of, is_linked_in}
+use Rattle.room_rows.specs.Meaning.{kept_held, kept_node, meaning}
+use Rattle.room_rows.specs.Rows.{Rows, AreRows}
+use Rattle.room_rows.specs.Walk.{walk_from, behind}
+use Rattle.room_rows.proofs.Frames.{Rises, KeepsPlaces, keeps_places, root_of-with_each, child_of-with_each, root_of-is_there, root_of-parent, child_of-is_there, child_of-parent, child_of-name}
 use Rattle.room_inherit.specs.Pass.{pass}
 use Rattle.room_inherit.specs.Law.{agrees_with, agrees}
 use Rattle.room_inherit.specs.Sound.{keeps_law}
-use Rattle.room_desk.specs.Site.{Site, full_at, root_site, site_below, sites_below, sites_of, sites_along}
-use Rattle.room_desk.specs.Stored.{stored_site, stored_from, stored_along}
+use Rattle.room_machine.specs.Site.{Site, full_at, root_site, site_below, sites_below, sites_of, sites_along}
+use Rattle.room_judge.specs.Stored.{stored_site, stored_from, stored_along}
 use Rattle.room_desk.proofs.SoundParts.{SoundParts, passes_test}
 
 -- the object with the inherited entries of its lists

@@ -8,13 +8,13 @@ use Rattle.std.proofs.lemmas.List.Folds.{list_all-map}
 use Rattle.std.proofs.lemmas.Slice.Eq.{bytes_eq-Decides}
 use Rattle.room_ace.specs.Pieces.{is_among, same_text}
 use Rattle.room_ace.specs.declared.object.Which.TheVariants.{Dacl, Sacl}
-use Rattle.room_tree.specs.declared.node.Node.{Node}
-use Rattle.room_tree.specs.Content.{Content, node_at, child_of, parent_of, has_parent, has_folder_above, is_folder, is_root, same_parent, put_node, reaches_root, body_in}
-use Rattle.room_tree.specs.Finding.{find_id}
-use Rattle.room_tree.specs.Keep.{reading}
-use Rattle.room_tree.specs.Paths.{is_object_name}
-use Rattle.room_tree.specs.Rows.{Rows, AreRows, put_numbers}
-use Rattle.room_tree.proofs.Frames.{has_its_parent}
+use Rattle.room_rows.specs.declared.node.Node.{Node}
+use Rattle.room_rows.specs.Content.{Content, node_at, child_of, parent_of, has_parent, has_folder_above, is_folder, is_root, same_parent, put_node, reaches_root, body_in}
+use Rattle.room_rows.specs.Finding.{find_id}
+use Rattle.room_rows.specs.Keep.{reading}
+use Rattle.room_rows.specs.Paths.{is_object_name}
+use Rattle.room_rows.specs.Rows.{Rows, AreRows, put_numbers}
+use Rattle.room_rows.proofs.Frames.{has_its_parent}
 use Rattle.room_inherit.specs.Law.{agrees_with}
 use Rattle.room_inherit.specs.Laws.{HasNoFault}
 use Rattle.room_inherit.specs.Sound.{AreSound, bad_root, fits_kind, has_sound_body, has_sound_lists, has_sound_name, keeps_law, reaches, same_place}

@@ -6,13 +6,13 @@ use Rattle.std.specs.Option.{option_map_or}
 use Rattle.std.proofs.lemmas.Bool.{cases_Bool, false≢true, eqb-true, eq-eqb}
 use Rattle.room_ace.specs.Valid.{is_document}
 use Rattle.room_ace.specs.declared.object.ObjKind.{ObjKind}
-use Rattle.room_tree.specs.declared.node.Node.{Node}
-use Rattle.room_tree.specs.Content.{Content, node_at, body_of, reaches_root, with_body}
-use Rattle.room_tree.specs.Finding.{find_id}
-use Rattle.room_tree.specs.Keep.{reading}
-use Rattle.room_tree.specs.Rows.{Rows, AreRows}
-use Rattle.room_tree.proofs.Frames.{body_of-with_body, body_of-with_body-other}
-use Rattle.room_tree.proofs.Lookups.{each_found}
+use Rattle.room_rows.specs.declared.node.Node.{Node}
+use Rattle.room_rows.specs.Content.{Content, node_at, body_of, reaches_root, with_body}
+use Rattle.room_rows.specs.Finding.{find_id}
+use Rattle.room_rows.specs.Keep.{reading}
+use Rattle.room_rows.specs.Rows.{Rows, AreRows}
+use Rattle.room_rows.proofs.Frames.{body_of-with_body, body_of-with_body-other}
+use Rattle.room_rows.proofs.Lookups.{each_found}
 use Rattle.room_inherit.specs.Sound.{AreSound, fits_kind, has_sound_body, reaches}
 use Rattle.room_desk.proofs.SoundParts.{sound_parts, parts_sound, find_same}
 

@@ -7,16 +7,16 @@ use Rattle.std.proofs.lemmas.Bool.{cases_Bool, eqb-true, eqb-false}
 use Rattle.room_ace.specs.declared.object.Which.{Which}
 use Rattle.room_ace.specs.declared.object.Which.TheVariants.{Dacl, Sacl}
 use Rattle.room_ace.specs.declared.parties.Owners.{Owners}
-use Rattle.room_tree.specs.declared.node.Node.{Node}
-use Rattle.room_tree.specs.Held.{held_of, is_linked}
-use Rattle.room_tree.specs.Paths.{is_object_name}
-use Rattle.room_tree.specs.Content.{Content, node_at, parent_of, is_root, is_folder, is_linked_in, has_folder_above, reaches_root, with_each, with_node}
-use Rattle.room_tree.specs.Finding.{find_id}
-use Rattle.room_tree.specs.Keep.{reading, with_owners}
-use Rattle.room_tree.specs.Meaning.{kept_held, kept_node, meaning}
-use Rattle.room_tree.specs.Rows.{Rows, is_unreadable, numbers_of}
-use Rattle.room_tree.proofs.Frames.{Rises, KeepsPlaces, keeps_places, node_at-number, node_at-with_each, parent_of-with_each, numbers-with_each, numbers_of-reading, with_node-replaces, place-with_owners}
-use Rattle.room_tree.proofs.Lookups.{each_found, replaced, replaced_here, replaced_elsewhere}
+use Rattle.room_rows.specs.declared.node.Node.{Node}
+use Rattle.room_rows.specs.Held.{held_of, is_linked}
+use Rattle.room_rows.specs.Paths.{is_object_name}
+use Rattle.room_rows.specs.Content.{Content, node_at, parent_of, is_root, is_folder, is_linked_in, has_folder_above, reaches_root, with_each, with_node}
+use Rattle.room_rows.specs.Finding.{find_id}
+use Rattle.room_rows.specs.Keep.{reading, with_owners}
+use Rattle.room_rows.specs.Meaning.{kept_held, kept_node, meaning}
+use Rattle.room_rows.specs.Rows.{Rows, is_unreadable, numbers_of}
+use Rattle.room_rows.proofs.Frames.{Rises, KeepsPlaces, keeps_places, node_at-number, node_at-with_each, parent_of-with_each, numbers-with_each, numbers_of-reading, with_node-replaces, place-with_owners}
+use Rattle.room_rows.proofs.Lookups.{each_found, replaced, replaced_here, replaced_elsewhere}
 use Rattle.room_inherit.specs.Law.{agrees_with, agrees}
 use Rattle.room_inherit.specs.Sound.{AreSound, bad_root, first_bad_list, first_failing, has_bad_list, has_sound_lists, has_sound_name, has_sound_body, keeps_law, reaches, same_place}
 use Rattle.room_inherit.proofs.Members.{any_map}

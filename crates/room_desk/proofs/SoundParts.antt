@@ -5,16 +5,16 @@ use Rattle.std.specs.List.{find, list_any}
 use Rattle.std.specs.Option.{option_map, option_map_or}
 use Rattle.std.proofs.lemmas.Bool.{cases_Bool, false≢true, eqb-true, eq-eqb, or_left, or_right}
 use Rattle.room_ace.specs.Pieces.{is_among}
-use Rattle.room_tree.specs.declared.node.AuditRow.{AuditRow}
-use Rattle.room_tree.specs.declared.node.Node.{Node}
-use Rattle.room_tree.specs.Content.{Content, node_at, is_root, has_folder_above, reaches_root, with_records}
-use Rattle.room_tree.specs.Keep.{HasNoRoot, IsUnreadable}
-use Rattle.room_tree.specs.Rows.{Rows, is_unreadable, numbers_of, put_number, put_numbers}
+use Rattle.room_rows.specs.declared.node.AuditRow.{AuditRow}
+use Rattle.room_rows.specs.declared.node.Node.{Node}
+use Rattle.room_rows.specs.Content.{Content, node_at, is_root, has_folder_above, reaches_root, with_records}
+use Rattle.room_rows.specs.Keep.{HasNoRoot, IsUnreadable}
+use Rattle.room_rows.specs.Rows.{Rows, is_unreadable, numbers_of, put_number, put_numbers}
 use Rattle.room_inherit.specs.declared.report.Report.{Report}
 use Rattle.room_inherit.specs.declared.report.Report.TheVariants.{Sound, Fault}
 use Rattle.room_inherit.specs.declared.report.Unsound.TheVariants.{BadList, BadRoot, BadParent, Loop, BadName, BadBody, BrokenLaw}
 use Rattle.room_inherit.specs.Sound.{AreSound, or_else, or_sound, numbered, true_path, fault_of, first_bad_list, has_bad_list, bad_root, first_failing, reaches, has_sound_name, has_sound_body, keeps_law}
-use Rattle.room_desk.specs.Judged.{NotSound, noted}
+use Rattle.room_judge.specs.Judged.{NotSound, noted}
 
 -- No test finds a fault.
 pub record SoundParts (rows : Rows) : Type 0 where

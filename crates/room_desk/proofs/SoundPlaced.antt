@@ -8,13 +8,13 @@ use Rattle.std.proofs.lemmas.List.Folds.{list_all-map}
 use Rattle.room_ace.specs.Ace.{Ace}
 use Rattle.room_ace.specs.declared.object.Which.{Which}
 use Rattle.room_ace.specs.declared.object.Which.TheVariants.{Dacl, Sacl}
-use Rattle.room_tree.specs.declared.node.Held.{Held}
-use Rattle.room_tree.specs.declared.node.Node.{Node}
-use Rattle.room_tree.specs.Content.{Content, node_at, is_root, is_linked_in, has_folder_above}
-use Rattle.room_tree.specs.Held.{held_of, is_linked}
-use Rattle.room_tree.specs.Keep.{with_place}
-use Rattle.room_tree.specs.Rows.{Rows}
-use Rattle.room_tree.proofs.Frames.{node_at-number}
+use Rattle.room_rows.specs.HeldList.{Held}
+use Rattle.room_rows.specs.declared.node.Node.{Node}
+use Rattle.room_rows.specs.Content.{Content, node_at, is_root, is_linked_in, has_folder_above}
+use Rattle.room_rows.specs.Held.{held_of, is_linked}
+use Rattle.room_rows.specs.Keep.{with_place}
+use Rattle.room_rows.specs.Rows.{Rows}
+use Rattle.room_rows.proofs.Frames.{node_at-number}
 use Rattle.room_inherit.specs.Law.{agrees, AllAgree}
 use Rattle.room_inherit.specs.Sound.{AreSound, bad_root, has_sound_lists, is_sound_held, keeps_law, reaches}
 use Rattle.room_inherit.proofs.Children.{each_found, each_there}

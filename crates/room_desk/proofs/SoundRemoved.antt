@@ -7,16 +7,16 @@ use Rattle.std.proofs.lemmas.Bool.{cases_Bool, false≢true, true≢false, eqb-t
 use Rattle.room_ace.specs.Pieces.{is_among}
 use Rattle.room_ace.specs.declared.object.Which.{Which}
 use Rattle.room_ace.specs.declared.object.Which.TheVariants.{Dacl, Sacl}
-use Rattle.room_tree.specs.declared.node.Node.{Node}
-use Rattle.room_tree.specs.Held.{held_of, is_linked}
-use Rattle.room_tree.specs.Paths.{is_object_name}
-use Rattle.room_tree.specs.Content.{Content, has_parent, is_folder, is_linked_in, is_root, has_folder_above, node_at, parent_of, reaches_root, without_node}
-use Rattle.room_tree.specs.Finding.{find_id}
-use Rattle.room_tree.specs.Keep.{reading}
-use Rattle.room_tree.specs.Meaning.{kept_held, kept_node, meaning}
-use Rattle.room_tree.specs.Rows.{Rows, put_numbers}
-use Rattle.room_tree.proofs.Frames.{Rises, node_at-without_node-other, has_its_parent}
-use Rattle.room_tree.proofs.Lookups.{each-kept, each-weaker, each_found, find-kept, find-kept_none, stands-each, stands-found}
+use Rattle.room_rows.specs.declared.node.Node.{Node}
+use Rattle.room_rows.specs.Held.{held_of, is_linked}
+use Rattle.room_rows.specs.Paths.{is_object_name}
+use Rattle.room_rows.specs.Content.{Content, has_parent, is_folder, is_linked_in, is_root, has_folder_above, node_at, parent_of, reaches_root, without_node}
+use Rattle.room_rows.specs.Finding.{find_id}
+use Rattle.room_rows.specs.Keep.{reading}
+use Rattle.room_rows.specs.Meaning.{kept_held, kept_node, meaning}
+use Rattle.room_rows.specs.Rows.{Rows, put_numbers}
+use Rattle.room_rows.proofs.Frames.{Rises, node_at-without_node-other, has_its_parent}
+use Rattle.room_rows.proofs.Lookups.{each-kept, each-weaker, each_found, find-kept, find-kept_none, stands-each, stands-found}
 use Rattle.room_inherit.specs.Law.{agrees_with}
 use Rattle.room_inherit.specs.Sound.{AreSound, bad_root, first_failing, fits_kind, has_sound_lists, has_sound_name, has_sound_body, keeps_law, reaches, same_place}
 use Rattle.room_inherit.proofs.Enough.{enough_steps}

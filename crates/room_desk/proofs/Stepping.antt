@@ -1,19 +1,19 @@
 -- A request that changes nothing but records is a step.
 use Rattle.std.proofs.Common.{◌≡◌, ℕ, List, Option, Some, None, refl, sym, ap, subst, ◌∙◌}
 use Rattle.room_ace.specs.declared.parties.Caller.{Caller}
-use Rattle.room_tree.specs.Content.{Content, with_records}
-use Rattle.room_tree.specs.Meaning.{meaning}
-use Rattle.room_tree.specs.Rows.{Rows}
+use Rattle.room_rows.specs.Content.{Content, with_records}
+use Rattle.room_rows.specs.Meaning.{meaning}
+use Rattle.room_rows.specs.Rows.{Rows}
 use Rattle.room_inherit.specs.Sound.{AreSound}
-use Rattle.room_desk.specs.declared.asker.Asker.{Asker}
-use Rattle.room_desk.specs.declared.reply.Reply.{Reply}
-use Rattle.room_desk.specs.declared.request.Request.{Request}
-use Rattle.room_desk.specs.Plan.{plan_of}
-use Rattle.room_desk.specs.Judge.{first_failure, records_of_plan}
-use Rattle.room_desk.specs.Effect.{effect}
-use Rattle.room_desk.specs.Step.{Step, caller_in, answered, recorded}
-use Rattle.room_desk.specs.Judged.{IsJudged, IsKnown, IsStepOfRows, noted}
-use Rattle.room_desk.proofs.Free.{some_free}
+use Rattle.room_judge.specs.declared.asker.Asker.{Asker}
+use Rattle.room_machine.specs.declared.reply.Reply.{Reply}
+use Rattle.room_machine.specs.declared.request.Request.{Request}
+use Rattle.room_machine.specs.Plan.{plan_of}
+use Rattle.room_machine.specs.Judge.{first_failure, records_of_plan}
+use Rattle.room_machine.specs.Effect.{effect}
+use Rattle.room_machine.specs.Step.{Step, caller_in, answered, recorded}
+use Rattle.room_judge.specs.Judged.{IsJudged, IsKnown, IsStepOfRows, noted}
+use Rattle.room_machine.proofs.Free.{some_free}
 use Rattle.room_desk.proofs.SoundParts.{sound_noted}
 
 -- the rows and what they mean have the same pairs
@@ -29,7 +29,7 @@ module _ (asker : Asker) (request : Request) (old : Rows) (known : IsKnown asker
   abbrev made : ℕ → Caller → Reply × Content
   made id caller = recorded (answered (first_failure caller (plan_of content request)) content (effect content caller id request)) (records_of_plan caller asker.at (plan_of content request))
 
-  by_records : (id : ℕ) → Rattle.room_desk.specs.Step.IsFree content id → (new : Rows) (reply : Reply) → made id asker.caller ≡ (reply, meaning (noted old (records_of_plan asker.caller asker.at (plan_of content request))).read)
+  by_records : (id : ℕ) → Rattle.room_machine.specs.Step.IsFree content id → (new : Rows) (reply : Reply) → made id asker.caller ≡ (reply, meaning (noted old (records_of_plan asker.caller asker.at (plan_of content request))).read)
       → new ≡ noted old (records_of_plan asker.caller asker.at (plan_of content request)) → IsStepOfRows asker.caller.user asker.at request old reply new
   by_records id free new reply makes notes = record {
     step = (id, free, ap (made id) (caller_kept old.read asker.caller.user ∙ sym known) ∙ makes ∙ ap (λ (r : Rows). (reply, meaning r.read)) (sym notes));
@@ -50,7 +50,7 @@ module _ (asker : Asker) (request : Request) (old : Rows) (known : IsKnown asker
       judged.notes
 
   -- none fails, and the request changes more than records, with this number for a new object
-  pub made_step : (id : ℕ) → Rattle.room_desk.specs.Step.IsFree content id → (mid new : Rows) (reply : Reply) (after : Content) → IsJudged asker (plan_of content request) old None mid → effect content asker.caller id request ≡ (reply, after)
+  pub made_step : (id : ℕ) → Rattle.room_machine.specs.Step.IsFree content id → (mid new : Rows) (reply : Reply) (after : Content) → IsJudged asker (plan_of content request) old None mid → effect content asker.caller id request ≡ (reply, after)
       → meaning new.read ≡ with_records after (records_of_plan asker.caller asker.at (plan_of content request)) → AreSound new → IsStepOfRows asker.caller.user asker.at request old reply new
   made_step id free mid new reply after judged changes means stays = record {
     step = (

@@ -2,13 +2,13 @@
 use Rattle.std.proofs.Common.{◌≡◌, ℕ, List, [], ◌∷◌, ◌++◌, map, Option, Some, None, refl, sym, ap, ◌∙◌}
 use Rattle.std.specs.Prelude.{length}
 use Rattle.std.specs.Option.{option_map, option_map_or}
-use Rattle.room_tree.specs.declared.node.Node.{Node}
-use Rattle.room_tree.specs.Content.{Content, child_of, root_of}
-use Rattle.room_tree.specs.Meaning.{kept_node, meaning}
-use Rattle.room_tree.specs.Walk.{walk_of, walk_from, behind}
-use Rattle.room_tree.proofs.Frames.{KeepsPlaces, keeps_places, root_of-with_each, child_of-with_each}
-use Rattle.room_desk.specs.Site.{Site, root_site, site_below, sites_below, sites_of, sites_along, site_at}
-use Rattle.room_desk.specs.Stored.{stored_from, stored_along}
+use Rattle.room_rows.specs.declared.node.Node.{Node}
+use Rattle.room_rows.specs.Content.{Content, child_of, root_of}
+use Rattle.room_rows.specs.Meaning.{kept_node, meaning}
+use Rattle.room_rows.specs.Walk.{walk_of, walk_from, behind}
+use Rattle.room_rows.proofs.Frames.{KeepsPlaces, keeps_places, root_of-with_each, child_of-with_each}
+use Rattle.room_machine.specs.Site.{Site, root_site, site_below, sites_below, sites_of, sites_along, site_at}
+use Rattle.room_judge.specs.Stored.{stored_from, stored_along}
 
 -- ---- what stands after so many names
 

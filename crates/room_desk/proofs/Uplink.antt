@@ -2,11 +2,11 @@
 use Rattle.std.proofs.Common.{◌≡◌, ℕ, List, [], ◌∷◌, ◌++◌, Option, Some, None, refl, sym, ap, ◌∙◌}
 use Rattle.std.specs.Prelude.{option_and_then}
 use Rattle.std.specs.Option.{option_map_or}
-use Rattle.room_tree.specs.declared.node.Node.{Node}
-use Rattle.room_tree.specs.Content.{Content, child_of, node_at, parent_of, root_of}
-use Rattle.room_tree.proofs.Frames.{Rises, child_of-is_there, child_of-parent, root_of-is_there, root_of-parent}
-use Rattle.room_desk.specs.Site.{Site, front, site_at}
-use Rattle.room_desk.specs.Stored.{stored_along, stored_from, stored_site}
+use Rattle.room_rows.specs.declared.node.Node.{Node}
+use Rattle.room_rows.specs.Content.{Content, child_of, node_at, parent_of, root_of}
+use Rattle.room_rows.proofs.Frames.{Rises, child_of-is_there, child_of-parent, root_of-is_there, root_of-parent}
+use Rattle.room_machine.specs.Site.{Site, front, site_at}
+use Rattle.room_judge.specs.Stored.{stored_along, stored_from, stored_site}
 
 -- an object that is there
 abbrev pub Stands : Content → Node → Type 0

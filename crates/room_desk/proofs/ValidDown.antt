@@ -11,11 +11,11 @@ use Rattle.room_ace.specs.declared.object.ObjKind.{ObjKind}
 use Rattle.room_ace.specs.declared.object.ObjKind.TheVariants.{Document, Folder}
 use Rattle.room_ace.specs.declared.object.Which.{Which}
 use Rattle.room_ace.proofs.Same.{entries_equal}
-use Rattle.room_tree.specs.declared.node.Held.{Held}
-use Rattle.room_tree.specs.declared.node.Node.{Node}
-use Rattle.room_tree.specs.Content.{Content, node_at, parent_of, is_folder, has_folder_above, reaches_root, is_linked_in}
-use Rattle.room_tree.specs.Held.{held_of, full_of, is_linked}
-use Rattle.room_tree.proofs.Frames.{node_at-number}
+use Rattle.room_rows.specs.HeldList.{Held}
+use Rattle.room_rows.specs.declared.node.Node.{Node}
+use Rattle.room_rows.specs.Content.{Content, node_at, parent_of, is_folder, has_folder_above, reaches_root, is_linked_in}
+use Rattle.room_rows.specs.Held.{held_of, full_of, is_linked}
+use Rattle.room_rows.proofs.Frames.{node_at-number}
 use Rattle.room_inherit.specs.Law.{AllAgree, agrees, agrees_with}
 use Rattle.room_inherit.specs.Laws.{are_valid}
 use Rattle.room_inherit.specs.Pass.{pass, passed_flags, ended, carried, waiting}

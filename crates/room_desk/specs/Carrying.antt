@@ -1,10 +1,24 @@
 -- A change of a list carried down, as part of a request.
-use Rattle.std.specs.Prelude.{ℕ, ◌⊎◌}
+use Rattle.std.specs.Prelude.{
+  ◌≡◌,
+  ℕ,
+  ◌⊎◌,
+  Bool,
+  true,
+  false,
+  [],
+  ◌∷◌,
+  Some,
+  map,
+  IsTrue,
+}
 use Rattle.room_ace.specs.declared.object.Which.{Which}
-use Rattle.room_tree.specs.declared.keep.KeepFault.{KeepFault}
-use Rattle.room_tree.specs.declared.keep.KeepFault.TheVariants.{Damaged}
-use Rattle.room_tree.specs.Keep.{IsUnreadable}
-use Rattle.room_tree.specs.Rows.{Rows}
+use Rattle.room_rows.specs.declared.keep.KeepFault.{KeepFault}
+use Rattle.room_rows.specs.declared.keep.KeepFault.TheVariants.{Damaged}
+use Rattle.room_rows.specs.Content.{is_rising, node_at, reaches_root}
+use Rattle.room_rows.specs.declared.node.Node.{Node}
+use Rattle.room_rows.specs.Keep.{IsUnreadable}
+use Rattle.room_rows.specs.Rows.{Rows}
 use Rattle.room_inherit.specs.Spread.{IsOwnAncestor, IsSpread}
 use Rattle.room_inherit.specs.declared.outcome.SpreadFault.{SpreadFault}
 use Rattle.room_inherit.specs.declared.outcome.SpreadFault.TheVariants.{Keeper, Loop}
@@ -13,9 +27,26 @@ use Rattle.room_inherit.specs.declared.outcome.SpreadFault.TheVariants.{Keeper, 
 abbrev pub IsCarriedDown : Which → ℕ → Rows → Unit {0} → Rows → Type 0
 IsCarriedDown which id old answer new = (changed : ℕ) × IsSpread which id old new changed
 
--- a row that can't be read, or an object that is its own ancestor
+-- a row that can't be read, or this object, where it is its own ancestor
 abbrev pub HasLoop : ℕ → Rows → ℕ → Type 0
-HasLoop id rows at = IsUnreadable rows at ⊎ IsOwnAncestor rows.read id
+HasLoop id rows at = IsUnreadable rows at ⊎ ((at ≡ id) × IsOwnAncestor rows.read id)
+
+-- the object is there, and its parents lead to the root
+pub record IsRooted (id : ℕ) (rows : Rows) : Type 0 where
+  pub rises : IsTrue (is_rising (0 ∷ map (λ node. node.id) rows.read.nodes))
+  pub node : Node
+  pub there : node_at rows.read id ≡ Some node
+  pub steps : ℕ
+  pub reaches : reaches_root steps rows.read node.parent ≡ true
+
+-- only a row that can't be read, where the object is rooted
+abbrev pub IsUnreadableIfRooted : ℕ → Rows → ℕ → Type 0
+IsUnreadableIfRooted id rows at = IsRooted id rows → IsUnreadable rows at
+
+-- it is as it was, or what changed was carried down
+abbrev pub GoesDown : Bool → Which → ℕ → Rows → Rows → Type 0
+GoesDown false which id mid new = new ≡ mid
+GoesDown true which id mid new = IsCarriedDown which id mid tt new
 
 abbrev pub keeper_fault : ℕ → SpreadFault → KeepFault
 keeper_fault id (Keeper fault) = fault

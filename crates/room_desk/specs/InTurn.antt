@@ -1,20 +1,24 @@
 -- Runs over lists of requests.
-use Rattle.std.specs.Prelude.{◌≡◌, List, [], ◌∷◌, length}
-use Rattle.room_tree.specs.Meaning.{meaning}
-use Rattle.room_tree.specs.Rows.{Rows}
+use Rattle.std.specs.Prelude.{◌≡◌, List, [], ◌∷◌, length, take, ℕ, ◌<◌}
+use Rattle.room_rows.specs.Keep.{IsDamaged}
+use Rattle.room_rows.specs.Meaning.{meaning}
+use Rattle.room_rows.specs.Rows.{Rows}
 use Rattle.room_inherit.specs.Sound.{AreSound}
 use Rattle.room_desk.specs.declared.running.Asked.{Asked}
-use Rattle.room_desk.specs.declared.reply.Reply.{Reply}
-use Rattle.room_desk.specs.Run.{Event, Run, Asked as HasAsked}
+use Rattle.room_machine.specs.declared.reply.Reply.{Reply}
+use Rattle.room_machine.specs.Run.{Event, Run, Asked as HasAsked}
 
 -- what happens where the requests have these replies, in turn
 abbrev pub events_of : List Asked → List Reply → List Event
 events_of [] replies = []
 events_of (asked ∷ others) [] = []
-events_of (asked ∷ others) (reply ∷ replies) = HasAsked asked.user asked.at asked.request reply ∷ events_of others replies
+events_of (asked ∷ others) (reply ∷ replies) =
+    HasAsked asked.user asked.at asked.request reply ∷ events_of others replies
 
--- Each request has a reply, and from sound rows a run of the machine leads from what they mean to what the new ones mean, and these are sound.
-pub record IsRunOfRows (asked : List Asked) (old : Rows) (replies : List Reply) (new : Rows) : Type 0 where
+-- Each request has a reply, and from sound rows a run of the machine leads from what they mean to
+-- what the new ones mean, and these are sound.
+pub record IsRunOfRows (asked : List Asked) (old : Rows) (replies : List Reply)
+    (new : Rows) : Type 0 where
   pub each : length replies ≡ length asked
   pub run : Run (meaning old.read) (events_of asked replies) (meaning new.read)
   pub sound : AreSound new
@@ -22,3 +26,19 @@ pub record IsRunOfRows (asked : List Asked) (old : Rows) (replies : List Reply) 
 -- What `perform_all` promises.
 abbrev pub RunsAll : List Asked → Rows → List Reply → Rows → Type 0
 RunsAll asked old replies new = AreSound old → IsRunOfRows asked old replies new
+
+-- the first so many requests have these replies, and with none of them nothing is changed
+pub record AreFirst (asked : List Asked) (count : ℕ) (old : Rows) (replies : List Reply)
+    (new : Rows)
+    : Type 0 where
+  pub ran : RunsAll (take count asked) old replies new
+  pub none : count ≡ 0 → new ≡ old
+
+-- A row is damaged in the rows that the first requests leave, behind which there is another.
+pub record IsDamagedAfter (asked : List Asked) (old : Rows) (at : ℕ) : Type 0 where
+  pub count : ℕ
+  pub below : count < length asked
+  pub replies : List Reply
+  pub rows : Rows
+  pub first : AreFirst asked count old replies rows
+  pub damaged : IsDamaged rows at

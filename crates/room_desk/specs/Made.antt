@@ -1,20 +1,35 @@
 -- How an object is made, and what answers a request that changes an object.
-use Rattle.std.specs.Prelude.{◌≡◌, ℕ, ◌<◌, false, List, [], length, Option, Some, None, unwrap_or, IsTrue}
+use Rattle.std.specs.Prelude.{
+  ◌≡◌,
+  ℕ,
+  ◌<◌,
+  false,
+  List,
+  [],
+  length,
+  Option,
+  Some,
+  None,
+  unwrap_or,
+  IsTrue,
+}
 use Rattle.room_ace.specs.declared.object.ObjKind.{ObjKind}
 use Rattle.room_ace.specs.declared.parties.Caller.{Caller}
-use Rattle.room_tree.specs.declared.node.Held.{Held}
-use Rattle.room_tree.specs.declared.node.NewNode.{NewNode}
-use Rattle.room_tree.specs.declared.node.Node.{Node}
-use Rattle.room_tree.specs.Held.{full_of}
-use Rattle.room_tree.specs.Keep.{Adds}
-use Rattle.room_tree.specs.Paths.{is_object_name}
-use Rattle.room_tree.specs.Rows.{Rows}
+use Rattle.room_ace.specs.declared.parties.Owners.{Owners}
+use Rattle.room_rows.specs.HeldList.{Held}
+use Rattle.room_rows.specs.declared.node.NewNode.{NewNode}
+use Rattle.room_rows.specs.declared.node.Node.{Node}
+use Rattle.room_rows.specs.Held.{full_of}
+use Rattle.room_rows.specs.Keep.{Adds}
+use Rattle.room_rows.specs.Paths.{is_object_name}
+use Rattle.room_rows.specs.Rows.{Rows}
 use Rattle.room_inherit.specs.Pass.{pass}
-use Rattle.room_desk.specs.declared.asker.Asker.{Asker}
-use Rattle.room_desk.specs.declared.reply.Reply.{Reply}
-use Rattle.room_desk.specs.Plan.{Item}
-use Rattle.room_desk.specs.Site.{last_name}
-use Rattle.room_desk.specs.Judged.{IsJudged}
+use Rattle.room_judge.specs.declared.asker.Asker.{Asker}
+use Rattle.room_machine.specs.declared.reply.Reply.{Reply}
+use Rattle.room_machine.specs.declared.reply.Reply.TheVariants.{Made}
+use Rattle.room_machine.specs.Plan.{Item}
+use Rattle.room_machine.specs.Site.{last_name}
+use Rattle.room_judge.specs.Judged.{IsJudged}
 
 -- ---- a new object, as it is stored
 
@@ -26,14 +41,24 @@ pub record IsNameOf (path : List (List ℕ)) (name : List ℕ) : Type 0 where
 
 -- It stores what its parent passes, whether it is linked or not.
 abbrev pub passed_held : ObjKind → Held → Held
-passed_held kind parent = record { flags = record { auto = parent.flags.auto; protect = false }; own = []; inh = pass kind (full_of parent) }
+passed_held kind parent = record {
+  flags =
+      record { auto = parent.flags.auto; protect = false };
+  own = [];
+  inh =
+      pass kind (full_of parent);
+}
+
+-- owned by the caller, or as the parent is where the caller has no name
+abbrev pub new_owners : Option (List ℕ) → Owners → Owners
+new_owners user parent = record { owner = unwrap_or user parent.owner; group = parent.group }
 
 abbrev pub new_child : Caller → ObjKind → Node → List ℕ → List ℕ → NewNode
 new_child caller kind parent name bytes = record {
   parent = Some parent.id;
   name = name;
   kind = kind;
-  owners = record { owner = unwrap_or caller.user parent.owners.owner; group = parent.owners.group };
+  owners = new_owners caller.user parent.owners;
   dacl = passed_held kind parent.dacl;
   sacl = passed_held kind parent.sacl;
   bytes = bytes;
@@ -43,15 +68,23 @@ new_child caller kind parent name bytes = record {
 abbrev pub IsMade : NewNode → Rows → Rows → Type 0
 IsMade node old new = (id : ℕ) × Adds node old id new
 
+-- an object of this kind and name is made under the parent
+abbrev pub MakesChild :
+    Caller → ObjKind → Node → List ℕ → List ℕ → Rows → Reply → Rows → Type 0
+MakesChild caller kind parent name bytes old reply new =
+    (reply ≡ Made) × IsMade (new_child caller kind parent name bytes) old new
+
 -- ---- items, and then a change
 
--- Where an item failed, its reply is the answer and nothing is changed. Else this is the reply, and the rows are changed so.
+-- Where an item failed, its reply is the answer and nothing is changed. Else this is the reply, and
+-- the rows are changed so.
 abbrev pub Ends : Reply → (Rows → Rows → Type 0) → Option Reply → Rows → Reply → Rows → Type 0
 Ends served Becomes None old reply new = (reply ≡ served) × Becomes old new
 Ends served Becomes (Some refusal) old reply new = (reply ≡ refusal) × (new ≡ old)
 
 -- The items are judged as they come, and what follows is done.
-pub record IsServed (asker : Asker) (items : List Item) (served : Reply) (Becomes : Rows → Rows → Type 0) (old : Rows) (reply : Reply) (new : Rows) : Type 0 where
+pub record IsServed (asker : Asker) (items : List Item) (served : Reply)
+    (Becomes : Rows → Rows → Type 0) (old : Rows) (reply : Reply) (new : Rows) : Type 0 where
   pub answer : Option Reply
   pub mid : Rows
   pub judged : IsJudged asker items old answer mid

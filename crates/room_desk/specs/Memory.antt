@@ -1,14 +1,14 @@
 -- The desk over a keeper in memory.
 use Rattle.std.specs.Prelude.{ℤ, List, ℕ, Option}
-use Rattle.room_tree.specs.Content.{Content}
-use Rattle.room_tree.specs.Meaning.{meaning}
+use Rattle.room_rows.specs.Content.{Content}
+use Rattle.room_rows.specs.Meaning.{meaning}
 use Rattle.room_tree.specs.Memory.{rows_in}
-use Rattle.room_tree.specs.Rows.{AreRows}
+use Rattle.room_rows.specs.Rows.{AreRows}
 use Rattle.room_tree.specs.declared.memory.MemKeep.{MemKeep}
 use Rattle.room_inherit.specs.Sound.{AreSound}
-use Rattle.room_desk.specs.declared.reply.Reply.{Reply}
-use Rattle.room_desk.specs.declared.request.Request.{Request}
-use Rattle.room_desk.specs.Step.{Step}
+use Rattle.room_machine.specs.declared.reply.Reply.{Reply}
+use Rattle.room_machine.specs.declared.request.Request.{Request}
+use Rattle.room_machine.specs.Step.{Step}
 
 -- what the rows of the keeper mean
 abbrev pub content_in : MemKeep → Content
@@ -19,9 +19,11 @@ abbrev pub IsSoundKeep : MemKeep → Type 0
 IsSoundKeep keep = AreSound (rows_in keep) × AreRows (rows_in keep)
 
 -- A request leads from one keeper to another, if the first was sound.
-pub record IsTried (user : Option (List ℕ)) (moment : ℤ) (request : Request) (old : MemKeep) (reply : Reply) (new : MemKeep) : Type 0 where
+pub record IsTried (user : Option (List ℕ)) (moment : ℤ) (request : Request) (old : MemKeep)
+    (reply : Reply) (new : MemKeep) : Type 0 where
   pub step : Step (content_in old) user moment request reply (content_in new)
   pub sound : IsSoundKeep new
 
 abbrev pub Tries : Option (List ℕ) → ℤ → Request → MemKeep → Reply → MemKeep → Type 0
-Tries user moment request old reply new = IsSoundKeep old → IsTried user moment request old reply new
+Tries user moment request old reply new =
+    IsSoundKeep old → IsTried user moment request old reply new

@@ -1,37 +1,71 @@
 -- How an object gets another place.
-use Rattle.std.specs.Prelude.{◌≡◌, ℕ, zero, suc, ◌==◌, ◌&&◌, Bool, true, false, not, List, [], ◌∷◌, ◌++◌, Option, Some, None, is_some, IsTrue, map}
+use Rattle.std.specs.Prelude.{
+  ◌≡◌,
+  ℕ,
+  zero,
+  suc,
+  ◌==◌,
+  ◌&&◌,
+  ◌⊎◌,
+  Bool,
+  true,
+  false,
+  not,
+  List,
+  [],
+  ◌∷◌,
+  ◌++◌,
+  Option,
+  Some,
+  None,
+  is_some,
+  IsTrue,
+  map,
+}
 use Rattle.std.specs.Option.{option_map_or}
 use Rattle.room_ace.specs.Ace.{Ace}
 use Rattle.room_ace.specs.Pieces.{same_text}
 use Rattle.room_ace.specs.declared.object.Which.{Which}
-use Rattle.room_tree.specs.declared.node.Node.{Node}
-use Rattle.room_tree.specs.Content.{Content, node_at, child_of, is_folder, is_linked_in, is_rising, reaches_root, with_node}
-use Rattle.room_tree.specs.Held.{held_of}
-use Rattle.room_tree.specs.Keep.{reading}
-use Rattle.room_tree.specs.Meaning.{meaning}
-use Rattle.room_tree.specs.Paths.{is_object_name}
-use Rattle.room_tree.specs.Rows.{Rows, AreRows}
+use Rattle.room_rows.specs.declared.node.Node.{Node}
+use Rattle.room_rows.specs.Content.{
+  Content,
+  node_at,
+  child_of,
+  is_folder,
+  is_linked_in,
+  is_rising,
+  reaches_root,
+  with_node,
+}
+use Rattle.room_rows.specs.Held.{held_of}
+use Rattle.room_rows.specs.Keep.{Changes, IsDamaged, IsUnreadable, reading, with_inh}
+use Rattle.room_rows.specs.Meaning.{meaning}
+use Rattle.room_rows.specs.Paths.{is_object_name}
+use Rattle.room_rows.specs.Rows.{Rows, AreRows}
 use Rattle.room_inherit.specs.Law.{agrees, AllAgree}
 use Rattle.room_inherit.specs.Sound.{AreSound}
 use Rattle.room_inherit.specs.Spread.{with_lists}
-use Rattle.room_desk.specs.declared.arrival.Found.{Found}
-use Rattle.room_desk.specs.declared.arrival.Pair.TheVariants.{Both}
-use Rattle.room_desk.specs.declared.asker.Asker.{Asker}
-use Rattle.room_desk.specs.declared.reply.Reply.{Reply}
-use Rattle.room_desk.specs.declared.reply.Reason.TheVariants.{Exists, Loop}
-use Rattle.room_desk.specs.declared.request.Request.TheVariants.{Move}
-use Rattle.room_desk.specs.Site.{Site, last_name}
-use Rattle.room_desk.specs.Plan.{Item, Check, Deletion, Refusal, right_to_add}
-use Rattle.room_desk.specs.Effect.{moved_node}
-use Rattle.room_desk.specs.Spot.{IsPaired}
-use Rattle.room_desk.specs.Stored.{stored_site}
-use Rattle.room_desk.specs.Judged.{IsJudged, CarriesOut, NotSound, through}
+use Rattle.room_judge.specs.declared.arrival.Found.{Found}
+use Rattle.room_judge.specs.declared.arrival.Pair.TheVariants.{Both}
+use Rattle.room_judge.specs.declared.asker.Asker.{Asker}
+use Rattle.room_machine.specs.declared.reply.Reply.{Reply}
+use Rattle.room_machine.specs.declared.reply.Reply.TheVariants.{Done}
+use Rattle.room_machine.specs.declared.reply.Reason.TheVariants.{Exists, Loop}
+use Rattle.room_machine.specs.declared.request.Request.TheVariants.{Move}
+use Rattle.room_machine.specs.Site.{Site, last_name}
+use Rattle.room_machine.specs.Plan.{Item, Check, Deletion, Refusal, right_to_add}
+use Rattle.room_machine.specs.Effect.{moved_node}
+use Rattle.room_judge.specs.Spot.{IsPaired}
+use Rattle.room_judge.specs.Stored.{stored_site}
+use Rattle.room_judge.specs.Judged.{IsJudged, CarriesOut, through}
+use Rattle.room_desk.specs.Carrying.{IsCarriedDown, IsRooted, IsUnreadableIfRooted}
 
 -- ---- what is judged
 
 -- the target may leave its folder, and may come into the other one
 abbrev pub leaving : Site → Site → Site → List Item
-leaving target from folder = Deletion target from ∷ Check folder (right_to_add target.node ∷ []) ∷ []
+leaving target from folder = Deletion target from ∷ Check folder (right_to_add target.node ∷ [])
+    ∷ []
 
 -- the names begin those others, or are all of them
 abbrev pub begins : List (List ℕ) → List (List ℕ) → Bool
@@ -41,11 +75,17 @@ begins (name ∷ names) (other ∷ others) = same_text name other && begins name
 
 -- nothing has the new name, and it isn't below the target
 abbrev pub free_place : Content → List (List ℕ) → Bool → Node → List Item
-free_place rows to is_below folder = Refusal to Exists (is_some (child_of rows folder.id (last_name to))) ∷ Refusal to Loop is_below ∷ []
+free_place rows to is_below folder = Refusal to Exists
+    (is_some (child_of rows folder.id (last_name to))) ∷ Refusal to Loop is_below ∷ []
 
 -- all that is judged at the new folder, behind the way to it
 abbrev pub at_place : Content → List (List ℕ) → Bool → Site → Site → Site → List Item
-at_place rows to is_below target from folder = (through folder ++ leaving target from folder) ++ free_place rows to is_below folder.node
+at_place rows to is_below target from folder =
+    (through folder ++ leaving target from folder) ++ free_place rows to is_below folder.node
+
+-- whether the folder has a child of this name
+abbrev pub IsTaken : ℕ → List ℕ → Rows → Bool → Type 0
+IsTaken folder name rows answer = answer ≡ is_some (child_of rows.read folder name)
 
 -- The items don't ask who it is.
 abbrev pub JudgesAll : (Rows → List Item) → Rows → Option Reply → Rows → Type 0
@@ -53,11 +93,15 @@ JudgesAll items old answer new = (asker : Asker) → IsJudged asker (items old) 
 
 -- ---- the whole request, once the way to the object has been walked
 
-abbrev pub MovesOn : Asker → List (List ℕ) → List (List ℕ) → Found → Found → Rows → Reply → Rows → Type 0
-MovesOn asker path to from target mid reply new = (old : Rows) → AreRows old → IsPaired asker path old (Both from target) mid → CarriesOut asker (Move path to) old reply new
+abbrev pub MovesOn : Asker → List (List ℕ) → List (List ℕ) → Found → Found → Rows → Reply → Rows
+    → Type 0
+MovesOn asker path to from target mid reply new =
+    (old : Rows) → AreRows old → IsPaired asker path old (Both from target) mid → CarriesOut asker
+    (Move path to) old reply new
 
-abbrev pub NeverMoving : Asker → List (List ℕ) → Found → Found → Rows → ℕ → Type 0
-NeverMoving asker path from target mid at = (old : Rows) → AreRows old → IsPaired asker path old (Both from target) mid → NotSound old at
+abbrev pub FailsToMove : Asker → List (List ℕ) → Found → Found → Rows → ℕ → Type 0
+FailsToMove asker path from target mid at =
+    (old : Rows) → AreRows old → IsPaired asker path old (Both from target) mid → IsDamaged old at
 
 -- ---- the change
 
@@ -65,9 +109,11 @@ NeverMoving asker path from target mid at = (old : Rows) → AreRows old → IsP
 abbrev pub goes_past : ℕ → Content → ℕ → Option ℕ → Bool
 goes_past n rows other None = true
 goes_past zero rows other (Some id) = false
-goes_past (suc n) rows other (Some id) = not (id == other) && option_map_or (λ node. goes_past n rows other node.parent) (node_at rows id) false
+goes_past (suc n) rows other (Some id) = not (id == other) && option_map_or
+    (λ node. goes_past n rows other node.parent) (node_at rows id) false
 
--- The rows are sound, the folder is one that is neither the target nor below it, and the name is free there.
+-- The rows are sound, the folder is one that is neither the target nor below it, and the name is
+-- free there.
 pub record CanPlace (target folder : Node) (name : List ℕ) (rows : Rows) : Type 0 where
   pub are : AreRows rows
   pub sound : AreSound rows
@@ -83,14 +129,26 @@ pub record CanPlace (target folder : Node) (name : List ℕ) (rows : Rows) : Typ
 
 -- The target stands there, with the lists that a move gives it, and the rows are sound.
 pub record IsPlaced (target folder : Node) (name : List ℕ) (old new : Rows) : Type 0 where
-  pub means : meaning new.read ≡ with_node (meaning old.read) (moved_node (stored_site [] target) (stored_site [] folder) name)
+  pub means : meaning new.read ≡ with_node (meaning old.read)
+      (moved_node (stored_site [] target) (stored_site [] folder) name)
   pub sound : AreSound new
 
-abbrev pub PlacesAt : Node → Node → List ℕ → Rows → Unit {0} → Rows → Type 0
-PlacesAt target folder name old answer new = CanPlace target folder name old → IsPlaced target folder name old new
+abbrev pub PlacesAt : Node → Node → List ℕ → Rows → Reply → Rows → Type 0
+PlacesAt target folder name old reply new =
+    (reply ≡ Done) × (CanPlace target folder name old → IsPlaced target folder name old new)
 
-abbrev pub NeverPlacing : Node → Node → List ℕ → Rows → ℕ → Type 0
-NeverPlacing target folder name old at = CanPlace target folder name old → ⊥
+-- The same, of rows that needn't be sound.
+pub record CanGo (target folder : Node) (name : List ℕ) (rows : Rows) : Type 0 where
+  pub are : AreRows rows
+  pub target_there : node_at rows.read target.id ≡ Some target
+  pub folder_there : node_at rows.read folder.id ≡ Some folder
+  pub folder_is : is_folder folder ≡ true
+  pub is_free : child_of rows.read folder.id name ≡ None
+  pub steps : ℕ
+  pub past : goes_past steps rows.read target.id (Some folder.id) ≡ true
+
+abbrev pub FailsToPlace : Node → Node → List ℕ → Rows → ℕ → Type 0
+FailsToPlace target folder name old at = CanGo target folder name old → IsUnreadable old at
 
 -- ---- one attribute at the new place
 
@@ -109,17 +167,34 @@ pub record CanRenew (which : Which) (target folder : Node) (rows : Rows) : Type 
   pub apart : folder.id ≡ target.id → ⊥
   pub steps : ℕ
   pub rooted : reaches_root steps rows.read (Some folder.id) ≡ true
-  pub others : (node : Node) → node_at rows.read node.id ≡ Some node → (node.id ≡ target.id → ⊥) → agrees rows.read which node ≡ true
+  pub others : (node : Node) → node_at rows.read node.id ≡ Some node → (node.id ≡ target.id → ⊥)
+      → agrees rows.read which node ≡ true
 
 -- Linked lists alone are other ones, and the law holds everywhere.
 pub record IsRenewed (which : Which) (old new : Rows) : Type 0 where
   pub lists : Node → List Ace
   pub becomes : new ≡ reading old (with_lists which lists old.read)
-  pub kept : (node : Node) → node_at old.read node.id ≡ Some node → is_linked_in old.read which node ≡ false → lists node ≡ (held_of which node).inh
+  pub kept : (node : Node) → node_at old.read node.id ≡ Some node → is_linked_in old.read which node
+      ≡ false → lists node ≡ (held_of which node).inh
   pub law : AllAgree new.read which
 
-abbrev pub Renews : Which → Node → Node → Rows → Unit {0} → Rows → Type 0
-Renews which target folder old answer new = CanRenew which target folder old → IsRenewed which old new
+-- what is rooted stays so, and no other row can't be read
+pub record KeepsRoot (id : ℕ) (old new : Rows) : Type 0 where
+  pub unreadable : new.unreadable ≡ old.unreadable
+  pub rooted : IsRooted id old → IsRooted id new
 
-abbrev pub NeverRenewing : Which → Node → Node → Rows → ℕ → Type 0
-NeverRenewing which target folder old at = CanRenew which target folder old → ⊥
+pub record Renews (which : Which) (target folder : Node) (old : Rows) (answer : Unit {0})
+    (new : Rows) : Type 0 where
+  pub renewed : CanRenew which target folder old → IsRenewed which old new
+  pub keeps : IsRooted target.id old → KeepsRoot target.id old new
+
+-- The object stores these entries, which are carried down, unless it did already.
+abbrev pub TakesPassed : Which → Node → List Ace → Rows → Unit {0} → Rows → Type 0
+TakesPassed which target passed old answer new =
+    ((passed ≡ (held_of which target).inh) × (new ≡ old))
+    ⊎ ((mid : Rows)
+    × Changes target.id (with_inh which passed) old mid
+    × IsCarriedDown which target.id mid answer new)
+
+abbrev pub FailsToRenew : Node → Rows → ℕ → Type 0
+FailsToRenew target = IsUnreadableIfRooted target.id

@@ -1,5 +1,25 @@
 -- How the list of an object that was found is set.
-use Rattle.std.specs.Prelude.{◌≡◌, ℕ, zero, suc, ◌-◌, ◌⊎◌, ◌&&◌, Bool, not, List, [], ◌∷◌, filter, length, take, Option, Some, None, if◌then◌else◌}
+use Rattle.std.specs.Prelude.{
+  ◌≡◌,
+  ℕ,
+  zero,
+  suc,
+  ◌-◌,
+  ◌⊎◌,
+  ◌&&◌,
+  Bool,
+  not,
+  List,
+  [],
+  ◌∷◌,
+  filter,
+  length,
+  take,
+  Option,
+  Some,
+  None,
+  if◌then◌else◌,
+}
 use Rattle.std.specs.Option.{option_map, option_map_or}
 use Rattle.room_ace.specs.Ace.{Ace}
 use Rattle.room_ace.specs.Sent.{Sent, inherited_of, limit_fault, own_of}
@@ -8,23 +28,23 @@ use Rattle.room_ace.specs.declared.flags.ListFlags.{ListFlags}
 use Rattle.room_ace.specs.declared.object.ObjKind.{ObjKind}
 use Rattle.room_ace.specs.declared.object.ObjKind.TheVariants.{Document, Folder}
 use Rattle.room_ace.specs.declared.object.Which.{Which}
-use Rattle.room_tree.specs.declared.node.Held.{Held}
-use Rattle.room_tree.specs.declared.node.Node.{Node}
-use Rattle.room_tree.specs.Content.{Content, node_at, parent_of}
-use Rattle.room_tree.specs.Held.{held_of, full_of}
-use Rattle.room_tree.specs.Keep.{IsUnreadable}
-use Rattle.room_tree.specs.Meaning.{kept_node, meaning}
-use Rattle.room_tree.specs.Rows.{Rows}
+use Rattle.room_rows.specs.HeldList.{Held}
+use Rattle.room_rows.specs.declared.node.Node.{Node}
+use Rattle.room_rows.specs.Content.{Content, node_at, parent_of}
+use Rattle.room_rows.specs.Held.{held_of, full_of, with_held}
+use Rattle.room_rows.specs.Keep.{Changes}
+use Rattle.room_rows.specs.Meaning.{kept_node, meaning}
+use Rattle.room_rows.specs.Rows.{Rows}
 use Rattle.room_inherit.specs.Pass.{pass}
 use Rattle.room_inherit.specs.Sound.{AreSound}
-use Rattle.room_inherit.specs.Spread.{IsOwnAncestor, IsSpread}
-use Rattle.room_desk.specs.declared.reply.Reason.{Reason}
-use Rattle.room_desk.specs.declared.reply.Reason.TheVariants.{BadList, NoSuch, NotFolder}
-use Rattle.room_desk.specs.declared.reply.Reply.{Reply}
-use Rattle.room_desk.specs.declared.reply.Reply.TheVariants.{Done, Refused}
-use Rattle.room_desk.specs.Effect.{set_list}
-use Rattle.room_desk.specs.Plan.{first_invalid}
-use Rattle.room_desk.specs.Site.{Site}
+use Rattle.room_desk.specs.Carrying.{GoesDown}
+use Rattle.room_machine.specs.declared.reply.Reason.{Reason}
+use Rattle.room_machine.specs.declared.reply.Reason.TheVariants.{BadList, NoSuch, NotFolder}
+use Rattle.room_machine.specs.declared.reply.Reply.{Reply}
+use Rattle.room_machine.specs.declared.reply.Reply.TheVariants.{Done, Refused}
+use Rattle.room_machine.specs.Effect.{set_list}
+use Rattle.room_machine.specs.Plan.{first_invalid}
+use Rattle.room_machine.specs.Site.{Site}
 
 -- ---- the sent entries
 
@@ -38,68 +58,100 @@ fault_in place which kind entries = reason_of (first_invalid place which kind en
 
 -- the entries with the flag of inherited ones, or those without it
 abbrev pub marked : Bool → List Ace → List Ace
-marked inherited entries = filter (λ entry. if inherited then entry.flags.inherited else not entry.flags.inherited) entries
+marked inherited entries = filter (λ entry. if inherited then entry.flags.inherited
+    else not entry.flags.inherited) entries
 
 -- ---- the list as it is stored
 
 -- the parent, where a list of these flags takes entries from it
 abbrev pub passing : Which → ListFlags → Option Node → Option Node
 passing which flags None = None
-passing which flags (Some above) = if not flags.protect && (held_of which above).flags.auto then Some above else None
+passing which flags (Some above) = if not flags.protect && (held_of which above).flags.auto
+    then Some above else None
 
 abbrev pub IsPassingParent : Which → ListFlags → Node → Rows → Option Node → Type 0
 IsPassingParent which flags node rows found = found ≡ passing which flags (parent_of rows.read node)
 
 abbrev pub stored_inh : Which → Sent → ObjKind → Option Node → List Ace
-stored_inh which sent kind parent = option_map_or (λ above. pass kind (full_of (held_of which above))) parent (inherited_of sent.entries)
+stored_inh which sent kind parent = option_map_or
+    (λ above. pass kind (full_of (held_of which above))) parent (inherited_of sent.entries)
 
--- The sent flags and own entries. A linked list inherits what the parent's stored list passes, and any other the sent entries with INHERITED.
+-- what is stored of the parent's list and of the sent entries
+abbrev pub IsNewInh : Which → Sent → Node → Rows → List Ace → Type 0
+IsNewInh which sent node rows entries =
+    entries ≡ stored_inh which sent node.kind (passing which sent.flags (parent_of rows.read node))
+
+-- the list of these parts
+abbrev pub list_of : ListFlags → List Ace → List Ace → Held
+list_of flags own inh = record { flags = flags; own = own; inh = inh }
+
+-- the sent list with these inherited entries
+abbrev pub sent_with : Sent → List Ace → Held
+sent_with sent inh = list_of sent.flags (own_of sent.entries) inh
+
+-- The sent flags and own entries. A linked list inherits what the parent's stored list passes, and
+-- any other the sent entries with INHERITED.
 abbrev pub stored_held : Which → Sent → ObjKind → Option Node → Held
-stored_held which sent kind parent = record { flags = sent.flags; own = own_of sent.entries; inh = stored_inh which sent kind (passing which sent.flags parent) }
+stored_held which sent kind parent = record {
+  flags = sent.flags;
+  own = own_of sent.entries;
+  inh =
+      stored_inh which sent kind (passing which sent.flags parent);
+}
 
-abbrev pub IsNewHeld : Which → Sent → Node → Rows → Held → Type 0
-IsNewHeld which sent node rows held = held ≡ stored_held which sent node.kind (parent_of rows.read node)
+-- ---- stored
 
--- ---- carried down
+-- the object has this list, which is carried down where it passes entries on
+pub record IsWrittenDown (which : Which) (id : ℕ) (held : Held) (old : Rows) (answer : Unit {0})
+    (new : Rows) : Type 0 where
+  pub mid : Rows
+  pub writes : Changes id (with_held which held) old mid
+  pub goes : GoesDown held.flags.auto which id mid new
 
--- what became of the lists below
-abbrev pub IsCarriedDown : Which → ℕ → Rows → Unit {0} → Rows → Type 0
-IsCarriedDown which id old answer new = (changed : ℕ) × IsSpread which id old new changed
-
--- a row that can't be read, or an object that is its own ancestor
-abbrev pub HasLoop : ℕ → Rows → ℕ → Type 0
-HasLoop id rows at = IsUnreadable rows at ⊎ IsOwnAncestor rows.read id
+-- the object had this list already, or has it now
+abbrev pub Stores : Which → Node → Held → Rows → Unit {0} → Rows → Type 0
+Stores which node held old answer new =
+    ((held ≡ held_of which node) × (new ≡ old)) ⊎ IsWrittenDown which node.id held old answer new
 
 -- ---- the whole
 
 -- an object of the rows as it stands in what they mean, with its inherited entries
 abbrev pub kept_site : Content → Node → Site
-kept_site rows node = record { path = []; node = kept_node rows node; dacl = node.dacl.inh; sacl = node.sacl.inh }
+kept_site rows node = record {
+  path = [];
+  node = kept_node rows node;
+  dacl = node.dacl.inh;
+  sacl =
+      node.sacl.inh;
+}
 
--- From sound rows that have the object, what they mean changes as a request says that sets a list, and they are sound again.
+-- From sound rows that have the object, what they mean changes as a request says that sets a list,
+-- and they are sound again.
 pub record IsSetWell (which : Which) (sent : Sent) (node : Node) (old new : Rows) : Type 0 where
-  pub means : meaning new.read ≡ set_list (meaning old.read) which sent (option_map (kept_site old.read) (parent_of old.read node)) (kept_site old.read node)
+  pub means : meaning new.read ≡ set_list (meaning old.read) which sent
+      (option_map (kept_site old.read) (parent_of old.read node)) (kept_site old.read node)
   pub sound : AreSound new
 
 abbrev pub IsSet : Which → Sent → Node → Rows → Rows → Type 0
 IsSet which sent node old new =
-    node_at old.read node.id ≡ Some node → fault_in 1 which node.kind sent.entries ≡ None → limit_fault sent.entries ≡ None → AreSound old → IsSetWell which sent node old new
+    node_at old.read node.id ≡ Some node → fault_in 1 which node.kind sent.entries ≡ None
+    → limit_fault sent.entries ≡ None → AreSound old → IsSetWell which sent node old new
 
 -- the list is stored already as it is to be
 abbrev pub IsStored : Which → Sent → Node → Rows → Type 0
-IsStored which sent node rows = stored_held which sent node.kind (parent_of rows.read node) ≡ held_of which node
-
--- no row of sound rows that have the object
-abbrev pub SetsBadly : Node → Rows → ℕ → Type 0
-SetsBadly node rows at = node_at rows.read node.id ≡ Some node → AreSound rows → ⊥
+IsStored which sent node rows = stored_held which sent node.kind (parent_of rows.read node)
+    ≡ held_of which node
 
 abbrev pub SetUnless : Option Reason → Which → Sent → Node → Rows → Rows → Type 0
 SetUnless None which sent node old new = IsSet which sent node old new
 SetUnless (Some why) which sent node old new = new ≡ old
 
--- The list of the object at the path is set, or refused for its first entry that may not stand there. It is within the limits of what is sent.
-pub record IsSetOrRefused (path : List (List ℕ)) (which : Which) (sent : Sent) (node : Node) (old : Rows) (reply : Reply) (new : Rows) : Type 0 where
-  pub replies : reply ≡ option_map_or (λ why. Refused path why) (fault_in 1 which node.kind sent.entries) Done
+-- The list of the object at the path is set, or refused for its first entry that may not stand
+-- there. It is within the limits of what is sent.
+pub record IsSetOrRefused (path : List (List ℕ)) (which : Which) (sent : Sent) (node : Node)
+    (old : Rows) (reply : Reply) (new : Rows) : Type 0 where
+  pub replies : reply ≡ option_map_or (λ why. Refused path why)
+      (fault_in 1 which node.kind sent.entries) Done
   pub few : limit_fault sent.entries ≡ None
   pub becomes : SetUnless (fault_in 1 which node.kind sent.entries) which sent node old new
 
@@ -112,5 +164,7 @@ ended_at path Folder rest = Refused (take (length path - (rest - 1)) path) NoSuc
 
 -- The walk came to an object with so many names left over.
 abbrev pub IsResetAtEnd : List (List ℕ) → Which → Sent → Node → ℕ → Rows → Reply → Rows → Type 0
-IsResetAtEnd path which sent last zero old reply new = IsSetOrRefused path which sent last old reply new
-IsResetAtEnd path which sent last (suc rest) old reply new = (reply ≡ ended_at path last.kind (suc rest)) × (new ≡ old)
+IsResetAtEnd path which sent last zero old reply new =
+    IsSetOrRefused path which sent last old reply new
+IsResetAtEnd path which sent last (suc rest) old reply new =
+    (reply ≡ ended_at path last.kind (suc rest)) × (new ≡ old)

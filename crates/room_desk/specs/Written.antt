@@ -1,11 +1,25 @@
 -- What becomes of the bytes of a document.
-use Rattle.std.specs.Prelude.{◌≡◌, ℕ, ◌⊎◌, Bool, true, false, List, ◌++◌, length, Some, None, nat_lt, if◌then◌else◌}
-use Rattle.room_tree.specs.Content.{body_of}
-use Rattle.room_tree.specs.Keep.{IsUnreadable, SetsBody}
-use Rattle.room_tree.specs.Rows.{Rows}
-use Rattle.room_desk.specs.declared.reply.Reply.{Reply}
-use Rattle.room_desk.specs.declared.reply.Reply.TheVariants.{Done, Refused}
-use Rattle.room_desk.specs.declared.reply.Reason.TheVariants.{TooLarge}
+use Rattle.std.specs.Prelude.{
+  ◌≡◌,
+  ℕ,
+  ◌⊎◌,
+  Bool,
+  true,
+  false,
+  List,
+  ◌++◌,
+  length,
+  Some,
+  None,
+  nat_lt,
+  if◌then◌else◌,
+}
+use Rattle.room_rows.specs.Content.{body_of}
+use Rattle.room_rows.specs.Keep.{IsUnreadable, SetsBody}
+use Rattle.room_rows.specs.Rows.{Rows}
+use Rattle.room_machine.specs.declared.reply.Reply.{Reply}
+use Rattle.room_machine.specs.declared.reply.Reply.TheVariants.{Done, Refused}
+use Rattle.room_machine.specs.declared.reply.Reason.TheVariants.{TooLarge}
 
 -- they are set, or there are too many of them
 abbrev pub TakesBytes : Bool → ℕ → List ℕ → Rows → Rows → Type 0
@@ -13,16 +27,18 @@ TakesBytes true id bytes old new = new ≡ old
 TakesBytes false id bytes old new = SetsBody id bytes old new
 
 -- A document gets these bytes, if there aren't too many.
-pub record IsPut (path : List (List ℕ)) (id : ℕ) (bytes : List ℕ) (old : Rows) (reply : Reply) (new : Rows) : Type 0 where
+pub record IsPut (path : List (List ℕ)) (id : ℕ) (bytes : List ℕ) (old : Rows) (reply : Reply)
+    (new : Rows) : Type 0 where
   pub replies : reply ≡ (if nat_lt 1048576 (length bytes) then Refused path TooLarge else Done)
   pub becomes : TakesBytes (nat_lt 1048576 (length bytes)) id bytes old new
 
 -- A document gets these bytes behind those that it has.
-pub record IsAppended (path : List (List ℕ)) (id : ℕ) (bytes : List ℕ) (old : Rows) (reply : Reply) (new : Rows) : Type 0 where
+pub record IsAppended (path : List (List ℕ)) (id : ℕ) (bytes : List ℕ) (old : Rows) (reply : Reply)
+    (new : Rows) : Type 0 where
   pub before : List ℕ
   pub were : body_of old.read id ≡ Some before
   pub put : IsPut path id (before ++ bytes) old reply new
 
 -- a row that can't be read, or no bytes of this number
 abbrev pub HasNoBytes : ℕ → Rows → ℕ → Type 0
-HasNoBytes id rows at = IsUnreadable rows at ⊎ (body_of rows.read id ≡ None)
+HasNoBytes id rows at = IsUnreadable rows at ⊎ ((at ≡ id) × (body_of rows.read id ≡ None))

@@ -1,17 +1,16 @@
 //! The request that asks what a caller may do.
-ghost use Rattle.std.specs.Prelude.{◌≡◌, [], ◌∷◌, map, IfOk};
-ghost use Rattle.room_eval.specs.Verdict.{ruling_of};
-ghost use Rattle.room_tree.specs.Held.{full_of};
-ghost use Rattle.room_desk.specs.Judged.{CarriesOut, IsDone, NotSound};
-ghost use Rattle.room_desk.specs.declared.request.Request.TheVariants.{Can};
+ghost use Rattle.std.specs.Prelude.{◌≡◌, IfOk};
+ghost use Rattle.room_desk.specs.Asked.{rulings_at, rulings_by};
+ghost use Rattle.room_rows.specs.Keep.{IsDamaged};
+ghost use Rattle.room_judge.specs.Judged.{CarriesOut, Does};
+ghost use Rattle.room_machine.specs.declared.reply.Reply.TheVariants.{Rulings as RulingsReply};
+ghost use Rattle.room_machine.specs.declared.request.Request.TheVariants.{Can};
 
-use crate::arrival::Arrival;
-use crate::asker::Asker;
-use crate::reply::{Reply, Rulings};
-use crate::walking::walk_to;
 use room_ace::{Caller, Entry, Mask, Owners};
 use room_eval::ruling;
-use room_tree::{Keep, KeepFault, Node, Path};
+use room_judge::{Arrival, Asker, walk_to};
+use room_machine::{Reply, Rulings};
+use room_rows::{Keep, KeepFault, Node, Path};
 use std::alloc::{AllocError, Global};
 
 /// The ruling of each asked bit for the caller.
@@ -22,21 +21,22 @@ pub(crate) fn can<K: Keep>(
     path: &Path,
     mask: Mask,
 ) -> Result<Reply, KeepFault>
-    ensures done { IsDone K.rows K.failures K.Follows K.IsTrusted keep.old keep.new result NotSound (CarriesOut asker.now (Can path.now mask)) }
+    ensures done { Does K.Keep keep.old keep.new result IsDamaged
+        (CarriesOut asker.now (Can path.now mask)) }
 {
     let arrival = walk_to(alloc, keep, asker, path)?;
     match arrival {
         Arrival::Ended(reply) => Ok(reply),
-        Arrival::At(node) => Ok(Reply::Rulings(rulings_at(alloc, asker, &node, mask)?)),
+        Arrival::At(node) => Ok(rulings_reply(alloc, asker, &node, mask)?),
     }
 }
 
 // The ruling of each of these bits by the dacl of the object.
-fn rulings_at(alloc: Global, asker: &Asker, node: &Node, mask: Mask) -> Result<Rulings, AllocError>
-    ensures { IfOk result (λ rulings. rulings ≡ map (λ bit. (bit ∷ [], ruling_of (full_of node.now.dacl) asker.now.caller node.now.owners bit)) mask) }
+fn rulings_reply(alloc: Global, asker: &Asker, node: &Node, mask: Mask) -> Result<Reply, AllocError>
+    ensures { IfOk result (λ reply. reply ≡ RulingsReply (rulings_at asker.now node.now mask)) }
 {
-    let entries = node.dacl.full()?;
-    rulings_of(alloc, entries.as_slice(), &asker.caller, &node.owners, mask)
+    let rulings = rulings_of(alloc, node.dacl.full(), &asker.caller, &node.owners, mask)?;
+    Ok(Reply::Rulings(rulings))
 }
 
 // The ruling of each of these bits by a list.
@@ -47,7 +47,7 @@ fn rulings_of(
     owners: &Owners,
     mask: Mask,
 ) -> Result<Rulings, AllocError>
-    ensures { IfOk result (λ rulings. rulings ≡ map (λ bit. (bit ∷ [], ruling_of entries.now caller.now owners.now bit)) mask) }
+    ensures { IfOk result (λ rulings. rulings ≡ rulings_by entries.now caller.now owners.now mask) }
 {
     let bits = mask.singles(alloc)?;
     let mut items = Vec::new(alloc);

@@ -1,21 +1,22 @@
 //! A change of a list carried down.
 ghost use Rattle.std.specs.Prelude.{◌≡◌};
-ghost use Rattle.room_desk.specs.Judged.{IsDone};
+ghost use Rattle.room_judge.specs.Judged.{Does};
 ghost use Rattle.room_desk.specs.Carrying.{HasLoop, IsCarriedDown, keeper_fault};
 
 use room_ace::Which;
 use room_inherit::{SpreadFault, spread};
-use room_tree::{Keep, KeepFault};
+use room_rows::{Keep, KeepFault};
 use std::alloc::Global;
 
-/// Carries a change of a list down from the object. Where that is its own ancestor, it is `Damaged`.
+/// Carries a change of a list down from the object. Where that is its own ancestor, it is
+/// `Damaged`.
 pub(crate) fn carry_down<K: Keep>(
     alloc: Global,
     keep: &mut K,
     id: u64,
     which: Which,
 ) -> Result<(), KeepFault>
-    ensures done { IsDone K.rows K.failures K.Follows K.IsTrusted keep.old keep.new result (HasLoop id) (IsCarriedDown which id) }
+    ensures done { Does K.Keep keep.old keep.new result (HasLoop id) (IsCarriedDown which id) }
 {
     let outcome = spread(alloc, keep, id, which);
     match outcome {

@@ -1,26 +1,33 @@
 //! Requests that make an object, or give a document all its bytes.
 ghost use Rattle.std.specs.Prelude.{◌≡◌, [], ◌∷◌, IfOk, length, unwrap_or};
 ghost use Rattle.room_ace.specs.Rights.{append_data, write_data};
-ghost use Rattle.room_ace.specs.declared.object.ObjKind.TheVariants.{Document as DocumentKind, Folder as FolderKind};
-ghost use Rattle.room_tree.specs.Keep.{IsUnreadable, SetsBody};
-ghost use Rattle.room_desk.specs.Judged.{CarriesOut, IsDone, NotSound};
-ghost use Rattle.room_desk.specs.Made.{IsMade, IsNameOf, IsServed, new_child, passed_held};
-ghost use Rattle.room_desk.specs.Plan.{Check, Refusal, no_folder, not_over};
-ghost use Rattle.room_desk.specs.Stored.{found_site};
-ghost use Rattle.room_desk.specs.declared.reply.Reason.TheVariants.{Exists};
-ghost use Rattle.room_desk.specs.declared.reply.Reply.TheVariants.{Done, Made};
-ghost use Rattle.room_desk.specs.declared.request.Request.TheVariants.{MakeFolder, Put};
+ghost use Rattle.room_ace.specs.declared.object.ObjKind.TheVariants.{
+  Document as DocumentKind,
+  Folder as FolderKind,
+};
+ghost use Rattle.room_rows.specs.Keep.{IsDamaged, IsUnreadable, SetsBody};
+ghost use Rattle.room_judge.specs.Judged.{CarriesOut, Does};
+ghost use Rattle.room_desk.specs.Made.{
+  IsNameOf,
+  IsServed,
+  IsMade,
+  MakesChild,
+  new_child,
+  new_owners,
+  passed_held,
+};
+ghost use Rattle.room_machine.specs.Plan.{Check, Refusal, no_folder, not_over};
+ghost use Rattle.room_judge.specs.Stored.{found_site};
+ghost use Rattle.room_machine.specs.declared.reply.Reason.TheVariants.{Exists};
+ghost use Rattle.room_machine.specs.declared.reply.Reply.TheVariants.{Done, Made};
+ghost use Rattle.room_machine.specs.declared.request.Request.TheVariants.{MakeFolder, Put};
 
-use crate::arrival::{Found, Spot};
-use crate::asker::Asker;
-use crate::checking::{check, refused};
-use crate::placing::walk_to_spot;
-use crate::reply::{Reason, Reply};
-use crate::walking::check_kind;
 use crate::writing::{MOST_BYTES, put_bytes};
 use room_ace::{Entries, ListFlags, Mask, Name, ObjKind, Owners};
 use room_inherit::pass;
-use room_tree::{Bytes, Held, Keep, KeepFault, NewNode, Node, Path, Text};
+use room_judge::{Asker, Found, Spot, check, check_kind, refused, walk_to_spot};
+use room_machine::{Reason, Reply};
+use room_rows::{Bytes, Held, Keep, KeepFault, NewNode, Node, Path, Text};
 use std::alloc::{AllocError, Global};
 
 /// Gives a document these bytes, or makes a new one.
@@ -31,7 +38,8 @@ pub(crate) fn put<K: Keep>(
     path: &Path,
     bytes: &Bytes,
 ) -> Result<Reply, KeepFault>
-    ensures done { IsDone K.rows K.failures K.Follows K.IsTrusted keep.old keep.new result NotSound (CarriesOut asker.now (Put path.now bytes.now)) }
+    ensures done { Does K.Keep keep.old keep.new result IsDamaged
+        (CarriesOut asker.now (Put path.now bytes.now)) }
 {
     match path.split_last() {
         None => Ok(refused(alloc, path, 0, Reason::WrongKind)?),
@@ -49,7 +57,8 @@ fn put_below<K: Keep>(
     bytes: &Bytes,
 ) -> Result<Reply, KeepFault>
     requires { IsNameOf path.now name.now }
-    ensures done { IsDone K.rows K.failures K.Follows K.IsTrusted keep.old keep.new result NotSound (CarriesOut asker.now (Put path.now bytes.now)) }
+    ensures done { Does K.Keep keep.old keep.new result IsDamaged
+        (CarriesOut asker.now (Put path.now bytes.now)) }
 {
     let spot = walk_to_spot(alloc, keep, asker, path)?;
     let depth = path.names().len();
@@ -71,7 +80,10 @@ fn put_there<K: Keep>(
     target: &Found,
     bytes: &Bytes,
 ) -> Result<Reply, KeepFault>
-    ensures done { IsDone K.rows K.failures K.Follows K.IsTrusted keep.old keep.new result IsUnreadable (IsServed asker.now (no_folder (found_site path.now target.now) ∷ Check (found_site path.now target.now) (write_data ∷ []) ∷ not_over path.now (length bytes.now) ∷ []) Done (SetsBody target.now.node.id bytes.now)) }
+    ensures done { Does K.Keep keep.old keep.new result IsUnreadable
+        (IsServed asker.now (no_folder (found_site path.now target.now) ∷ Check
+        (found_site path.now target.now) (write_data ∷ []) ∷ not_over path.now (length bytes.now)
+        ∷ []) Done (SetsBody target.now.node.id bytes.now)) }
 {
     let refusal = check_kind(
         alloc,
@@ -98,7 +110,10 @@ fn put_new<K: Keep>(
     folder: &Found,
     bytes: &Bytes,
 ) -> Result<Reply, KeepFault>
-    ensures done { IsDone K.rows K.failures K.Follows K.IsTrusted keep.old keep.new result IsUnreadable (IsServed asker.now (Check (found_site path.now folder.now) (write_data ∷ []) ∷ not_over path.now (length bytes.now) ∷ []) Made (IsMade (new_child asker.now.caller DocumentKind folder.now.node name.now bytes.now))) }
+    ensures done { Does K.Keep keep.old keep.new result IsUnreadable
+        (IsServed asker.now (Check (found_site path.now folder.now) (write_data ∷ [])
+        ∷ not_over path.now (length bytes.now) ∷ []) Made
+        (IsMade (new_child asker.now.caller DocumentKind folder.now.node name.now bytes.now))) }
 {
     let refusal = check(alloc, keep, asker, path, folder, Mask::write_data())?;
     match refusal {
@@ -108,9 +123,15 @@ fn put_new<K: Keep>(
             if too_many {
                 return Ok(refused(alloc, path, path.names().len(), Reason::TooLarge)?);
             }
-            let node = child_at(alloc, asker, name, &folder.node, ObjKind::Document, bytes)?;
-            keep.add(node)?;
-            Ok(Reply::Made)
+            add_child(
+                alloc,
+                keep,
+                asker,
+                name,
+                &folder.node,
+                ObjKind::Document,
+                bytes,
+            )
         }
     }
 }
@@ -122,7 +143,8 @@ pub(crate) fn make_folder<K: Keep>(
     asker: &Asker,
     path: &Path,
 ) -> Result<Reply, KeepFault>
-    ensures done { IsDone K.rows K.failures K.Follows K.IsTrusted keep.old keep.new result NotSound (CarriesOut asker.now (MakeFolder path.now)) }
+    ensures done { Does K.Keep keep.old keep.new result IsDamaged
+        (CarriesOut asker.now (MakeFolder path.now)) }
 {
     match path.split_last() {
         None => Ok(refused(alloc, path, 0, Reason::Exists)?),
@@ -139,7 +161,8 @@ fn make_below<K: Keep>(
     name: &Text,
 ) -> Result<Reply, KeepFault>
     requires { IsNameOf path.now name.now }
-    ensures done { IsDone K.rows K.failures K.Follows K.IsTrusted keep.old keep.new result NotSound (CarriesOut asker.now (MakeFolder path.now)) }
+    ensures done { Does K.Keep keep.old keep.new result IsDamaged
+        (CarriesOut asker.now (MakeFolder path.now)) }
 {
     let spot = walk_to_spot(alloc, keep, asker, path)?;
     match spot {
@@ -160,7 +183,10 @@ fn make_new<K: Keep>(
     folder: &Found,
     is_there: bool,
 ) -> Result<Reply, KeepFault>
-    ensures done { IsDone K.rows K.failures K.Follows K.IsTrusted keep.old keep.new result IsUnreadable (IsServed asker.now (Check (found_site path.now folder.now) (append_data ∷ []) ∷ Refusal path.now Exists is_there ∷ []) Made (IsMade (new_child asker.now.caller FolderKind folder.now.node name.now []))) }
+    ensures done { Does K.Keep keep.old keep.new result IsUnreadable
+        (IsServed asker.now (Check (found_site path.now folder.now) (append_data ∷ [])
+        ∷ Refusal path.now Exists is_there ∷ []) Made
+        (IsMade (new_child asker.now.caller FolderKind folder.now.node name.now []))) }
 {
     let refusal = check(alloc, keep, asker, path, folder, Mask::append_data())?;
     match refusal {
@@ -170,11 +196,35 @@ fn make_new<K: Keep>(
                 return Ok(refused(alloc, path, path.names().len(), Reason::Exists)?);
             }
             let none = Bytes::new(alloc);
-            let node = child_at(alloc, asker, name, &folder.node, ObjKind::Folder, &none)?;
-            keep.add(node)?;
-            Ok(Reply::Made)
+            add_child(
+                alloc,
+                keep,
+                asker,
+                name,
+                &folder.node,
+                ObjKind::Folder,
+                &none,
+            )
         }
     }
+}
+
+// Adds an object of this kind and name under the parent.
+fn add_child<K: Keep>(
+    alloc: Global,
+    keep: &mut K,
+    asker: &Asker,
+    name: &Text,
+    parent: &Node,
+    kind: ObjKind,
+    bytes: &Bytes,
+) -> Result<Reply, KeepFault>
+    ensures done { Does K.Keep keep.old keep.new result IsUnreadable
+        (MakesChild asker.now.caller kind parent.now name.now bytes.now) }
+{
+    let node = child_at(alloc, asker, name, parent, kind, bytes)?;
+    keep.add(node)?;
+    Ok(Reply::Made)
 }
 
 // A new object of this kind and name under the parent.
@@ -186,19 +236,32 @@ fn child_at(
     kind: ObjKind,
     bytes: &Bytes,
 ) -> Result<NewNode, AllocError>
-    ensures { IfOk result (λ node. node ≡ new_child asker.now.caller kind parent.now name.now bytes.now) }
+    ensures { IfOk result (λ node. node ≡ new_child asker.now.caller kind parent.now name.now
+        bytes.now) }
 {
+    let dacl = passed_list(alloc, kind, &parent.dacl)?;
+    let sacl = passed_list(alloc, kind, &parent.sacl)?;
+    let owners = owners_of(&asker.caller.user, &parent.owners)?;
+    let name = name.copy()?;
     Ok(NewNode {
         parent: Some(parent.id),
-        name: name.copy()?,
+        name,
         kind,
-        owners: Owners {
-            owner: owner_of(&asker.caller.user, &parent.owners.owner)?,
-            group: parent.owners.group.copy()?,
-        },
-        dacl: passed_list(alloc, kind, &parent.dacl)?,
-        sacl: passed_list(alloc, kind, &parent.sacl)?,
+        owners,
+        dacl,
+        sacl,
         bytes: bytes.copy()?,
+    })
+}
+
+// The owners of what the caller makes under an object of these.
+fn owners_of(user: &Option<Name>, parent: &Owners) -> Result<Owners, AllocError>
+    ensures { IfOk result (λ owners. owners ≡ new_owners user.now parent.now) }
+{
+    let owner = owner_of(user, &parent.owner)?;
+    Ok(Owners {
+        owner,
+        group: parent.group.copy()?,
     })
 }
 
@@ -216,13 +279,10 @@ fn owner_of(user: &Option<Name>, other: &Name) -> Result<Name, AllocError>
 fn passed_list(alloc: Global, kind: ObjKind, parent: &Held) -> Result<Held, AllocError>
     ensures { IfOk result (λ held. held ≡ passed_held kind parent.now) }
 {
-    let full = parent.full()?;
-    Ok(Held {
-        flags: ListFlags {
-            auto: parent.flags.auto,
-            protect: false,
-        },
-        own: Entries::new(alloc),
-        inh: pass(alloc, kind, full.as_slice())?,
-    })
+    let passed = pass(alloc, kind, parent.full())?;
+    let flags = ListFlags {
+        auto: parent.flags().auto,
+        protect: false,
+    };
+    Held::new(flags, Entries::new(alloc), passed.as_slice())
 }

@@ -1,18 +1,17 @@
 //! A desk over a keeper in memory.
-ghost use Rattle.std.specs.Prelude.{◌≡◌, IfOk};
+ghost use Rattle.std.specs.Prelude.{◌≡◌, IfOk, ⊤, refl};
 ghost use Rattle.std.specs.Option.{option_copied};
 ghost use Rattle.room_desk.specs.Memory.{content_in, IsSoundKeep, Tries};
 
-use crate::desk::{Desk, DeskFault};
 use crate::performing::perform;
-use crate::reply::Reply;
-use crate::request::Request;
 use room_ace::Name;
-use room_tree::{KeepFault, MemKeep};
+use room_machine::{Desk, DeskFault, Reply, Request};
+use room_rows::KeepFault;
+use room_tree::MemKeep;
 use std::alloc::Global;
 
-/// A desk over a keeper in memory. It carries out each request on a copy, and takes the copy over where
-/// there was no fault.
+/// A desk over a keeper in memory. It carries out each request on a copy, and takes the copy over
+/// where there was no fault.
 #[derive(Drop)]
 pub struct MemDesk {
     keep: MemKeep,
@@ -50,7 +49,8 @@ impl MemDesk {
         at: i64,
         request: &Request,
     ) -> Result<(MemKeep, Reply), KeepFault>
-        ensures { IfOk result (λ done. Tries (option_copied caller.entry) at request.now self.now.keep done.1 done.0) }
+        ensures { IfOk result (λ done. Tries
+            (option_copied caller.entry) at request.now self.now.keep done.1 done.0) }
     {
         let mut keep = self.keep.copy()?;
         let reply = perform(alloc, &mut keep, caller, at, request)?;
@@ -59,9 +59,11 @@ impl MemDesk {
 }
 
 impl Desk for MemDesk {
-    ghost content = { λ desk. content_in desk.keep };
+    ghost content = { λ desk room. content_in desk.keep ≡ room };
 
     ghost sound = { λ desk. IsSoundKeep desk.keep };
+
+    ghost trusted = { λ _. ⊤ };
 
     ghost faults = { λ desk. desk.faults };
 
@@ -83,4 +85,6 @@ impl Desk for MemDesk {
             }
         }
     }
+
+    ghost keeps = { λ desk. (content_in desk.keep, refl) };
 }

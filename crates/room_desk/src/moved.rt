@@ -1,18 +1,29 @@
 //! The new place of an object.
 ghost use Rattle.std.specs.Prelude.{◌≡◌, ◌+◌, length};
+ghost use Rattle.room_rows.specs.Held.{held_of, is_linked};
 ghost use Rattle.room_ace.specs.Pieces.{same_text};
-ghost use Rattle.room_tree.specs.Keep.{IsUnreadable};
-ghost use Rattle.room_desk.specs.Judged.{IsDone};
-ghost use Rattle.room_desk.specs.Moving.{JudgesAll, NeverPlacing, NeverRenewing, PlacesAt, Renews, begins, free_place};
-ghost use Rattle.room_desk.specs.Site.{front};
+ghost use Rattle.room_rows.specs.Calls.{Reads};
+ghost use Rattle.room_rows.specs.Keep.{IsUnreadable};
+ghost use Rattle.room_judge.specs.Judged.{Does};
+ghost use Rattle.room_desk.specs.Moving.{
+  FailsToPlace,
+  FailsToRenew,
+  IsTaken,
+  JudgesAll,
+  PlacesAt,
+  Renews,
+  TakesPassed,
+  begins,
+  free_place,
+};
+ghost use Rattle.room_machine.specs.Site.{front};
 
-use crate::arrival::Found;
 use crate::carrying::carry_down;
-use crate::checking::refused;
-use crate::reply::{Reason, Reply};
-use room_ace::Which;
-use room_inherit::{linked, pass};
-use room_tree::{Keep, KeepFault, Node, Path, Text};
+use room_ace::{Entries, Which};
+use room_inherit::pass;
+use room_judge::{Found, refused};
+use room_machine::{Reason, Reply};
+use room_rows::{Keep, KeepFault, Node, Path, Text};
 use std::alloc::Global;
 
 /// Nothing has the new name, and the object's path doesn't begin that of the new folder.
@@ -24,12 +35,13 @@ pub(crate) fn check_free<K: Keep>(
     folder: &Found,
 ) -> Result<Option<Reply>, KeepFault>
     requires { length to.now ≡ folder.now.depth + 1 }
-    ensures done { IsDone K.rows K.failures K.Follows K.IsTrusted keep.old keep.new result IsUnreadable (JudgesAll (λ rows. free_place rows.read to.now (begins path.now (front to.now)) folder.now.node)) }
+    ensures done { Does K.Keep keep.old keep.new result IsUnreadable
+        (JudgesAll (λ rows. free_place rows.read to.now
+        (begins path.now (front to.now)) folder.now.node)) }
 {
     let name = &to.names()[folder.depth];
-    let child = keep.child(folder.node.id, name.as_str())?;
-    let is_free = child.is_none();
-    if !is_free {
+    let is_taken = is_taken(keep, folder.node.id, name.as_str())?;
+    if is_taken {
         return Ok(Some(refused(alloc, to, to.names().len(), Reason::Exists)?));
     }
     let is_below = begins(path.names(), &to.names()[..folder.depth]);
@@ -37,6 +49,14 @@ pub(crate) fn check_free<K: Keep>(
         return Ok(Some(refused(alloc, to, to.names().len(), Reason::Loop)?));
     }
     Ok(None)
+}
+
+// Whether the folder of this number has a child of this name.
+fn is_taken<K: Keep>(keep: &mut K, folder: u64, name: &str) -> Result<bool, KeepFault>
+    ensures read { Reads K.Keep keep.old keep.new result IsUnreadable (IsTaken folder name.now) }
+{
+    let child = keep.child(folder, name)?;
+    Ok(child.is_some())
 }
 
 // Whether the names begin those others, or are all of them.
@@ -62,20 +82,22 @@ fn is_same_name(name: &Text, other: &Text) -> bool
     name.as_str() == other.as_str()
 }
 
-/// Gives the object another parent and another name. What is linked there takes the entries that the
-/// new parent passes, and hands them down.
+/// Gives the object another parent and another name. What is linked there takes the entries that
+/// the new parent passes, and hands them down.
 pub(crate) fn place_at<K: Keep>(
     alloc: Global,
     keep: &mut K,
     target: &Node,
     folder: &Node,
     name: &str,
-) -> Result<(), KeepFault>
-    ensures done { IsDone K.rows K.failures K.Follows K.IsTrusted keep.old keep.new result (NeverPlacing target.now folder.now name.now) (PlacesAt target.now folder.now name.now) }
+) -> Result<Reply, KeepFault>
+    ensures done { Does K.Keep keep.old keep.new result
+        (FailsToPlace target.now folder.now name.now) (PlacesAt target.now folder.now name.now) }
 {
     keep.set_place(target.id, folder.id, name)?;
     renew_list(alloc, keep, target, folder, Which::Dacl)?;
-    renew_list(alloc, keep, target, folder, Which::Sacl)
+    renew_list(alloc, keep, target, folder, Which::Sacl)?;
+    Ok(Reply::Done)
 }
 
 // Where the list is linked to the folder's, it takes what that passes.
@@ -86,13 +108,39 @@ fn renew_list<K: Keep>(
     folder: &Node,
     which: Which,
 ) -> Result<(), KeepFault>
-    ensures done { IsDone K.rows K.failures K.Follows K.IsTrusted keep.old keep.new result (NeverRenewing which target.now folder.now) (Renews which target.now folder.now) }
+    ensures done { Does K.Keep keep.old keep.new result (FailsToRenew target.now)
+        (Renews which target.now folder.now) }
 {
-    if !linked(target, Some(folder), which) {
+    if !takes_from(target, folder, which) {
         return Ok(());
     }
-    let above = folder.held(which).full()?;
-    let passed = pass(alloc, target.kind, above.as_slice())?;
+    let passed = pass(alloc, target.kind, folder.held(which).full())?;
+    take_passed(alloc, keep, target, which, &passed)
+}
+
+// Whether the list takes entries from that of the object above.
+fn takes_from(node: &Node, above: &Node, which: Which) -> bool
+    ensures { result ≡ is_linked (held_of which node.now) (Some (held_of which above.now)) }
+{
+    !node.held(which).flags().protect && above.held(which).flags().auto
+}
+
+// Stores these inherited entries, and carries them down, unless they are stored already: then
+// nothing below is other than it was.
+fn take_passed<K: Keep>(
+    alloc: Global,
+    keep: &mut K,
+    target: &Node,
+    which: Which,
+    passed: &Entries,
+) -> Result<(), KeepFault>
+    ensures done { Does K.Keep keep.old keep.new result (FailsToRenew target.now)
+        (TakesPassed which target.now passed.now) }
+{
+    let is_stored = passed.is_same(target.held(which).inh());
+    if is_stored {
+        return Ok(());
+    }
     keep.set_inh(target.id, which, passed.as_slice())?;
     carry_down(alloc, keep, target.id, which)
 }

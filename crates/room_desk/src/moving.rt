@@ -1,24 +1,29 @@
 //! The request that moves an object.
-ghost use Rattle.std.specs.Prelude.{◌≡◌, ◌+◌, ◌<◌, true, [], ◌∷◌, ◌++◌, length};
-ghost use Rattle.room_tree.specs.Keep.{HasNoRoot, IsNever, IsUnreadable};
-ghost use Rattle.room_desk.specs.Judged.{CarriesOut, IsDone, IsJudged, IsReached, NotSound, through};
-ghost use Rattle.room_desk.specs.Moving.{MovesOn, NeverMoving, at_place, begins, leaving};
-ghost use Rattle.room_desk.specs.Plan.{Deletion, Refusal, right_to_add};
-ghost use Rattle.room_desk.specs.Site.{front};
-ghost use Rattle.room_desk.specs.Stored.{found_site};
-ghost use Rattle.room_desk.specs.declared.reply.Reason.TheVariants.{Exists};
-ghost use Rattle.room_desk.specs.declared.request.Request.TheVariants.{Move};
+ghost use Rattle.std.specs.Prelude.{◌≡◌, ◌+◌, ◌<◌, true, [], ◌∷◌, ◌++◌, length, take};
+ghost use Rattle.room_rows.specs.Keep.{HasNoRoot, IsDamaged, IsNever, IsUnreadable};
+ghost use Rattle.room_judge.specs.Judged.{
+  CarriesOut,
+  Does,
+  IsJudged,
+  IsReached,
+  arrival_of,
+  through,
+};
+ghost use Rattle.room_desk.specs.Moving.{FailsToMove, MovesOn, at_place, begins, leaving};
+ghost use Rattle.room_machine.specs.Plan.{Deletion, Refusal, right_to_add};
+ghost use Rattle.room_machine.specs.Site.{front};
+ghost use Rattle.room_judge.specs.Stored.{found_site};
+ghost use Rattle.room_machine.specs.declared.reply.Reason.TheVariants.{Exists};
+ghost use Rattle.room_machine.specs.declared.request.Request.TheVariants.{Move};
 
-use crate::arrival::{Arrival, Found, Pair};
-use crate::asker::Asker;
-use crate::checking::{check, refused};
-use crate::deleting::check_deletion;
 use crate::moved::{check_free, place_at};
-use crate::placing::walk_to_pair;
-use crate::reply::{Reason, Reply};
-use crate::walking::{pass_through, walk_to};
 use room_ace::Mask;
-use room_tree::{Keep, KeepFault, Node, Path};
+use room_judge::{
+    Arrival, Asker, Found, Pair, check, check_deletion, pass_through, refused, walk_along,
+    walk_to_pair,
+};
+use room_machine::{Reason, Reply};
+use room_rows::{Keep, KeepFault, Node, Path};
 use std::alloc::Global;
 
 /// Moves an object, with all below it, to another folder or name.
@@ -29,7 +34,8 @@ pub(crate) fn move_object<K: Keep>(
     path: &Path,
     to: &Path,
 ) -> Result<Reply, KeepFault>
-    ensures done { IsDone K.rows K.failures K.Follows K.IsTrusted keep.old keep.new result NotSound (CarriesOut asker.now (Move path.now to.now)) }
+    ensures done { Does K.Keep keep.old keep.new result IsDamaged
+        (CarriesOut asker.now (Move path.now to.now)) }
 {
     if path.is_root() {
         return Ok(refused(alloc, path, 0, Reason::Root)?);
@@ -51,7 +57,9 @@ fn move_found<K: Keep>(
     from: &Found,
     target: &Found,
 ) -> Result<Reply, KeepFault>
-    ensures done { IsDone K.rows K.failures K.Follows K.IsTrusted keep.old keep.new result (NeverMoving asker.now path.now from.now target.now) (MovesOn asker.now path.now to.now from.now target.now) }
+    ensures done { Does K.Keep keep.old keep.new result
+        (FailsToMove asker.now path.now from.now target.now)
+        (MovesOn asker.now path.now to.now from.now target.now) }
 {
     match to.split_last() {
         None => refuse_root(alloc, keep, asker, path, to, from, target),
@@ -60,8 +68,7 @@ fn move_found<K: Keep>(
             match arrival {
                 Arrival::Ended(reply) => Ok(reply),
                 Arrival::At(folder) => {
-                    place_at(alloc, keep, &target.node, &folder, name.as_str())?;
-                    Ok(Reply::Done)
+                    place_at(alloc, keep, &target.node, &folder, name.as_str())
                 }
             }
         }
@@ -79,7 +86,9 @@ fn refuse_root<K: Keep>(
     target: &Found,
 ) -> Result<Reply, KeepFault>
     requires { to.now ≡ [] }
-    ensures done { IsDone K.rows K.failures K.Follows K.IsTrusted keep.old keep.new result IsNever (λ old reply new. IsJudged asker.now (Deletion (found_site path.now target.now) (found_site path.now from.now) ∷ Refusal [] Exists true ∷ []) old (Some reply) new) }
+    ensures done { Does K.Keep keep.old keep.new result IsNever
+        (λ old reply new. IsJudged asker.now (Deletion (found_site path.now target.now)
+        (found_site path.now from.now) ∷ Refusal [] Exists true ∷ []) old (Some reply) new) }
 {
     let refusal = check_deletion(alloc, keep, asker, path, target, from)?;
     match refusal {
@@ -99,21 +108,30 @@ fn reach_place<K: Keep>(
     target: &Found,
 ) -> Result<Arrival, KeepFault>
     requires { 0 < length to.now }
-    ensures done { IsDone K.rows K.failures K.Follows K.IsTrusted keep.old keep.new result HasNoRoot (λ old arrival new. IsReached asker.now (front to.now) (at_place old.read to.now (begins path.now (front to.now)) (found_site path.now target.now) (found_site path.now from.now)) old arrival new) }
+    ensures done { Does K.Keep keep.old keep.new result HasNoRoot
+        (λ old arrival new. IsReached asker.now (front to.now)
+        (at_place old.read to.now (begins path.now (front to.now)) (found_site path.now target.now)
+        (found_site path.now from.now)) old arrival new) }
 {
     let depth = to.names().len() - 1;
-    let front = to.front(alloc, depth)?;
-    let arrival = walk_to(alloc, keep, asker, &front)?;
+    let arrival = walk_along(alloc, keep, asker, to, depth)?;
     match arrival {
         Arrival::Ended(reply) => Ok(Arrival::Ended(reply)),
         Arrival::At(node) => {
             let folder = Found { node, depth };
             let refusal = check_place(alloc, keep, asker, path, to, from, target, &folder)?;
-            match refusal {
-                Some(reply) => Ok(Arrival::Ended(reply)),
-                None => Ok(Arrival::At(folder.node)),
-            }
+            Ok(arrival_at(folder, refusal))
         }
+    }
+}
+
+// The folder, or the reply that ends the walk there.
+fn arrival_at(folder: Found, refusal: Option<Reply>) -> Arrival
+    ensures { result ≡ arrival_of folder.node refusal }
+{
+    match refusal {
+        Some(reply) => Arrival::Ended(reply),
+        None => Arrival::At(folder.node),
     }
 }
 
@@ -129,7 +147,10 @@ fn check_place<K: Keep>(
     folder: &Found,
 ) -> Result<Option<Reply>, KeepFault>
     requires { length to.now ≡ folder.now.depth + 1 }
-    ensures done { IsDone K.rows K.failures K.Follows K.IsTrusted keep.old keep.new result IsUnreadable (λ old answer new. IsJudged asker.now (at_place old.read to.now (begins path.now (front to.now)) (found_site path.now target.now) (found_site path.now from.now) (found_site to.now folder.now)) old answer new) }
+    ensures done { Does K.Keep keep.old keep.new result IsUnreadable
+        (λ old answer new. IsJudged asker.now (at_place old.read to.now
+        (begins path.now (front to.now)) (found_site path.now target.now)
+        (found_site path.now from.now) (found_site to.now folder.now)) old answer new) }
 {
     let refusal = check_rights(alloc, keep, asker, path, to, from, target, folder)?;
     match refusal {
@@ -149,7 +170,10 @@ fn check_rights<K: Keep>(
     target: &Found,
     folder: &Found,
 ) -> Result<Option<Reply>, KeepFault>
-    ensures done { IsDone K.rows K.failures K.Follows K.IsTrusted keep.old keep.new result IsNever (IsJudged asker.now (through (found_site to.now folder.now) ++ leaving (found_site path.now target.now) (found_site path.now from.now) (found_site to.now folder.now))) }
+    ensures done { Does K.Keep keep.old keep.new result IsNever
+        (IsJudged asker.now (through (found_site to.now folder.now) ++ leaving
+        (found_site path.now target.now) (found_site path.now from.now)
+        (found_site to.now folder.now))) }
 {
     let refusal = pass_through(alloc, keep, asker, to, folder)?;
     match refusal {
@@ -169,7 +193,9 @@ fn check_leaving<K: Keep>(
     target: &Found,
     folder: &Found,
 ) -> Result<Option<Reply>, KeepFault>
-    ensures done { IsDone K.rows K.failures K.Follows K.IsTrusted keep.old keep.new result IsNever (IsJudged asker.now (leaving (found_site path.now target.now) (found_site path.now from.now) (found_site to.now folder.now))) }
+    ensures done { Does K.Keep keep.old keep.new result IsNever
+        (IsJudged asker.now (leaving (found_site path.now target.now) (found_site path.now from.now)
+        (found_site to.now folder.now))) }
 {
     let denial = check_deletion(alloc, keep, asker, path, target, from)?;
     match denial {

@@ -1,26 +1,27 @@
 //! One request carried out on a keeper.
 ghost use Rattle.std.specs.Option.{option_copied};
-ghost use Rattle.room_desk.specs.Judged.{CarriesOut, IsDone, NotSound, Performs};
+ghost use Rattle.room_rows.specs.Keep.{IsDamaged};
+ghost use Rattle.room_judge.specs.Judged.{CarriesOut, Does, Performs};
 
-use crate::asker::{Asker, caller_of};
 use crate::asking::can;
 use crate::making::{make_folder, put};
 use crate::moving::move_object;
 use crate::owning::set_owners;
 use crate::reading::{list, read, read_attr, read_list};
 use crate::removing::remove;
-use crate::reply::Reply;
-use crate::request::Request;
 use crate::setting::set_list;
 use crate::writing::append;
 use room_ace::Name;
-use room_tree::{Keep, KeepFault};
+use room_judge::{Asker, caller_of};
+use room_machine::{Reply, Request};
+use room_rows::{Keep, KeepFault};
 use std::alloc::Global;
 
-/// Carries out one request of a caller, who is anonymous without a name, at a moment in seconds from
-/// 1970-01-01 00:00 UTC. From sound rows the reply and what the rows then mean are a step of the room
-/// machine, and the rows are sound again. After a fault of the keeper, which is answered at once, only
-/// the transaction round the call says what the keeper holds.
+/// Carries out one request of a caller, who is anonymous without a name, at a moment in seconds
+/// from 1970-01-01 00:00 UTC. From sound rows the reply and what the rows then mean are a step of
+/// the room machine, and the rows are sound again. After a fault of the keeper, which is answered
+/// at once, only the transaction round the call says what the keeper holds. `Damaged` names a row
+/// that can't be read or a document without bytes, or is 0 where there is no root.
 pub fn perform<K: Keep>(
     alloc: Global,
     keep: &mut K,
@@ -28,7 +29,8 @@ pub fn perform<K: Keep>(
     at: i64,
     request: &Request,
 ) -> Result<Reply, KeepFault>
-    ensures done { IsDone K.rows K.failures K.Follows K.IsTrusted keep.old keep.new result NotSound (Performs (option_copied user.entry) at request.now) }
+    ensures done { Does K.Keep keep.old keep.new result IsDamaged
+        (Performs (option_copied user.entry) at request.now) }
 {
     let caller = caller_of(alloc, keep, user)?;
     let asker = Asker { caller, at };
@@ -42,7 +44,8 @@ fn carry_out<K: Keep>(
     asker: &Asker,
     request: &Request,
 ) -> Result<Reply, KeepFault>
-    ensures done { IsDone K.rows K.failures K.Follows K.IsTrusted keep.old keep.new result NotSound (CarriesOut asker.now request.now) }
+    ensures done { Does K.Keep keep.old keep.new result IsDamaged
+        (CarriesOut asker.now request.now) }
 {
     match request {
         Request::Read(path) => read(alloc, keep, asker, path),

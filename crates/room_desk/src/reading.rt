@@ -1,16 +1,23 @@
 //! Requests that change nothing but the records.
-ghost use Rattle.std.specs.Prelude.{◌≡◌, map, IfOk};
-ghost use Rattle.room_tree.specs.Held.{full_of, held_of};
-ghost use Rattle.room_desk.specs.Judged.{CarriesOut, IsDone, NotSound};
-ghost use Rattle.room_desk.specs.declared.reply.Reply.TheVariants.{Lists};
-ghost use Rattle.room_desk.specs.declared.request.Request.TheVariants.{List, Read, ReadAttr, ReadList};
+ghost use Rattle.std.specs.Prelude.{◌≡◌, IfOk};
+ghost use Rattle.room_rows.specs.Calls.{Reads};
+ghost use Rattle.room_rows.specs.Held.{full_of};
+ghost use Rattle.room_rows.specs.Keep.{IsDamaged, IsUnreadable};
+ghost use Rattle.room_desk.specs.Answered.{AreNamesOf, IsBytesOf};
+ghost use Rattle.room_desk.specs.Written.{HasNoBytes};
+ghost use Rattle.room_judge.specs.Judged.{CarriesOut, Does};
+ghost use Rattle.room_machine.specs.declared.reply.Reply.TheVariants.{Attr, Lists};
+ghost use Rattle.room_machine.specs.declared.request.Request.TheVariants.{
+  List,
+  Read,
+  ReadAttr,
+  ReadList,
+};
 
-use crate::arrival::Arrival;
-use crate::asker::Asker;
-use crate::reply::{Listing, Reply};
-use crate::walking::{reach, reach_kind};
-use room_ace::{Mask, ObjKind, Which};
-use room_tree::{Keep, KeepFault, Node, Path};
+use room_ace::{Entries, Mask, ObjKind, Which};
+use room_judge::{Arrival, Asker, reach, reach_kind};
+use room_machine::Reply;
+use room_rows::{Held, Keep, KeepFault, Node, Path};
 use std::alloc::{AllocError, Global};
 
 /// The bytes of a document.
@@ -20,7 +27,8 @@ pub(crate) fn read<K: Keep>(
     asker: &Asker,
     path: &Path,
 ) -> Result<Reply, KeepFault>
-    ensures done { IsDone K.rows K.failures K.Follows K.IsTrusted keep.old keep.new result NotSound (CarriesOut asker.now (Read path.now)) }
+    ensures done { Does K.Keep keep.old keep.new result IsDamaged
+        (CarriesOut asker.now (Read path.now)) }
 {
     let arrival = reach_kind(
         alloc,
@@ -32,13 +40,18 @@ pub(crate) fn read<K: Keep>(
     )?;
     match arrival {
         Arrival::Ended(reply) => Ok(reply),
-        Arrival::At(node) => {
-            let body = keep.body(node.id)?;
-            match body {
-                Some(bytes) => Ok(Reply::Bytes(bytes)),
-                None => Err(KeepFault::Damaged { id: node.id }),
-            }
-        }
+        Arrival::At(node) => read_at(keep, node.id),
+    }
+}
+
+// The bytes of the document of this number.
+fn read_at<K: Keep>(keep: &mut K, id: u64) -> Result<Reply, KeepFault>
+    ensures read { Reads K.Keep keep.old keep.new result (HasNoBytes id) (IsBytesOf id) }
+{
+    let body = keep.body(id)?;
+    match body {
+        Some(bytes) => Ok(Reply::Bytes(bytes)),
+        None => Err(KeepFault::Damaged { id }),
     }
 }
 
@@ -50,21 +63,23 @@ pub(crate) fn read_list<K: Keep>(
     path: &Path,
     which: Which,
 ) -> Result<Reply, KeepFault>
-    ensures done { IsDone K.rows K.failures K.Follows K.IsTrusted keep.old keep.new result NotSound (CarriesOut asker.now (ReadList path.now which)) }
+    ensures done { Does K.Keep keep.old keep.new result IsDamaged
+        (CarriesOut asker.now (ReadList path.now which)) }
 {
     let arrival = reach(alloc, keep, asker, path, Mask::read_acl())?;
     match arrival {
         Arrival::Ended(reply) => Ok(reply),
-        Arrival::At(node) => Ok(list_reply(&node, which)?),
+        Arrival::At(node) => Ok(list_reply(alloc, node.held(which))?),
     }
 }
 
-// The flags and the full list of the object.
-fn list_reply(node: &Node, which: Which) -> Result<Reply, AllocError>
-    ensures { IfOk result (λ reply. reply ≡ Lists (held_of which node.now).flags (full_of (held_of which node.now))) }
+// The flags and a copy of the full list.
+fn list_reply(alloc: Global, held: &Held) -> Result<Reply, AllocError>
+    ensures { IfOk result (λ reply. reply ≡ Lists held.now.flags (full_of held.now)) }
 {
-    let held = node.held(which);
-    Ok(Reply::Lists(held.flags, held.full()?))
+    let mut entries = Entries::new(alloc);
+    entries.extend(held.full())?;
+    Ok(Reply::Lists(held.flags(), entries))
 }
 
 /// The kind and the owners of an object.
@@ -74,13 +89,21 @@ pub(crate) fn read_attr<K: Keep>(
     asker: &Asker,
     path: &Path,
 ) -> Result<Reply, KeepFault>
-    ensures done { IsDone K.rows K.failures K.Follows K.IsTrusted keep.old keep.new result NotSound (CarriesOut asker.now (ReadAttr path.now)) }
+    ensures done { Does K.Keep keep.old keep.new result IsDamaged
+        (CarriesOut asker.now (ReadAttr path.now)) }
 {
     let arrival = reach(alloc, keep, asker, path, Mask::read_attributes())?;
     match arrival {
         Arrival::Ended(reply) => Ok(reply),
-        Arrival::At(node) => Ok(Reply::Attr(node.kind, node.owners)),
+        Arrival::At(node) => Ok(attr_reply(node)),
     }
+}
+
+// The kind and the owners of the object.
+fn attr_reply(node: Node) -> Reply
+    ensures { result ≡ Attr node.kind node.owners }
+{
+    Reply::Attr(node.kind, node.owners)
 }
 
 /// The names and kinds of the children of a folder, in order of name.
@@ -90,26 +113,20 @@ pub(crate) fn list<K: Keep>(
     asker: &Asker,
     path: &Path,
 ) -> Result<Reply, KeepFault>
-    ensures done { IsDone K.rows K.failures K.Follows K.IsTrusted keep.old keep.new result NotSound (CarriesOut asker.now (List path.now)) }
+    ensures done { Does K.Keep keep.old keep.new result IsDamaged
+        (CarriesOut asker.now (List path.now)) }
 {
     let arrival = reach_kind(alloc, keep, asker, path, ObjKind::Folder, Mask::read_data())?;
     match arrival {
         Arrival::Ended(reply) => Ok(reply),
-        Arrival::At(node) => {
-            let children = keep.children(node.id)?;
-            let listing = listing_of(alloc, children.as_slice())?;
-            Ok(Reply::Names(listing))
-        }
+        Arrival::At(node) => list_at(keep, node.id),
     }
 }
 
-// The names and kinds of these objects.
-fn listing_of(alloc: Global, nodes: &[Node]) -> Result<Listing, AllocError>
-    ensures { IfOk result (λ listing. listing ≡ map (λ node. (node.name, node.kind)) nodes.now) }
+// The names and kinds of the children of the folder of this number.
+fn list_at<K: Keep>(keep: &mut K, id: u64) -> Result<Reply, KeepFault>
+    ensures read { Reads K.Keep keep.old keep.new result IsUnreadable (AreNamesOf id) }
 {
-    let mut items = Vec::new(alloc);
-    'nodes: for node in nodes {
-        items.push((node.name.copy()?, node.kind))?;
-    }
-    Ok(Listing::from_vec(items))
+    let listing = keep.listing(id)?;
+    Ok(Reply::Names(listing))
 }

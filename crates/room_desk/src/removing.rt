@@ -1,19 +1,17 @@
 //! The request that removes an object.
 ghost use Rattle.std.specs.Prelude.{[], ◌∷◌, ◌<◌, length};
-ghost use Rattle.room_tree.specs.Keep.{IsUnreadable, Removes};
-ghost use Rattle.room_desk.specs.Judged.{CarriesOut, IsDone, NotSound};
-ghost use Rattle.room_desk.specs.Plan.{Deletion};
-ghost use Rattle.room_desk.specs.Removed.{Acts, RemovesChildless, has_children};
-ghost use Rattle.room_desk.specs.Stored.{found_site};
-ghost use Rattle.room_desk.specs.declared.request.Request.TheVariants.{Remove};
+ghost use Rattle.room_rows.specs.Keep.{IsDamaged, IsUnreadable, Removes};
+ghost use Rattle.room_judge.specs.Judged.{CarriesOut, Does};
+ghost use Rattle.room_machine.specs.Plan.{Deletion};
+ghost use Rattle.room_desk.specs.Made.{IsServed};
+ghost use Rattle.room_desk.specs.Removed.{RemovesChildless, has_children};
+ghost use Rattle.room_judge.specs.Stored.{found_site};
+ghost use Rattle.room_machine.specs.declared.reply.Reply.TheVariants.{Done};
+ghost use Rattle.room_machine.specs.declared.request.Request.TheVariants.{Remove};
 
-use crate::arrival::{Found, Pair};
-use crate::asker::Asker;
-use crate::checking::refused;
-use crate::deleting::check_deletion;
-use crate::placing::walk_to_pair;
-use crate::reply::{Reason, Reply};
-use room_tree::{Keep, KeepFault, Path};
+use room_judge::{Asker, Found, Pair, check_deletion, refused, walk_to_pair};
+use room_machine::{Reason, Reply};
+use room_rows::{Keep, KeepFault, Path};
 use std::alloc::Global;
 
 /// Removes an object, a folder only without children.
@@ -23,7 +21,8 @@ pub(crate) fn remove<K: Keep>(
     asker: &Asker,
     path: &Path,
 ) -> Result<Reply, KeepFault>
-    ensures done { IsDone K.rows K.failures K.Follows K.IsTrusted keep.old keep.new result NotSound (CarriesOut asker.now (Remove path.now)) }
+    ensures done { Does K.Keep keep.old keep.new result IsDamaged
+        (CarriesOut asker.now (Remove path.now)) }
 {
     let is_root = path.names().is_empty();
     if is_root {
@@ -40,7 +39,8 @@ fn remove_named<K: Keep>(
     path: &Path,
 ) -> Result<Reply, KeepFault>
     requires { 0 < length path.now }
-    ensures done { IsDone K.rows K.failures K.Follows K.IsTrusted keep.old keep.new result NotSound (CarriesOut asker.now (Remove path.now)) }
+    ensures done { Does K.Keep keep.old keep.new result IsDamaged
+        (CarriesOut asker.now (Remove path.now)) }
 {
     let pair = walk_to_pair(alloc, keep, asker, path)?;
     match pair {
@@ -58,7 +58,10 @@ fn remove_from<K: Keep>(
     target: &Found,
     folder: &Found,
 ) -> Result<Reply, KeepFault>
-    ensures done { IsDone K.rows K.failures K.Follows K.IsTrusted keep.old keep.new result IsUnreadable (λ old. Acts asker.now (Deletion (found_site path.now target.now) (found_site path.now folder.now) ∷ has_children path.now old target.now.node.id ∷ []) (Removes target.now.node.id) old) }
+    ensures done { Does K.Keep keep.old keep.new result IsUnreadable
+        (λ old. IsServed asker.now (Deletion (found_site path.now target.now)
+        (found_site path.now folder.now) ∷ has_children path.now old target.now.node.id ∷ [])
+        Done (Removes target.now.node.id) old) }
 {
     let refusal = check_deletion(alloc, keep, asker, path, target, folder)?;
     match refusal {
@@ -74,11 +77,11 @@ fn remove_childless<K: Keep>(
     path: &Path,
     id: u64,
 ) -> Result<Reply, KeepFault>
-    ensures done { IsDone K.rows K.failures K.Follows K.IsTrusted keep.old keep.new result IsUnreadable (RemovesChildless path.now id) }
+    ensures done { Does K.Keep keep.old keep.new result IsUnreadable
+        (RemovesChildless path.now id) }
 {
-    let children = keep.children(id)?;
-    let has_none = children.is_empty();
-    if !has_none {
+    let has_some = keep.has_children(id)?;
+    if has_some {
         return Ok(refused(alloc, path, path.names().len(), Reason::NotEmpty)?);
     }
     keep.remove(id)?;

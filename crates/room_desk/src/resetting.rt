@@ -1,16 +1,19 @@
 //! The operator's reset of a list.
-ghost use Rattle.room_desk.specs.Judged.{IsDone, NotSound, Resets};
-ghost use Rattle.room_desk.specs.Setting.{IsResetAtEnd, SetsBadly};
+ghost use Rattle.room_rows.specs.Keep.{IsDamaged};
+ghost use Rattle.room_judge.specs.Judged.{Does, Resets};
+ghost use Rattle.room_desk.specs.Carrying.{IsUnreadableIfRooted};
+ghost use Rattle.room_desk.specs.Setting.{IsResetAtEnd};
 
-use crate::checking::refused;
-use crate::reply::{Reason, Reply};
 use crate::setting::set_found;
 use room_ace::{ObjKind, SentList, Which};
-use room_tree::{Keep, KeepFault, Node, Path, walk};
+use room_judge::refused;
+use room_machine::{Reason, Reply};
+use room_rows::{Keep, KeepFault, Node, Path, walk};
 use std::alloc::Global;
 
-/// Sets one of an object's lists as the request does, but asks no bits and leaves no record. The reply
-/// is `Done`, or a refusal: no such object, a document on the way, or an entry that isn't valid.
+/// Sets one of an object's lists as the request does, but asks no bits and leaves no record. The
+/// reply is `Done`, or a refusal: no such object, a document on the way, or an entry that isn't
+/// valid. Its faults are those of `perform`.
 pub fn reset<K: Keep>(
     alloc: Global,
     keep: &mut K,
@@ -18,7 +21,7 @@ pub fn reset<K: Keep>(
     which: Which,
     sent: &SentList,
 ) -> Result<Reply, KeepFault>
-    ensures done { IsDone K.rows K.failures K.Follows K.IsTrusted keep.old keep.new result NotSound (Resets path.now which sent.now) }
+    ensures done { Does K.Keep keep.old keep.new result IsDamaged (Resets path.now which sent.now) }
 {
     let found = walk(alloc, keep, path)?;
     let rest = found.rest;
@@ -39,7 +42,8 @@ fn reset_at_end<K: Keep>(
     which: Which,
     sent: &SentList,
 ) -> Result<Reply, KeepFault>
-    ensures done { IsDone K.rows K.failures K.Follows K.IsTrusted keep.old keep.new result (SetsBadly last.now) (IsResetAtEnd path.now which sent.now last.now rest) }
+    ensures done { Does K.Keep keep.old keep.new result (IsUnreadableIfRooted last.now.id)
+        (IsResetAtEnd path.now which sent.now last.now rest) }
 {
     if rest == 0 {
         return set_found(alloc, keep, path, last, which, sent);

@@ -1,33 +1,37 @@
 //! Requests carried out one after another.
 ghost use Rattle.std.specs.Prelude.{◌≡◌, [], ◌∷◌, ◌++◌, OnOk};
-ghost use Rattle.room_desk.specs.Judged.{IsDone, NotSound, Performs};
-ghost use Rattle.room_desk.specs.InTurn.{RunsAll};
+ghost use Rattle.room_rows.specs.Keep.{IsDamaged};
+ghost use Rattle.room_judge.specs.Judged.{Does, Performs};
+ghost use Rattle.room_desk.specs.InTurn.{IsDamagedAfter, RunsAll};
 
 use crate::performing::perform;
-use crate::reply::Reply;
-use crate::request::Request;
 use room_ace::Name;
-use room_tree::{Keep, KeepFault};
+use room_machine::{Reply, Request};
+use room_rows::{Keep, KeepFault};
 use std::alloc::{AllocError, Global};
 
-/// A request, its caller, who is anonymous without a name, and its moment in seconds from 1970-01-01
-/// 00:00 UTC.
+/// A request with its caller and its moment.
 #[derive(Drop)]
 pub struct Asked {
+    /// The caller, who is anonymous without a name.
     pub user: Option<Name>,
+    /// The moment, in seconds from 1970-01-01 00:00 UTC.
     pub at: i64,
+    /// What is asked.
     pub request: Request,
 }
 
-/// Carries out the requests in turn, and answers their replies in the same order. From sound rows these
-/// are a run of the room machine, and the rows are sound again. The first fault of the keeper ends it:
-/// then only the transaction round the call says what the keeper holds.
+/// Carries out the requests in turn, and answers their replies in the same order. From sound rows
+/// these are a run of the room machine, and the rows are sound again. The first fault of the keeper
+/// ends it: then only the transaction round the call says what the keeper holds. `Damaged` names a
+/// damaged row of those that the requests before it left.
 pub fn perform_all<K: Keep>(
     alloc: Global,
     keep: &mut K,
     asked: &[Asked],
 ) -> Result<Vec<Reply>, KeepFault>
-    ensures done { IsDone K.rows K.failures K.Follows K.IsTrusted keep.old keep.new result NotSound (λ old replies new. RunsAll asked.now old replies.items new) }
+    ensures done { Does K.Keep keep.old keep.new result (IsDamagedAfter asked.now)
+        (λ old replies new. RunsAll asked.now old replies.items new) }
 {
     let mut replies = Vec::new(alloc);
     'requests: for one in asked {
@@ -39,7 +43,8 @@ pub fn perform_all<K: Keep>(
 
 // Carries out one of them.
 fn perform_one<K: Keep>(alloc: Global, keep: &mut K, asked: &Asked) -> Result<Reply, KeepFault>
-    ensures done { IsDone K.rows K.failures K.Follows K.IsTrusted keep.old keep.new result NotSound (Performs asked.now.user asked.now.at asked.now.request) }
+    ensures done { Does K.Keep keep.old keep.new result IsDamaged
+        (Performs asked.now.user asked.now.at asked.now.request) }
 {
     perform(alloc, keep, asked.user.as_ref(), asked.at, &asked.request)
 }

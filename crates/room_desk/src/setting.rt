@@ -1,31 +1,32 @@
 //! The request that sets a list.
 ghost use Rattle.std.specs.Prelude.{◌≡◌, ◌↔◌, IfOk, IsTrue};
-ghost use Rattle.room_tree.specs.Held.{full_of};
-ghost use Rattle.room_tree.specs.Keep.{IsRead, IsUnreadable};
-ghost use Rattle.room_inherit.specs.Pass.{pass};
-ghost use Rattle.room_desk.specs.Judged.{CarriesOut, IsDone, NotSound};
+ghost use Rattle.room_rows.specs.Held.{held_of};
+ghost use Rattle.room_rows.specs.Calls.{Reads};
+ghost use Rattle.room_rows.specs.Keep.{IsDamaged, IsUnreadable};
+ghost use Rattle.room_judge.specs.Judged.{CarriesOut, Does};
+ghost use Rattle.room_desk.specs.Carrying.{IsUnreadableIfRooted};
 ghost use Rattle.room_desk.specs.Setting.{
-  HasLoop,
-  IsCarriedDown,
-  IsNewHeld,
+  IsNewInh,
   IsPassingParent,
   IsSet,
   IsSetOrRefused,
   IsStored,
-  SetsBadly,
+  IsWrittenDown,
+  Stores,
   fault_in,
+  list_of,
   marked,
+  sent_with,
+  stored_inh,
 };
-ghost use Rattle.room_desk.specs.declared.request.Request.TheVariants.{SetList};
+ghost use Rattle.room_machine.specs.declared.request.Request.TheVariants.{SetList};
 
-use crate::arrival::Arrival;
-use crate::asker::Asker;
-use crate::checking::refused;
-use crate::reply::{Reason, Reply};
-use crate::walking::reach;
+use crate::carrying::carry_down;
 use room_ace::{Entries, Entry, ListFlags, Mask, ObjKind, SentList, Which, valid};
-use room_inherit::{SpreadFault, pass, spread};
-use room_tree::{Held, Keep, KeepFault, Node, Path};
+use room_inherit::pass;
+use room_judge::{Arrival, Asker, reach, refused};
+use room_machine::{Reason, Reply};
+use room_rows::{Held, Keep, KeepFault, Node, Path};
 use std::alloc::{AllocError, Global};
 
 /// Sets one of an object's lists, and carries it down.
@@ -37,7 +38,8 @@ pub(crate) fn set_list<K: Keep>(
     which: Which,
     sent: &SentList,
 ) -> Result<Reply, KeepFault>
-    ensures done { IsDone K.rows K.failures K.Follows K.IsTrusted keep.old keep.new result NotSound (CarriesOut asker.now (SetList path.now which sent.now)) }
+    ensures done { Does K.Keep keep.old keep.new result IsDamaged
+        (CarriesOut asker.now (SetList path.now which sent.now)) }
 {
     let arrival = reach(alloc, keep, asker, path, Mask::write_acl())?;
     match arrival {
@@ -55,7 +57,8 @@ pub(crate) fn set_found<K: Keep>(
     which: Which,
     sent: &SentList,
 ) -> Result<Reply, KeepFault>
-    ensures done { IsDone K.rows K.failures K.Follows K.IsTrusted keep.old keep.new result (SetsBadly node.now) (IsSetOrRefused path.now which sent.now node.now) }
+    ensures done { Does K.Keep keep.old keep.new result (IsUnreadableIfRooted node.now.id)
+        (IsSetOrRefused path.now which sent.now node.now) }
 {
     let fault = bad_entry(sent.entries().as_slice(), which, node.kind);
     match fault {
@@ -85,8 +88,8 @@ fn bad_entry(entries: &[Entry], which: Which, kind: ObjKind) -> Option<Reason>
     None
 }
 
-// Sets the list of an object, and carries it down where it passes entries on. Where the list is what it
-// was, nothing is written.
+// Sets the list of an object, and carries it down where it passes entries on. Where the list is
+// what it was, nothing is written.
 fn set_at<K: Keep>(
     alloc: Global,
     keep: &mut K,
@@ -94,49 +97,110 @@ fn set_at<K: Keep>(
     which: Which,
     sent: &SentList,
 ) -> Result<(), KeepFault>
-    ensures done { IsDone K.rows K.failures K.Follows K.IsTrusted keep.old keep.new result (SetsBadly node.now) (λ old _ new. IsSet which sent.now node.now old new) }
-    ensures quiet { K.IsTrusted keep.old keep.new → IsStored which sent.now node.now (K.rows keep.old) → IfOk result (λ _. K.writes keep.new ≡ K.writes keep.old) }
+    ensures done { Does K.Keep keep.old keep.new result (IsUnreadableIfRooted node.now.id)
+        (λ old _ new. IsSet which sent.now node.now old new) }
+    ensures quiet { K.IsTrusted keep.old keep.new → IsStored which sent.now node.now
+        (K.rows keep.old) → IfOk result (λ _. K.writes keep.new ≡ K.writes keep.old) }
 {
-    let held = new_held(alloc, keep, node, which, sent)?;
-    if is_same_held(&held, node.held(which)) {
-        return Ok(());
-    }
-    keep.set_held(node.id, which, &held)?;
-    if held.flags.auto {
-        carry_down(alloc, keep, node.id, which)
-    } else {
-        Ok(())
-    }
+    let inh = new_inh(alloc, keep, node, which, sent)?;
+    store_list(alloc, keep, node, which, sent, &inh)
 }
 
-// Whether the flags and entries are the same.
-fn is_same_held(held: &Held, other: &Held) -> bool
-    ensures { IsTrue result ↔ (held.now ≡ other.now) }
-{
-    held.flags == other.flags
-        && held.own.is_same(other.own.as_slice())
-        && held.inh.is_same(other.inh.as_slice())
-}
-
-// The list as it is to be stored: where the sent flags leave it linked, it inherits what the parent
-// passes, and otherwise the sent entries that have the flag.
-fn new_held<K: Keep>(
+// Stores the sent list with these inherited entries, unless the object has it already.
+fn store_list<K: Keep>(
     alloc: Global,
     keep: &mut K,
     node: &Node,
     which: Which,
     sent: &SentList,
-) -> Result<Held, KeepFault>
-    ensures read { IsRead K.rows K.failures K.writes K.Follows K.IsTrusted keep.old keep.new result IsUnreadable (IsNewHeld which sent.now node.now) }
+    inh: &Entries,
+) -> Result<(), KeepFault>
+    ensures done { Does K.Keep keep.old keep.new result (IsUnreadableIfRooted node.now.id)
+        (Stores which node.now (sent_with sent.now inh.now)) }
+    ensures quiet { sent_with sent.now inh.now ≡ held_of which node.now → IfOk result
+        (λ _. K.writes keep.new ≡ K.writes keep.old) }
 {
     let flags = sent.flags();
-    let parent = passing_parent(keep, node, which, flags)?;
-    let inh = match parent {
-        Some(parent) => passed_to(alloc, node.kind, parent.held(which))?,
-        None => sent_entries(alloc, sent, true)?,
-    };
     let own = sent_entries(alloc, sent, false)?;
-    Ok(Held { flags, own, inh })
+    if is_same_list(node.held(which), flags, &own, inh) {
+        return Ok(());
+    }
+    write_parts(alloc, keep, node.id, which, flags, own, inh)
+}
+
+// Writes the list of these flags and entries.
+fn write_parts<K: Keep>(
+    alloc: Global,
+    keep: &mut K,
+    id: u64,
+    which: Which,
+    flags: ListFlags,
+    own: Entries,
+    inh: &Entries,
+) -> Result<(), KeepFault>
+    ensures done { Does K.Keep keep.old keep.new result (IsUnreadableIfRooted id)
+        (IsWrittenDown which id (list_of flags own inh.now)) }
+{
+    let held = Held::new(flags, own, inh.as_slice())?;
+    write_list(alloc, keep, id, which, &held)
+}
+
+// Writes the list, and carries it down where it passes entries on.
+fn write_list<K: Keep>(
+    alloc: Global,
+    keep: &mut K,
+    id: u64,
+    which: Which,
+    held: &Held,
+) -> Result<(), KeepFault>
+    ensures done { Does K.Keep keep.old keep.new result (IsUnreadableIfRooted id)
+        (IsWrittenDown which id held.now) }
+{
+    keep.set_held(id, which, held)?;
+    if held.flags().auto {
+        carry_down(alloc, keep, id, which)
+    } else {
+        Ok(())
+    }
+}
+
+// Whether a list has these flags and entries.
+fn is_same_list(held: &Held, flags: ListFlags, own: &Entries, inh: &Entries) -> bool
+    ensures { IsTrue result ↔ (list_of flags own.now inh.now ≡ held.now) }
+{
+    flags == held.flags() && own.is_same(held.own()) && inh.is_same(held.inh())
+}
+
+// The inherited entries to be stored: where the sent flags leave the list linked, what the parent
+// passes, and otherwise the sent entries that have the flag.
+fn new_inh<K: Keep>(
+    alloc: Global,
+    keep: &mut K,
+    node: &Node,
+    which: Which,
+    sent: &SentList,
+) -> Result<Entries, KeepFault>
+    ensures read { Reads K.Keep keep.old keep.new result IsUnreadable
+        (IsNewInh which sent.now node.now) }
+{
+    let parent = passing_parent(keep, node, which, sent.flags())?;
+    Ok(inh_under(alloc, node.kind, which, sent, &parent)?)
+}
+
+// What is inherited from this parent, or is sent so where there is none.
+fn inh_under(
+    alloc: Global,
+    kind: ObjKind,
+    which: Which,
+    sent: &SentList,
+    parent: &Option<Node>,
+) -> Result<Entries, AllocError>
+    ensures { IfOk result (λ entries. entries ≡ stored_inh which sent.now kind parent.now) }
+{
+    match parent {
+        Some(above) => pass(alloc, kind, above.held(which).full()),
+        None => sent_entries(alloc, sent, true),
+    }
 }
 
 // The parent that a list of these flags takes entries from, if there is one.
@@ -146,7 +210,8 @@ fn passing_parent<K: Keep>(
     which: Which,
     flags: ListFlags,
 ) -> Result<Option<Node>, KeepFault>
-    ensures read { IsRead K.rows K.failures K.writes K.Follows K.IsTrusted keep.old keep.new result IsUnreadable (IsPassingParent which flags node.now) }
+    ensures read { Reads K.Keep keep.old keep.new result IsUnreadable
+        (IsPassingParent which flags node.now) }
 {
     if flags.protect {
         return Ok(None);
@@ -157,7 +222,7 @@ fn passing_parent<K: Keep>(
             let parent = keep.node(id)?;
             match parent {
                 None => Ok(None),
-                Some(above) => Ok(if above.held(which).flags.auto {
+                Some(above) => Ok(if above.held(which).flags().auto {
                     Some(above)
                 } else {
                     None
@@ -165,14 +230,6 @@ fn passing_parent<K: Keep>(
             }
         }
     }
-}
-
-// What a child of this kind inherits from the list.
-fn passed_to(alloc: Global, kind: ObjKind, above: &Held) -> Result<Entries, AllocError>
-    ensures { IfOk result (λ entries. entries ≡ pass kind (full_of above.now)) }
-{
-    let full = above.full()?;
-    pass(alloc, kind, full.as_slice())
 }
 
 // The sent entries with or without the flag of inherited ones, in order.
@@ -186,15 +243,4 @@ fn sent_entries(alloc: Global, sent: &SentList, inherited: bool) -> Result<Entri
         }
     }
     Ok(entries)
-}
-
-// Carries a list down that was set.
-fn carry_down<K: Keep>(alloc: Global, keep: &mut K, id: u64, which: Which) -> Result<(), KeepFault>
-    ensures done { IsDone K.rows K.failures K.Follows K.IsTrusted keep.old keep.new result (HasLoop id) (IsCarriedDown which id) }
-{
-    match spread(alloc, keep, id, which) {
-        Ok(_) => Ok(()),
-        Err(SpreadFault::Keeper(fault)) => Err(fault),
-        Err(SpreadFault::Loop) => Err(KeepFault::Damaged { id }),
-    }
 }

@@ -1,17 +1,14 @@
 //! Requests that change the bytes of documents.
 ghost use Rattle.std.specs.Prelude.{◌≡◌, ◌++◌, IfOk};
-ghost use Rattle.room_tree.specs.Keep.{IsUnreadable};
-ghost use Rattle.room_desk.specs.Judged.{CarriesOut, IsDone, NotSound};
+ghost use Rattle.room_rows.specs.Keep.{IsDamaged, IsUnreadable};
+ghost use Rattle.room_judge.specs.Judged.{CarriesOut, Does};
 ghost use Rattle.room_desk.specs.Written.{HasNoBytes, IsAppended, IsPut};
-ghost use Rattle.room_desk.specs.declared.request.Request.TheVariants.{Append};
+ghost use Rattle.room_machine.specs.declared.request.Request.TheVariants.{Append};
 
-use crate::arrival::Arrival;
-use crate::asker::Asker;
-use crate::checking::refused;
-use crate::reply::{Reason, Reply};
-use crate::walking::reach_kind;
 use room_ace::{Mask, ObjKind};
-use room_tree::{Bytes, Keep, KeepFault, Path};
+use room_judge::{Arrival, Asker, reach_kind, refused};
+use room_machine::{Reason, Reply};
+use room_rows::{Bytes, Keep, KeepFault, Path};
 use std::alloc::{AllocError, Global};
 
 /// The most bytes that a document has.
@@ -25,7 +22,8 @@ pub(crate) fn append<K: Keep>(
     path: &Path,
     bytes: &Bytes,
 ) -> Result<Reply, KeepFault>
-    ensures done { IsDone K.rows K.failures K.Follows K.IsTrusted keep.old keep.new result NotSound (CarriesOut asker.now (Append path.now bytes.now)) }
+    ensures done { Does K.Keep keep.old keep.new result IsDamaged
+        (CarriesOut asker.now (Append path.now bytes.now)) }
 {
     let arrival = reach_kind(
         alloc,
@@ -49,7 +47,8 @@ fn append_at<K: Keep>(
     id: u64,
     bytes: &Bytes,
 ) -> Result<Reply, KeepFault>
-    ensures done { IsDone K.rows K.failures K.Follows K.IsTrusted keep.old keep.new result (HasNoBytes id) (IsAppended path.now id bytes.now) }
+    ensures done { Does K.Keep keep.old keep.new result (HasNoBytes id)
+        (IsAppended path.now id bytes.now) }
 {
     let body = keep.body(id)?;
     match body {
@@ -78,7 +77,7 @@ pub(crate) fn put_bytes<K: Keep>(
     id: u64,
     bytes: &[u8],
 ) -> Result<Reply, KeepFault>
-    ensures done { IsDone K.rows K.failures K.Follows K.IsTrusted keep.old keep.new result IsUnreadable (IsPut path.now id bytes.now) }
+    ensures done { Does K.Keep keep.old keep.new result IsUnreadable (IsPut path.now id bytes.now) }
 {
     let too_many = bytes.len() > MOST_BYTES;
     if too_many {

@@ -1,7 +1,7 @@
 //! The group file and the exports at written examples.
 use room_ace::{Failure, Mask, read_name};
-use room_import::{Pairs, read_groups, write_audits, write_groups};
-use room_tree::{AuditRow, RecordKind, read_path};
+use room_import::{CsvFault, Pairs, read_groups, write_audits, write_groups};
+use room_rows::{AuditRow, Bytes, RecordKind, Text};
 use std::alloc::{AllocError, Global};
 use std::fmt::Write;
 use std::test::Fail;
@@ -70,17 +70,42 @@ fn group_file_quoted(rt: HostRuntime) -> Result<(), Fail> {
     Ok(())
 }
 
-#[test]
-fn group_file_rows(rt: HostRuntime) -> Result<(), Fail> {
-    let mut text = String::from_str(rt.alloc(), "group,user\n")?;
-    for row in 0..20_000u32 {
+// A group file of so many rows, all of one group.
+fn file_of(alloc: Global, rows: usize) -> Result<String, AllocError> {
+    let mut text = String::from_str(alloc, "group,user\n")?;
+    for row in 0..rows {
         writeln!(text, "sales,user{row}")?;
     }
-    let pairs = read_groups(rt.alloc(), text.as_bytes())?;
-    assert_eq!(rt; pairs.len(), 20_000);
-    let written = write_groups(rt.alloc(), pairs.as_slice())?;
-    assert!(rt; written.as_slice() == text.as_bytes());
-    text.push_str("sales\n")?;
+    Ok(text)
+}
+
+// The pairs that are read, without what the contract says of them.
+fn pairs_in(alloc: Global, text: &str) -> Result<Pairs, Failure<CsvFault>> {
+    read_groups(alloc, text.as_bytes())
+}
+
+// The text of the pairs, without what the contract says of it.
+fn written(alloc: Global, pairs: &Pairs) -> Result<Bytes, AllocError> {
+    write_groups(alloc, pairs.as_slice())
+}
+
+// Whether so many pairs are read of the text, and written as the same text.
+fn reads_back(alloc: Global, text: &str, count: usize) -> Result<bool, Fail> {
+    let pairs = pairs_in(alloc, text)?;
+    let bytes = written(alloc, &pairs)?;
+    Ok(pairs.len() == count && bytes.as_slice() == text.as_bytes())
+}
+
+#[test]
+fn group_file_rows(rt: HostRuntime) -> Result<(), Fail> {
+    let text = file_of(rt.alloc(), 20_000)?;
+    assert!(rt; reads_back(rt.alloc(), text.as_str(), 20_000)?);
+    Ok(())
+}
+
+#[test]
+fn group_file_too_many_rows(rt: HostRuntime) -> Result<(), Fail> {
+    let text = file_of(rt.alloc(), 20_001)?;
     assert_eq!(rt;
         told(rt.alloc(), text.as_bytes())?.as_str(),
         "row 20002: C4 too many rows"
@@ -88,31 +113,54 @@ fn group_file_rows(rt: HostRuntime) -> Result<(), Fail> {
     Ok(())
 }
 
-#[test]
-fn audit_path_quoted(rt: HostRuntime) -> Result<(), Fail> {
-    let mut rows = Vec::new(rt.alloc());
-    rows.push(AuditRow {
+// A record of alice at a path that has to be quoted.
+fn failed_row(alloc: Global) -> Result<AuditRow, Fail> {
+    let user = read_name(alloc, "alice")?;
+    Ok(AuditRow {
         at: 1000,
-        user: Some(read_name(rt.alloc(), "alice")?),
-        path: read_path(rt.alloc(), b"/a,b")?,
+        user: Some(user),
+        path: Text::from_str(alloc, "/a,b")?,
         bits: Mask::read_data(),
         granted: false,
         place: 1,
         kind: RecordKind::Audit,
-    })?;
-    rows.push(AuditRow {
+    })
+}
+
+// A record of a caller without a name, before the first moment.
+fn nameless_row(alloc: Global) -> Result<AuditRow, AllocError> {
+    Ok(AuditRow {
         at: -1,
         user: None,
-        path: read_path(rt.alloc(), b"/")?,
+        path: Text::from_str(alloc, "/")?,
         bits: Mask::read_acl(),
         granted: true,
         place: 2,
         kind: RecordKind::Alarm,
-    })?;
-    let want =
-        b"at,user,path,bits,granted,entry,kind\n1000,alice,\"/a,b\",r,no,1,audit\n-1,,/,c,yes,2,alarm\n";
-    let text = write_audits(rt.alloc(), rows.as_slice())?;
-    assert_eq!(rt; text.as_slice(), want.as_slice());
+    })
+}
+
+fn two_rows(alloc: Global) -> Result<Vec<AuditRow>, Fail> {
+    let mut rows = Vec::new(alloc);
+    rows.push(failed_row(alloc)?)?;
+    rows.push(nameless_row(alloc)?)?;
+    Ok(rows)
+}
+
+// The text of the records, without what the contract says of it.
+fn audits_text(alloc: Global, rows: &[AuditRow]) -> Result<Bytes, AllocError> {
+    write_audits(alloc, rows)
+}
+
+const TWO_ROWS: &[u8] = b"at,user,path,bits,granted,entry,kind\n\
+    1000,alice,\"/a,b\",r,no,1,audit\n\
+    -1,,/,c,yes,2,alarm\n";
+
+#[test]
+fn audit_path_quoted(rt: HostRuntime) -> Result<(), Fail> {
+    let rows = two_rows(rt.alloc())?;
+    let text = audits_text(rt.alloc(), rows.as_slice())?;
+    assert_eq!(rt; text.as_slice(), TWO_ROWS);
     Ok(())
 }
 

@@ -1,9 +1,10 @@
 //! Worked examples: the text of entries, what may stand in a list, and copies.
 use room_ace::{
-    Caller, Entries, EntryFlags, EntryKind, Failure, ListFault, ListFlags, Mask, Names, ObjKind,
-    Owners, SentList, Which, Who, matches, print_entry, print_list, read_entry, read_name, valid,
+    Caller, Entries, Entry, EntryFlags, EntryKind, Failure, ListFault, ListFlags, Mask, Names,
+    ObjKind, Owners, SentList, Which, Who, matches, print_entry, print_list, read_entry, read_name,
+    valid,
 };
-use std::alloc::Global;
+use std::alloc::{AllocError, Global};
 use std::test::Fail;
 
 // The fault of the text of an entry, as it is told.
@@ -56,18 +57,28 @@ fn mask_letters_sorted(rt: HostRuntime) -> Result<(), Fail> {
     Ok(())
 }
 
+// Adds the letters of each bit of the mask.
+fn push_singles(alloc: Global, letters: &mut String, mask: Mask) -> Result<(), Fail> {
+    for bit in mask.singles(alloc)?.as_slice() {
+        bit.push_letters(letters)?;
+        letters.push(' ')?;
+    }
+    Ok(())
+}
+
+fn singles_text(alloc: Global, mask: Mask) -> Result<String, Fail> {
+    let mut letters = String::new(alloc);
+    push_singles(alloc, &mut letters, mask)?;
+    Ok(letters)
+}
+
 #[test]
 fn mask_taken_apart(rt: HostRuntime) -> Result<(), Fail> {
     let mask = Mask::write_owner()
         .union(Mask::read_data())
         .union(Mask::execute());
-    let mut letters = String::new(rt.alloc());
-    for bit in mask.singles(rt.alloc())?.as_slice() {
-        bit.push_letters(&mut letters)?;
-        letters.push(' ')?;
-    }
-    assert_eq!(rt; letters.as_str(), "r x o ");
-    assert_eq!(rt; Mask::empty().singles(rt.alloc())?.len(), 0);
+    assert_eq!(rt; singles_text(rt.alloc(), mask)?.as_str(), "r x o ");
+    assert_eq!(rt; singles_text(rt.alloc(), Mask::empty())?.as_str(), "");
     Ok(())
 }
 
@@ -95,12 +106,18 @@ fn valid_on_document(rt: HostRuntime) -> Result<(), Fail> {
     Ok(())
 }
 
+// So many own entries.
+fn own_entries(alloc: Global, count: usize) -> Result<Entries, Fail> {
+    let mut entries = Entries::new(alloc);
+    for _ in 0..count {
+        entries.push(read_entry(alloc, "A::bob:r")?)?;
+    }
+    Ok(entries)
+}
+
 #[test]
 fn sent_list_of_65_own(rt: HostRuntime) -> Result<(), Fail> {
-    let mut entries = Entries::new(rt.alloc());
-    for _ in 0..65 {
-        entries.push(read_entry(rt.alloc(), "A::bob:r")?)?;
-    }
+    let entries = own_entries(rt.alloc(), 65)?;
     let flags = ListFlags {
         auto: false,
         protect: false,
@@ -112,34 +129,69 @@ fn sent_list_of_65_own(rt: HostRuntime) -> Result<(), Fail> {
     Ok(())
 }
 
-#[test]
-fn copies_hold_the_same(rt: HostRuntime) -> Result<(), Fail> {
-    let alloc = rt.alloc();
-    let own = read_entry(alloc, "A:fd:GROUP@:rw")?;
+// The text of a list of an entry and of what it passes down, out of a copy.
+fn copied_list(alloc: Global, own: &Entry) -> Result<String, Fail> {
     let inherited = own.with_flags(EntryFlags {
         inherited: true,
         ..own.flags()
     })?;
     let mut entries = Entries::new(alloc);
-    entries.extend(&[own.clone()?, inherited])?;
+    entries.push(own.clone()?)?;
+    entries.push(inherited)?;
+    printed_copy(alloc, &entries)
+}
+
+fn printed_copy(alloc: Global, entries: &Entries) -> Result<String, Fail> {
+    let copy = entries.copy()?;
     let flags = ListFlags {
         auto: true,
         protect: true,
     };
-    let text = print_list(alloc, flags, entries.copy()?.as_slice())?;
-    assert_eq!(rt; text.as_str(), "list:ap\nA:fd:GROUP@:rw\nA:fdI:GROUP@:rw\n");
+    Ok(print_list(alloc, flags, copy.as_slice())?)
+}
 
-    let held = Owners {
-        owner: read_name(alloc, "alice")?,
-        group: read_name(alloc, "sales@example.org")?,
-    };
-    let owners = held.copy()?;
+#[test]
+fn copies_hold_the_same(rt: HostRuntime) -> Result<(), Fail> {
+    let own = read_entry(rt.alloc(), "A:fd:GROUP@:rw")?;
+    let text = copied_list(rt.alloc(), &own)?;
+    assert_eq!(rt; text.as_str(), "list:ap\nA:fd:GROUP@:rw\nA:fdI:GROUP@:rw\n");
+    Ok(())
+}
+
+// A caller with the name of the owner, in the owning group.
+fn caller_of(alloc: Global, owners: &Owners) -> Result<Caller, AllocError> {
     let mut groups = Names::new(alloc);
     groups.push(owners.group.copy()?)?;
-    let caller = Caller {
+    Ok(Caller {
         user: Some(owners.owner.copy()?),
         groups,
-    };
-    assert!(rt; matches(&own, &caller.clone()?, &held));
+    })
+}
+
+// Whether the entry speaks of a copy of the caller that is made of a copy of the owners.
+fn matches_copies(alloc: Global, entry: &Entry, owners: &Owners) -> Result<bool, Fail> {
+    let held = owners.copy()?;
+    let caller = caller_of(alloc, &held)?;
+    Ok(matches_copy(entry, &caller, owners)?)
+}
+
+fn matches_copy(entry: &Entry, caller: &Caller, owners: &Owners) -> Result<bool, AllocError> {
+    let caller = caller.clone()?;
+    Ok(matches(entry, &caller, owners))
+}
+
+fn alice_and_sales(alloc: Global) -> Result<Owners, Fail> {
+    let owner = read_name(alloc, "alice")?;
+    Ok(Owners {
+        owner,
+        group: read_name(alloc, "sales@example.org")?,
+    })
+}
+
+#[test]
+fn copied_callers_match(rt: HostRuntime) -> Result<(), Fail> {
+    let own = read_entry(rt.alloc(), "A:fd:GROUP@:rw")?;
+    let owners = alice_and_sales(rt.alloc())?;
+    assert!(rt; matches_copies(rt.alloc(), &own, &owners)?);
     Ok(())
 }

@@ -1,5 +1,5 @@
-//! Tests at written examples, of the crates below. There is nothing here but tests: a crate with tests is
-//! proved twice, and so the crates below are proved once.
+//! Tests at written examples, of the crates below. There is nothing here but tests: a crate with
+//! tests is proved twice, and so the crates below are proved once.
 #![tactic(auto)]
 
 #[cfg(test)]

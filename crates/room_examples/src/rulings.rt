@@ -38,19 +38,26 @@ fn told(alloc: Global, word: &str, bits: Mask, place: Option<usize>) -> Result<S
     }
 }
 
-// What alice is told who deletes an object with the first list under a parent with the second.
-fn deleting(alloc: Global, target: &[&str], parent: &[&str]) -> Result<String, Fail> {
-    let target = entries_of(alloc, target)?;
-    let parent = entries_of(alloc, parent)?;
+// Whether alice may delete an object with the first list under a parent with the second.
+fn verdict(target: &Entries, parent: &Entries, owners: &Owners, caller: &Caller) -> DeleteVerdict {
+    may_delete(target.as_slice(), owners, parent.as_slice(), owners, caller)
+}
+
+fn verdict_on(alloc: Global, target: &Entries, parent: &Entries) -> Result<DeleteVerdict, Fail> {
     let owners = owners(alloc)?;
     let caller = alice(alloc)?;
-    match may_delete(
-        target.as_slice(),
-        &owners,
-        parent.as_slice(),
-        &owners,
-        &caller,
-    ) {
+    Ok(verdict(target, parent, &owners, &caller))
+}
+
+fn verdict_of(alloc: Global, target: &[&str], parent: &[&str]) -> Result<DeleteVerdict, Fail> {
+    let target = entries_of(alloc, target)?;
+    let parent = entries_of(alloc, parent)?;
+    verdict_on(alloc, &target, &parent)
+}
+
+// What alice is told who deletes an object with the first list under a parent with the second.
+fn deleting(alloc: Global, target: &[&str], parent: &[&str]) -> Result<String, Fail> {
+    match verdict_of(alloc, target, parent)? {
         DeleteVerdict::Granted { by_add: false } => Ok(String::from_str(alloc, "granted")?),
         DeleteVerdict::Granted { by_add: true } => Ok(String::from_str(alloc, "granted by w")?),
         DeleteVerdict::AtTarget { place } => told(alloc, "target ", Mask::delete(), Some(place)),
@@ -101,56 +108,58 @@ fn ruling_least_place(rt: HostRuntime) -> Result<(), Fail> {
     Ok(())
 }
 
+const SACL: [&str; 3] = ["U:S:alice:rw", "U:F:alice:w", "U:SF:EVERYONE@:"];
+
+// The places of the entries that call for a record, without what the contract says of them.
+fn places(
+    alloc: Global,
+    sacl: &Entries,
+    caller: &Caller,
+    asked: Mask,
+    granted: bool,
+) -> Result<Vec<usize>, Fail> {
+    let owners = owners(alloc)?;
+    Ok(events(alloc, sacl.as_slice(), caller, &owners, asked, granted)?)
+}
+
+// The places where alice asks these letters.
+fn places_for(alloc: Global, letters: &str, granted: bool) -> Result<Vec<usize>, Fail> {
+    let sacl = entries_of(alloc, &SACL)?;
+    let caller = alice(alloc)?;
+    places(alloc, &sacl, &caller, read_mask(letters)?, granted)
+}
+
 #[test]
 fn events_by_outcome(rt: HostRuntime) -> Result<(), Fail> {
-    let alloc = rt.alloc();
-    let sacl = entries_of(alloc, &["U:S:alice:rw", "U:F:alice:w", "U:SF:EVERYONE@:"])?;
-    let caller = alice(alloc)?;
-    let owners = owners(alloc)?;
-    let read = events(
-        alloc,
-        sacl.as_slice(),
-        &caller,
-        &owners,
-        read_mask("r")?,
-        true,
-    )?;
+    let read = places_for(rt.alloc(), "r", true)?;
     assert_eq!(rt; read.as_slice(), [1].as_slice());
-    let both = events(
-        alloc,
-        sacl.as_slice(),
-        &caller,
-        &owners,
-        read_mask("rw")?,
-        false,
-    )?;
+    let both = places_for(rt.alloc(), "rw", false)?;
     assert_eq!(rt; both.as_slice(), [2].as_slice());
-    let none = events(
-        alloc,
-        sacl.as_slice(),
-        &caller,
-        &owners,
-        Mask::empty(),
-        true,
-    )?;
+    let none = places_for(rt.alloc(), "", true)?;
     assert!(rt; none.is_empty());
     Ok(())
 }
 
+const DACL: [&str; 3] = ["D::bob:rw", "A::alice:r", "A::EVERYONE@:w"];
+
+// Whether alice is granted reading and writing by the list, and by which entry writing.
+fn ruled(dacl: &Entries, caller: &Caller, owners: &Owners) -> (bool, Option<usize>) {
+    let asked = Mask::read_data().union(Mask::write_data());
+    let granted = matches!(
+        decide(dacl.as_slice(), caller, owners, asked),
+        Verdict::Granted
+    );
+    match ruling(dacl.as_slice(), caller, owners, Mask::write_data()) {
+        Ruling::Allowed(place) => (granted, Some(place)),
+        _ => (granted, None),
+    }
+}
+
 #[test]
 fn what_is_allowed_is_granted(rt: HostRuntime) -> Result<(), Fail> {
-    let alloc = rt.alloc();
-    let dacl = entries_of(alloc, &["D::bob:rw", "A::alice:r", "A::EVERYONE@:w"])?;
-    let caller = alice(alloc)?;
-    let owners = owners(alloc)?;
-    let asked = read_mask("rw")?;
-    assert!(rt;
-        matches!(
-            decide(dacl.as_slice(), &caller, &owners, asked),
-            Verdict::Granted
-        )
-    );
-    let ruled = ruling(dacl.as_slice(), &caller, &owners, Mask::write_data());
-    assert!(rt; matches!(ruled, Ruling::Allowed(3)));
+    let dacl = entries_of(rt.alloc(), &DACL)?;
+    let owners = owners(rt.alloc())?;
+    let caller = alice(rt.alloc())?;
+    assert_eq!(rt; ruled(&dacl, &caller, &owners), (true, Some(3)));
     Ok(())
 }

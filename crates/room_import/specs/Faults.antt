@@ -2,7 +2,8 @@
 use Rattle.std.specs.Prelude.{ℕ, List, ◌++◌, codes, decimal}
 use Rattle.room_import.specs.declared.fault.CsvFault.{CsvFault}
 use Rattle.room_import.specs.declared.fault.CsvWhy.{CsvWhy}
-use Rattle.room_import.specs.declared.fault.CsvWhy.TheVariants.{BadHeader, NotTwoFields, BadName, TooManyRows, NotUtf8}
+use Rattle.room_import.specs.declared.fault.CsvWhy.TheVariants.{BadHeader, NotTwoFields, BadName}
+use Rattle.room_import.specs.declared.fault.CsvWhy.TheVariants.{TooManyRows, NotUtf8}
 
 abbrev pub csv_why_text : CsvWhy → List ℕ
 csv_why_text BadHeader = codes "C1 bad header"

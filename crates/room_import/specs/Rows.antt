@@ -1,8 +1,10 @@
 -- The rows that a reader has left, and what the next of them is.
-use Rattle.std.specs.Prelude.{◌≡◌, ◌⊎◌, ℕ, ◌+◌, ◌≤◌, true, false, List, [], ◌∷◌, length, Option, Some, None, Result, Ok, Err, if◌then◌else◌}
+use Rattle.std.specs.Prelude.{◌≡◌, ◌⊎◌, ℕ, ◌+◌, ◌≤◌, true, false, List, [], ◌∷◌, length, Option}
+use Rattle.std.specs.Prelude.{Some, None, Result, Ok, Err, if◌then◌else◌}
 use Rattle.std.specs.List.{list_all}
 use Rattle.std.specs.Borrow.{Bor}
-use Rattle.csv.specs.Reading.{Ready, default_config, is_flexible, records_from, reader_config, reader_state, reader_trim, source_of}
+use Rattle.csv.specs.Reading.{Ready, default_config, is_flexible, records_from, reader_config}
+use Rattle.csv.specs.Reading.{reader_state, reader_trim, source_of}
 use Rattle.csv.specs.declared.parser.State.{State}
 use Rattle.csv.specs.declared.parser.State.TheVariants as st
 use Rattle.csv.specs.declared.reader.Reader.{Reader}
@@ -40,15 +42,18 @@ IsBetween state = (state ≡ st.StartRecord) ⊎ (state ≡ st.AfterCr)
 -- the reader gives the next row as it stands in the text
 abbrev pub GoesOn : Rows → Type 0
 GoesOn reader =
-    (reader_trim reader ≡ trim.None) × Ready reader × (reader_config reader ≡ default_config) × IsBetween (reader_state reader)
+    (reader_trim reader ≡ trim.None) × Ready reader × (reader_config reader ≡ default_config)
+    × IsBetween (reader_state reader)
     × (is_flexible reader ≡ true) × (bytes : List ℕ) × (unread reader ≡ Some bytes)
 
 -- what was found of the rows before, and the rows after it
 abbrev pub Took : Rows → Rows → List (List ℕ) → NextRow → Type 0
 Took before after fields End = rows_left before ≡ []
 Took before after fields NotText =
-    (row : List (List ℕ)) × (rest : List (List (List ℕ))) × (rows_left before ≡ row ∷ rest) × (list_all is_utf8 row ≡ false)
-Took before after fields Text = (rows_left before ≡ fields ∷ rows_left after) × (list_all is_utf8 fields ≡ true) × GoesOn after
+    (row : List (List ℕ)) × (rest : List (List (List ℕ))) × (rows_left before ≡ row ∷ rest)
+    × (list_all is_utf8 row ≡ false)
+Took before after fields Text =
+    (rows_left before ≡ fields ∷ rows_left after) × (list_all is_utf8 fields ≡ true) × GoesOn after
 
 -- the two fields of a row that has two
 abbrev pub two_of : List (List ℕ) → Option (List ℕ × List ℕ)
@@ -61,15 +66,20 @@ named number field = if is_name field then Ok field else fault_at number BadName
 
 -- what reading the header says of the pairs of all rows
 abbrev pub HeaderTaken : Rows → Rows → Result (Unit {0}) (Failure CsvFault) → Type 0
-HeaderTaken before after (Ok done) = (pairs_of_rows (rows_left before) ≡ pairs_after [] 2 (rows_left after)) × GoesOn after
+HeaderTaken before after (Ok done) =
+    (pairs_of_rows (rows_left before) ≡ pairs_after [] 2 (rows_left after)) × GoesOn after
 HeaderTaken before after (Err OutOfMemory) = Unit {0}
 HeaderTaken before after (Err (Fault fault)) = pairs_of_rows (rows_left before) ≡ Err fault
 
 -- what reading the row of this number says of the pairs of the rows from it on
-abbrev pub PairTaken : ℕ → Rows → Rows → Result (Option (List ℕ × List ℕ)) (Failure CsvFault) → Type 0
+abbrev pub PairTaken : ℕ → Rows → Rows → Result (Option (List ℕ × List ℕ)) (Failure CsvFault)
+    → Type 0
 PairTaken number before after (Ok None) = rows_left before ≡ []
 PairTaken number before after (Ok (Some pair)) =
     (number ≤ 20001) × GoesOn after
-    × ((pairs : List (List ℕ × List ℕ)) → pairs_after pairs number (rows_left before) ≡ pairs_after (with_pair pairs pair) (number + 1) (rows_left after))
+    × ((pairs : List (List ℕ × List ℕ))
+    → pairs_after pairs number (rows_left before)
+    ≡ pairs_after (with_pair pairs pair) (number + 1) (rows_left after))
 PairTaken number before after (Err OutOfMemory) = Unit {0}
-PairTaken number before after (Err (Fault fault)) = (pairs : List (List ℕ × List ℕ)) → pairs_after pairs number (rows_left before) ≡ Err fault
+PairTaken number before after (Err (Fault fault)) =
+    (pairs : List (List ℕ × List ℕ)) → pairs_after pairs number (rows_left before) ≡ Err fault

@@ -16,4 +16,6 @@ pair_bytes key = (string_bytes key.0, string_bytes key.1)
 
 -- the set has the texts of these pairs, and no others
 abbrev pub HasSeen : {A : Type 0} → BTreeSet (String A × String A) → List (List ℕ × List ℕ) → Type 0
-HasSeen {A} seen pairs = (key : String A × String A) → contains pair_cmp seen key ≡ list_any (same_pair (pair_bytes key)) pairs
+HasSeen {A} seen pairs =
+    (key : String A × String A)
+    → contains pair_cmp seen key ≡ list_any (same_pair (pair_bytes key)) pairs

@@ -21,8 +21,8 @@ pub enum CsvWhy {
     NotUtf8,
 }
 
-/// The first row of a group file that has a fault, counted from 1, and the fault. It is displayed as
-/// `row 3: C3 bad name`.
+/// The first row of a group file that has a fault, counted from 1, and the fault. It is displayed
+/// as `row 3: C3 bad name`.
 #[derive(Clone, Copy, Debug, PartialEq, Eq)]
 pub struct CsvFault {
     pub row: usize,

@@ -24,11 +24,11 @@ const LAST_ROW: usize = 20_001;
 /// The pairs of group and user in the order in which each comes first, or the first row that has a
 /// fault.
 ///
-/// Rows are the records of the bytes behind a byte order mark, by the rules of RFC 4180, with LF as a
-/// line end too. Row 1 is the header `group,user`, and each further row has two fields, which are
-/// names; nothing is trimmed. A repeated pair adds nothing. Of a row's faults the first is told in the
-/// order `TooManyRows`, `NotUtf8`, `BadHeader` or `NotTwoFields`, `BadName`. Where there is no row at
-/// all, row 1 is a `BadHeader`.
+/// Rows are the records of the bytes behind a byte order mark, by the rules of RFC 4180, with LF
+/// as a line end too. Row 1 is the header `group,user`, and each further row has two fields,
+/// which are names; nothing is trimmed. A repeated pair adds nothing. Of a row's faults the first
+/// is told in the order `TooManyRows`, `NotUtf8`, `BadHeader` or `NotTwoFields`, `BadName`. Where
+/// there is no row at all, row 1 is a `BadHeader`.
 pub fn read_groups(alloc: Global, bytes: &[u8]) -> Result<Pairs, Failure<CsvFault>>
     ensures { Gives result (groups_in bytes.now) }
 {

@@ -1,9 +1,9 @@
 -- Faults of a keeper that can't come.
 use Rattle.std.proofs.Common.{◌≡◌, ℕ, Err}
-use Rattle.room_tree.specs.declared.keep.KeepFault.{KeepFault}
-use Rattle.room_tree.specs.declared.keep.KeepFault.TheVariants.{Memory, Store, Damaged}
-use Rattle.room_tree.specs.Rows.{Rows}
-use Rattle.room_tree.specs.Keep.{HasCause, IfSeen, IsRead}
+use Rattle.room_rows.specs.declared.keep.KeepFault.{KeepFault}
+use Rattle.room_rows.specs.declared.keep.KeepFault.TheVariants.{Memory, Store, Damaged}
+use Rattle.room_rows.specs.Rows.{Rows}
+use Rattle.room_rows.specs.Keep.{HasCause, IfSeen, IsRead}
 
 module _ {S : Type 0} (rows : S → Rows) (failures writes : S → ℕ) (Follows IsTrusted : S → S → Type 0) where
   -- a fault of a read is that of the one that made it, which knows more of what is blamed
@@ -15,6 +15,7 @@ module _ {S : Type 0} (rows : S → Rows) (failures writes : S → ℕ) (Follows
     unwritten = read.unwritten;
     same = λ t. same e (read.same t);
     answers = λ t. tt;
+    unfailed = tt;
     fault = cause e read.fault;
   }
     where

@@ -7,13 +7,13 @@ use Rattle.std.proofs.lemmas.List.{length-map}
 use Rattle.room_ace.specs.Ace.{Ace}
 use Rattle.room_ace.specs.declared.object.Which.{Which}
 use Rattle.room_ace.specs.declared.object.Which.TheVariants.{Dacl, Sacl}
-use Rattle.room_tree.specs.declared.node.Node.{Node}
-use Rattle.room_tree.specs.Content.{Content, node_at, parent_of, root_of, is_root, is_linked_in, reaches_root}
-use Rattle.room_tree.specs.Counts.{capped_below}
-use Rattle.room_tree.specs.Held.{held_of, is_linked}
-use Rattle.room_tree.specs.Keep.{HasNoRoot, capped, reading}
-use Rattle.room_tree.specs.Rows.{Rows, is_unreadable}
-use Rattle.room_tree.proofs.Steps.{Laws, later_cause}
+use Rattle.room_rows.specs.declared.node.Node.{Node}
+use Rattle.room_rows.specs.Content.{Content, node_at, parent_of, root_of, is_root, is_linked_in, reaches_root}
+use Rattle.room_rows.specs.Counts.{capped_below}
+use Rattle.room_rows.specs.Held.{held_of, is_linked}
+use Rattle.room_rows.specs.Keep.{HasNoRoot, capped, reading, KeepLaws}
+use Rattle.room_rows.specs.Rows.{Rows, is_unreadable}
+use Rattle.room_rows.proofs.Steps.{later_cause}
 use Rattle.room_inherit.specs.Law.{AllAgree, agrees, agrees_with}
 use Rattle.room_inherit.specs.Spread.{HasSpreadCause, is_changed, with_lists}
 use Rattle.room_inherit.specs.SpreadAll.{IsCarriedDown, IsSpreadAll, IsSwept, IsTree}
@@ -135,7 +135,7 @@ module _ {S : Type 0} (rows : S → Rows) (failures writes : S → ℕ) (Follows
   pub first_fails : (a b : S) (e : SpreadFault) → Sweeping Dacl a b (Err e) → SpreadsAll a b (Err e)
   first_fails a b e sweep = record { follows = sweep.follows; written = tt; becomes = λ t. tt; fault = sweep.fault }
 
-  module _ (laws : Laws rows failures writes Follows IsTrusted) (a b c : S) (d : ℕ) (first : Sweeping Dacl a b (Ok d)) where
+  module _ (laws : KeepLaws rows failures writes Follows IsTrusted) (a b c : S) (d : ℕ) (first : Sweeping Dacl a b (Ok d)) where
     pub second_fails : (e : SpreadFault) → Sweeping Sacl b c (Err e) → SpreadsAll a c (Err e)
     second_fails e sweep = record {
       follows = laws.on a b c first.follows sweep.follows;

@@ -3,14 +3,14 @@ use Rattle.std.proofs.Common.{◌≡◌, ℕ, suc, ◌+◌, ◌<◌, ◌≤◌, 
 use Rattle.std.proofs.lemmas.Bool.{cases_lt}
 use Rattle.std.proofs.Math.Seq.{drop-length}
 use Rattle.room_ace.specs.declared.object.Which.{Which}
-use Rattle.room_tree.specs.declared.keep.KeepFault.{KeepFault}
-use Rattle.room_tree.specs.declared.node.Node.{Node}
-use Rattle.room_tree.specs.Content.{Content, children_of, with_node, with_each}
-use Rattle.room_tree.specs.Counts.{capped_below, capped_past}
-use Rattle.room_tree.specs.Held.{held_of}
-use Rattle.room_tree.specs.Keep.{IsUnreadable, IsRead, IsWrite, Leaves, Changes, AreChildrenOf, capped, one_more, reading, with_inh}
-use Rattle.room_tree.specs.Rows.{Rows, AreRows, is_unreadable}
-use Rattle.room_tree.proofs.Steps.{Laws, later_cause}
+use Rattle.room_rows.specs.declared.keep.KeepFault.{KeepFault}
+use Rattle.room_rows.specs.declared.node.Node.{Node}
+use Rattle.room_rows.specs.Content.{Content, children_of, with_node, with_each}
+use Rattle.room_rows.specs.Counts.{capped_below, capped_past}
+use Rattle.room_rows.specs.Held.{held_of}
+use Rattle.room_rows.specs.Keep.{IsUnreadable, IsRead, IsWrite, Leaves, Changes, AreChildrenOf, capped, one_more, reading, with_inh, KeepLaws}
+use Rattle.room_rows.specs.Rows.{Rows, AreRows, is_unreadable}
+use Rattle.room_rows.proofs.Steps.{later_cause}
 use Rattle.room_inherit.specs.declared.outcome.SpreadFault.{SpreadFault}
 use Rattle.room_inherit.specs.declared.outcome.SpreadFault.TheVariants.{Keeper, Loop}
 use Rattle.room_inherit.specs.Spread.{IsCarried, HasSpreadCause}
@@ -43,7 +43,7 @@ pub record IsStoring (which : Which) (left nodes : List Node) (old now : Rows) :
 
 -- one more of them
 pub stores_one : (which : Which) (node : Node) (left nodes : List Node) (old now next : Rows)
-    → ((stored : Node) → Rattle.room_tree.specs.Content.node_at now.read node.id ≡ Some stored → next ≡ reading now (with_node now.read (with_inh which (held_of which node).inh stored)))
+    → ((stored : Node) → Rattle.room_rows.specs.Content.node_at now.read node.id ≡ Some stored → next ≡ reading now (with_node now.read (with_inh which (held_of which node).inh stored)))
     → IsStoring which (node ∷ left) nodes old now → IsStoring which left nodes old next
 stores_one which node left nodes old now next write sofar =
     let k = sofar.known in
@@ -60,14 +60,14 @@ module _ {S : Type 0} (rows : S → Rows) (failures writes : S → ℕ) (Follows
     pub written : writes b ≡ capped (writes a + i)
     pub along : IsTrusted a b → AreKnown which nodes (rows a).read → IsStoring which (drop i nodes) nodes (rows a) (rows b)
 
-  pub storing_none : Laws rows failures writes Follows IsTrusted → (which : Which) (nodes : List Node) (a : S) → writes a ≤ 2 ^ 64 - 1 → Storing which nodes 0 a a
+  pub storing_none : KeepLaws rows failures writes Follows IsTrusted → (which : Which) (nodes : List Node) (a : S) → writes a ≤ 2 ^ 64 - 1 → Storing which nodes 0 a a
   storing_none laws which nodes a ends = record {
     follows = laws.itself a;
     written = sym (capped_below (writes a) ends) ∙ ap capped (omega arith);
     along = λ t known. record { unreadable = refl; known = known; leaves = refl };
   }
 
-  pub storing_on : Laws rows failures writes Follows IsTrusted → (which : Which) (nodes : List Node) (i : ℕ) (node : Node) (a b c : S) → i < length nodes → node ≡ get_or nodes i node → Storing which nodes i a b
+  pub storing_on : KeepLaws rows failures writes Follows IsTrusted → (which : Which) (nodes : List Node) (i : ℕ) (node : Node) (a b c : S) → i < length nodes → node ≡ get_or nodes i node → Storing which nodes i a b
       → IsWrite rows failures writes Follows IsTrusted {X = Unit {0}} b c (Ok tt) IsUnreadable (Leaves (Changes node.id (with_inh which (held_of which node).inh))) → Storing which nodes (i + 1) a c
   storing_on laws which nodes i node a b c below is sofar write = record {
     follows = laws.on a b c sofar.follows write.follows;
@@ -79,7 +79,7 @@ module _ {S : Type 0} (rows : S → Rows) (failures writes : S → ℕ) (Follows
   }
 
   -- a write that fails
-  pub storing_fails : Laws rows failures writes Follows IsTrusted → (which : Which) (nodes : List Node) (i : ℕ) (a b c : S) (e : KeepFault) {Becomes : Rows → Unit {0} → Rows → Type 0} → Storing which nodes i a b
+  pub storing_fails : KeepLaws rows failures writes Follows IsTrusted → (which : Which) (nodes : List Node) (i : ℕ) (a b c : S) (e : KeepFault) {Becomes : Rows → Unit {0} → Rows → Type 0} → Storing which nodes i a b
       → IsWrite rows failures writes Follows IsTrusted {X = Unit {0}} b c (Err e) IsUnreadable Becomes
       → IsCarried rows failures writes Follows (λ old new. IsTrusted old new × AreKnown which nodes (rows old).read) {X = Unit {0}} (λ _. length nodes) a c (Err (Keeper e)) (λ _. ⊥) (StoresLists nodes)
   storing_fails laws which nodes i a b c e sofar write = record {
@@ -105,7 +105,7 @@ module _ {S : Type 0} (rows : S → Rows) (failures writes : S → ℕ) (Follows
 
   -- ---- one turn
 
-  module _ (laws : Laws rows failures writes Follows IsTrusted) (are_rows : (a b : S) → IsTrusted a b → AreRows (rows a)) (which : Which) (start : ℕ) (above : Node) (children : List Node) (a b : S)
+  module _ (laws : KeepLaws rows failures writes Follows IsTrusted) (are_rows : (a b : S) → IsTrusted a b → AreRows (rows a)) (which : Which) (start : ℕ) (above : Node) (children : List Node) (a b : S)
       (read : IsRead rows failures writes Follows IsTrusted a b (Ok children) IsUnreadable (AreChildrenOf above.id)) where
     pub turn_done : (next : List Node) (c : S) → next ≡ renewals which above children → meets_again which start above children ≡ false
         → IsCarried rows failures writes Follows (λ old new. IsTrusted old new × AreKnown which next (rows old).read) {X = Unit {0}} (λ _. length next) b c (Ok tt) (λ _. ⊥) (StoresLists next)

@@ -1,26 +1,27 @@
 -- A change carried down, turn after turn.
-use Rattle.std.proofs.Common.{◌≡◌, ℕ, suc, ◌+◌, ◌<◌, ◌≤◌, ◌-◌, ◌^◌, false, List, [], ◌∷◌, ◌++◌, length, Some, None, Result, Ok, Err, refl, sym, ap, subst, ◌∙◌, arith}
+use Rattle.std.proofs.Common.{◌≡◌, ℕ, suc, ◌+◌, ◌<◌, ◌≤◌, ◌^◌, false, List, [], ◌∷◌, ◌++◌, length, Some, None, Result, Ok, Err, IfOk, IfErr, refl, sym, ap, subst, ◌∙◌, arith}
 use Rattle.std.proofs.lemmas.Bool.{false≢true, false_from_ne_true, eq-eqb}
 use Rattle.std.proofs.lemmas.List.{length-append}
 use Rattle.room_ace.specs.Ace.{Ace}
 use Rattle.room_ace.specs.declared.object.Which.{Which}
-use Rattle.room_tree.specs.declared.keep.KeepFault.{KeepFault}
-use Rattle.room_tree.specs.declared.keep.KeepFault.TheVariants.{Memory, Store, Damaged}
-use Rattle.room_tree.specs.declared.node.Node.{Node}
-use Rattle.room_tree.specs.Content.{node_at}
-use Rattle.room_tree.specs.Counts.{capped_below}
-use Rattle.room_tree.specs.Keep.{HasCause, IsUnreadable, IsUnreadableAt, IsNever, IsNodeAt, IsRead, AreNumbers, capped, reading}
-use Rattle.room_tree.specs.Rows.{Rows, AreRows, numbers_of, is_unreadable}
-use Rattle.room_tree.proofs.Steps.{Laws, seen, read_on, later_cause}
+use Rattle.room_rows.specs.declared.keep.KeepFault.{KeepFault}
+use Rattle.room_rows.specs.declared.keep.KeepFault.TheVariants.{Memory, Store, Damaged}
+use Rattle.room_rows.specs.declared.node.Node.{Node}
+use Rattle.room_rows.specs.Content.{node_at}
+use Rattle.room_rows.specs.Counts.{capped_below}
+use Rattle.room_rows.specs.Keep.{HasCause, IsUnreadable, IsUnreadableAt, IsNever, IsNodeAt, IsRead, AreNumbers, capped, reading, KeepLaws}
+use Rattle.room_rows.specs.Rows.{Rows, AreRows, numbers_of, is_unreadable}
+use Rattle.room_rows.proofs.Frames.{numbers_of-reading}
+use Rattle.room_rows.proofs.Steps.{later_cause}
 use Rattle.room_inherit.specs.Law.{AllAgree}
-use Rattle.room_inherit.specs.Spread.{IsCarried, HasSpreadCause, IsSpread, IsOwnAncestor, with_lists, is_changed}
-use Rattle.room_inherit.specs.Turn.{IsTurn, MeetsAgain}
+use Rattle.room_inherit.specs.Spread.{IsCarried, HasSpreadCause, IsSpread, IsOwnAncestor, Holds, with_lists, is_changed}
+use Rattle.room_inherit.specs.Turn.{IsTurn, IsVisit, MeetsAgain, renewed_ones}
 use Rattle.room_inherit.specs.declared.outcome.Spread.{Spread}
 use Rattle.room_inherit.specs.declared.outcome.SpreadFault.{SpreadFault}
 use Rattle.room_inherit.specs.declared.outcome.SpreadFault.TheVariants.{Keeper, Loop}
 use Rattle.room_inherit.proofs.Members.{count, count-is}
 use Rattle.room_inherit.proofs.Children.{found_id}
-use Rattle.room_inherit.proofs.Frontier.{Frontier}
+use Rattle.room_inherit.proofs.Frontier.{Frontier, ids_set}
 use Rattle.room_inherit.proofs.OneTurn.{after, rows_after, frontier_after, count_after}
 use Rattle.room_inherit.proofs.Ends.{own_lists, with_own_lists, own_unchanged, count_own, frontier_first, law_without, law_at_end, loop_found, count_less, as_many_numbers}
 use Rattle.room_inherit.proofs.Calls.{capped_add}
@@ -28,13 +29,12 @@ use Rattle.room_inherit.proofs.Calls.{capped_add}
 -- ---- rows
 
 -- after so many turns these wait, and so many rows are changed
-pub record IsCarrying (which : Which) (start turns : ℕ) (waiting : List Node) (changed most : ℕ) (old now : Rows) : Type 0 where
+pub record IsCarrying (which : Which) (start turns : ℕ) (waiting : List Node) (changed : ℕ) (old now : Rows) : Type 0 where
   pub lists : Node → List Ace
   pub becomes : now ≡ reading old (with_lists which lists old.read)
   pub front : Frontier which start old.read lists waiting
   pub counted : changed ≡ count (is_changed which lists) old.read.nodes
   pub turned : turns + length waiting ≡ suc (count (is_changed which lists) old.read.nodes)
-  pub numbers : most ≡ length (numbers_of old)
   pub first : Node
   pub first_is : node_at old.read start ≡ Some first
 
@@ -49,20 +49,19 @@ fewer which start waiting old lists first is front =
     let all = as_many_numbers old in
     omega (arith, less, all)
 
-pub carrying_first : (which : Which) (start most : ℕ) (old : Rows) (first : Node) → AreRows old → node_at old.read start ≡ Some first → most ≡ length (numbers_of old) → IsCarrying which start 0 (first ∷ []) 0 most old old
-carrying_first which start most old first are is numbers = record {
+pub carrying_first : (which : Which) (start : ℕ) (old : Rows) (first : Node) → AreRows old → node_at old.read start ≡ Some first → IsCarrying which start 0 (first ∷ []) 0 old old
+carrying_first which start old first are is = record {
   lists = own_lists which;
   becomes = ap (reading old) (sym (with_own_lists which old.read));
   front = frontier_first which start old.read are.numbers first is;
   counted = sym (count_own which old.read.nodes);
   turned = let e = count_own which old.read.nodes in omega (arith, e);
-  numbers = numbers;
   first = first;
   first_is = is;
 }
 
-module _ (which : Which) (start turns : ℕ) (rest : List Node) (w : Node) (changed most : ℕ) (old now new : Rows) (next : List Node) (are : AreRows old) (fits : most < 2 ^ 64)
-    (sofar : IsCarrying which start turns (rest ++ w ∷ []) changed most old now) (turn : IsTurn which start w now next new) where
+module _ (which : Which) (start turns : ℕ) (rest : List Node) (w : Node) (changed : ℕ) (old now new : Rows) (next : List Node) (are : AreRows old)
+    (sofar : IsCarrying which start turns (rest ++ w ∷ []) changed old now) (turn : IsTurn which start w now next new) where
   abbrev f : Node → List Ace
   f = sofar.lists
 
@@ -78,20 +77,19 @@ module _ (which : Which) (start turns : ℕ) (rest : List Node) (w : Node) (chan
   total : changed + length next ≡ count (is_changed which lists) old.read.nodes
   total = (λ i. sofar.counted i + length (step.answers i)) ∙ sym (count_after which start old.read are.numbers f rest w sofar.front step.not_met)
 
-  pub carrying_turn : IsCarrying which start (turns + 1) (rest ++ next) (capped (changed + length next)) most old new
+  pub carrying_turn : IsCarrying which start (turns + 1) (rest ++ next) (changed + length next) old new
   carrying_turn = record {
     lists = lists;
     becomes = step.becomes ∙ ap (reading old) (rows_after which start old.read are.numbers f rest w sofar.front step.not_met);
     front = front;
-    counted = ap capped total ∙ capped_below _ (let m = fewer which start (rest ++ next) old lists sofar.first sofar.first_is front in let n = sofar.numbers in omega (arith, m, n, fits));
+    counted = total;
     turned = let l = length-append rest next in let k = length-append rest (w ∷ []) in let t = sofar.turned in let s = sofar.counted in omega (arith, l, k, t, s, total);
-    numbers = sofar.numbers;
     first = sofar.first;
     first_is = sofar.first_is;
   }
 
-pub carrying_done : (which : Which) (start turns changed most : ℕ) (old now : Rows) → AreRows old → IsCarrying which start turns [] changed most old now → IsSpread which start old now changed
-carrying_done which start turns changed most old now are sofar = record {
+pub carrying_done : (which : Which) (start turns changed : ℕ) (old now : Rows) → AreRows old → IsCarrying which start turns [] changed old now → IsSpread which start old now changed
+carrying_done which start turns changed old now are sofar = record {
   lists = sofar.lists;
   becomes = sofar.becomes;
   below = λ n there is. (sofar.front.came n there is).below;
@@ -99,12 +97,23 @@ carrying_done which start turns changed most old now are sofar = record {
   law = λ but. subst (λ (r : Rows). AllAgree r.read which) (sym sofar.becomes) (law_at_end which start old.read are.numbers sofar.lists (sofar.front.law but));
 }
 
-pub carrying_ends : (which : Which) (start : ℕ) (waiting : List Node) (changed most : ℕ) (old now : Rows) → IsCarrying which start most waiting changed most old now → length waiting ≡ 0
-carrying_ends which start waiting changed most old now sofar =
+-- fewer are changed than there are numbers
+carrying_below : (which : Which) (start turns : ℕ) (waiting : List Node) (changed : ℕ) (old now : Rows) → IsCarrying which start turns waiting changed old now → changed < length (numbers_of old)
+carrying_below which start turns waiting changed old now sofar =
     let m = fewer which start waiting old sofar.lists sofar.first sofar.first_is sofar.front in
-    let n = sofar.numbers in
+    let c = sofar.counted in
+    omega (arith, m, c)
+
+-- and the turns come to an end
+carrying_ends : (which : Which) (start turns : ℕ) (waiting : List Node) (changed : ℕ) (old now : Rows) → length (numbers_of old) ≤ turns → IsCarrying which start turns waiting changed old now → length waiting ≡ 0
+carrying_ends which start turns waiting changed old now past sofar =
+    let m = fewer which start waiting old sofar.lists sofar.first sofar.first_is sofar.front in
     let t = sofar.turned in
-    omega (arith, m, n, t)
+    omega (arith, m, past, t)
+
+-- the numbers in use stay as they were
+carrying_numbers : (which : Which) (start turns : ℕ) (waiting : List Node) (changed : ℕ) (old now : Rows) → IsCarrying which start turns waiting changed old now → numbers_of now ≡ numbers_of old
+carrying_numbers which start turns waiting changed old now sofar = ap numbers_of sofar.becomes ∙ numbers_of-reading old (with_lists which sofar.lists old.read) (ids_set which sofar.lists old.read.nodes)
 
 -- where the object isn't there, nothing is carried
 pub nothing_carried : (which : Which) (start : ℕ) (old : Rows) → AreRows old → node_at old.read start ≡ None → IsSpread which start old old 0
@@ -116,12 +125,12 @@ nothing_carried which start old are none = record {
   law = law_without which start old.read are.numbers none;
 }
 
-pub carrying_loops : (which : Which) (start turns : ℕ) (rest : List Node) (w : Node) (changed most : ℕ) (old now : Rows) → AreRows old → IsCarrying which start turns (rest ++ w ∷ []) changed most old now → MeetsAgain which start w now → IsOwnAncestor old.read start
-carrying_loops which start turns rest w changed most old now are sofar met =
+pub carrying_loops : (which : Which) (start turns : ℕ) (rest : List Node) (w : Node) (changed : ℕ) (old now : Rows) → AreRows old → IsCarrying which start turns (rest ++ w ∷ []) changed old now → MeetsAgain which start w now → IsOwnAncestor old.read start
+carrying_loops which start turns rest w changed old now are sofar met =
     loop_found which start old.read are.numbers sofar.lists rest w sofar.front (subst (λ (r : Rows). MeetsAgain which start w r) sofar.becomes met)
 
-still_unreadable : (which : Which) (start turns : ℕ) (waiting : List Node) (changed most at : ℕ) (old now : Rows) → IsCarrying which start turns waiting changed most old now → IsUnreadable now at → IsUnreadable old at
-still_unreadable which start turns waiting changed most at old now sofar damaged = ap (λ (r : Rows). is_unreadable r at) (sym sofar.becomes) ∙ damaged
+still_unreadable : (which : Which) (start turns : ℕ) (waiting : List Node) (changed at : ℕ) (old now : Rows) → IsCarrying which start turns waiting changed old now → IsUnreadable now at → IsUnreadable old at
+still_unreadable which start turns waiting changed at old now sofar damaged = ap (λ (r : Rows). is_unreadable r at) (sym sofar.becomes) ∙ damaged
 
 pub no_length : (xs : List Node) → length xs ≡ 0 → xs ≡ []
 no_length [] none = refl
@@ -130,103 +139,22 @@ no_length (x ∷ xs) none = absurd (let wrong : ⊥ = omega (arith, none) in wro
 -- ---- calls
 
 module _ {S : Type 0} (rows : S → Rows) (failures writes : S → ℕ) (Follows IsTrusted : S → S → Type 0) where
-  pub record Carrying (which : Which) (start turns : ℕ) (waiting : List Node) (changed most : ℕ) (a b : S) : Type 0 where
-    pub follows : Follows a b
-    pub written : writes b ≡ capped (writes a + changed)
-    pub fits : most < 2 ^ 64
-    pub along : IsTrusted a b → IsCarrying which start turns waiting changed most (rows a) (rows b)
-
   abbrev pub Spreads : Which → ℕ → S → S → Result Spread SpreadFault → Type 0
   Spreads which start a b result = IsCarried rows failures writes Follows IsTrusted (λ (s : Spread). s.changed) a b result (λ r. IsOwnAncestor r.read start) (λ old s new. IsSpread which start old new s.changed)
 
-  module _ (laws : Laws rows failures writes Follows IsTrusted) (are_rows : (a b : S) → IsTrusted a b → AreRows (rows a)) (ends : (a : S) → writes a ≤ 2 ^ 64 - 1) (which : Which) (start : ℕ) where
-    pub begins : (ids : List ℕ) (first : Node) (most : ℕ) (a b c : S) → most ≡ length ids → most < 2 ^ 64
-        → IsRead rows failures writes Follows IsTrusted a b (Ok ids) IsNever AreNumbers → IsRead rows failures writes Follows IsTrusted b c (Ok (Some first)) (IsUnreadableAt start) (IsNodeAt start)
-        → Carrying which start 0 (first ∷ []) 0 most a c
-    begins ids first most a b c is fits listed found =
-        let both = read_on rows failures writes Follows IsTrusted laws a b c (Ok (Some first)) (seen rows failures writes Follows IsTrusted a b ids listed) found in
-        record {
-          follows = both.follows;
-          written = both.unwritten ∙ sym (capped_below (writes a) (ends a)) ∙ ap capped (omega arith);
-          fits = fits;
-          along = λ t.
-              subst (λ (r : Rows). IsCarrying which start 0 (first ∷ []) 0 most (rows a) r) (sym (both.same t))
-              (carrying_first which start most (rows a) first (are_rows a c t) (sym (both.answers t).0) (is ∙ ap length (listed.answers (laws.first a b c listed.follows found.follows t))));
-        }
-
-    pub begins_nowhere : (ids : List ℕ) (a b c : S) → IsRead rows failures writes Follows IsTrusted a b (Ok ids) IsNever AreNumbers → IsRead rows failures writes Follows IsTrusted b c (Ok None) (IsUnreadableAt start) (IsNodeAt start)
-        → Spreads which start a c (Ok (record { changed = 0 }))
-    begins_nowhere ids a b c listed found =
-        let both = read_on rows failures writes Follows IsTrusted laws a b c (Ok None) (seen rows failures writes Follows IsTrusted a b ids listed) found in
-        record {
-          follows = both.follows;
-          written = both.unwritten ∙ sym (capped_below (writes a) (ends a)) ∙ ap capped (omega arith);
-          becomes = λ t. subst (λ (r : Rows). IsSpread which start (rows a) r 0) (sym (both.same t)) (nothing_carried which start (rows a) (are_rows a c t) (sym (both.answers t).0));
-          fault = tt;
-        }
-
-    pub carries_on : (turns : ℕ) (rest : List Node) (w : Node) (changed most : ℕ) (next : List Node) (a b c : S) {X : Type 0} (x : X) (count : X → ℕ) (list : X → List Node) → count x ≡ length next → list x ≡ next
-        → Carrying which start turns (rest ++ w ∷ []) changed most a b
-        → IsCarried rows failures writes Follows IsTrusted {X = X} count b c (Ok x) (MeetsAgain which start w) (λ old y new. IsTurn which start w old (list y) new)
-        → Carrying which start (turns + 1) (rest ++ next) (capped (changed + length next)) most a c
-    carries_on turns rest w changed most next a b c x count list counted is sofar turn = record {
-      follows = laws.on a b c sofar.follows turn.follows;
-      written = turn.written ∙ (λ i. capped (sofar.written i + counted i)) ∙ capped_add (writes a + changed) (length next)
-          ∙ ap capped (omega arith) ∙ sym (capped_add (changed + length next) (writes a)) ∙ ap capped (omega arith);
-      fits = sofar.fits;
-      along = λ t.
-          let first = laws.first a b c sofar.follows turn.follows t in
-          let last = laws.last a b c sofar.follows turn.follows t in
-          carrying_turn which start turns rest w changed most (rows a) (rows b) (rows c) next (are_rows a b first) sofar.fits (sofar.along first) (subst (λ (l : List Node). IsTurn which start w (rows b) l (rows c)) is (turn.becomes last));
-    }
-
-    pub carries_to_end : (turns changed most : ℕ) (a b : S) → Carrying which start turns [] changed most a b → Spreads which start a b (Ok (record { changed = changed }))
-    carries_to_end turns changed most a b sofar = record {
-      follows = sofar.follows;
-      written = sofar.written;
-      becomes = λ t. carrying_done which start turns changed most (rows a) (rows b) (are_rows a b t) (sofar.along t);
+  module _ (laws : KeepLaws rows failures writes Follows IsTrusted) (which : Which) where
+    pub spreads_nowhere : (start : ℕ) (a b : S) → IsRead rows failures writes Follows IsTrusted a b (Ok None) (IsUnreadableAt start) (IsNodeAt start) → Spreads which start a b (Ok (record { changed = 0 }))
+    spreads_nowhere start a b found = record {
+      follows = found.follows;
+      written = found.unwritten ∙ sym (capped_below (writes a) (laws.ends a).1) ∙ ap capped (omega arith);
+      becomes = λ t. subst (λ (r : Rows). IsSpread which start (rows a) r 0) (sym (found.same t)) (nothing_carried which start (rows a) (laws.are a b t) (sym (found.answers t).0));
       fault = tt;
     }
-
-    pub never_too_many : (waiting : List Node) (changed most id : ℕ) (a b : S) → (length waiting ≡ 0 → ⊥) → Carrying which start most waiting changed most a b → Spreads which start a b (Err (Keeper (Damaged id)))
-    never_too_many waiting changed most id a b more sofar = record {
-      follows = sofar.follows;
-      written = tt;
-      becomes = λ t. tt;
-      fault = λ t. absurd (more (carrying_ends which start waiting changed most (rows a) (rows b) (sofar.along t)));
-    }
-
-    pub without_memory : (turns : ℕ) (waiting : List Node) (changed most : ℕ) (a b : S) → Carrying which start turns waiting changed most a b → Spreads which start a b (Err (Keeper Memory))
-    without_memory turns waiting changed most a b sofar = record {
-      follows = sofar.follows;
-      written = tt;
-      becomes = λ t. tt;
-      fault = tt;
-    }
-
-    pub turn_gives_up : (turns : ℕ) (rest : List Node) (w : Node) (changed most : ℕ) (e : SpreadFault) (a b c : S) {X : Type 0} (count : X → ℕ) (Becomes : Rows → X → Rows → Type 0) → Carrying which start turns (rest ++ w ∷ []) changed most a b
-        → IsCarried rows failures writes Follows IsTrusted {X = X} count b c (Err e) (MeetsAgain which start w) Becomes → Spreads which start a c (Err e)
-    turn_gives_up turns rest w changed most e a b c count Becomes sofar turn = record {
-      follows = laws.on a b c sofar.follows turn.follows;
-      written = tt;
-      becomes = λ t. tt;
-      fault = cause e turn.fault;
-    }
-      where
-        cause : (e : SpreadFault) → HasSpreadCause (failures b) (failures c) (λ at. IsTrusted b c → IsUnreadable (rows b) at) (IsTrusted b c → MeetsAgain which start w (rows b)) e
-            → HasSpreadCause (failures a) (failures c) (λ at. IsTrusted a c → IsUnreadable (rows a) at) (IsTrusted a c → IsOwnAncestor (rows a).read start) e
-        cause (Keeper f) h = later_cause (failures a) (failures b) (failures c) f _ _ (laws.rise a b sofar.follows) (laws.rise b c turn.follows)
-            (λ at damaged t.
-            still_unreadable which start turns (rest ++ w ∷ []) changed most at (rows a) (rows b) (sofar.along (laws.first a b c sofar.follows turn.follows t)) (damaged (laws.last a b c sofar.follows turn.follows t)))
-            h
-        cause Loop h = λ t.
-            let first = laws.first a b c sofar.follows turn.follows t in
-            carrying_loops which start turns rest w changed most (rows a) (rows b) (are_rows a b first) (sofar.along first) (h (laws.last a b c sofar.follows turn.follows t))
 
     -- a read that fails
-    pub reads_fail : {X : Type 0} (a b : S) (e : KeepFault) (Blames : Rows → ℕ → Type 0) (Answers : Rows → X → Type 0) → ((r : Rows) (at : ℕ) → Blames r at → IsUnreadable r at)
+    pub reads_fail : (start : ℕ) {X : Type 0} (a b : S) (e : KeepFault) (Blames : Rows → ℕ → Type 0) (Answers : Rows → X → Type 0) → ((r : Rows) (at : ℕ) → Blames r at → IsUnreadable r at)
         → IsRead rows failures writes Follows IsTrusted a b (Err e) Blames Answers → Spreads which start a b (Err (Keeper e))
-    reads_fail a b e Blames Answers weaker read = record {
+    reads_fail start a b e Blames Answers weaker read = record {
       follows = read.follows;
       written = tt;
       becomes = λ t. tt;
@@ -237,3 +165,174 @@ module _ {S : Type 0} (rows : S → Rows) (failures writes : S → ℕ) (Follows
         cause Memory h = tt
         cause Store h = h
         cause (Damaged id) h = λ t. weaker (rows a) id (h t)
+
+    -- the object was read, and what begins there is carried down
+    pub spreads_there : (start : Node) (a b c : S) (id : ℕ) (r : Result Spread SpreadFault) → IsRead rows failures writes Follows IsTrusted a b (Ok (Some start)) (IsUnreadableAt id) (IsNodeAt id)
+        → IsCarried rows failures writes Follows (λ old new. IsTrusted old new × Holds start (rows old)) (λ (s : Spread). s.changed) b c r (λ w. IsOwnAncestor w.read start.id) (λ old s new. IsSpread which start.id old new s.changed)
+        → Spreads which id a c r
+    spreads_there start a b c id r found more = record {
+      follows = laws.on a b c found.follows more.follows;
+      written = written r more.written;
+      becomes = λ t. becomes r t (more.becomes (given t));
+      fault = cause r more.fault;
+    }
+      where
+        first : IsTrusted a c → IsTrusted a b
+        first t = laws.first a b c found.follows more.follows t
+
+        same : IsTrusted a c → rows b ≡ rows a
+        same t = found.same (first t)
+
+        number : IsTrusted a c → start.id ≡ id
+        number t = found_id id (rows a).read.nodes start (sym (found.answers (first t)).0)
+
+        given : IsTrusted a c → IsTrusted b c × Holds start (rows b)
+        given t = (
+          laws.last a b c found.follows more.follows t,
+          ap (λ (w : Rows). node_at w.read start.id) (same t) ∙ ap (node_at (rows a).read) (number t) ∙ sym (found.answers (first t)).0,
+        )
+
+        written : (r : Result Spread SpreadFault) → IfOk r (λ s. writes c ≡ capped (writes b + s.changed)) → IfOk r (λ s. writes c ≡ capped (writes a + s.changed))
+        written (Ok s) h = h ∙ ap (λ n. capped (n + s.changed)) found.unwritten
+        written (Err e) h = tt
+
+        becomes : (r : Result Spread SpreadFault) (t : IsTrusted a c) → IfOk r (λ s. IsSpread which start.id (rows b) (rows c) s.changed) → IfOk r (λ s. IsSpread which id (rows a) (rows c) s.changed)
+        becomes (Ok s) t h = subst (λ (w : Rows). IsSpread which id w (rows c) s.changed) (same t) (subst (λ n. IsSpread which n (rows b) (rows c) s.changed) (number t) h)
+        becomes (Err e) t h = tt
+
+        told : (e : SpreadFault) → HasSpreadCause (failures b) (failures c) (λ at. IsTrusted b c × Holds start (rows b) → IsUnreadable (rows b) at) (IsTrusted b c × Holds start (rows b) → IsOwnAncestor (rows b).read start.id) e
+            → HasSpreadCause (failures a) (failures c) (λ at. IsTrusted a c → IsUnreadable (rows a) at) (IsTrusted a c → IsOwnAncestor (rows a).read id) e
+        told (Keeper f) h = later_cause (failures a) (failures b) (failures c) f _ _ (laws.rise a b found.follows) (laws.rise b c more.follows)
+            (λ at damaged t. ap (λ (w : Rows). is_unreadable w at) (sym (same t)) ∙ damaged (given t)) h
+        told Loop h = λ t. subst (λ (w : Rows). IsOwnAncestor w.read id) (same t) (subst (λ n. IsOwnAncestor (rows b).read n) (number t) (h (given t)))
+
+        cause : (r : Result Spread SpreadFault) → IfErr r (HasSpreadCause (failures b) (failures c) (λ at. IsTrusted b c × Holds start (rows b) → IsUnreadable (rows b) at) (IsTrusted b c × Holds start (rows b) → IsOwnAncestor (rows b).read start.id))
+            → IfErr r (HasSpreadCause (failures a) (failures c) (λ at. IsTrusted a c → IsUnreadable (rows a) at) (IsTrusted a c → IsOwnAncestor (rows a).read id))
+        cause (Ok s) h = tt
+        cause (Err e) h = told e h
+
+    -- ---- from an object of the rows
+
+    module _ (start : Node) where
+      abbrev Given : S → S → Type 0
+      Given old new = IsTrusted old new × Holds start (rows old)
+
+      abbrev pub SpreadsFrom : S → S → Result Spread SpreadFault → Type 0
+      SpreadsFrom a b result = IsCarried rows failures writes Follows Given (λ (s : Spread). s.changed) a b result (λ r. IsOwnAncestor r.read start.id) (λ old s new. IsSpread which start.id old new s.changed)
+
+      -- so many turns are done
+      pub record Carrying (turns : ℕ) (waiting : List Node) (changed : ℕ) (a b : S) : Type 0 where
+        pub follows : Follows a b
+        pub written : writes b ≡ capped (writes a + changed)
+        pub along : IsTrusted a b → Holds start (rows a) → IsCarrying which start.id turns waiting changed (rows a) (rows b)
+
+      -- and it is known how many there are at most
+      pub record Turning (turns : ℕ) (waiting : List Node) (changed most : ℕ) (a b : S) : Type 0 where
+        pub sofar : Carrying turns waiting changed a b
+        pub fits : most < 2 ^ 64
+        pub numbers : IsTrusted a b → Holds start (rows a) → most ≡ length (numbers_of (rows a))
+
+      pub begins : (a : S) → Carrying 0 (start ∷ []) 0 a a
+      begins a = record {
+        follows = laws.itself a;
+        written = sym (capped_below (writes a) (laws.ends a).1) ∙ ap capped (omega arith);
+        along = λ t is. carrying_first which start.id (rows a) start (laws.are a a t) is;
+      }
+
+      pub carries_on : (turns : ℕ) (rest : List Node) (w : Node) (changed : ℕ) (after : List Node) (a b c : S) {X : Type 0} (x : X) (number : X → ℕ) {Becomes : Rows → X → Rows → Type 0}
+          → ((old new : Rows) → Becomes old x new → IsVisit which start.id w renewed_ones rest after old (number x) new)
+          → Carrying turns (rest ++ w ∷ []) changed a b → IsCarried rows failures writes Follows IsTrusted {X = X} number b c (Ok x) (MeetsAgain which start.id w) Becomes
+          → Carrying (turns + 1) after (changed + number x) a c
+      carries_on turns rest w changed after a b c x number visited sofar turn = record {
+        follows = laws.on a b c sofar.follows turn.follows;
+        written = turn.written ∙ (λ i. capped (sofar.written i + number x)) ∙ capped_add (writes a + changed) (number x) ∙ ap capped (omega arith);
+        along = λ t is.
+            let first = laws.first a b c sofar.follows turn.follows t in
+            let last = laws.last a b c sofar.follows turn.follows t in
+            let visit = visited (rows b) (rows c) (turn.becomes last) in
+            let on = carrying_turn which start.id turns rest w changed (rows a) (rows b) (rows c) visit.next (laws.are a b first) (sofar.along first is) visit.turn in
+            subst (λ (l : List Node). IsCarrying which start.id (turns + 1) l (changed + number x) (rows a) (rows c)) (sym visit.waits)
+            (subst (λ (n : ℕ). IsCarrying which start.id (turns + 1) (rest ++ visit.next) (changed + n) (rows a) (rows c)) (sym visit.counted) on);
+      }
+
+      pub first_turn : (after : List Node) (a b : S) {X : Type 0} (x : X) (number : X → ℕ) {Becomes : Rows → X → Rows → Type 0} → ((old new : Rows) → Becomes old x new → IsVisit which start.id start renewed_ones [] after old (number x) new)
+          → IsCarried rows failures writes Follows IsTrusted {X = X} number a b (Ok x) (MeetsAgain which start.id start) Becomes → Carrying 1 after (number x) a b
+      first_turn after a b x number visited turn = subst (λ (n : ℕ). Carrying 1 after n a b) (omega arith) (carries_on 0 [] start 0 after a a b x number visited (begins a) turn)
+
+      pub numbered : (turns : ℕ) (waiting : List Node) (changed : ℕ) (ids : List ℕ) (most : ℕ) (a b c : S) → most ≡ length ids → most < 2 ^ 64 → Carrying turns waiting changed a b
+          → IsRead rows failures writes Follows IsTrusted b c (Ok ids) IsNever AreNumbers → Turning turns waiting changed most a c
+      numbered turns waiting changed ids most a b c is fits sofar read = record {
+        sofar = record {
+          follows = laws.on a b c sofar.follows read.follows;
+          written = read.unwritten ∙ sofar.written;
+          along = λ t holds. subst (λ (r : Rows). IsCarrying which start.id turns waiting changed (rows a) r) (sym (read.same (laws.last a b c sofar.follows read.follows t))) (sofar.along (laws.first a b c sofar.follows read.follows t) holds);
+        };
+        fits = fits;
+        numbers = λ t holds. is ∙ ap length (read.answers (laws.last a b c sofar.follows read.follows t) ∙ carrying_numbers which start.id turns waiting changed (rows a) (rows b) (sofar.along (laws.first a b c sofar.follows read.follows t) holds));
+      }
+
+      -- the count doesn't come to its end
+      pub turns_on : (turns : ℕ) (rest : List Node) (w : Node) (changed most : ℕ) (after : List Node) (number : ℕ) (a b c : S) → Turning turns (rest ++ w ∷ []) changed most a b
+          → IsCarried rows failures writes Follows IsTrusted {X = ℕ} (λ n. n) b c (Ok number) (MeetsAgain which start.id w) (IsVisit which start.id w renewed_ones rest after)
+          → Turning (turns + 1) after (capped (changed + number)) most a c
+      turns_on turns rest w changed most after number a b c turning turn =
+          let on = carries_on turns rest w changed after a b c number (λ n. n) (λ old new visit. visit) turning.sofar turn in
+          let numbers : IsTrusted a c → Holds start (rows a) → most ≡ length (numbers_of (rows a)) = λ t holds. turning.numbers (laws.first a b c turning.sofar.follows turn.follows t) holds in
+          record {
+            sofar = record {
+              follows = on.follows;
+              written = on.written ∙ ap capped (omega arith) ∙ sym (capped_add (changed + number) (writes a)) ∙ ap capped (omega arith);
+              along = λ t holds.
+                  let all = on.along t holds in
+                  let few = carrying_below which start.id (turns + 1) after (changed + number) (rows a) (rows c) all in
+                  let many = numbers t holds in
+                  let fits = turning.fits in
+                  subst (λ (n : ℕ). IsCarrying which start.id (turns + 1) after n (rows a) (rows c)) (sym (capped_below (changed + number) (omega (arith, few, many, fits)))) all;
+            };
+            fits = turning.fits;
+            numbers = numbers;
+          }
+
+      pub carries_to_end : (turns changed : ℕ) (a b : S) → Carrying turns [] changed a b → SpreadsFrom a b (Ok (record { changed = changed }))
+      carries_to_end turns changed a b sofar = record {
+        follows = sofar.follows;
+        written = sofar.written;
+        becomes = λ t. carrying_done which start.id turns changed (rows a) (rows b) (laws.are a b t.0) (sofar.along t.0 t.1);
+        fault = tt;
+      }
+
+      pub never_too_many : (turns : ℕ) (waiting : List Node) (changed most id : ℕ) (a b : S) → (length waiting ≡ 0 → ⊥) → most ≤ turns → Turning turns waiting changed most a b → SpreadsFrom a b (Err (Keeper (Damaged id)))
+      never_too_many turns waiting changed most id a b more past turning = record {
+        follows = turning.sofar.follows;
+        written = tt;
+        becomes = λ t. tt;
+        fault = λ t. absurd (more (carrying_ends which start.id turns waiting changed (rows a) (rows b) (let many = turning.numbers t.0 t.1 in omega (arith, many, past)) (turning.sofar.along t.0 t.1)));
+      }
+
+      -- no answer came to the numbers
+      pub ids_fail : (turns : ℕ) (waiting : List Node) (changed : ℕ) (e : KeepFault) (a b c : S) → Carrying turns waiting changed a b → IsRead rows failures writes Follows IsTrusted b c (Err e) IsNever AreNumbers → SpreadsFrom a c (Err (Keeper e))
+      ids_fail turns waiting changed e a b c sofar read = record {
+        follows = laws.on a b c sofar.follows read.follows;
+        written = tt;
+        becomes = λ t. tt;
+        fault = later_cause (failures a) (failures b) (failures c) e _ _ (laws.rise a b sofar.follows) (laws.rise b c read.follows) (λ at never t. absurd (never (laws.last a b c sofar.follows read.follows t.0))) read.fault;
+      }
+
+      pub turn_gives_up : (turns : ℕ) (rest : List Node) (w : Node) (changed : ℕ) (e : SpreadFault) (a b c : S) {X : Type 0} (number : X → ℕ) (Becomes : Rows → X → Rows → Type 0) → Carrying turns (rest ++ w ∷ []) changed a b
+          → IsCarried rows failures writes Follows IsTrusted {X = X} number b c (Err e) (MeetsAgain which start.id w) Becomes → SpreadsFrom a c (Err e)
+      turn_gives_up turns rest w changed e a b c number Becomes sofar turn = record {
+        follows = laws.on a b c sofar.follows turn.follows;
+        written = tt;
+        becomes = λ t. tt;
+        fault = cause e turn.fault;
+      }
+        where
+          cause : (e : SpreadFault) → HasSpreadCause (failures b) (failures c) (λ at. IsTrusted b c → IsUnreadable (rows b) at) (IsTrusted b c → MeetsAgain which start.id w (rows b)) e
+              → HasSpreadCause (failures a) (failures c) (λ at. Given a c → IsUnreadable (rows a) at) (Given a c → IsOwnAncestor (rows a).read start.id) e
+          cause (Keeper f) h = later_cause (failures a) (failures b) (failures c) f _ _ (laws.rise a b sofar.follows) (laws.rise b c turn.follows)
+              (λ at damaged t.
+              still_unreadable which start.id turns (rest ++ w ∷ []) changed at (rows a) (rows b) (sofar.along (laws.first a b c sofar.follows turn.follows t.0) t.1) (damaged (laws.last a b c sofar.follows turn.follows t.0)))
+              h
+          cause Loop h = λ t.
+              let first = laws.first a b c sofar.follows turn.follows t.0 in
+              carrying_loops which start.id turns rest w changed (rows a) (rows b) (laws.are a b first) (sofar.along first t.1) (h (laws.last a b c sofar.follows turn.follows t.0))

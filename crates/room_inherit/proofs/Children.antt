@@ -3,9 +3,9 @@ use Rattle.std.proofs.Common.{◌≡◌, ℕ, suc, ◌+◌, ◌<◌, ◌==◌, B
 use Rattle.std.specs.Prelude.{nat_lt}
 use Rattle.std.specs.List.{list_any}
 use Rattle.std.proofs.lemmas.Bool.{cases_Bool, and_parts, or_parts, or_from, or_left, or_right, false≢true, eq-eqb, eqb-true, ne_eqb, ltb-true, false_from_ne_true}
-use Rattle.room_tree.specs.declared.node.Node.{Node}
-use Rattle.room_tree.specs.Content.{Content, node_at, has_parent, children_of, put_by_name, sorted_by_name, is_before, is_rising}
-use Rattle.room_tree.specs.Finding.{find_id}
+use Rattle.room_rows.specs.declared.node.Node.{Node}
+use Rattle.room_rows.specs.Content.{Content, node_at, has_parent, children_of, put_by_name, sorted_by_name, is_before, is_rising}
+use Rattle.room_rows.specs.Finding.{find_id}
 use Rattle.room_inherit.proofs.Members.{Each, each_weaker, each_filter, each_unfiltered, any_filter, any_agree, any_none, each_fails, none_of_both, none_filter, one_if, count, count_filter, count_length}
 
 -- ---- by number

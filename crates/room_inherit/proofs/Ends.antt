@@ -10,11 +10,11 @@ use Rattle.room_ace.specs.Same.{same_entries}
 use Rattle.room_ace.specs.declared.object.Which.{Which}
 use Rattle.room_ace.proofs.Same.{entries_equal}
 use Rattle.room_ace.proofs.Alike.{equal_entries, entries_themselves}
-use Rattle.room_tree.specs.declared.node.Node.{Node}
-use Rattle.room_tree.specs.Content.{Content, node_at, parent_of, has_parent, children_of, is_linked_in, is_rising}
-use Rattle.room_tree.specs.Finding.{find_id}
-use Rattle.room_tree.specs.Held.{held_of, full_of, is_linked}
-use Rattle.room_tree.specs.Rows.{Rows, numbers_of, put_number, put_numbers}
+use Rattle.room_rows.specs.declared.node.Node.{Node}
+use Rattle.room_rows.specs.Content.{Content, node_at, parent_of, has_parent, children_of, is_linked_in, is_rising}
+use Rattle.room_rows.specs.Finding.{find_id}
+use Rattle.room_rows.specs.Held.{held_of, full_of, is_linked}
+use Rattle.room_rows.specs.Rows.{Rows, numbers_of, put_number, put_numbers}
 use Rattle.room_inherit.specs.Pass.{pass}
 use Rattle.room_inherit.specs.Law.{AllAgree, AllAgreeBut, agrees, agrees_with}
 use Rattle.room_inherit.specs.Spread.{with_lists, is_changed, is_linked_within, is_within, IsOwnAncestor}

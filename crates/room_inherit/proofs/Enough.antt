@@ -2,10 +2,10 @@
 use Rattle.std.proofs.Common.{◌≡◌, ℕ, zero, suc, ◌≤◌, ◌+◌, ◌==◌, Bool, true, false, cond, not, List, [], ◌∷◌, filter, length, Option, Some, None, ◌⊎◌, refl, sym, ap, ◌∙◌, inl, inr, arith}
 use Rattle.std.specs.Option.{option_map_or}
 use Rattle.std.proofs.lemmas.Bool.{cases_Bool, false≢true, eqb-true, eqb-false}
-use Rattle.room_tree.specs.declared.node.Node.{Node}
-use Rattle.room_tree.specs.Content.{Content, node_at, reaches_root, without_node}
-use Rattle.room_tree.specs.Finding.{find_id}
-use Rattle.room_tree.proofs.Frames.{node_at-without_node, node_at-without_node-other}
+use Rattle.room_rows.specs.declared.node.Node.{Node}
+use Rattle.room_rows.specs.Content.{Content, node_at, reaches_root, without_node}
+use Rattle.room_rows.specs.Finding.{find_id}
+use Rattle.room_rows.proofs.Frames.{node_at-without_node, node_at-without_node-other}
 use Rattle.room_inherit.specs.Ancestry.{EnoughSteps}
 
 -- ---- fewer objects without one of them

@@ -3,11 +3,11 @@ use Rattle.std.proofs.Common.{◌≡◌, ℕ, ◌==◌, Bool, true, false, cond,
 use Rattle.std.specs.Option.{option_map, option_map_or}
 use Rattle.room_ace.specs.Ace.{Ace}
 use Rattle.room_ace.specs.declared.object.Which.{Which}
-use Rattle.room_tree.specs.declared.node.Node.{Node}
-use Rattle.room_tree.specs.Content.{Content, node_at, has_parent}
-use Rattle.room_tree.specs.Finding.{find_id}
-use Rattle.room_tree.specs.Held.{held_of, is_linked}
-use Rattle.room_tree.specs.Keep.{with_inh}
+use Rattle.room_rows.specs.declared.node.Node.{Node}
+use Rattle.room_rows.specs.Content.{Content, node_at, has_parent}
+use Rattle.room_rows.specs.Finding.{find_id}
+use Rattle.room_rows.specs.Held.{held_of, is_linked}
+use Rattle.room_rows.specs.Keep.{with_inh}
 use Rattle.room_inherit.specs.Pass.{pass}
 use Rattle.room_inherit.specs.Law.{AllAgreeBut}
 use Rattle.room_inherit.specs.Spread.{is_changed, IsLinkedBelow}

@@ -12,9 +12,9 @@ use Rattle.std.proofs.lemmas.List.{take_more}
 use Rattle.std.proofs.lemmas.List.Recursion.{or_push}
 use Rattle.std.proofs.lemmas.Map.Text.{is_eq-slice_cmp}
 use Rattle.room_ace.specs.Pieces.{same_text}
-use Rattle.room_tree.specs.declared.node.Node.{Node}
-use Rattle.room_tree.specs.Content.{has_parent, same_parent}
-use Rattle.room_tree.specs.Paths.{is_object_name}
+use Rattle.room_rows.specs.declared.node.Node.{Node}
+use Rattle.room_rows.specs.Content.{has_parent, same_parent}
+use Rattle.room_rows.specs.Paths.{is_object_name}
 use Rattle.room_inherit.specs.Objects.{are_rising, only}
 use Rattle.room_inherit.specs.Sound.{has_sound_name, same_place}
 use Rattle.room_inherit.proofs.Numbers.{any_before}

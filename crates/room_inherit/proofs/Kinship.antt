@@ -3,9 +3,9 @@ use Rattle.std.proofs.Common.{◌≡◌, List, refl}
 use Rattle.room_ace.specs.Ace.{Ace}
 use Rattle.room_ace.specs.declared.object.Which.{Which}
 use Rattle.room_ace.specs.declared.object.Which.TheVariants.{Dacl, Sacl}
-use Rattle.room_tree.specs.declared.node.Node.{Node}
-use Rattle.room_tree.specs.Held.{held_of}
-use Rattle.room_tree.specs.Keep.{with_inh}
+use Rattle.room_rows.specs.declared.node.Node.{Node}
+use Rattle.room_rows.specs.Held.{held_of}
+use Rattle.room_rows.specs.Keep.{with_inh}
 
 pub same_id : (which : Which) (entries : List Ace) (node : Node) → (with_inh which entries node).id ≡ node.id
 same_id Dacl entries node = refl

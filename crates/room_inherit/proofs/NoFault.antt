@@ -2,9 +2,9 @@
 use Rattle.std.proofs.Common.{◌≡◌, ℕ, Bool, true, false, cond, not, ap, ◌&&◌, List, [], ◌∷◌, filter, length, Option, Some, None, refl, sym, ◌∙◌}
 use Rattle.std.specs.List.{find, list_all}
 use Rattle.std.specs.Option.{option_map}
-use Rattle.room_tree.specs.declared.node.Node.{Node}
-use Rattle.room_tree.specs.Content.{has_folder_above, is_root}
-use Rattle.room_tree.specs.Rows.{Rows, numbers_of}
+use Rattle.room_rows.specs.declared.node.Node.{Node}
+use Rattle.room_rows.specs.Content.{has_folder_above, is_root}
+use Rattle.room_rows.specs.Rows.{Rows, numbers_of}
 use Rattle.room_inherit.specs.declared.report.Report.{Report}
 use Rattle.room_inherit.specs.declared.report.Report.TheVariants.{Sound, Fault}
 use Rattle.room_inherit.specs.declared.report.Unsound.TheVariants.{Loop, BadList, BrokenLaw, BadRoot, BadParent, BadName, BadBody}
@@ -81,12 +81,15 @@ sound rows none =
     λ i. by_tests (true_path tree) ((sym (unbad rows) ∙ none_fails (λ id. not (has_bad_list rows id)) (numbers_of rows) none.lists) i) (none.root i) (none_fails (has_folder_above tree) tree.nodes none.parents i)
     (none_fails (reaches tree) tree.nodes none.reach i) (none_fails (has_sound_name tree) tree.nodes none.names i) (none_fails (has_sound_body tree) tree.nodes none.bodies i) (none_fails (keeps_law tree) tree.nodes none.law i)
 
+pub none_bad : (rows : Rows) → HasNoFault rows → first_bad_list rows ≡ None
+none_bad rows none = sym (unbad rows) ∙ none_fails (λ id. not (has_bad_list rows id)) (numbers_of rows) none.lists
+
 pub sound_is_no_fault : SoundIsNoFault
 sound_is_no_fault rows = (no_fault rows, sound rows)
 
 -- ---- a tree, where all tests but the last find nothing
 
-root_alone : (roots : List Node) → bad_root roots ≡ None → length roots ≡ 1
+pub root_alone : (roots : List Node) → bad_root roots ≡ None → length roots ≡ 1
 root_alone [] none = absurd (let wrong : ⊥ = cc in wrong)
 root_alone (root ∷ []) none = refl
 root_alone (root ∷ other ∷ others) none = absurd (let wrong : ⊥ = cc in wrong)

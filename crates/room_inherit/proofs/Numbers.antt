@@ -5,9 +5,9 @@ use Rattle.std.specs.List.Sorted.{IsSortedBy}
 use Rattle.std.specs.declared.cmp.Ordering.TheVariants.{Less, Equal, Greater}
 use Rattle.std.specs.Ordering.{nat_cmp, is_lt}
 use Rattle.std.proofs.lemmas.Bool.{false≢true, and_parts, eqb-true, eq-eqb, ne_eqb, ltb-true, lt-ltb, le-ltb, cond-true, cond-false}
-use Rattle.room_tree.specs.declared.node.Node.{Node}
-use Rattle.room_tree.specs.Content.{is_rising}
-use Rattle.room_tree.specs.Finding.{find_id}
+use Rattle.room_rows.specs.declared.node.Node.{Node}
+use Rattle.room_rows.specs.Content.{is_rising}
+use Rattle.room_rows.specs.Finding.{find_id}
 
 abbrev pub ids_of : List Node → List ℕ
 ids_of nodes = map (λ (n : Node). n.id) nodes

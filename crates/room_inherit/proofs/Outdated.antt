@@ -11,11 +11,11 @@ use Rattle.room_ace.specs.declared.object.ObjKind.{ObjKind}
 use Rattle.room_ace.specs.declared.object.Which.{Which}
 use Rattle.room_ace.proofs.Same.{entries_equal}
 use Rattle.room_ace.proofs.Alike.{equal_entries}
-use Rattle.room_tree.specs.declared.node.Held.{Held}
-use Rattle.room_tree.specs.declared.node.Node.{Node}
-use Rattle.room_tree.specs.Content.{Content, node_at, parent_of, has_parent, children_of, with_each}
-use Rattle.room_tree.specs.Held.{held_of, full_of, is_linked}
-use Rattle.room_tree.specs.Keep.{with_inh}
+use Rattle.room_rows.specs.HeldList.{Held}
+use Rattle.room_rows.specs.declared.node.Node.{Node}
+use Rattle.room_rows.specs.Content.{Content, node_at, parent_of, has_parent, children_of, with_each}
+use Rattle.room_rows.specs.Held.{held_of, full_of, is_linked}
+use Rattle.room_rows.specs.Keep.{with_inh}
 use Rattle.room_inherit.specs.Pass.{pass}
 use Rattle.room_inherit.specs.Spread.{with_lists, is_changed}
 use Rattle.room_inherit.specs.Turn.{is_linked_to, is_outdated, renewed, renewals, renewed_below}

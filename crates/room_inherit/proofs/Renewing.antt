@@ -4,12 +4,11 @@ use Rattle.std.specs.Prelude.{nat_lt}
 use Rattle.std.proofs.lemmas.Bool.{cases_Bool, and_parts, false≢true, eq-eqb, eqb-true, ne_eqb, lt-ltb, le-ltb, cond-true, cond-false, or_left}
 use Rattle.std.proofs.lemmas.List.{map-id}
 use Rattle.room_ace.specs.declared.object.Which.{Which}
-use Rattle.room_tree.specs.declared.node.Held.{Held}
-use Rattle.room_tree.specs.declared.node.Node.{Node}
-use Rattle.room_tree.specs.Content.{Content, node_at, children_of, put_node, with_node, is_rising}
-use Rattle.room_tree.specs.Finding.{find_id}
-use Rattle.room_tree.specs.Keep.{with_inh}
-use Rattle.room_tree.proofs.Putting.{same_numbers}
+use Rattle.room_rows.specs.HeldList.{Held}
+use Rattle.room_rows.specs.declared.node.Node.{Node}
+use Rattle.room_rows.specs.Content.{Content, node_at, children_of, put_node, with_node, is_rising}
+use Rattle.room_rows.specs.Finding.{find_id}
+use Rattle.room_rows.specs.Keep.{with_inh}
 use Rattle.room_inherit.specs.Turn.{is_outdated, passed_to, renewed, renewals, renewed_below, put_nodes, AreKnown}
 use Rattle.room_inherit.proofs.Kinship.{same_id, held_with}
 use Rattle.room_inherit.proofs.Members.{Each, each_weaker, each_filter, each_fails}
@@ -71,6 +70,18 @@ put_is_map k (x ∷ xs) id old new rises found same =
           let head : cond (x.id == new.id) new x ≡ x = cond-false (x.id == new.id) new x (ne_eqb x.id new.id (λ q. absurd (let wrong : ⊥ = omega (arith, less, q) in wrong))) in
           cond-true (nat_lt x.id new.id) _ _ (lt-ltb x.id new.id less) ∙ (λ i. sym head i ∷ put_is_map x.id xs id old new parts.1 later same i)
     ]
+
+-- it leaves the numbers as they were
+same_numbers : (k : ℕ) (nodes : List Node) (id : ℕ) (old new : Node) → is_rising (k ∷ ids_of nodes) ≡ true → find_id id nodes ≡ Some old → new.id ≡ old.id → ids_of (put_node new nodes) ≡ ids_of nodes
+same_numbers k nodes id old new rises found same = ap ids_of (put_is_map k nodes id old new rises found same) ∙ kept nodes
+  where
+    one : (n : Node) (t : Bool) → (n.id == new.id) ≡ t → (cond t new n).id ≡ n.id
+    one n true is = sym (eqb-true n.id new.id is)
+    one n false is = refl
+
+    kept : (nodes : List Node) → ids_of (map (λ (n : Node). cond (n.id == new.id) new n) nodes) ≡ ids_of nodes
+    kept [] = refl
+    kept (x ∷ xs) = λ i. one x (x.id == new.id) refl i ∷ kept xs i
 
 -- several such objects, of which no two have one number
 module _ (g : Node → Node) (same : (n : Node) → (g n).id ≡ n.id) where

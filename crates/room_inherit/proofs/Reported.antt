@@ -2,10 +2,10 @@
 use Rattle.std.proofs.Common.{◌≡◌, ℕ, zero, suc, false, not, List, [], ◌∷◌, ◌++◌, filter, length, Option, Some, None, refl, sym, ap, ◌∙◌}
 use Rattle.std.specs.List.{find}
 use Rattle.std.specs.Option.{option_map, option_map_or}
-use Rattle.room_tree.specs.declared.node.Node.{Node}
-use Rattle.room_tree.specs.Content.{Content, has_folder_above, is_root, node_at, parent_of, reaches_root}
-use Rattle.room_tree.specs.Paths.{path_text}
-use Rattle.room_tree.specs.Rows.{Rows}
+use Rattle.room_rows.specs.declared.node.Node.{Node}
+use Rattle.room_rows.specs.Content.{Content, has_folder_above, is_root, node_at, parent_of, reaches_root}
+use Rattle.room_rows.specs.Paths.{path_text}
+use Rattle.room_rows.specs.Rows.{Rows}
 use Rattle.room_inherit.specs.declared.report.Report.{Report}
 use Rattle.room_inherit.specs.declared.report.Report.TheVariants.{Sound, Fault}
 use Rattle.room_inherit.specs.declared.report.Unsound.TheVariants.{Loop, BadList, BrokenLaw, BadRoot, BadParent, BadName, BadBody}

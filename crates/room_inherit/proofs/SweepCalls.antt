@@ -4,18 +4,18 @@ use Rattle.std.proofs.lemmas.Bool.{false≢true, eq-eqb}
 use Rattle.std.proofs.lemmas.List.{length-append}
 use Rattle.room_ace.specs.Ace.{Ace}
 use Rattle.room_ace.specs.declared.object.Which.{Which}
-use Rattle.room_tree.specs.declared.keep.KeepFault.{KeepFault}
-use Rattle.room_tree.specs.declared.keep.KeepFault.TheVariants.{Memory, Store, Damaged}
-use Rattle.room_tree.specs.declared.node.Node.{Node}
-use Rattle.room_tree.specs.Content.{children_of, root_of}
-use Rattle.room_tree.specs.Counts.{capped_below}
-use Rattle.room_tree.specs.Keep.{HasCause, HasNoRoot, IsUnreadable, IsNever, IsRead, IsRootOf, AreNumbers, AreChildrenOf, capped, reading}
-use Rattle.room_tree.specs.Rows.{Rows, AreRows, numbers_of, is_unreadable}
-use Rattle.room_tree.proofs.Steps.{Laws, seen as has_read, read_on, later_cause}
+use Rattle.room_rows.specs.declared.keep.KeepFault.{KeepFault}
+use Rattle.room_rows.specs.declared.keep.KeepFault.TheVariants.{Memory, Store, Damaged}
+use Rattle.room_rows.specs.declared.node.Node.{Node}
+use Rattle.room_rows.specs.Content.{children_of, root_of}
+use Rattle.room_rows.specs.Counts.{capped_below}
+use Rattle.room_rows.specs.Keep.{HasCause, HasNoRoot, IsUnreadable, IsNever, IsRead, IsRootOf, AreNumbers, AreChildrenOf, capped, reading, KeepLaws}
+use Rattle.room_rows.specs.Rows.{Rows, AreRows, numbers_of, is_unreadable}
+use Rattle.room_rows.proofs.Steps.{seen as has_read, read_on, later_cause}
 use Rattle.room_inherit.specs.Law.{AllAgree}
 use Rattle.room_inherit.specs.Spread.{IsCarried, HasSpreadCause, with_lists, is_changed}
-use Rattle.room_inherit.specs.SpreadAll.{IsCarriedDown, IsSwept, IsVisit}
-use Rattle.room_inherit.specs.Turn.{IsTurn, MeetsAgain}
+use Rattle.room_inherit.specs.SpreadAll.{IsCarriedDown, IsSwept, all_of}
+use Rattle.room_inherit.specs.Turn.{IsTurn, IsVisit, MeetsAgain}
 use Rattle.room_inherit.specs.declared.outcome.SpreadFault.{SpreadFault}
 use Rattle.room_inherit.specs.declared.outcome.SpreadFault.TheVariants.{Keeper, Loop}
 use Rattle.room_inherit.proofs.Members.{count, count-is, count_ends}
@@ -65,7 +65,7 @@ module _ (which : Which) (start turns : ℕ) (rest : List Node) (w : Node) (chan
       let met' : MeetsAgain which sofar.root.id w (reading old (with_lists which f old.read)) = subst (λ (r : Rows). MeetsAgain which sofar.root.id w r) sofar.becomes (subst (λ (i : ℕ). MeetsAgain which i w now) sofar.start_is met) in
       false≢true (sym (not_met_again which old.read are.numbers sofar.root top f sofar.seen rest w sofar.front (root_there which old.read are.numbers sofar.root sofar.root_is)) ∙ met')
 
-  module _ (fits : most < 2 ^ 63) (new : Rows) (number : ℕ) (next : List Node) (visit : IsVisit which start w rest next now number new) where
+  module _ (fits : most < 2 ^ 63) (new : Rows) (number : ℕ) (next : List Node) (visit : IsVisit which start w (all_of w) rest next now number new) where
     step : IsTurn which start w (reading old (with_lists which f old.read)) visit.next new
     step = subst (λ (r : Rows). IsTurn which start w r visit.next new) sofar.becomes visit.turn
 
@@ -136,7 +136,7 @@ module _ {S : Type 0} (rows : S → Rows) (failures writes : S → ℕ) (Follows
   abbrev pub Sweeps : Which → S → S → Result ℕ SpreadFault → Type 0
   Sweeps which a b result = IsCarriedDown rows failures writes Follows IsTrusted {X = ℕ} (λ changed. changed) a b result (λ old changed new. IsSwept which old new changed)
 
-  module _ (laws : Laws rows failures writes Follows IsTrusted) (are_rows : (a b : S) → IsTrusted a b → AreRows (rows a)) (ends : (a : S) → writes a ≤ 2 ^ 64 - 1) (which : Which) where
+  module _ (laws : KeepLaws rows failures writes Follows IsTrusted) (are_rows : (a b : S) → IsTrusted a b → AreRows (rows a)) (ends : (a : S) → writes a ≤ 2 ^ 64 - 1) (which : Which) where
     pub sweep_begins : (ids : List ℕ) (root : Node) (most : ℕ) (a b c : S) → most ≡ length ids → most < 2 ^ 63
         → IsRead rows failures writes Follows IsTrusted a b (Ok ids) IsNever AreNumbers → IsRead rows failures writes Follows IsTrusted b c (Ok root) HasNoRoot IsRootOf
         → Sweeping which root.id 0 (root ∷ []) 0 most a c
@@ -152,7 +152,7 @@ module _ {S : Type 0} (rows : S → Rows) (failures writes : S → ℕ) (Follows
         }
 
     pub sweeps_on : (start turns : ℕ) (rest : List Node) (w : Node) (changed most number : ℕ) (next : List Node) (a b c : S) → Sweeping which start turns (rest ++ w ∷ []) changed most a b
-        → IsCarried rows failures writes Follows IsTrusted {X = ℕ} (λ n. n) b c (Ok number) (MeetsAgain which start w) (IsVisit which start w rest next)
+        → IsCarried rows failures writes Follows IsTrusted {X = ℕ} (λ n. n) b c (Ok number) (MeetsAgain which start w) (IsVisit which start w (all_of w) rest next)
         → Sweeping which start (turns + 1) next (capped (changed + number)) most a c
     sweeps_on start turns rest w changed most number next a b c sofar visit = record {
       follows = laws.on a b c sofar.follows visit.follows;
@@ -221,7 +221,7 @@ module _ {S : Type 0} (rows : S → Rows) (failures writes : S → ℕ) (Follows
 
     module _ (start : ℕ) (above : Node) (before : List Node) where
       abbrev pub Visited : List Node → S → S → Result ℕ SpreadFault → Type 0
-      Visited next a c result = IsCarried rows failures writes Follows IsTrusted {X = ℕ} (λ n. n) a c result (MeetsAgain which start above) (IsVisit which start above before next)
+      Visited next a c result = IsCarried rows failures writes Follows IsTrusted {X = ℕ} (λ n. n) a c result (MeetsAgain which start above) (IsVisit which start above (all_of above) before next)
 
       module _ {X : Type 0} (a b : S) (x : X) (number : X → ℕ) (list : X → List Node) (same : number x ≡ length (list x))
           (turn : IsCarried rows failures writes Follows IsTrusted {X = X} number a b (Ok x) (MeetsAgain which start above) (λ old y new. IsTurn which start above old (list y) new)) where

@@ -6,9 +6,9 @@ use Rattle.std.specs.Option.{option_map_or}
 use Rattle.std.proofs.lemmas.Bool.{or_left, false≢true, eq-eqb, eqb-true}
 use Rattle.room_ace.specs.Ace.{Ace}
 use Rattle.room_ace.specs.declared.object.Which.{Which}
-use Rattle.room_tree.specs.declared.node.Node.{Node}
-use Rattle.room_tree.specs.Content.{Content, node_at, root_of, has_parent, is_rising, reaches_root}
-use Rattle.room_tree.specs.Finding.{find_id}
+use Rattle.room_rows.specs.declared.node.Node.{Node}
+use Rattle.room_rows.specs.Content.{Content, node_at, root_of, has_parent, is_rising, reaches_root}
+use Rattle.room_rows.specs.Finding.{find_id}
 use Rattle.room_inherit.specs.Law.{AllAgree}
 use Rattle.room_inherit.specs.Spread.{with_lists}
 use Rattle.room_inherit.specs.SpreadAll.{IsTree}

@@ -6,10 +6,10 @@ use Rattle.std.proofs.lemmas.Bool.{cases_Bool, false≢true, eqb-true, eq-eqb, o
 use Rattle.std.proofs.lemmas.List.{drop_more}
 use Rattle.std.proofs.lemmas.List.Recursion.{or_at}
 use Rattle.room_ace.specs.Pieces.{is_among}
-use Rattle.room_tree.specs.declared.node.Node.{Node}
-use Rattle.room_tree.specs.Content.{node_at}
-use Rattle.room_tree.specs.Rows.{Rows, AreRows, is_unreadable, numbers_of, put_number, put_numbers}
-use Rattle.room_inherit.specs.Reading.{IsFree}
+use Rattle.room_rows.specs.declared.node.Node.{Node}
+use Rattle.room_rows.specs.Content.{node_at}
+use Rattle.room_rows.specs.Rows.{Rows, AreRows, is_unreadable, numbers_of, put_number, put_numbers}
+use Rattle.room_inherit.specs.Reading.{IsBadAt, IsFree}
 use Rattle.room_inherit.specs.Sound.{first_bad_list, has_bad_list}
 use Rattle.room_inherit.proofs.Numbers.{ids_of, each_found}
 
@@ -37,7 +37,7 @@ among_numbers : (more ids : List ℕ) (id : ℕ) → is_among (put_numbers more 
 among_numbers [] ids id = refl
 among_numbers (x ∷ xs) ids id = among_one_more x (put_numbers xs ids) id ∙ ap (λ t. (x == id) || t) (among_numbers xs ids id) ∙ or_group (x == id) (is_among xs id) (is_among ids id)
 
-among_found : (nodes : List Node) (id : ℕ) → is_among (ids_of nodes) id ≡ is_some (find (λ (n : Node). n.id == id) nodes)
+pub among_found : (nodes : List Node) (id : ℕ) → is_among (ids_of nodes) id ≡ is_some (find (λ (n : Node). n.id == id) nodes)
 among_found [] id = refl
 among_found (x ∷ xs) id = on (x.id == id) (among_found xs id)
   where
@@ -96,6 +96,11 @@ module _ (rows : Rows) (ids : List ℕ) (i : ℕ) (below : i < length ids) where
 
   pub bad_here : has_bad_list rows (get_or ids i 0) ≡ true → find (has_bad_list rows) (drop i ids) ≡ Some (get_or ids i 0)
   bad_here bad = ap (find (has_bad_list rows)) next_id ∙ cond-true _ _ _ bad
+
+  -- the first that is bad
+  pub bad_at : (at : ℕ) → ids ≡ numbers_of rows → find (has_bad_list rows) (drop i ids) ≡ find (has_bad_list rows) ids → IsBadAt (get_or ids i 0) rows at → first_bad_list rows ≡ Some at
+  bad_at at are same (is, inl bad) = ap (find (has_bad_list rows)) (sym are) ∙ sym same ∙ bad_here bad ∙ ap Some (sym is)
+  bad_at at are same (is, inr free) = absurd (not_free rows ids i (get_or ids i 0) are below free)
 
   pub sound_here : has_bad_list rows (get_or ids i 0) ≡ false → find (has_bad_list rows) (drop (i + 1) ids) ≡ find (has_bad_list rows) (drop i ids)
   sound_here sound = sym (ap (find (has_bad_list rows)) next_id ∙ cond-false _ _ _ sound)

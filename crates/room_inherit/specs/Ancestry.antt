@@ -1,7 +1,7 @@
 -- Objects whose parents lead to the root.
 use Rattle.std.specs.Prelude.{◌≡◌, ℕ, length, Option, Some, IsTrue}
-use Rattle.room_tree.specs.declared.node.Node.{Node}
-use Rattle.room_tree.specs.Content.{Content, node_at, reaches_root}
+use Rattle.room_rows.specs.declared.node.Node.{Node}
+use Rattle.room_rows.specs.Content.{Content, node_at, reaches_root}
 use Rattle.room_inherit.specs.Spread.{IsOwnAncestor}
 
 -- Where the parents of an object lead to the root, it isn't its own ancestor. So in such rows a change is carried down without a loop.

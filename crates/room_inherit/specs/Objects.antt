@@ -1,7 +1,7 @@
 -- Objects alone, without what else a content has.
 use Rattle.std.specs.Prelude.{Bool, List, [], ◌∷◌, map}
-use Rattle.room_tree.specs.declared.node.Node.{Node}
-use Rattle.room_tree.specs.Content.{Content, is_rising}
+use Rattle.room_rows.specs.declared.node.Node.{Node}
+use Rattle.room_rows.specs.Content.{Content, is_rising}
 
 -- a content of these objects, without bytes, pairs and records
 abbrev pub only : List Node → Content

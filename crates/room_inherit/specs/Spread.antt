@@ -4,12 +4,14 @@ use Rattle.std.specs.Option.{option_map_or}
 use Rattle.room_ace.specs.Ace.{Ace}
 use Rattle.room_ace.specs.Same.{same_entries}
 use Rattle.room_ace.specs.declared.object.Which.{Which}
-use Rattle.room_tree.specs.declared.node.Node.{Node}
-use Rattle.room_tree.specs.Content.{Content, node_at, parent_of, has_parent, is_linked_in, with_each}
-use Rattle.room_tree.specs.Held.{held_of}
-use Rattle.room_tree.specs.Keep.{HasCause, IsUnreadable, capped, reading, with_inh}
-use Rattle.room_tree.specs.Rows.{Rows}
+use Rattle.room_rows.specs.declared.keep.Keep.{Ghosts}
+use Rattle.room_rows.specs.declared.node.Node.{Node}
+use Rattle.room_rows.specs.Content.{Content, node_at, parent_of, has_parent, is_linked_in, with_each}
+use Rattle.room_rows.specs.Held.{held_of}
+use Rattle.room_rows.specs.Keep.{HasCause, IsUnreadable, capped, reading, with_inh}
+use Rattle.room_rows.specs.Rows.{Rows}
 use Rattle.room_inherit.specs.Law.{AllAgree, AllAgreeBut}
+use Rattle.room_inherit.specs.declared.outcome.Spread.{Spread}
 use Rattle.room_inherit.specs.declared.outcome.SpreadFault.{SpreadFault}
 use Rattle.room_inherit.specs.declared.outcome.SpreadFault.TheVariants.{Keeper, Loop}
 
@@ -69,3 +71,26 @@ module _ {S : Type 0} (rows : S → Rows) (failures writes : S → ℕ) (Follows
     pub written : IfOk result (λ answer. writes new ≡ capped (writes old + count answer))
     pub becomes : IsTrusted old new → IfOk result (λ answer. Becomes (rows old) answer (rows new))
     pub fault : IfErr result (HasSpreadCause (failures old) (failures new) (λ at. IsTrusted old new → IsUnreadable (rows old) at) (IsTrusted old new → Loops (rows old)))
+
+-- ---- with the keeper named once
+
+module _ {S : Type 0} (k : Ghosts S) (old new : S) where
+  -- The calls answer so, where they answer by the rows.
+  abbrev pub Carries : {X : Type 0} → (X → ℕ) → Result X SpreadFault → (Rows → Type 0) → (Rows → X → Rows → Type 0) → Type 0
+  Carries count result Loops Becomes = IsCarried k.rows k.failures k.writes k.Follows k.IsTrusted count old new result Loops Becomes
+
+  -- The same where the rows are so beforehand, which is the caller's to know.
+  abbrev pub CarriesIf : {X : Type 0} → (Rows → Type 0) → (X → ℕ) → Result X SpreadFault → (Rows → Type 0) → (Rows → X → Rows → Type 0) → Type 0
+  CarriesIf Given count result Loops Becomes =
+      IsCarried k.rows k.failures k.writes k.Follows (λ first last. k.IsTrusted first last × Given (k.rows first)) count old new result Loops Becomes
+
+  -- What a change of this object's list means is carried down.
+  abbrev pub SpreadsIf : (Rows → Type 0) → Which → ℕ → Result Spread SpreadFault → Type 0
+  SpreadsIf Given which id result = CarriesIf Given (λ (spread : Spread). spread.changed) result (λ rows. IsOwnAncestor rows.read id) (λ first spread last. IsSpread which id first last spread.changed)
+
+  abbrev pub Spreads : Which → ℕ → Result Spread SpreadFault → Type 0
+  Spreads which id result = Carries (λ (spread : Spread). spread.changed) result (λ rows. IsOwnAncestor rows.read id) (λ first spread last. IsSpread which id first last spread.changed)
+
+-- the object stands in the rows
+abbrev pub Holds : Node → Rows → Type 0
+Holds node rows = node_at rows.read node.id ≡ Some node

@@ -1,17 +1,18 @@
 -- All lists carried down from the root (RFC 8881, section 6.4.3).
-use Rattle.std.specs.Prelude.{◌≡◌, ℕ, ◌+◌, ◌<◌, ◌^◌, ◌++◌, List, Some, None, Result, IfOk, IfErr, IsTrue, filter, length, count_by}
+use Rattle.std.specs.Prelude.{◌≡◌, ℕ, ◌+◌, ◌<◌, ◌^◌, List, Some, None, Result, IfOk, IfErr, IsTrue, filter, length, count_by}
 use Rattle.std.specs.List.{list_all}
 use Rattle.room_ace.specs.Ace.{Ace}
 use Rattle.room_ace.specs.declared.object.Which.{Which}
 use Rattle.room_ace.specs.declared.object.Which.TheVariants.{Dacl, Sacl}
-use Rattle.room_tree.specs.declared.node.Node.{Node}
-use Rattle.room_tree.specs.Content.{Content, node_at, children_of, is_linked_in, is_root, reaches_root, with_each}
-use Rattle.room_tree.specs.Keep.{HasNoRoot, capped, reading, with_inh}
-use Rattle.room_tree.specs.Rows.{Rows}
+use Rattle.room_rows.specs.declared.keep.Keep.{Ghosts}
+use Rattle.room_rows.specs.declared.node.Node.{Node}
+use Rattle.room_rows.specs.Content.{Content, node_at, children_of, is_linked_in, is_root, reaches_root, with_each}
+use Rattle.room_rows.specs.Keep.{HasNoRoot, capped, reading, with_inh}
+use Rattle.room_rows.specs.Rows.{Rows}
 use Rattle.room_inherit.specs.Law.{AllAgree}
 use Rattle.room_inherit.specs.Sound.{first_fault}
 use Rattle.room_inherit.specs.Spread.{HasSpreadCause, is_changed, with_lists}
-use Rattle.room_inherit.specs.Turn.{IsTurn}
+use Rattle.room_inherit.specs.declared.outcome.Spread.{Spread}
 use Rattle.room_inherit.specs.declared.outcome.SpreadFault.{SpreadFault}
 
 -- One object has no parent, and the parents of each lead to it.
@@ -43,12 +44,9 @@ pub record IsSpreadAll (old new : Rows) (changed : ℕ) : Type 0 where
   pub law : first_fault old ≡ None → (which : Which) → AllAgree new.read which
   pub in_tree : IsTree old.read → (which : Which) → AllAgree new.read which
 
--- one object's children renewed, and all of them put behind those that wait
-pub record IsVisit (which : Which) (start : ℕ) (above : Node) (before after : List Node) (old : Rows) (written : ℕ) (new : Rows) : Type 0 where
-  pub next : List Node
-  pub turn : IsTurn which start above old next new
-  pub counted : written ≡ length next
-  pub waits : after ≡ before ++ children_of new.read above.id
+-- all children of an object wait next
+abbrev pub all_of : Node → Rows → List Node → List Node
+all_of above new renewed = children_of new.read above.id
 
 module _ {S : Type 0} (rows : S → Rows) (failures writes : S → ℕ) (Follows IsTrusted : S → S → Type 0) where
   -- As long as the keeper answers by its rows: an answer tells what became of them and how often was written, and a fault blames a row that can't be read or the want of a root. There is never a loop.
@@ -57,3 +55,13 @@ module _ {S : Type 0} (rows : S → Rows) (failures writes : S → ℕ) (Follows
     pub written : IfOk result (λ answer. writes new ≡ capped (writes old + count answer))
     pub becomes : IsTrusted old new → IfOk result (λ answer. Becomes (rows old) answer (rows new))
     pub fault : IfErr result (HasSpreadCause (failures old) (failures new) (λ at. IsTrusted old new → HasNoRoot (rows old) at) (IsTrusted old new → ⊥))
+
+module _ {S : Type 0} (k : Ghosts S) (old new : S) where
+  -- All lists are carried down.
+  abbrev pub SpreadsAll : Result Spread SpreadFault → Type 0
+  SpreadsAll result =
+      IsCarriedDown k.rows k.failures k.writes k.Follows k.IsTrusted (λ (spread : Spread). spread.changed) old new result (λ first spread last. IsSpreadAll first last spread.changed)
+
+  -- Those of one attribute are.
+  abbrev pub Sweeps : Which → Result ℕ SpreadFault → Type 0
+  Sweeps which result = IsCarriedDown k.rows k.failures k.writes k.Follows k.IsTrusted {X = ℕ} (λ changed. changed) old new result (λ first changed last. IsSwept which first last changed)

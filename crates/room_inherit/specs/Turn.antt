@@ -1,18 +1,19 @@
 -- One object's children, and what they are to inherit from it.
-use Rattle.std.specs.Prelude.{◌≡◌, ℕ, ◌==◌, ◌&&◌, Bool, true, false, not, List, [], ◌∷◌, map, filter, Option, Some, None, if◌then◌else◌}
+use Rattle.std.specs.Prelude.{◌≡◌, ℕ, ◌==◌, ◌&&◌, Bool, true, false, not, List, [], ◌∷◌, ◌++◌, length, map, filter, Option, Some, None, if◌then◌else◌}
 use Rattle.std.specs.List.{list_any}
 use Rattle.room_ace.specs.Ace.{Ace}
 use Rattle.room_ace.specs.Same.{same_entries}
+use Rattle.room_ace.specs.declared.object.ObjKind.{ObjKind}
+use Rattle.room_ace.specs.declared.object.ObjKind.TheVariants.{Document, Folder}
 use Rattle.room_ace.specs.declared.object.Which.{Which}
-use Rattle.room_tree.specs.declared.keep.KeepFault.TheVariants.{Memory, Store, Damaged}
-use Rattle.room_tree.specs.declared.node.Node.{Node}
-use Rattle.room_tree.specs.Content.{Content, node_at, children_of, has_parent, put_node, with_each}
-use Rattle.room_tree.specs.Held.{held_of, full_of, is_linked}
-use Rattle.room_tree.specs.Keep.{reading, with_inh}
-use Rattle.room_tree.specs.Rows.{Rows}
+use Rattle.room_rows.specs.declared.node.Node.{Node}
+use Rattle.room_rows.specs.Content.{Content, node_at, children_of, has_parent, put_node, with_each}
+use Rattle.room_rows.specs.HeldList.{Held}
+use Rattle.room_rows.specs.Held.{held_of, full_of, is_linked}
+use Rattle.room_rows.specs.Keep.{reading, with_inh}
+use Rattle.room_rows.specs.Rows.{Rows}
 use Rattle.room_inherit.specs.Pass.{pass}
-use Rattle.room_inherit.specs.declared.outcome.SpreadFault.{SpreadFault}
-use Rattle.room_inherit.specs.declared.outcome.SpreadFault.TheVariants.{Keeper, Loop}
+use Rattle.room_inherit.specs.declared.passed.Passed.{Passed}
 
 abbrev pub is_linked_to : Which → Node → Node → Bool
 is_linked_to which above node = is_linked (held_of which node) (Some (held_of which above))
@@ -31,6 +32,10 @@ is_outdated which above node = is_linked_to which above node && not (same_entrie
 abbrev pub renewal : Which → Node → Node → Option Node
 renewal which above node = if is_outdated which above node then Some (renewed which above node) else None
 
+-- the list of an outdated object, as it is to be
+abbrev pub renewed_list : Which → Node → Node → Option Held
+renewed_list which above node = if is_outdated which above node then Some (record (held_of which node) { inh = passed_to which above node }) else None
+
 -- those of the children that are outdated, as they are to be
 abbrev pub renewals : Which → Node → List Node → List Node
 renewals which above nodes = map (renewed which above) (filter (is_outdated which above) nodes)
@@ -41,13 +46,6 @@ is_met_again which start above node = (node.id == start) && is_linked_to which a
 
 abbrev pub meets_again : Which → ℕ → Node → List Node → Bool
 meets_again which start above nodes = list_any (is_met_again which start above) nodes
-
--- want of memory, or else a loop
-abbrev pub IsMemoryOr : Type 0 → SpreadFault → Type 0
-IsMemoryOr loops (Keeper Memory) = Unit {0}
-IsMemoryOr loops (Keeper Store) = ⊥
-IsMemoryOr loops (Keeper (Damaged id)) = ⊥
-IsMemoryOr loops Loop = loops
 
 -- ---- rows with other objects
 
@@ -82,3 +80,23 @@ pub record IsTurn (which : Which) (start : ℕ) (above : Node) (old : Rows) (nex
 
 abbrev pub MeetsAgain : Which → ℕ → Node → Rows → Type 0
 MeetsAgain which start above rows = meets_again which start above (children_of rows.read above.id) ≡ true
+
+-- One object's children renewed, and these or others put behind those that wait.
+pub record IsVisit (which : Which) (start : ℕ) (above : Node) (waits_next : Rows → List Node → List Node) (before after : List Node) (old : Rows) (written : ℕ) (new : Rows) : Type 0 where
+  pub next : List Node
+  pub turn : IsTurn which start above old next new
+  pub counted : written ≡ length next
+  pub waits : after ≡ before ++ waits_next new next
+
+-- the renewed ones wait next
+abbrev pub renewed_ones : Rows → List Node → List Node
+renewed_ones new renewed = renewed
+
+-- what a list passes to the children of a kind
+abbrev pub to_kind : Passed → ObjKind → List Ace
+to_kind passed Document = passed.to_documents
+to_kind passed Folder = passed.to_folders
+
+-- to children of either kind goes what a list of these entries passes
+abbrev pub IsPassed : List Ace → Passed → Type 0
+IsPassed entries passed = (kind : ObjKind) → to_kind passed kind ≡ pass kind entries

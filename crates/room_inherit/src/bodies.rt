@@ -1,12 +1,13 @@
 //! Whether the bytes are as the kinds of the objects ask.
 ghost use Rattle.std.specs.Prelude.{◌≡◌, List, ℕ, Option};
-ghost use Rattle.room_tree.specs.Keep.{IsNever, IsRead};
+ghost use Rattle.room_rows.specs.Calls.{Reads};
+ghost use Rattle.room_rows.specs.Keep.{IsNever};
 ghost use Rattle.room_inherit.specs.Reading.{IsBadBody};
 ghost use Rattle.room_inherit.specs.Sound.{fits_kind};
 
 use crate::objects::Objects;
 use room_ace::ObjKind;
-use room_tree::{Bytes, Keep, KeepFault, Node};
+use room_rows::{Bytes, Keep, KeepFault, Node};
 
 /// The most bytes that a document has.
 const MOST_BYTES: usize = 1_048_576;
@@ -16,7 +17,7 @@ pub(crate) fn first_bad_body<'a, K: Keep>(
     keep: &mut K,
     objects: &'a Objects,
 ) -> Result<Option<&'a Node>, KeepFault>
-    ensures read { IsRead K.rows K.failures K.writes K.Follows K.IsTrusted keep.old keep.new result IsNever (IsBadBody objects.now) }
+    ensures read { Reads K.Keep keep.old keep.new result IsNever (IsBadBody objects.now) }
 {
     'nodes: for node in objects.as_slice() {
         let body = keep.body(node.id)?;

@@ -6,11 +6,11 @@ ghost use Rattle.room_inherit.specs.Law.{agrees_with};
 ghost use Rattle.room_inherit.specs.Objects.{only};
 ghost use Rattle.room_inherit.specs.Sound.{first_failing, keeps_law};
 
-use crate::inheriting::linked;
+use crate::inheriting::{stores, takes_from};
 use crate::objects::Objects;
 use crate::passing::pass;
 use room_ace::Which;
-use room_tree::Node;
+use room_rows::Node;
 use std::alloc::{AllocError, Global};
 
 impl Objects {
@@ -49,10 +49,9 @@ fn agree_with(alloc: Global, node: &Node, parent: &Node) -> Result<bool, AllocEr
 fn agrees_with(alloc: Global, node: &Node, parent: &Node, which: Which) -> Result<bool, AllocError>
     ensures { IfOk result (λ agrees. agrees ≡ agrees_with which node.now parent.now) }
 {
-    if !linked(node, Some(parent), which) {
+    if !takes_from(node, parent, which) {
         return Ok(true);
     }
-    let full = parent.held(which).full()?;
-    let passed = pass(alloc, node.kind, full.as_slice())?;
-    Ok(node.held(which).inh.is_same(passed.as_slice()))
+    let passed = pass(alloc, node.kind, parent.held(which).full())?;
+    Ok(stores(node.held(which), &passed))
 }

@@ -5,7 +5,7 @@ ghost use Rattle.room_ace.specs.Valid.{entry_fault};
 ghost use Rattle.room_inherit.specs.Sound.{has_sound_lists, is_sound_held};
 
 use room_ace::{Entry, ObjKind, Which, valid};
-use room_tree::{Held, Node};
+use room_rows::{Held, Node};
 
 /// The most entries of its own that a list has.
 const MOST_OWN: usize = 64;
@@ -22,8 +22,8 @@ pub(crate) fn has_sound_lists(node: &Node) -> bool
 fn is_sound_held(which: Which, kind: ObjKind, held: &Held) -> bool
     ensures { result ≡ is_sound_held which kind held.now }
 {
-    let own = held.own.as_slice();
-    let inh = held.inh.as_slice();
+    let own = held.own();
+    let inh = held.inh();
     own.len() <= MOST_OWN
         && are_own(own)
         && are_inherited(inh)

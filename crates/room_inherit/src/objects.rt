@@ -1,11 +1,11 @@
 //! All objects of the rows.
 ghost use Rattle.std.specs.Prelude.{◌≡◌, false, IsTrue, MatchOption};
 ghost use Rattle.std.specs.Option.{option_copied};
-ghost use Rattle.room_tree.specs.Content.{parent_of};
-ghost use Rattle.room_tree.specs.Finding.{find_id};
+ghost use Rattle.room_rows.specs.Content.{parent_of};
+ghost use Rattle.room_rows.specs.Finding.{find_id};
 ghost use Rattle.room_inherit.specs.Objects.{are_rising, only};
 
-use room_tree::{Node, Nodes};
+use room_rows::{Node, Nodes};
 use std::marker::Model;
 
 /// Objects in rising order of their numbers. A contract sees the list of them.
@@ -16,7 +16,7 @@ pub(crate) struct Objects {
 
 impl Model for Objects {
     ghost use Rattle.std.specs.Prelude.{List, IsTrue};
-    ghost use Rattle.room_tree.specs.declared.node.Node.{Node};
+    ghost use Rattle.room_rows.specs.declared.node.Node.{Node};
     ghost use Rattle.room_inherit.specs.Objects.{are_rising};
 
     ghost Value = { List Node };

@@ -1,10 +1,11 @@
 //! A change of a list carried down to what is stored below.
-ghost use Rattle.room_inherit.specs.Spread.{IsCarried, IsOwnAncestor, IsSpread};
+ghost use Rattle.room_inherit.specs.Spread.{Carries, Holds, Spreads, SpreadsIf};
+ghost use Rattle.room_inherit.specs.Turn.{IsVisit, MeetsAgain, renewed_ones};
 
 use crate::outcome::{Spread, SpreadFault};
 use crate::turn::renew_children;
 use room_ace::Which;
-use room_tree::{Keep, KeepFault};
+use room_rows::{Keep, KeepFault, Node};
 use std::alloc::Global;
 
 /// Brings the stored inherited entries below the object up to date, for one of the lists: each
@@ -17,29 +18,59 @@ pub fn spread<K: Keep>(
     id: u64,
     which: Which,
 ) -> Result<Spread, SpreadFault>
-    ensures spread { IsCarried K.rows K.failures K.writes K.Follows K.IsTrusted (λ spread. spread.changed) keep.old keep.new result (λ rows. IsOwnAncestor rows.read id) (λ old spread new. IsSpread which id old new spread.changed) }
+    ensures spread { Spreads K.Keep keep.old keep.new which id result }
 {
+    match keep.node(id)? {
+        None => Ok(Spread { changed: 0 }),
+        Some(start) => spread_from(alloc, keep, &start, which),
+    }
+}
+
+// The same from an object of the rows. How many turns there are at most is asked where some are left.
+fn spread_from<K: Keep>(
+    alloc: Global,
+    keep: &mut K,
+    start: &Node,
+    which: Which,
+) -> Result<Spread, SpreadFault>
+    ensures spread { SpreadsIf K.Keep keep.old keep.new (Holds start.now) which start.now.id result }
+{
+    let mut waiting = renew_children(alloc, keep, start.id, start, which)?;
+    let mut changed = waiting.len() as u64;
+    if waiting.is_empty() {
+        return Ok(Spread { changed });
+    }
     let most = keep.ids()?.as_slice().len();
-    let Some(start) = keep.node(id)? else {
-        return Ok(Spread { changed: 0 });
-    };
-    let mut waiting = Vec::new(alloc);
-    waiting.push(start)?;
-    let mut changed: u64 = 0;
-    'turns: for _turn in 0..most {
+    'turns: for _turn in 1..most {
         let Some(above) = waiting.pop() else {
             return Ok(Spread { changed });
         };
-        let renewed = renew_children(alloc, keep, id, &above, which);
+        let visited = visit_renewed(alloc, keep, start.id, &above, which, &mut waiting);
         // Let go here, and so not part by part on each way out.
         drop(above);
-        let mut next = renewed?;
-        changed = changed.saturating_add(next.len() as u64);
-        waiting.append(&mut next)?;
+        changed = changed.saturating_add(visited?);
     }
     if waiting.is_empty() {
         Ok(Spread { changed })
     } else {
-        Err(SpreadFault::Keeper(KeepFault::Damaged { id }))
+        Err(SpreadFault::Keeper(KeepFault::Damaged { id: start.id }))
     }
+}
+
+// Renews the outdated children of an object, says how many they are, and puts them behind those that
+// wait.
+fn visit_renewed<K: Keep>(
+    alloc: Global,
+    keep: &mut K,
+    start: u64,
+    above: &Node,
+    which: Which,
+    waiting: &mut Vec<Node>,
+) -> Result<u64, SpreadFault>
+    ensures visit { Carries K.Keep keep.old keep.new (λ written. written) result (MeetsAgain which start above.now) (IsVisit which start above.now renewed_ones waiting.old.items waiting.new.items) }
+{
+    let mut next = renew_children(alloc, keep, start, above, which)?;
+    let written = next.len() as u64;
+    waiting.append(&mut next)?;
+    Ok(written)
 }

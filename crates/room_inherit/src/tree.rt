@@ -1,14 +1,14 @@
 //! Whether the objects stand below one another as they should.
 ghost use Rattle.std.specs.Prelude.{◌≡◌, IfOk, filter};
 ghost use Rattle.std.specs.Option.{option_copied};
-ghost use Rattle.room_tree.specs.Content.{has_folder_above, is_root};
+ghost use Rattle.room_rows.specs.Content.{has_folder_above, is_root};
 ghost use Rattle.room_inherit.specs.Objects.{only};
 ghost use Rattle.room_inherit.specs.Sound.{bad_root, first_failing, has_sound_name, reaches, tree_fault};
 
 use crate::objects::Objects;
 use crate::report::{Report, Unsound, fault_of_number};
 use room_ace::ObjKind;
-use room_tree::{Node, is_object_name};
+use room_rows::{Node, is_object_name};
 use std::alloc::{AllocError, Global};
 use std::collections::BTreeSet;
 

@@ -1,13 +1,13 @@
 //! The names that lead to an object.
 ghost use Rattle.std.specs.Prelude.{◌≡◌, ◌∷◌, ◌++◌, IfOk, OnOk, length, reverse, string_bytes};
 ghost use Rattle.std.specs.List.{flat_map};
-ghost use Rattle.room_tree.specs.Paths.{path_text};
+ghost use Rattle.room_rows.specs.Paths.{path_text};
 ghost use Rattle.room_inherit.specs.Objects.{only};
 ghost use Rattle.room_inherit.specs.Sound.{names_up, true_path};
 
 use crate::objects::Objects;
 use crate::report::{Report, Unsound};
-use room_tree::{Node, Text};
+use room_rows::{Node, Text};
 use std::alloc::{AllocError, Global};
 
 impl Objects {

@@ -1,12 +1,13 @@
 //! Whether the rows of a keeper are sound.
-ghost use Rattle.room_tree.specs.Keep.{IsNever, IsRead};
-ghost use Rattle.room_inherit.specs.Reading.{IsReport, IsReportOf};
+ghost use Rattle.room_rows.specs.Calls.{Reads};
+ghost use Rattle.room_rows.specs.Keep.{IsNever};
+ghost use Rattle.room_inherit.specs.Reading.{IsReport, IsReportOf, Looks};
 
+use crate::all_nodes::read_all;
 use crate::bodies::first_bad_body;
 use crate::objects::Objects;
-use crate::reading::{Reading, read_all};
 use crate::report::{Report, Unsound, fault_of_number};
-use room_tree::{Keep, KeepFault};
+use room_rows::{Keep, KeepFault};
 use std::alloc::Global;
 
 /// Whether the rows are sound, or the first fault of seven tests, each over all numbers in rising order:
@@ -14,11 +15,12 @@ use std::alloc::Global;
 /// parent's list. The fault's path is `?` and a number in the first four, and in the others the true
 /// path. Nothing is written. `Damaged` comes only where the keeper contradicts itself.
 pub fn verify<K: Keep>(alloc: Global, keep: &mut K) -> Result<Report, KeepFault>
-    ensures read { IsRead K.rows K.failures K.writes K.Follows K.IsTrusted keep.old keep.new result IsNever IsReport }
+    ensures look { Looks K.Keep keep.old keep.new result IsReport }
 {
-    match read_all(alloc, keep)? {
-        Reading::BadList(id) => Ok(fault_of_number(alloc, id, Unsound::BadList)?),
-        Reading::All(nodes) => match Objects::new(nodes) {
+    match read_all(alloc, keep) {
+        Err(KeepFault::Damaged { id }) => Ok(fault_of_number(alloc, id, Unsound::BadList)?),
+        Err(fault) => Err(fault),
+        Ok(nodes) => match Objects::new(nodes) {
             None => Err(KeepFault::Damaged { id: 0 }),
             Some(objects) => report_on(alloc, keep, &objects),
         },
@@ -27,7 +29,7 @@ pub fn verify<K: Keep>(alloc: Global, keep: &mut K) -> Result<Report, KeepFault>
 
 // The report on rows that have these objects, where all can be read and no list is bad.
 fn report_on<K: Keep>(alloc: Global, keep: &mut K, objects: &Objects) -> Result<Report, KeepFault>
-    ensures read { IsRead K.rows K.failures K.writes K.Follows K.IsTrusted keep.old keep.new result IsNever (IsReportOf objects.now) }
+    ensures read { Reads K.Keep keep.old keep.new result IsNever (IsReportOf objects.now) }
 {
     match objects.tree_fault(alloc)? {
         Some(report) => return Ok(report),

@@ -1,13 +1,12 @@
 //! All lists carried down from the root.
-ghost use Rattle.std.specs.Prelude.{◌≡◌, ◌++◌, IfErr, OnOk};
-ghost use Rattle.room_inherit.specs.Spread.{IsCarried};
-ghost use Rattle.room_inherit.specs.SpreadAll.{IsCarriedDown, IsSpreadAll, IsSwept, IsVisit};
-ghost use Rattle.room_inherit.specs.Turn.{MeetsAgain};
+ghost use Rattle.room_inherit.specs.Spread.{Carries};
+ghost use Rattle.room_inherit.specs.SpreadAll.{SpreadsAll, Sweeps, all_of};
+ghost use Rattle.room_inherit.specs.Turn.{IsVisit, MeetsAgain};
 
 use crate::outcome::{Spread, SpreadFault};
 use crate::turn::renew_children;
 use room_ace::Which;
-use room_tree::{Keep, KeepFault, Node};
+use room_rows::{Keep, KeepFault, Node};
 use std::alloc::Global;
 
 /// Brings the stored inherited entries of every linked object up to date, for both lists, from the
@@ -15,7 +14,7 @@ use std::alloc::Global;
 /// rows are a tree: one object has no parent, and the parents of each lead to it. `changed` counts
 /// the lists that became different.
 pub fn spread_all<K: Keep>(alloc: Global, keep: &mut K) -> Result<Spread, SpreadFault>
-    ensures spread { IsCarriedDown K.rows K.failures K.writes K.Follows K.IsTrusted (λ spread. spread.changed) keep.old keep.new result (λ old spread new. IsSpreadAll old new spread.changed) }
+    ensures spread { SpreadsAll K.Keep keep.old keep.new result }
 {
     let dacls = sweep(alloc, keep, Which::Dacl)?;
     let sacls = sweep(alloc, keep, Which::Sacl)?;
@@ -27,7 +26,7 @@ pub fn spread_all<K: Keep>(alloc: Global, keep: &mut K) -> Result<Spread, Spread
 // Goes through the tree from the root down, and stores in each linked object what its parent's list
 // passes to it, for one of the lists. It answers how many lists became different.
 fn sweep<K: Keep>(alloc: Global, keep: &mut K, which: Which) -> Result<u64, SpreadFault>
-    ensures swept { IsCarriedDown K.rows K.failures K.writes K.Follows K.IsTrusted (λ changed. changed) keep.old keep.new result (λ old changed new. IsSwept which old new changed) }
+    ensures swept { Sweeps K.Keep keep.old keep.new which result }
 {
     let most = keep.ids()?.as_slice().len();
     let root = keep.root()?;
@@ -39,7 +38,7 @@ fn sweep<K: Keep>(alloc: Global, keep: &mut K, which: Which) -> Result<u64, Spre
         let Some(above) = waiting.pop() else {
             return Ok(changed);
         };
-        let visited = visit_children(alloc, keep, start, &above, which, &mut waiting);
+        let visited = visit_all(alloc, keep, start, &above, which, &mut waiting);
         // Let go here, and so not part by part on each way out.
         drop(above);
         let written = visited?;
@@ -54,7 +53,7 @@ fn sweep<K: Keep>(alloc: Global, keep: &mut K, which: Which) -> Result<u64, Spre
 
 // Renews the outdated children of an object, says how many they were, and puts all its children
 // behind those that wait.
-fn visit_children<K: Keep>(
+fn visit_all<K: Keep>(
     alloc: Global,
     keep: &mut K,
     start: u64,
@@ -62,21 +61,10 @@ fn visit_children<K: Keep>(
     which: Which,
     waiting: &mut Vec<Node>,
 ) -> Result<u64, SpreadFault>
-    ensures visit { IsCarried K.rows K.failures K.writes K.Follows K.IsTrusted (λ written. written) keep.old keep.new result (MeetsAgain which start above.now) (IsVisit which start above.now waiting.old.items waiting.new.items) }
+    ensures visit { Carries K.Keep keep.old keep.new (λ written. written) result (MeetsAgain which start above.now) (IsVisit which start above.now (all_of above.now) waiting.old.items waiting.new.items) }
 {
     let written = renew_children(alloc, keep, start, above, which)?.len() as u64;
-    let children = keep.children(above.id)?;
-    push_copies(waiting, children.as_slice())?;
+    let mut children = keep.children(above.id)?.into_vec();
+    waiting.append(&mut children)?;
     Ok(written)
-}
-
-// Puts copies of the objects behind the others.
-fn push_copies(waiting: &mut Vec<Node>, nodes: &[Node]) -> Result<(), SpreadFault>
-    ensures ok { OnOk result (waiting.new.items ≡ waiting.old.items ++ nodes.now) }
-    ensures memory { IfErr result (λ fault. fault ≡ SpreadFault.Keeper KeepFault.Memory) }
-{
-    'nodes: for node in nodes {
-        waiting.push(node.copy()?)?;
-    }
-    Ok(())
 }

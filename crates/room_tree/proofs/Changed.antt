@@ -6,19 +6,20 @@ use Rattle.std.proofs.lemmas.Bool.{cases_Bool, false≢true, eq-eqb, cond-true, 
 use Rattle.room_ace.specs.Valid.{is_document}
 use Rattle.room_ace.specs.declared.object.Which.{Which}
 use Rattle.room_ace.specs.declared.object.Which.TheVariants.{Dacl, Sacl}
-use Rattle.room_tree.specs.declared.keep.KeepFault.{KeepFault}
-use Rattle.room_tree.specs.declared.keep.KeepFault.TheVariants.{Memory}
-use Rattle.room_tree.specs.declared.node.AuditRow.{AuditRow}
-use Rattle.room_tree.specs.declared.node.Held.{Held}
-use Rattle.room_tree.specs.declared.node.NewNode.{NewNode}
-use Rattle.room_tree.specs.declared.node.Node.{Node}
-use Rattle.room_tree.specs.Content.{put_body, put_node, is_rising, without_node}
-use Rattle.room_tree.specs.Finding.{find_id}
-use Rattle.room_tree.specs.Held.{with_held}
-use Rattle.room_tree.specs.Keep.{Changes, HasCause, node_of, reading, with_new, writes_after}
+use Rattle.room_ace.specs.declared.parties.Owners.{Owners}
+use Rattle.room_rows.specs.declared.keep.KeepFault.{KeepFault}
+use Rattle.room_rows.specs.declared.keep.KeepFault.TheVariants.{Memory}
+use Rattle.room_rows.specs.declared.node.AuditRow.{AuditRow}
+use Rattle.room_rows.specs.HeldList.{Held}
+use Rattle.room_rows.specs.declared.node.NewNode.{NewNode}
+use Rattle.room_rows.specs.declared.node.Node.{Node}
+use Rattle.room_rows.specs.Content.{put_body, put_node, is_rising, without_node}
+use Rattle.room_rows.specs.Finding.{find_id}
+use Rattle.room_rows.specs.Held.{with_held}
+use Rattle.room_rows.specs.Keep.{Changes, HasCause, node_of, reading, with_new, with_owners, writes_after}
 use Rattle.room_tree.specs.Memory.{memory_rows}
 use Rattle.room_tree.specs.Objects.{StandsAsBefore, greatest}
-use Rattle.room_tree.specs.Rows.{AreRows}
+use Rattle.room_rows.specs.Rows.{AreRows}
 use Rattle.room_tree.proofs.Found.{same_object, found_id, found_put, found_above}
 use Rattle.room_tree.proofs.Kept.{put_rows, body_rows, removed_rows}
 use Rattle.room_tree.proofs.Tying.{no_less}
@@ -49,6 +50,10 @@ stands_held which held nodes id node new found is = subst (λ (n : Node). Stands
     at : (w : Which) → StandsAsBefore (with_held w held node) nodes
     at Dacl = record { before = node; is_there = found_itself nodes id node found; same_parent = refl; same_name = refl }
     at Sacl = record { before = node; is_there = found_itself nodes id node found; same_parent = refl; same_name = refl }
+
+pub stands_owned : (owners : Owners) (nodes : List Node) (id : ℕ) (node new : Node) → find_id id nodes ≡ Some node → new ≡ with_owners owners node → StandsAsBefore new nodes
+stands_owned owners nodes id node new found is =
+    subst (λ (n : Node). StandsAsBefore n nodes) (sym is) (record { before = node; is_there = found_itself nodes id node found; same_parent = refl; same_name = refl })
 
 number_above : (nodes : List Node) (id : ℕ) (node : Node) → is_rising (0 ∷ map (λ (n : Node). n.id) nodes) ≡ true → find_id id nodes ≡ Some node → 0 < node.id
 number_above nodes id node rises found = found_above (λ (m : Node). m.id == id) 0 nodes node rises found

@@ -4,9 +4,9 @@ use Rattle.std.specs.Prelude.{is_none}
 use Rattle.std.specs.List.{find}
 use Rattle.std.specs.Option.{option_map_or}
 use Rattle.std.proofs.lemmas.Bool.{cases_Bool, cases_order, false≢true, and_parts, and_from, and_left, and_right, eqb-true, eqb-false, ne_eqb, eq-eqb, ltb-true, lt-ltb, le-ltb, cond-true, cond-false}
-use Rattle.room_tree.specs.declared.node.Node.{Node}
-use Rattle.room_tree.specs.Content.{put_node, is_rising}
-use Rattle.room_tree.specs.Finding.{find_id}
+use Rattle.room_rows.specs.declared.node.Node.{Node}
+use Rattle.room_rows.specs.Content.{put_node, is_rising}
+use Rattle.room_rows.specs.Finding.{find_id}
 
 abbrev ids_of : List Node → List ℕ
 ids_of nodes = map (λ (n : Node). n.id) nodes

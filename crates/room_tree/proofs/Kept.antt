@@ -11,12 +11,12 @@ use Rattle.std.specs.declared.cmp.Ordering.TheVariants.{Less}
 use Rattle.std.proofs.lemmas.Bool.{cases_Bool, cases_order, false≢true, not-true, and_parts, and_from, or_cases, or_left, or_right, eqb-true, eqb-false, ne_eqb, eq-eqb, ltb-true, lt-ltb, le-ltb, cond-true, cond-false}
 use Rattle.std.proofs.lemmas.Map.Keys.{sorted_head, sorted_tail}
 use Rattle.room_ace.specs.Pieces.{is_among}
-use Rattle.room_tree.specs.declared.node.Node.{Node}
-use Rattle.room_tree.specs.declared.node.AuditRow.{AuditRow}
-use Rattle.room_tree.specs.Content.{body_in, is_rising, put_body, put_node, set_of}
-use Rattle.room_tree.specs.Finding.{find_id}
+use Rattle.room_rows.specs.declared.node.Node.{Node}
+use Rattle.room_rows.specs.declared.node.AuditRow.{AuditRow}
+use Rattle.room_rows.specs.Content.{body_in, is_rising, put_body, put_node, set_of}
+use Rattle.room_rows.specs.Finding.{find_id}
 use Rattle.room_tree.specs.Memory.{memory_rows}
-use Rattle.room_tree.specs.Rows.{AreRows}
+use Rattle.room_rows.specs.Rows.{AreRows}
 use Rattle.room_tree.proofs.Found.{put_rises, filter_rises}
 use Rattle.room_tree.proofs.Numbered.{is_key, cmp_less, cmp_equal, cmp_greater, less_below}
 

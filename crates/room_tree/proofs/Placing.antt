@@ -15,7 +15,7 @@ use Rattle.std.proofs.lemmas.Map.Text.{is_eq-slice_cmp}
 use Rattle.room_ace.specs.Pieces.{same_text}
 use Rattle.room_tree.specs.Places.{text_place, is_place, id_at, places_under, Lists, KeepsOtherPlaces}
 use Rattle.room_tree.proofs.Numbered.{cmp_less, cmp_equal, cmp_greater}
-use Rattle.room_tree.proofs.Listing.{place_cmp, same_bytes}
+use Rattle.room_tree.proofs.Listed.{place_cmp, same_bytes}
 
 lookup_same : {K X : Type 0} (t u : K → Bool) → ((k : K) → t k ≡ u k) → (es : List (K × X)) → lookup t es ≡ lookup u es
 lookup_same t u same [] = refl

@@ -5,24 +5,28 @@ use Rattle.std.specs.BTreeMap.{insert_entry}
 use Rattle.std.specs.List.{cons_option, list_all}
 use Rattle.std.specs.List.Sorted.{IsStrictlySortedBy}
 use Rattle.std.specs.Map.{lookup, remove_entry, keys_of, values_of}
-use Rattle.std.specs.Option.{IsSome, SomeIff, MatchOption, option_map, option_map_or}
+use Rattle.std.specs.Option.{IsSome, SomeIff, MatchOption, option_map, option_map_or, option_to_list}
 use Rattle.std.specs.Ordering.{nat_cmp, is_eq, is_lt}
 use Rattle.std.proofs.lemmas.Bool.{cases_Bool, cases_lt, false≢true, true≢false, and_parts, and_from, eqb-true, eqb-false, eq-eqb, lt-ltb, cond-true, cond-false, false_from_ne_true}
 use Rattle.std.proofs.lemmas.Map.Keys.{ge_from_not_lt}
 use Rattle.room_ace.specs.Pieces.{same_text}
-use Rattle.room_tree.specs.declared.node.Node.{Node}
-use Rattle.room_tree.specs.Content.{put_node, is_rising, has_parent, sorted_by_name}
-use Rattle.room_tree.specs.Finding.{find_id, find_named}
-use Rattle.room_tree.specs.Objects.{AreTied, StandsAsBefore, greatest, place_of}
+use Rattle.room_ace.specs.declared.object.ObjKind.{ObjKind}
+use Rattle.room_rows.specs.declared.node.Node.{Node}
+use Rattle.room_rows.specs.Content.{put_node, is_rising, has_parent, sorted_by_name}
+use Rattle.room_rows.specs.Finding.{find_id, find_named}
+use Rattle.room_tree.specs.Objects.{AreTied, StandsAsBefore, greatest, is_numbered, named_kind, place_of}
 use Rattle.room_tree.specs.Places.{text_place, standing, standing_under, is_same_place, id_at, places_under, Lists, KeepsOtherPlaces}
 use Rattle.room_tree.proofs.Found.{same_object, found_id, found_above, found_put, found_without, some_passes, put_rises, filter_rises, failing}
-use Rattle.room_tree.proofs.Listing.{same_bytes, same_itself, parent_has, all_listed, named_none, named_some, children_are, place_cmp}
+use Rattle.room_tree.proofs.Listed.{same_bytes, same_itself, parent_has, all_listed, named_none, named_some, children_are, place_cmp}
 use Rattle.room_tree.proofs.Numbered.{is_keyed, lookup_at, inserted, inserted_keyed, removed, removed_keyed}
 
 -- what holds after a call, whether it was refused or not
 pub settled : {X E P Q : Type 0} (r : Result X E) → OnOk r P → OnErr r Q → (Q → P) → P
 settled (Ok x) done refused so = done
 settled (Err e) done refused so = so refused
+
+pub not_none : {X : Type 0} (o : Option X) → is_some o ≡ true → o ≡ None → ⊥
+not_none o some none = false≢true (sym (ap is_some none) ∙ some)
 
 -- one more, where that fits
 pub next_is : (r : Option ℕ) (last most : ℕ) → last ≡ most → SomeIff r (last + 1 < 18446744073709551616) (last + 1) → MatchOption r (18446744073709551616 ≤ most + 1) (λ n. n ≡ most + 1)
@@ -99,13 +103,34 @@ module _ {Y : Type 0} where
       ap (λ (l : List Node). standing_under parent l some) (sym view) ∙ children_are parent places some (values_of es) 0 sorted tied.rising (all_listed places 0 (values_of es) tied.rising tied.listed) same
       ∙ ap (λ (l : List Node). sorted_by_name (filter (has_parent parent) l)) view
 
-  -- one more child that stands where it is listed
-  pub child_more : (found : List Node) (parent : ℕ) (nodes : List Node) (e : (ℕ × String Y) × ℕ) (left rest : List ((ℕ × String Y) × ℕ)) (node : Node) (all : List Node) → left ≡ e ∷ rest → e.0.0 ≡ parent → standing e.1 parent (string_bytes e.0.1) nodes ≡ Some node
-      → found ++ standing_under parent nodes left ≡ all → (found ++ node ∷ []) ++ standing_under parent nodes rest ≡ all
-  child_more found parent nodes e left rest node all step under stands sofar =
-      append_assoc found (node ∷ []) (standing_under parent nodes rest)
-      ∙ ap (λ (l : List Node). found ++ l) (sym (ap (standing_under parent nodes) step ∙ cond-true _ _ _ (eq-eqb e.0.0 parent under) ∙ ap (λ o. cons_option o (standing_under parent nodes rest)) stands))
+  -- one more child, if one stands where it is listed
+  with_next : (parent : ℕ) (nodes : List Node) (e : (ℕ × String Y) × ℕ) (left rest : List ((ℕ × String Y) × ℕ)) (next : Option Node) → left ≡ e ∷ rest → e.0.0 ≡ parent → standing e.1 parent (string_bytes e.0.1) nodes ≡ next
+      → standing_under parent nodes left ≡ option_to_list next ++ standing_under parent nodes rest
+  with_next parent nodes e left rest next step under stands =
+      ap (standing_under parent nodes) step ∙ cond-true _ _ _ (eq-eqb e.0.0 parent under) ∙ ap (λ o. cons_option o (standing_under parent nodes rest)) stands ∙ as_list next
+    where
+      as_list : (o : Option Node) → cons_option o (standing_under parent nodes rest) ≡ option_to_list o ++ standing_under parent nodes rest
+      as_list None = refl
+      as_list (Some n) = refl
+
+  pub child_more : (found : List Node) (parent : ℕ) (nodes : List Node) (e : (ℕ × String Y) × ℕ) (left rest : List ((ℕ × String Y) × ℕ)) (next : Option Node) (all : List Node) → left ≡ e ∷ rest → e.0.0 ≡ parent → standing e.1 parent (string_bytes e.0.1) nodes ≡ next
+      → found ++ standing_under parent nodes left ≡ all → (found ++ option_to_list next) ++ standing_under parent nodes rest ≡ all
+  child_more found parent nodes e left rest next all step under stands sofar =
+      append_assoc found (option_to_list next) (standing_under parent nodes rest)
+      ∙ ap (λ (l : List Node). found ++ l) (sym (with_next parent nodes e left rest next step under stands))
       ∙ sofar
+
+  pub named_more : (found : List (List ℕ × ObjKind)) (parent : ℕ) (nodes : List Node) (e : (ℕ × String Y) × ℕ) (left rest : List ((ℕ × String Y) × ℕ)) (next : Option Node) (all : List (List ℕ × ObjKind)) → left ≡ e ∷ rest → e.0.0 ≡ parent → standing e.1 parent (string_bytes e.0.1) nodes ≡ next
+      → found ++ map named_kind (standing_under parent nodes left) ≡ all → (found ++ map named_kind (option_to_list next)) ++ map named_kind (standing_under parent nodes rest) ≡ all
+  named_more found parent nodes e left rest next all step under stands sofar =
+      append_assoc found (map named_kind (option_to_list next)) (map named_kind (standing_under parent nodes rest))
+      ∙ ap (λ (l : List (List ℕ × ObjKind)). found ++ l) (apart next)
+      ∙ ap (λ (l : List Node). found ++ map named_kind l) (sym (with_next parent nodes e left rest next step under stands))
+      ∙ sofar
+    where
+      apart : (o : Option Node) → map named_kind (option_to_list o) ++ map named_kind (standing_under parent nodes rest) ≡ map named_kind (option_to_list o ++ standing_under parent nodes rest)
+      apart None = refl
+      apart (Some n) = refl
 
   -- the place of an object
   pub place_is : (place : ℕ × String Y) (nodes : List Node) (id : ℕ) (node : Node) (parent : ℕ) → find_id id nodes ≡ Some node → node.parent ≡ Some parent → place.0 ≡ parent → string_bytes place.1 ≡ node.name
@@ -181,6 +206,9 @@ module _ {Y : Type 0} where
   -- a call that can't be refused at a number that is there
   pub there : (es : List (ℕ × Node)) (places : List ((ℕ × String Y) × ℕ)) (nodes : List Node) (id : ℕ) → AreTied es places → values_of es ≡ nodes → is_some (find_id id nodes) ≡ true → lookup (λ k. is_eq (nat_cmp id k)) es ≡ None → ⊥
   there es places nodes id tied view is none = false≢true (ap is_some (found_at id es places nodes None tied view (sym none)) ∙ is)
+
+  pub still_there : (es : List (ℕ × Node)) (places : List ((ℕ × String Y) × ℕ)) (nodes : List Node) (id : ℕ) → AreTied es places → values_of es ≡ nodes → is_some (find_id id nodes) ≡ true → is_numbered id es ≡ true
+  still_there es places nodes id tied view is = ap is_some (found_at id es places nodes _ tied view refl) ∙ is
 
   above_zero : (es : List (ℕ × Node)) (places : List ((ℕ × String Y) × ℕ)) (nodes : List Node) (id : ℕ) → AreTied es places → values_of es ≡ nodes → is_some (find_id id nodes) ≡ true → 0 < id
   above_zero es places nodes id tied view is = by (find_id id (values_of es)) refl (ap (λ (l : List Node). is_some (find_id id l)) view ∙ is)

@@ -1,10 +1,11 @@
 -- A keeper that fails by a count of calls.
 use Rattle.std.specs.Prelude.{◌≡◌, ℕ, ◌+◌, ◌==◌, Bool, false, Result, Err, nat_le}
 use Rattle.std.specs.Bool.{MatchBool}
+use Rattle.room_tree.specs.declared.fail.FailKeep.{FailKeep}
 use Rattle.room_tree.specs.declared.fail.Plan.{Plan}
 use Rattle.room_tree.specs.declared.fail.Plan.TheVariants.{After, Once, Never}
-use Rattle.room_tree.specs.declared.keep.KeepFault.{KeepFault}
-use Rattle.room_tree.specs.declared.keep.KeepFault.TheVariants.{Store}
+use Rattle.room_rows.specs.declared.keep.KeepFault.{KeepFault}
+use Rattle.room_rows.specs.declared.keep.KeepFault.TheVariants.{Store}
 
 -- whether the call fails that comes behind so many others
 abbrev pub fails_at : Plan → ℕ → Bool
@@ -16,6 +17,9 @@ fails_at Never k = false
 abbrev pub Advances : Plan → Plan → Type 0
 Advances old new = (k : ℕ) → fails_at new k ≡ fails_at old (k + 1)
 
--- A call whose turn it is to fail answers `Store` and leaves the keeper below as it was. Any other is that call of the keeper below. Both are counted.
-abbrev pub HandsOn : {S X : Type 0} → Plan → Plan → S → S → Result X KeepFault → Type 0 → Type 0
-HandsOn plan plan' old new result called = MatchBool (fails_at plan 0) ((result ≡ Err Store) × (new ≡ old)) called × Advances plan plan'
+-- A call whose turn it is to fail answers `Store` and leaves the keeper below as it was. Any other
+-- keeps to what is promised of that call of the keeper below. Both are counted.
+abbrev pub HandsOn : {K X : Type 0} → FailKeep K → FailKeep K → Result X KeepFault → Type 0 → Type 0
+HandsOn old new result called =
+    MatchBool (fails_at old.plan 0) ((result ≡ Err Store) × (new.keeper ≡ old.keeper)) called
+    × Advances old.plan new.plan

@@ -1,15 +1,16 @@
 //! The bytes of documents.
 ghost use Rattle.std.specs.Prelude.{◌≡◌, [], IfOk, OnOk, OnErr, filter, not, ◌==◌, if◌then◌else◌};
 ghost use Rattle.room_ace.specs.Valid.{is_document};
-ghost use Rattle.room_tree.specs.Content.{body_in, put_body};
+ghost use Rattle.room_rows.specs.Content.{body_in, put_body};
 
-use crate::text::Bytes;
 use room_ace::ObjKind;
+use room_rows::Bytes;
 use std::alloc::{AllocError, Global};
 use std::collections::BTreeMap;
 use std::marker::Model;
 
-/// The bytes of documents by their numbers. A contract sees the pairs, in rising order of the numbers.
+/// The bytes of documents by their numbers. A contract sees the pairs, in rising order of the
+/// numbers.
 #[derive(Drop)]
 pub(crate) struct Bodies {
     items: BTreeMap<u64, Bytes>,
@@ -66,7 +67,8 @@ impl Bodies {
 
     /// Keeps the bytes for this number if it is that of a document.
     pub(crate) fn put_new(&mut self, id: u64, kind: ObjKind, bytes: Bytes) -> Result<(), AllocError>
-        ensures ok { OnOk result (self.new ≡ (if is_document kind then put_body id bytes self.old else self.old)) }
+        ensures ok { OnOk result
+            (self.new ≡ (if is_document kind then put_body id bytes self.old else self.old)) }
         ensures err { OnErr result (self.new ≡ self.old) }
     {
         match kind {

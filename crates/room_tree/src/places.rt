@@ -4,7 +4,14 @@ ghost use Rattle.std.specs.BTreeMap.{IsOrdered};
 ghost use Rattle.std.specs.Option.{option_map};
 ghost use Rattle.std.specs.Ordering.{nat_cmp, ordering_then};
 ghost use Rattle.std.specs.String.{string_cmp};
-ghost use Rattle.room_tree.specs.Places.{id_at, places_under, text_place, Lists, KeepsOtherPlaces};
+ghost use Rattle.room_tree.specs.Places.{
+  id_at,
+  places_under,
+  text_place,
+  Lists,
+  KeepsOtherPlaces,
+  Moves,
+};
 
 use std::alloc::{AllocError, Global};
 use std::collections::BTreeMap;
@@ -38,7 +45,8 @@ impl Places {
 
     /// A copy.
     pub(crate) fn copy(&self) -> Result<Places, AllocError>
-        ensures { IfOk result (λ copy. KeepsOtherPlaces None self.now.ids.entries copy.ids.entries) }
+        ensures { IfOk result (λ copy.
+            KeepsOtherPlaces None self.now.ids.entries copy.ids.entries) }
     {
         Ok(Places {
             ids: self.ids.clone()?,
@@ -54,16 +62,35 @@ impl Places {
 
     /// Lists the number at the place, where another one may have been.
     pub(crate) fn put(&mut self, place: Place, id: u64) -> Result<(), AllocError>
-        ensures ok { OnOk result (Lists place.0 (string_bytes place.1) id self.old.ids.entries self.new.ids.entries) }
+        ensures ok { OnOk result (Lists place.0 (string_bytes place.1) id
+            self.old.ids.entries self.new.ids.entries) }
         ensures err { OnErr result (self.new.ids.entries ≡ self.old.ids.entries) }
     {
         self.ids.insert(place, id)?;
         Ok(())
     }
 
+    /// Lists the number at the place, and none at the one where it was, if there is one.
+    pub(crate) fn move_to(
+        &mut self,
+        before: Option<Place>,
+        place: Place,
+        id: u64,
+    ) -> Result<(), AllocError>
+        ensures ok { OnOk result
+            (Moves (option_map text_place before) place.0 (string_bytes place.1) id
+            self.old.ids.entries self.new.ids.entries) }
+        ensures err { OnErr result (self.new.ids.entries ≡ self.old.ids.entries) }
+    {
+        self.put(place, id)?;
+        self.take(&before);
+        Ok(())
+    }
+
     /// Lists no number at the place, if there is one.
     pub(crate) fn take(&mut self, place: &Option<Place>)
-        ensures { KeepsOtherPlaces (option_map text_place place.now) self.old.ids.entries self.new.ids.entries }
+        ensures { KeepsOtherPlaces (option_map text_place place.now)
+            self.old.ids.entries self.new.ids.entries }
     {
         match place {
             Some(place) => self.take_at(place),
@@ -72,7 +99,8 @@ impl Places {
     }
 
     fn take_at(&mut self, place: &Place)
-        ensures { KeepsOtherPlaces (Some (text_place place.now)) self.old.ids.entries self.new.ids.entries }
+        ensures { KeepsOtherPlaces (Some (text_place place.now))
+            self.old.ids.entries self.new.ids.entries }
     {
         self.ids.remove(place);
     }
@@ -83,8 +111,11 @@ impl Places {
         alloc: Global,
         parent: u64,
     ) -> Result<Range<'_, (u64, String), u64>, AllocError>
-        ensures listed { IfOk result (λ places. places_under parent places ≡ places_under parent self.now.ids.entries) }
-        ensures ordered { OnOk result (IsOrdered (λ x y. ordering_then (nat_cmp x.0 y.0) (string_cmp x.1 y.1)) self.now.ids) }
+        ensures listed { IfOk result (λ places.
+            places_under parent places ≡ places_under parent self.now.ids.entries) }
+        ensures ordered { OnOk result
+            (IsOrdered (λ x y. ordering_then (nat_cmp x.0 y.0) (string_cmp x.1 y.1))
+            self.now.ids) }
     {
         let start = place_at(alloc, parent, "")?;
         match parent.checked_add(1) {

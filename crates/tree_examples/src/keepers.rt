@@ -1,282 +1,258 @@
-//! Keepers in memory: what each call of the trait answers and leaves, and the calls that fail. A script makes
-//! calls, and adds a line for each answer.
-use crate::fixtures::{name_of, root_with};
-use crate::keeping::{
-    add_told, body_told, bytes_told, child_told, children_told, groups_told, held_told, ids_told,
-    inherited_told, moments, node_told, note_told, owners_told, place_told, removal_told,
-    root_told,
-};
-use room_ace::{Name, ObjKind};
-use room_tree::{FailKeep, Keep, MemKeep};
-use std::alloc::{AllocError, Global};
-use std::process::Abort;
+//! Keepers in memory: what each call of the trait answers and leaves, and the calls that fail.
+use room_player::{Plan, faults_along, play_failing, plays};
+use std::alloc::Global;
 use std::test::Fail;
 
-// Joins without what the contract says of it.
-fn pair(keep: &mut MemKeep, group: &Name, user: &Name) -> Result<(), AllocError> {
-    keep.join(group, user)
-}
+// Two groups of alice, one of them joined twice.
+const GROUPS: &str = "\
+room Join staff alice => done
+room Join sales alice => done
+room Join sales alice => done
+";
 
-fn join(alloc: Global, keep: &mut MemKeep, group: &str, user: &str) -> Result<(), Fail> {
-    let group = name_of(alloc, group)?;
-    let user = name_of(alloc, user)?;
-    Ok(pair(keep, &group, &user)?)
-}
-
-fn leave(alloc: Global, keep: &mut MemKeep, group: &str, user: &str) -> Result<(), Fail> {
-    let group = name_of(alloc, group)?;
-    let user = name_of(alloc, user)?;
-    keep.leave(&group, &user);
-    Ok(())
-}
-
-// The root alone, and two groups of alice.
-fn root_alone(alloc: Global) -> Result<MemKeep, Fail> {
-    let mut keep = root_with(alloc, &["A::EVERYONE@:x"])?;
-    for group in ["staff", "sales", "sales"] {
-        join(alloc, &mut keep, group, "alice")?;
-    }
-    Ok(keep)
-}
-
-// Adds the answer's line.
-fn line(all: &mut String, answer: Result<String, Fail>) -> Result<(), Fail> {
-    all.push_str(answer?.as_str())?;
-    all.push('\n')?;
-    Ok(())
-}
-
-// Adds four objects.
-fn add_four<K: Keep>(alloc: Global, keep: &mut K, all: &mut String) -> Result<(), Fail> {
-    for (parent, name, kind) in [
-        (1, "b", ObjKind::Folder),
-        (1, "a", ObjKind::Document),
-        (2, "f", ObjKind::Document),
-        (1, "B", ObjKind::Folder),
-    ] {
-        line(all, add_told(alloc, keep, parent, name, kind))?;
-    }
-    Ok(())
-}
-
-// Each call that reads, at what is there and at what isn't.
-fn look<K: Keep>(alloc: Global, keep: &mut K, all: &mut String) -> Result<(), Fail> {
-    line(all, root_told(alloc, keep))?;
-    line(all, ids_told(alloc, keep))?;
-    for id in 0..7 {
-        line(all, node_told(alloc, keep, id))?;
-    }
-    for id in 1..7 {
-        line(all, children_told(alloc, keep, id))?;
-    }
-    for id in 1..7 {
-        line(all, body_told(alloc, keep, id))?;
-    }
-    Ok(())
-}
-
-// The same of the calls that are given names.
-fn look_for<K: Keep>(alloc: Global, keep: &mut K, all: &mut String) -> Result<(), Fail> {
-    for (parent, name) in [(1, "a"), (1, "q"), (2, "d"), (6, "a")] {
-        line(all, child_told(alloc, keep, parent, name))?;
-    }
-    for user in ["alice", "bob"] {
-        line(all, groups_told(alloc, keep, user))?;
-    }
-    Ok(())
-}
-
-// All that is read.
-fn seen<K: Keep>(alloc: Global, keep: &mut K) -> Result<String, Fail> {
-    let mut all = String::new(alloc);
-    look(alloc, keep, &mut all)?;
-    look_for(alloc, keep, &mut all)?;
-    Ok(all)
-}
-
-// The answers of the four additions.
-fn four_added<K: Keep>(alloc: Global, keep: &mut K) -> Result<String, Fail> {
-    let mut all = String::new(alloc);
-    add_four(alloc, keep, &mut all)?;
-    Ok(all)
-}
+// Four objects are added.
+const ADDED: &str = "\
+keeper Add 1 b folder => 2
+keeper Add 1 a document => 3
+keeper Add 2 f document => 4
+keeper Add 1 B folder => 5
+";
 
 // What is read then. A folder has no bytes, and names are in order.
-const FOUR: &str = "1 in 0, Folder '' of root:staff, list:a A::EVERYONE@:x, list:a \n\
-    [1, 2, 3, 4, 5]\nnone\n\
-    1 in 0, Folder '' of root:staff, list:a A::EVERYONE@:x, list:a \n\
-    2 in 1, Folder 'b' of root:staff, list:a , list:a \n\
-    3 in 1, Document 'a' of root:staff, list:a , list:a \n\
-    4 in 2, Document 'f' of root:staff, list:a , list:a \n\
-    5 in 1, Folder 'B' of root:staff, list:a , list:a \nnone\n\
-    B a b \nf \n\n\n\n\n\
-    none\nnone\nhi\nhi\nnone\nnone\n\
-    3 in 1, Document 'a' of root:staff, list:a , list:a \nnone\nnone\nnone\n\
-    sales staff \n\n";
+const FOUR: &str = "\
+keeper Root => 1 in 0 folder '' of root:staff, list:a / A::EVERYONE@:x / A:fd:root:ALL, list:a
+keeper Ids => ids 1 2 3 4 5
+keeper Node 0 => none
+keeper Node 1 => 1 in 0 folder '' of root:staff, list:a / A::EVERYONE@:x / A:fd:root:ALL, list:a
+keeper Node 2 => 2 in 1 folder 'b' of root:staff, list:a, list:a
+keeper Node 3 => 3 in 1 document 'a' of root:staff, list:a, list:a
+keeper Node 4 => 4 in 2 document 'f' of root:staff, list:a, list:a
+keeper Node 5 => 5 in 1 folder 'B' of root:staff, list:a, list:a
+keeper Node 6 => none
+keeper Children 1 => children 5:folder:B 3:document:a 2:folder:b
+keeper Children 2 => children 4:document:f
+keeper Children 3 => children
+keeper Children 4 => children
+keeper Children 5 => children
+keeper Children 6 => children
+keeper Listing 1 => names folder:B document:a folder:b
+keeper Listing 2 => names document:f
+keeper Listing 3 => names
+keeper Listing 5 => names
+keeper Listing 6 => names
+keeper HasChildren 1 => yes
+keeper HasChildren 2 => yes
+keeper HasChildren 3 => no
+keeper HasChildren 5 => no
+keeper HasChildren 6 => no
+keeper Body 1 => none
+keeper Body 2 => none
+keeper Body 3 => bytes hi
+keeper Body 4 => bytes hi
+keeper Body 5 => none
+keeper Body 6 => none
+keeper Child 1 a => 3 in 1 document 'a' of root:staff, list:a, list:a
+keeper Child 1 q => none
+keeper Child 2 d => none
+keeper Child 6 a => none
+keeper Groups alice => groups sales staff
+keeper Groups bob => groups
+";
 
-// Changes the four objects by each call that writes.
-fn change<K: Keep>(alloc: Global, keep: &mut K, all: &mut String) -> Result<(), Fail> {
-    line(all, held_told(alloc, keep, 2, "D::bob:w"))?;
-    line(all, inherited_told(alloc, keep, 2, "A:I:bob:r"))?;
-    line(all, owners_told(alloc, keep, 2, "alice"))?;
-    line(all, place_told(alloc, keep, 4, 1, "d"))?;
-    line(all, bytes_told(alloc, keep, 4, "other"))?;
-    line(all, removal_told(alloc, keep, 5))?;
-    line(all, note_told(alloc, keep, 7))?;
-    line(all, add_told(alloc, keep, 2, "d", ObjKind::Document))
-}
+// The four objects are changed by each call that writes. The new number is one more than the
+// greatest in use.
+const CHANGES: &str = "\
+keeper SetHeld 2 dacl list:a / D::bob:w => done
+keeper SetInh 2 dacl list: / A:I:bob:r => done
+keeper SetOwners 2 alice:staff => done
+keeper SetPlace 4 1 d => done
+keeper SetBody 4 other => done
+keeper Remove 5 => done
+keeper Note 7 => done
+keeper Add 2 d document => 5
+";
 
-// What is read then. The new number is one more than the greatest in use.
-const CHANGED: &str = "1 in 0, Folder '' of root:staff, list:a A::EVERYONE@:x, list:a \n\
-    [1, 2, 3, 4, 5]\nnone\n\
-    1 in 0, Folder '' of root:staff, list:a A::EVERYONE@:x, list:a \n\
-    2 in 1, Folder 'b' of alice:staff, list:a D::bob:w / A:I:bob:r, list:a \n\
-    3 in 1, Document 'a' of root:staff, list:a , list:a \n\
-    4 in 1, Document 'd' of root:staff, list:a , list:a \n\
-    5 in 2, Document 'd' of root:staff, list:a , list:a \nnone\n\
-    a b d \nd \n\n\n\n\n\
-    none\nnone\nhi\nother\nhi\nnone\n\
-    3 in 1, Document 'a' of root:staff, list:a , list:a \nnone\n\
-    5 in 2, Document 'd' of root:staff, list:a , list:a \nnone\n\
-    sales staff \n\n";
+// What is read then.
+const CHANGED: &str = "\
+keeper Root => 1 in 0 folder '' of root:staff, list:a / A::EVERYONE@:x / A:fd:root:ALL, list:a
+keeper Ids => ids 1 2 3 4 5
+keeper Node 1 => 1 in 0 folder '' of root:staff, list:a / A::EVERYONE@:x / A:fd:root:ALL, list:a
+keeper Node 2 => 2 in 1 folder 'b' of alice:staff, list:a / D::bob:w / A:I:bob:r, list:a
+keeper Node 3 => 3 in 1 document 'a' of root:staff, list:a, list:a
+keeper Node 4 => 4 in 1 document 'd' of root:staff, list:a, list:a
+keeper Node 5 => 5 in 2 document 'd' of root:staff, list:a, list:a
+keeper Node 6 => none
+keeper Children 1 => children 3:document:a 2:folder:b 4:document:d
+keeper Children 2 => children 5:document:d
+keeper Children 3 => children
+keeper Children 4 => children
+keeper Children 5 => children
+keeper Children 6 => children
+keeper Listing 1 => names document:a folder:b document:d
+keeper Listing 2 => names document:d
+keeper Listing 5 => names
+keeper HasChildren 1 => yes
+keeper HasChildren 2 => yes
+keeper HasChildren 4 => no
+keeper Body 1 => none
+keeper Body 2 => none
+keeper Body 3 => bytes hi
+keeper Body 4 => bytes other
+keeper Body 5 => bytes hi
+keeper Body 6 => none
+keeper Child 1 a => 3 in 1 document 'a' of root:staff, list:a, list:a
+keeper Child 1 q => none
+keeper Child 2 d => 5 in 2 document 'd' of root:staff, list:a, list:a
+keeper Child 6 a => none
+keeper Groups alice => groups sales staff
+keeper Groups bob => groups
+";
 
-// The answers of the changes.
-fn changed<K: Keep>(alloc: Global, keep: &mut K) -> Result<String, Fail> {
-    let mut all = String::new(alloc);
-    change(alloc, keep, &mut all)?;
-    Ok(all)
-}
-
-// Each call that reads and each that writes.
-fn each<K: Keep>(alloc: Global, keep: &mut K, all: &mut String) -> Result<(), Fail> {
-    line(all, root_told(alloc, keep))?;
-    line(all, ids_told(alloc, keep))?;
-    line(all, node_told(alloc, keep, 2))?;
-    line(all, child_told(alloc, keep, 1, "a"))?;
-    line(all, children_told(alloc, keep, 1))?;
-    line(all, body_told(alloc, keep, 4))?;
-    line(all, groups_told(alloc, keep, "alice"))?;
-    change(alloc, keep, all)
-}
-
-// The answers of the fifteen calls.
-fn fifteen<K: Keep>(alloc: Global, keep: &mut K) -> Result<String, Fail> {
-    let mut all = String::new(alloc);
-    each(alloc, keep, &mut all)?;
-    Ok(all)
-}
-
-// What the four objects, their changes and the looks at both are told, at any keeper of the root alone.
-fn expect_answers<K: Keep>(rt: &(impl Abort + AllocGlobal), keep: &mut K) -> Result<(), Fail> {
-    let alloc = rt.alloc();
-    assert_eq!(rt; four_added(alloc, keep)?.as_str(), "2\n3\n4\n5\n");
-    assert_eq!(rt; seen(alloc, keep)?.as_str(), FOUR);
-    let told = changed(alloc, keep)?;
-    assert_eq!(rt;
-        told.as_str(),
-        "done\ndone\ndone\ndone\ndone\ndone\ndone\n5\n"
-    );
-    assert_eq!(rt; seen(alloc, keep)?.as_str(), CHANGED);
-    Ok(())
-}
+const NOTED: &str = "\
+room Records => 7 alice /a r yes 1 audit
+";
 
 #[test]
 fn keepers_read_and_write(rt: HostRuntime) -> Result<(), Fail> {
-    let mut keep = root_alone(rt.alloc())?;
-    expect_answers(&rt, &mut keep)?;
-    assert_eq!(rt; moments(rt.alloc(), keep.notes())?.as_str(), "7 ");
-    Ok(())
+    plays(rt.alloc(), &[GROUPS, ADDED, FOUR, CHANGES, CHANGED, NOTED])
 }
+
+// A keeper that hands on more calls than are made.
+const HANDING: Plan = Plan {
+    passing: 1000,
+    alone: false,
+};
 
 #[test]
 fn failing_keepers_read_and_write(rt: HostRuntime) -> Result<(), Fail> {
-    let mut failing = FailKeep::new(root_alone(rt.alloc())?, 1000);
-    expect_answers(&rt, &mut failing)?;
-    let keep = failing.into_keeper();
-    assert_eq!(rt; moments(rt.alloc(), keep.notes())?.as_str(), "7 ");
-    Ok(())
+    play_failing(
+        rt.alloc(),
+        &[GROUPS],
+        HANDING,
+        &[ADDED, FOUR, CHANGES, CHANGED],
+        &[CHANGED, NOTED],
+    )
 }
 
 // Another way to the same content.
-fn go_round<K: Keep>(alloc: Global, keep: &mut K, all: &mut String) -> Result<(), Fail> {
-    line(all, add_told(alloc, keep, 1, "z", ObjKind::Folder))?;
-    line(all, add_told(alloc, keep, 2, "a", ObjKind::Document))?;
-    line(all, add_told(alloc, keep, 1, "f", ObjKind::Document))?;
-    line(all, place_told(alloc, keep, 2, 1, "b"))?;
-    line(all, place_told(alloc, keep, 3, 1, "a"))?;
-    line(all, place_told(alloc, keep, 4, 2, "f"))?;
-    line(all, bytes_told(alloc, keep, 3, "other"))?;
-    line(all, bytes_told(alloc, keep, 3, "hi"))?;
-    line(all, add_told(alloc, keep, 1, "B", ObjKind::Document))?;
-    line(all, removal_told(alloc, keep, 5))?;
-    line(all, add_told(alloc, keep, 1, "B", ObjKind::Folder))
-}
+const ROUND: &str = "\
+keeper Add 1 z folder => 2
+keeper Add 2 a document => 3
+keeper Add 1 f document => 4
+keeper SetPlace 2 1 b => done
+keeper SetPlace 3 1 a => done
+keeper SetPlace 4 2 f => done
+keeper SetBody 3 other => done
+keeper SetBody 3 hi => done
+keeper Add 1 B document => 5
+keeper Remove 5 => done
+keeper Add 1 B folder => 5
+";
 
 #[test]
 fn keepers_of_one_content_answer_alike(rt: HostRuntime) -> Result<(), Fail> {
-    let alloc = rt.alloc();
-    let mut keep = root_alone(alloc)?;
-    let mut all = String::new(alloc);
-    go_round(alloc, &mut keep, &mut all)?;
-    assert_eq!(rt; seen(alloc, &mut keep)?.as_str(), FOUR);
-    Ok(())
+    plays(rt.alloc(), &[GROUPS, ROUND, FOUR])
 }
 
-// The room with the four objects.
-fn room_of_four(alloc: Global) -> Result<MemKeep, Fail> {
-    let mut keep = root_alone(alloc)?;
-    four_added(alloc, &mut keep)?;
-    Ok(keep)
-}
+// Each call that reads and each that writes.
+const EACH: &str = "\
+keeper Root => any
+keeper Ids => any
+keeper Node 2 => any
+keeper Child 1 a => any
+keeper Children 1 => any
+keeper Listing 1 => any
+keeper HasChildren 1 => any
+keeper Body 4 => any
+keeper Groups alice => any
+keeper SetHeld 2 dacl list:a / D::bob:w => any
+keeper SetInh 2 dacl list: / A:I:bob:r => any
+keeper SetOwners 2 alice:staff => any
+keeper SetPlace 4 1 d => any
+keeper SetBody 4 other => any
+keeper Remove 5 => any
+keeper Note 7 => any
+keeper Add 2 d document => any
+";
 
-// Of the answers from the first of these places on and before the second one, each is `Store`, and no other.
-fn expect_faults(rt: &(impl Abort + AllocGlobal), told: &str, first: usize, end: usize) {
-    for (place, answer) in told.lines().enumerate() {
+// The calls that fail by a plan, out of the seventeen: those from the first of these places on and
+// before the second.
+fn expect_faults(alloc: Global, plan: Plan, first: usize, end: usize) -> Result<(), Fail> {
+    let faults = faults_along(alloc, &[GROUPS, ADDED], plan, EACH)?;
+    for (place, failed) in faults.iter().enumerate() {
         let fails = first <= place && place < end;
-        assert_eq!(rt; answer == "Store", fails, "at {place} of {first}");
+        if *failed != fails {
+            return Err(Fail::new(format_args!("at {place} of {first}")));
+        }
     }
+    Ok(())
 }
 
 #[test]
 fn failing_keepers_from_each_call_on(rt: HostRuntime) -> Result<(), Fail> {
-    for passing in 0..16 {
-        let mut failing = FailKeep::new(room_of_four(rt.alloc())?, passing as u64);
-        let told = fifteen(rt.alloc(), &mut failing)?;
-        expect_faults(&rt, told.as_str(), passing, 15);
+    for first in 0..18 {
+        let plan = Plan {
+            passing: first as u64,
+            alone: false,
+        };
+        expect_faults(rt.alloc(), plan, first, 17)?;
     }
     Ok(())
 }
 
 #[test]
 fn failing_keepers_once_at_each_call(rt: HostRuntime) -> Result<(), Fail> {
-    for passing in 0..16 {
-        let mut failing = FailKeep::once(room_of_four(rt.alloc())?, passing as u64);
-        let told = fifteen(rt.alloc(), &mut failing)?;
-        expect_faults(&rt, told.as_str(), passing, passing + 1);
+    for first in 0..18 {
+        let plan = Plan {
+            passing: first as u64,
+            alone: true,
+        };
+        expect_faults(rt.alloc(), plan, first, first + 1)?;
     }
     Ok(())
 }
+
+// A keeper whose calls all fail.
+const FAILING: Plan = Plan {
+    passing: 0,
+    alone: false,
+};
+
+const REFUSED: &str = "\
+keeper Ids => fault Store
+keeper Listing 1 => fault Store
+keeper HasChildren 1 => fault Store
+keeper SetHeld 2 dacl list:a / D::bob:w => fault Store
+keeper SetInh 2 dacl list: / A:I:bob:r => fault Store
+keeper SetOwners 2 alice:staff => fault Store
+keeper SetPlace 4 1 d => fault Store
+keeper SetBody 4 other => fault Store
+keeper Remove 5 => fault Store
+keeper Note 7 => fault Store
+keeper Add 2 d document => fault Store
+";
 
 #[test]
 fn failing_keepers_ask_nothing_more(rt: HostRuntime) -> Result<(), Fail> {
-    let alloc = rt.alloc();
-    let mut failing = FailKeep::new(room_of_four(alloc)?, 0);
-    fifteen(alloc, &mut failing)?;
-    let mut keep = failing.into_keeper();
-    assert_eq!(rt; seen(alloc, &mut keep)?.as_str(), FOUR);
-    assert!(rt; keep.notes().is_empty());
-    Ok(())
+    play_failing(
+        rt.alloc(),
+        &[GROUPS, ADDED],
+        FAILING,
+        &[REFUSED],
+        &[FOUR, "room Records => none"],
+    )
 }
+
+const MEMBERS: &str = "\
+room Join sales bob => done
+room Leave sales alice => done
+room Leave sales alice => done
+keeper Groups alice => groups staff
+keeper Groups bob => groups sales
+keeper Groups sales => groups
+";
 
 #[test]
 fn members_join_and_leave(rt: HostRuntime) -> Result<(), Fail> {
-    let alloc = rt.alloc();
-    let mut keep = root_alone(alloc)?;
-    join(alloc, &mut keep, "sales", "bob")?;
-    leave(alloc, &mut keep, "sales", "alice")?;
-    leave(alloc, &mut keep, "sales", "alice")?;
-    for (user, groups) in [("alice", "staff "), ("bob", "sales "), ("sales", "")] {
-        assert_eq!(rt; groups_told(alloc, &mut keep, user)?.as_str(), groups);
-    }
-    Ok(())
+    plays(rt.alloc(), &[GROUPS, MEMBERS])
 }

@@ -1,15 +1,9 @@
-//! Tests at written examples, of the crates below. There is nothing here but tests: a crate with tests is
-//! proved twice, and so the crates below are proved once.
+//! Tests at written examples, of the crates below. There is nothing here but tests: a crate with
+//! tests is proved twice, and so the crates below are proved once.
 #![tactic(auto)]
 
 #[cfg(test)]
-mod counting;
-#[cfg(test)]
-mod fixtures;
-#[cfg(test)]
 mod keepers;
-#[cfg(test)]
-mod keeping;
 #[cfg(test)]
 mod passing;
 #[cfg(test)]

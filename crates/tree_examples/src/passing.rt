@@ -1,118 +1,100 @@
 //! What a list passes to a child, and the full lists along a chain.
-use crate::fixtures::{empty_list, entries_of, open_list, owned_by, printed};
-use room_ace::{Entries, ListFlags, ObjKind, Owners, Which};
+use room_ace::{Entries, Entry, ObjKind, Which};
 use room_inherit::{lists_from_root, pass};
-use room_tree::{Held, Node, Nodes, Text};
+use room_player::{agree, held_of, owners_of, push, push_entries, sent_of};
+use room_rows::{Node, Nodes, Text};
 use std::alloc::{AllocError, Global};
 use std::test::Fail;
 
+const LIST: &str = "list: / A:fd:OWNER@:rw / A:fg:sales:r / D:dn:bob:x / A:fni:EVERYONE@:t";
+
 // What a child inherits, without what the contract says of it.
-fn passed(alloc: Global, kind: ObjKind, list: &Entries) -> Result<Entries, AllocError> {
-    pass(alloc, kind, list.as_slice())
+fn passed(alloc: Global, kind: ObjKind, list: &[Entry]) -> Result<Entries, AllocError> {
+    pass(alloc, kind, list)
 }
 
-// What a child of this kind inherits from a list of four entries.
-fn passed_to(alloc: Global, kind: ObjKind) -> Result<String, Fail> {
-    let list = entries_of(
-        alloc,
-        &[
-            "A:fd:OWNER@:rw",
-            "A:fg:sales:r",
-            "D:dn:bob:x",
-            "A:fni:EVERYONE@:t",
-        ],
-    )?;
-    let given = passed(alloc, kind, &list)?;
-    Ok(printed(alloc, &given)?)
+// What a child of this kind inherits from the list.
+fn passed_to(alloc: Global, kind: ObjKind) -> Result<Entries, Fail> {
+    let list = sent_of(alloc, LIST)?;
+    Ok(passed(alloc, kind, list.entries().as_slice())?)
+}
+
+fn entries_text(alloc: Global, entries: &[Entry]) -> Result<String, Fail> {
+    let mut text = String::new(alloc);
+    push_entries(alloc, &mut text, entries)?;
+    Ok(text)
+}
+
+fn expect_passed(alloc: Global, kind: ObjKind, wanted: &str) -> Result<(), Fail> {
+    let given = passed_to(alloc, kind)?;
+    let told = entries_text(alloc, given.as_slice())?;
+    agree("passed", told.as_str(), wanted)
 }
 
 #[test]
 fn pass_to_folder(rt: HostRuntime) -> Result<(), Fail> {
-    let passed = passed_to(rt.alloc(), ObjKind::Folder)?;
-    assert_eq!(rt;
-        passed.as_str(),
-        "A:fdI:OWNER@:rw / A:figI:sales:r / D:I:bob:x"
-    );
-    Ok(())
+    let wanted = "A:fdI:OWNER@:rw / A:figI:sales:r / D:I:bob:x";
+    expect_passed(rt.alloc(), ObjKind::Folder, wanted)
 }
 
 #[test]
 fn pass_to_document(rt: HostRuntime) -> Result<(), Fail> {
-    let passed = passed_to(rt.alloc(), ObjKind::Document)?;
-    assert_eq!(rt;
-        passed.as_str(),
-        "A:I:OWNER@:rw / A:gI:sales:r / A:I:EVERYONE@:t"
-    );
-    Ok(())
+    let wanted = "A:I:OWNER@:rw / A:gI:sales:r / A:I:EVERYONE@:t";
+    expect_passed(rt.alloc(), ObjKind::Document, wanted)
 }
 
 // An object without a name, with this dacl.
-fn object_of(alloc: Global, id: u64, kind: ObjKind, owners: Owners, dacl: Held) -> Node {
-    Node {
+fn object_of(alloc: Global, id: u64, kind: ObjKind, dacl: &str) -> Result<Node, Fail> {
+    let owners = owners_of(alloc, "root:staff")?;
+    let sacl = held_of(alloc, "list:a")?;
+    Ok(Node {
         id,
         parent: id.checked_sub(1),
         name: Text::new(alloc),
         kind,
         owners,
-        dacl,
-        sacl: empty_list(alloc),
-    }
+        dacl: held_of(alloc, dacl)?,
+        sacl,
+    })
 }
 
-// Adds an object with this dacl below the objects.
-fn lengthen(alloc: Global, chain: &mut Nodes, kind: ObjKind, dacl: Held) -> Result<(), Fail> {
-    let owners = owned_by(alloc, "root")?;
-    let node = object_of(alloc, chain.len() as u64, kind, owners, dacl);
-    Ok(chain.push(node)?)
-}
-
-// A list with an own entry that takes none and passes none down.
-fn closed_list(alloc: Global, own: &str) -> Result<Held, Fail> {
-    let mut list = open_list(alloc, &[own])?;
-    list.flags = ListFlags {
-        auto: false,
-        protect: false,
-    };
-    Ok(list)
-}
-
-// A list with a stored inherited entry alone.
-fn stored_list(alloc: Global, inherited: &str) -> Result<Held, Fail> {
-    let mut list = empty_list(alloc);
-    list.inh = entries_of(alloc, &[inherited])?;
-    Ok(list)
-}
-
-// A folder, a folder whose list has no flag, and a document.
+// A folder, a folder whose list has no flag, and a document with a stored inherited entry alone.
 fn chain_of_three(alloc: Global) -> Result<Nodes, Fail> {
     let mut chain = Nodes::new(alloc);
-    let root = open_list(alloc, &["A:fd:EVERYONE@:x"])?;
-    lengthen(alloc, &mut chain, ObjKind::Folder, root)?;
-    let folder = closed_list(alloc, "D::bob:r")?;
-    lengthen(alloc, &mut chain, ObjKind::Folder, folder)?;
-    let document = stored_list(alloc, "A:I:carol:r")?;
-    lengthen(alloc, &mut chain, ObjKind::Document, document)?;
+    for (id, kind, dacl) in [
+        (0, ObjKind::Folder, "list:a / A:fd:EVERYONE@:x"),
+        (1, ObjKind::Folder, "list: / D::bob:r"),
+        (2, ObjKind::Document, "list:a / A:I:carol:r"),
+    ] {
+        chain.push(object_of(alloc, id, kind, dacl)?)?;
+    }
     Ok(chain)
 }
 
-// The texts of the full dacls, a line for each object.
-fn lists_told(alloc: Global, chain: &Nodes) -> Result<String, AllocError> {
-    let lists = lists_from_root(alloc, chain.as_slice(), Which::Dacl)?;
+// The full dacls along the chain, without what the contract says of them.
+fn full_lists(alloc: Global, chain: &[Node]) -> Result<Vec<Entries>, AllocError> {
+    lists_from_root(alloc, chain, Which::Dacl)
+}
+
+// The texts of lists, a line for each.
+fn lists_text(alloc: Global, lists: &[Entries]) -> Result<String, Fail> {
     let mut text = String::new(alloc);
-    for list in lists.as_slice() {
-        text.push_str(printed(alloc, list)?.as_str())?;
-        text.push('\n')?;
+    for list in lists {
+        push_entries(alloc, &mut text, list.as_slice())?;
+        push(&mut text, "\n")?;
     }
     Ok(text)
 }
 
+fn expect_lists(alloc: Global, chain: &[Node], wanted: &str) -> Result<(), Fail> {
+    let lists = full_lists(alloc, chain)?;
+    let told = lists_text(alloc, lists.as_slice())?;
+    agree("lists", told.as_str(), wanted)
+}
+
 #[test]
 fn lists_along_chain(rt: HostRuntime) -> Result<(), Fail> {
-    let alloc = rt.alloc();
-    let chain = chain_of_three(alloc)?;
-    assert_eq!(rt;
-        lists_told(alloc, &chain)?.as_str(),
-        "A:fd:EVERYONE@:x\nD::bob:r / A:fdI:EVERYONE@:x\nA:I:carol:r\n"
-    );
-    Ok(())
+    let chain = chain_of_three(rt.alloc())?;
+    let wanted = "A:fd:EVERYONE@:x\nD::bob:r / A:fdI:EVERYONE@:x\nA:I:carol:r\n";
+    expect_lists(rt.alloc(), chain.as_slice(), wanted)
 }

@@ -1,34 +1,40 @@
 //! Paths of given bytes.
-use crate::fixtures::path_of;
 use room_ace::Failure;
-use room_tree::{Path, PathFault, read_path};
+use room_player::{agree, path_of};
+use room_rows::{Path, PathFault, read_path};
 use std::alloc::{AllocError, Global};
 use std::test::Fail;
 
 // Why these bytes are no path.
-fn fault_of(alloc: Global, bytes: &[u8]) -> Option<Failure<PathFault>> {
-    read_path(alloc, bytes).err()
+fn fault_of(alloc: Global, bytes: &[u8]) -> Result<Option<PathFault>, AllocError> {
+    match read_path(alloc, bytes) {
+        Ok(_) => Ok(None),
+        Err(Failure::OutOfMemory) => Err(AllocError),
+        Err(Failure::Fault(fault)) => Ok(Some(fault)),
+    }
+}
+
+// That the bytes are no path for this reason, or that they are one.
+fn expect(alloc: Global, bytes: &[u8], wanted: Option<PathFault>) -> Result<(), Fail> {
+    if fault_of(alloc, bytes)? == wanted {
+        return Ok(());
+    }
+    Err(Fail::new(format_args!("{bytes:?} where wanted is {wanted:?}")))
 }
 
 #[test]
 fn path_faults(rt: HostRuntime) -> Result<(), Fail> {
-    let alloc = rt.alloc();
-    let bad_name = Some(Failure::Fault(PathFault::BadName));
+    let bad_name = Some(PathFault::BadName);
     for text in ["", "a", "/a/", "/a//b", "/..", "/.", "/a\tb"] {
-        assert_eq!(rt; fault_of(alloc, text.as_bytes()), bad_name, "at {text}");
+        expect(rt.alloc(), text.as_bytes(), bad_name)?;
     }
-    let not_utf8 = Some(Failure::Fault(PathFault::NotUtf8));
-    assert_eq!(rt; fault_of(alloc, &[0x2F, 0xFF]), not_utf8);
-    let mut long_name = vec![in alloc; b'/']?;
-    long_name.extend_from_slice(&[b'a'; 256])?;
-    assert_eq!(rt; fault_of(alloc, long_name.as_slice()), bad_name);
-    Ok(())
+    expect(rt.alloc(), &[0x2F, 0xFF], Some(PathFault::NotUtf8))
 }
 
-// The longest path, and these bytes after it.
-fn longest_and(alloc: Global, end: &[u8]) -> Result<Vec<u8>, AllocError> {
+// A `/` and so many names of the letter `a`, with these bytes behind them.
+fn long_path(alloc: Global, names: usize, end: &[u8]) -> Result<Vec<u8>, AllocError> {
     let mut bytes = Vec::new(alloc);
-    for _ in 0..16 {
+    for _ in 0..names {
         bytes.push(b'/')?;
         bytes.extend_from_slice(&[b'a'; 255])?;
     }
@@ -38,33 +44,36 @@ fn longest_and(alloc: Global, end: &[u8]) -> Result<Vec<u8>, AllocError> {
 
 #[test]
 fn path_lengths(rt: HostRuntime) -> Result<(), Fail> {
-    let alloc = rt.alloc();
-    let too_long = Some(Failure::Fault(PathFault::TooLong));
-    for (end, want) in [
-        (b"".as_slice(), None),
-        (b"b", too_long),
-        (&[0xFF], too_long),
+    for (names, end, wanted) in [
+        (1, b"".as_slice(), None),
+        (1, b"b", Some(PathFault::BadName)),
+        (16, b"", None),
+        (16, b"b", Some(PathFault::TooLong)),
+        (16, &[0xFF], Some(PathFault::TooLong)),
     ] {
-        let bytes = longest_and(alloc, end)?;
-        assert_eq!(rt; bytes.len(), 4096 + end.len());
-        assert_eq!(rt; fault_of(alloc, bytes.as_slice()), want);
+        let bytes = long_path(rt.alloc(), names, end)?;
+        assert_eq!(rt; bytes.len(), names * 256 + end.len());
+        expect(rt.alloc(), bytes.as_slice(), wanted)?;
     }
     Ok(())
 }
 
 // The text of the path's copy.
-fn copied_text(alloc: Global, path: &Path) -> Result<String, AllocError> {
+fn copied_text(path: &Path, alloc: Global) -> Result<String, AllocError> {
     let copy = path.copy()?;
     copy.to_text(alloc)
 }
 
+fn expect_text(alloc: Global, text: &str) -> Result<(), Fail> {
+    let path = path_of(alloc, text)?;
+    let copied = copied_text(&path, alloc)?;
+    agree("a copy", copied.as_str(), text)
+}
+
 #[test]
 fn path_texts(rt: HostRuntime) -> Result<(), Fail> {
-    let alloc = rt.alloc();
     for text in ["/", "/a", "/a/b c/\u{e9}"] {
-        let path = path_of(alloc, text)?;
-        assert_eq!(rt; path.is_root(), text == "/");
-        assert_eq!(rt; copied_text(alloc, &path)?.as_str(), text);
+        expect_text(rt.alloc(), text)?;
     }
     Ok(())
 }
@@ -75,17 +84,48 @@ fn front_text(alloc: Global, path: &Path, count: usize) -> Result<String, AllocE
     front.to_text(alloc)
 }
 
+fn expect_fronts(alloc: Global, path: &Path) -> Result<(), Fail> {
+    for (count, text) in [
+        (0, "/"),
+        (1, "/a"),
+        (2, "/a/b"),
+        (3, "/a/b/c"),
+        (9, "/a/b/c"),
+    ] {
+        let front = front_text(alloc, path, count)?;
+        agree("a front", front.as_str(), text)?;
+    }
+    Ok(())
+}
+
+#[test]
+fn path_fronts(rt: HostRuntime) -> Result<(), Fail> {
+    let path = path_of(rt.alloc(), "/a/b/c")?;
+    expect_fronts(rt.alloc(), &path)
+}
+
+// The last name and how many stand before it.
+fn last_of(path: &Path) -> Option<(&str, usize)> {
+    match path.split_last() {
+        None => None,
+        Some((last, before)) => Some((last.as_str(), before.len())),
+    }
+}
+
 #[test]
 fn path_parts(rt: HostRuntime) -> Result<(), Fail> {
-    let alloc = rt.alloc();
-    let path = path_of(alloc, "/a/b/c")?;
+    let path = path_of(rt.alloc(), "/a/b/c")?;
     assert_eq!(rt; path.names().len(), 3);
-    for (count, text) in [(0, "/"), (2, "/a/b"), (9, "/a/b/c")] {
-        assert_eq!(rt; front_text(alloc, &path, count)?.as_str(), text);
-    }
-    let (last, before) = path.split_last().ok_or("a last name")?;
-    assert_eq!(rt; last.as_str(), "c");
-    assert_eq!(rt; before.len(), 2);
+    assert!(rt; !path.is_root());
+    assert_eq!(rt; last_of(&path), Some(("c", 2)));
+    Ok(())
+}
+
+#[test]
+fn path_of_the_root(rt: HostRuntime) -> Result<(), Fail> {
+    let path = path_of(rt.alloc(), "/")?;
+    assert!(rt; path.is_root());
+    assert_eq!(rt; last_of(&path), None);
     Ok(())
 }
 

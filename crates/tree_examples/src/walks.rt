@@ -1,53 +1,63 @@
 //! Walks over keepers in memory.
-use crate::fixtures::{add_object, path_of, root_with};
-use room_ace::ObjKind;
-use room_tree::{FailKeep, Keep, KeepFault, Path, walk};
+use room_player::{Plan, play_failing, plays};
 use std::alloc::Global;
 use std::test::Fail;
 
-// How many objects are found along the path, and how many names are left.
-fn walked<K: Keep>(alloc: Global, keep: &mut K, path: &Path) -> Result<(usize, usize), KeepFault> {
-    let walked = walk(alloc, keep, path)?;
-    Ok((walked.chain.len(), walked.rest))
-}
+const WALKS: &str = "\
+keeper Add 1 a folder => 2
+keeper Add 2 f document => 3
+keeper Walk /a/f/x => found 3 left 1
+keeper Walk /q/r => found 1 left 2
+keeper Walk / => found 1 left 0
+";
 
 #[test]
 fn walk_counts(rt: HostRuntime) -> Result<(), Fail> {
-    let alloc = rt.alloc();
-    let mut keep = root_with(alloc, &[])?;
-    add_object(alloc, &mut keep, 1, "a", ObjKind::Folder)?;
-    add_object(alloc, &mut keep, 2, "f", ObjKind::Document)?;
-    for (text, found, left) in [("/a/f/x", 3, 1), ("/q/r", 1, 2), ("/", 1, 0)] {
-        let path = path_of(alloc, text)?;
-        let counts = walked(alloc, &mut keep, &path);
-        assert_eq!(rt; counts, Ok((found, left)), "at {text}");
-    }
-    Ok(())
+    plays(rt.alloc(), &[WALKS])
+}
+
+const FOUND: &str = "keeper Walk /q => found 1 left 1\n";
+
+const BOTH_FAIL: &str = "\
+keeper Walk /q => fault Store
+keeper Walk /q => fault Store
+";
+
+const SECOND_FAILS: &str = "\
+keeper Walk /q => found 1 left 1
+keeper Walk /q => fault Store
+";
+
+const NONE_FAILS: &str = "\
+keeper Walk /q => found 1 left 1
+keeper Walk /q => found 1 left 1
+";
+
+const FIRST_FAILS: &str = "\
+keeper Walk /q => fault Store
+keeper Walk /q => found 1 left 1
+";
+
+// Two walks over a keeper whose calls fail, and one over what it keeps.
+fn walks(alloc: Global, passing: u64, alone: bool, script: &str) -> Result<(), Fail> {
+    play_failing(alloc, &[], Plan { passing, alone }, &[script], &[FOUND])
 }
 
 #[test]
 fn walk_over_failing_keepers(rt: HostRuntime) -> Result<(), Fail> {
-    let alloc = rt.alloc();
-    let path = path_of(alloc, "/q")?;
-    for calls in 0..4 {
-        let mut failing = FailKeep::new(root_with(alloc, &[])?, calls);
-        let first = walked(alloc, &mut failing, &path);
-        assert_eq!(rt; first.is_ok(), calls >= 2, "passing {calls}");
-        let second = walked(alloc, &mut failing, &path);
-        assert_eq!(rt; second.is_ok(), calls >= 4, "again, passing {calls}");
-        let mut keep = failing.into_keeper();
-        assert_eq!(rt; walked(alloc, &mut keep, &path), Ok((1, 1)));
+    for (passing, script) in [
+        (0, BOTH_FAIL),
+        (1, BOTH_FAIL),
+        (2, SECOND_FAILS),
+        (3, SECOND_FAILS),
+        (4, NONE_FAILS),
+    ] {
+        walks(rt.alloc(), passing, false, script)?;
     }
     Ok(())
 }
 
 #[test]
 fn walk_over_one_failure(rt: HostRuntime) -> Result<(), Fail> {
-    let alloc = rt.alloc();
-    let path = path_of(alloc, "/q")?;
-    let mut failing = FailKeep::once(root_with(alloc, &[])?, 1);
-    let first = walked(alloc, &mut failing, &path);
-    assert_eq!(rt; first, Err(KeepFault::Store));
-    assert_eq!(rt; walked(alloc, &mut failing, &path), Ok((1, 1)));
-    Ok(())
+    walks(rt.alloc(), 1, true, FIRST_FAILS)
 }

@@ -1,4 +1,4 @@
-use Rattle.room_desk.proofs.Calls.{Ruled, none_done, finish}
+use Rattle.room_judge.proofs.Calls.{none_done, finish}
 use Rattle.room_desk.proofs.FolderMade.{folder_root}
 use Rattle.room_desk.proofs.ServedItems.{name_of_parts}
 use Rattle.room_desk.proofs.making.make_folder.Goals as goal
@@ -10,5 +10,4 @@ pub returns-in_ok-refused-in-None : goal.returns-in_ok-refused-in-None
 returns-in_ok-refused-in-None g c =
     let k = g.K.Keep in
     let m = g.met.K.Keep in
-    let laws : Ruled k.rows k.failures k.Follows k.IsTrusted = record { itself = m.follows_itself; on = m.follows_on; rise = m.failures_rise; first = m.trusted_first; last = m.trusted_last; are = m.are_rows } in
-    record { done = finish laws _ (none_done laws c.args.keep.now) (λ old new are same. folder_root c.args.asker.now c.args.path.now old new c.in_ok-refused-in-None.field-0 c.in-None.ensures.parts c.in_ok-refused-in-None.ensures same) }
+    record { done = finish m.laws _ (none_done m.laws c.args.keep.now) (λ old new are same. folder_root c.args.asker.now c.args.path.now old new c.in_ok-refused-in-None.field-0 c.in-None.ensures.parts c.in_ok-refused-in-None.ensures same) }

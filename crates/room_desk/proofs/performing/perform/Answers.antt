@@ -1,8 +1,7 @@
-use Rattle.std.proofs.Common.{subst, to_z, of_z, w64}
+use Rattle.std.proofs.Common.{to_z, of_z, w64}
 use Rattle.std.proofs.lemmas.Int.{to_z-of_z}
-use Rattle.room_desk.proofs.Calls.{Ruled, tail, done, of_read}
-use Rattle.room_tree.specs.Rows.{Rows}
-use Rattle.room_desk.specs.Judged.{NotSound}
+use Rattle.room_judge.proofs.Calls.{tail, done, of_read}
+use Rattle.room_desk.proofs.Blamed.{damaged_before}
 use Rattle.std.specs.Option.{option_copied}
 use Rattle.room_desk.proofs.InTurn.{carried}
 use Rattle.room_desk.proofs.performing.perform.Goals as goal
@@ -11,8 +10,7 @@ pub returns : goal.returns
 returns g c =
     let k = g.K.Keep in
     let m = g.met.K.Keep in
-    let laws : Ruled k.rows k.failures k.Follows k.IsTrusted = record { itself = m.follows_itself; on = m.follows_on; rise = m.failures_rise; first = m.trusted_first; last = m.trusted_last; are = m.are_rows } in
     record {
-      done = tail laws (done (of_read c.in_ok-caller.ensures.read)) c.carry_out.ensures.done (λ old mid at both blames. subst (λ (r : Rows). NotSound r at) both.1 blames)
+      done = tail m.laws (done (of_read c.in_ok-caller.ensures.read)) c.carry_out.ensures.done (λ old mid at both damaged. damaged_before old mid at both.1 damaged)
           (λ old mid reply new both carries. carried (option_copied c.args.user) c.args.at (record { caller = c.in_ok-caller.caller; at = to_z w64 (of_z w64 c.args.at) }) c.args.request.now old mid new reply (to_z-of_z w64 c.args.at c.ranges.at) both carries);
     }

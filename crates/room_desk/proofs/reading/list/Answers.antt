@@ -1,55 +1,34 @@
-use Rattle.std.proofs.Common.{[], ◌∷◌, refl, ap, subst, ◌∙◌}
-use Rattle.room_desk.proofs.Calls.{Ruled, none_done, then, then_known, finish, fails, memory, done, of_read}
-use Rattle.room_tree.specs.Rows.{Rows}
-use Rattle.room_desk.proofs.SoundParts.{rootless_unsound}
-use Rattle.room_desk.proofs.Serving.{FolderAt, reached_as, reached_rows, reached_then, reached_unsound, shown, not_served, served_names}
-use Rattle.room_desk.specs.Judged.{NotSound}
-use Rattle.room_desk.specs.declared.arrival.Arrival.TheVariants.{At, Ended}
-use Rattle.room_desk.specs.declared.request.Request.TheVariants.{List as ListFolder}
+use Rattle.std.proofs.Common.{[], ◌∷◌, refl}
+use Rattle.room_judge.proofs.Calls.{none_done, tail_known, finish, fails, done, of_read}
+use Rattle.room_desk.proofs.Blamed.{rootless_damaged}
+use Rattle.room_desk.proofs.Serving.{FolderAt, names_answered, not_served, reached_as, reached_damaged}
+use Rattle.room_judge.specs.declared.arrival.Arrival.TheVariants.{At, Ended}
+use Rattle.room_machine.specs.declared.request.Request.TheVariants.{List as ListFolder}
 use Rattle.room_ace.specs.Rights.{read_data}
-use Rattle.std.proofs.Common.{map}
-use Rattle.room_tree.specs.Content.{children_of}
 use Rattle.room_desk.proofs.reading.list.Goals as goal
 
 pub returns-in_err-arrival : goal.returns-in_err-arrival
 returns-in_err-arrival g c =
     let k = g.K.Keep in
     let m = g.met.K.Keep in
-    let laws : Ruled k.rows k.failures k.Follows k.IsTrusted = record { itself = m.follows_itself; on = m.follows_on; rise = m.failures_rise; first = m.trusted_first; last = m.trusted_last; are = m.are_rows } in
-    record { done = fails laws (none_done laws c.args.keep.now) c.in_err-arrival.ensures.done (λ old mid at same h. subst (λ (r : Rows). NotSound r at) same (rootless_unsound mid at h)) c.from_residual.result c.from_residual.ensures.1 }
+    record { done = fails m.laws (none_done m.laws c.args.keep.now) c.in_err-arrival.ensures.done (λ old mid at same h. rootless_damaged old mid at same h) c.from_residual.result c.from_residual.ensures.1 }
 
 pub returns-in-Ended : goal.returns-in-Ended
 returns-in-Ended g c =
     let k = g.K.Keep in
     let m = g.met.K.Keep in
-    let laws : Ruled k.rows k.failures k.Follows k.IsTrusted = record { itself = m.follows_itself; on = m.follows_on; rise = m.failures_rise; first = m.trusted_first; last = m.trusted_last; are = m.are_rows } in
     record {
-      done = finish laws _ (done c.in_ok-arrival.ensures.done) (λ old new are reached.
+      done = finish m.laws _ (done c.in_ok-arrival.ensures.done) (λ old new are reached.
           not_served c.args.asker.now c.args.path.now (ListFolder c.args.path.now) (FolderAt (read_data ∷ [])) (λ content. refl) (λ site. refl) old new c.in-Ended.reply are (reached_as c.args.asker.now c.args.path.now FolderAt c.read_data.result (read_data ∷ []) _ (Ended c.in-Ended.reply) old new c.read_data.ensures c.in-Ended.is reached));
     }
 
-pub returns-in_err-children-in-At : goal.returns-in_err-children-in-At
-returns-in_err-children-in-At g c =
+pub returns-in-At : goal.returns-in-At
+returns-in-At g c =
     let k = g.K.Keep in
     let m = g.met.K.Keep in
-    let laws : Ruled k.rows k.failures k.Follows k.IsTrusted = record { itself = m.follows_itself; on = m.follows_on; rise = m.failures_rise; first = m.trusted_first; last = m.trusted_last; are = m.are_rows } in
-    record { done = fails laws (done c.in_ok-arrival.ensures.done) (of_read c.in_err-children-in-At.ensures.read) (λ old mid at reached h. reached_unsound c.args.asker.now c.args.path.now _ _ old mid at reached h) c.from_residual-in_err-children-in-At.result c.from_residual-in_err-children-in-At.ensures.1 }
-
-pub returns-in_err-listing-in-At : goal.returns-in_err-listing-in-At
-returns-in_err-listing-in-At g c =
-    let k = g.K.Keep in
-    let m = g.met.K.Keep in
-    let laws : Ruled k.rows k.failures k.Follows k.IsTrusted = record { itself = m.follows_itself; on = m.follows_on; rise = m.failures_rise; first = m.trusted_first; last = m.trusted_last; are = m.are_rows } in
-    record { done = memory laws (then laws {Becomes = λ (old new : Rows). Unit {0}} (done c.in_ok-arrival.ensures.done) (done (of_read c.in_ok-children-in-At.ensures.read)) (λ old mid new reached both. tt)) c.from_residual-in_err-listing-in-At.result c.from_residual-in_err-listing-in-At.ensures.1 }
-
-pub returns-in_ok-listing-in-At : goal.returns-in_ok-listing-in-At
-returns-in_ok-listing-in-At g c =
-    let k = g.K.Keep in
-    let m = g.met.K.Keep in
-    let laws : Ruled k.rows k.failures k.Follows k.IsTrusted = record { itself = m.follows_itself; on = m.follows_on; rise = m.failures_rise; first = m.trusted_first; last = m.trusted_last; are = m.are_rows } in
     record {
-      done = finish laws _ (then_known laws (done c.in_ok-arrival.ensures.done) (done (of_read c.in_ok-children-in-At.ensures.read)) (λ old mid new are reached both.
-          served_names c.args.asker.now c.args.path.now old new c.in-At.node c.in_ok-listing-in-At.listing are (reached_then c.args.asker.now c.args.path.now (FolderAt (read_data ∷ [])) (At c.in-At.node) old mid new both.1 (reached_as c.args.asker.now c.args.path.now FolderAt c.read_data.result (read_data ∷ []) _ (At c.in-At.node) old mid c.read_data.ensures c.in-At.is reached))
-          (c.in_ok-listing-in-At.ensures ∙ ap (map shown) (c.as_slice.ensures ∙ both.0 ∙ reached_rows (λ content. children_of content c.in-At.node.id) c.args.asker.now c.args.path.now _ _ old mid (λ content records. refl) reached))))
-          (λ old new are b. b);
+      done = tail_known m.laws (done c.in_ok-arrival.ensures.done) (of_read c.list_at.ensures.read)
+          (λ old mid at are reached h. reached_damaged c.args.asker.now c.args.path.now _ _ old mid at reached h)
+          (λ old mid reply new are reached told.
+          names_answered c.args.asker.now c.args.path.now old mid new c.in-At.node reply are (reached_as c.args.asker.now c.args.path.now FolderAt c.read_data.result (read_data ∷ []) _ (At c.in-At.node) old mid c.read_data.ensures c.in-At.is reached) told.0 told.1);
     }

@@ -1,11 +1,12 @@
-use Rattle.std.proofs.Common.{[], ◌∷◌, refl, subst}
-use Rattle.room_desk.proofs.Calls.{Ruled, none_done, finish, fails, memory, done}
-use Rattle.room_tree.specs.Rows.{Rows}
-use Rattle.room_desk.proofs.SoundParts.{rootless_unsound}
+use Rattle.std.proofs.Common.{[], ◌∷◌, refl, ap, ◌∙◌}
+use Rattle.room_judge.proofs.Calls.{none_done, finish, fails, memory, done}
+use Rattle.room_rows.specs.HeldList.{Held}
+use Rattle.room_rows.specs.Held.{full_of}
+use Rattle.room_machine.specs.declared.reply.Reply.TheVariants.{Lists}
+use Rattle.room_desk.proofs.Blamed.{rootless_damaged}
 use Rattle.room_desk.proofs.Serving.{CheckAt, reached_as, not_served, served_list}
-use Rattle.room_desk.specs.Judged.{NotSound}
-use Rattle.room_desk.specs.declared.arrival.Arrival.TheVariants.{At, Ended}
-use Rattle.room_desk.specs.declared.request.Request.TheVariants.{ReadList}
+use Rattle.room_judge.specs.declared.arrival.Arrival.TheVariants.{At, Ended}
+use Rattle.room_machine.specs.declared.request.Request.TheVariants.{ReadList}
 use Rattle.room_ace.specs.Rights.{read_acl}
 use Rattle.room_desk.proofs.reading.read_list.Goals as goal
 
@@ -13,16 +14,14 @@ pub returns-in_err-arrival : goal.returns-in_err-arrival
 returns-in_err-arrival g c =
     let k = g.K.Keep in
     let m = g.met.K.Keep in
-    let laws : Ruled k.rows k.failures k.Follows k.IsTrusted = record { itself = m.follows_itself; on = m.follows_on; rise = m.failures_rise; first = m.trusted_first; last = m.trusted_last; are = m.are_rows } in
-    record { done = fails laws (none_done laws c.args.keep.now) c.in_err-arrival.ensures.done (λ old mid at same h. subst (λ (r : Rows). NotSound r at) same (rootless_unsound mid at h)) c.from_residual.result c.from_residual.ensures.1 }
+    record { done = fails m.laws (none_done m.laws c.args.keep.now) c.in_err-arrival.ensures.done (λ old mid at same h. rootless_damaged old mid at same h) c.from_residual.result c.from_residual.ensures.1 }
 
 pub returns-in-Ended : goal.returns-in-Ended
 returns-in-Ended g c =
     let k = g.K.Keep in
     let m = g.met.K.Keep in
-    let laws : Ruled k.rows k.failures k.Follows k.IsTrusted = record { itself = m.follows_itself; on = m.follows_on; rise = m.failures_rise; first = m.trusted_first; last = m.trusted_last; are = m.are_rows } in
     record {
-      done = finish laws _ (done c.in_ok-arrival.ensures.done) (λ old new are reached.
+      done = finish m.laws _ (done c.in_ok-arrival.ensures.done) (λ old new are reached.
           not_served c.args.asker.now c.args.path.now (ReadList c.args.path.now c.args.which) (CheckAt (read_acl ∷ [])) (λ content. refl) (λ site. refl) old new c.in-Ended.reply are (reached_as c.args.asker.now c.args.path.now CheckAt c.read_acl.result (read_acl ∷ []) _ (Ended c.in-Ended.reply) old new c.read_acl.ensures c.in-Ended.is reached));
     }
 
@@ -30,15 +29,13 @@ pub returns-in_err-list_reply-in-At : goal.returns-in_err-list_reply-in-At
 returns-in_err-list_reply-in-At g c =
     let k = g.K.Keep in
     let m = g.met.K.Keep in
-    let laws : Ruled k.rows k.failures k.Follows k.IsTrusted = record { itself = m.follows_itself; on = m.follows_on; rise = m.failures_rise; first = m.trusted_first; last = m.trusted_last; are = m.are_rows } in
-    record { done = memory laws (done c.in_ok-arrival.ensures.done) c.from_residual-in_err-list_reply-in-At.result c.from_residual-in_err-list_reply-in-At.ensures.1 }
+    record { done = memory m.laws (done c.in_ok-arrival.ensures.done) c.from_residual-in_err-list_reply-in-At.result c.from_residual-in_err-list_reply-in-At.ensures.1 }
 
 pub returns-in_ok-list_reply-in-At : goal.returns-in_ok-list_reply-in-At
 returns-in_ok-list_reply-in-At g c =
     let k = g.K.Keep in
     let m = g.met.K.Keep in
-    let laws : Ruled k.rows k.failures k.Follows k.IsTrusted = record { itself = m.follows_itself; on = m.follows_on; rise = m.failures_rise; first = m.trusted_first; last = m.trusted_last; are = m.are_rows } in
     record {
-      done = finish laws _ (done c.in_ok-arrival.ensures.done) (λ old new are reached.
-          served_list c.args.asker.now c.args.path.now c.args.which old new c.in-At.node _ are (reached_as c.args.asker.now c.args.path.now CheckAt c.read_acl.result (read_acl ∷ []) _ (At c.in-At.node) old new c.read_acl.ensures c.in-At.is reached) c.in_ok-list_reply-in-At.ensures);
+      done = finish m.laws _ (done c.in_ok-arrival.ensures.done) (λ old new are reached.
+          served_list c.args.asker.now c.args.path.now c.args.which old new c.in-At.node _ are (reached_as c.args.asker.now c.args.path.now CheckAt c.read_acl.result (read_acl ∷ []) _ (At c.in-At.node) old new c.read_acl.ensures c.in-At.is reached) (c.in_ok-list_reply-in-At.ensures ∙ ap (λ (h : Held). Lists h.flags (full_of h)) c.held.ensures));
     }

@@ -1,23 +1,22 @@
 use Rattle.std.proofs.Common.{[], ◌∷◌, Option, subst}
-use Rattle.room_desk.proofs.Calls.{Ruled, tail, finish, done}
-use Rattle.room_tree.specs.Keep.{IsUnreadable}
-use Rattle.room_tree.specs.Rows.{Rows}
+use Rattle.room_judge.proofs.Calls.{tail, finish, done}
+use Rattle.room_rows.specs.Keep.{IsUnreadable}
+use Rattle.room_rows.specs.Rows.{Rows}
 use Rattle.room_desk.proofs.Acting.{deletion_fails, deletion_passes}
-use Rattle.room_desk.specs.Judged.{IsJudged}
-use Rattle.room_desk.specs.Plan.{Deletion}
-use Rattle.room_desk.specs.Stored.{found_site}
-use Rattle.room_desk.specs.declared.reply.Reply.{Reply}
+use Rattle.room_judge.specs.Judged.{IsJudged}
+use Rattle.room_machine.specs.Plan.{Deletion}
+use Rattle.room_judge.specs.Stored.{found_site}
+use Rattle.room_machine.specs.declared.reply.Reply.{Reply}
 use Rattle.room_desk.proofs.removing.remove_from.Goals as goal
 
 pub returns-in-Some : goal.returns-in-Some
 returns-in-Some g c =
     let k = g.K.Keep in
     let m = g.met.K.Keep in
-    let laws : Ruled k.rows k.failures k.Follows k.IsTrusted = record { itself = m.follows_itself; on = m.follows_on; rise = m.failures_rise; first = m.trusted_first; last = m.trusted_last; are = m.are_rows } in
     let target = found_site c.args.path.now c.args.target.now in
     let folder = found_site c.args.path.now c.args.folder.now in
     record {
-      done = finish laws _ (done c.in_ok-refusal.ensures.done) (λ old new are judged.
+      done = finish m.laws _ (done c.in_ok-refusal.ensures.done) (λ old new are judged.
           deletion_fails c.args.asker.now c.args.path.now target folder c.args.target.now.node.id old new c.in-Some.reply
           (subst (λ (o : Option Reply). IsJudged c.args.asker.now (Deletion target folder ∷ []) old o new) c.in-Some.is judged));
     }
@@ -26,11 +25,10 @@ pub returns-in-None : goal.returns-in-None
 returns-in-None g c =
     let k = g.K.Keep in
     let m = g.met.K.Keep in
-    let laws : Ruled k.rows k.failures k.Follows k.IsTrusted = record { itself = m.follows_itself; on = m.follows_on; rise = m.failures_rise; first = m.trusted_first; last = m.trusted_last; are = m.are_rows } in
     let target = found_site c.args.path.now c.args.target.now in
     let folder = found_site c.args.path.now c.args.folder.now in
     record {
-      done = tail laws (done c.in_ok-refusal.ensures.done) c.remove_childless.ensures.done (λ old mid at judged h. subst (λ (r : Rows). IsUnreadable r at) judged.notes h)
+      done = tail m.laws (done c.in_ok-refusal.ensures.done) c.remove_childless.ensures.done (λ old mid at judged h. subst (λ (r : Rows). IsUnreadable r at) judged.notes h)
           (λ old mid reply new judged removes.
           deletion_passes c.args.asker.now c.args.path.now target folder c.args.target.now.node.id old mid new reply
           (subst (λ (o : Option Reply). IsJudged c.args.asker.now (Deletion target folder ∷ []) old o mid) c.in-None.is judged) removes);

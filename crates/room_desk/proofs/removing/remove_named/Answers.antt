@@ -1,28 +1,23 @@
 use Rattle.std.proofs.Common.{subst}
-use Rattle.room_desk.proofs.Calls.{Ruled, none_done, tail_known, finish, fails, done}
-use Rattle.room_tree.specs.Keep.{IsUnreadable}
-use Rattle.room_tree.specs.Rows.{Rows}
-use Rattle.room_desk.proofs.SoundParts.{readable_unsound, rootless_unsound}
+use Rattle.room_judge.proofs.Calls.{none_done, tail_known, finish, fails, done}
+use Rattle.room_desk.proofs.Blamed.{noted_unread, rootless_damaged}
 use Rattle.room_desk.proofs.GoneSteps.{has_name, remove_done, remove_halted}
-use Rattle.room_desk.specs.Judged.{NotSound}
-use Rattle.room_desk.specs.Spot.{IsPaired}
-use Rattle.room_desk.specs.declared.arrival.Pair.{Pair}
+use Rattle.room_judge.specs.Spot.{IsPaired}
+use Rattle.room_judge.specs.declared.arrival.Pair.{Pair}
 use Rattle.room_desk.proofs.removing.remove_named.Goals as goal
 
 pub returns-in_err-pair : goal.returns-in_err-pair
 returns-in_err-pair g c =
     let k = g.K.Keep in
     let m = g.met.K.Keep in
-    let laws : Ruled k.rows k.failures k.Follows k.IsTrusted = record { itself = m.follows_itself; on = m.follows_on; rise = m.failures_rise; first = m.trusted_first; last = m.trusted_last; are = m.are_rows } in
-    record { done = fails laws (none_done laws c.args.keep.now) c.in_err-pair.ensures.done (λ old mid at same h. subst (λ (r : Rows). NotSound r at) same (rootless_unsound mid at h)) c.from_residual.result c.from_residual.ensures.1 }
+    record { done = fails m.laws (none_done m.laws c.args.keep.now) c.in_err-pair.ensures.done (λ old mid at same h. rootless_damaged old mid at same h) c.from_residual.result c.from_residual.ensures.1 }
 
 pub returns-in-Halted : goal.returns-in-Halted
 returns-in-Halted g c =
     let k = g.K.Keep in
     let m = g.met.K.Keep in
-    let laws : Ruled k.rows k.failures k.Follows k.IsTrusted = record { itself = m.follows_itself; on = m.follows_on; rise = m.failures_rise; first = m.trusted_first; last = m.trusted_last; are = m.are_rows } in
     record {
-      done = finish laws _ (done c.in_ok-pair.ensures.done) (λ old new are paired.
+      done = finish m.laws _ (done c.in_ok-pair.ensures.done) (λ old new are paired.
           remove_halted c.args.asker.now c.args.path.now old new c.in-Halted.reply are (subst (λ (p : Pair). IsPaired c.args.asker.now c.args.path.now old p new) c.in-Halted.is paired));
     }
 
@@ -30,9 +25,8 @@ pub returns-in-Both : goal.returns-in-Both
 returns-in-Both g c =
     let k = g.K.Keep in
     let m = g.met.K.Keep in
-    let laws : Ruled k.rows k.failures k.Follows k.IsTrusted = record { itself = m.follows_itself; on = m.follows_on; rise = m.failures_rise; first = m.trusted_first; last = m.trusted_last; are = m.are_rows } in
     record {
-      done = tail_known laws (done c.in_ok-pair.ensures.done) c.remove_from.ensures.done (λ old mid at are paired h. readable_unsound old at (subst (λ (r : Rows). IsUnreadable r at) paired.judged.notes h))
+      done = tail_known m.laws (done c.in_ok-pair.ensures.done) c.remove_from.ensures.done (λ old mid at are paired h. noted_unread old mid _ at paired.judged.notes h)
           (λ old mid reply new are paired acts.
           remove_done c.args.asker.now c.args.path.now old mid c.in-Both.folder c.in-Both.target are (has_name c.args.path.now c.requires)
           (subst (λ (p : Pair). IsPaired c.args.asker.now c.args.path.now old p mid) c.in-Both.is paired) new reply acts);

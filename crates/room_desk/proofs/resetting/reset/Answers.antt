@@ -1,10 +1,10 @@
 use Rattle.std.proofs.Common.{List, length, arith, refl, ◌≡◌, [], ◌∷◌, sym, subst, ◌∙◌}
-use Rattle.room_desk.proofs.Calls.{Ruled, none_done, tail_known, fails, damaged, done, of_read}
-use Rattle.room_tree.specs.Rows.{Rows}
-use Rattle.room_tree.specs.declared.node.Node.{Node}
-use Rattle.room_desk.proofs.SetReset.{no_walk, reset_blames, reset_done}
-use Rattle.room_desk.proofs.SoundParts.{rootless_unsound}
-use Rattle.room_desk.specs.Judged.{NotSound}
+use Rattle.room_judge.proofs.Calls.{none_done, tail_known, fails, damaged, done, of_read}
+use Rattle.room_rows.specs.Rows.{Rows}
+use Rattle.room_rows.specs.declared.node.Node.{Node}
+use Rattle.room_desk.proofs.RootedWays.{no_walk}
+use Rattle.room_desk.proofs.SetReset.{reset_blames, reset_done}
+use Rattle.room_desk.proofs.Blamed.{rootless_damaged}
 use Rattle.room_desk.proofs.resetting.reset.Goals as goal
 
 no_length : (nodes : List Node) → length nodes ≡ 0 → nodes ≡ []
@@ -15,28 +15,25 @@ pub returns-in_err-found : goal.returns-in_err-found
 returns-in_err-found g c =
     let k = g.K.Keep in
     let m = g.met.K.Keep in
-    let laws : Ruled k.rows k.failures k.Follows k.IsTrusted = record { itself = m.follows_itself; on = m.follows_on; rise = m.failures_rise; first = m.trusted_first; last = m.trusted_last; are = m.are_rows } in
-    record { done = fails laws (none_done laws c.args.keep.now) (of_read c.in_err-found.ensures.read) (λ old mid at same h. subst (λ (r : Rows). NotSound r at) same (rootless_unsound mid at h)) c.from_residual.result c.from_residual.ensures.1 }
+    record { done = fails m.laws (none_done m.laws c.args.keep.now) (of_read c.in_err-found.ensures.read) (λ old mid at same h. rootless_damaged old mid at same h) c.from_residual.result c.from_residual.ensures.1 }
 
 pub returns-in-None : goal.returns-in-None
 returns-in-None g c =
     let k = g.K.Keep in
     let m = g.met.K.Keep in
-    let laws : Ruled k.rows k.failures k.Follows k.IsTrusted = record { itself = m.follows_itself; on = m.follows_on; rise = m.failures_rise; first = m.trusted_first; last = m.trusted_last; are = m.are_rows } in
     let none = sym c.into_vec-chain.ensures ∙ no_length c.into_vec-chain.result.items (sym c.into_vec-chain.result.ok.0 ∙ c.in-None.ensures.cases.0) in
     record {
-      done = damaged laws (done (of_read c.in_ok-found.ensures.read)) (λ old new are both. no_walk c.args.path.now old c.in_ok-found.found 0 both.0 none);
+      done = damaged m.laws (done (of_read c.in_ok-found.ensures.read)) (λ old new are both. no_walk c.args.path.now old c.in_ok-found.found both.0 none);
     }
 
 pub returns : goal.returns
 returns g c =
     let k = g.K.Keep in
     let m = g.met.K.Keep in
-    let laws : Ruled k.rows k.failures k.Follows k.IsTrusted = record { itself = m.follows_itself; on = m.follows_on; rise = m.failures_rise; first = m.trusted_first; last = m.trusted_last; are = m.are_rows } in
     let chain = sym c.into_vec-chain.ensures ∙ c.in-Some.ensures.items in
     let front = c.pop.new.self.items in
     record {
-      done = tail_known laws (done (of_read c.in_ok-found.ensures.read)) c.reset_at_end.ensures.done
+      done = tail_known m.laws (done (of_read c.in_ok-found.ensures.read)) c.reset_at_end.ensures.done
           (λ old mid at are both h. reset_blames c.args.path.now c.args.which c.args.sent.now old mid c.in_ok-found.found front c.in-Some.last both.0 both.1 chain at are h)
           (λ old mid reply new are both said. reset_done c.args.path.now c.args.which c.args.sent.now old mid c.in_ok-found.found front c.in-Some.last both.0 both.1 chain new reply are said);
     }

@@ -1,11 +1,10 @@
 use Rattle.std.proofs.Common.{[], ◌∷◌, subst}
-use Rattle.room_desk.proofs.Calls.{Ruled, none_done, tail_known, finish, fails, done}
-use Rattle.room_tree.specs.Rows.{Rows}
+use Rattle.room_judge.proofs.Calls.{none_done, tail_known, finish, fails, done}
+use Rattle.room_rows.specs.Rows.{Rows}
 use Rattle.room_desk.proofs.Appending.{append_ended, append_done, append_blames}
-use Rattle.room_desk.proofs.SoundParts.{rootless_unsound}
+use Rattle.room_desk.proofs.Blamed.{rootless_damaged}
 use Rattle.room_desk.proofs.Serving.{DocumentAt, reached_as}
-use Rattle.room_desk.specs.Judged.{NotSound}
-use Rattle.room_desk.specs.declared.arrival.Arrival.TheVariants.{At, Ended}
+use Rattle.room_judge.specs.declared.arrival.Arrival.TheVariants.{At, Ended}
 use Rattle.room_ace.specs.Rights.{append_data}
 use Rattle.room_desk.proofs.writing.append.Goals as goal
 
@@ -13,16 +12,14 @@ pub returns-in_err-arrival : goal.returns-in_err-arrival
 returns-in_err-arrival g c =
     let k = g.K.Keep in
     let m = g.met.K.Keep in
-    let laws : Ruled k.rows k.failures k.Follows k.IsTrusted = record { itself = m.follows_itself; on = m.follows_on; rise = m.failures_rise; first = m.trusted_first; last = m.trusted_last; are = m.are_rows } in
-    record { done = fails laws (none_done laws c.args.keep.now) c.in_err-arrival.ensures.done (λ old mid at same h. subst (λ (r : Rows). NotSound r at) same (rootless_unsound mid at h)) c.from_residual.result c.from_residual.ensures.1 }
+    record { done = fails m.laws (none_done m.laws c.args.keep.now) c.in_err-arrival.ensures.done (λ old mid at same h. rootless_damaged old mid at same h) c.from_residual.result c.from_residual.ensures.1 }
 
 pub returns-in-Ended : goal.returns-in-Ended
 returns-in-Ended g c =
     let k = g.K.Keep in
     let m = g.met.K.Keep in
-    let laws : Ruled k.rows k.failures k.Follows k.IsTrusted = record { itself = m.follows_itself; on = m.follows_on; rise = m.failures_rise; first = m.trusted_first; last = m.trusted_last; are = m.are_rows } in
     record {
-      done = finish laws _ (done c.in_ok-arrival.ensures.done) (λ old new are reached.
+      done = finish m.laws _ (done c.in_ok-arrival.ensures.done) (λ old new are reached.
           append_ended c.args.asker.now c.args.path.now c.args.bytes.now old new c.in-Ended.reply are (reached_as c.args.asker.now c.args.path.now DocumentAt c.append_data.result (append_data ∷ []) _ (Ended c.in-Ended.reply) old new c.append_data.ensures c.in-Ended.is reached));
     }
 
@@ -30,9 +27,8 @@ pub returns-in-At : goal.returns-in-At
 returns-in-At g c =
     let k = g.K.Keep in
     let m = g.met.K.Keep in
-    let laws : Ruled k.rows k.failures k.Follows k.IsTrusted = record { itself = m.follows_itself; on = m.follows_on; rise = m.failures_rise; first = m.trusted_first; last = m.trusted_last; are = m.are_rows } in
     record {
-      done = tail_known laws (done c.in_ok-arrival.ensures.done) c.append_at.ensures.done
+      done = tail_known m.laws (done c.in_ok-arrival.ensures.done) c.append_at.ensures.done
           (λ old mid at are reached h. append_blames c.args.asker.now c.args.path.now c.args.bytes.now old mid c.in-At.node are (reached_as c.args.asker.now c.args.path.now DocumentAt c.append_data.result (append_data ∷ []) _ (At c.in-At.node) old mid c.append_data.ensures c.in-At.is reached) at h)
           (λ old mid reply new are reached appended. append_done c.args.asker.now c.args.path.now c.args.bytes.now old mid c.in-At.node are (reached_as c.args.asker.now c.args.path.now DocumentAt c.append_data.result (append_data ∷ []) _ (At c.in-At.node) old mid c.append_data.ensures c.in-At.is reached) new reply appended);
     }

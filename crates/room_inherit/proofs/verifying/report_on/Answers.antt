@@ -1,6 +1,6 @@
 use Rattle.std.proofs.Common.{sym, ap, ◌∙◌}
 use Rattle.std.specs.Option.{option_copied}
-use Rattle.room_tree.proofs.Steps.{Laws, none_yet, seen, answered}
+use Rattle.room_rows.proofs.Steps.{none_yet, seen, answered}
 use Rattle.room_inherit.specs.declared.report.Report.TheVariants.{Sound}
 use Rattle.room_inherit.proofs.Reported.{by_tree, by_body, by_law, by_none}
 use Rattle.room_inherit.proofs.verifying.report_on.Goals as goal
@@ -9,9 +9,8 @@ pub returns-in-Some : goal.returns-in-Some
 returns-in-Some g c =
     let k = g.K.Keep in
     let m = g.met.K.Keep in
-    let laws : Laws k.rows k.failures k.writes k.Follows k.IsTrusted = record { itself = m.follows_itself; on = m.follows_on; rise = m.failures_rise; first = m.trusted_first; last = m.trusted_last } in
     record {
-      read = answered k.rows k.failures k.writes k.Follows k.IsTrusted c.args.keep.now c.args.keep.now c.in-Some.report (none_yet k.rows k.failures k.writes k.Follows k.IsTrusted laws c.args.keep.now)
+      read = answered k.rows k.failures k.writes k.Follows k.IsTrusted c.args.keep.now c.args.keep.now c.in-Some.report (none_yet k.rows k.failures k.writes k.Follows k.IsTrusted m.laws c.args.keep.now)
           (λ t are lists. by_tree (k.rows c.args.keep.now) c.args.objects.now are lists c.in-Some.report (sym c.in-Some.is ∙ c.in_ok-report.ensures));
     }
 

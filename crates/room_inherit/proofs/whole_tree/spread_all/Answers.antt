@@ -1,5 +1,4 @@
 use Rattle.std.proofs.Common.{ℕ, Result, Ok, sym, subst}
-use Rattle.room_tree.proofs.Steps.{Laws}
 use Rattle.room_inherit.specs.declared.outcome.Spread.{Spread}
 use Rattle.room_inherit.specs.declared.outcome.SpreadFault.{SpreadFault}
 use Rattle.room_inherit.proofs.BothSwept.{SpreadsAll, first_fails, second_fails, both_done}
@@ -10,7 +9,6 @@ pub returns-in_err-dacls : goal.returns-in_err-dacls
 returns-in_err-dacls g c =
     let k = g.K.Keep in
     let m = g.met.K.Keep in
-    let laws : Laws k.rows k.failures k.writes k.Follows k.IsTrusted = record { itself = m.follows_itself; on = m.follows_on; rise = m.failures_rise; first = m.trusted_first; last = m.trusted_last } in
     let a = c.args.keep.now in
     let fault = c.in_err-dacls.field-0.0 in
     let is = handed_on c.from_residual.result fault c.from_residual.ensures.1 in
@@ -20,19 +18,17 @@ pub returns-in_err-sacls : goal.returns-in_err-sacls
 returns-in_err-sacls g c =
     let k = g.K.Keep in
     let m = g.met.K.Keep in
-    let laws : Laws k.rows k.failures k.writes k.Follows k.IsTrusted = record { itself = m.follows_itself; on = m.follows_on; rise = m.failures_rise; first = m.trusted_first; last = m.trusted_last } in
     let a = c.args.keep.now in
     let fault = c.in_err-sacls.field-0.0 in
     let is = handed_on c.from_residual-in_err-sacls.result fault c.from_residual-in_err-sacls.ensures.1 in
-    record { spread = subst (λ (r : Result Spread SpreadFault). SpreadsAll k.rows k.failures k.writes k.Follows k.IsTrusted a c.sweep-2.new.keep r) (sym is) (second_fails k.rows k.failures k.writes k.Follows k.IsTrusted laws a c.sweep.new.keep c.sweep-2.new.keep c.in_ok-dacls.dacls c.in_ok-dacls.ensures.swept fault c.in_err-sacls.ensures.swept) }
+    record { spread = subst (λ (r : Result Spread SpreadFault). SpreadsAll k.rows k.failures k.writes k.Follows k.IsTrusted a c.sweep-2.new.keep r) (sym is) (second_fails k.rows k.failures k.writes k.Follows k.IsTrusted m.laws a c.sweep.new.keep c.sweep-2.new.keep c.in_ok-dacls.dacls c.in_ok-dacls.ensures.swept fault c.in_err-sacls.ensures.swept) }
 
 pub returns : goal.returns
 returns g c =
     let k = g.K.Keep in
     let m = g.met.K.Keep in
-    let laws : Laws k.rows k.failures k.writes k.Follows k.IsTrusted = record { itself = m.follows_itself; on = m.follows_on; rise = m.failures_rise; first = m.trusted_first; last = m.trusted_last } in
     let a = c.args.keep.now in
     record {
       spread = subst (λ (n : ℕ). SpreadsAll k.rows k.failures k.writes k.Follows k.IsTrusted a c.sweep-2.new.keep (Ok (record { changed = n }))) (sym c.saturating_add.ensures)
-          (both_done k.rows k.failures k.writes k.Follows k.IsTrusted laws a c.sweep.new.keep c.sweep-2.new.keep c.in_ok-dacls.dacls c.in_ok-dacls.ensures.swept c.in_ok-sacls.sacls c.in_ok-sacls.ensures.swept);
+          (both_done k.rows k.failures k.writes k.Follows k.IsTrusted m.laws a c.sweep.new.keep c.sweep-2.new.keep c.in_ok-dacls.dacls c.in_ok-dacls.ensures.swept c.in_ok-sacls.sacls c.in_ok-sacls.ensures.swept);
     }

@@ -1,5 +1,5 @@
 use Rattle.std.proofs.Common.{◌≡◌, ◌++◌, take, drop}
-use Rattle.room_tree.specs.Content.{put_pair}
+use Rattle.room_rows.specs.Content.{put_pair}
 use Rattle.room_tree.proofs.lists.count_before.Given as goal
 
 -- the pairs so far stand before the place

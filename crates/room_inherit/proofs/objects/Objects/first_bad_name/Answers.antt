@@ -2,7 +2,7 @@ use Rattle.std.proofs.Common.{◌≡◌, true, false, not, take, sym, ap, ◌∙
 use Rattle.std.specs.List.{list_any}
 use Rattle.std.specs.BTreeSet.{contains}
 use Rattle.std.proofs.lemmas.Bool.{and_left, and_right, and_from}
-use Rattle.room_tree.specs.Paths.{is_object_name}
+use Rattle.room_rows.specs.Paths.{is_object_name}
 use Rattle.room_inherit.specs.Objects.{only}
 use Rattle.room_inherit.specs.Sound.{has_sound_name}
 use Rattle.room_inherit.proofs.Given.{key_order, holds, one_more, name_test}

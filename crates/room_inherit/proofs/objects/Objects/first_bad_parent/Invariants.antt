@@ -1,7 +1,7 @@
 use Rattle.std.proofs.Common.{◌≡◌, not, drop}
 use Rattle.std.specs.List.{find}
-use Rattle.room_tree.specs.declared.node.Node.{Node}
-use Rattle.room_tree.specs.Content.{has_folder_above}
+use Rattle.room_rows.specs.declared.node.Node.{Node}
+use Rattle.room_rows.specs.Content.{has_folder_above}
 use Rattle.room_inherit.specs.Objects.{only}
 use Rattle.room_inherit.proofs.objects.Objects.first_bad_parent.Given as goal
 

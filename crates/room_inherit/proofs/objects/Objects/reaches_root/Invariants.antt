@@ -1,5 +1,5 @@
 use Rattle.std.proofs.Common.{◌≡◌, ◌-◌, length}
-use Rattle.room_tree.specs.Content.{reaches_root}
+use Rattle.room_rows.specs.Content.{reaches_root}
 use Rattle.room_inherit.specs.Objects.{only}
 use Rattle.room_inherit.specs.Sound.{reaches}
 use Rattle.room_inherit.proofs.objects.Objects.reaches_root.Given as goal

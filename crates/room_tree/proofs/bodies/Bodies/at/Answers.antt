@@ -1,6 +1,6 @@
 use Rattle.std.proofs.Common.{◌∙◌, Some, sym, ap}
 use Rattle.std.specs.Option.{option_copied}
-use Rattle.room_tree.specs.Content.{body_in}
+use Rattle.room_rows.specs.Content.{body_in}
 use Rattle.room_tree.proofs.Kept.{body_at}
 use Rattle.room_tree.proofs.bodies.Bodies.at.Goals as goal
 

@@ -1,5 +1,5 @@
 use Rattle.std.proofs.Common.{◌∙◌, ap}
-use Rattle.room_tree.specs.Content.{put_body}
+use Rattle.room_rows.specs.Content.{put_body}
 use Rattle.room_tree.proofs.Kept.{body_put}
 use Rattle.room_tree.proofs.bodies.Bodies.put.Goals as goal
 

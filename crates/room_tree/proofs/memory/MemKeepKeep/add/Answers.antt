@@ -1,12 +1,12 @@
 use Rattle.std.proofs.Common.{◌≡◌, ◌∙◌, ◌+◌, ap, refl, arith, if◌then◌else◌}
 use Rattle.room_ace.specs.Valid.{is_document}
-use Rattle.room_tree.specs.declared.keep.KeepFault.TheVariants.{Memory}
-use Rattle.room_tree.specs.Content.{put_body, put_node}
-use Rattle.room_tree.specs.Finding.{find_id}
-use Rattle.room_tree.specs.Keep.{node_of}
+use Rattle.room_rows.specs.declared.keep.KeepFault.TheVariants.{Memory}
+use Rattle.room_rows.specs.Content.{put_body, put_node}
+use Rattle.room_rows.specs.Finding.{find_id}
+use Rattle.room_rows.specs.Keep.{node_of}
 use Rattle.room_tree.specs.Objects.{greatest}
 use Rattle.room_tree.proofs.Changed.{added, added_rows, node_rows, none_past, err_writes, err_becomes, err_fault}
-use Rattle.room_tree.proofs.Steps.{handed_on}
+use Rattle.room_rows.proofs.Steps.{handed_on}
 use Rattle.room_tree.proofs.memory.MemKeepKeep.add.Goals as goal
 
 pub add-requires-clause-new : goal.add-requires-clause-new
@@ -15,38 +15,36 @@ add-requires-clause-new c =
     let same = ap (λ r. r.0.id) c.at_number-object.ensures in
     ap (λ i. find_id i c.args.self.now.nodes) same ∙ none_past c.args.self.now.nodes c.in-Some.id (omega (arith, next))
 
-pub returns-in_err-put_new : goal.returns-in_err-put_new
-returns-in_err-put_new c =
+pub returns-in_err-put_new-clause-written : goal.returns-in_err-put_new-clause-written
+returns-in_err-put_new-clause-written c =
     let k = c.args.self.now in
     let next : c.in-Some.id ≡ greatest k.nodes + 1 = c.in-Some.ensures in
     let same = ap (λ r. r.0.id) c.at_number-object.ensures in
     let is = handed_on c.from_residual-in_err-put_new.result Memory c.from_residual-in_err-put_new.ensures.1 in
     record {
-      written = record {
-        follows = (omega arith, node_rows k.nodes c.add.new.self k.bodies c.put_new.new.self k.members k.notes c.at_number-object.result.0 (omega (arith, next, same)) c.in_ok-add.ensures.ok c.in_err-put_new.ensures.err);
-        written = err_writes c.from_residual-in_err-put_new.result Memory _ is;
-        becomes = λ t. err_becomes c.from_residual-in_err-put_new.result Memory _ is;
-        fault = err_fault c.from_residual-in_err-put_new.result _ _ _ is;
-      };
+      follows = (omega arith, node_rows k.nodes c.add.new.self k.bodies c.put_new.new.self k.members k.notes c.at_number-object.result.0 (omega (arith, next, same)) c.in_ok-add.ensures.ok c.in_err-put_new.ensures.err);
+      written = err_writes c.from_residual-in_err-put_new.result Memory _ is;
+      becomes = λ t. err_becomes c.from_residual-in_err-put_new.result Memory _ is;
+      unfailed = err_becomes c.from_residual-in_err-put_new.result Memory _ is;
+      fault = err_fault c.from_residual-in_err-put_new.result _ _ _ is;
     }
 
-pub returns : goal.returns
-returns c =
+pub returns-clause-written : goal.returns-clause-written
+returns-clause-written c =
     let k = c.args.self.now in
     let next : c.in-Some.id ≡ greatest k.nodes + 1 = c.in-Some.ensures in
     let puts : c.add.new.self ≡ put_node (node_of c.in-Some.id c.args.node) k.nodes = c.in_ok-add.ensures.ok ∙ ap (λ r. put_node r.0 k.nodes) c.at_number-object.ensures in
     let fills : c.put_new.new.self ≡ (if is_document c.args.node.kind then put_body c.in-Some.id c.args.node.bytes k.bodies else k.bodies) =
     c.in_ok-put_new.ensures.ok ∙ ap (λ r. if is_document c.args.node.kind then put_body c.in-Some.id r.1 k.bodies else k.bodies) c.at_number-object.ensures in
     record {
-      written = record {
-        follows = (omega arith, added_rows k.nodes c.add.new.self k.bodies c.put_new.new.self k.members k.notes c.in-Some.id c.args.node (omega (arith, next)) puts fills);
-        written = c.count_one.ensures.capped;
-        becomes = λ t can. record {
-          from_one = omega (arith, next);
-          is_new = none_past k.nodes c.in-Some.id (omega (arith, next));
-          is_free = refl;
-          becomes = added k.nodes c.add.new.self k.bodies c.put_new.new.self k.members k.notes c.in-Some.id c.args.node puts fills;
-        };
-        fault = tt;
+      follows = (omega arith, added_rows k.nodes c.add.new.self k.bodies c.put_new.new.self k.members k.notes c.in-Some.id c.args.node (omega (arith, next)) puts fills);
+      written = c.count_one.ensures.capped;
+      becomes = λ t can. record {
+        from_one = omega (arith, next);
+        is_new = none_past k.nodes c.in-Some.id (omega (arith, next));
+        is_free = refl;
+        becomes = added k.nodes c.add.new.self k.bodies c.put_new.new.self k.members k.notes c.in-Some.id c.args.node puts fills;
       };
+      unfailed = refl;
+      fault = tt;
     }

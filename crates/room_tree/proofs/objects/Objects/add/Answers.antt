@@ -1,5 +1,5 @@
 use Rattle.std.proofs.Common.{◌∙◌, ap, string_bytes}
-use Rattle.room_tree.specs.Finding.{find_named}
+use Rattle.room_rows.specs.Finding.{find_named}
 use Rattle.room_tree.proofs.Tying.{tied_listed, tied_added, put_view}
 use Rattle.room_tree.proofs.objects.Objects.add.Goals as goal
 

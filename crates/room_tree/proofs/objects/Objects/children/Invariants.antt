@@ -1,5 +1,5 @@
 use Rattle.std.proofs.Common.{◌≡◌, ◌++◌, filter}
-use Rattle.room_tree.specs.Content.{has_parent, sorted_by_name}
+use Rattle.room_rows.specs.Content.{has_parent, sorted_by_name}
 use Rattle.room_tree.specs.Places.{standing_under}
 use Rattle.room_tree.proofs.objects.Objects.children.Given as goal
 

@@ -1,5 +1,5 @@
 use Rattle.std.proofs.Common.{◌≡◌}
-use Rattle.room_tree.specs.Finding.{first_root}
+use Rattle.room_rows.specs.Finding.{first_root}
 use Rattle.room_tree.proofs.objects.Objects.first_root.Given as goal
 
 -- what is left has the same answer

@@ -1,5 +1,5 @@
 use Rattle.std.proofs.Common.{◌≡◌, ◌++◌, map}
-use Rattle.room_tree.specs.declared.node.Node.{Node}
+use Rattle.room_rows.specs.declared.node.Node.{Node}
 use Rattle.room_tree.proofs.objects.Objects.numbers.Given as goal
 
 -- the numbers so far, and those of the objects that are left

@@ -1,5 +1,0 @@
-use Rattle.room_inherit.proofs.Rooted.{rooted_no_loop}
-use Rattle.room_inherit.proofs.ancestry.rooted_is_no_loop.Goals as goal
-
-pub returns : goal.returns
-returns c = rooted_no_loop

@@ -1,0 +1,188 @@
+-- Items that are judged as they come, one after the other.
+use Rattle.std.proofs.Common.{◌≡◌, ℕ, ℤ, Bool, true, false, cond, not, List, [], ◌∷◌, ◌++◌, Option, Some, None, refl, sym, ap, subst, ◌∙◌, append_assoc}
+use Rattle.std.proofs.lemmas.List.{append-nil}
+use Rattle.std.specs.Prelude.{is_none, is_some}
+use Rattle.room_ace.specs.Rights.{delete, delete_child, write_data}
+use Rattle.room_ace.specs.declared.parties.Caller.{Caller}
+use Rattle.room_rows.specs.declared.node.AuditRow.{AuditRow}
+use Rattle.room_rows.specs.Keep.{IsUnreadable, reading}
+use Rattle.room_rows.specs.Rows.{Rows}
+use Rattle.room_judge.specs.declared.asker.Asker.{Asker}
+use Rattle.room_machine.specs.declared.reply.Reply.{Reply}
+use Rattle.room_machine.specs.declared.reply.Reply.TheVariants.{Refused}
+use Rattle.room_machine.specs.declared.reply.Reason.{Reason}
+use Rattle.room_machine.specs.declared.reply.Reason.TheVariants.{WrongKind}
+use Rattle.room_ace.specs.Valid.{is_document}
+use Rattle.room_ace.specs.declared.object.ObjKind.{ObjKind}
+use Rattle.room_ace.specs.declared.object.ObjKind.TheVariants.{Document, Folder}
+use Rattle.room_machine.specs.Site.{Site}
+use Rattle.room_machine.specs.Plan.{Item, Check, Deletion, Refusal}
+use Rattle.room_machine.specs.Judge.{by_adding, failure, passes, or_else, first_failure, records_of, records_of_checks, checks_of, records_of_plan}
+use Rattle.room_judge.specs.Judged.{IsJudged, noted, of_kind, is_other}
+
+-- ---- records behind records
+
+abbrev with_audits : Rows → List AuditRow → Rows
+with_audits old audits = reading old (record old.read { audits = audits })
+
+pub noted_none : (old : Rows) → noted old [] ≡ old
+noted_none old = ap (with_audits old) (append-nil old.read.audits)
+
+pub noted_more : (old : Rows) (first second : List AuditRow) → noted (noted old first) second ≡ noted old (first ++ second)
+noted_more old first second = ap (with_audits old) (append_assoc old.read.audits first second)
+
+-- ---- lists of items in parts
+
+or_else_none : (o : Option Reply) → or_else o None ≡ o
+or_else_none None = refl
+or_else_none (Some reply) = refl
+
+or_else_group : (a b c : Option Reply) → or_else a (or_else b c) ≡ or_else (or_else a b) c
+or_else_group None b c = refl
+or_else_group (Some reply) b c = refl
+
+module _ (caller : Caller) (moment : ℤ) where
+  pub failure_of_parts : (items others : List Item) → first_failure caller (items ++ others) ≡ or_else (first_failure caller items) (first_failure caller others)
+  failure_of_parts [] others = refl
+  failure_of_parts (item ∷ items) others = ap (or_else (failure caller item)) (failure_of_parts items others) ∙ or_else_group (failure caller item) (first_failure caller items) (first_failure caller others)
+
+  -- the records of a second part are added where the first passes
+  pub records_of_parts : (items others : List Item)
+      → records_of_plan caller moment (items ++ others) ≡ records_of_plan caller moment items ++ cond (is_none (first_failure caller items)) (records_of_plan caller moment others) []
+  records_of_parts [] others = refl
+  records_of_parts (item ∷ items) others =
+      ap (λ rest. here ++ cond (passes caller item) rest []) (records_of_parts items others) ∙ on (failure caller item) here
+    where
+      here : List AuditRow
+      here = records_of_checks caller moment (passes caller item) (checks_of caller item)
+
+      on : (o : Option Reply) (first : List AuditRow)
+          → first ++ cond (is_none o) (records_of_plan caller moment items ++ cond (is_none (first_failure caller items)) (records_of_plan caller moment others) []) []
+          ≡ (first ++ cond (is_none o) (records_of_plan caller moment items) []) ++ cond (is_none (or_else o (first_failure caller items))) (records_of_plan caller moment others) []
+      on None first = sym (append_assoc first (records_of_plan caller moment items) _)
+      on (Some reply) first = sym (append-nil (first ++ []))
+
+  -- one check alone
+  pub records_of_check : (site : Site) (bits : List ℕ) → records_of_plan caller moment (Check site bits ∷ []) ≡ records_of caller moment (passes caller (Check site bits)) (site, bits)
+  records_of_check site bits = on (passes caller (Check site bits))
+    where
+      on : (t : Bool) → records_of_checks caller moment t ((site, bits) ∷ []) ++ cond t [] [] ≡ records_of caller moment t (site, bits)
+      on true = append-nil _ ∙ append-nil _
+      on false = append-nil _ ∙ append-nil _
+
+-- the refusal of another kind
+pub kind_item : (wanted : ObjKind) (site : Site) → of_kind wanted site ≡ Refusal site.path WrongKind (is_other site.node.kind wanted)
+kind_item Document site = refl
+kind_item Folder site = ap (λ (t : Bool). Refusal site.path WrongKind t) (twice (is_document site.node.kind))
+  where
+    twice : (t : Bool) → not (not t) ≡ t
+    twice true = refl
+    twice false = refl
+
+-- what `is_none` answers
+pub none_is : {X : Type 0} (o : Option X) (t : Bool) → is_some o ≡ not t → t ≡ is_none o
+none_is None true is = refl
+none_is None false is = is
+none_is (Some x) true is = is
+none_is (Some x) false is = refl
+
+-- ---- judging in parts
+
+module _ (asker : Asker) where
+  pub judged_none : (old new : Rows) → new ≡ old → IsJudged asker [] old None new
+  judged_none old new same = record { answers = refl; notes = same ∙ sym (noted_none old) }
+
+  pub judged_check : (site : Site) (bits : List ℕ) (old new : Rows) (answer : Option Reply) → answer ≡ failure asker.caller (Check site bits)
+      → new ≡ noted old (records_of asker.caller asker.at (is_none answer) (site, bits)) → IsJudged asker (Check site bits ∷ []) old answer new
+  judged_check site bits old new answer is notes = record {
+    answers = is ∙ sym (or_else_none (failure asker.caller (Check site bits)));
+    notes = notes ∙ ap (λ o. noted old (records_of asker.caller asker.at (is_none o) (site, bits))) is ∙ ap (noted old) (sym (records_of_check asker.caller asker.at site bits));
+  }
+
+  pub judged_deletion : (target parent : Site) (second : List ℕ) (old new : Rows) (answer : Option Reply) → answer ≡ failure asker.caller (Deletion target parent) → second ≡ cond (by_adding asker.caller target parent) write_data delete_child ∷ []
+      → new ≡ noted old (records_of_checks asker.caller asker.at (is_none answer) ((target, delete ∷ []) ∷ (parent, second) ∷ [])) → IsJudged asker (Deletion target parent ∷ []) old answer new
+  judged_deletion target parent second old new answer is rights notes = record {
+    answers = is ∙ sym (or_else_none (failure asker.caller (Deletion target parent)));
+    notes = notes ∙ ap (λ o. noted old (of_both (is_none o) second)) is ∙ ap (λ s. noted old (of_both (passes asker.caller (Deletion target parent)) s)) rights
+        ∙ ap (noted old) (sym (plain (passes asker.caller (Deletion target parent))));
+  }
+    where
+      of_both : Bool → List ℕ → List AuditRow
+      of_both t bits = records_of_checks asker.caller asker.at t ((target, delete ∷ []) ∷ (parent, bits) ∷ [])
+
+      plain : (t : Bool) → of_both t (cond (by_adding asker.caller target parent) write_data delete_child ∷ []) ++ cond t [] [] ≡ of_both t (cond (by_adding asker.caller target parent) write_data delete_child ∷ [])
+      plain true = append-nil _
+      plain false = append-nil _
+
+  pub judged_as : (items : List Item) (answer other : Option Reply) (old new : Rows) → answer ≡ other → IsJudged asker items old answer new → IsJudged asker items old other new
+  judged_as items answer other old new same judged = subst (λ (o : Option Reply). IsJudged asker items old o new) same judged
+
+  -- what can't be read then couldn't be read before
+  pub blames_first : (items : List Item) (answer : Option Reply) (old new : Rows) (at : ℕ) → IsJudged asker items old answer new → IsUnreadable new at → IsUnreadable old at
+  blames_first items answer old new at judged h = subst (λ (r : Rows). IsUnreadable r at) judged.notes h
+
+  -- a refusal that comes first
+  pub refuses : (path : List (List ℕ)) (why : Reason) (holds : Bool) (items : List Item) (old new : Rows) (reply : Reply) → reply ≡ Refused path why → holds ≡ true → new ≡ old → IsJudged asker (Refusal path why holds ∷ items) old (Some reply) new
+  refuses path why holds items old new reply replies is same = record {
+    answers = ap (λ (r : Reply). Some r) replies ∙ ap (λ t. or_else (cond t (Some (Refused path why)) None) (first_failure asker.caller items)) (sym is);
+    notes = same ∙ sym (noted_none old) ∙ ap (λ t. noted old (cond (is_none (refusal t)) (records_of_plan asker.caller asker.at items) [])) (sym is);
+  }
+    where
+      refusal : Bool → Option Reply
+      refusal t = cond t (Some (Refused path why)) None
+
+  pub passes_on : (path : List (List ℕ)) (why : Reason) (holds : Bool) (items : List Item) (old new : Rows) (answer : Option Reply) → holds ≡ false → IsJudged asker items old answer new → IsJudged asker (Refusal path why holds ∷ items) old answer new
+  passes_on path why holds items old new answer isnt judged = record {
+    answers = judged.answers ∙ ap (λ t. or_else (cond t (Some (Refused path why)) None) (first_failure asker.caller items)) (sym isnt);
+    notes = judged.notes ∙ ap (λ t. noted old (cond (is_none (refusal t)) (records_of_plan asker.caller asker.at items) [])) (sym isnt);
+  }
+    where
+      refusal : Bool → Option Reply
+      refusal t = cond t (Some (Refused path why)) None
+
+  -- what fails in a first part is the answer, and what passes leads to the second
+  pub fails_first : (items others : List Item) (old new : Rows) (reply : Reply) → IsJudged asker items old (Some reply) new → IsJudged asker (items ++ others) old (Some reply) new
+  fails_first items others old new reply judged = record {
+    answers = sym (failure_of_parts asker.caller asker.at items others ∙ ap (λ o. or_else o (first_failure asker.caller others)) (sym judged.answers));
+    notes = judged.notes ∙ ap (noted old) (sym (records_of_parts asker.caller asker.at items others
+        ∙ ap (λ o. records_of_plan asker.caller asker.at items ++ cond (is_none o) (records_of_plan asker.caller asker.at others) []) (sym judged.answers) ∙ append-nil _));
+  }
+
+  pub passes_first : (items others : List Item) (old mid new : Rows) (answer : Option Reply) → IsJudged asker items old None mid → IsJudged asker others mid answer new → IsJudged asker (items ++ others) old answer new
+  passes_first items others old mid new answer first second = record {
+    answers = second.answers ∙ sym (failure_of_parts asker.caller asker.at items others ∙ ap (λ o. or_else o (first_failure asker.caller others)) (sym first.answers));
+    notes = second.notes ∙ ap (λ r. noted r (records_of_plan asker.caller asker.at others)) first.notes ∙ noted_more old (records_of_plan asker.caller asker.at items) (records_of_plan asker.caller asker.at others)
+        ∙ ap (noted old) (sym (records_of_parts asker.caller asker.at items others
+        ∙ ap (λ o. records_of_plan asker.caller asker.at items ++ cond (is_none o) (records_of_plan asker.caller asker.at others) []) (sym first.answers)));
+  }
+
+-- ---- a part of a list is judged, and passes
+
+-- These items are left of all.
+pub record SoFar (asker : Asker) (all rest : List Item) (old mid : Rows) : Type 0 where
+  pub front : List Item
+  pub parts : all ≡ front ++ rest
+  pub judged : IsJudged asker front old None mid
+
+module _ (asker : Asker) where
+  pub so_far_none : (all : List Item) (old new : Rows) → new ≡ old → SoFar asker all all old new
+  so_far_none all old new same = record { front = []; parts = refl; judged = judged_none asker old new same }
+
+  pub so_far_as : (all rest others : List Item) (old mid : Rows) → rest ≡ others → SoFar asker all rest old mid → SoFar asker all others old mid
+  so_far_as all rest others old mid same sofar = record { front = sofar.front; parts = sofar.parts ∙ ap (λ items. sofar.front ++ items) same; judged = sofar.judged }
+
+  pub so_far_on : (all items rest : List Item) (old mid new : Rows) → SoFar asker all (items ++ rest) old mid → IsJudged asker items mid None new → SoFar asker all rest old new
+  so_far_on all items rest old mid new sofar judged = record {
+    front = sofar.front ++ items;
+    parts = sofar.parts ∙ sym (append_assoc sofar.front items rest);
+    judged = passes_first asker sofar.front items old mid new None sofar.judged judged;
+  }
+
+  pub so_far_fails : (all items rest : List Item) (old mid new : Rows) (reply : Reply) → SoFar asker all (items ++ rest) old mid → IsJudged asker items mid (Some reply) new → IsJudged asker all old (Some reply) new
+  so_far_fails all items rest old mid new reply sofar judged =
+      subst (λ list. IsJudged asker list old (Some reply) new) (sym sofar.parts)
+      (passes_first asker sofar.front (items ++ rest) old mid new (Some reply) sofar.judged (fails_first asker items rest mid new reply judged))
+
+  pub so_far_last : (all rest : List Item) (old mid new : Rows) (answer : Option Reply) → SoFar asker all rest old mid → IsJudged asker rest mid answer new → IsJudged asker all old answer new
+  so_far_last all rest old mid new answer sofar judged =
+      subst (λ list. IsJudged asker list old answer new) (sym sofar.parts) (passes_first asker sofar.front rest old mid new answer sofar.judged judged)

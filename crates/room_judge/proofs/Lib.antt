@@ -1,0 +1,8 @@
+pub mod Calls
+pub mod Judging
+pub mod Noting
+pub mod Ways
+pub mod Spots
+pub mod Folders
+pub mod Verdicts
+pub mod AtFault

@@ -1,0 +1,11 @@
+use Rattle.std.proofs.Common.{take}
+use Rattle.room_judge.specs.Stored.{found_site}
+use Rattle.room_judge.proofs.Calls.{HasDone}
+use Rattle.room_judge.proofs.Noting.{Notes}
+use Rattle.room_judge.proofs.checking.note_check.Given as goal
+
+-- the records of the first places are noted
+abbrev pub invariant-places : goal.invariant-places
+invariant-places g l =
+    let k = g.K.Keep in
+    HasDone k.rows k.Follows k.IsTrusted l.fn.keep l.keep (Notes l.asker l.granted (found_site l.path l.found) l.bits (take l.place-index l.place-items))

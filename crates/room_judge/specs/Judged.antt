@@ -1,0 +1,204 @@
+-- What the calls that carry out a request answer, and what they leave.
+use Rattle.std.specs.Prelude.{◌≡◌, ℕ, ℤ, ◌+◌, ◌⊎◌, Bool, true, false, not, List, [], ◌∷◌, ◌++◌}
+use Rattle.std.specs.Prelude.{Option, Some, None, is_none, slice_index_or, Result, IfOk, IfErr}
+use Rattle.std.specs.Prelude.{take, if◌then◌else◌}
+use Rattle.room_ace.specs.Rights.{delete_child, execute, write_data}
+use Rattle.room_ace.specs.declared.object.ObjKind.{ObjKind}
+use Rattle.room_ace.specs.declared.object.ObjKind.TheVariants.{Document, Folder}
+use Rattle.room_ace.specs.Sent.{Sent}
+use Rattle.room_ace.specs.Valid.{is_document}
+use Rattle.room_ace.specs.declared.object.Which.{Which}
+use Rattle.room_eval.specs.declared.outcome.Verdict.{Verdict}
+use Rattle.room_eval.specs.declared.outcome.Verdict.TheVariants.{Granted, Denied as DeniedWith}
+use Rattle.room_eval.specs.declared.deletion.DeleteVerdict.{DeleteVerdict}
+use Rattle.room_eval.specs.declared.deletion.DeleteVerdict.TheVariants.{Granted as MayDelete}
+use Rattle.room_eval.specs.declared.deletion.DeleteVerdict.TheVariants.{AtTarget, AtParent}
+use Rattle.room_rows.specs.declared.keep.Keep.{Ghosts}
+use Rattle.room_rows.specs.declared.keep.KeepFault.{KeepFault}
+use Rattle.room_rows.specs.declared.node.AuditRow.{AuditRow}
+use Rattle.room_rows.specs.declared.node.Node.{Node}
+use Rattle.room_rows.specs.Content.{child_of, is_folder, with_records}
+use Rattle.room_rows.specs.Keep.{HasCause, IsDamaged, reading}
+use Rattle.room_rows.specs.Meaning.{meaning}
+use Rattle.room_rows.specs.Rows.{Rows}
+use Rattle.room_inherit.specs.Sound.{AreSound}
+use Rattle.room_inherit.specs.Spread.{IsOwnAncestor}
+use Rattle.room_judge.specs.declared.arrival.Arrival.{Arrival}
+use Rattle.room_judge.specs.declared.arrival.Arrival.TheVariants.{At, Ended}
+use Rattle.room_judge.specs.declared.arrival.Found.{Found}
+use Rattle.room_judge.specs.declared.asker.Asker.{Asker}
+use Rattle.room_machine.specs.declared.reply.Reply.{Reply}
+use Rattle.room_machine.specs.declared.reply.Reply.TheVariants.{Refused}
+use Rattle.room_machine.specs.declared.reply.Reason.TheVariants.{NotFolder, NoSuch}
+use Rattle.room_machine.specs.declared.request.Request.{Request}
+use Rattle.room_machine.specs.Site.{Site, site_at}
+use Rattle.room_machine.specs.Plan.{Item, Check, Refusal, no_folder, no_document}
+use Rattle.room_machine.specs.Judge.{first_failure, records_of_plan}
+use Rattle.room_judge.specs.Stored.{stored_site, stored_along, found_site, to_stored}
+use Rattle.room_machine.specs.Step.{Step, caller_in, Reset}
+
+-- ---- several calls of a keeper
+
+module _ {S : Type 0} (rows : S → Rows) (failures : S → ℕ)
+    (Follows IsTrusted : S → S → Type 0) where
+  -- As long as the keeper answers by its rows, an answer tells what became of them. A fault has the
+  -- cause that those of the keeper have, and `Damaged` comes for what the relation names.
+  pub record IsDone {X : Type 0} (old new : S) (result : Result X KeepFault)
+      (Blames : Rows → ℕ → Type 0) (Becomes : Rows → X → Rows → Type 0) : Type 0 where
+    pub follows : Follows old new
+    pub becomes : IsTrusted old new → IfOk result (λ answer. Becomes (rows old) answer (rows new))
+    pub fault : IfErr result (HasCause (failures old) (failures new)
+        (λ at. IsTrusted old new → Blames (rows old) at))
+
+-- the same with the keeper named once
+module _ {S : Type 0} (k : Ghosts S) {X : Type 0} (old new : S) (result : Result X KeepFault) where
+  abbrev pub Does : (Rows → ℕ → Type 0) → (Rows → X → Rows → Type 0) → Type 0
+  Does Blames Becomes = IsDone k.rows k.failures k.Follows k.IsTrusted old new result Blames Becomes
+
+-- All that `Damaged` of a request may stand for: a damaged row, or an object that is its own
+-- ancestor. Of sound rows it is none.
+abbrev pub IsAtFault : Rows → ℕ → Type 0
+IsAtFault rows at = IsDamaged rows at ⊎ IsOwnAncestor rows.read at
+
+-- no row of sound rows
+abbrev pub NotSound : Rows → ℕ → Type 0
+NotSound rows at = AreSound rows → ⊥
+
+-- ---- items that are judged as they come
+
+-- the rows with these records behind the others
+abbrev pub noted : Rows → List AuditRow → Rows
+noted rows records = reading rows (with_records rows.read records)
+
+-- The answer is the reply for the first item that fails, and the records of the items up to it
+-- stand behind the others.
+pub record IsJudged (asker : Asker) (items : List Item) (old : Rows) (answer : Option Reply)
+    (new : Rows) : Type 0 where
+  pub answers : answer ≡ first_failure asker.caller items
+  pub notes : new ≡ noted old (records_of_plan asker.caller asker.at items)
+
+-- ---- verdicts
+
+-- all that was asked is granted
+abbrev pub is_grant : Verdict → Bool
+is_grant Granted = true
+is_grant (DeniedWith bits place) = false
+
+abbrev pub is_deletable : DeleteVerdict → Bool
+is_deletable (MayDelete by_add) = true
+is_deletable (AtTarget place) = false
+is_deletable (AtParent bits place) = false
+
+-- What the second check of a deletion asks on the parent: what adding or the parent decided by, and
+-- else DELETE_CHILD.
+abbrev pub second_right : DeleteVerdict → List ℕ
+second_right (MayDelete by_add) = (if by_add then write_data else delete_child) ∷ []
+second_right (AtTarget place) = delete_child ∷ []
+second_right (AtParent bits place) = bits
+
+-- ---- the way
+
+abbrev pub ended : Arrival → Option Reply
+ended (At node) = None
+ended (Ended reply) = Some reply
+
+abbrev pub IfAt : Arrival → (Node → Type 0) → Type 0
+IfAt (At node) P = P node
+IfAt (Ended reply) P = Unit {0}
+
+-- the name of a path after so many others
+abbrev pub name_after : List (List ℕ) → ℕ → List ℕ
+name_after path depth = slice_index_or path depth []
+
+-- the object is a folder, and grants EXECUTE
+abbrev pub through : Site → List Item
+through site =
+    Refusal site.path NotFolder (not (is_folder site.node)) ∷ Check site (execute ∷ []) ∷ []
+
+-- the child of the next name of the path
+abbrev pub child_below : List (List ℕ) → Found → Rows → Option Node
+child_below path from rows = child_of rows.read from.node.id (name_after path from.depth)
+
+abbrev pub no_such : List (List ℕ) → Found → Reply
+no_such path from = Refused (take (from.depth + 1) path) NoSuch
+
+-- what one step down the way judges
+abbrev pub step_items : List (List ℕ) → Found → Rows → List Item
+step_items path from rows = let site = found_site path from in
+    through site
+    ++ Refusal (site.path ++ name_after path from.depth ∷ []) NoSuch
+    (is_none (child_below path from rows)) ∷ []
+
+-- the child of the next name, or the refusal where there is none
+pub record FindsNext (path : List (List ℕ)) (from : Found) (old : Rows) (arrival : Arrival)
+    (new : Rows) : Type 0 where
+  pub same : new ≡ old
+  pub answers : ended arrival
+      ≡ (if is_none (child_below path from old) then Some (no_such path from) else None)
+  pub found : IfAt arrival (λ next. child_below path from old ≡ Some next)
+
+-- One step down the way: it passes through the object, and finds the child of the next name.
+pub record IsStepDown (asker : Asker) (path : List (List ℕ)) (from : Found) (old : Rows)
+    (arrival : Arrival) (new : Rows) : Type 0 where
+  pub judged : IsJudged asker (step_items path from old) old (ended arrival) new
+  pub found : IfAt arrival (λ next. child_below path from old ≡ Some next)
+
+-- One more step of a walk that has come after so many names; one that has ended stays where it is.
+abbrev pub StepsOn : Asker → List (List ℕ) → ℕ → Arrival → Rows → Arrival → Rows → Type 0
+StepsOn asker path depth (At node) old next new =
+    IsStepDown asker path (record { node = node; depth = depth }) old next new
+StepsOn asker path depth (Ended reply) old next new = (next ≡ Ended reply) × (new ≡ old)
+
+-- The way to the target of a path and the items at it, and then the target itself.
+pub record IsReached (asker : Asker) (path : List (List ℕ)) (items : Site → List Item) (old : Rows)
+    (arrival : Arrival) (new : Rows) : Type 0 where
+  pub judged : IsJudged asker (to_stored old.read path items) old (ended arrival) new
+  pub found : IfAt arrival
+      (λ target. site_at (stored_along old.read path) path ≡ Some (stored_site path target))
+
+-- the object, or the reply that ends the walk there
+abbrev pub arrival_of : Node → Option Reply → Arrival
+arrival_of node None = At node
+arrival_of node (Some reply) = Ended reply
+
+-- an object is of another kind than is wanted
+abbrev pub is_other : ObjKind → ObjKind → Bool
+is_other kind Document = not (is_document kind)
+is_other kind Folder = is_document kind
+
+-- the refusal of another kind
+abbrev pub of_kind : ObjKind → Site → Item
+of_kind Document site = no_folder site
+of_kind Folder site = no_document site
+
+-- ---- a request
+
+-- the asker has the groups that the rows give
+abbrev pub IsKnown : Asker → Rows → Type 0
+IsKnown asker rows = asker.caller ≡ caller_in rows.read asker.caller.user
+
+-- From sound rows, a step of the machine leads from what they mean to what the new ones mean, and
+-- these are sound.
+pub record IsStepOfRows (user : Option (List ℕ)) (moment : ℤ) (request : Request) (old : Rows)
+    (reply : Reply) (new : Rows) : Type 0 where
+  pub step : Step (meaning old.read) user moment request reply (meaning new.read)
+  pub sound : AreSound new
+
+abbrev pub CarriesOut : Asker → Request → Rows → Reply → Rows → Type 0
+CarriesOut asker request old reply new = IsKnown asker old → AreSound old
+    → IsStepOfRows asker.caller.user asker.at request old reply new
+
+-- What `perform` promises.
+abbrev pub Performs : Option (List ℕ) → ℤ → Request → Rows → Reply → Rows → Type 0
+Performs user moment request old reply new = AreSound old
+    → IsStepOfRows user moment request old reply new
+
+-- What the operator's reset promises: from sound rows it is that step, and the rows are sound
+-- again.
+pub record IsResetOfRows (path : List (List ℕ)) (which : Which) (sent : Sent) (old : Rows)
+    (reply : Reply) (new : Rows) : Type 0 where
+  pub reset : Reset (meaning old.read) path which sent reply (meaning new.read)
+  pub sound : AreSound new
+
+abbrev pub Resets : List (List ℕ) → Which → Sent → Rows → Reply → Rows → Type 0
+Resets path which sent old reply new = AreSound old → IsResetOfRows path which sent old reply new

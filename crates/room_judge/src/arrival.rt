@@ -1,0 +1,40 @@
+//! Where a walk comes to.
+
+use room_machine::Reply;
+use room_rows::Node;
+
+/// An object on the way along a path.
+#[derive(Drop)]
+pub struct Found {
+    /// The object as it is kept.
+    pub node: Node,
+    /// After how many names of the path it was found, 0 for the root.
+    pub depth: usize,
+}
+
+/// Where a walk along a path comes to.
+#[derive(Drop)]
+pub enum Arrival {
+    /// The object that the names lead to. Every object before it has let through.
+    At(Node),
+    /// The reply that ends the walk, since something on the way is refused or denied.
+    Ended(Reply),
+}
+
+/// Where a walk to the folder of a path's last name comes to.
+#[derive(Drop)]
+pub enum Spot {
+    /// The folder, which has let through, and what has the last name in it, if anything has.
+    Under { folder: Found, child: Option<Node> },
+    /// The reply that ends the walk.
+    Barred(Reply),
+}
+
+/// Where a walk to an object and its folder comes to.
+#[derive(Drop)]
+pub enum Pair {
+    /// The folder, which has let through, and the object at the path.
+    Both { folder: Found, target: Found },
+    /// The reply that ends the walk, also where there is no object.
+    Halted(Reply),
+}

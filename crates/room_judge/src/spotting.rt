@@ -1,0 +1,103 @@
+//! The way to the folder of a path's last name, and to what has that name.
+ghost use Rattle.std.specs.Prelude.{◌≡◌, ◌<◌, ◌+◌, IfOk, length};
+ghost use Rattle.room_rows.specs.Calls.{Reads};
+ghost use Rattle.room_rows.specs.Keep.{HasNoRoot, IsUnreadable};
+ghost use Rattle.room_judge.specs.Judged.{Does};
+ghost use Rattle.room_judge.specs.Spot.{IsPaired, IsSpotIn, IsSpotted, SpotsUnder, pair_of};
+
+use crate::arrival::{Arrival, Found, Pair, Spot};
+use crate::asker::Asker;
+use crate::checking::refused;
+use crate::walking::{pass_through, walk_along};
+use room_machine::Reason;
+use room_rows::{Keep, KeepFault, Node, Path};
+use std::alloc::{AllocError, Global};
+
+/// The walk to the folder of the path's last name, which has to let through, and what has that name
+/// in it. The path isn't the root's. A fault is the keeper's, or want of memory; where there is no
+/// root it is `Damaged { id: 0 }`.
+pub fn walk_to_spot<K: Keep>(
+    alloc: Global,
+    keep: &mut K,
+    asker: &Asker,
+    path: &Path,
+) -> Result<Spot, KeepFault>
+    requires { 0 < length path.now }
+    ensures done { Does K.Keep keep.old keep.new result HasNoRoot (IsSpotted asker.now path.now) }
+{
+    let depth = path.names().len() - 1;
+    let arrival = walk_along(alloc, keep, asker, path, depth)?;
+    match arrival {
+        Arrival::Ended(reply) => Ok(Spot::Barred(reply)),
+        Arrival::At(node) => spot_under(alloc, keep, asker, path, Found { node, depth }),
+    }
+}
+
+/// The walk to an object that has to be there, and to its folder. The path isn't the root's. Faults
+/// are those of `walk_to_spot`.
+pub fn walk_to_pair<K: Keep>(
+    alloc: Global,
+    keep: &mut K,
+    asker: &Asker,
+    path: &Path,
+) -> Result<Pair, KeepFault>
+    requires { 0 < length path.now }
+    ensures done { Does K.Keep keep.old keep.new result HasNoRoot (IsPaired asker.now path.now) }
+{
+    let spot = walk_to_spot(alloc, keep, asker, path)?;
+    match spot {
+        Spot::Barred(reply) => Ok(Pair::Halted(reply)),
+        Spot::Under { folder, child } => Ok(pair_under(alloc, path, folder, child)?),
+    }
+}
+
+// The folder and the object at the path, which has to be there.
+fn pair_under(
+    alloc: Global,
+    path: &Path,
+    folder: Found,
+    child: Option<Node>,
+) -> Result<Pair, AllocError>
+    ensures { IfOk result (λ pair. pair ≡ pair_of path.now folder child) }
+{
+    let depth = path.names().len();
+    match child {
+        Some(node) => Ok(Pair::Both {
+            folder,
+            target: Found { node, depth },
+        }),
+        None => {
+            drop(folder);
+            Ok(Pair::Halted(refused(alloc, path, depth, Reason::NoSuch)?))
+        }
+    }
+}
+
+// What has the last name of the path in this folder, which has to let through.
+fn spot_under<K: Keep>(
+    alloc: Global,
+    keep: &mut K,
+    asker: &Asker,
+    path: &Path,
+    folder: Found,
+) -> Result<Spot, KeepFault>
+    requires { length path.now ≡ folder.depth + 1 }
+    ensures done { Does K.Keep keep.old keep.new result IsUnreadable
+        (SpotsUnder asker.now path.now folder) }
+{
+    let refusal = pass_through(alloc, keep, asker, path, &folder)?;
+    match refusal {
+        Some(reply) => Ok(Spot::Barred(reply)),
+        None => spot_in(keep, path, folder),
+    }
+}
+
+// What has the next name of the path in this folder.
+fn spot_in<K: Keep>(keep: &mut K, path: &Path, folder: Found) -> Result<Spot, KeepFault>
+    requires { folder.depth < length path.now }
+    ensures read { Reads K.Keep keep.old keep.new result IsUnreadable (IsSpotIn path.now folder) }
+{
+    let name = &path.names()[folder.depth];
+    let child = keep.child(folder.node.id, name.as_str())?;
+    Ok(Spot::Under { folder, child })
+}

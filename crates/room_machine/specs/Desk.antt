@@ -1,0 +1,20 @@
+-- What a desk does at a request, and what it counts.
+use Rattle.std.specs.Prelude.{ℕ, ℤ, List, Option, Result, Ok, Err}
+use Rattle.room_rows.specs.Content.{Content}
+use Rattle.room_rows.specs.Keep.{one_more}
+use Rattle.room_machine.specs.declared.reply.Reply.{Reply}
+use Rattle.room_machine.specs.declared.request.Request.{Request}
+use Rattle.room_machine.specs.Step.{Step}
+
+-- A reply is that of a step, from what was kept to what is kept then, and a fault leaves what was
+-- kept.
+abbrev pub Steps : {E : Type 0} → (Content → Type 0) → Option (List ℕ) → ℤ → Request
+    → Result Reply E → (Content → Type 0) → Type 0
+Steps old user moment request (Ok reply) new = (room : Content) → old room → (next : Content)
+    × Step room user moment request reply next × new next
+Steps old user moment request (Err fault) new = (room : Content) → old room → new room
+
+-- the count of faults after one more answer
+abbrev pub fault_counted : {A E : Type 0} → Result A E → ℕ → ℕ
+fault_counted (Ok answer) count = count
+fault_counted (Err fault) count = one_more count

@@ -1,0 +1,32 @@
+-- Runs of the room machine.
+use Rattle.std.specs.Prelude.{◌≡◌, ℕ, ℤ, List, [], ◌∷◌, ◌++◌, Option}
+use Rattle.room_ace.specs.declared.object.Which.{Which}
+use Rattle.room_rows.specs.Content.{Content}
+use Rattle.room_ace.specs.Sent.{Sent}
+use Rattle.room_machine.specs.declared.request.Request.{Request}
+use Rattle.room_machine.specs.declared.reply.Reply.{Reply}
+use Rattle.room_machine.specs.Step.{Step, Reset, ReplaceMembers}
+
+-- What happens: a request at a moment, of a user or of a caller without a name, and its reply; or a
+-- step of the operator.
+pub data Event : Type 0 where
+  Asked : Option (List ℕ) → ℤ → Request → Reply → Event
+  WasReset : List (List ℕ) → Which → Sent → Reply → Event
+  Replaced : List (List ℕ × List ℕ) → Event
+
+abbrev pub Happens : Content → Event → Content → Type 0
+Happens content (Asked user moment request reply) after =
+    Step content user moment request reply after
+Happens content (WasReset path which sent reply) after = Reset content path which sent reply after
+Happens content (Replaced pairs) after = ReplaceMembers content pairs after
+
+-- One event after another leads from a content to another.
+abbrev pub Run : Content → List Event → Content → Type 0
+Run content [] after = after ≡ content
+Run content (event ∷ events) after = (mid : Content) × Happens content event mid
+    × Run mid events after
+
+-- Two runs that meet are one run.
+abbrev pub RunsMeet : Type 0
+RunsMeet = (content mid after : Content) (events others : List Event) → Run content events mid
+    → Run mid others after → Run content (events ++ others) after

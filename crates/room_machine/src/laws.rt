@@ -1,0 +1,24 @@
+//! Laws of the room machine.
+ghost use Rattle.room_machine.specs.Run.{RunsMeet};
+ghost use Rattle.room_machine.specs.Laws.{ReadsOnly, Hides, SomeFree};
+
+/// Two runs that meet are one run.
+pub fn two_runs_meet()
+    ensures { RunsMeet }
+{}
+
+/// The reply to a request that only reads depends on what is along its path, on the caller's groups
+/// and on the bytes and children of its target.
+pub fn reads_only()
+    ensures { ReadsOnly }
+{}
+
+/// Where the way to a request's path is denied, what lies behind doesn't show.
+pub fn hides()
+    ensures { Hides }
+{}
+
+/// Some number is free, so the machine can always step.
+pub fn some_free()
+    ensures { SomeFree }
+{}

@@ -1,0 +1,93 @@
+//! What the rooms answer.
+ghost use Rattle.std.specs.Prelude.{◌≡◌};
+
+use room_ace::{Entries, Entry, ListFault, ListFlags, Mask, ObjKind, Owners};
+use room_eval::Ruling;
+use room_rows::{Bytes, Listing, Path};
+use std::marker::Model;
+
+/// Why a request is refused.
+#[derive(Clone, Copy, Debug, PartialEq, Eq)]
+pub enum Reason {
+    /// There is no object at the path.
+    NoSuch,
+    /// An object on the way is no folder.
+    NotFolder,
+    /// The object is a folder where a document is asked for, or the other way round.
+    WrongKind,
+    /// There is an object at the path already.
+    Exists,
+    /// The folder has children.
+    NotEmpty,
+    /// The root is neither removed nor moved.
+    Root,
+    /// A folder would come to stand below itself.
+    Loop,
+    /// The entry at the place, counted from 1, may not stand in the list.
+    BadList { place: usize, fault: ListFault },
+    /// A document would have more than 1,048,576 bytes.
+    TooLarge,
+}
+
+/// The ruling of each bit that was asked. A contract sees the list of pairs.
+#[derive(Drop)]
+pub struct Rulings {
+    items: Vec<(Mask, Ruling)>,
+}
+
+impl Model for Rulings {
+    ghost use Rattle.std.specs.Prelude.{List, ℕ};
+    ghost use Rattle.room_eval.specs.declared.outcome.Ruling.{Ruling};
+
+    ghost Value = { List (List ℕ × Ruling) };
+
+    ghost view = { λ r. r.items.items };
+}
+
+impl Rulings {
+    /// The rulings of these pairs, which takes no memory.
+    pub fn from_vec(items: Vec<(Mask, Ruling)>) -> Rulings
+        ensures { result ≡ items.items }
+    {
+        Rulings { items }
+    }
+
+    /// The pairs as a slice.
+    pub fn as_slice(&self) -> &[(Mask, Ruling)]
+        ensures { result.now ≡ self.now }
+    {
+        self.items.as_slice()
+    }
+}
+
+/// What a caller is told.
+#[derive(Drop)]
+pub enum Reply {
+    /// The bytes of a document.
+    Bytes(Bytes),
+    /// The names and kinds of a folder's children, in order of name.
+    Names(Listing),
+    /// The flags of a list, and its entries as they count: the own ones, then the inherited ones.
+    Lists(ListFlags, Entries),
+    /// The kind of an object, and its owners.
+    Attr(ObjKind, Owners),
+    /// What the dacl says of each bit that was asked.
+    Rulings(Rulings),
+    /// An object was made.
+    Made,
+    /// It was done.
+    Done,
+    /// The object at this path doesn't grant these bits, by the entry at the place, counted from 1,
+    /// or since no entry grants them.
+    Denied {
+        at: Path,
+        bits: Mask,
+        place: Option<usize>,
+        entry: Option<Entry>,
+    },
+    /// The request can't be carried out, for what was found at this path.
+    Refused {
+        at: Path,
+        why: Reason,
+    },
+}

@@ -1,0 +1,363 @@
+-- What a change of a content leaves, and what is found in it.
+use Rattle.std.proofs.Common.{◌≡◌, ℕ, ◌<◌, ◌==◌, ◌&&◌, Bool, true, false, List, [], ◌∷◌, map, filter, Option, Some, None, refl, sym, ap, subst, ◌∙◌, inl, inr, arith}
+use Rattle.std.specs.Prelude.{IsTrue, is_none, not}
+use Rattle.std.specs.List.{All, AllByRecursion, Contains}
+use Rattle.std.specs.Option.{option_map, option_map_or, option_and_then}
+use Rattle.std.proofs.lemmas.Bool.{and_parts, cases_Bool, cases_order, cond-true, cond-false, eqb-true, eq-eqb, ne_eqb, lt-ltb, le-ltb, false≢true, not_from_true, not_from_false}
+use Rattle.std.proofs.lemmas.List.Elements.{All-from_recursion}
+use Rattle.std.proofs.lemmas.Slice.Eq.{bytes_eq-Decides}
+use Rattle.room_ace.specs.Ace.{Ace}
+use Rattle.room_ace.specs.Pieces.{same_text}
+use Rattle.room_ace.specs.declared.object.Which.{Which}
+use Rattle.room_ace.specs.declared.object.Which.TheVariants.{Dacl, Sacl}
+use Rattle.room_ace.specs.declared.parties.Owners.{Owners}
+use Rattle.room_rows.specs.declared.node.AuditRow.{AuditRow}
+use Rattle.room_rows.specs.HeldList.{Held}
+use Rattle.room_rows.specs.declared.node.Node.{Node}
+use Rattle.room_rows.specs.Content.{Content, node_at, has_parent, root_of, child_of, children_of, parent_of, body_in, body_of, groups_of, put_body, with_node, with_body, with_each, without_node, with_records, is_rising, sorted_by_name}
+use Rattle.room_rows.specs.Held.{held_of, with_held}
+use Rattle.room_rows.specs.Keep.{with_inh, with_owners, with_place, reading}
+use Rattle.room_rows.specs.Rows.{Rows, AreRows, numbers_of, put_numbers}
+use Rattle.room_rows.proofs.Lookups as lookups
+use Rattle.room_rows.proofs.Lookups.{IsSamePlace, Stands, replaced}
+
+-- the numbers of the objects rise from 1, as those of rows do
+abbrev pub Rises : Content → Type 0
+Rises content = IsTrue (is_rising (0 ∷ map (λ (n : Node). n.id) content.nodes))
+
+pub rows-rise : (rows : Rows) → AreRows rows → Rises rows.read
+rows-rise rows are = are.numbers
+
+-- ---- tests of a place
+
+pub has_parent-of_place : (id : ℕ) (a b : Node) → IsSamePlace a b → has_parent id a ≡ has_parent id b
+has_parent-of_place id a b same = ap (λ (o : Option ℕ). option_map_or (λ (parent : ℕ). parent == id) o false) same.parent
+
+pub is_child-of_place : (id : ℕ) (name : List ℕ) (a b : Node) → IsSamePlace a b → (has_parent id a && same_text a.name name) ≡ (has_parent id b && same_text b.name name)
+is_child-of_place id name a b same = ap (λ (t : Bool). t && same_text a.name name) (has_parent-of_place id a b same) ∙ ap (λ (n : List ℕ). has_parent id b && same_text n name) same.name
+
+parent_here : (id : ℕ) (parent : Option ℕ) → option_map_or (λ (p : ℕ). p == id) parent false ≡ true → parent ≡ Some id
+parent_here id None is = absurd (false≢true is)
+parent_here id (Some p) is = ap (λ (n : ℕ). Some n) (eqb-true p id is)
+
+pub parent_is : (id : ℕ) (node : Node) → has_parent id node ≡ true → node.parent ≡ Some id
+parent_is id node is = parent_here id node.parent is
+
+pub has_its_parent : (id : ℕ) (node : Node) → node.parent ≡ Some id → has_parent id node ≡ true
+has_its_parent id node is = ap (λ (o : Option ℕ). option_map_or (λ (parent : ℕ). parent == id) o false) is ∙ eq-eqb id id refl
+
+-- ---- what is found
+
+-- an object found by a number has it
+pub node_at-number : (content : Content) (id : ℕ) (node : Node) → node_at content id ≡ Some node → node.id ≡ id
+node_at-number content id node found = lookups.found_number id content.nodes node found
+
+stands_at : (content : Content) → Rises content → (node : Node) → Stands node content.nodes → node_at content node.id ≡ Some node
+stands_at content rises node stands = lookups.stands-each (λ (n : Node). node_at content n.id ≡ Some n) content.nodes node (lookups.each_found 0 content.nodes rises) stands
+
+-- the root has a number, and no parent
+pub root_of-is_there : (content : Content) → Rises content → (root : Node) → root_of content ≡ Some root → node_at content root.id ≡ Some root
+root_of-is_there content rises root found = stands_at content rises root (lookups.stands-found (λ (n : Node). is_none n.parent) content.nodes root found)
+
+no_parent : (parent : Option ℕ) → is_none parent ≡ true → parent ≡ None
+no_parent None is = refl
+no_parent (Some id) is = absurd (false≢true is)
+
+pub root_of-parent : (content : Content) (root : Node) → root_of content ≡ Some root → root.parent ≡ None
+root_of-parent content root found = no_parent root.parent (lookups.found_passes (λ (n : Node). is_none n.parent) content.nodes root found)
+
+-- a child has a number, that parent and that name
+pub child_of-is_there : (content : Content) → Rises content → (id : ℕ) (name : List ℕ) (child : Node) → child_of content id name ≡ Some child → node_at content child.id ≡ Some child
+child_of-is_there content rises id name child found = stands_at content rises child (lookups.stands-found (λ (n : Node). has_parent id n && same_text n.name name) content.nodes child found)
+
+pub child_of-parent : (content : Content) (id : ℕ) (name : List ℕ) (child : Node) → child_of content id name ≡ Some child → child.parent ≡ Some id
+child_of-parent content id name child found =
+    parent_is id child (and_parts (has_parent id child) (same_text child.name name) (lookups.found_passes (λ (n : Node). has_parent id n && same_text n.name name) content.nodes child found)).0
+
+pub child_of-name : (content : Content) (id : ℕ) (name : List ℕ) (child : Node) → child_of content id name ≡ Some child → child.name ≡ name
+child_of-name content id name child found =
+    (bytes_eq-Decides child.name name).0 (and_parts (has_parent id child) (same_text child.name name) (lookups.found_passes (λ (n : Node). has_parent id n && same_text n.name name) content.nodes child found)).1
+
+-- the children are there, each with that parent
+abbrev pub IsChild : Content → ℕ → Node → Type 0
+IsChild content id child = (node_at content child.id ≡ Some child) × (child.parent ≡ Some id)
+
+pub children_of-each : (content : Content) → Rises content → (id : ℕ) → AllByRecursion (IsChild content id) (children_of content id)
+children_of-each content rises id =
+    lookups.each-sorted (IsChild content id) (filter (has_parent id) content.nodes)
+    (lookups.each-weaker (λ (n : Node). (node_at content n.id ≡ Some n) × (has_parent id n ≡ true)) (IsChild content id) (λ n is. (is.0, parent_is id n is.1)) (filter (has_parent id) content.nodes)
+    (lookups.each-kept (λ (n : Node). node_at content n.id ≡ Some n) (has_parent id) content.nodes (lookups.each_found 0 content.nodes rises)))
+
+pub children_of-all : (content : Content) → Rises content → (id : ℕ) → All (IsChild content id) (children_of content id)
+children_of-all content rises id = All-from_recursion (IsChild content id) (children_of content id) (children_of-each content rises id)
+
+-- and every object with that parent is among them
+pub children_of-contains : (content : Content) (id : ℕ) (child : Node) → node_at content child.id ≡ Some child → child.parent ≡ Some id → Contains (children_of content id) child
+children_of-contains content id child found parent =
+    lookups.contains-stands (children_of content id) child
+    (lookups.stands-sorted (filter (has_parent id) content.nodes) child
+    (lookups.stands-kept (has_parent id) content.nodes child (lookups.stands-found (λ (n : Node). n.id == child.id) content.nodes child found) (has_its_parent id child parent)))
+
+-- ---- an object put
+
+-- its number then leads to it, whether it was in use or not
+pub node_at-with_node : (content : Content) (node : Node) → node_at (with_node content node) node.id ≡ Some node
+node_at-with_node content node = lookups.find-put_same node content.nodes
+
+pub node_at-with_node-other : (content : Content) (node : Node) (id : ℕ) → (id ≡ node.id → ⊥) → node_at (with_node content node) id ≡ node_at content id
+node_at-with_node-other content node id other = lookups.find-put_other node content.nodes id other
+
+-- of two with one number the later stays
+pub with_node-with_node : (content : Content) (first second : Node) → first.id ≡ second.id → with_node (with_node content first) second ≡ with_node content second
+with_node-with_node content first second same = ap (λ (nodes : List Node). record content { nodes = nodes }) (lookups.put-put first second content.nodes same)
+
+-- a new object under a parent leaves the root, and is the child of its name if there was none
+pub root_of-added : (content : Content) (node : Node) (id : ℕ) → node_at content node.id ≡ None → node.parent ≡ Some id → root_of (with_node content node) ≡ root_of content
+root_of-added content node id unused parent = lookups.find-put_failing (λ (n : Node). is_none n.parent) node content.nodes (ap is_none parent) unused
+
+pub child_of-added : (content : Content) (node : Node) (id : ℕ) → node.parent ≡ Some id → child_of content id node.name ≡ None → child_of (with_node content node) id node.name ≡ Some node
+child_of-added content node id parent none =
+    lookups.find-put_passing (λ (n : Node). has_parent id n && same_text n.name node.name) node content.nodes
+    (ap (λ (t : Bool). t && same_text node.name node.name) (has_its_parent id node parent) ∙ (bytes_eq-Decides node.name node.name).1 refl) none
+
+pub child_of-added-other : (content : Content) (node : Node) (id : ℕ) (name : List ℕ) → node_at content node.id ≡ None → (has_parent id node && same_text node.name name) ≡ false → child_of (with_node content node) id name ≡ child_of content id name
+child_of-added-other content node id name unused isnt = lookups.find-put_failing (λ (n : Node). has_parent id n && same_text n.name name) node content.nodes isnt unused
+
+-- ---- an object taken away
+
+pub node_at-without_node : (content : Content) (id : ℕ) → node_at (without_node content id) id ≡ None
+node_at-without_node content id = lookups.find-kept_gone (λ (n : Node). n.id == id) (λ (n : Node). not (n.id == id)) content.nodes (λ n is. not_from_true (n.id == id) is)
+
+pub node_at-without_node-other : (content : Content) (id other : ℕ) → (other ≡ id → ⊥) → node_at (without_node content id) other ≡ node_at content other
+node_at-without_node-other content id other isnt =
+    lookups.find-kept_all (λ (n : Node). n.id == other) (λ (n : Node). not (n.id == id)) content.nodes (λ n is. not_from_false (n.id == id) (ne_eqb n.id id (λ e. isnt (sym (eqb-true n.id other is) ∙ e))))
+
+-- a root and a child of another number stay, and no child comes
+pub root_of-without_node : (content : Content) (id : ℕ) (root : Node) → root_of content ≡ Some root → (root.id ≡ id → ⊥) → root_of (without_node content id) ≡ Some root
+root_of-without_node content id root found isnt =
+    lookups.find-kept (λ (n : Node). is_none n.parent) (λ (n : Node). not (n.id == id)) content.nodes root found (not_from_false (root.id == id) (ne_eqb root.id id isnt))
+
+pub child_of-without_node : (content : Content) (id parent : ℕ) (name : List ℕ) (child : Node) → child_of content parent name ≡ Some child → (child.id ≡ id → ⊥) → child_of (without_node content id) parent name ≡ Some child
+child_of-without_node content id parent name child found isnt =
+    lookups.find-kept (λ (n : Node). has_parent parent n && same_text n.name name) (λ (n : Node). not (n.id == id)) content.nodes child found (not_from_false (child.id == id) (ne_eqb child.id id isnt))
+
+pub child_of-without_node-none : (content : Content) (id parent : ℕ) (name : List ℕ) → child_of content parent name ≡ None → child_of (without_node content id) parent name ≡ None
+child_of-without_node-none content id parent name none = lookups.find-kept_none (λ (n : Node). has_parent parent n && same_text n.name name) (λ (n : Node). not (n.id == id)) content.nodes none
+
+-- ---- objects that stay in their places
+
+-- each object has the number, the parent and the name that it had
+abbrev pub KeepsPlaces : Content → (Node → Node) → Type 0
+KeepsPlaces content change = AllByRecursion (λ (n : Node). IsSamePlace (change n) n) content.nodes
+
+every_place : (change : Node → Node) → ((n : Node) → IsSamePlace (change n) n) → (nodes : List Node) → AllByRecursion (λ (n : Node). IsSamePlace (change n) n) nodes
+every_place change same [] = tt
+every_place change same (x ∷ xs) = (same x, every_place change same xs)
+
+pub keeps_places : (content : Content) (change : Node → Node) → ((n : Node) → IsSamePlace (change n) n) → KeepsPlaces content change
+keeps_places content change same = every_place change same content.nodes
+
+module _ (content : Content) (change : Node → Node) (same : KeepsPlaces content change) where
+  pub node_at-with_each : (id : ℕ) → node_at (with_each content change) id ≡ option_map change (node_at content id)
+  node_at-with_each id = lookups.find-changed change (λ (n : Node). n.id == id) (λ a b place. ap (λ (n : ℕ). n == id) place.number) content.nodes same
+
+  pub root_of-with_each : root_of (with_each content change) ≡ option_map change (root_of content)
+  root_of-with_each = lookups.find-changed change (λ (n : Node). is_none n.parent) (λ a b place. ap is_none place.parent) content.nodes same
+
+  pub child_of-with_each : (id : ℕ) (name : List ℕ) → child_of (with_each content change) id name ≡ option_map change (child_of content id name)
+  child_of-with_each id name = lookups.find-changed change (λ (n : Node). has_parent id n && same_text n.name name) (is_child-of_place id name) content.nodes same
+
+  -- the same children in the same order
+  pub children_of-with_each : (id : ℕ) → children_of (with_each content change) id ≡ map change (children_of content id)
+  children_of-with_each id =
+      ap sorted_by_name (lookups.filter-changed change (has_parent id) (has_parent-of_place id) content.nodes same)
+      ∙ lookups.sorted-changed change (filter (has_parent id) content.nodes)
+      (lookups.each-weaker (λ (n : Node). IsSamePlace (change n) n × (has_parent id n ≡ true)) (λ (n : Node). IsSamePlace (change n) n) (λ n is. is.0) (filter (has_parent id) content.nodes)
+      (lookups.each-kept (λ (n : Node). IsSamePlace (change n) n) (has_parent id) content.nodes same))
+
+  pub numbers-with_each : map (λ (n : Node). n.id) (with_each content change).nodes ≡ map (λ (n : Node). n.id) content.nodes
+  numbers-with_each = lookups.map-changed change (λ (n : Node). n.id) (λ a b place. place.number) content.nodes same
+
+  pub rises-with_each : Rises content → Rises (with_each content change)
+  rises-with_each rises = subst (λ (ids : List ℕ). IsTrue (is_rising (0 ∷ ids))) (sym numbers-with_each) rises
+
+  -- what the place alone tells of the children stays, as their numbers and names
+  pub children_of-part : {A : Type 0} (part : Node → A) → ((a b : Node) → IsSamePlace a b → part a ≡ part b) → (id : ℕ) → map part (children_of (with_each content change) id) ≡ map part (children_of content id)
+  children_of-part part of_place id =
+      ap (map part) (children_of-with_each id)
+      ∙ lookups.map-changed change part of_place (children_of content id)
+      (lookups.each-sorted (λ (n : Node). IsSamePlace (change n) n) (filter (has_parent id) content.nodes)
+      (lookups.each-weaker (λ (n : Node). IsSamePlace (change n) n × (has_parent id n ≡ true)) (λ (n : Node). IsSamePlace (change n) n) (λ n is. is.0) (filter (has_parent id) content.nodes)
+      (lookups.each-kept (λ (n : Node). IsSamePlace (change n) n) (has_parent id) content.nodes same)))
+
+  pub children_numbers-with_each : (id : ℕ) → map (λ (n : Node). n.id) (children_of (with_each content change) id) ≡ map (λ (n : Node). n.id) (children_of content id)
+  children_numbers-with_each id = children_of-part (λ (n : Node). n.id) (λ a b place. place.number) id
+
+  pub children_names-with_each : (id : ℕ) → map (λ (n : Node). n.name) (children_of (with_each content change) id) ≡ map (λ (n : Node). n.name) (children_of content id)
+  children_names-with_each id = children_of-part (λ (n : Node). n.name) (λ a b place. place.name) id
+
+  parent_at : (parent : Option ℕ) → option_and_then (node_at (with_each content change)) parent ≡ option_map change (option_and_then (node_at content) parent)
+  parent_at None = refl
+  parent_at (Some id) = node_at-with_each id
+
+  pub parent_of-with_each : (node : Node) → parent_of (with_each content change) node ≡ option_map change (parent_of content node)
+  parent_of-with_each node = parent_at node.parent
+
+-- one change after the other
+map-twice : (first second : Node → Node) (nodes : List Node) → map second (map first nodes) ≡ map (λ (n : Node). second (first n)) nodes
+map-twice first second [] = refl
+map-twice first second (x ∷ xs) = ap (λ (l : List Node). second (first x) ∷ l) (map-twice first second xs)
+
+pub with_each-with_each : (content : Content) (first second : Node → Node) → with_each (with_each content first) second ≡ with_each content (λ (n : Node). second (first n))
+with_each-with_each content first second = ap (λ (nodes : List Node). record content { nodes = nodes }) (map-twice first second content.nodes)
+
+-- ---- an object put in the place of the one of its number
+
+module _ (content : Content) (rises : Rises content) (id : ℕ) (node new : Node) (found : node_at content id ≡ Some node) (same : IsSamePlace new node) where
+  -- it is that of a change of each which leaves the others alone
+  pub with_node-replaces : with_node content new ≡ with_each content (replaced new)
+  with_node-replaces =
+      ap (λ (nodes : List Node). record content { nodes = nodes }) (lookups.put-replaces 0 content.nodes id node new rises found (same.number ∙ node_at-number content id node found))
+
+  pub places-replaced : KeepsPlaces content (replaced new)
+  places-replaced = lookups.replaced_places 0 content.nodes id node new rises found same
+
+  pub node_at-replaced : (at : ℕ) → node_at (with_node content new) at ≡ option_map (replaced new) (node_at content at)
+  node_at-replaced at = ap (λ (c : Content). node_at c at) with_node-replaces ∙ node_at-with_each content (replaced new) places-replaced at
+
+  pub root_of-replaced : root_of (with_node content new) ≡ option_map (replaced new) (root_of content)
+  root_of-replaced = ap root_of with_node-replaces ∙ root_of-with_each content (replaced new) places-replaced
+
+  pub child_of-replaced : (at : ℕ) (name : List ℕ) → child_of (with_node content new) at name ≡ option_map (replaced new) (child_of content at name)
+  child_of-replaced at name = ap (λ (c : Content). child_of c at name) with_node-replaces ∙ child_of-with_each content (replaced new) places-replaced at name
+
+  pub children_of-replaced : (at : ℕ) → children_of (with_node content new) at ≡ map (replaced new) (children_of content at)
+  children_of-replaced at = ap (λ (c : Content). children_of c at) with_node-replaces ∙ children_of-with_each content (replaced new) places-replaced at
+
+  pub parent_of-replaced : (other : Node) → parent_of (with_node content new) other ≡ option_map (replaced new) (parent_of content other)
+  parent_of-replaced other = ap (λ (c : Content). parent_of c other) with_node-replaces ∙ parent_of-with_each content (replaced new) places-replaced other
+
+  pub children_numbers-replaced : (at : ℕ) → map (λ (n : Node). n.id) (children_of (with_node content new) at) ≡ map (λ (n : Node). n.id) (children_of content at)
+  children_numbers-replaced at = ap (λ (c : Content). map (λ (n : Node). n.id) (children_of c at)) with_node-replaces ∙ children_numbers-with_each content (replaced new) places-replaced at
+
+  pub children_names-replaced : (at : ℕ) → map (λ (n : Node). n.name) (children_of (with_node content new) at) ≡ map (λ (n : Node). n.name) (children_of content at)
+  children_names-replaced at = ap (λ (c : Content). map (λ (n : Node). n.name) (children_of c at)) with_node-replaces ∙ children_names-with_each content (replaced new) places-replaced at
+
+  pub numbers-replaced : map (λ (n : Node). n.id) (with_node content new).nodes ≡ map (λ (n : Node). n.id) content.nodes
+  numbers-replaced = ap (λ (c : Content). map (λ (n : Node). n.id) c.nodes) with_node-replaces ∙ numbers-with_each content (replaced new) places-replaced
+
+  pub rises-replaced : Rises (with_node content new)
+  rises-replaced = subst Rises (sym with_node-replaces) (rises-with_each content (replaced new) places-replaced rises)
+
+-- all numbers in use stay
+pub numbers_of-reading : (rows : Rows) (content : Content) → map (λ (n : Node). n.id) content.nodes ≡ map (λ (n : Node). n.id) rows.read.nodes → numbers_of (reading rows content) ≡ numbers_of rows
+numbers_of-reading rows content same = ap (put_numbers rows.unreadable) same
+
+-- ---- changes that leave the place
+
+pub place-with_held : (which : Which) (held : Held) (node : Node) → IsSamePlace (with_held which held node) node
+place-with_held Dacl held node = record { number = refl; parent = refl; name = refl }
+place-with_held Sacl held node = record { number = refl; parent = refl; name = refl }
+
+pub place-with_inh : (which : Which) (entries : List Ace) (node : Node) → IsSamePlace (with_inh which entries node) node
+place-with_inh which entries node = place-with_held which (record (held_of which node) { inh = entries }) node
+
+pub place-with_owners : (owners : Owners) (node : Node) → IsSamePlace (with_owners owners node) node
+place-with_owners owners node = record { number = refl; parent = refl; name = refl }
+
+-- a move leaves the number
+pub number-with_place : (parent : ℕ) (name : List ℕ) (node : Node) → (with_place parent name node).id ≡ node.id
+number-with_place parent name node = refl
+
+-- ---- the lists of a changed object
+
+pub held_of-with_held : (which : Which) (held : Held) (node : Node) → held_of which (with_held which held node) ≡ held
+held_of-with_held Dacl held node = refl
+held_of-with_held Sacl held node = refl
+
+pub held_of-with_held-other : (which other : Which) (held : Held) (node : Node) → (which ≡ other → ⊥) → held_of other (with_held which held node) ≡ held_of other node
+held_of-with_held-other Dacl Dacl held node apart = absurd (apart refl)
+held_of-with_held-other Dacl Sacl held node apart = refl
+held_of-with_held-other Sacl Dacl held node apart = refl
+held_of-with_held-other Sacl Sacl held node apart = absurd (apart refl)
+
+pub held_of-with_inh : (which : Which) (entries : List Ace) (node : Node) → held_of which (with_inh which entries node) ≡ record (held_of which node) { inh = entries }
+held_of-with_inh which entries node = held_of-with_held which (record (held_of which node) { inh = entries }) node
+
+pub held_of-with_inh-other : (which other : Which) (entries : List Ace) (node : Node) → (which ≡ other → ⊥) → held_of other (with_inh which entries node) ≡ held_of other node
+held_of-with_inh-other which other entries node apart = held_of-with_held-other which other (record (held_of which node) { inh = entries }) node apart
+
+pub kind-with_held : (which : Which) (held : Held) (node : Node) → (with_held which held node).kind ≡ node.kind
+kind-with_held Dacl held node = refl
+kind-with_held Sacl held node = refl
+
+pub owners-with_held : (which : Which) (held : Held) (node : Node) → (with_held which held node).owners ≡ node.owners
+owners-with_held Dacl held node = refl
+owners-with_held Sacl held node = refl
+
+-- ---- what isn't an object
+
+pub body_of-with_node : (content : Content) (node : Node) (id : ℕ) → body_of (with_node content node) id ≡ body_of content id
+body_of-with_node content node id = refl
+
+pub groups_of-with_node : (content : Content) (node : Node) (user : List ℕ) → groups_of (with_node content node) user ≡ groups_of content user
+groups_of-with_node content node user = refl
+
+pub records-with_node : (content : Content) (node : Node) → (with_node content node).audits ≡ content.audits
+records-with_node content node = refl
+
+pub body_of-with_each : (content : Content) (change : Node → Node) (id : ℕ) → body_of (with_each content change) id ≡ body_of content id
+body_of-with_each content change id = refl
+
+pub node_at-with_body : (content : Content) (id : ℕ) (bytes : List ℕ) (at : ℕ) → node_at (with_body content id bytes) at ≡ node_at content at
+node_at-with_body content id bytes at = refl
+
+pub node_at-with_records : (content : Content) (rows : List AuditRow) (at : ℕ) → node_at (with_records content rows) at ≡ node_at content at
+node_at-with_records content rows at = refl
+
+body_yes : (row : ℕ × List ℕ) (rows : List (ℕ × List ℕ)) (id : ℕ) → (row.0 == id) ≡ true → body_in (row ∷ rows) id ≡ Some row.1
+body_yes row rows id is = cond-true (row.0 == id) (Some row.1) (body_in rows id) is
+
+body_no : (row : ℕ × List ℕ) (rows : List (ℕ × List ℕ)) (id : ℕ) → (row.0 == id) ≡ false → body_in (row ∷ rows) id ≡ body_in rows id
+body_no row rows id isnt = cond-false (row.0 == id) (Some row.1) (body_in rows id) isnt
+
+bytes_behind : (id : ℕ) (bytes : List ℕ) (row : ℕ × List ℕ) (rows : List (ℕ × List ℕ)) → row.0 < id → put_body id bytes (row ∷ rows) ≡ row ∷ put_body id bytes rows
+bytes_behind id bytes row rows below = cond-true _ _ _ (lt-ltb row.0 id below)
+
+bytes_here : (id : ℕ) (bytes : List ℕ) (row : ℕ × List ℕ) (rows : List (ℕ × List ℕ)) → row.0 ≡ id → put_body id bytes (row ∷ rows) ≡ (id, bytes) ∷ rows
+bytes_here id bytes row rows e = cond-false _ _ _ (le-ltb row.0 id (omega (arith, e))) ∙ cond-true _ _ _ (eq-eqb row.0 id e)
+
+bytes_before : (id : ℕ) (bytes : List ℕ) (row : ℕ × List ℕ) (rows : List (ℕ × List ℕ)) → id < row.0 → put_body id bytes (row ∷ rows) ≡ (id, bytes) ∷ row ∷ rows
+bytes_before id bytes row rows above = cond-false _ _ _ (le-ltb row.0 id (omega (arith, above))) ∙ cond-false _ _ _ (ne_eqb row.0 id (λ e. absurd (omega (arith, above, e))))
+
+bytes_put : (id : ℕ) (bytes : List ℕ) (rows : List (ℕ × List ℕ)) → body_in (put_body id bytes rows) id ≡ Some bytes
+bytes_put id bytes [] = body_yes (id, bytes) [] id (eq-eqb id id refl)
+bytes_put id bytes (row ∷ rows) = elim (cases_order row.0 id) [
+  | inl e ↦ ap (λ (l : List (ℕ × List ℕ)). body_in l id) (bytes_here id bytes row rows e) ∙ body_yes (id, bytes) rows id (eq-eqb id id refl)
+  | inr apart ↦ elim apart [
+    | inl below ↦ ap (λ (l : List (ℕ × List ℕ)). body_in l id) (bytes_behind id bytes row rows below) ∙ body_no row (put_body id bytes rows) id (ne_eqb row.0 id (λ e. absurd (omega (arith, below, e)))) ∙ bytes_put id bytes rows
+    | inr above ↦ ap (λ (l : List (ℕ × List ℕ)). body_in l id) (bytes_before id bytes row rows above) ∙ body_yes (id, bytes) (row ∷ rows) id (eq-eqb id id refl)
+  ]
+]
+
+bytes_put-other : (id : ℕ) (bytes : List ℕ) (rows : List (ℕ × List ℕ)) (at : ℕ) → (at ≡ id → ⊥) → body_in (put_body id bytes rows) at ≡ body_in rows at
+bytes_put-other id bytes [] at other = body_no (id, bytes) [] at (ne_eqb id at (λ e. other (sym e)))
+bytes_put-other id bytes (row ∷ rows) at other =
+    let fails : (id == at) ≡ false = ne_eqb id at (λ e. other (sym e)) in
+    elim (cases_order row.0 id) [
+      | inl e ↦ ap (λ (l : List (ℕ × List ℕ)). body_in l at) (bytes_here id bytes row rows e) ∙ body_no (id, bytes) rows at fails ∙ sym (body_no row rows at (ne_eqb row.0 at (λ e'. other (sym e' ∙ e))))
+      | inr apart ↦ elim apart [
+        | inl below ↦ ap (λ (l : List (ℕ × List ℕ)). body_in l at) (bytes_behind id bytes row rows below) ∙ (elim (cases_Bool (row.0 == at)) [
+          | inl is ↦ body_yes row (put_body id bytes rows) at is ∙ sym (body_yes row rows at is)
+          | inr isnt ↦ body_no row (put_body id bytes rows) at isnt ∙ bytes_put-other id bytes rows at other ∙ sym (body_no row rows at isnt)
+        ])
+        | inr above ↦ ap (λ (l : List (ℕ × List ℕ)). body_in l at) (bytes_before id bytes row rows above) ∙ body_no (id, bytes) (row ∷ rows) at fails
+      ]
+    ]
+
+-- the bytes that were put
+pub body_of-with_body : (content : Content) (id : ℕ) (bytes : List ℕ) → body_of (with_body content id bytes) id ≡ Some bytes
+body_of-with_body content id bytes = bytes_put id bytes content.bodies
+
+pub body_of-with_body-other : (content : Content) (id : ℕ) (bytes : List ℕ) (at : ℕ) → (at ≡ id → ⊥) → body_of (with_body content id bytes) at ≡ body_of content at
+body_of-with_body-other content id bytes at other = bytes_put-other id bytes content.bodies at other

@@ -1,0 +1,10 @@
+pub mod Rows
+pub mod Steps
+pub mod Walking
+pub mod Utf8
+pub mod Cutting
+pub mod PathsBack
+pub mod Lookups
+pub mod Frames
+pub mod Writes
+pub mod Chains

@@ -1,0 +1,14 @@
+pub mod Paths
+pub mod Faults
+pub mod HeldList
+pub mod Held
+pub mod Content
+pub mod Rows
+pub mod Walk
+pub mod Meaning
+pub mod Keep
+pub mod Along
+pub mod Counts
+pub mod Finding
+pub mod Calls
+pub mod Laws

@@ -1,0 +1,37 @@
+//! The objects along a path.
+ghost use Rattle.room_rows.specs.Calls.{Reads};
+ghost use Rattle.room_rows.specs.Keep.{HasNoRoot};
+ghost use Rattle.room_rows.specs.Walk.{IsWalk};
+
+use crate::keep::{Keep, KeepFault};
+use crate::node::{Nodes, Walk};
+use crate::path::Path;
+use std::alloc::Global;
+
+/// The objects that the path leads to, from the root on, and how many of its names are left over.
+///
+/// It goes from child to child by the names, as long as there are names and the child is there, and
+/// looks neither at kinds nor at rights. A fault is the keeper's, or want of memory; where there is
+/// no root it is `Damaged { id: 0 }`.
+pub fn walk<K: Keep>(alloc: Global, keep: &mut K, path: &Path) -> Result<Walk, KeepFault>
+    ensures read { Reads K.Keep keep.old keep.new result HasNoRoot (IsWalk path.now) }
+{
+    let names = path.names();
+    let mut chain = Nodes::new(alloc);
+    let mut node = keep.root()?;
+    'names: for (index, name) in names.iter().enumerate() {
+        let child = keep.child(node.id, name.as_str())?;
+        chain.push(node)?;
+        match child {
+            None => {
+                return Ok(Walk {
+                    chain,
+                    rest: names.len() - index,
+                });
+            }
+            Some(next) => node = next,
+        }
+    }
+    chain.push(node)?;
+    Ok(Walk { chain, rest: 0 })
+}

@@ -1,0 +1,28 @@
+//! Counts of failures and of writes.
+ghost use Rattle.std.specs.Prelude.{◌≡◌, ◌⊎◌, ◌-◌, ◌^◌, ◌<◌, ◌≤◌};
+ghost use Rattle.room_rows.specs.Keep.{capped, one_more};
+
+use crate::keep::KeepFault;
+
+/// Counts one more, as long as there are numbers.
+pub fn count_one(count: &mut u64)
+    ensures counted { count.new ≡ one_more count.old }
+    ensures capped { capped count.new ≡ one_more (capped count.old) }
+    ensures no_less { count.old ≤ count.new }
+{
+    if *count < u64::MAX {
+        *count += 1;
+    }
+}
+
+/// Counts a failure, as long as there are numbers, and is its fault, `Store`.
+pub fn failed(failures: &mut u64) -> KeepFault
+    ensures store { result ≡ KeepFault.Store }
+    ensures rises { (failures.old < failures.new) ⊎ (2 ^ 64 - 1 ≤ failures.old) }
+    ensures capped { (capped failures.old < capped failures.new) ⊎
+        (2 ^ 64 - 1 ≤ capped failures.old) }
+    ensures no_less { failures.old ≤ failures.new }
+{
+    count_one(failures);
+    KeepFault::Store
+}

@@ -1,0 +1,168 @@
+//! What keeps the objects.
+ghost use Rattle.std.specs.Prelude.{◌≡◌, ℕ};
+ghost use Rattle.room_rows.specs.declared.keep.KeepFault.TheVariants.{Memory};
+ghost use Rattle.room_rows.specs.Held.{with_held};
+ghost use Rattle.room_rows.specs.Keep.{
+  Adds,
+  AreChildrenOf,
+  AreGroupsOf,
+  AreNamedUnder,
+  AreNumbers,
+  Changes,
+  HasChildren,
+  HasNoRoot,
+  IsBodyOf,
+  IsChildOf,
+  IsNever,
+  IsNodeAt,
+  IsRead,
+  IsRootOf,
+  IsUnreadable,
+  IsUnreadableAt,
+  IsWrite,
+  KeepLaws,
+  Leaves,
+  Notes,
+  Places,
+  Removes,
+  SetsBody,
+  with_inh,
+  with_owners,
+};
+ghost use Rattle.room_rows.specs.Rows.{Rows};
+
+use crate::held::Held;
+use crate::listing::Listing;
+use crate::node::{AuditRow, NewNode, Node, Nodes, Numbers};
+use crate::text::Bytes;
+use room_ace::{Entry, Name, Names, Owners, Which};
+use std::alloc::AllocError;
+
+/// Why a keeper gave no answer. The transaction round it is then given up.
+#[derive(Clone, Copy, Debug, PartialEq, Eq)]
+pub enum KeepFault {
+    /// There was no memory.
+    Memory,
+    /// What holds the rows failed. The keeper has counted it.
+    Store,
+    /// The row of this number can't be read, or something that belongs to it is missing; 0 where
+    /// there is no root.
+    Damaged {
+        /// The number.
+        id: u64,
+    },
+}
+
+impl From<AllocError> for KeepFault {
+    ghost from_gives = { λ _ fault. fault ≡ Memory };
+
+    fn from(_error: AllocError) -> KeepFault {
+        KeepFault::Memory
+    }
+}
+
+/// A keeper of objects. What a call that writes leaves is promised where its condition is met: the
+/// object is there, a new parent is a folder, a new name is free. That is the caller's to know, and
+/// no keeper tests it. After a fault of a call that writes nothing is said of the rows.
+pub trait Keep {
+    ghost rows: { Self → Rows };
+
+    // How often the keeper has failed, and how often a call that writes has answered Ok.
+    ghost failures: { Self → ℕ };
+
+    ghost writes: { Self → ℕ };
+
+    // The second state comes from the first by calls, whatever they answered.
+    ghost Follows: { Self → Self → Type 0 };
+
+    // From the first state to the second the answers are those of the rows.
+    ghost IsTrusted: { Self → Self → Type 0 };
+
+    /// The object without a parent of the least number.
+    fn root(&mut self) -> Result<Node, KeepFault>
+        ensures read { IsRead rows failures writes Follows IsTrusted self.old self.new result
+            HasNoRoot IsRootOf };
+
+    /// All numbers in use, rising.
+    fn ids(&mut self) -> Result<Numbers, KeepFault>
+        ensures read { IsRead rows failures writes Follows IsTrusted self.old self.new result
+            IsNever AreNumbers };
+
+    /// The object of this number, if there is one.
+    fn node(&mut self, id: u64) -> Result<Option<Node>, KeepFault>
+        ensures read { IsRead rows failures writes Follows IsTrusted self.old self.new result
+            (IsUnreadableAt id) (IsNodeAt id) };
+
+    /// The child of this name, if there is one.
+    fn child(&mut self, parent: u64, name: &str) -> Result<Option<Node>, KeepFault>
+        ensures read { IsRead rows failures writes Follows IsTrusted self.old self.new result
+            IsUnreadable (IsChildOf parent name.now) };
+
+    /// The children in order of name.
+    fn children(&mut self, parent: u64) -> Result<Nodes, KeepFault>
+        ensures read { IsRead rows failures writes Follows IsTrusted self.old self.new result
+            IsUnreadable (AreChildrenOf parent) };
+
+    /// The names and kinds of the children, in order of name.
+    fn listing(&mut self, parent: u64) -> Result<Listing, KeepFault>
+        ensures read { IsRead rows failures writes Follows IsTrusted self.old self.new result
+            IsUnreadable (AreNamedUnder parent) };
+
+    /// Whether there are children.
+    fn has_children(&mut self, parent: u64) -> Result<bool, KeepFault>
+        ensures read { IsRead rows failures writes Follows IsTrusted self.old self.new result
+            IsUnreadable (HasChildren parent) };
+
+    /// The bytes of a document.
+    fn body(&mut self, id: u64) -> Result<Option<Bytes>, KeepFault>
+        ensures read { IsRead rows failures writes Follows IsTrusted self.old self.new result
+            IsNever (IsBodyOf id) };
+
+    /// The groups that are paired with the user, in order, each once.
+    fn groups_of(&mut self, user: &Name) -> Result<Names, KeepFault>
+        ensures read { IsRead rows failures writes Follows IsTrusted self.old self.new result
+            IsNever (AreGroupsOf user.now) };
+
+    /// Adds an object, and answers its number.
+    fn add(&mut self, node: NewNode) -> Result<u64, KeepFault>
+        ensures written { IsWrite rows failures writes Follows IsTrusted self.old self.new result
+            IsUnreadable (Adds node) };
+
+    /// Replaces one list of an object: its flags, its own and its inherited entries.
+    fn set_held(&mut self, id: u64, which: Which, held: &Held) -> Result<(), KeepFault>
+        ensures written { IsWrite rows failures writes Follows IsTrusted self.old self.new result
+            IsUnreadable (Leaves (Changes id (with_held which held.now))) };
+
+    /// Replaces the inherited entries of one list of an object.
+    fn set_inh(&mut self, id: u64, which: Which, entries: &[Entry]) -> Result<(), KeepFault>
+        ensures written { IsWrite rows failures writes Follows IsTrusted self.old self.new result
+            IsUnreadable (Leaves (Changes id (with_inh which entries.now))) };
+
+    /// Replaces the owner and the owning group of an object.
+    fn set_owners(&mut self, id: u64, owners: &Owners) -> Result<(), KeepFault>
+        ensures written { IsWrite rows failures writes Follows IsTrusted self.old self.new result
+            IsUnreadable (Leaves (Changes id (with_owners owners.now))) };
+
+    /// Gives an object another parent and another name.
+    fn set_place(&mut self, id: u64, parent: u64, name: &str) -> Result<(), KeepFault>
+        ensures written { IsWrite rows failures writes Follows IsTrusted self.old self.new result
+            IsUnreadable (Leaves (Places id parent name.now)) };
+
+    /// Removes an object and its bytes.
+    fn remove(&mut self, id: u64) -> Result<(), KeepFault>
+        ensures written { IsWrite rows failures writes Follows IsTrusted self.old self.new result
+            IsUnreadable (Leaves (Removes id)) };
+
+    /// Replaces the bytes of a document.
+    fn set_body(&mut self, id: u64, bytes: &[u8]) -> Result<(), KeepFault>
+        ensures written { IsWrite rows failures writes Follows IsTrusted self.old self.new result
+            IsUnreadable (Leaves (SetsBody id bytes.now)) };
+
+    /// Adds a record behind the others.
+    fn note(&mut self, row: AuditRow) -> Result<(), KeepFault>
+        ensures written { IsWrite rows failures writes Follows IsTrusted self.old self.new result
+            IsNever (Leaves (Notes row)) };
+
+    // What holds of the states, whatever is called.
+    ghost laws: { KeepLaws rows failures writes Follows IsTrusted };
+}

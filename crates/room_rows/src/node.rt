@@ -1,0 +1,297 @@
+//! Objects as they are kept.
+ghost use Rattle.std.specs.Prelude.{◌≡◌, ◌==◌, [], ◌∷◌, ◌++◌, IfOk, OnOk, OnErr, length};
+ghost use Rattle.room_ace.specs.Valid.{is_document};
+ghost use Rattle.room_rows.specs.Held.{held_of, with_held};
+ghost use Rattle.room_rows.specs.Keep.{node_of};
+
+use crate::held::Held;
+use crate::text::{Bytes, Text};
+use room_ace::{Mask, Name, ObjKind, Owners, Which};
+use std::alloc::{AllocError, Global};
+use std::marker::Model;
+
+/// An object as it is kept. The root has no parent.
+#[derive(Clone, Drop)]
+pub struct Node {
+    /// Its number, from 1 on.
+    pub id: u64,
+    /// The number of the folder that it stands in.
+    pub parent: Option<u64>,
+    /// Its name in that folder, empty for the root.
+    pub name: Text,
+    /// Whether it is a folder or a document.
+    pub kind: ObjKind,
+    /// Its owner and its owning group.
+    pub owners: Owners,
+    /// The list that access is judged by.
+    pub dacl: Held,
+    /// The list that records are kept by.
+    pub sacl: Held,
+}
+
+/// An object that has no number yet, and the bytes that it gets where it is a document.
+#[derive(Drop)]
+pub struct NewNode {
+    /// The number of the folder that it is to stand in.
+    pub parent: Option<u64>,
+    /// Its name in that folder.
+    pub name: Text,
+    /// Whether it is a folder or a document.
+    pub kind: ObjKind,
+    /// Its owner and its owning group.
+    pub owners: Owners,
+    /// The list that access is judged by.
+    pub dacl: Held,
+    /// The list that records are kept by.
+    pub sacl: Held,
+    /// The bytes of a document.
+    pub bytes: Bytes,
+}
+
+/// Numbers of objects. A contract sees the list of them.
+#[derive(Drop)]
+pub struct Numbers {
+    items: Vec<u64>,
+}
+
+impl Model for Numbers {
+    ghost use Rattle.std.specs.Prelude.{List, ℕ};
+
+    ghost Value = { List ℕ };
+
+    ghost view = { λ n. n.items.items };
+}
+
+impl Numbers {
+    /// No numbers.
+    pub fn new(alloc: Global) -> Numbers
+        ensures { result ≡ [] }
+    {
+        Numbers {
+            items: Vec::new(alloc),
+        }
+    }
+
+    /// The numbers of the vector, which takes no memory.
+    pub fn from_vec(items: Vec<u64>) -> Numbers
+        ensures { result ≡ items.items }
+    {
+        Numbers { items }
+    }
+
+    /// The vector that holds the numbers.
+    pub fn into_vec(self) -> Vec<u64>
+        ensures { result.items ≡ self }
+    {
+        self.items
+    }
+
+    /// The numbers as a slice.
+    pub fn as_slice(&self) -> &[u64]
+        ensures { result.now ≡ self.now }
+    {
+        self.items.as_slice()
+    }
+
+    /// How many numbers there are.
+    pub fn len(&self) -> usize
+        ensures { result ≡ length self.now }
+    {
+        self.items.len()
+    }
+
+    /// Whether there are none.
+    pub fn is_empty(&self) -> bool
+        ensures { result ≡ (length self.now == 0) }
+    {
+        self.items.is_empty()
+    }
+
+    /// Adds a number at the end.
+    pub fn push(&mut self, id: u64) -> Result<(), AllocError>
+        ensures ok { OnOk result (self.new ≡ self.old ++ id ∷ []) }
+        ensures err { OnErr result (self.new ≡ self.old) }
+    {
+        self.items.push(id)?;
+        Ok(())
+    }
+}
+
+/// Objects in order. A contract sees the list of them.
+#[derive(Drop)]
+pub struct Nodes {
+    items: Vec<Node>,
+}
+
+impl Model for Nodes {
+    ghost use Rattle.std.specs.Prelude.{List};
+    ghost use Rattle.room_rows.specs.declared.node.Node.{Node};
+
+    ghost Value = { List Node };
+
+    ghost view = { λ n. n.items.items };
+}
+
+/// The objects that a walk along a path found, from the root on, and how many names are left over.
+#[derive(Drop)]
+pub struct Walk {
+    /// The objects, from the root on.
+    pub chain: Nodes,
+    /// How many names are left over.
+    pub rest: usize,
+}
+
+/// One record: a check of these bits on the object at the path of this text had this outcome, and
+/// the entry at this place of the object's sacl called for it.
+#[derive(Clone, Drop)]
+pub struct AuditRow {
+    /// The moment, in seconds from 1970-01-01 00:00 UTC.
+    pub at: i64,
+    /// The caller's name, which an anonymous caller hasn't.
+    pub user: Option<Name>,
+    /// The text of the object's path.
+    pub path: Text,
+    /// The bits that were checked.
+    pub bits: Mask,
+    /// Whether they were granted.
+    pub granted: bool,
+    /// The place of the entry in the object's sacl, counted from 1.
+    pub place: usize,
+    /// The kind of the entry.
+    pub kind: RecordKind,
+}
+
+/// The kind of the entry that called for a record.
+#[derive(Clone, Copy, Debug, PartialEq, Eq)]
+pub enum RecordKind {
+    /// An audit entry.
+    Audit,
+    /// An alarm entry.
+    Alarm,
+}
+
+impl Node {
+    /// A copy.
+    pub fn copy(&self) -> Result<Node, AllocError>
+        ensures { IfOk result (λ copy. copy ≡ self.now) }
+    {
+        Ok(Node {
+            id: self.id,
+            parent: self.parent,
+            name: self.name.copy()?,
+            kind: self.kind,
+            owners: self.owners.copy()?,
+            dacl: self.dacl.copy()?,
+            sacl: self.sacl.copy()?,
+        })
+    }
+
+    /// Replaces the list of this kind.
+    pub fn set_held(&mut self, which: Which, held: Held)
+        ensures { self.new ≡ with_held which held self.old }
+    {
+        match which {
+            Which::Dacl => self.dacl = held,
+            Which::Sacl => self.sacl = held,
+        }
+    }
+
+    /// Whether it is a document.
+    pub fn is_document(&self) -> bool
+        ensures { result ≡ is_document self.now.kind }
+    {
+        self.kind == ObjKind::Document
+    }
+
+    /// The list of this kind.
+    pub fn held(&self, which: Which) -> &Held
+        ensures { result.now ≡ held_of which self.now }
+    {
+        match which {
+            Which::Dacl => &self.dacl,
+            Which::Sacl => &self.sacl,
+        }
+    }
+}
+
+impl NewNode {
+    /// The object with this number, and its bytes.
+    pub fn at_number(self, id: u64) -> (Node, Bytes)
+        ensures { result ≡ (node_of id self, self.bytes) }
+    {
+        let NewNode {
+            parent,
+            name,
+            kind,
+            owners,
+            dacl,
+            sacl,
+            bytes,
+        } = self;
+        let node = Node {
+            id,
+            parent,
+            name,
+            kind,
+            owners,
+            dacl,
+            sacl,
+        };
+        (node, bytes)
+    }
+}
+
+impl Nodes {
+    /// No objects.
+    pub fn new(alloc: Global) -> Nodes
+        ensures { result ≡ [] }
+    {
+        Nodes {
+            items: Vec::new(alloc),
+        }
+    }
+
+    /// The objects of the vector, which takes no memory.
+    pub fn from_vec(items: Vec<Node>) -> Nodes
+        ensures { result ≡ items.items }
+    {
+        Nodes { items }
+    }
+
+    /// The vector that holds the objects.
+    pub fn into_vec(self) -> Vec<Node>
+        ensures { result.items ≡ self }
+    {
+        self.items
+    }
+
+    /// The objects as a slice.
+    pub fn as_slice(&self) -> &[Node]
+        ensures { result.now ≡ self.now }
+    {
+        self.items.as_slice()
+    }
+
+    /// How many objects there are.
+    pub fn len(&self) -> usize
+        ensures { result ≡ length self.now }
+    {
+        self.items.len()
+    }
+
+    /// Whether there are none.
+    pub fn is_empty(&self) -> bool
+        ensures { result ≡ (length self.now == 0) }
+    {
+        self.items.is_empty()
+    }
+
+    /// Adds an object at the end.
+    pub fn push(&mut self, node: Node) -> Result<(), AllocError>
+        ensures ok { OnOk result (self.new ≡ self.old ++ node ∷ []) }
+        ensures err { OnErr result (self.new ≡ self.old) }
+    {
+        self.items.push(node)?;
+        Ok(())
+    }
+}
