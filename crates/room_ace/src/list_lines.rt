@@ -19,8 +19,8 @@ impl<'a> ListLines<'a> {
     /// The next line that is neither blank nor a comment; its number is then `passed`.
     pub(crate) fn next_line(&mut self) -> Option<&'a [u8]>
         requires { self.old.passed + length self.old.rest.now < 2 ^ 64 }
-        ensures line { MatchOption result (lines_after self.old.passed self.old.rest.now ≡ []) (λ line.
-            lines_after self.old.passed self.old.rest.now
+        ensures line { MatchOption result (lines_after self.old.passed self.old.rest.now ≡ [])
+            (λ line. lines_after self.old.passed self.old.rest.now
             ≡ (self.new.passed, line.now) ∷ lines_after self.new.passed self.new.rest.now) }
         ensures all { self.new.passed + length (lines_of self.new.rest.now)
             ≡ self.old.passed + length (lines_of self.old.rest.now) }

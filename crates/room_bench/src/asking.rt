@@ -190,8 +190,7 @@ fn denied_in(
     entries: usize,
 ) -> Result<()> {
     let id = add(rt.alloc(), keep, 1, "f", ObjKind::Document)?;
-    let others = LIST.get(..entries.min(31)).unwrap_or(&[]);
-    set_dacl(rt.alloc(), keep, id, others)?;
+    set_dacl(rt.alloc(), keep, id, &LIST[..entries.min(31)])?;
     set_sacl(rt.alloc(), keep, id, &["U:F:EVERYONE@:r"])?;
     let both = read_twice(rt.alloc(), "/f")?;
     repeat(

@@ -35,20 +35,25 @@ AreAll rows nodes = (first_bad_list rows ≡ None) × (nodes ≡ rows.read.nodes
 
 -- the first of these objects whose bytes aren't as its kind asks
 abbrev pub IsBadBody : List Node → Rows → Option (Bor Node) → Type 0
-IsBadBody nodes rows found = option_copied found ≡ find (λ node. not (has_sound_body rows.read node)) nodes
+IsBadBody nodes rows found =
+    option_copied found ≡ find (λ node. not (has_sound_body rows.read node)) nodes
 
 -- what the rows have, where these are their objects, and no list is bad
 abbrev pub IsReportOf : List Node → Rows → Report → Type 0
-IsReportOf nodes rows report = nodes ≡ rows.read.nodes → first_bad_list rows ≡ None → report ≡ report_of rows
+IsReportOf nodes rows report =
+    nodes ≡ rows.read.nodes → first_bad_list rows ≡ None → report ≡ report_of rows
 
 abbrev pub IsReport : Rows → Report → Type 0
 IsReport rows report = report ≡ report_of rows
 
--- A look through all rows. It tells of a row that can't be read and doesn't fail by it, so it is known to have met no failure where it answers that the rows are sound.
-pub record Looks {S : Type 0} (k : Ghosts S) (old new : S) (result : Result Report KeepFault) (Answers : Rows → Report → Type 0) : Type 0 where
+-- A look through all rows. It tells of a row that can't be read and doesn't fail by it, so it is
+-- known to have met no failure where it answers that the rows are sound.
+pub record Looks {S : Type 0} (k : Ghosts S) (old new : S) (result : Result Report KeepFault)
+    (Answers : Rows → Report → Type 0) : Type 0 where
   pub follows : k.Follows old new
   pub unwritten : k.writes new ≡ k.writes old
   pub same : k.IsTrusted old new → IfSeen result (k.rows new ≡ k.rows old)
   pub answers : k.IsTrusted old new → IfOk result (Answers (k.rows old))
   pub unfailed : IfOk result (λ report. report ≡ Sound → k.failures new ≡ k.failures old)
-  pub fault : IfErr result (HasCause (k.failures old) (k.failures new) (λ at. k.IsTrusted old new → ⊥))
+  pub fault : IfErr result (HasCause (k.failures old) (k.failures new)
+      (λ at. k.IsTrusted old new → ⊥))

@@ -20,7 +20,8 @@ use Rattle.room_inherit.specs.declared.outcome.SpreadFault.TheVariants.{Keeper, 
 -- at most so many steps below the object of this number
 abbrev pub is_within : ℕ → Content → ℕ → Node → Bool
 is_within zero rows id node = false
-is_within (suc n) rows id node = has_parent id node || option_map_or (is_within n rows id) (parent_of rows node) false
+is_within (suc n) rows id node =
+    has_parent id node || option_map_or (is_within n rows id) (parent_of rows node) false
 
 abbrev pub IsBelow : Content → ℕ → Node → Type 0
 IsBelow rows id node = (n : ℕ) × IsTrue (is_within n rows id node)
@@ -32,7 +33,9 @@ IsOwnAncestor rows id = (node : Node) × (node_at rows id ≡ Some node) × IsBe
 -- the same through linked objects alone
 abbrev pub is_linked_within : ℕ → Content → Which → ℕ → Node → Bool
 is_linked_within zero rows which id node = false
-is_linked_within (suc n) rows which id node = is_linked_in rows which node && (has_parent id node || option_map_or (is_linked_within n rows which id) (parent_of rows node) false)
+is_linked_within (suc n) rows which id node =
+    is_linked_in rows which node && (has_parent id node
+    || option_map_or (is_linked_within n rows which id) (parent_of rows node) false)
 
 abbrev pub IsLinkedBelow : Content → Which → ℕ → Node → Type 0
 IsLinkedBelow rows which id node = (n : ℕ) × IsTrue (is_linked_within n rows which id node)
@@ -47,11 +50,14 @@ with_lists which lists content = with_each content (λ node. with_inh which (lis
 abbrev pub is_changed : Which → (Node → List Ace) → Node → Bool
 is_changed which lists node = not (same_entries (lists node) (held_of which node).inh)
 
--- The rows are as they were but for inherited entries of this attribute at objects that are linked below this one, of which so many are different now. If the law held but for the object's children, it holds.
+-- The rows are as they were but for inherited entries of this attribute at objects that are linked
+-- below this one, of which so many are different now. If the law held but for the object's
+-- children, it holds.
 pub record IsSpread (which : Which) (id : ℕ) (old new : Rows) (changed : ℕ) : Type 0 where
   pub lists : Node → List Ace
   pub becomes : new ≡ reading old (with_lists which lists old.read)
-  pub below : (node : Node) → node_at old.read node.id ≡ Some node → IsTrue (is_changed which lists node) → IsLinkedBelow old.read which id node
+  pub below : (node : Node) → node_at old.read node.id ≡ Some node
+      → IsTrue (is_changed which lists node) → IsLinkedBelow old.read which id node
   pub counted : changed ≡ count_by (is_changed which lists) old.read.nodes
   pub law : AllAgreeBut old.read which id → AllAgree new.read which
 
@@ -64,32 +70,48 @@ HasSpreadCause before after damaged loops Loop = loops
 
 -- ---- calls that read and write lists
 
-module _ {S : Type 0} (rows : S → Rows) (failures writes : S → ℕ) (Follows IsTrusted : S → S → Type 0) where
-  -- As long as the keeper answers by its rows: an answer tells what became of them and how often was written, and a fault blames a row that can't be read or a loop.
-  pub record IsCarried {X : Type 0} (count : X → ℕ) (old new : S) (result : Result X SpreadFault) (Loops : Rows → Type 0) (Becomes : Rows → X → Rows → Type 0) : Type 0 where
+module _ {S : Type 0} (rows : S → Rows) (failures writes : S → ℕ)
+    (Follows IsTrusted : S → S → Type 0) where
+  -- As long as the keeper answers by its rows: an answer tells what became of them and how often
+  -- was written, and a fault blames a row that can't be read or a loop.
+  pub record IsCarried {X : Type 0} (count : X → ℕ) (old new : S) (result : Result X SpreadFault)
+      (Loops : Rows → Type 0) (Becomes : Rows → X → Rows → Type 0) : Type 0 where
     pub follows : Follows old new
     pub written : IfOk result (λ answer. writes new ≡ capped (writes old + count answer))
     pub becomes : IsTrusted old new → IfOk result (λ answer. Becomes (rows old) answer (rows new))
-    pub fault : IfErr result (HasSpreadCause (failures old) (failures new) (λ at. IsTrusted old new → IsUnreadable (rows old) at) (IsTrusted old new → Loops (rows old)))
+    pub fault : IfErr result (HasSpreadCause (failures old) (failures new)
+        (λ at. IsTrusted old new → IsUnreadable (rows old) at)
+        (IsTrusted old new → Loops (rows old)))
 
 -- ---- with the keeper named once
 
 module _ {S : Type 0} (k : Ghosts S) (old new : S) where
   -- The calls answer so, where they answer by the rows.
-  abbrev pub Carries : {X : Type 0} → (X → ℕ) → Result X SpreadFault → (Rows → Type 0) → (Rows → X → Rows → Type 0) → Type 0
-  Carries count result Loops Becomes = IsCarried k.rows k.failures k.writes k.Follows k.IsTrusted count old new result Loops Becomes
+  abbrev pub Carries : {X : Type 0} → (X → ℕ) → Result X SpreadFault → (Rows → Type 0)
+      → (Rows → X → Rows → Type 0) → Type 0
+  Carries count result Loops Becomes =
+      IsCarried k.rows k.failures k.writes k.Follows k.IsTrusted count old new result Loops Becomes
 
   -- The same where the rows are so beforehand, which is the caller's to know.
-  abbrev pub CarriesIf : {X : Type 0} → (Rows → Type 0) → (X → ℕ) → Result X SpreadFault → (Rows → Type 0) → (Rows → X → Rows → Type 0) → Type 0
+  abbrev pub CarriesIf : {X : Type 0} → (Rows → Type 0) → (X → ℕ) → Result X SpreadFault
+      → (Rows → Type 0) → (Rows → X → Rows → Type 0) → Type 0
   CarriesIf Given count result Loops Becomes =
-      IsCarried k.rows k.failures k.writes k.Follows (λ first last. k.IsTrusted first last × Given (k.rows first)) count old new result Loops Becomes
+      IsCarried k.rows k.failures k.writes k.Follows
+      (λ first last. k.IsTrusted first last × Given (k.rows first))
+      count old new result Loops Becomes
 
   -- What a change of this object's list means is carried down.
   abbrev pub SpreadsIf : (Rows → Type 0) → Which → ℕ → Result Spread SpreadFault → Type 0
-  SpreadsIf Given which id result = CarriesIf Given (λ (spread : Spread). spread.changed) result (λ rows. IsOwnAncestor rows.read id) (λ first spread last. IsSpread which id first last spread.changed)
+  SpreadsIf Given which id result =
+      CarriesIf Given (λ (spread : Spread). spread.changed) result
+      (λ rows. IsOwnAncestor rows.read id)
+      (λ first spread last. IsSpread which id first last spread.changed)
 
   abbrev pub Spreads : Which → ℕ → Result Spread SpreadFault → Type 0
-  Spreads which id result = Carries (λ (spread : Spread). spread.changed) result (λ rows. IsOwnAncestor rows.read id) (λ first spread last. IsSpread which id first last spread.changed)
+  Spreads which id result =
+      Carries (λ (spread : Spread). spread.changed) result
+      (λ rows. IsOwnAncestor rows.read id)
+      (λ first spread last. IsSpread which id first last spread.changed)
 
 -- the object stands in the rows
 abbrev pub Holds : Node → Rows → Type 0

@@ -18,29 +18,39 @@ use Rattle.room_inherit.specs.declared.outcome.SpreadFault.{SpreadFault}
 -- One object has no parent, and the parents of each lead to it.
 pub record IsTree (rows : Content) : Type 0 where
   pub one_root : length (filter is_root rows.nodes) ≡ 1
-  pub connected : IsTrue (list_all (λ node. reaches_root (length rows.nodes) rows node.parent) rows.nodes)
+  pub connected :
+      IsTrue (list_all (λ node. reaches_root (length rows.nodes) rows node.parent) rows.nodes)
 
--- The rows are as they were but for inherited entries of this attribute at linked objects, of which so many are different now, fewer than 2 ^ 63. In a tree the law holds.
+-- The rows are as they were but for inherited entries of this attribute at linked objects, of which
+-- so many are different now, fewer than 2 ^ 63. In a tree the law holds.
 pub record IsSwept (which : Which) (old new : Rows) (changed : ℕ) : Type 0 where
   pub lists : Node → List Ace
   pub becomes : new ≡ reading old (with_lists which lists old.read)
-  pub linked : (node : Node) → node_at old.read node.id ≡ Some node → IsTrue (is_changed which lists node) → IsTrue (is_linked_in old.read which node)
+  pub linked : (node : Node) → node_at old.read node.id ≡ Some node
+      → IsTrue (is_changed which lists node) → IsTrue (is_linked_in old.read which node)
   pub counted : changed ≡ count_by (is_changed which lists) old.read.nodes
   pub few : changed < 2 ^ 63
   pub law : IsTree old.read → AllAgree new.read which
 
 -- each object with these inherited entries of both lists, and else as it was
 abbrev pub with_both : (Node → List Ace) → (Node → List Ace) → Content → Content
-with_both dacls sacls content = with_each content (λ node. with_inh Sacl (sacls node) (with_inh Dacl (dacls node) node))
+with_both dacls sacls content =
+    with_each content (λ node. with_inh Sacl (sacls node) (with_inh Dacl (dacls node) node))
 
--- The rows are as they were but for inherited entries at linked objects, of which so many lists are different now. Where the first six tests of all rows found no fault, the law of both holds, and so it does in any other tree.
+-- The rows are as they were but for inherited entries at linked objects, of which so many lists are
+-- different now. Where the first six tests of all rows found no fault, the law of both holds, and
+-- so it does in any other tree.
 pub record IsSpreadAll (old new : Rows) (changed : ℕ) : Type 0 where
   pub dacls : Node → List Ace
   pub sacls : Node → List Ace
   pub becomes : new ≡ reading old (with_both dacls sacls old.read)
-  pub linked_dacls : (node : Node) → node_at old.read node.id ≡ Some node → IsTrue (is_changed Dacl dacls node) → IsTrue (is_linked_in old.read Dacl node)
-  pub linked_sacls : (node : Node) → node_at old.read node.id ≡ Some node → IsTrue (is_changed Sacl sacls node) → IsTrue (is_linked_in old.read Sacl node)
-  pub counted : changed ≡ count_by (is_changed Dacl dacls) old.read.nodes + count_by (is_changed Sacl sacls) old.read.nodes
+  pub linked_dacls : (node : Node) → node_at old.read node.id ≡ Some node
+      → IsTrue (is_changed Dacl dacls node) → IsTrue (is_linked_in old.read Dacl node)
+  pub linked_sacls : (node : Node) → node_at old.read node.id ≡ Some node
+      → IsTrue (is_changed Sacl sacls node) → IsTrue (is_linked_in old.read Sacl node)
+  pub counted : changed
+      ≡ count_by (is_changed Dacl dacls) old.read.nodes
+      + count_by (is_changed Sacl sacls) old.read.nodes
   pub law : first_fault old ≡ None → (which : Which) → AllAgree new.read which
   pub in_tree : IsTree old.read → (which : Which) → AllAgree new.read which
 
@@ -48,20 +58,30 @@ pub record IsSpreadAll (old new : Rows) (changed : ℕ) : Type 0 where
 abbrev pub all_of : Node → Rows → List Node → List Node
 all_of above new renewed = children_of new.read above.id
 
-module _ {S : Type 0} (rows : S → Rows) (failures writes : S → ℕ) (Follows IsTrusted : S → S → Type 0) where
-  -- As long as the keeper answers by its rows: an answer tells what became of them and how often was written, and a fault blames a row that can't be read or the want of a root. There is never a loop.
-  pub record IsCarriedDown {X : Type 0} (count : X → ℕ) (old new : S) (result : Result X SpreadFault) (Becomes : Rows → X → Rows → Type 0) : Type 0 where
+module _ {S : Type 0} (rows : S → Rows) (failures writes : S → ℕ)
+    (Follows IsTrusted : S → S → Type 0) where
+  -- As long as the keeper answers by its rows: an answer tells what became of them and how often
+  -- was written, and a fault blames a row that can't be read or the want of a root. There is never
+  -- a loop.
+  pub record IsCarriedDown {X : Type 0} (count : X → ℕ) (old new : S)
+      (result : Result X SpreadFault) (Becomes : Rows → X → Rows → Type 0) : Type 0 where
     pub follows : Follows old new
     pub written : IfOk result (λ answer. writes new ≡ capped (writes old + count answer))
     pub becomes : IsTrusted old new → IfOk result (λ answer. Becomes (rows old) answer (rows new))
-    pub fault : IfErr result (HasSpreadCause (failures old) (failures new) (λ at. IsTrusted old new → HasNoRoot (rows old) at) (IsTrusted old new → ⊥))
+    pub fault : IfErr result (HasSpreadCause (failures old) (failures new)
+        (λ at. IsTrusted old new → HasNoRoot (rows old) at) (IsTrusted old new → ⊥))
 
 module _ {S : Type 0} (k : Ghosts S) (old new : S) where
   -- All lists are carried down.
   abbrev pub SpreadsAll : Result Spread SpreadFault → Type 0
   SpreadsAll result =
-      IsCarriedDown k.rows k.failures k.writes k.Follows k.IsTrusted (λ (spread : Spread). spread.changed) old new result (λ first spread last. IsSpreadAll first last spread.changed)
+      IsCarriedDown k.rows k.failures k.writes k.Follows k.IsTrusted
+      (λ (spread : Spread). spread.changed) old new result
+      (λ first spread last. IsSpreadAll first last spread.changed)
 
   -- Those of one attribute are.
   abbrev pub Sweeps : Which → Result ℕ SpreadFault → Type 0
-  Sweeps which result = IsCarriedDown k.rows k.failures k.writes k.Follows k.IsTrusted {X = ℕ} (λ changed. changed) old new result (λ first changed last. IsSwept which first last changed)
+  Sweeps which result =
+      IsCarriedDown k.rows k.failures k.writes k.Follows k.IsTrusted {X = ℕ}
+      (λ changed. changed) old new result
+      (λ first changed last. IsSwept which first last changed)

@@ -27,14 +27,20 @@ renewed which above node = with_inh which (passed_to which above node) node
 
 -- linked, and stored otherwise than it is to be
 abbrev pub is_outdated : Which → Node → Node → Bool
-is_outdated which above node = is_linked_to which above node && not (same_entries (held_of which node).inh (passed_to which above node))
+is_outdated which above node =
+    is_linked_to which above node
+    && not (same_entries (held_of which node).inh (passed_to which above node))
 
 abbrev pub renewal : Which → Node → Node → Option Node
-renewal which above node = if is_outdated which above node then Some (renewed which above node) else None
+renewal which above node =
+    if is_outdated which above node then Some (renewed which above node) else None
 
 -- the list of an outdated object, as it is to be
 abbrev pub renewed_list : Which → Node → Node → Option Held
-renewed_list which above node = if is_outdated which above node then Some (record (held_of which node) { inh = passed_to which above node }) else None
+renewed_list which above node =
+    if is_outdated which above node
+    then Some (record (held_of which node) { inh = passed_to which above node })
+    else None
 
 -- those of the children that are outdated, as they are to be
 abbrev pub renewals : Which → Node → List Node → List Node
@@ -60,7 +66,8 @@ with_nodes content nodes = record content { nodes = put_nodes nodes content.node
 abbrev pub AreKnown : Which → List Node → Content → Type 0
 AreKnown which [] content = Unit {0}
 AreKnown which (node ∷ nodes) content =
-    ((stored : Node) × (node_at content node.id ≡ Some stored) × (node ≡ with_inh which (held_of which node).inh stored))
+    ((stored : Node) × (node_at content node.id ≡ Some stored)
+    × (node ≡ with_inh which (held_of which node).inh stored))
     × (list_any (λ other. other.id == node.id) nodes ≡ false)
     × AreKnown which nodes content
 
@@ -70,19 +77,27 @@ StoresLists nodes old answer new = new ≡ reading old (with_nodes old.read node
 
 -- the child is renewed where it is outdated
 abbrev pub renewed_below : Which → Node → Node → Node
-renewed_below which above node = if has_parent above.id node && is_outdated which above node then renewed which above node else node
+renewed_below which above node =
+    if has_parent above.id node && is_outdated which above node
+    then renewed which above node
+    else node
 
--- Each outdated child of the object is renewed and among the answer, and the first object wasn't met.
-pub record IsTurn (which : Which) (start : ℕ) (above : Node) (old : Rows) (next : List Node) (new : Rows) : Type 0 where
+-- Each outdated child of the object is renewed and among the answer, and the first object wasn't
+-- met.
+pub record IsTurn (which : Which) (start : ℕ) (above : Node) (old : Rows) (next : List Node)
+    (new : Rows) : Type 0 where
   pub answers : next ≡ renewals which above (children_of old.read above.id)
   pub not_met : meets_again which start above (children_of old.read above.id) ≡ false
   pub becomes : new ≡ reading old (with_each old.read (renewed_below which above))
 
 abbrev pub MeetsAgain : Which → ℕ → Node → Rows → Type 0
-MeetsAgain which start above rows = meets_again which start above (children_of rows.read above.id) ≡ true
+MeetsAgain which start above rows =
+    meets_again which start above (children_of rows.read above.id) ≡ true
 
 -- One object's children renewed, and these or others put behind those that wait.
-pub record IsVisit (which : Which) (start : ℕ) (above : Node) (waits_next : Rows → List Node → List Node) (before after : List Node) (old : Rows) (written : ℕ) (new : Rows) : Type 0 where
+pub record IsVisit (which : Which) (start : ℕ) (above : Node)
+    (waits_next : Rows → List Node → List Node) (before after : List Node) (old : Rows)
+    (written : ℕ) (new : Rows) : Type 0 where
   pub next : List Node
   pub turn : IsTurn which start above old next new
   pub counted : written ≡ length next

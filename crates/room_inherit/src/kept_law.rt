@@ -14,9 +14,11 @@ use room_rows::Node;
 use std::alloc::{AllocError, Global};
 
 impl Objects {
-    /// The first object with a linked list whose stored inherited entries aren't what its parent passes.
+    /// The first object with a linked list whose stored inherited entries aren't what its parent
+    /// passes.
     pub(crate) fn first_broken_law(&self, alloc: Global) -> Result<Option<&Node>, AllocError>
-        ensures { IfOk result (λ found. option_copied found ≡ first_failing (keeps_law (only self.now)) (only self.now)) }
+        ensures { IfOk result (λ found. option_copied found
+            ≡ first_failing (keeps_law (only self.now)) (only self.now)) }
     {
         'nodes: for node in self.as_slice() {
             if !self.keeps_law(alloc, node)? {
@@ -38,7 +40,8 @@ impl Objects {
 
 // Whether both lists agree with the parent's.
 fn agree_with(alloc: Global, node: &Node, parent: &Node) -> Result<bool, AllocError>
-    ensures { IfOk result (λ agree. agree ≡ (agrees_with Dacl node.now parent.now && agrees_with Sacl node.now parent.now)) }
+    ensures { IfOk result (λ agree. agree
+        ≡ (agrees_with Dacl node.now parent.now && agrees_with Sacl node.now parent.now)) }
 {
     let dacl = agrees_with(alloc, node, parent, Which::Dacl)?;
     let sacl = agrees_with(alloc, node, parent, Which::Sacl)?;

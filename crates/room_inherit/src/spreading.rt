@@ -26,14 +26,16 @@ pub fn spread<K: Keep>(
     }
 }
 
-// The same from an object of the rows. How many turns there are at most is asked where some are left.
+// The same from an object of the rows. How many turns there are at most is asked where some are
+// left.
 fn spread_from<K: Keep>(
     alloc: Global,
     keep: &mut K,
     start: &Node,
     which: Which,
 ) -> Result<Spread, SpreadFault>
-    ensures spread { SpreadsIf K.Keep keep.old keep.new (Holds start.now) which start.now.id result }
+    ensures spread { SpreadsIf K.Keep keep.old keep.new
+        (Holds start.now) which start.now.id result }
 {
     let mut waiting = renew_children(alloc, keep, start.id, start, which)?;
     let mut changed = waiting.len() as u64;
@@ -57,8 +59,8 @@ fn spread_from<K: Keep>(
     }
 }
 
-// Renews the outdated children of an object, says how many they are, and puts them behind those that
-// wait.
+// Renews the outdated children of an object, says how many they are, and puts them behind those
+// that wait.
 fn visit_renewed<K: Keep>(
     alloc: Global,
     keep: &mut K,
@@ -67,7 +69,9 @@ fn visit_renewed<K: Keep>(
     which: Which,
     waiting: &mut Vec<Node>,
 ) -> Result<u64, SpreadFault>
-    ensures visit { Carries K.Keep keep.old keep.new (λ written. written) result (MeetsAgain which start above.now) (IsVisit which start above.now renewed_ones waiting.old.items waiting.new.items) }
+    ensures visit { Carries K.Keep keep.old keep.new (λ written. written) result
+        (MeetsAgain which start above.now)
+        (IsVisit which start above.now renewed_ones waiting.old.items waiting.new.items) }
 {
     let mut next = renew_children(alloc, keep, start, above, which)?;
     let written = next.len() as u64;

@@ -12,8 +12,8 @@ use room_rows::{Node, is_object_name};
 use std::alloc::{AllocError, Global};
 use std::collections::BTreeSet;
 
-/// What is wrong with the objects without a parent: the number of the second, or of the only one where
-/// it is no folder, or 0 where there is none.
+/// What is wrong with the objects without a parent: the number of the second, or of the only one
+/// where it is no folder, or 0 where there is none.
 pub(crate) fn bad_root(nodes: &[Node]) -> Option<u64>
     ensures { result ≡ bad_root (filter is_root nodes.now) }
 {
@@ -36,7 +36,8 @@ pub(crate) fn bad_root(nodes: &[Node]) -> Option<u64>
 impl Objects {
     /// The first object whose parent isn't there or is no folder.
     pub(crate) fn first_bad_parent(&self) -> Option<&Node>
-        ensures { option_copied result ≡ first_failing (has_folder_above (only self.now)) (only self.now) }
+        ensures { option_copied result
+            ≡ first_failing (has_folder_above (only self.now)) (only self.now) }
     {
         'nodes: for node in self.as_slice() {
             if !self.has_folder_above(node) {
@@ -89,7 +90,8 @@ impl Objects {
 
     /// The first object whose name is no object name, or has been given under its parent before.
     pub(crate) fn first_bad_name(&self, alloc: Global) -> Result<Option<&Node>, AllocError>
-        ensures { IfOk result (λ found. option_copied found ≡ first_failing (has_sound_name (only self.now)) (only self.now)) }
+        ensures { IfOk result (λ found. option_copied found
+            ≡ first_failing (has_sound_name (only self.now)) (only self.now)) }
     {
         let mut given: BTreeSet<(u64, &str)> = BTreeSet::new(alloc);
         'nodes: for node in self.as_slice() {

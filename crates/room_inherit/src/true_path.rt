@@ -18,7 +18,8 @@ impl Objects {
         node: &Node,
         why: Unsound,
     ) -> Result<Report, AllocError>
-        ensures { IfOk result (λ report. report ≡ Report.Fault (true_path (only self.now) node.now) why) }
+        ensures { IfOk result
+            (λ report. report ≡ Report.Fault (true_path (only self.now) node.now) why) }
     {
         let names = self.names_up(alloc, node)?;
         let path = path_down(alloc, names)?;
@@ -27,7 +28,8 @@ impl Objects {
 
     // The names from the object up, without the root's.
     fn names_up<'a>(&'a self, alloc: Global, node: &'a Node) -> Result<Vec<Text>, AllocError>
-        ensures { IfOk result (λ names. reverse names.items ≡ names_up (length self.now) (only self.now) node.now) }
+        ensures { IfOk result (λ names. reverse names.items
+            ≡ names_up (length self.now) (only self.now) node.now) }
     {
         let mut names = Vec::new(alloc);
         let mut at = node;
@@ -57,7 +59,8 @@ fn path_down(alloc: Global, names: Vec<Text>) -> Result<Text, AllocError>
 
 // Adds the names, each behind a `/`, from the last one to the first.
 fn push_down(text: &mut String, names: Vec<Text>) -> Result<(), AllocError>
-    ensures { OnOk result (string_bytes text.new ≡ string_bytes text.old ++ flat_map (λ name. 47 ∷ name) (reverse names.items)) }
+    ensures { OnOk result (string_bytes text.new
+        ≡ string_bytes text.old ++ flat_map (λ name. 47 ∷ name) (reverse names.items)) }
 {
     let mut left = names;
     'names: while let Some(name) = left.pop() {

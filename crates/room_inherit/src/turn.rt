@@ -24,8 +24,8 @@ use room_ace::Which;
 use room_rows::{Held, Keep, Node};
 use std::alloc::{AllocError, Global};
 
-/// Renews the outdated children of an object, and answers them. `Loop` comes where the object `start`
-/// is among its linked children.
+/// Renews the outdated children of an object, and answers them. `Loop` comes where the object
+/// `start` is among its linked children.
 pub(crate) fn renew_children<K: Keep>(
     alloc: Global,
     keep: &mut K,
@@ -33,7 +33,9 @@ pub(crate) fn renew_children<K: Keep>(
     above: &Node,
     which: Which,
 ) -> Result<Vec<Node>, SpreadFault>
-    ensures turn { Carries K.Keep keep.old keep.new (λ next. length next.items) result (MeetsAgain which start above.now) (λ old next new. IsTurn which start above.now old next.items new) }
+    ensures turn { Carries K.Keep keep.old keep.new (λ next. length next.items) result
+        (MeetsAgain which start above.now)
+        (λ old next new. IsTurn which start above.now old next.items new) }
 {
     let children = keep.children(above.id)?;
     if meets_again(children.as_slice(), start, above, which) {
@@ -62,7 +64,9 @@ fn is_met_again(child: &Node, start: u64, above: &Node, which: Which) -> bool
 // Stores the inherited entries of these objects, each of which is in the rows but for them. That is
 // the caller's to know.
 fn store_lists<K: Keep>(keep: &mut K, nodes: &[Node], which: Which) -> Result<(), SpreadFault>
-    ensures stored { CarriesIf K.Keep keep.old keep.new (λ rows. AreKnown which nodes.now rows.read) (λ _. length nodes.now) result (λ _. ⊥) (StoresLists nodes.now) }
+    ensures stored { CarriesIf K.Keep keep.old keep.new
+        (λ rows. AreKnown which nodes.now rows.read) (λ _. length nodes.now) result
+        (λ _. ⊥) (StoresLists nodes.now) }
 {
     'nodes: for node in nodes {
         keep.set_inh(node.id, which, node.held(which).inh())?;
@@ -94,7 +98,8 @@ fn outdated_by(
     children: Vec<Node>,
     which: Which,
 ) -> Result<Vec<Node>, AllocError>
-    ensures { IsPassed (full_of (held_of which above.now)) passed.now → IfOk result (λ next. next.items ≡ renewals which above.now children.items) }
+    ensures { IsPassed (full_of (held_of which above.now)) passed.now
+        → IfOk result (λ next. next.items ≡ renewals which above.now children.items) }
 {
     let mut next: Vec<Node> = Vec::new(alloc);
     'children: for child in children {
@@ -112,7 +117,9 @@ fn push_outdated(
     child: Node,
     which: Which,
 ) -> Result<(), AllocError>
-    ensures { IsPassed (full_of (held_of which above.now)) passed.now → OnOk result (next.new.items ≡ next.old.items ++ option_to_list (renewal which above.now child)) }
+    ensures { IsPassed (full_of (held_of which above.now)) passed.now
+        → OnOk result (next.new.items
+        ≡ next.old.items ++ option_to_list (renewal which above.now child)) }
 {
     if let Some(held) = renewed_list(alloc, above, passed, &child, which)? {
         let mut node = child;
@@ -130,7 +137,8 @@ fn renewed_list(
     child: &Node,
     which: Which,
 ) -> Result<Option<Held>, AllocError>
-    ensures { IsPassed (full_of (held_of which above.now)) passed.now → IfOk result (λ held. held ≡ renewed_list which above.now child.now) }
+    ensures { IsPassed (full_of (held_of which above.now)) passed.now
+        → IfOk result (λ held. held ≡ renewed_list which above.now child.now) }
 {
     let entries = passed.to(child.kind);
     if !takes_from(child, above, which) || stores(child.held(which), entries) {

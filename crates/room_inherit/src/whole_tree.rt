@@ -61,7 +61,9 @@ fn visit_all<K: Keep>(
     which: Which,
     waiting: &mut Vec<Node>,
 ) -> Result<u64, SpreadFault>
-    ensures visit { Carries K.Keep keep.old keep.new (λ written. written) result (MeetsAgain which start above.now) (IsVisit which start above.now (all_of above.now) waiting.old.items waiting.new.items) }
+    ensures visit { Carries K.Keep keep.old keep.new (λ written. written) result
+        (MeetsAgain which start above.now)
+        (IsVisit which start above.now (all_of above.now) waiting.old.items waiting.new.items) }
 {
     let written = renew_children(alloc, keep, start, above, which)?.len() as u64;
     let mut children = keep.children(above.id)?.into_vec();
