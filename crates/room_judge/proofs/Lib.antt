@@ -5,4 +5,3 @@ pub mod Ways
 pub mod Spots
 pub mod Folders
 pub mod Verdicts
-pub mod AtFault

@@ -1,5 +1,5 @@
 -- What the calls that carry out a request answer, and what they leave.
-use Rattle.std.specs.Prelude.{◌≡◌, ℕ, ℤ, ◌+◌, ◌⊎◌, Bool, true, false, not, List, [], ◌∷◌, ◌++◌}
+use Rattle.std.specs.Prelude.{◌≡◌, ℕ, ℤ, ◌+◌, Bool, true, false, not, List, [], ◌∷◌, ◌++◌}
 use Rattle.std.specs.Prelude.{Option, Some, None, is_none, slice_index_or, Result, IfOk, IfErr}
 use Rattle.std.specs.Prelude.{take, if◌then◌else◌}
 use Rattle.room_ace.specs.Rights.{delete_child, execute, write_data}
@@ -18,11 +18,10 @@ use Rattle.room_rows.specs.declared.keep.KeepFault.{KeepFault}
 use Rattle.room_rows.specs.declared.node.AuditRow.{AuditRow}
 use Rattle.room_rows.specs.declared.node.Node.{Node}
 use Rattle.room_rows.specs.Content.{child_of, is_folder, with_records}
-use Rattle.room_rows.specs.Keep.{HasCause, IsDamaged, reading}
+use Rattle.room_rows.specs.Keep.{HasCause, reading}
 use Rattle.room_rows.specs.Meaning.{meaning}
 use Rattle.room_rows.specs.Rows.{Rows}
 use Rattle.room_inherit.specs.Sound.{AreSound}
-use Rattle.room_inherit.specs.Spread.{IsOwnAncestor}
 use Rattle.room_judge.specs.declared.arrival.Arrival.{Arrival}
 use Rattle.room_judge.specs.declared.arrival.Arrival.TheVariants.{At, Ended}
 use Rattle.room_judge.specs.declared.arrival.Found.{Found}
@@ -54,11 +53,6 @@ module _ {S : Type 0} (rows : S → Rows) (failures : S → ℕ)
 module _ {S : Type 0} (k : Ghosts S) {X : Type 0} (old new : S) (result : Result X KeepFault) where
   abbrev pub Does : (Rows → ℕ → Type 0) → (Rows → X → Rows → Type 0) → Type 0
   Does Blames Becomes = IsDone k.rows k.failures k.Follows k.IsTrusted old new result Blames Becomes
-
--- All that `Damaged` of a request may stand for: a damaged row, or an object that is its own
--- ancestor. Of sound rows it is none.
-abbrev pub IsAtFault : Rows → ℕ → Type 0
-IsAtFault rows at = IsDamaged rows at ⊎ IsOwnAncestor rows.read at
 
 -- no row of sound rows
 abbrev pub NotSound : Rows → ℕ → Type 0
