@@ -5,6 +5,7 @@ pub mod Single
 pub mod BitLaws
 pub mod Pieces
 pub mod Names
+pub mod Rising
 pub mod Ace
 pub mod Matching
 pub mod Faults

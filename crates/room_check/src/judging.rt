@@ -1,5 +1,5 @@
 //! The judging of one list from bytes, without a room.
-ghost use Rattle.std.specs.Prelude.{◌≡◌, IfOk, string_bytes};
+ghost use Rattle.std.specs.Prelude.{◌≡◌, IfOk, length, nat_lt, string_bytes};
 ghost use Rattle.room_ace.specs.Text.{mask_text};
 ghost use Rattle.room_check.specs.Check.{judged};
 ghost use Rattle.room_check.specs.Reply.{place_text, reply_status, reply_text, text_at};
@@ -41,17 +41,14 @@ pub fn check(alloc: Global, input: &[u8]) -> Result<CheckReply, AllocError>
         × (reply.status ≡ reply_status (judged input.now))) }
 {
     let told = judge(alloc, input)?;
-    Ok(CheckReply {
-        text: told.text(alloc)?,
-        status: told.status(),
-    })
+    told.reply(alloc)
 }
 
 // The first fault of the input, or what its list says.
 fn judge(alloc: Global, input: &[u8]) -> Result<Judged, AllocError>
     ensures { IfOk result (λ told. told ≡ judged input.now) }
 {
-    if input.len() > MOST_BYTES {
+    if is_too_long(input) {
         return Ok(Judged::TooLong);
     }
     match read_question(alloc, input) {
@@ -61,7 +58,25 @@ fn judge(alloc: Global, input: &[u8]) -> Result<Judged, AllocError>
     }
 }
 
+fn is_too_long(input: &[u8]) -> bool
+    ensures { result ≡ nat_lt MOST_BYTES (length input.now) }
+{
+    input.len() > MOST_BYTES
+}
+
 impl Judged {
+    // The line that is told, and the exit status.
+    fn reply(&self, alloc: Global) -> Result<CheckReply, AllocError>
+        ensures { IfOk result (λ reply.
+            (string_bytes reply.text ≡ reply_text self.now)
+            × (reply.status ≡ reply_status self.now)) }
+    {
+        Ok(CheckReply {
+            text: self.text(alloc)?,
+            status: self.status(),
+        })
+    }
+
     // The text that is told, without the end of its line.
     fn text(&self, alloc: Global) -> Result<String, AllocError>
         ensures { IfOk result (λ text. string_bytes text ≡ reply_text self.now) }

@@ -3,14 +3,16 @@ ghost use Rattle.std.specs.Prelude.{◌≡◌, ◌+◌, ◌≤◌, length};
 ghost use Rattle.room_ace.specs.Gives.{Gives};
 ghost use Rattle.room_ace.specs.Lists.{lines_of};
 ghost use Rattle.room_check.specs.Check.{answer_of, list_below, question_of};
+ghost use Rattle.room_eval.specs.Verdict.{verdict};
 
 use crate::fault::{InputFault, InputWhy};
 use crate::headers::{read_asked, read_caller, read_groups, read_owners};
 use crate::judging::Judged;
 use room_ace::{
-    Caller, Failure, MOST_BYTES, Mask, ObjKind, Owners, SentList, Which, first_bad_entry, read_list,
+    Caller, Entry, Failure, MOST_BYTES, Mask, ObjKind, Owners, SentList, Which, first_bad_entry,
+    read_list,
 };
-use room_eval::decide;
+use room_eval::{Verdict, decide, members_decide};
 use std::alloc::Global;
 
 // The list begins below this many header lines.
@@ -66,16 +68,26 @@ fn list_in(alloc: Global, bytes: &[u8]) -> Result<SentList, Failure<InputFault>>
 
 impl Question {
     /// The first entry that isn't valid, or what the list says of the bits that are asked.
-    pub fn judge(self) -> Judged
+    pub fn judge(mut self) -> Judged
         ensures { result ≡ answer_of self }
     {
         let entries = self.list.entries().as_slice();
         match first_bad_entry(entries, Which::Dacl, ObjKind::Folder) {
             Some(fault) => Judged::AtEntry(fault),
             None => {
-                let verdict = decide(entries, &self.caller, &self.owners, self.asked);
+                let verdict = decide_for(entries, &mut self.caller, &self.owners, self.asked);
                 Judged::Says(self.list, verdict)
             }
         }
     }
+}
+
+// What the entries say of the bits that are asked. The caller's groups are sorted first, since
+// each entry may look for one.
+fn decide_for(entries: &[Entry], caller: &mut Caller, owners: &Owners, asked: Mask) -> Verdict
+    ensures { result ≡ verdict entries.now caller.old owners.now asked }
+{
+    members_decide();
+    caller.groups.sort();
+    decide(entries, caller, owners, asked)
 }

@@ -1,21 +1,58 @@
 //! What is told of written inputs.
 
-use crate::judging::check;
+use crate::answering::answer;
 use room_ace::MOST_BYTES;
+use std::io::{self, ErrorKind, Read, Write};
 use std::process::Abort;
 use std::test::Fail;
 
-// The input is told this text, with this status.
+// The input is told this line, and the status is this one.
 fn expect_told(
     rt: &(impl Abort + AllocGlobal),
     input: &[u8],
     text: &str,
     status: u8,
 ) -> Result<(), Fail> {
-    let reply = check(rt.alloc(), input)?;
-    assert_eq!(rt; reply.text.as_str(), text);
-    assert_eq!(rt; reply.status, status);
+    let mut told = Vec::new(rt.alloc());
+    let answered = answer(rt.alloc(), input, &mut told)?;
+    assert_eq!(rt; answered, status);
+    assert_eq!(rt; told.pop(), Some(b'\n'));
+    assert_eq!(rt; told.as_slice(), text.as_bytes());
     Ok(())
+}
+
+// A reader and a writer of a broken disk.
+#[derive(Drop)]
+struct Broken;
+
+impl Read for Broken {
+    fn read(&mut self, _buf: &mut [u8]) -> io::Result<usize> {
+        Err(io::Error::from(ErrorKind::BrokenPipe))
+    }
+}
+
+impl Write for Broken {
+    fn write(&mut self, _bytes: &[u8]) -> io::Result<usize> {
+        Err(io::Error::from(ErrorKind::BrokenPipe))
+    }
+
+    fn flush(&mut self) -> io::Result<()> {
+        Ok(())
+    }
+}
+
+fn expect_broken(rt: &(impl Abort + AllocGlobal), answered: io::Result<u8>) -> Result<(), Fail> {
+    assert!(rt; matches!(answered, Err(error) if error.kind() == ErrorKind::BrokenPipe));
+    Ok(())
+}
+
+#[test]
+fn broken_reader_and_writer_are_told(rt: HostRuntime) -> Result<(), Fail> {
+    let input: &[u8] = b"caller: alice\ngroups:\nowners: root:staff\nask: r\nlist:\nA::alice:r\n";
+    let mut told = Vec::new(rt.alloc());
+    expect_broken(&rt, answer(rt.alloc(), input.chain(Broken), &mut told))?;
+    assert_eq!(rt; told.len(), 0);
+    expect_broken(&rt, answer(rt.alloc(), input, &mut Broken))
 }
 
 #[test]
@@ -75,6 +112,16 @@ fn check_too_long(rt: HostRuntime) -> Result<(), Fail> {
     expect_told(&rt, longest.as_slice(), "refused: line 1: K1 bad header", 2)?;
     let longer = vec![in rt.alloc(); b'#'; MOST_BYTES + 1]?;
     expect_told(&rt, longer.as_slice(), "refused: input too long", 2)
+}
+
+#[test]
+fn groups_in_any_order(rt: HostRuntime) -> Result<(), Fail> {
+    let members = b"caller: alice\ngroups: staff,audit,sales,audit\nowners: root:sales\nask: rw\n\
+        list:\nA:g:audit:r\nA::GROUP@:w\n";
+    expect_told(&rt, members, "granted", 0)?;
+    let others = b"caller: alice\ngroups: staff,audit,sales\nowners: root:sale\nask: r\n\
+        list:\nA::GROUP@:r\nA:g:audi:r\n";
+    expect_told(&rt, others, "denied bits r no entry", 1)
 }
 
 #[test]

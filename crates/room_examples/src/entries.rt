@@ -168,15 +168,10 @@ fn caller_of(alloc: Global, owners: &Owners) -> Result<Caller, AllocError> {
     })
 }
 
-// Whether the entry speaks of a copy of the caller that is made of a copy of the owners.
+// Whether the entry speaks of a caller that is made of a copy of the owners.
 fn matches_copies(alloc: Global, entry: &Entry, owners: &Owners) -> Result<bool, Fail> {
     let held = owners.copy()?;
     let caller = caller_of(alloc, &held)?;
-    Ok(matches_copy(entry, &caller, owners)?)
-}
-
-fn matches_copy(entry: &Entry, caller: &Caller, owners: &Owners) -> Result<bool, AllocError> {
-    let caller = caller.clone()?;
     Ok(matches(entry, &caller, owners))
 }
 
@@ -193,5 +188,31 @@ fn copied_callers_match(rt: HostRuntime) -> Result<(), Fail> {
     let own = read_entry(rt.alloc(), "A:fd:GROUP@:rw")?;
     let owners = alice_and_sales(rt.alloc())?;
     assert!(rt; matches_copies(rt.alloc(), &own, &owners)?);
+    Ok(())
+}
+
+fn names_of(alloc: Global, texts: &[&str]) -> Result<Names, Fail> {
+    let mut names = Names::new(alloc);
+    for text in texts {
+        names.push(read_name(alloc, text)?)?;
+    }
+    Ok(names)
+}
+
+// Whether the names have the sought one, as they stand and once they are sorted.
+fn is_found(alloc: Global, names: &mut Names, sought: &str) -> Result<(bool, bool), Fail> {
+    let name = read_name(alloc, sought)?;
+    let unsorted = names.contains(&name);
+    names.sort();
+    Ok((unsorted, names.contains(&name)))
+}
+
+#[test]
+fn names_are_found_in_any_order(rt: HostRuntime) -> Result<(), Fail> {
+    for texts in [["audit", "sales", "staff"], ["staff", "audit", "sales"]] {
+        let mut names = names_of(rt.alloc(), &texts)?;
+        assert_eq!(rt; is_found(rt.alloc(), &mut names, "sales")?, (true, true));
+        assert_eq!(rt; is_found(rt.alloc(), &mut names, "sale")?, (false, false));
+    }
     Ok(())
 }
