@@ -1,19 +1,14 @@
 -- Along a path the full lists are those that are stored.
-use Rattle.std.proofs.Common.{◌≡◌, ◌==◌, ◌&&◌, ℕ, Bool, true, false, cond, List, [], ◌∷◌, ◌++◌, map, length, Option, Some, None, refl, sym, ap, ◌∙◌}
+use Rattle.std.proofs.Common.{◌≡◌, ◌==◌, ℕ, Bool, true, false, cond, List, [], ◌∷◌, ◌++◌, map, length, Option, Some, None, refl, sym, ap, ◌∙◌}
 use Rattle.std.specs.Prelude.{option_and_then}
 use Rattle.std.specs.Option.{option_map_or}
-use Rattle.std.specs.List.{list_all}
-use Rattle.std.proofs.lemmas.Bool.{and_left, and_parts}
 use Rattle.room_ace.specs.Ace.{Ace}
-use Rattle.room_ace.specs.Pieces.{same_text}
 use Rattle.room_ace.specs.declared.object.Which.{Which}
 use Rattle.room_ace.proofs.Same.{entries_equal}
 use Rattle.room_rows.specs.declared.node.Node.{Node}
-use Rattle.room_rows.specs.declared.node.Walk.{Walk}
 use Rattle.room_rows.specs.Held.{held_of, full_of, is_linked}
-use Rattle.room_rows.specs.Content.{Content, node_at, parent_of, child_of, root_of, has_parent}
-use Rattle.room_rows.specs.Rows.{Rows, AreRows}
-use Rattle.room_rows.specs.Walk.{behind, walk_from, walk_of}
+use Rattle.room_rows.specs.Content.{Content, node_at, parent_of, child_of, root_of}
+use Rattle.room_rows.specs.Walk.{behind, walk_from}
 use Rattle.room_rows.proofs.Frames.{Rises, rows-rise, root_of-is_there, child_of-is_there, child_of-parent}
 use Rattle.room_inherit.specs.Full.{fulls, fulls_below, full_below}
 use Rattle.room_inherit.specs.Law.{AllAgree, agrees, agrees_with}

@@ -1,12 +1,14 @@
 -- One list carried down after the other.
-use Rattle.std.proofs.Common.{◌≡◌, ℕ, zero, suc, ◌+◌, Bool, true, false, cond, ◌&&◌, List, [], ◌∷◌, map, length, Option, Some, None, Result, Ok, Err, refl, sym, ap, subst, ◌∙◌, inl, inr, arith}
+use Rattle.std.proofs.Common.{◌≡◌, ℕ, zero, suc, ◌+◌, Bool, true, false, cond, ◌&&◌, ◌||◌, List, [], ◌∷◌, map, length, Option, Some, None, Ok, Err, refl, sym, ap, subst, ◌∙◌, inl, inr, arith}
 use Rattle.std.specs.Prelude.{is_none, option_and_then}
 use Rattle.std.specs.List.{list_all, find}
 use Rattle.std.specs.Option.{option_map, option_map_or}
 use Rattle.std.proofs.lemmas.List.{length-map}
 use Rattle.room_ace.specs.Ace.{Ace}
+use Rattle.room_ace.specs.Same.{same_entries}
 use Rattle.room_ace.specs.declared.object.Which.{Which}
 use Rattle.room_ace.specs.declared.object.Which.TheVariants.{Dacl, Sacl}
+use Rattle.room_rows.specs.declared.keep.Keep.{Ghosts}
 use Rattle.room_rows.specs.declared.node.Node.{Node}
 use Rattle.room_rows.specs.Content.{Content, node_at, parent_of, root_of, is_root, is_linked_in, reaches_root}
 use Rattle.room_rows.specs.Counts.{capped_below}
@@ -15,8 +17,8 @@ use Rattle.room_rows.specs.Keep.{HasNoRoot, capped, reading, KeepLaws}
 use Rattle.room_rows.specs.Rows.{Rows, is_unreadable}
 use Rattle.room_rows.proofs.Steps.{later_cause}
 use Rattle.room_inherit.specs.Law.{AllAgree, agrees, agrees_with}
-use Rattle.room_inherit.specs.Spread.{HasSpreadCause, is_changed, with_lists}
-use Rattle.room_inherit.specs.SpreadAll.{IsCarriedDown, IsSpreadAll, IsSwept, IsTree}
+use Rattle.room_inherit.specs.Spread.{ChangedAgree, HasSpreadCause, is_changed, stores_as_before, with_lists}
+use Rattle.room_inherit.specs.SpreadAll.{IsSpreadAll, IsSwept, IsTree, SpreadsAll, Sweeps}
 use Rattle.room_inherit.specs.declared.outcome.Spread.{Spread}
 use Rattle.room_inherit.specs.declared.outcome.SpreadFault.{SpreadFault}
 use Rattle.room_inherit.specs.declared.outcome.SpreadFault.TheVariants.{Keeper, Loop}
@@ -81,16 +83,31 @@ module _ (f : Node → List Ace) (old : Content) where
       on true is rest = absurd (let wrong : ⊥ = cc in wrong)
       on false is rest = rest is
 
+  agrees_still : (g : Node → List Ace) (content : Content) (n : Node) → agrees (with_lists Sacl g content) Dacl (set Sacl g n) ≡ agrees content Dacl n
+  agrees_still g content n = ap (λ o. option_map_or (agrees_with Dacl (set Sacl g n)) o true) (parent_set Sacl g content n) ∙ on (parent_of content n)
+    where
+      on : (o : Option Node) → option_map_or (agrees_with Dacl (set Sacl g n)) (option_map (set Sacl g) o) true ≡ option_map_or (agrees_with Dacl n) o true
+      on None = refl
+      on (Some q) = refl
+
   -- the law of dacls doesn't look at sacls
   law_stays : (g : Node → List Ace) (content : Content) → AllAgree content Dacl → AllAgree (with_lists Sacl g content) Dacl
-  law_stays g content law = all_map (agrees (with_lists Sacl g content) Dacl) (agrees content Dacl) (set Sacl g) one content.nodes ∙ law
-    where
-      on : (n : Node) (o : Option Node) → option_map_or (agrees_with Dacl (set Sacl g n)) (option_map (set Sacl g) o) true ≡ option_map_or (agrees_with Dacl n) o true
-      on n None = refl
-      on n (Some q) = refl
+  law_stays g content law = all_map (agrees (with_lists Sacl g content) Dacl) (agrees content Dacl) (set Sacl g) (agrees_still g content) content.nodes ∙ law
 
-      one : (n : Node) → agrees (with_lists Sacl g content) Dacl (set Sacl g n) ≡ agrees content Dacl n
-      one n = ap (λ o. option_map_or (agrees_with Dacl (set Sacl g n)) o true) (parent_set Sacl g content n) ∙ on n (parent_of content n)
+  dacls_agree : (g : Node → List Ace) (content : Content) → ChangedAgree Dacl old content → ChangedAgree Dacl old (with_lists Sacl g content)
+  dacls_agree g content agree =
+      all_map (λ n. stores_as_before old Dacl n || agrees (with_lists Sacl g content) Dacl n) (λ n. stores_as_before old Dacl n || agrees content Dacl n) (set Sacl g) (λ n. ap (λ t. stores_as_before old Dacl n || t) (agrees_still g content n)) content.nodes
+      ∙ agree
+
+  sacls_agree : (new : Content) → ChangedAgree Sacl mid new → ChangedAgree Sacl old new
+  sacls_agree new agree = (λ i. list_all (λ n. stored n i || agrees new Sacl n) new.nodes) ∙ agree
+    where
+      stored : (n : Node) → stores_as_before old Sacl n ≡ stores_as_before mid Sacl n
+      stored n = sym (ap (λ o. option_map_or (λ (m : Node). same_entries (held_of Sacl n).inh (held_of Sacl m).inh) o false) (find_set Dacl f n.id old.nodes) ∙ on (node_at old n.id))
+        where
+          on : (o : Option Node) → option_map_or (λ (m : Node). same_entries (held_of Sacl n).inh (held_of Sacl m).inh) (option_map (set Dacl f) o) false ≡ option_map_or (λ (m : Node). same_entries (held_of Sacl n).inh (held_of Sacl m).inh) o false
+          on None = refl
+          on (Some q) = refl
 
 -- ---- rows
 
@@ -111,10 +128,15 @@ both_swept old middle new d s first last =
       linked_sacls = λ n there changed. sym (linked_mid f old.read n) ∙ next.linked (set Dacl f n) (there_mid f old.read n there) changed;
       counted = capped_below (d + s) (let a = first.few in let b = last.few in omega (arith, a, b))
           ∙ (λ i. first.counted i + (next.counted ∙ count-is (is_changed Sacl g) (map (set Dacl f) old.read.nodes) ∙ count_map (is_changed Sacl g) (set Dacl f) old.read.nodes ∙ sym (count-is (is_changed Sacl sacls) old.read.nodes)) i);
+      agree = λ which. agreeing which (subst (λ (r : Rows). ChangedAgree Dacl old.read r.read) (sym next.becomes) (dacls_agree f old.read g (mid f old.read) (subst (λ (r : Rows). ChangedAgree Dacl old.read r.read) first.becomes first.agree))) (sacls_agree f old.read new.read next.agree);
       law = λ none. both (checked_is_tree old none);
       in_tree = both;
     }
   where
+    agreeing : (which : Which) → ChangedAgree Dacl old.read new.read → ChangedAgree Sacl old.read new.read → ChangedAgree which old.read new.read
+    agreeing Dacl dacl sacl = dacl
+    agreeing Sacl dacl sacl = sacl
+
     on : (which : Which) → IsTree old.read → (IsTree old.read → AllAgree new.read Dacl) → (IsTree old.read → AllAgree new.read Sacl) → AllAgree new.read which
     on Dacl tree dacl sacl = dacl tree
     on Sacl tree dacl sacl = sacl tree
@@ -125,18 +147,12 @@ no_root_before old middle d at first (inr none) = inr (none.0, root_mid first.li
 
 -- ---- calls
 
-module _ {S : Type 0} (rows : S → Rows) (failures writes : S → ℕ) (Follows IsTrusted : S → S → Type 0) where
-  abbrev pub SpreadsAll : S → S → Result Spread SpreadFault → Type 0
-  SpreadsAll a b result = IsCarriedDown rows failures writes Follows IsTrusted {X = Spread} (λ s. s.changed) a b result (λ old s new. IsSpreadAll old new s.changed)
-
-  abbrev pub Sweeping : Which → S → S → Result ℕ SpreadFault → Type 0
-  Sweeping which a b result = IsCarriedDown rows failures writes Follows IsTrusted {X = ℕ} (λ changed. changed) a b result (λ old changed new. IsSwept which old new changed)
-
-  pub first_fails : (a b : S) (e : SpreadFault) → Sweeping Dacl a b (Err e) → SpreadsAll a b (Err e)
+module _ {S : Type 0} (k : Ghosts S) where
+  pub first_fails : (a b : S) (e : SpreadFault) → Sweeps k a b Dacl (Err e) → SpreadsAll k a b (Err e)
   first_fails a b e sweep = record { follows = sweep.follows; written = tt; becomes = λ t. tt; fault = sweep.fault }
 
-  module _ (laws : KeepLaws rows failures writes Follows IsTrusted) (a b c : S) (d : ℕ) (first : Sweeping Dacl a b (Ok d)) where
-    pub second_fails : (e : SpreadFault) → Sweeping Sacl b c (Err e) → SpreadsAll a c (Err e)
+  module _ (laws : KeepLaws k.rows k.failures k.writes k.Follows k.IsTrusted) (a b c : S) (d : Spread) (first : Sweeps k a b Dacl (Ok d)) where
+    pub second_fails : (e : SpreadFault) → Sweeps k b c Sacl (Err e) → SpreadsAll k a c (Err e)
     second_fails e sweep = record {
       follows = laws.on a b c first.follows sweep.follows;
       written = tt;
@@ -144,17 +160,17 @@ module _ {S : Type 0} (rows : S → Rows) (failures writes : S → ℕ) (Follows
       fault = cause e sweep.fault;
     }
       where
-        cause : (e : SpreadFault) → HasSpreadCause (failures b) (failures c) (λ at. IsTrusted b c → HasNoRoot (rows b) at) (IsTrusted b c → ⊥) e
-            → HasSpreadCause (failures a) (failures c) (λ at. IsTrusted a c → HasNoRoot (rows a) at) (IsTrusted a c → ⊥) e
-        cause (Keeper f) h = later_cause (failures a) (failures b) (failures c) f _ _ (laws.rise a b first.follows) (laws.rise b c sweep.follows)
-            (λ at damaged t. no_root_before (rows a) (rows b) d at (first.becomes (laws.first a b c first.follows sweep.follows t)) (damaged (laws.last a b c first.follows sweep.follows t)))
+        cause : (e : SpreadFault) → HasSpreadCause (k.failures b) (k.failures c) (λ at. k.IsTrusted b c → HasNoRoot (k.rows b) at) (k.IsTrusted b c → ⊥) e
+            → HasSpreadCause (k.failures a) (k.failures c) (λ at. k.IsTrusted a c → HasNoRoot (k.rows a) at) (k.IsTrusted a c → ⊥) e
+        cause (Keeper f) h = later_cause (k.failures a) (k.failures b) (k.failures c) f _ _ (laws.rise a b first.follows) (laws.rise b c sweep.follows)
+            (λ at damaged t. no_root_before (k.rows a) (k.rows b) d.changed at (first.becomes (laws.first a b c first.follows sweep.follows t)) (damaged (laws.last a b c first.follows sweep.follows t)))
             h
         cause Loop h = λ t. h (laws.last a b c first.follows sweep.follows t)
 
-    pub both_done : (s : ℕ) → Sweeping Sacl b c (Ok s) → SpreadsAll a c (Ok (record { changed = capped (d + s) }))
+    pub both_done : (s : Spread) → Sweeps k b c Sacl (Ok s) → SpreadsAll k a c (Ok (record { changed = capped (d.changed + s.changed) }))
     both_done s sweep = record {
       follows = laws.on a b c first.follows sweep.follows;
-      written = sweep.written ∙ ap (λ k. capped (k + s)) first.written ∙ capped_add (writes a + d) s ∙ ap capped (omega arith) ∙ sym (capped_add (d + s) (writes a)) ∙ ap capped (omega arith);
-      becomes = λ t. both_swept (rows a) (rows b) (rows c) d s (first.becomes (laws.first a b c first.follows sweep.follows t)) (sweep.becomes (laws.last a b c first.follows sweep.follows t));
+      written = sweep.written ∙ ap (λ n. capped (n + s.changed)) first.written ∙ capped_add (k.writes a + d.changed) s.changed ∙ ap capped (omega arith) ∙ sym (capped_add (d.changed + s.changed) (k.writes a)) ∙ ap capped (omega arith);
+      becomes = λ t. both_swept (k.rows a) (k.rows b) (k.rows c) d.changed s.changed (first.becomes (laws.first a b c first.follows sweep.follows t)) (sweep.becomes (laws.last a b c first.follows sweep.follows t));
       fault = tt;
     }

@@ -1,20 +1,22 @@
 -- Calls of a keeper that write lists, one after the other.
-use Rattle.std.proofs.Common.{◌≡◌, ℕ, suc, ◌+◌, ◌<◌, ◌≤◌, ◌-◌, ◌^◌, false, List, ◌∷◌, length, drop, get_or, Some, Result, Ok, Err, refl, sym, ap, subst, ◌∙◌, inl, inr, arith, add-one, drop-cons}
+use Rattle.std.proofs.Common.{◌≡◌, ℕ, suc, ◌+◌, ◌<◌, ◌^◌, ◌-◌, Bool, true, false, cond, List, [], ◌∷◌, ◌++◌, length, map, filter, drop, get_or, Result, Ok, Err, IfOk, IfErr, refl, sym, ap, subst, ◌∙◌, inl, inr, arith, add-one, drop-cons}
 use Rattle.std.proofs.lemmas.Bool.{cases_lt}
-use Rattle.std.proofs.Math.Seq.{drop-length}
+use Rattle.std.proofs.lemmas.List.{append_assoc, append-nil, length-append}
 use Rattle.room_ace.specs.declared.object.Which.{Which}
-use Rattle.room_rows.specs.declared.keep.KeepFault.{KeepFault}
+use Rattle.room_rows.specs.declared.keep.Keep.{Ghosts}
 use Rattle.room_rows.specs.declared.node.Node.{Node}
-use Rattle.room_rows.specs.Content.{Content, children_of, with_node, with_each}
+use Rattle.room_rows.specs.Content.{Content, children_of, with_node}
 use Rattle.room_rows.specs.Counts.{capped_below, capped_past}
-use Rattle.room_rows.specs.Held.{held_of}
-use Rattle.room_rows.specs.Keep.{IsUnreadable, IsRead, IsWrite, Leaves, Changes, AreChildrenOf, capped, one_more, reading, with_inh, KeepLaws}
-use Rattle.room_rows.specs.Rows.{Rows, AreRows, is_unreadable}
+use Rattle.room_rows.specs.Keep.{IsUnreadable, IsRead, AreChildrenOf, capped, reading, KeepLaws}
+use Rattle.room_rows.specs.Rows.{Rows, is_unreadable}
 use Rattle.room_rows.proofs.Steps.{later_cause}
+use Rattle.room_inherit.specs.declared.descent.Descent.{Descent}
+use Rattle.room_inherit.specs.declared.descent.Reach.{Reach}
+use Rattle.room_inherit.specs.declared.descent.Reach.TheVariants.{Renewed, All}
 use Rattle.room_inherit.specs.declared.outcome.SpreadFault.{SpreadFault}
 use Rattle.room_inherit.specs.declared.outcome.SpreadFault.TheVariants.{Keeper, Loop}
-use Rattle.room_inherit.specs.Spread.{IsCarried, HasSpreadCause}
-use Rattle.room_inherit.specs.Turn.{AreKnown, StoresLists, with_nodes, renewals, meets_again, IsTurn, MeetsAgain}
+use Rattle.room_inherit.specs.Spread.{HasSpreadCause}
+use Rattle.room_inherit.specs.Turn.{AreKnown, MeetsAgain, IsVisit, IsRenewal, RenewsAll, Visits, with_nodes, is_outdated, renewed, renewals, next_of, meets_again}
 use Rattle.room_inherit.proofs.Renewing.{known_other, known_renewals, turn_becomes}
 
 -- ---- counts with an end
@@ -42,118 +44,158 @@ pub record IsStoring (which : Which) (left nodes : List Node) (old now : Rows) :
   pub leaves : reading now (with_nodes now.read left) ≡ reading old (with_nodes old.read nodes)
 
 -- one more of them
-pub stores_one : (which : Which) (node : Node) (left nodes : List Node) (old now next : Rows)
-    → ((stored : Node) → Rattle.room_rows.specs.Content.node_at now.read node.id ≡ Some stored → next ≡ reading now (with_node now.read (with_inh which (held_of which node).inh stored)))
-    → IsStoring which (node ∷ left) nodes old now → IsStoring which left nodes old next
-stores_one which node left nodes old now next write sofar =
-    let k = sofar.known in
-    let e : next ≡ reading now (with_node now.read node) = write k.0.0 k.0.1 ∙ ap (λ (n : Node). reading now (with_node now.read n)) (sym k.0.2) in
-    record {
-      unreadable = ap (λ (r : Rows). r.unreadable) e ∙ sofar.unreadable;
-      known = subst (λ (r : Rows). AreKnown which left r.read) (sym e) (known_other which now.read node left k.1 k.2);
-      leaves = ap (λ (r : Rows). reading r (with_nodes r.read left)) e ∙ sofar.leaves;
+stores_one : (which : Which) (node : Node) (left nodes : List Node) (old now next : Rows) → next ≡ reading now (with_node now.read node) → IsStoring which (node ∷ left) nodes old now → IsStoring which left nodes old next
+stores_one which node left nodes old now next e sofar = record {
+  unreadable = ap (λ (r : Rows). r.unreadable) e ∙ sofar.unreadable;
+  known = subst (λ (r : Rows). AreKnown which left r.read) (sym e) (known_other which now.read node left sofar.known.1 sofar.known.2);
+  leaves = ap (λ (r : Rows). reading r (with_nodes r.read left)) e ∙ sofar.leaves;
+}
+
+-- ---- children that are renewed
+
+renewals_cons : (which : Which) (above child : Node) (left : List Node) → renewals which above (child ∷ left) ≡ renewals which above (child ∷ []) ++ renewals which above left
+renewals_cons which above child left = on (is_outdated which above child)
+  where
+    on : (t : Bool) → map (renewed which above) (cond t (child ∷ filter (is_outdated which above) left) (filter (is_outdated which above) left)) ≡ map (renewed which above) (cond t (child ∷ []) []) ++ renewals which above left
+    on true = refl
+    on false = refl
+
+next_cons : (reach : Reach) (which : Which) (above child : Node) (left : List Node) → next_of reach which above (child ∷ left) ≡ next_of reach which above (child ∷ []) ++ next_of reach which above left
+next_cons Renewed which above child left = renewals_cons which above child left
+next_cons All which above child left = refl
+
+module _ (d : Descent) (above : Node) where
+  -- some of the children are renewed, and these are left
+  pub record HasRenewed (left all before mid : List Node) (old : Rows) (written : ℕ) (now : Rows) : Type 0 where
+    pub counted : written + length (renewals d.which above left) ≡ length (renewals d.which above all)
+    pub waits : mid ++ next_of d.reach d.which above left ≡ before ++ next_of d.reach d.which above all
+    pub storing : IsStoring d.which (renewals d.which above left) (renewals d.which above all) old now
+
+  known_one : (child : Node) (left : List Node) (content : Content) → AreKnown d.which (renewals d.which above (child ∷ left)) content → AreKnown d.which (renewals d.which above (child ∷ [])) content
+  known_one child left content known = on (is_outdated d.which above child) known
+    where
+      on : (t : Bool) → AreKnown d.which (map (renewed d.which above) (cond t (child ∷ filter (is_outdated d.which above) left) (filter (is_outdated d.which above) left))) content
+          → AreKnown d.which (map (renewed d.which above) (cond t (child ∷ []) [])) content
+      on true known = (known.0, refl, tt)
+      on false known = tt
+
+  one_more : (child : Node) (left all before mid after : List Node) (old now next : Rows) (number n : ℕ) → HasRenewed (child ∷ left) all before mid old number now → IsRenewal d above (child ∷ []) mid after now n next
+      → HasRenewed left all before after old (number + n) next
+  one_more child left all before mid after old now next number n sofar one = record {
+    counted = let e = ap length (renewals_cons d.which above child left) ∙ length-append (renewals d.which above (child ∷ [])) (renewals d.which above left) in let s = sofar.counted in let o = one.counted in omega (arith, e, s, o);
+    waits = ap (λ (l : List Node). l ++ next_of d.reach d.which above left) one.waits ∙ append_assoc mid (next_of d.reach d.which above (child ∷ [])) (next_of d.reach d.which above left)
+        ∙ ap (λ (l : List Node). mid ++ l) (sym (next_cons d.reach d.which above child left)) ∙ sofar.waits;
+    storing = on (is_outdated d.which above child) sofar.storing one.stores;
+  }
+    where
+      on : (t : Bool) → IsStoring d.which (map (renewed d.which above) (cond t (child ∷ filter (is_outdated d.which above) left) (filter (is_outdated d.which above) left))) (renewals d.which above all) old now
+          → next ≡ reading now (with_nodes now.read (map (renewed d.which above) (cond t (child ∷ []) []))) → IsStoring d.which (renewals d.which above left) (renewals d.which above all) old next
+      on true storing e = stores_one d.which (renewed d.which above child) (renewals d.which above left) (renewals d.which above all) old now next e storing
+      on false storing e = subst (λ (r : Rows). IsStoring d.which (renewals d.which above left) (renewals d.which above all) old r) (sym e) storing
+
+module _ {S : Type 0} (k : Ghosts S) (laws : KeepLaws k.rows k.failures k.writes k.Follows k.IsTrusted) (d : Descent) (above : Node) (all before : List Node) where
+  abbrev Known : S → Type 0
+  Known a = AreKnown d.which (renewals d.which above all) (k.rows a).read
+
+  pub record Renewing (left mid : List Node) (written : ℕ) (a b : S) : Type 0 where
+    pub follows : k.Follows a b
+    pub counted : k.writes b ≡ capped (k.writes a + written)
+    pub along : k.IsTrusted a b → Known a → HasRenewed d above left all before mid (k.rows a) written (k.rows b)
+
+  pub renewing_none : (a : S) → Renewing all before 0 a a
+  renewing_none a = record {
+    follows = laws.itself a;
+    counted = sym (capped_below (k.writes a) (laws.ends a).1) ∙ ap capped (omega arith);
+    along = λ t known. record { counted = omega arith; waits = refl; storing = record { unreadable = refl; known = known; leaves = refl } };
+  }
+
+  module _ (child : Node) (left mid after : List Node) (number : ℕ) (a b c : S) (sofar : Renewing (child ∷ left) mid number a b) where
+    pub renewing_on : (n : ℕ) → RenewsAll k b c d above (child ∷ []) mid after (Ok n) → Renewing left after (number + n) a c
+    renewing_on n one = record {
+      follows = laws.on a b c sofar.follows one.follows;
+      counted = one.written ∙ (λ i. capped (sofar.counted i + n)) ∙ capped_add (k.writes a + number) n ∙ ap capped (omega arith);
+      along = λ t known.
+          let before' = sofar.along (laws.first a b c sofar.follows one.follows t) known in
+          one_more d above child left all before mid after (k.rows a) (k.rows b) (k.rows c) number n before'
+          (one.becomes (laws.last a b c sofar.follows one.follows t, known_one d above child left (k.rows b).read before'.storing.known));
     }
 
-module _ {S : Type 0} (rows : S → Rows) (failures writes : S → ℕ) (Follows IsTrusted : S → S → Type 0) where
-  pub record Storing (which : Which) (nodes : List Node) (i : ℕ) (a b : S) : Type 0 where
-    pub follows : Follows a b
-    pub written : writes b ≡ capped (writes a + i)
-    pub along : IsTrusted a b → AreKnown which nodes (rows a).read → IsStoring which (drop i nodes) nodes (rows a) (rows b)
+    pub renewing_fails : (e : SpreadFault) → RenewsAll k b c d above (child ∷ []) mid after (Err e) → RenewsAll k a c d above all before after (Err e)
+    renewing_fails e one = record {
+      follows = laws.on a b c sofar.follows one.follows;
+      written = tt;
+      becomes = λ t. tt;
+      fault = cause e one.fault;
+    }
+      where
+        trusted : (t : k.IsTrusted a c × Known a) → k.IsTrusted b c × AreKnown d.which (renewals d.which above (child ∷ [])) (k.rows b).read
+        trusted t = (laws.last a b c sofar.follows one.follows t.0, known_one d above child left (k.rows b).read (sofar.along (laws.first a b c sofar.follows one.follows t.0) t.1).storing.known)
 
-  pub storing_none : KeepLaws rows failures writes Follows IsTrusted → (which : Which) (nodes : List Node) (a : S) → writes a ≤ 2 ^ 64 - 1 → Storing which nodes 0 a a
-  storing_none laws which nodes a ends = record {
-    follows = laws.itself a;
-    written = sym (capped_below (writes a) ends) ∙ ap capped (omega arith);
-    along = λ t known. record { unreadable = refl; known = known; leaves = refl };
-  }
+        cause : (e : SpreadFault) → HasSpreadCause (k.failures b) (k.failures c) (λ at. k.IsTrusted b c × AreKnown d.which (renewals d.which above (child ∷ [])) (k.rows b).read → IsUnreadable (k.rows b) at) (k.IsTrusted b c × AreKnown d.which (renewals d.which above (child ∷ [])) (k.rows b).read → ⊥) e
+            → HasSpreadCause (k.failures a) (k.failures c) (λ at. k.IsTrusted a c × Known a → IsUnreadable (k.rows a) at) (k.IsTrusted a c × Known a → ⊥) e
+        cause (Keeper f) h = later_cause (k.failures a) (k.failures b) (k.failures c) f _ _ (laws.rise a b sofar.follows) (laws.rise b c one.follows)
+            (λ at damaged t. ap (λ (u : List ℕ). Rattle.room_ace.specs.Pieces.is_among u at) (sym (sofar.along (laws.first a b c sofar.follows one.follows t.0) t.1).storing.unreadable) ∙ damaged (trusted t)) h
+        cause Loop h = λ t. h (trusted t)
 
-  pub storing_on : KeepLaws rows failures writes Follows IsTrusted → (which : Which) (nodes : List Node) (i : ℕ) (node : Node) (a b c : S) → i < length nodes → node ≡ get_or nodes i node → Storing which nodes i a b
-      → IsWrite rows failures writes Follows IsTrusted {X = Unit {0}} b c (Ok tt) IsUnreadable (Leaves (Changes node.id (with_inh which (held_of which node).inh))) → Storing which nodes (i + 1) a c
-  storing_on laws which nodes i node a b c below is sofar write = record {
-    follows = laws.on a b c sofar.follows write.follows;
-    written = write.written ∙ ap one_more sofar.written ∙ capped_add (writes a + i) 1 ∙ ap capped (omega arith);
-    along = λ t known.
-        let before = sofar.along (laws.first a b c sofar.follows write.follows t) known in
-        stores_one which node (drop (i + 1) nodes) nodes (rows a) (rows b) (rows c) (write.becomes (laws.last a b c sofar.follows write.follows t))
-        (subst (λ left. IsStoring which left nodes (rows a) (rows b)) (rest_of nodes i node below is) before);
-  }
-
-  -- a write that fails
-  pub storing_fails : KeepLaws rows failures writes Follows IsTrusted → (which : Which) (nodes : List Node) (i : ℕ) (a b c : S) (e : KeepFault) {Becomes : Rows → Unit {0} → Rows → Type 0} → Storing which nodes i a b
-      → IsWrite rows failures writes Follows IsTrusted {X = Unit {0}} b c (Err e) IsUnreadable Becomes
-      → IsCarried rows failures writes Follows (λ old new. IsTrusted old new × AreKnown which nodes (rows old).read) {X = Unit {0}} (λ _. length nodes) a c (Err (Keeper e)) (λ _. ⊥) (StoresLists nodes)
-  storing_fails laws which nodes i a b c e sofar write = record {
-    follows = laws.on a b c sofar.follows write.follows;
-    written = tt;
-    becomes = λ t. tt;
-    fault = later_cause (failures a) (failures b) (failures c) e _ _ (laws.rise a b sofar.follows) (laws.rise b c write.follows)
-        (λ at damaged t.
-        let before = sofar.along (laws.first a b c sofar.follows write.follows t.0) t.1 in
-        ap (λ (u : List ℕ). Rattle.room_ace.specs.Pieces.is_among u at) (sym before.unreadable) ∙ damaged (laws.last a b c sofar.follows write.follows t.0))
-        write.fault;
-  }
-
-  -- all of them
-  pub storing_all : (which : Which) (nodes : List Node) (a b : S) → Storing which nodes (length nodes) a b
-      → IsCarried rows failures writes Follows (λ old new. IsTrusted old new × AreKnown which nodes (rows old).read) {X = Unit {0}} (λ _. length nodes) a b (Ok tt) (λ _. ⊥) (StoresLists nodes)
-  storing_all which nodes a b sofar = record {
+  pub renewing_ends : (mid : List Node) (number : ℕ) (a b : S) → Renewing [] mid number a b → RenewsAll k a b d above all before mid (Ok number)
+  renewing_ends mid number a b sofar = record {
     follows = sofar.follows;
-    written = sofar.written;
-    becomes = λ t. let all = sofar.along t.0 t.1 in ap (λ (left : List Node). reading (rows b) (with_nodes (rows b).read left)) (sym (drop-length nodes)) ∙ all.leaves;
+    written = sofar.counted;
+    becomes = λ t.
+        let ended = sofar.along t.0 t.1 in
+        record { counted = (let e = ended.counted in omega (arith, e)); waits = sym (append-nil mid) ∙ on d.reach ended.waits; stores = ended.storing.leaves };
     fault = tt;
   }
+    where
+      on : (reach : Reach) → mid ++ next_of reach d.which above [] ≡ before ++ next_of reach d.which above all → mid ++ [] ≡ before ++ next_of reach d.which above all
+      on Renewed e = e
+      on All e = e
 
   -- ---- one turn
 
-  module _ (laws : KeepLaws rows failures writes Follows IsTrusted) (are_rows : (a b : S) → IsTrusted a b → AreRows (rows a)) (which : Which) (start : ℕ) (above : Node) (children : List Node) (a b : S)
-      (read : IsRead rows failures writes Follows IsTrusted a b (Ok children) IsUnreadable (AreChildrenOf above.id)) where
-    pub turn_done : (next : List Node) (c : S) → next ≡ renewals which above children → meets_again which start above children ≡ false
-        → IsCarried rows failures writes Follows (λ old new. IsTrusted old new × AreKnown which next (rows old).read) {X = Unit {0}} (λ _. length next) b c (Ok tt) (λ _. ⊥) (StoresLists next)
-        → {X : Type 0} (x : X) (count : X → ℕ) (list : X → List Node) → count x ≡ length next → list x ≡ next
-        → IsCarried rows failures writes Follows IsTrusted {X = X} count a c (Ok x) (MeetsAgain which start above) (λ old y new. IsTurn which start above old (list y) new)
-    turn_done next c made apart stored x count list counted is = record {
-      follows = laws.on a b c read.follows stored.follows;
-      written = stored.written ∙ ap (λ w. capped (w + length next)) read.unwritten ∙ ap (λ n. capped (writes a + n)) (sym counted);
-      becomes = λ t.
-          let first = laws.first a b c read.follows stored.follows t in
-          let last = laws.last a b c read.follows stored.follows t in
-          let same : rows b ≡ rows a = read.same first in
-          let kids : children ≡ children_of (rows a).read above.id = read.answers first in
-          let made' : next ≡ renewals which above (children_of (rows a).read above.id) = made ∙ ap (renewals which above) kids in
-          let rises = (are_rows a b first).numbers in
-          let known : AreKnown which next (rows b).read =
-          subst (λ (r : Rows). AreKnown which next r.read) (sym same) (subst (λ (l : List Node). AreKnown which l (rows a).read) (sym made') (known_renewals which above (rows a).read rises)) in
-          let becomes : rows c ≡ reading (rows b) (with_nodes (rows b).read next) = stored.becomes (last, known) in
-          record {
-            answers = is ∙ made';
-            not_met = ap (meets_again which start above) (sym kids) ∙ apart;
-            becomes = becomes ∙ ap (λ (r : Rows). reading r (with_nodes r.read next)) same ∙ ap (λ (l : List Node). reading (rows a) (with_nodes (rows a).read l)) made'
-                ∙ ap (λ (l : List Node). reading (rows a) (record (rows a).read { nodes = l })) (turn_becomes which above (rows a).read rises);
-          };
-      fault = tt;
-    }
+  pub visited : (r : Result ℕ SpreadFault) (after : List Node) (a b c : S) → IsRead k.rows k.failures k.writes k.Follows k.IsTrusted a b (Ok all) IsUnreadable (AreChildrenOf above.id) → meets_again d.which d.start above all ≡ false
+      → RenewsAll k b c d above all before after r → Visits k a c d above before after r
+  visited r after a b c read apart renewed = record {
+    follows = laws.on a b c read.follows renewed.follows;
+    written = written r renewed.written;
+    becomes = λ t. becomes r t (renewed.becomes (trusted t));
+    fault = cause r renewed.fault;
+  }
+    where
+      first : k.IsTrusted a c → k.IsTrusted a b
+      first t = laws.first a b c read.follows renewed.follows t
 
-    -- a write that fails
-    pub turn_fails : (next : List Node) (c : S) (e : SpreadFault) → next ≡ renewals which above children
-        → IsCarried rows failures writes Follows (λ old new. IsTrusted old new × AreKnown which next (rows old).read) {X = Unit {0}} (λ _. length next) b c (Err e) (λ _. ⊥) (StoresLists next)
-        → {X : Type 0} (count : X → ℕ) (Becomes : Rows → X → Rows → Type 0) → IsCarried rows failures writes Follows IsTrusted {X = X} count a c (Err e) (MeetsAgain which start above) Becomes
-    turn_fails next c e made stored count Becomes = record {
-      follows = laws.on a b c read.follows stored.follows;
-      written = tt;
-      becomes = λ t. tt;
-      fault = cause e stored.fault;
-    }
-      where
-        known : IsTrusted a b → AreKnown which next (rows b).read
-        known first =
-            let made' : next ≡ renewals which above (children_of (rows a).read above.id) = made ∙ ap (renewals which above) (read.answers first) in
-            subst (λ (r : Rows). AreKnown which next r.read) (sym (read.same first)) (subst (λ (l : List Node). AreKnown which l (rows a).read) (sym made') (known_renewals which above (rows a).read (are_rows a b first).numbers))
+      kids : (t : k.IsTrusted a c) → all ≡ children_of (k.rows a).read above.id
+      kids t = read.answers (first t)
 
-        cause : (e : SpreadFault) → HasSpreadCause (failures b) (failures c) (λ at. IsTrusted b c × AreKnown which next (rows b).read → IsUnreadable (rows b) at) (IsTrusted b c × AreKnown which next (rows b).read → ⊥) e
-            → HasSpreadCause (failures a) (failures c) (λ at. IsTrusted a c → IsUnreadable (rows a) at) (IsTrusted a c → MeetsAgain which start above (rows a)) e
-        cause (Keeper f) h = later_cause (failures a) (failures b) (failures c) f _ _ (laws.rise a b read.follows) (laws.rise b c stored.follows)
-            (λ at damaged t.
-            let first = laws.first a b c read.follows stored.follows t in
-            ap (λ (r : Rows). is_unreadable r at) (sym (read.same first)) ∙ damaged (laws.last a b c read.follows stored.follows t, known first))
-            h
-        cause Loop h = λ t. absurd (h (laws.last a b c read.follows stored.follows t, known (laws.first a b c read.follows stored.follows t)))
+      trusted : k.IsTrusted a c → k.IsTrusted b c × Known b
+      trusted t = (
+        laws.last a b c read.follows renewed.follows t,
+        subst (λ (w : Rows). AreKnown d.which (renewals d.which above all) w.read) (sym (read.same (first t)))
+            (subst (λ (l : List Node). AreKnown d.which (renewals d.which above l) (k.rows a).read) (sym (kids t)) (known_renewals d.which above (k.rows a).read (laws.are a b (first t)).numbers)),
+      )
+
+      written : (r : Result ℕ SpreadFault) → IfOk r (λ n. k.writes c ≡ capped (k.writes b + n)) → IfOk r (λ n. k.writes c ≡ capped (k.writes a + n))
+      written (Ok n) h = h ∙ ap (λ w. capped (w + n)) read.unwritten
+      written (Err e) h = tt
+
+      becomes : (r : Result ℕ SpreadFault) (t : k.IsTrusted a c) → IfOk r (λ n. IsRenewal d above all before after (k.rows b) n (k.rows c)) → IfOk r (λ n. IsVisit d above before after (k.rows a) n (k.rows c))
+      becomes (Ok n) t h = record {
+        not_met = ap (meets_again d.which d.start above) (sym (kids t)) ∙ apart;
+        becomes = h.stores ∙ ap (λ (w : Rows). reading w (with_nodes w.read (renewals d.which above all))) (read.same (first t)) ∙ ap (λ (l : List Node). reading (k.rows a) (with_nodes (k.rows a).read (renewals d.which above l))) (kids t)
+            ∙ ap (λ (l : List Node). reading (k.rows a) (record (k.rows a).read { nodes = l })) (turn_becomes d.which above (k.rows a).read (laws.are a b (first t)).numbers);
+        counted = h.counted ∙ ap (λ (l : List Node). length (renewals d.which above l)) (kids t);
+        waits = h.waits ∙ ap (λ (l : List Node). before ++ next_of d.reach d.which above l) (kids t);
+      }
+      becomes (Err e) t h = tt
+
+      told : (e : SpreadFault) → HasSpreadCause (k.failures b) (k.failures c) (λ at. k.IsTrusted b c × Known b → IsUnreadable (k.rows b) at) (k.IsTrusted b c × Known b → ⊥) e
+          → HasSpreadCause (k.failures a) (k.failures c) (λ at. k.IsTrusted a c → IsUnreadable (k.rows a) at) (k.IsTrusted a c → MeetsAgain d.which d.start above (k.rows a)) e
+      told (Keeper f) h = later_cause (k.failures a) (k.failures b) (k.failures c) f _ _ (laws.rise a b read.follows) (laws.rise b c renewed.follows)
+          (λ at damaged t. ap (λ (w : Rows). is_unreadable w at) (sym (read.same (first t))) ∙ damaged (trusted t)) h
+      told Loop h = λ t. absurd (h (trusted t))
+
+      cause : (r : Result ℕ SpreadFault) → IfErr r (HasSpreadCause (k.failures b) (k.failures c) (λ at. k.IsTrusted b c × Known b → IsUnreadable (k.rows b) at) (k.IsTrusted b c × Known b → ⊥))
+          → IfErr r (HasSpreadCause (k.failures a) (k.failures c) (λ at. k.IsTrusted a c → IsUnreadable (k.rows a) at) (k.IsTrusted a c → MeetsAgain d.which d.start above (k.rows a)))
+      cause (Ok n) h = tt
+      cause (Err e) h = told e h

@@ -4,7 +4,7 @@ use Rattle.std.specs.Prelude.{nat_lt}
 use Rattle.std.specs.List.{list_any}
 use Rattle.std.proofs.lemmas.Bool.{cases_Bool, and_parts, or_parts, or_from, or_left, or_right, false≢true, eq-eqb, eqb-true, ne_eqb, ltb-true, false_from_ne_true}
 use Rattle.room_rows.specs.declared.node.Node.{Node}
-use Rattle.room_rows.specs.Content.{Content, node_at, has_parent, children_of, put_by_name, sorted_by_name, is_before, is_rising}
+use Rattle.room_rows.specs.Content.{Content, node_at, has_parent, children_of, put_by_name, sorted_by_name, is_before, is_rising, with_each}
 use Rattle.room_rows.specs.Finding.{find_id}
 use Rattle.room_inherit.proofs.Members.{Each, each_weaker, each_filter, each_unfiltered, any_filter, any_agree, any_none, each_fails, none_of_both, none_filter, one_if, count, count_filter, count_length}
 
@@ -192,6 +192,31 @@ has_id_map f same id [] = refl
 has_id_map f same id (x ∷ xs) = ap (λ (j : ℕ). (j == id) || has_id id (map f xs)) (same x) ∙ ap (λ r. (x.id == id) || r) (has_id_map f same id xs)
 
 -- ---- children
+
+-- the children of objects that are changed, but for their names and places
+module _ (g : Node → Node) (same_name : (n : Node) → (g n).name ≡ n.name) (same_above : (id : ℕ) (n : Node) → has_parent id (g n) ≡ has_parent id n) where
+  put_map : (x : Node) (xs : List Node) → put_by_name (g x) (map g xs) ≡ map g (put_by_name x xs)
+  put_map x [] = refl
+  put_map x (y ∷ ys) = (λ i. cond (is_before (same_name y i) (same_name x i)) (g y ∷ put_by_name (g x) (map g ys)) (g x ∷ g y ∷ map g ys)) ∙ on (is_before y.name x.name) (put_map x ys)
+    where
+      on : (t : Bool) → put_by_name (g x) (map g ys) ≡ map g (put_by_name x ys) → cond t (g y ∷ put_by_name (g x) (map g ys)) (g x ∷ g y ∷ map g ys) ≡ map g (cond t (y ∷ put_by_name x ys) (x ∷ y ∷ ys))
+      on true rest = ap (λ (l : List Node). g y ∷ l) rest
+      on false rest = refl
+
+  sorted_map : (xs : List Node) → sorted_by_name (map g xs) ≡ map g (sorted_by_name xs)
+  sorted_map [] = refl
+  sorted_map (x ∷ xs) = ap (put_by_name (g x)) (sorted_map xs) ∙ put_map x (sorted_by_name xs)
+
+  filter_map : (id : ℕ) (xs : List Node) → filter (has_parent id) (map g xs) ≡ map g (filter (has_parent id) xs)
+  filter_map id [] = refl
+  filter_map id (x ∷ xs) = ap (λ t. cond t (g x ∷ filter (has_parent id) (map g xs)) (filter (has_parent id) (map g xs))) (same_above id x) ∙ on (has_parent id x) (filter_map id xs)
+    where
+      on : (t : Bool) → filter (has_parent id) (map g xs) ≡ map g (filter (has_parent id) xs) → cond t (g x ∷ filter (has_parent id) (map g xs)) (filter (has_parent id) (map g xs)) ≡ map g (cond t (x ∷ filter (has_parent id) xs) (filter (has_parent id) xs))
+      on true rest = ap (λ (l : List Node). g x ∷ l) rest
+      on false rest = rest
+
+  pub children_map : (rows : Content) (id : ℕ) → children_of (with_each rows g) id ≡ map g (children_of rows id)
+  children_map rows id = ap sorted_by_name (filter_map id rows.nodes) ∙ sorted_map (filter (has_parent id) rows.nodes)
 
 module _ (rows : Content) (apart : Apart rows.nodes) where
   pub each_child : (P : Node → Type 0) (id : ℕ) → ((n : Node) → node_at rows n.id ≡ Some n → has_parent id n ≡ true → P n) → Each P (children_of rows id)

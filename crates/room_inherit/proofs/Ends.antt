@@ -3,7 +3,7 @@ use Rattle.std.proofs.Common.{◌≡◌, ℕ, zero, suc, ◌+◌, ◌≤◌, ◌
 use Rattle.std.specs.Prelude.{option_and_then, nat_lt}
 use Rattle.std.specs.List.{list_all}
 use Rattle.std.specs.Option.{option_map, option_map_or}
-use Rattle.std.proofs.lemmas.Bool.{and_parts, or_cases, or_left, or_right, false≢true, eq-eqb, eqb-true}
+use Rattle.std.proofs.lemmas.Bool.{cases_Bool, and_parts, or_cases, or_left, or_right, not-false, false≢true, eq-eqb, eqb-true}
 use Rattle.std.proofs.lemmas.List.{length-map, map-id}
 use Rattle.room_ace.specs.Ace.{Ace}
 use Rattle.room_ace.specs.Same.{same_entries}
@@ -14,17 +14,18 @@ use Rattle.room_rows.specs.declared.node.Node.{Node}
 use Rattle.room_rows.specs.Content.{Content, node_at, parent_of, has_parent, children_of, is_linked_in, is_rising}
 use Rattle.room_rows.specs.Finding.{find_id}
 use Rattle.room_rows.specs.Held.{held_of, full_of, is_linked}
+use Rattle.room_rows.specs.HeldList.{Held}
 use Rattle.room_rows.specs.Rows.{Rows, numbers_of, put_number, put_numbers}
 use Rattle.room_inherit.specs.Pass.{pass}
 use Rattle.room_inherit.specs.Law.{AllAgree, AllAgreeBut, agrees, agrees_with}
-use Rattle.room_inherit.specs.Spread.{with_lists, is_changed, is_linked_within, is_within, IsOwnAncestor}
+use Rattle.room_inherit.specs.Spread.{ChangedAgree, stores_as_before, with_lists, is_changed, is_linked_within, is_within, IsOwnAncestor}
 use Rattle.room_inherit.specs.Turn.{is_linked_to, is_met_again, meets_again}
 use Rattle.room_inherit.proofs.Kinship.{same_parent, same_kind, with_own}
 use Rattle.room_inherit.proofs.Members.{Each, each_back, each_map, each_weaker, all_each, one_if, count, count_ends}
 use Rattle.room_inherit.proofs.Children.{ids_of, each_found, found_id, each_there, apart_rising, apart_map, some_child}
-use Rattle.room_inherit.proofs.Renewing.{map_agree}
+use Rattle.room_inherit.proofs.Renewing.{map_agree, one_object}
 use Rattle.room_inherit.proofs.Frontier.{set, set_id, set_parent, set_held, find_set, links, passes, There, Waits, Came, AgreesOrWaits, Frontier}
-use Rattle.room_inherit.proofs.Outdated.{parent_is, parent_found, base_of}
+use Rattle.room_inherit.proofs.Outdated.{parent_is, same_above, parent_found, base_of}
 
 pub each_all : (p : Node → Bool) (xs : List Node) → list_all p xs ≡ true → Each (λ x. p x ≡ true) xs
 each_all p [] all = tt
@@ -96,8 +97,8 @@ module _ (which : Which) (start : ℕ) (old : Content) (rises : is_rising (0 ∷
   -- ---- the end
 
   module _ (f : Node → List Ace) where
-    agrees_now : (n : Node) → AgreesOrWaits which start old f [] → There which start old n → agrees (with_lists which f old) which (set which f n) ≡ true
-    agrees_now n law there = ap (λ p. option_map_or (agrees_with which (set which f n)) (option_and_then (node_at (with_lists which f old)) p) true) (same_parent which (f n) n) ∙ on n.parent refl
+    agrees_now : (n : Node) → ((p : Node) → There which start old p → has_parent p.id n ≡ true → links which p n ≡ true → f n ≡ passes which f p n) → agrees (with_lists which f old) which (set which f n) ≡ true
+    agrees_now n law = ap (λ p. option_map_or (agrees_with which (set which f n)) (option_and_then (node_at (with_lists which f old)) p) true) (same_parent which (f n) n) ∙ on n.parent refl
       where
         linked_or : (t u : Bool) → (t ≡ true → u ≡ true) → (not t || u) ≡ true
         linked_or true u same = same refl
@@ -109,10 +110,7 @@ module _ (which : Which) (start : ℕ) (old : Content) (rises : is_rising (0 ∷
             let there' : There which start old q = ap (node_at old) same ∙ found in
             let has : has_parent q.id n ≡ true = ap (λ o. option_map_or (λ parent. parent == q.id) o false) up ∙ eq-eqb p q.id (sym same) in
             (λ i. not (is_linked (set_held which f n i) (Some (set_held which f q i))) || same_entries (set_held which f n i).inh (pass (same_kind which (f n) n i) (full_of (set_held which f q i))))
-            ∙ linked_or (links which q n) (same_entries (f n) (passes which f q n)) (λ link. elim (law n q there there' has link) [
-              | inl waiting ↦ absurd (false≢true waiting)
-              | inr same_lists ↦ equal_entries (f n) (passes which f q n) same_lists
-            ])
+            ∙ linked_or (links which q n) (same_entries (f n) (passes which f q n)) (λ link. equal_entries (f n) (passes which f q n) (law q there' has link))
 
         found_or : (p : ℕ) (o : Option Node) → node_at old p ≡ o → n.parent ≡ Some p → option_map_or (agrees_with which (set which f n)) (option_map (set which f) o) true ≡ true
         found_or p None found up = refl
@@ -125,7 +123,25 @@ module _ (which : Which) (start : ℕ) (old : Content) (rises : is_rising (0 ∷
     pub law_at_end : AgreesOrWaits which start old f [] → AllAgree (with_lists which f old) which
     law_at_end law =
         all_each (agrees (with_lists which f old) which) (map (set which f) old.nodes) (each_map (λ m. agrees (with_lists which f old) which m ≡ true) (set which f) old.nodes
-        (each_there (λ n. agrees (with_lists which f old) which (set which f n) ≡ true) old.nodes (apart_rising 0 old.nodes rises) (λ n there. agrees_now n law there)))
+        (each_there (λ n. agrees (with_lists which f old) which (set which f n) ≡ true) old.nodes (apart_rising 0 old.nodes rises) (λ n there. agrees_now n (λ p there' has link. elim (law n p there there' has link) [
+          | inl waiting ↦ absurd (false≢true waiting)
+          | inr same ↦ same
+        ]))))
+
+    -- Where each object with another list than before agrees with a parent, each agrees or stores what it did.
+    pub changed_agree : ((n : Node) → There which start old n → is_changed which f n ≡ true → (p : Node) × There which start old p × (has_parent p.id n ≡ true) × (f n ≡ passes which f p n)) → ChangedAgree which old (with_lists which f old)
+    changed_agree came =
+        all_each either (map (set which f) old.nodes) (each_map (λ m. either m ≡ true) (set which f) old.nodes (each_there (λ n. either (set which f n) ≡ true) old.nodes (apart_rising 0 old.nodes rises) (λ n there. elim (cases_Bool (is_changed which f n)) [
+          | inl changed ↦ let c = came n there changed in or_right (stores_as_before old which (set which f n)) (agrees (with_lists which f old) which (set which f n)) (agrees_now n (λ p there' has link.
+              let one = one_object old.nodes c.0 p c.1 there' (same_above c.0.id p.id n c.2 has) in
+              c.3 ∙ ap (λ x. passes which f x n) one))
+          | inr unchanged ↦ or_left (stores_as_before old which (set which f n)) (agrees (with_lists which f old) which (set which f n))
+              (ap (λ o. option_map_or (λ (m : Node). same_entries (held_of which (set which f n)).inh (held_of which m).inh) o false) (ap (node_at old) (set_id which f n) ∙ there)
+              ∙ ap (λ (h : Held). same_entries h.inh (held_of which n).inh) (set_held which f n) ∙ not-false (same_entries (f n) (held_of which n).inh) unchanged)
+        ])))
+      where
+        either : Node → Bool
+        either m = stores_as_before old which m || agrees (with_lists which f old) which m
 
     -- ---- a loop
 

@@ -79,6 +79,7 @@ module _ (which : Which) (start : ℕ) (old : Content) where
     pub has : has_parent parent.id node ≡ true
     pub reached : is_reached which start f parent ≡ true
     pub taken : has_id parent.id waiting ≡ false
+    pub agrees : f node ≡ passes which f parent node
 
   -- an object agrees with its parent, or the parent waits
   abbrev pub AgreesOrWaits : (Node → List Ace) → List Node → Type 0

@@ -36,7 +36,7 @@ both_equal Less b = refl
 both_equal Equal b = refl
 both_equal Greater b = refl
 
-numbers_equal : (x y : ℕ) → is_eq (nat_cmp x y) ≡ (x == y)
+pub numbers_equal : (x y : ℕ) → is_eq (nat_cmp x y) ≡ (x == y)
 numbers_equal x y = on (nat_lt x y) (x == y) refl refl
   where
     on : (t u : Bool) → nat_lt x y ≡ t → (x == y) ≡ u → is_eq (cond t Less (cond u Equal Greater)) ≡ u

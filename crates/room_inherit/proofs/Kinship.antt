@@ -15,6 +15,10 @@ pub same_parent : (which : Which) (entries : List Ace) (node : Node) → (with_i
 same_parent Dacl entries node = refl
 same_parent Sacl entries node = refl
 
+pub same_name : (which : Which) (entries : List Ace) (node : Node) → (with_inh which entries node).name ≡ node.name
+same_name Dacl entries node = refl
+same_name Sacl entries node = refl
+
 pub same_kind : (which : Which) (entries : List Ace) (node : Node) → (with_inh which entries node).kind ≡ node.kind
 same_kind Dacl entries node = refl
 same_kind Sacl entries node = refl

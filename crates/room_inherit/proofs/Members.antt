@@ -45,6 +45,10 @@ each_unfiltered P q (x ∷ xs) all = on (q x) refl (λ every. each_unfiltered P 
     on true is rest every = (λ _. every.0, rest every.1)
     on false is rest every = (λ passes. absurd (let wrong : ⊥ = cc in wrong), rest every)
 
+pub no_length : {A : Type 0} (xs : List A) → length xs ≡ 0 → xs ≡ []
+no_length [] none = refl
+no_length (x ∷ xs) none = absurd (let wrong : ⊥ = omega (arith, none) in wrong)
+
 -- ---- tests
 
 pub any_filter : {A : Type 0} (p q : A → Bool) (xs : List A) → list_any p (filter q xs) ≡ list_any (λ x. q x && p x) xs

@@ -139,8 +139,11 @@ module _ (which : Which) (start : ℕ) (old : Content) (rises : is_rising (0 ∷
   taken_on : (p : Node) → There which start old p → is_reached which start f p ≡ true → has_id p.id rest ≡ false → has_id p.id (rest ++ kids) ≡ false
   taken_on p there reached none = has_either p.id rest kids ∙ or_from (has_id p.id rest) (has_id p.id kids) none (kids_has p there ∙ reached_fresh p there reached)
 
-  came_before : (n : Node) → Came which start old f (rest ++ w ∷ []) n → Came which start old after (rest ++ kids) n
-  came_before n c = record {
+  passed_on : (n p : Node) → There which start old p → is_reached which start f p ≡ true → passes which f p n ≡ passes which after p n
+  passed_on n p there reached = ap (λ l. pass n.kind ((held_of which p).own ++ l)) (sym (keeps p (reached_fresh p there reached)))
+
+  came_before : (n : Node) → There which start old n → is_changed which f n ≡ true → Came which start old f (rest ++ w ∷ []) n → Came which start old after (rest ++ kids) n
+  came_before n there changed c = record {
     isnt_start = c.isnt_start;
     below = c.below;
     parent = c.parent;
@@ -148,6 +151,7 @@ module _ (which : Which) (start : ℕ) (old : Content) (rises : is_rising (0 ∷
     has = c.has;
     reached = reached_on c.parent c.there c.reached;
     taken = taken_on c.parent c.there c.reached (or_parts (has_id c.parent.id rest) (has_id c.parent.id (w ∷ [])) (sym (has_either c.parent.id rest (w ∷ [])) ∙ c.taken)).0;
+    agrees = keeps n (reached_fresh n there (or_right (n.id == start) (is_changed which f n) changed)) ∙ c.agrees ∙ passed_on n c.parent c.there c.reached;
   }
 
   below_now : (n : Node) → has_parent w0.id n ≡ true → links which w0 n ≡ true → IsLinkedBelow old which start n
@@ -173,6 +177,7 @@ module _ (which : Which) (start : ℕ) (old : Content) (rises : is_rising (0 ∷
         has = has;
         reached = reached_on w0 waits.there waits.reached;
         taken = taken_on w0 waits.there waits.reached (ap (λ i. has_id i rest) (sym w_id) ∙ apart_last rest w front.apart);
+        agrees = step.takes which f w w0 n is ∙ passed_on n w0 waits.there waits.reached;
       }
 
   abbrev Goal : Node → Node → Type 0
@@ -202,7 +207,7 @@ module _ (which : Which) (start : ℕ) (old : Content) (rises : is_rising (0 ∷
     known = each_append (Waits which start old after) rest kids (each_weaker (Waits which start old f) (Waits which start old after) rest_waits rest (each_front (Waits which start old f) rest (w ∷ []) front.known)) kids_wait;
     apart = apart_join rest kids (apart_front rest (w ∷ []) front.apart) kids_apart (each_weaker (Waits which start old f) (λ r. has_id r.id kids ≡ false) rest_apart rest (each_front (Waits which start old f) rest (w ∷ []) front.known));
     came = λ n there changed. elim (or_cases (is_changed which f n) (stale n) (sym (changed_is n there) ∙ changed)) [
-      | inl before ↦ came_before n (front.came n there before)
+      | inl before ↦ came_before n there before (front.came n there before)
       | inr st ↦ came_now n there st
     ];
     law = λ but n p there there' has link. elim (cases_Bool (p.id == w.id)) [

@@ -1,23 +1,26 @@
 -- Where going through the tree begins, and where it ends.
 use Rattle.std.proofs.Common.{◌≡◌, ℕ, zero, suc, ◌+◌, ◌≤◌, ◌==◌, Bool, true, false, cond, List, [], ◌∷◌, length, Option, Some, None, refl, sym, ap, subst, ◌∙◌, inl, inr, arith}
-use Rattle.std.specs.Prelude.{is_none}
+use Rattle.std.specs.Prelude.{is_none, option_and_then}
 use Rattle.std.specs.List.{find}
-use Rattle.std.specs.Option.{option_map_or}
+use Rattle.std.specs.Option.{option_map, option_map_or}
 use Rattle.std.proofs.lemmas.Bool.{or_left, false≢true, eq-eqb, eqb-true}
 use Rattle.room_ace.specs.Ace.{Ace}
 use Rattle.room_ace.specs.declared.object.Which.{Which}
 use Rattle.room_rows.specs.declared.node.Node.{Node}
-use Rattle.room_rows.specs.Content.{Content, node_at, root_of, has_parent, is_rising, reaches_root}
+use Rattle.room_rows.specs.Content.{Content, node_at, root_of, has_parent, is_linked_in, is_rising, reaches_root}
+use Rattle.room_rows.specs.Held.{held_of, is_linked}
+use Rattle.room_rows.specs.HeldList.{Held}
 use Rattle.room_rows.specs.Finding.{find_id}
 use Rattle.room_inherit.specs.Law.{AllAgree}
-use Rattle.room_inherit.specs.Spread.{with_lists}
+use Rattle.room_inherit.specs.Spread.{ChangedAgree, with_lists}
 use Rattle.room_inherit.specs.SpreadAll.{IsTree}
 use Rattle.room_inherit.proofs.Kinship.{with_own}
 use Rattle.room_inherit.proofs.Members.{Each, one_if, count, count_length}
 use Rattle.room_inherit.proofs.Children.{ids_of, each_found, found_id, each_there, apart_rising}
 use Rattle.room_inherit.proofs.Renewing.{one_object}
 use Rattle.room_inherit.proofs.Frontier.{passes}
-use Rattle.room_inherit.proofs.Ends.{own_lists, own_unchanged, law_at_end, each_all}
+use Rattle.room_inherit.proofs.Ends.{own_lists, own_unchanged, law_at_end, changed_agree, each_all}
+use Rattle.room_inherit.proofs.Outdated.{parent_found}
 use Rattle.room_inherit.proofs.Sweeping.{Sweep}
 
 same_some : (x y : Node) → Some x ≡ Some y → x ≡ y
@@ -91,6 +94,31 @@ module _ (which : Which) (old : Content) (rises : is_rising (0 ∷ ids_of old.no
   }
 
   -- ---- the end
+
+  module _ (f : Node → List Ace) (seen : Node → Bool) (front : Sweep which old root f seen []) where
+    pub changed_swept : ChangedAgree which old (with_lists which f old)
+    changed_swept = changed_agree which 0 old rises f (λ n there changed.
+        let link = front.linked n there changed in
+        let met : seen n ≡ true = true_from_ne_false (seen n) (λ isnt. false≢true (sym (front.fresh n there isnt) ∙ changed)) in
+        elim (front.came n there met) [
+          | inl top ↦ absurd (false≢true (sym (ap (is_linked_in old which) top ∙ ap (λ (p : Option ℕ). is_linked (held_of which root) (option_map (held_of which) (option_and_then (node_at old) p))) root_top ∙ none_above (held_of which root)) ∙ link))
+          | inr c ↦ (
+            c.parent,
+            c.there,
+            c.has,
+            elim (front.closed n c.parent there c.there c.has c.seen_is) [
+              | inl waiting ↦ absurd (false≢true waiting)
+              | inr agrees ↦ agrees.1 (sym (ap (λ o. is_linked (held_of which n) (option_map (held_of which) o)) (parent_found old c.parent n c.there c.has)) ∙ link)
+            ],
+          )
+        ])
+      where
+        none_above : (h : Held) → is_linked h None ≡ false
+        none_above h = refl
+
+        true_from_ne_false : (t : Bool) → (t ≡ false → ⊥) → t ≡ true
+        true_from_ne_false true isnt = refl
+        true_from_ne_false false isnt = absurd (isnt refl)
 
   module _ (f : Node → List Ace) (seen : Node → Bool) (front : Sweep which old root f seen []) (tree : IsTree old) where
     seen_up : (k : ℕ) (n : Node) → node_at old n.id ≡ Some n → (o : Option ℕ) → n.parent ≡ o → reaches_root k old o ≡ true → seen n ≡ true

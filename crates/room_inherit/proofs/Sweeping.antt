@@ -1,6 +1,6 @@
 -- The tree gone through from the root down.
-use Rattle.std.proofs.Common.{◌≡◌, ◌+◌, ◌==◌, Bool, true, false, not, ◌&&◌, ◌||◌, List, [], ◌∷◌, ◌++◌, map, length, Some, None, refl, sym, ap, ◌∙◌, inl, inr, ◌⊎◌}
-use Rattle.std.specs.Option.{option_map}
+use Rattle.std.proofs.Common.{◌≡◌, ℕ, ◌+◌, ◌==◌, Bool, true, false, cond, not, ◌&&◌, ◌||◌, List, [], ◌∷◌, ◌++◌, map, length, Option, Some, None, refl, sym, ap, ◌∙◌, inl, inr, ◌⊎◌}
+use Rattle.std.specs.Option.{option_map, option_map_or}
 use Rattle.std.proofs.lemmas.Bool.{cases_Bool, and_parts, and_left, or_cases, or_parts, or_from, or_left, or_right, false≢true, eq-eqb, eqb-true, false_from_ne_true}
 use Rattle.room_ace.specs.Ace.{Ace}
 use Rattle.room_ace.specs.Same.{same_entries}
@@ -12,10 +12,11 @@ use Rattle.room_rows.specs.Held.{held_of, is_linked}
 use Rattle.room_rows.specs.Keep.{with_inh}
 use Rattle.room_inherit.specs.Pass.{pass}
 use Rattle.room_inherit.specs.Spread.{with_lists, is_changed}
-use Rattle.room_inherit.specs.Turn.{is_linked_to, renewals, renewed_below, is_met_again, meets_again}
+use Rattle.room_inherit.specs.Turn.{is_linked_to, is_outdated, passed_to, renewed, renewals, brought_up, renewed_below, is_met_again, meets_again}
+use Rattle.room_inherit.proofs.Kinship.{same_name, same_parent}
 use Rattle.room_inherit.proofs.Members.{Each, each_append, each_front, each_back, each_weaker, count, count_map, count_agree, count_either}
-use Rattle.room_inherit.proofs.Children.{has_id, Apart, ids_of, each_there, apart_rising, apart_map, each_child, apart_children, some_child, is_child, length_children}
-use Rattle.room_inherit.proofs.Renewing.{one_object}
+use Rattle.room_inherit.proofs.Children.{has_id, Apart, ids_of, each_there, apart_rising, apart_map, each_child, apart_children, some_child, is_child, length_children, children_map}
+use Rattle.room_inherit.proofs.Renewing.{map_agree, one_object}
 use Rattle.room_inherit.proofs.Frontier.{set, set_id, set_parent, find_set, links, passes}
 use Rattle.room_inherit.proofs.Outdated as step
 use Rattle.room_inherit.proofs.Outdated.{parent_is, parent_found, same_above, has_either, apart_join, apart_front, apart_last, has_last, or_false, base_of}
@@ -131,6 +132,20 @@ module _ (which : Which) (old : Content) (rises : is_rising (0 ∷ ids_of old.no
 
   abbrev pub kids : List Node
   kids = children_of later w.id
+
+  -- they are the children with what they inherit
+  pub kids_are : map (brought_up which w) (children_of now w.id) ≡ kids
+  kids_are =
+      map_agree (brought_up which w) (renewed_below which w) (children_of now w.id) (each_child now apart_now (λ n. brought_up which w n ≡ renewed_below which w n) w.id (λ n there has. sym (ap (λ t. cond (t && is_outdated which w n) (renewed which w n) n) has)))
+      ∙ sym (children_map (renewed_below which w) (λ n. one (λ (m : Node). m.name) (λ e m. same_name which e m) n) (λ id n. one (has_parent id) (λ e m. ap (λ (p : Option ℕ). option_map_or (λ parent. parent == id) p false) (same_parent which e m)) n) now w.id)
+      ∙ ap (λ (c : Content). children_of c w.id) rows_after
+    where
+      one : {A : Type 0} (part : Node → A) → ((e : List Ace) (m : Node) → part (with_inh which e m) ≡ part m) → (n : Node) → part (renewed_below which w n) ≡ part n
+      one part same n = on (has_parent w.id n && is_outdated which w n)
+        where
+          on : (t : Bool) → part (cond t (renewed which w n) n) ≡ part n
+          on true = same (passed_to which w n) n
+          on false = refl
 
   kids_has : (n : Node) → There which old root n → has_id n.id kids ≡ child n
   kids_has n there = ap (λ i. has_id i kids) (sym (set_id which after n)) ∙ is_child later apart_later w.id (set which after n) (there_later n there) ∙ set_parent which after w.id n

@@ -1,16 +1,19 @@
 -- How a change of a list is carried down to the stored lists below it (RFC 8881, section 6.4.3).
-use Rattle.std.specs.Prelude.{◌≡◌, ℕ, zero, suc, ◌+◌, ◌&&◌, ◌||◌, Bool, false, not, List, Some, Result, IfOk, IfErr, IsTrue, count_by}
+use Rattle.std.specs.Prelude.{◌≡◌, ℕ, zero, suc, ◌+◌, ◌&&◌, ◌||◌, Bool, false, not, List, Some}
+use Rattle.std.specs.Prelude.{Result, IfOk, IfErr, IsTrue, count_by}
+use Rattle.std.specs.List.{list_all}
 use Rattle.std.specs.Option.{option_map_or}
 use Rattle.room_ace.specs.Ace.{Ace}
 use Rattle.room_ace.specs.Same.{same_entries}
 use Rattle.room_ace.specs.declared.object.Which.{Which}
 use Rattle.room_rows.specs.declared.keep.Keep.{Ghosts}
 use Rattle.room_rows.specs.declared.node.Node.{Node}
-use Rattle.room_rows.specs.Content.{Content, node_at, parent_of, has_parent, is_linked_in, with_each}
+use Rattle.room_rows.specs.Content.{Content, node_at, parent_of, has_parent, is_linked_in}
+use Rattle.room_rows.specs.Content.{with_each}
 use Rattle.room_rows.specs.Held.{held_of}
 use Rattle.room_rows.specs.Keep.{HasCause, IsUnreadable, capped, reading, with_inh}
 use Rattle.room_rows.specs.Rows.{Rows}
-use Rattle.room_inherit.specs.Law.{AllAgree, AllAgreeBut}
+use Rattle.room_inherit.specs.Law.{AllAgree, AllAgreeBut, agrees}
 use Rattle.room_inherit.specs.declared.outcome.Spread.{Spread}
 use Rattle.room_inherit.specs.declared.outcome.SpreadFault.{SpreadFault}
 use Rattle.room_inherit.specs.declared.outcome.SpreadFault.TheVariants.{Keeper, Loop}
@@ -50,15 +53,27 @@ with_lists which lists content = with_each content (λ node. with_inh which (lis
 abbrev pub is_changed : Which → (Node → List Ace) → Node → Bool
 is_changed which lists node = not (same_entries (lists node) (held_of which node).inh)
 
+-- the object stores the inherited entries that it did
+abbrev pub stores_as_before : Content → Which → Node → Bool
+stores_as_before old which node =
+    option_map_or (λ before. same_entries (held_of which node).inh (held_of which before).inh)
+    (node_at old node.id) false
+
+-- Each object that stores other inherited entries than before agrees with its parent.
+abbrev pub ChangedAgree : Which → Content → Content → Type 0
+ChangedAgree which old new =
+    IsTrue (list_all (λ node. stores_as_before old which node || agrees new which node) new.nodes)
+
 -- The rows are as they were but for inherited entries of this attribute at objects that are linked
--- below this one, of which so many are different now. If the law held but for the object's
--- children, it holds.
+-- below this one, of which so many are different now and agree with their parents. If the law held
+-- but for the object's children, it holds.
 pub record IsSpread (which : Which) (id : ℕ) (old new : Rows) (changed : ℕ) : Type 0 where
   pub lists : Node → List Ace
   pub becomes : new ≡ reading old (with_lists which lists old.read)
   pub below : (node : Node) → node_at old.read node.id ≡ Some node
       → IsTrue (is_changed which lists node) → IsLinkedBelow old.read which id node
   pub counted : changed ≡ count_by (is_changed which lists) old.read.nodes
+  pub agree : ChangedAgree which old.read new.read
   pub law : AllAgreeBut old.read which id → AllAgree new.read which
 
 -- ---- why there is no answer

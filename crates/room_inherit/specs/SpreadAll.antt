@@ -1,17 +1,20 @@
 -- All lists carried down from the root (RFC 8881, section 6.4.3).
-use Rattle.std.specs.Prelude.{◌≡◌, ℕ, ◌+◌, ◌<◌, ◌^◌, List, Some, None, Result, IfOk, IfErr, IsTrue, filter, length, count_by}
+use Rattle.std.specs.Prelude.{◌≡◌, ℕ, ◌+◌, ◌<◌, ◌^◌, List, Some, None, Result, IfOk, IfErr, IsTrue}
+use Rattle.std.specs.Prelude.{filter, length, count_by}
 use Rattle.std.specs.List.{list_all}
 use Rattle.room_ace.specs.Ace.{Ace}
 use Rattle.room_ace.specs.declared.object.Which.{Which}
 use Rattle.room_ace.specs.declared.object.Which.TheVariants.{Dacl, Sacl}
 use Rattle.room_rows.specs.declared.keep.Keep.{Ghosts}
 use Rattle.room_rows.specs.declared.node.Node.{Node}
-use Rattle.room_rows.specs.Content.{Content, node_at, children_of, is_linked_in, is_root, reaches_root, with_each}
+use Rattle.room_rows.specs.Content.{Content, node_at, root_of, is_linked_in, is_root, reaches_root}
+use Rattle.room_rows.specs.Content.{with_each}
 use Rattle.room_rows.specs.Keep.{HasNoRoot, capped, reading, with_inh}
 use Rattle.room_rows.specs.Rows.{Rows}
 use Rattle.room_inherit.specs.Law.{AllAgree}
 use Rattle.room_inherit.specs.Sound.{first_fault}
-use Rattle.room_inherit.specs.Spread.{HasSpreadCause, is_changed, with_lists}
+use Rattle.room_inherit.specs.Spread.{CarriesIf, ChangedAgree, HasSpreadCause, is_changed}
+use Rattle.room_inherit.specs.Spread.{with_lists}
 use Rattle.room_inherit.specs.declared.outcome.Spread.{Spread}
 use Rattle.room_inherit.specs.declared.outcome.SpreadFault.{SpreadFault}
 
@@ -22,7 +25,8 @@ pub record IsTree (rows : Content) : Type 0 where
       IsTrue (list_all (λ node. reaches_root (length rows.nodes) rows node.parent) rows.nodes)
 
 -- The rows are as they were but for inherited entries of this attribute at linked objects, of which
--- so many are different now, fewer than 2 ^ 63. In a tree the law holds.
+-- so many are different now, fewer than 2 ^ 63, and agree with their parents. In a tree the law
+-- holds.
 pub record IsSwept (which : Which) (old new : Rows) (changed : ℕ) : Type 0 where
   pub lists : Node → List Ace
   pub becomes : new ≡ reading old (with_lists which lists old.read)
@@ -30,6 +34,7 @@ pub record IsSwept (which : Which) (old new : Rows) (changed : ℕ) : Type 0 whe
       → IsTrue (is_changed which lists node) → IsTrue (is_linked_in old.read which node)
   pub counted : changed ≡ count_by (is_changed which lists) old.read.nodes
   pub few : changed < 2 ^ 63
+  pub agree : ChangedAgree which old.read new.read
   pub law : IsTree old.read → AllAgree new.read which
 
 -- each object with these inherited entries of both lists, and else as it was
@@ -38,8 +43,8 @@ with_both dacls sacls content =
     with_each content (λ node. with_inh Sacl (sacls node) (with_inh Dacl (dacls node) node))
 
 -- The rows are as they were but for inherited entries at linked objects, of which so many lists are
--- different now. Where the first six tests of all rows found no fault, the law of both holds, and
--- so it does in any other tree.
+-- different now and agree with the parents'. Where the first six tests of all rows found no fault,
+-- the law of both holds, and so it does in any other tree.
 pub record IsSpreadAll (old new : Rows) (changed : ℕ) : Type 0 where
   pub dacls : Node → List Ace
   pub sacls : Node → List Ace
@@ -51,12 +56,9 @@ pub record IsSpreadAll (old new : Rows) (changed : ℕ) : Type 0 where
   pub counted : changed
       ≡ count_by (is_changed Dacl dacls) old.read.nodes
       + count_by (is_changed Sacl sacls) old.read.nodes
+  pub agree : (which : Which) → ChangedAgree which old.read new.read
   pub law : first_fault old ≡ None → (which : Which) → AllAgree new.read which
   pub in_tree : IsTree old.read → (which : Which) → AllAgree new.read which
-
--- all children of an object wait next
-abbrev pub all_of : Node → Rows → List Node → List Node
-all_of above new renewed = children_of new.read above.id
 
 module _ {S : Type 0} (rows : S → Rows) (failures writes : S → ℕ)
     (Follows IsTrusted : S → S → Type 0) where
@@ -80,8 +82,18 @@ module _ {S : Type 0} (k : Ghosts S) (old new : S) where
       (λ first spread last. IsSpreadAll first last spread.changed)
 
   -- Those of one attribute are.
-  abbrev pub Sweeps : Which → Result ℕ SpreadFault → Type 0
+  abbrev pub Sweeps : Which → Result Spread SpreadFault → Type 0
   Sweeps which result =
-      IsCarriedDown k.rows k.failures k.writes k.Follows k.IsTrusted {X = ℕ}
-      (λ changed. changed) old new result
-      (λ first changed last. IsSwept which first last changed)
+      IsCarriedDown k.rows k.failures k.writes k.Follows k.IsTrusted
+      (λ (spread : Spread). spread.changed) old new result
+      (λ first spread last. IsSwept which first last spread.changed)
+
+  -- The same where the rows are so beforehand, which is the caller's to know.
+  abbrev pub SweepsIf : (Rows → Type 0) → Which → Result Spread SpreadFault → Type 0
+  SweepsIf Given which result =
+      CarriesIf k old new Given (λ (spread : Spread). spread.changed) result (λ _. ⊥)
+      (λ first spread last. IsSwept which first last spread.changed)
+
+-- the object is the root of the rows
+abbrev pub IsRoot : Node → Rows → Type 0
+IsRoot node rows = root_of rows.read ≡ Some node

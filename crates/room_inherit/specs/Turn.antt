@@ -1,11 +1,13 @@
 -- One object's children, and what they are to inherit from it.
-use Rattle.std.specs.Prelude.{◌≡◌, ℕ, ◌==◌, ◌&&◌, Bool, true, false, not, List, [], ◌∷◌, ◌++◌, length, map, filter, Option, Some, None, if◌then◌else◌}
+use Rattle.std.specs.Prelude.{◌≡◌, ℕ, ◌==◌, ◌&&◌, Bool, true, false, not, List, [], ◌∷◌, ◌++◌}
+use Rattle.std.specs.Prelude.{length, map, filter, Option, Some, None, Result, if◌then◌else◌}
 use Rattle.std.specs.List.{list_any}
 use Rattle.room_ace.specs.Ace.{Ace}
 use Rattle.room_ace.specs.Same.{same_entries}
 use Rattle.room_ace.specs.declared.object.ObjKind.{ObjKind}
 use Rattle.room_ace.specs.declared.object.ObjKind.TheVariants.{Document, Folder}
 use Rattle.room_ace.specs.declared.object.Which.{Which}
+use Rattle.room_rows.specs.declared.keep.Keep.{Ghosts}
 use Rattle.room_rows.specs.declared.node.Node.{Node}
 use Rattle.room_rows.specs.Content.{Content, node_at, children_of, has_parent, put_node, with_each}
 use Rattle.room_rows.specs.HeldList.{Held}
@@ -13,6 +15,11 @@ use Rattle.room_rows.specs.Held.{held_of, full_of, is_linked}
 use Rattle.room_rows.specs.Keep.{reading, with_inh}
 use Rattle.room_rows.specs.Rows.{Rows}
 use Rattle.room_inherit.specs.Pass.{pass}
+use Rattle.room_inherit.specs.Spread.{Carries, CarriesIf}
+use Rattle.room_inherit.specs.declared.descent.Descent.{Descent}
+use Rattle.room_inherit.specs.declared.descent.Reach.{Reach}
+use Rattle.room_inherit.specs.declared.descent.Reach.TheVariants.{Renewed, All}
+use Rattle.room_inherit.specs.declared.outcome.SpreadFault.{SpreadFault}
 use Rattle.room_inherit.specs.declared.passed.Passed.{Passed}
 
 abbrev pub is_linked_to : Which → Node → Node → Bool
@@ -71,10 +78,6 @@ AreKnown which (node ∷ nodes) content =
     × (list_any (λ other. other.id == node.id) nodes ≡ false)
     × AreKnown which nodes content
 
--- The objects stand in the rows now.
-abbrev pub StoresLists : List Node → Rows → Unit {0} → Rows → Type 0
-StoresLists nodes old answer new = new ≡ reading old (with_nodes old.read nodes)
-
 -- the child is renewed where it is outdated
 abbrev pub renewed_below : Which → Node → Node → Node
 renewed_below which above node =
@@ -82,36 +85,76 @@ renewed_below which above node =
     then renewed which above node
     else node
 
--- Each outdated child of the object is renewed and among the answer, and the first object wasn't
--- met.
-pub record IsTurn (which : Which) (start : ℕ) (above : Node) (old : Rows) (next : List Node)
-    (new : Rows) : Type 0 where
-  pub answers : next ≡ renewals which above (children_of old.read above.id)
-  pub not_met : meets_again which start above (children_of old.read above.id) ≡ false
-  pub becomes : new ≡ reading old (with_each old.read (renewed_below which above))
-
 abbrev pub MeetsAgain : Which → ℕ → Node → Rows → Type 0
 MeetsAgain which start above rows =
     meets_again which start above (children_of rows.read above.id) ≡ true
 
--- One object's children renewed, and these or others put behind those that wait.
-pub record IsVisit (which : Which) (start : ℕ) (above : Node)
-    (waits_next : Rows → List Node → List Node) (before after : List Node) (old : Rows)
-    (written : ℕ) (new : Rows) : Type 0 where
-  pub next : List Node
-  pub turn : IsTurn which start above old next new
-  pub counted : written ≡ length next
-  pub waits : after ≡ before ++ waits_next new next
+-- renewed if it is outdated
+abbrev pub brought_up : Which → Node → Node → Node
+brought_up which above node =
+    if is_outdated which above node then renewed which above node else node
 
--- the renewed ones wait next
-abbrev pub renewed_ones : Rows → List Node → List Node
-renewed_ones new renewed = renewed
+-- which of the children wait next: the renewed ones, or all
+abbrev pub next_of : Reach → Which → Node → List Node → List Node
+next_of Renewed which above nodes = renewals which above nodes
+next_of All which above nodes = map (brought_up which above) nodes
+
+-- One object's outdated children are renewed, and these or all put behind those that wait; the
+-- first object isn't among them.
+pub record IsVisit (descent : Descent) (above : Node) (before after : List Node) (old : Rows)
+    (written : ℕ) (new : Rows) : Type 0 where
+  pub not_met : meets_again descent.which descent.start above (children_of old.read above.id)
+      ≡ false
+  pub becomes : new ≡ reading old (with_each old.read (renewed_below descent.which above))
+  pub counted : written ≡ length (renewals descent.which above (children_of old.read above.id))
+  pub waits : after
+      ≡ before ++ next_of descent.reach descent.which above (children_of old.read above.id)
+
+-- The outdated ones of these children are renewed in the rows, and they or all wait next.
+pub record IsRenewal (descent : Descent) (above : Node) (nodes before after : List Node)
+    (old : Rows) (written : ℕ) (new : Rows) : Type 0 where
+  pub counted : written ≡ length (renewals descent.which above nodes)
+  pub waits : after ≡ before ++ next_of descent.reach descent.which above nodes
+  pub stores : new ≡ reading old (with_nodes old.read (renewals descent.which above nodes))
+
+-- The child is renewed here and in the rows, if it is outdated.
+pub record IsRenewed (which : Which) (above before after : Node) (old : Rows) (renews : Bool)
+    (new : Rows) : Type 0 where
+  pub outdated : renews ≡ is_outdated which above before
+  pub becomes : after ≡ brought_up which above before
+  pub stores : new ≡ reading old (with_nodes old.read (renewals which above (before ∷ [])))
+
+abbrev pub one_if : Bool → ℕ
+one_if test = if test then 1 else 0
+
+module _ {S : Type 0} (k : Ghosts S) (old new : S) where
+  -- An object's children are renewed.
+  abbrev pub Visits : Descent → Node → List Node → List Node → Result ℕ SpreadFault → Type 0
+  Visits descent above before after result =
+      Carries k old new (λ written. written) result
+      (MeetsAgain descent.which descent.start above) (IsVisit descent above before after)
+
+  -- These are, where those that are outdated are known to the rows.
+  abbrev pub RenewsAll : Descent → Node → List Node → List Node → List Node
+      → Result ℕ SpreadFault → Type 0
+  RenewsAll descent above nodes before after result =
+      CarriesIf k old new
+      (λ rows. AreKnown descent.which (renewals descent.which above nodes) rows.read)
+      (λ written. written) result (λ _. ⊥) (IsRenewal descent above nodes before after)
+
+  -- This one is.
+  abbrev pub Renews : Which → Node → Node → Node → Result Bool SpreadFault → Type 0
+  Renews which above before after result =
+      CarriesIf k old new
+      (λ rows. AreKnown which (renewals which above (before ∷ [])) rows.read)
+      one_if result (λ _. ⊥) (IsRenewed which above before after)
 
 -- what a list passes to the children of a kind
 abbrev pub to_kind : Passed → ObjKind → List Ace
 to_kind passed Document = passed.to_documents
 to_kind passed Folder = passed.to_folders
 
--- to children of either kind goes what a list of these entries passes
-abbrev pub IsPassed : List Ace → Passed → Type 0
-IsPassed entries passed = (kind : ObjKind) → to_kind passed kind ≡ pass kind entries
+-- what an object with this list passes to its children, if it does
+pub record IsPassed (held : Held) (passed : Passed) : Type 0 where
+  pub auto : passed.auto ≡ held.flags.auto
+  pub entries : (kind : ObjKind) → to_kind passed kind ≡ pass kind (full_of held)

@@ -2,7 +2,7 @@
 ghost use Rattle.room_rows.specs.Calls.{Reads};
 ghost use Rattle.room_inherit.specs.Reading.{AreAll, IsBadAt, IsFirstBad, IsSoundAt};
 
-use crate::lists::has_sound_lists;
+use crate::sound_lists::has_sound_lists;
 use room_rows::{Keep, KeepFault, Node, Nodes};
 use std::alloc::Global;
 
@@ -25,13 +25,7 @@ fn read_sound<K: Keep>(keep: &mut K, id: u64) -> Result<Node, KeepFault>
     ensures read { Reads K.Keep keep.old keep.new result (IsBadAt id) (IsSoundAt id) }
 {
     match keep.node(id)? {
-        None => Err(KeepFault::Damaged { id }),
-        Some(node) => {
-            if has_sound_lists(&node) {
-                Ok(node)
-            } else {
-                Err(KeepFault::Damaged { id })
-            }
-        }
+        Some(node) if has_sound_lists(&node) => Ok(node),
+        Some(_) | None => Err(KeepFault::Damaged { id }),
     }
 }

@@ -1,7 +1,6 @@
 //! Whether the stored inherited entries are those that the parents pass.
-ghost use Rattle.std.specs.Prelude.{◌≡◌, ◌&&◌, IfOk};
+ghost use Rattle.std.specs.Prelude.{◌≡◌, IfOk};
 ghost use Rattle.std.specs.Option.{option_copied};
-ghost use Rattle.room_ace.specs.declared.object.Which.TheVariants.{Dacl, Sacl};
 ghost use Rattle.room_inherit.specs.Law.{agrees_with};
 ghost use Rattle.room_inherit.specs.Objects.{only};
 ghost use Rattle.room_inherit.specs.Sound.{first_failing, keeps_law};
@@ -31,21 +30,13 @@ impl Objects {
     fn keeps_law(&self, alloc: Global, node: &Node) -> Result<bool, AllocError>
         ensures { IfOk result (λ keeps. keeps ≡ keeps_law (only self.now) node.now) }
     {
-        match self.parent_of(node) {
-            None => Ok(true),
-            Some(parent) => agree_with(alloc, node, parent),
-        }
+        let Some(parent) = self.parent_of(node) else {
+            return Ok(true);
+        };
+        let dacl = agrees_with(alloc, node, parent, Which::Dacl)?;
+        let sacl = agrees_with(alloc, node, parent, Which::Sacl)?;
+        Ok(dacl && sacl)
     }
-}
-
-// Whether both lists agree with the parent's.
-fn agree_with(alloc: Global, node: &Node, parent: &Node) -> Result<bool, AllocError>
-    ensures { IfOk result (λ agree. agree
-        ≡ (agrees_with Dacl node.now parent.now && agrees_with Sacl node.now parent.now)) }
-{
-    let dacl = agrees_with(alloc, node, parent, Which::Dacl)?;
-    let sacl = agrees_with(alloc, node, parent, Which::Sacl)?;
-    Ok(dacl && sacl)
 }
 
 // Whether the list, if it is linked, stores what the parent's stored list passes.

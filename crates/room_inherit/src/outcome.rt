@@ -4,8 +4,8 @@ ghost use Rattle.room_inherit.specs.FaultTexts.{keep_fault_text, spread_fault_te
 ghost use Rattle.room_inherit.specs.declared.outcome.SpreadFault.TheVariants.{Keeper};
 ghost use Rattle.room_rows.specs.declared.keep.KeepFault.TheVariants.{Memory};
 
-use room_rows::{KeepFault, Node};
-use std::alloc::{AllocError, AllocFailed};
+use room_rows::KeepFault;
+use std::alloc::AllocError;
 use std::fmt;
 
 /// How many stored lists became different.
@@ -66,14 +66,6 @@ impl From<AllocError> for SpreadFault {
     ghost from_gives = { λ _ spread_fault. spread_fault ≡ Keeper Memory };
 
     fn from(_error: AllocError) -> SpreadFault {
-        SpreadFault::Keeper(KeepFault::Memory)
-    }
-}
-
-impl From<AllocFailed<Node>> for SpreadFault {
-    ghost from_gives = { λ _ spread_fault. spread_fault ≡ Keeper Memory };
-
-    fn from(_error: AllocFailed<Node>) -> SpreadFault {
         SpreadFault::Keeper(KeepFault::Memory)
     }
 }

@@ -1,11 +1,11 @@
-//! A change of a list carried down to what is stored below.
-ghost use Rattle.room_inherit.specs.Spread.{Carries, Holds, Spreads, SpreadsIf};
-ghost use Rattle.room_inherit.specs.Turn.{IsVisit, MeetsAgain, renewed_ones};
+//! A change of a list carried down to what is stored below, and all lists from the root.
+ghost use Rattle.room_inherit.specs.Spread.{Spreads};
+ghost use Rattle.room_inherit.specs.SpreadAll.{SpreadsAll, Sweeps};
 
+use crate::descent::{Reach, carry_down};
 use crate::outcome::{Spread, SpreadFault};
-use crate::turn::renew_children;
 use room_ace::Which;
-use room_rows::{Keep, KeepFault, Node};
+use room_rows::Keep;
 use std::alloc::Global;
 
 /// Brings the stored inherited entries below the object up to date, for one of the lists: each
@@ -22,59 +22,29 @@ pub fn spread<K: Keep>(
 {
     match keep.node(id)? {
         None => Ok(Spread { changed: 0 }),
-        Some(start) => spread_from(alloc, keep, &start, which),
+        Some(start) => carry_down(alloc, keep, &start, which, Reach::Renewed),
     }
 }
 
-// The same from an object of the rows. How many turns there are at most is asked where some are
-// left.
-fn spread_from<K: Keep>(
-    alloc: Global,
-    keep: &mut K,
-    start: &Node,
-    which: Which,
-) -> Result<Spread, SpreadFault>
-    ensures spread { SpreadsIf K.Keep keep.old keep.new
-        (Holds start.now) which start.now.id result }
+/// Brings the stored inherited entries of every linked object up to date, for both lists, from the
+/// root down. For that the first six tests of `verify` are to find no fault; it is enough that the
+/// rows are a tree: one object has no parent, and the parents of each lead to it. `changed` counts
+/// the lists that became different.
+pub fn spread_all<K: Keep>(alloc: Global, keep: &mut K) -> Result<Spread, SpreadFault>
+    ensures spread { SpreadsAll K.Keep keep.old keep.new result }
 {
-    let mut waiting = renew_children(alloc, keep, start.id, start, which)?;
-    let mut changed = waiting.len() as u64;
-    if waiting.is_empty() {
-        return Ok(Spread { changed });
-    }
-    let most = keep.ids()?.as_slice().len();
-    'turns: for _turn in 1..most {
-        let Some(above) = waiting.pop() else {
-            return Ok(Spread { changed });
-        };
-        let visited = visit_renewed(alloc, keep, start.id, &above, which, &mut waiting);
-        // Let go here, and so not part by part on each way out.
-        drop(above);
-        changed = changed.saturating_add(visited?);
-    }
-    if waiting.is_empty() {
-        Ok(Spread { changed })
-    } else {
-        Err(SpreadFault::Keeper(KeepFault::Damaged { id: start.id }))
-    }
+    let dacls = sweep(alloc, keep, Which::Dacl)?;
+    let sacls = sweep(alloc, keep, Which::Sacl)?;
+    Ok(Spread {
+        changed: dacls.changed.saturating_add(sacls.changed),
+    })
 }
 
-// Renews the outdated children of an object, says how many they are, and puts them behind those
-// that wait.
-fn visit_renewed<K: Keep>(
-    alloc: Global,
-    keep: &mut K,
-    start: u64,
-    above: &Node,
-    which: Which,
-    waiting: &mut Vec<Node>,
-) -> Result<u64, SpreadFault>
-    ensures visit { Carries K.Keep keep.old keep.new (λ written. written) result
-        (MeetsAgain which start above.now)
-        (IsVisit which start above.now renewed_ones waiting.old.items waiting.new.items) }
+// Goes through the tree from the root down, and stores in each linked object what its parent's list
+// passes to it, for one of the lists.
+fn sweep<K: Keep>(alloc: Global, keep: &mut K, which: Which) -> Result<Spread, SpreadFault>
+    ensures swept { Sweeps K.Keep keep.old keep.new which result }
 {
-    let mut next = renew_children(alloc, keep, start, above, which)?;
-    let written = next.len() as u64;
-    waiting.append(&mut next)?;
-    Ok(written)
+    let root = keep.root()?;
+    carry_down(alloc, keep, &root, which, Reach::All)
 }

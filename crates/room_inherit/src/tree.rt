@@ -1,9 +1,10 @@
 //! Whether the objects stand below one another as they should.
 ghost use Rattle.std.specs.Prelude.{◌≡◌, IfOk, filter};
-ghost use Rattle.std.specs.Option.{option_copied};
+ghost use Rattle.std.specs.Option.{option_copied, option_map};
 ghost use Rattle.room_rows.specs.Content.{has_folder_above, is_root};
 ghost use Rattle.room_inherit.specs.Objects.{only};
-ghost use Rattle.room_inherit.specs.Sound.{bad_root, first_failing, has_sound_name, reaches, tree_fault};
+ghost use Rattle.room_inherit.specs.Sound.{bad_root, fault_of, first_failing, has_sound_name};
+ghost use Rattle.room_inherit.specs.Sound.{numbered, or_else, tree_fault, true_path};
 
 use crate::objects::Objects;
 use crate::report::{Report, Unsound, fault_of_number};
@@ -39,53 +40,18 @@ impl Objects {
         ensures { option_copied result
             ≡ first_failing (has_folder_above (only self.now)) (only self.now) }
     {
-        'nodes: for node in self.as_slice() {
-            if !self.has_folder_above(node) {
-                return Some(node);
-            }
-        }
-        None
+        self.as_slice()
+            .iter()
+            .find(|node| !self.has_folder_above(node))
     }
 
     fn has_folder_above(&self, node: &Node) -> bool
         ensures { result ≡ has_folder_above (only self.now) node.now }
     {
-        if node.parent.is_none() {
-            return true;
-        }
         match self.parent_of(node) {
-            None => false,
+            None => node.parent.is_none(),
             Some(parent) => parent.kind == ObjKind::Folder,
         }
-    }
-
-    /// The first object from which the parents never reach an object without one.
-    pub(crate) fn first_loop(&self) -> Option<&Node>
-        ensures { option_copied result ≡ first_failing (reaches (only self.now)) (only self.now) }
-    {
-        'nodes: for node in self.as_slice() {
-            if !self.reaches_root(node) {
-                return Some(node);
-            }
-        }
-        None
-    }
-
-    // A way to the root has fewer steps than there are objects.
-    fn reaches_root(&self, node: &Node) -> bool
-        ensures { result ≡ reaches (only self.now) node.now }
-    {
-        let mut above = node.parent;
-        'steps: for step in 0..self.as_slice().len() {
-            let Some(id) = above else {
-                return true;
-            };
-            let Some(parent) = self.at(id) else {
-                return false;
-            };
-            above = parent.parent;
-        }
-        above.is_none()
     }
 
     /// The first object whose name is no object name, or has been given under its parent before.
@@ -110,22 +76,31 @@ impl Objects {
     pub(crate) fn tree_fault(&self, alloc: Global) -> Result<Option<Report>, AllocError>
         ensures { IfOk result (λ found. found ≡ tree_fault (only self.now)) }
     {
-        match bad_root(self.as_slice()) {
-            Some(id) => return Ok(Some(fault_of_number(alloc, id, Unsound::BadRoot)?)),
-            None => {}
-        }
-        match self.first_bad_parent() {
-            Some(node) => {
-                return Ok(Some(fault_of_number(alloc, node.id, Unsound::BadParent)?));
-            }
-            None => {}
-        }
-        match self.first_loop() {
-            Some(node) => return Ok(Some(fault_of_number(alloc, node.id, Unsound::Loop)?)),
-            None => {}
+        if let Some((id, why)) = self.fault_above(alloc)? {
+            return Ok(Some(fault_of_number(alloc, id, why)?));
         }
         match self.first_bad_name(alloc)? {
             Some(node) => Ok(Some(self.fault_of(alloc, node, Unsound::BadName)?)),
+            None => Ok(None),
+        }
+    }
+
+    // The first fault in the ways to the root, with the number of its object. Those of the names
+    // come behind it.
+    fn fault_above(&self, alloc: Global) -> Result<Option<(u64, Unsound)>, AllocError>
+        ensures { IfOk result (λ found. tree_fault (only self.now)
+            ≡ or_else (option_map (λ f. Report.Fault (numbered f.0) f.1) found)
+            (fault_of (true_path (only self.now)) Unsound.BadName
+            (first_failing (has_sound_name (only self.now)) (only self.now)))) }
+    {
+        if let Some(id) = bad_root(self.as_slice()) {
+            return Ok(Some((id, Unsound::BadRoot)));
+        }
+        if let Some(node) = self.first_bad_parent() {
+            return Ok(Some((node.id, Unsound::BadParent)));
+        }
+        match self.first_loop(alloc)? {
+            Some(node) => Ok(Some((node.id, Unsound::Loop))),
             None => Ok(None),
         }
     }

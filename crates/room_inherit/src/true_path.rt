@@ -51,9 +51,9 @@ fn path_down(alloc: Global, names: Vec<Text>) -> Result<Text, AllocError>
     let mut text = String::new(alloc);
     if names.is_empty() {
         text.push('/')?;
-        return Ok(Text::from_string(text));
+    } else {
+        push_down(&mut text, names)?;
     }
-    push_down(&mut text, names)?;
     Ok(Text::from_string(text))
 }
 

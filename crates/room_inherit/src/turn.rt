@@ -1,22 +1,11 @@
 //! One turn of carrying lists down: an object's children.
-ghost use Rattle.std.specs.Prelude.{◌≡◌, ◌++◌, IfOk, OnOk, length};
-ghost use Rattle.std.specs.List.{list_any};
-ghost use Rattle.std.specs.Option.{option_map, option_to_list};
-ghost use Rattle.room_rows.specs.Held.{held_of, full_of};
-ghost use Rattle.room_inherit.specs.Spread.{Carries, CarriesIf};
-ghost use Rattle.room_inherit.specs.Turn.{
-  AreKnown,
-  IsPassed,
-  IsTurn,
-  MeetsAgain,
-  StoresLists,
-  is_met_again,
-  meets_again,
-  renewal,
-  renewals,
-  renewed_list,
-};
+ghost use Rattle.std.specs.Prelude.{◌≡◌, ◌<◌, ◌≤◌, ◌^◌, ◌++◌, ◌∷◌, [], IfOk, OnOk};
+ghost use Rattle.std.specs.Prelude.{if◌then◌else◌};
+ghost use Rattle.room_rows.specs.Held.{held_of};
+ghost use Rattle.room_inherit.specs.Turn.{IsPassed, Renews, RenewsAll, Visits};
+ghost use Rattle.room_inherit.specs.Turn.{meets_again, renewed_list};
 
+use crate::descent::{Descent, Reach};
 use crate::inheriting::{stores, takes_from};
 use crate::outcome::SpreadFault;
 use crate::passed::Passed;
@@ -24,125 +13,129 @@ use room_ace::Which;
 use room_rows::{Held, Keep, Node};
 use std::alloc::{AllocError, Global};
 
-/// Renews the outdated children of an object, and answers them. `Loop` comes where the object
-/// `start` is among its linked children.
-pub(crate) fn renew_children<K: Keep>(
+/// Renews the outdated children of an object, says how many they are, and puts those that it goes
+/// on to behind the ones that wait. `Loop` comes where the object at which it began is among the
+/// linked children, before anything is written.
+pub(crate) fn visit<K: Keep>(
     alloc: Global,
     keep: &mut K,
-    start: u64,
+    descent: &Descent,
     above: &Node,
-    which: Which,
-) -> Result<Vec<Node>, SpreadFault>
-    ensures turn { Carries K.Keep keep.old keep.new (λ next. length next.items) result
-        (MeetsAgain which start above.now)
-        (λ old next new. IsTurn which start above.now old next.items new) }
+    waiting: &mut Vec<Node>,
+) -> Result<u64, SpreadFault>
+    ensures visit { Visits K.Keep keep.old keep.new descent.now above.now waiting.old.items
+        waiting.new.items result }
+    ensures few { IfOk result (λ written. written < 2 ^ 63) }
 {
     let children = keep.children(above.id)?;
-    if meets_again(children.as_slice(), start, above, which) {
+    if meets_again(children.as_slice(), descent, above) {
         return Err(SpreadFault::Loop);
     }
-    let next = outdated_children(alloc, above, children.into_vec(), which)?;
-    store_lists(keep, next.as_slice(), which)?;
-    Ok(next)
+    let passed = Passed::new(alloc, above.held(descent.which))?;
+    renew_all(alloc, keep, descent, &passed, children.into_vec(), waiting)
 }
 
-// Whether the object of this number is a linked child.
-fn meets_again(children: &[Node], start: u64, above: &Node, which: Which) -> bool
-    ensures { result ≡ meets_again which start above.now children.now }
+// Whether the object at which it began is a linked child.
+fn meets_again(children: &[Node], descent: &Descent, above: &Node) -> bool
+    ensures { result
+        ≡ meets_again descent.now.which descent.now.start above.now children.now }
 {
-    children
-        .iter()
-        .any(|child| is_met_again(child, start, above, which))
+    children.iter().any(|child| child.id == descent.start
+        && takes_from(child, above, descent.which))
 }
 
-fn is_met_again(child: &Node, start: u64, above: &Node, which: Which) -> bool
-    ensures { result ≡ is_met_again which start above.now child.now }
-{
-    child.id == start && takes_from(child, above, which)
-}
-
-// Stores the inherited entries of these objects, each of which is in the rows but for them. That is
-// the caller's to know.
-fn store_lists<K: Keep>(keep: &mut K, nodes: &[Node], which: Which) -> Result<(), SpreadFault>
-    ensures stored { CarriesIf K.Keep keep.old keep.new
-        (λ rows. AreKnown which nodes.now rows.read) (λ _. length nodes.now) result
-        (λ _. ⊥) (StoresLists nodes.now) }
-{
-    'nodes: for node in nodes {
-        keep.set_inh(node.id, which, node.held(which).inh())?;
-    }
-    Ok(())
-}
-
-// Those of the children that store something else than they inherit, with what they inherit.
-fn outdated_children(
+// Renews those that are outdated, says how many they are, and puts those that it goes on to behind
+// the ones that wait. What is passed is that of the object above, and each is in the rows.
+fn renew_all<K: Keep>(
     alloc: Global,
-    above: &Node,
-    children: Vec<Node>,
-    which: Which,
-) -> Result<Vec<Node>, AllocError>
-    ensures { IfOk result (λ next. next.items ≡ renewals which above.now children.items) }
-{
-    if children.is_empty() {
-        return Ok(children);
-    }
-    let passed = Passed::new(alloc, above.held(which).full())?;
-    outdated_by(alloc, above, &passed, children, which)
-}
-
-// The same by what the list above passes.
-fn outdated_by(
-    alloc: Global,
-    above: &Node,
+    keep: &mut K,
+    descent: &Descent,
     passed: &Passed,
     children: Vec<Node>,
-    which: Which,
-) -> Result<Vec<Node>, AllocError>
-    ensures { IsPassed (full_of (held_of which above.now)) passed.now
-        → IfOk result (λ next. next.items ≡ renewals which above.now children.items) }
+    waiting: &mut Vec<Node>,
+) -> Result<u64, SpreadFault>
+    ensures renewed { (above : Node) → IsPassed (held_of descent.now.which above) passed.now
+        → RenewsAll K.Keep keep.old keep.new descent.now above children.items waiting.old.items
+        waiting.new.items result }
+    ensures few { IfOk result (λ written. written < 2 ^ 63) }
 {
-    let mut next: Vec<Node> = Vec::new(alloc);
+    let mut written: u64 = 0;
     'children: for child in children {
-        push_outdated(alloc, &mut next, above, passed, child, which)?;
+        written += renew_next(alloc, keep, descent, passed, child, waiting)?;
     }
-    Ok(next)
+    Ok(written)
 }
 
-// Puts the child with what it inherits behind the others, if it stores something else.
-fn push_outdated(
+// The same of one of them.
+fn renew_next<K: Keep>(
     alloc: Global,
-    next: &mut Vec<Node>,
-    above: &Node,
+    keep: &mut K,
+    descent: &Descent,
     passed: &Passed,
     child: Node,
-    which: Which,
-) -> Result<(), AllocError>
-    ensures { IsPassed (full_of (held_of which above.now)) passed.now
-        → OnOk result (next.new.items
-        ≡ next.old.items ++ option_to_list (renewal which above.now child)) }
+    waiting: &mut Vec<Node>,
+) -> Result<u64, SpreadFault>
+    ensures renewed { (above : Node) → IsPassed (held_of descent.now.which above) passed.now
+        → RenewsAll K.Keep keep.old keep.new descent.now above (child ∷ []) waiting.old.items
+        waiting.new.items result }
+    ensures one { IfOk result (λ written. written ≤ 1) }
 {
-    if let Some(held) = renewed_list(alloc, above, passed, &child, which)? {
-        let mut node = child;
-        node.set_held(which, held);
-        next.push(node)?;
+    let mut next = child;
+    let renews = renew(alloc, keep, descent.which, passed, &mut next)?;
+    put_if(
+        waiting,
+        next,
+        renews || matches!(&descent.reach, Reach::All),
+    )?;
+    Ok(if renews { 1 } else { 0 })
+}
+
+// Renews the child, if it is outdated, here and in the rows, and says whether it was.
+fn renew<K: Keep>(
+    alloc: Global,
+    keep: &mut K,
+    which: Which,
+    passed: &Passed,
+    child: &mut Node,
+) -> Result<bool, SpreadFault>
+    ensures renewed { (above : Node) → IsPassed (held_of which above) passed.now
+        → Renews K.Keep keep.old keep.new which above child.old child.new result }
+{
+    match renewed_list(alloc, passed, child, which)? {
+        None => Ok(false),
+        Some(held) => {
+            keep.set_inh(child.id, which, held.inh())?;
+            child.set_held(which, held);
+            Ok(true)
+        }
     }
-    Ok(())
 }
 
 // The list of the child with what it inherits, if it stores something else.
 fn renewed_list(
     alloc: Global,
-    above: &Node,
     passed: &Passed,
     child: &Node,
     which: Which,
 ) -> Result<Option<Held>, AllocError>
-    ensures { IsPassed (full_of (held_of which above.now)) passed.now
-        → IfOk result (λ held. held ≡ renewed_list which above.now child.now) }
+    ensures { (above : Node) → IsPassed (held_of which above) passed.now
+        → IfOk result (λ held. held ≡ renewed_list which above child.now) }
 {
+    let held = child.held(which);
     let entries = passed.to(child.kind);
-    if !takes_from(child, above, which) || stores(child.held(which), entries) {
+    if held.flags().protect || !passed.auto || stores(held, entries) {
         return Ok(None);
     }
-    Ok(Some(child.held(which).with_inh(alloc, entries.as_slice())?))
+    Ok(Some(held.with_inh(alloc, entries.as_slice())?))
+}
+
+// Puts the object behind the others, if it waits.
+fn put_if(waiting: &mut Vec<Node>, node: Node, waits: bool) -> Result<(), AllocError>
+    ensures { OnOk result (waiting.new.items
+        ≡ waiting.old.items ++ (if waits then node ∷ [] else [])) }
+{
+    if waits {
+        waiting.push(node)?;
+    }
+    Ok(())
 }

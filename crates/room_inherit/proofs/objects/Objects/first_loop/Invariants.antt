@@ -1,10 +1,16 @@
 use Rattle.std.proofs.Common.{◌≡◌, not, drop}
+use Rattle.std.specs.BTreeSet.{contains}
 use Rattle.std.specs.List.{find}
+use Rattle.std.specs.Ordering.{nat_cmp}
 use Rattle.room_rows.specs.declared.node.Node.{Node}
 use Rattle.room_inherit.specs.Sound.{reaches}
-use Rattle.room_inherit.specs.Objects.{only}
+use Rattle.room_inherit.specs.Objects.{AllLead, only}
 use Rattle.room_inherit.proofs.objects.Objects.first_loop.Given as goal
 
--- what is left has the same answer
+-- what is left has the same answer, and what is known leads to the root
 abbrev pub invariant-nodes : goal.invariant-nodes
-invariant-nodes l = find (λ (n : Node). not (reaches (only l.self) n)) (drop l.node-index l.node-items) ≡ find (λ (n : Node). not (reaches (only l.self) n)) l.self
+invariant-nodes l =
+    record {
+      same : find (λ (n : Node). not (reaches (only l.self) n)) (drop l.node-index l.node-items) ≡ find (λ (n : Node). not (reaches (only l.self) n)) l.self;
+      known : AllLead l.self (contains nat_cmp l.known);
+    }

@@ -1,0 +1,88 @@
+//! Lists carried down from an object, turn after turn.
+ghost use Rattle.std.specs.Prelude.{◌≡◌, [], Some};
+ghost use Rattle.room_inherit.specs.Spread.{Holds, SpreadsIf};
+ghost use Rattle.room_inherit.specs.SpreadAll.{IsRoot, SweepsIf};
+ghost use Rattle.room_inherit.specs.declared.descent.Reach.TheVariants.{Renewed, All};
+
+use crate::outcome::{Spread, SpreadFault};
+use crate::turn::visit;
+use room_ace::Which;
+use room_rows::{Keep, KeepFault, Node};
+use std::alloc::Global;
+
+/// To which children of an object it goes on.
+#[derive(Drop)]
+pub(crate) enum Reach {
+    /// To those that were renewed.
+    Renewed,
+    /// To all of them.
+    All,
+}
+
+/// Where it begins, which of the lists is carried down, and to whom.
+#[derive(Drop)]
+pub(crate) struct Descent {
+    pub(crate) start: u64,
+    pub(crate) which: Which,
+    pub(crate) reach: Reach,
+}
+
+/// Brings the stored inherited entries below an object of the rows up to date, for one of the
+/// lists. It goes on to the children that were renewed, or from the root to all.
+pub(crate) fn carry_down<K: Keep>(
+    alloc: Global,
+    keep: &mut K,
+    start: &Node,
+    which: Which,
+    reach: Reach,
+) -> Result<Spread, SpreadFault>
+    ensures spread { reach ≡ Renewed
+        → SpreadsIf K.Keep keep.old keep.new (Holds start.now) which start.now.id result }
+    ensures sweep { reach ≡ All
+        → SweepsIf K.Keep keep.old keep.new (IsRoot start.now) which result }
+{
+    let descent = Descent {
+        start: start.id,
+        which,
+        reach,
+    };
+    let mut waiting = Vec::new(alloc);
+    go_down(alloc, keep, start, &descent, &mut waiting)
+}
+
+// The turns, of which the first is that of the start. How many there are at most is asked where
+// some objects wait after it.
+fn go_down<K: Keep>(
+    alloc: Global,
+    keep: &mut K,
+    start: &Node,
+    descent: &Descent,
+    waiting: &mut Vec<Node>,
+) -> Result<Spread, SpreadFault>
+    ensures spread { waiting.old.items ≡ [] → start.now.id ≡ descent.now.start
+        → descent.now.reach ≡ Renewed → SpreadsIf K.Keep keep.old keep.new
+        (Holds start.now) descent.now.which start.now.id result }
+    ensures sweep { waiting.old.items ≡ [] → start.now.id ≡ descent.now.start
+        → descent.now.reach ≡ All → SweepsIf K.Keep keep.old keep.new
+        (IsRoot start.now) descent.now.which result }
+{
+    let mut changed = visit(alloc, keep, descent, start, waiting)?;
+    if waiting.is_empty() {
+        return Ok(Spread { changed });
+    }
+    let most = keep.ids()?.as_slice().len();
+    'turns: for _turn in 1..most {
+        let Some(above) = waiting.pop() else {
+            return Ok(Spread { changed });
+        };
+        let visited = visit(alloc, keep, descent, &above, waiting);
+        // Let go here, and so not part by part on each way out.
+        drop(above);
+        changed = changed.saturating_add(visited?);
+    }
+    if waiting.is_empty() {
+        Ok(Spread { changed })
+    } else {
+        Err(SpreadFault::Keeper(KeepFault::Damaged { id: descent.start }))
+    }
+}
