@@ -98,6 +98,20 @@ fn set_list_writes(rt: HostRuntime) -> Result<(), Fail> {
     play_counted(rt.alloc(), &[DEEP], FOLLOWING)
 }
 
+// What stands there already. A document gets its bytes whatever they are; a move writes a place.
+const NO_OTHER: &str = "\
+root SetOwners /a root:staff => done
+root AppendMany /a/d 0 => done
+root Put /a/d hi => done # writes 1, records 0
+root Move /a/d /a/e => done # writes 1, records 0
+root Move /a /z => done # writes 1, records 0
+";
+
+#[test]
+fn same_writes_nothing(rt: HostRuntime) -> Result<(), Fail> {
+    play_counted(rt.alloc(), &[DEEP], NO_OTHER)
+}
+
 // What each other served request writes: the object, and the lists that become different below.
 const SERVED: &str = "\
 root MakeFolder /q => made # writes 1, records 0

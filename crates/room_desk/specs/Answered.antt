@@ -1,7 +1,8 @@
 -- What is answered from the rows, or done to them, once an object was reached.
-use Rattle.std.specs.Prelude.{◌≡◌, ℕ, List, Some, map}
+use Rattle.std.specs.Prelude.{◌≡◌, ℕ, ◌⊎◌, List, [], Some, map}
 use Rattle.room_rows.specs.Content.{body_of, children_of}
 use Rattle.room_ace.specs.declared.parties.Owners.{Owners}
+use Rattle.room_rows.specs.declared.node.Node.{Node}
 use Rattle.room_rows.specs.Keep.{Changes, with_owners}
 use Rattle.room_rows.specs.Rows.{Rows}
 use Rattle.room_machine.specs.declared.reply.Reply.{Reply}
@@ -13,12 +14,14 @@ pub record IsBytesOf (id : ℕ) (rows : Rows) (reply : Reply) : Type 0 where
   pub are : body_of rows.read id ≡ Some bytes
   pub reply_is : reply ≡ Bytes bytes
 
--- the names and kinds of the children of the folder of this number
+-- the names and kinds of the children of the folder of this number, where all rows can be read
 abbrev pub AreNamesOf : ℕ → Rows → Reply → Type 0
 AreNamesOf id rows reply =
-    reply ≡ Names (map (λ node. (node.name, node.kind)) (children_of rows.read id))
+    rows.unreadable ≡ []
+    → reply ≡ Names (map (λ node. (node.name, node.kind)) (children_of rows.read id))
 
--- the object of this number has these owners
-abbrev pub SetsOwners : ℕ → Owners → Rows → Reply → Rows → Type 0
-SetsOwners id owners old reply new =
-    (reply ≡ Done) × Changes id (with_owners owners) old new
+-- the object had these owners already, or has them now
+abbrev pub SetsOwners : Node → Owners → Rows → Reply → Rows → Type 0
+SetsOwners node owners old reply new =
+    (reply ≡ Done)
+    × (((owners ≡ node.owners) × (new ≡ old)) ⊎ Changes node.id (with_owners owners) old new)

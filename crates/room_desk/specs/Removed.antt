@@ -1,5 +1,5 @@
 -- What becomes of an object that a caller asks to be removed.
-use Rattle.std.specs.Prelude.{ℕ, Bool, not, List, Option, Some, None, if◌then◌else◌}
+use Rattle.std.specs.Prelude.{◌≡◌, ℕ, Bool, not, List, [], Option, Some, None, if◌then◌else◌}
 use Rattle.room_rows.specs.Content.{children_of, is_empty}
 use Rattle.room_rows.specs.Keep.{Removes}
 use Rattle.room_rows.specs.Rows.{Rows}
@@ -17,7 +17,9 @@ has_children path rows id = Refusal path NotEmpty (not (is_empty (children_of ro
 abbrev pub refused_unless : Bool → List (List ℕ) → Option Reply
 refused_unless has_none path = if has_none then None else Some (Refused path NotEmpty)
 
--- An object without children is removed, and any other is refused.
+-- An object without children is removed, and any other is refused, where all rows can be read.
 abbrev pub RemovesChildless : List (List ℕ) → ℕ → Rows → Reply → Rows → Type 0
 RemovesChildless path id old reply new =
-    Ends Done (Removes id) (refused_unless (is_empty (children_of old.read id)) path) old reply new
+    old.unreadable ≡ []
+    → Ends Done (Removes id) (refused_unless (is_empty (children_of old.read id)) path)
+    old reply new

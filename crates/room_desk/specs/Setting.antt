@@ -11,7 +11,6 @@ use Rattle.std.specs.Prelude.{
   not,
   List,
   [],
-  ◌∷◌,
   filter,
   length,
   take,
@@ -23,7 +22,8 @@ use Rattle.std.specs.Prelude.{
 use Rattle.std.specs.Option.{option_map, option_map_or}
 use Rattle.room_ace.specs.Ace.{Ace}
 use Rattle.room_ace.specs.Sent.{Sent, inherited_of, limit_fault, own_of}
-use Rattle.room_ace.specs.declared.fault.ListFault.{ListFault}
+use Rattle.room_ace.specs.Valid.{first_bad_entry}
+use Rattle.room_ace.specs.declared.fault.EntryFault.{EntryFault}
 use Rattle.room_ace.specs.declared.flags.ListFlags.{ListFlags}
 use Rattle.room_ace.specs.declared.object.ObjKind.{ObjKind}
 use Rattle.room_ace.specs.declared.object.ObjKind.TheVariants.{Document, Folder}
@@ -43,18 +43,17 @@ use Rattle.room_machine.specs.declared.reply.Reason.TheVariants.{BadList, NoSuch
 use Rattle.room_machine.specs.declared.reply.Reply.{Reply}
 use Rattle.room_machine.specs.declared.reply.Reply.TheVariants.{Done, Refused}
 use Rattle.room_machine.specs.Effect.{set_list}
-use Rattle.room_machine.specs.Plan.{first_invalid}
 use Rattle.room_machine.specs.Site.{Site}
 
 -- ---- the sent entries
 
-abbrev pub reason_of : List (ℕ × ListFault) → Option Reason
-reason_of [] = None
-reason_of (first ∷ others) = Some (BadList first.0 first.1)
+abbrev pub reason_of : Option EntryFault → Option Reason
+reason_of None = None
+reason_of (Some fault) = Some (BadList fault.place fault.why)
 
 -- why a list may not be set: its first entry that may not stand there
 abbrev pub fault_in : ℕ → Which → ObjKind → List Ace → Option Reason
-fault_in place which kind entries = reason_of (first_invalid place which kind entries)
+fault_in place which kind entries = reason_of (first_bad_entry place which kind entries)
 
 -- the entries with the flag of inherited ones, or those without it
 abbrev pub marked : Bool → List Ace → List Ace

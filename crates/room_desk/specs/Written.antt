@@ -14,9 +14,10 @@ use Rattle.std.specs.Prelude.{
   nat_lt,
   if◌then◌else◌,
 }
+use Rattle.room_ace.specs.declared.limits.TheConstants.{MOST_BYTES}
 use Rattle.room_rows.specs.Content.{body_of}
 use Rattle.room_rows.specs.Keep.{IsUnreadable, SetsBody}
-use Rattle.room_rows.specs.Rows.{Rows}
+use Rattle.room_rows.specs.Rows.{Rows, AreRows}
 use Rattle.room_machine.specs.declared.reply.Reply.{Reply}
 use Rattle.room_machine.specs.declared.reply.Reply.TheVariants.{Done, Refused}
 use Rattle.room_machine.specs.declared.reply.Reason.TheVariants.{TooLarge}
@@ -26,11 +27,15 @@ abbrev pub TakesBytes : Bool → ℕ → List ℕ → Rows → Rows → Type 0
 TakesBytes true id bytes old new = new ≡ old
 TakesBytes false id bytes old new = SetsBody id bytes old new
 
+-- what is told of a document that is to have so many bytes
+abbrev pub sized_reply : List (List ℕ) → ℕ → Reply
+sized_reply path size = if nat_lt MOST_BYTES size then Refused path TooLarge else Done
+
 -- A document gets these bytes, if there aren't too many.
 pub record IsPut (path : List (List ℕ)) (id : ℕ) (bytes : List ℕ) (old : Rows) (reply : Reply)
     (new : Rows) : Type 0 where
-  pub replies : reply ≡ (if nat_lt 1048576 (length bytes) then Refused path TooLarge else Done)
-  pub becomes : TakesBytes (nat_lt 1048576 (length bytes)) id bytes old new
+  pub replies : reply ≡ sized_reply path (length bytes)
+  pub becomes : TakesBytes (nat_lt MOST_BYTES (length bytes)) id bytes old new
 
 -- A document gets these bytes behind those that it has.
 pub record IsAppended (path : List (List ℕ)) (id : ℕ) (bytes : List ℕ) (old : Rows) (reply : Reply)
@@ -38,6 +43,11 @@ pub record IsAppended (path : List (List ℕ)) (id : ℕ) (bytes : List ℕ) (ol
   pub before : List ℕ
   pub were : body_of old.read id ≡ Some before
   pub put : IsPut path id (before ++ bytes) old reply new
+
+-- the same, of a document that has those
+abbrev pub Extends : List (List ℕ) → ℕ → List ℕ → List ℕ → Rows → Reply → Rows → Type 0
+Extends path id before bytes old reply new =
+    AreRows old → body_of old.read id ≡ Some before → IsPut path id (before ++ bytes) old reply new
 
 -- a row that can't be read, or no bytes of this number
 abbrev pub HasNoBytes : ℕ → Rows → ℕ → Type 0

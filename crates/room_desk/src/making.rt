@@ -22,8 +22,8 @@ ghost use Rattle.room_machine.specs.declared.reply.Reason.TheVariants.{Exists};
 ghost use Rattle.room_machine.specs.declared.reply.Reply.TheVariants.{Done, Made};
 ghost use Rattle.room_machine.specs.declared.request.Request.TheVariants.{MakeFolder, Put};
 
-use crate::writing::{MOST_BYTES, put_bytes};
-use room_ace::{Entries, ListFlags, Mask, Name, ObjKind, Owners};
+use crate::writing::put_bytes;
+use room_ace::{Entries, ListFlags, MOST_BYTES, Mask, Name, ObjKind, Owners};
 use room_inherit::pass;
 use room_judge::{Asker, Found, Spot, check, check_kind, refused, walk_to_spot};
 use room_machine::{Reason, Reply};

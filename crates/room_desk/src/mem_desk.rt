@@ -1,6 +1,7 @@
 //! A desk over a keeper in memory.
 ghost use Rattle.std.specs.Prelude.{◌≡◌, IfOk, ⊤, refl};
 ghost use Rattle.std.specs.Option.{option_copied};
+ghost use Rattle.room_rows.specs.Keep.{one_more};
 ghost use Rattle.room_desk.specs.Memory.{content_in, IsSoundKeep, Tries};
 
 use crate::performing::perform;
@@ -80,11 +81,18 @@ impl Desk for MemDesk {
                 Ok(reply)
             }
             Err(_) => {
-                self.faults = self.faults.saturating_add(1);
+                self.faults = one_more(self.faults);
                 Err(DeskFault)
             }
         }
     }
 
     ghost keeps = { λ desk. (content_in desk.keep, refl) };
+}
+
+// One more than the count, as long as there are numbers.
+fn one_more(count: u64) -> u64
+    ensures { result ≡ one_more count }
+{
+    count.saturating_add(1)
 }

@@ -16,7 +16,7 @@ ghost use Rattle.room_judge.specs.Stored.{found_site};
 ghost use Rattle.room_machine.specs.declared.reply.Reason.TheVariants.{Exists};
 ghost use Rattle.room_machine.specs.declared.request.Request.TheVariants.{Move};
 
-use crate::moved::{check_free, place_at};
+use crate::placing::{check_free, place_at};
 use room_ace::Mask;
 use room_judge::{
     Arrival, Asker, Found, Pair, check, check_deletion, pass_through, refused, walk_along,

@@ -1,4 +1,6 @@
 //! The request that sets owners.
+ghost use Rattle.std.specs.Prelude.{◌≡◌, ◌&&◌, IfOk};
+ghost use Rattle.room_ace.specs.Pieces.{same_text};
 ghost use Rattle.room_rows.specs.Keep.{IsDamaged, IsUnreadable};
 ghost use Rattle.room_judge.specs.Judged.{CarriesOut, Does};
 ghost use Rattle.room_desk.specs.Answered.{SetsOwners};
@@ -7,7 +9,7 @@ ghost use Rattle.room_machine.specs.declared.request.Request.TheVariants.{SetOwn
 use room_ace::{Mask, Owners};
 use room_judge::{Arrival, Asker, reach};
 use room_machine::Reply;
-use room_rows::{Keep, KeepFault, Path};
+use room_rows::{Keep, KeepFault, Node, Path};
 use std::alloc::Global;
 
 /// Gives an object another owner and group.
@@ -24,14 +26,28 @@ pub(crate) fn set_owners<K: Keep>(
     let arrival = reach(alloc, keep, asker, path, Mask::write_owner())?;
     match arrival {
         Arrival::Ended(reply) => Ok(reply),
-        Arrival::At(node) => set_at(keep, node.id, owners),
+        Arrival::At(node) => set_at(keep, &node, owners),
     }
 }
 
-// Gives the object of this number these owners.
-fn set_at<K: Keep>(keep: &mut K, id: u64, owners: &Owners) -> Result<Reply, KeepFault>
-    ensures done { Does K.Keep keep.old keep.new result IsUnreadable (SetsOwners id owners.now) }
+// Gives the object these owners. Where they are what it has, nothing is written.
+fn set_at<K: Keep>(keep: &mut K, node: &Node, owners: &Owners) -> Result<Reply, KeepFault>
+    ensures done { Does K.Keep keep.old keep.new result IsUnreadable
+        (SetsOwners node.now owners.now) }
+    ensures quiet { owners.now ≡ node.now.owners → IfOk result
+        (λ _. K.writes keep.new ≡ K.writes keep.old) }
 {
-    keep.set_owners(id, owners)?;
+    if are_same(owners, &node.owners) {
+        return Ok(Reply::Done);
+    }
+    keep.set_owners(node.id, owners)?;
     Ok(Reply::Done)
+}
+
+// Whether they are the same two names.
+fn are_same(owners: &Owners, others: &Owners) -> bool
+    ensures { result ≡ (same_text owners.now.owner others.now.owner
+        && same_text owners.now.group others.now.group) }
+{
+    owners.owner.as_str() == others.owner.as_str() && owners.group.as_str() == others.group.as_str()
 }

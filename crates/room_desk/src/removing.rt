@@ -1,5 +1,5 @@
 //! The request that removes an object.
-ghost use Rattle.std.specs.Prelude.{[], ◌∷◌, ◌<◌, length};
+ghost use Rattle.std.specs.Prelude.{◌≡◌, [], ◌∷◌, ◌<◌, length};
 ghost use Rattle.room_rows.specs.Keep.{IsDamaged, IsUnreadable, Removes};
 ghost use Rattle.room_judge.specs.Judged.{CarriesOut, Does};
 ghost use Rattle.room_machine.specs.Plan.{Deletion};
@@ -59,9 +59,10 @@ fn remove_from<K: Keep>(
     folder: &Found,
 ) -> Result<Reply, KeepFault>
     ensures done { Does K.Keep keep.old keep.new result IsUnreadable
-        (λ old. IsServed asker.now (Deletion (found_site path.now target.now)
-        (found_site path.now folder.now) ∷ has_children path.now old target.now.node.id ∷ [])
-        Done (Removes target.now.node.id) old) }
+        (λ old reply new. old.unreadable ≡ [] → IsServed asker.now (Deletion
+        (found_site path.now target.now) (found_site path.now folder.now)
+        ∷ has_children path.now old target.now.node.id ∷ []) Done (Removes target.now.node.id)
+        old reply new) }
 {
     let refusal = check_deletion(alloc, keep, asker, path, target, folder)?;
     match refusal {

@@ -22,7 +22,7 @@ ghost use Rattle.room_desk.specs.Setting.{
 ghost use Rattle.room_machine.specs.declared.request.Request.TheVariants.{SetList};
 
 use crate::carrying::carry_down;
-use room_ace::{Entries, Entry, ListFlags, Mask, ObjKind, SentList, Which, valid};
+use room_ace::{Entries, Entry, ListFlags, Mask, ObjKind, SentList, Which, first_bad_entry};
 use room_inherit::pass;
 use room_judge::{Arrival, Asker, reach, refused};
 use room_machine::{Reason, Reply};
@@ -74,18 +74,13 @@ pub(crate) fn set_found<K: Keep>(
 fn bad_entry(entries: &[Entry], which: Which, kind: ObjKind) -> Option<Reason>
     ensures { result ≡ fault_in 1 which kind entries.now }
 {
-    'entries: for (index, entry) in entries.iter().enumerate() {
-        match valid(entry, which, kind) {
-            Ok(()) => {}
-            Err(fault) => {
-                return Some(Reason::BadList {
-                    place: index + 1,
-                    fault,
-                });
-            }
-        }
+    match first_bad_entry(entries, which, kind) {
+        None => None,
+        Some(fault) => Some(Reason::BadList {
+            place: fault.place,
+            fault: fault.why,
+        }),
     }
-    None
 }
 
 // Sets the list of an object, and carries it down where it passes entries on. Where the list is

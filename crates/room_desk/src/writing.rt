@@ -1,18 +1,15 @@
 //! Requests that change the bytes of documents.
-ghost use Rattle.std.specs.Prelude.{◌≡◌, ◌++◌, IfOk};
+ghost use Rattle.std.specs.Prelude.{◌≡◌, [], ◌++◌, IfOk};
 ghost use Rattle.room_rows.specs.Keep.{IsDamaged, IsUnreadable};
 ghost use Rattle.room_judge.specs.Judged.{CarriesOut, Does};
-ghost use Rattle.room_desk.specs.Written.{HasNoBytes, IsAppended, IsPut};
+ghost use Rattle.room_desk.specs.Written.{Extends, HasNoBytes, IsAppended, IsPut, sized_reply};
 ghost use Rattle.room_machine.specs.declared.request.Request.TheVariants.{Append};
 
-use room_ace::{Mask, ObjKind};
+use room_ace::{MOST_BYTES, Mask, ObjKind};
 use room_judge::{Arrival, Asker, reach_kind, refused};
 use room_machine::{Reason, Reply};
 use room_rows::{Bytes, Keep, KeepFault, Path};
 use std::alloc::{AllocError, Global};
-
-/// The most bytes that a document has.
-pub(crate) const MOST_BYTES: usize = 1_048_576;
 
 /// Adds bytes at the end of a document.
 pub(crate) fn append<K: Keep>(
@@ -53,10 +50,40 @@ fn append_at<K: Keep>(
     let body = keep.body(id)?;
     match body {
         None => Err(KeepFault::Damaged { id }),
-        Some(before) => {
-            let joined = join(before, bytes)?;
-            put_bytes(alloc, keep, path, id, joined.as_slice())
-        }
+        Some(before) => extend(alloc, keep, path, id, before, bytes),
+    }
+}
+
+// Adds the bytes to those that the document of this number has. Where there are none to add,
+// nothing is written.
+fn extend<K: Keep>(
+    alloc: Global,
+    keep: &mut K,
+    path: &Path,
+    id: u64,
+    before: Bytes,
+    bytes: &Bytes,
+) -> Result<Reply, KeepFault>
+    ensures done { Does K.Keep keep.old keep.new result IsUnreadable
+        (Extends path.now id before bytes.now) }
+    ensures quiet { bytes.now ≡ [] → IfOk result (λ _. K.writes keep.new ≡ K.writes keep.old) }
+{
+    let are_none = bytes.as_slice().is_empty();
+    if are_none {
+        return Ok(sized_reply(alloc, path, before.len())?);
+    }
+    let joined = join(before, bytes)?;
+    put_bytes(alloc, keep, path, id, joined.as_slice())
+}
+
+// What is told of a document that is to have so many bytes.
+fn sized_reply(alloc: Global, path: &Path, size: usize) -> Result<Reply, AllocError>
+    ensures { IfOk result (λ reply. reply ≡ sized_reply path.now size) }
+{
+    if size > MOST_BYTES {
+        refused(alloc, path, path.names().len(), Reason::TooLarge)
+    } else {
+        Ok(Reply::Done)
     }
 }
 

@@ -18,7 +18,7 @@ use Rattle.room_machine.specs.declared.reply.Reason.TheVariants.{NoSuch}
 use Rattle.room_machine.specs.Site.{Site, site_at}
 use Rattle.room_machine.specs.Plan.{Item, Refusal, way, where_found}
 use Rattle.room_judge.specs.Stored.{stored_site, stored_from, stored_along, found_site, to_stored}
-use Rattle.room_judge.specs.Judged.{IsJudged, IsStepDown, IsReached, FindsNext, IfAt, StepsOn, ended, name_after, through, arrival_of}
+use Rattle.room_judge.specs.Judged.{IsJudged, IsStepDown, IsReached, FindsNext, GoesOn, IfAt, StepsOn, ended, name_after, through, arrival_of}
 use Rattle.room_judge.proofs.Judging.{SoFar, fails_first, passes_first, judged_none, refuses, passes_on, so_far_none, so_far_as, so_far_on, so_far_fails, so_far_last}
 
 -- ---- one step
@@ -38,10 +38,10 @@ module _ (asker : Asker) (path : List (List ℕ)) (from : Found) (below : from.d
   abbrev site : Site
   site = found_site path from
 
-  pub step_ends : (old new : Rows) (reply : Reply) → IsJudged asker (through site) old (Some reply) new → IsStepDown asker path from old (Ended reply) new
+  step_ends : (old new : Rows) (reply : Reply) → IsJudged asker (through site) old (Some reply) new → IsStepDown asker path from old (Ended reply) new
   step_ends old new reply judged = record { judged = fails_first asker (through site) (Refusal (site.path ++ name ∷ []) NoSuch (is_none (child_of old.read from.node.id name)) ∷ []) old new reply judged; found = tt }
 
-  pub step_goes_on : (old mid new : Rows) (arrival : Arrival) → IsJudged asker (through site) old None mid → FindsNext path from mid arrival new → IsStepDown asker path from old arrival new
+  step_goes_on : (old mid new : Rows) (arrival : Arrival) → IsJudged asker (through site) old None mid → FindsNext path from mid arrival new → IsStepDown asker path from old arrival new
   step_goes_on old mid new arrival judged finds =
       let same_child : child_of mid.read from.node.id name ≡ child_of old.read from.node.id name = ap (λ (r : Rows). child_of r.read from.node.id name) judged.notes in
       record {
@@ -56,6 +56,11 @@ module _ (asker : Asker) (path : List (List ℕ)) (from : Found) (below : from.d
       moved : (arrival : Arrival) → IfAt arrival (λ next. child_of mid.read from.node.id name ≡ Some next) → IfAt arrival (λ next. child_of old.read from.node.id name ≡ Some next)
       moved (At next) h = sym (ap (λ (r : Rows). child_of r.read from.node.id name) judged.notes) ∙ h
       moved (Ended reply) h = tt
+
+  pub step_taken : (old mid new : Rows) (refusal : Option Reply) (arrival : Arrival) → IsJudged asker (through site) old refusal mid → GoesOn path from refusal mid arrival new → IsStepDown asker path from old arrival new
+  step_taken old mid new None arrival judged goes = step_goes_on old mid new arrival judged goes
+  step_taken old mid new (Some reply) arrival judged goes =
+      subst (λ (a : Arrival). IsStepDown asker path from old a new) (sym goes.0) (step_ends old new reply (subst (λ (r : Rows). IsJudged asker (through site) old (Some reply) r) (sym goes.1) judged))
 
 -- the name that is read off the path
 pub name_read : (path names : List (List ℕ)) (i : ℕ) (name text : List ℕ) → names ≡ path → i < length path → name ≡ get_or names i name → text ≡ name → text ≡ name_after path i

@@ -131,6 +131,11 @@ pub record FindsNext (path : List (List ℕ)) (from : Found) (old : Rows) (arriv
       ≡ (if is_none (child_below path from old) then Some (no_such path from) else None)
   pub found : IfAt arrival (λ next. child_below path from old ≡ Some next)
 
+-- a refusal ends the walk, and without one it goes on to the child of the next name
+abbrev pub GoesOn : List (List ℕ) → Found → Option Reply → Rows → Arrival → Rows → Type 0
+GoesOn path from None old arrival new = FindsNext path from old arrival new
+GoesOn path from (Some reply) old arrival new = (arrival ≡ Ended reply) × (new ≡ old)
+
 -- One step down the way: it passes through the object, and finds the child of the next name.
 pub record IsStepDown (asker : Asker) (path : List (List ℕ)) (from : Found) (old : Rows)
     (arrival : Arrival) (new : Rows) : Type 0 where

@@ -1,7 +1,6 @@
 //! One check of bits on an object, and the records that it calls for.
 ghost use Rattle.std.specs.Prelude.{◌≡◌, ◌-◌, [], ◌∷◌, IfOk, option_and_then, slice_get, take};
 ghost use Rattle.room_rows.specs.Keep.{IsNever};
-ghost use Rattle.room_rows.specs.Paths.{path_text};
 ghost use Rattle.room_machine.specs.Judge.{denied_at, kind_at, of_verdict, record_at, records_of};
 ghost use Rattle.room_machine.specs.Plan.{Check};
 ghost use Rattle.room_machine.specs.declared.reply.Reply.TheVariants.{Refused};
@@ -98,14 +97,6 @@ fn record_kind(entries: &[Entry], place: usize) -> RecordKind
     }
 }
 
-// The text of the path of the first names.
-fn text_of(alloc: Global, path: &Path, depth: usize) -> Result<Text, AllocError>
-    ensures { IfOk result (λ text. text ≡ path_text (take depth path.now)) }
-{
-    let front = path.front(alloc, depth)?;
-    Ok(Text::from_string(front.to_text(alloc)?))
-}
-
 // The record of a check that the entry at this place of the object's sacl calls for.
 fn row_of(
     alloc: Global,
@@ -124,7 +115,7 @@ fn row_of(
     Ok(AuditRow {
         at: asker.at,
         user,
-        path: text_of(alloc, path, found.depth)?,
+        path: Text::from_string(path.front_text(alloc, found.depth)?),
         bits,
         granted,
         place,

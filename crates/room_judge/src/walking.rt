@@ -4,6 +4,7 @@ ghost use Rattle.room_rows.specs.Keep.{HasNoRoot, IsNever, IsUnreadable};
 ghost use Rattle.room_judge.specs.Judged.{
   Does,
   FindsNext,
+  GoesOn,
   IsJudged,
   IsReached,
   IsStepDown,
@@ -55,6 +56,21 @@ fn step_down<K: Keep>(
         (IsStepDown asker.now path.now found.now) }
 {
     let refusal = pass_through(alloc, keep, asker, path, found)?;
+    go_on(alloc, keep, path, found, refusal)
+}
+
+// The refusal ends the walk. Where there is none, it goes on to the child of the next name.
+fn go_on<K: Keep>(
+    alloc: Global,
+    keep: &mut K,
+    path: &Path,
+    found: &Found,
+    refusal: Option<Reply>,
+) -> Result<Arrival, KeepFault>
+    requires { found.now.depth < length path.now }
+    ensures done { Does K.Keep keep.old keep.new result IsUnreadable
+        (GoesOn path.now found.now refusal) }
+{
     match refusal {
         Some(reply) => Ok(Arrival::Ended(reply)),
         None => find_next(alloc, keep, path, found),

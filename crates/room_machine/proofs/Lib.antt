@@ -1,5 +1,4 @@
-pub mod Worlds
-pub mod Rows
+pub mod Worked
 pub mod Replies
 pub mod Hiding
 pub mod Free

@@ -6,11 +6,9 @@ use Rattle.std.specs.List.{list_any}
 use Rattle.std.specs.Option.{option_map_or}
 use Rattle.room_ace.specs.Rights.{read_data, write_data, append_data, execute, read_attributes}
 use Rattle.room_ace.specs.Rights.{read_acl, write_acl, write_owner}
-use Rattle.room_ace.specs.Ace.{Ace}
-use Rattle.room_ace.specs.Valid.{entry_fault, is_document}
-use Rattle.room_ace.specs.declared.object.ObjKind.{ObjKind}
-use Rattle.room_ace.specs.declared.object.Which.{Which}
-use Rattle.room_ace.specs.declared.fault.ListFault.{ListFault}
+use Rattle.room_ace.specs.Valid.{first_bad_entry, is_document}
+use Rattle.room_ace.specs.declared.fault.EntryFault.{EntryFault}
+use Rattle.room_ace.specs.declared.limits.TheConstants.{MOST_BYTES}
 use Rattle.room_rows.specs.declared.node.Node.{Node}
 use Rattle.room_rows.specs.Content.{Content, is_empty, is_folder, children_of, child_of, body_of}
 use Rattle.room_machine.specs.declared.request.Request.{Request}
@@ -57,17 +55,12 @@ abbrev pub no_document : Site → Item
 no_document site = Refusal site.path WrongKind (not (is_folder site.node))
 
 abbrev pub not_over : List (List ℕ) → ℕ → Item
-not_over path size = Refusal path TooLarge (nat_lt 1048576 size)
+not_over path size = Refusal path TooLarge (nat_lt MOST_BYTES size)
 
--- the first entry that may not stand in the list, by its place
-abbrev pub first_invalid : ℕ → Which → ObjKind → List Ace → List (ℕ × ListFault)
-first_invalid place which kind [] = []
-first_invalid place which kind (entry ∷ entries) = option_map_or (λ fault. (place, fault) ∷ [])
-    (entry_fault entry which kind) (first_invalid (place + 1) which kind entries)
-
-abbrev pub bad_list : List (List ℕ) → List (ℕ × ListFault) → List Item
-bad_list path [] = []
-bad_list path (first ∷ others) = Refusal path (BadList first.0 first.1) true ∷ []
+-- the refusal for an entry that may not stand in the list, by its place
+abbrev pub bad_list : List (List ℕ) → Option EntryFault → List Item
+bad_list path None = []
+bad_list path (Some fault) = Refusal path (BadList fault.place fault.why) true ∷ []
 
 -- what a new place needs: w for a document, a for a folder
 abbrev pub right_to_add : Node → ℕ
@@ -132,7 +125,7 @@ plan_of content (ReadList path which) = to_target content path
     (λ target. Check target (read_acl ∷ []) ∷ [])
 plan_of content (SetList path which sent) = to_target content path
     (λ target. Check target (write_acl ∷ [])
-    ∷ bad_list path (first_invalid 1 which target.node.kind sent.entries))
+    ∷ bad_list path (first_bad_entry 1 which target.node.kind sent.entries))
 plan_of content (ReadAttr path) = to_target content path
     (λ target. Check target (read_attributes ∷ []) ∷ [])
 plan_of content (SetOwners path owners) = to_target content path

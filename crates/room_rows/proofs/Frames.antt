@@ -1,9 +1,9 @@
 -- What a change of a content leaves, and what is found in it.
-use Rattle.std.proofs.Common.{◌≡◌, ℕ, ◌<◌, ◌==◌, ◌&&◌, Bool, true, false, List, [], ◌∷◌, map, filter, Option, Some, None, refl, sym, ap, subst, ◌∙◌, inl, inr, arith}
+use Rattle.std.proofs.Common.{◌≡◌, ℕ, ◌<◌, ◌==◌, nat_lt, ◌&&◌, Bool, true, false, List, [], ◌∷◌, map, filter, Option, Some, None, refl, sym, ap, subst, ◌∙◌, inl, inr, arith}
 use Rattle.std.specs.Prelude.{IsTrue, is_none, not}
 use Rattle.std.specs.List.{All, AllByRecursion, Contains}
 use Rattle.std.specs.Option.{option_map, option_map_or, option_and_then}
-use Rattle.std.proofs.lemmas.Bool.{and_parts, cases_Bool, cases_order, cond-true, cond-false, eqb-true, eq-eqb, ne_eqb, lt-ltb, le-ltb, false≢true, not_from_true, not_from_false}
+use Rattle.std.proofs.lemmas.Bool.{and_parts, cases_Bool, cases_order, cond-true, cond-false, eqb-true, eq-eqb, ne_eqb, lt-ltb, ltb-true, le-ltb, false≢true, not_from_true, not_from_false}
 use Rattle.std.proofs.lemmas.List.Elements.{All-from_recursion}
 use Rattle.std.proofs.lemmas.Slice.Eq.{bytes_eq-Decides}
 use Rattle.room_ace.specs.Ace.{Ace}
@@ -19,7 +19,7 @@ use Rattle.room_rows.specs.Held.{held_of, with_held}
 use Rattle.room_rows.specs.Keep.{with_inh, with_owners, with_place, reading}
 use Rattle.room_rows.specs.Rows.{Rows, AreRows, numbers_of, put_numbers}
 use Rattle.room_rows.proofs.Lookups as lookups
-use Rattle.room_rows.proofs.Lookups.{IsSamePlace, Stands, replaced}
+use Rattle.room_rows.proofs.Lookups.{IsSamePlace, Stands, not_none, put_there, replaced, same_some}
 
 -- the numbers of the objects rise from 1, as those of rows do
 abbrev pub Rises : Content → Type 0
@@ -361,3 +361,35 @@ body_of-with_body content id bytes = bytes_put id bytes content.bodies
 
 pub body_of-with_body-other : (content : Content) (id : ℕ) (bytes : List ℕ) (at : ℕ) → (at ≡ id → ⊥) → body_of (with_body content id bytes) at ≡ body_of content at
 body_of-with_body-other content id bytes at other = bytes_put-other id bytes content.bodies at other
+
+-- ---- what is there, put once more
+
+pub with_node-there : (content : Content) → Rises content → (node : Node) → node_at content node.id ≡ Some node → with_node content node ≡ content
+with_node-there content rises node there = ap (λ (nodes : List Node). record content { nodes = nodes }) (put_there 0 content.nodes node rises there)
+
+body_above : (k id : ℕ) (bytes : List ℕ) (rows : List (ℕ × List ℕ)) → is_rising (k ∷ map (λ row. row.0) rows) ≡ true → body_in rows id ≡ Some bytes → k < id
+body_above k id bytes [] rises found = absurd (not_none bytes found)
+body_above k id bytes (row ∷ rows) rises found =
+    let parts = and_parts (nat_lt k row.0) (is_rising (row.0 ∷ map (λ r. r.0) rows)) rises in
+    let up = ltb-true k row.0 parts.0 in
+    elim (cases_Bool (row.0 == id)) [
+      | inl is ↦ subst (λ n. k < n) (eqb-true row.0 id is) up
+      | inr isnt ↦ let next = body_above row.0 id bytes rows parts.1 (sym (body_no row rows id isnt) ∙ found) in omega (arith, up, next)
+    ]
+
+bytes_there : (k id : ℕ) (bytes : List ℕ) (rows : List (ℕ × List ℕ)) → is_rising (k ∷ map (λ row. row.0) rows) ≡ true → body_in rows id ≡ Some bytes → put_body id bytes rows ≡ rows
+bytes_there k id bytes [] rises found = absurd (not_none bytes found)
+bytes_there k id bytes (row ∷ rows) rises found =
+    let parts = and_parts (nat_lt k row.0) (is_rising (row.0 ∷ map (λ r. r.0) rows)) rises in
+    elim (cases_Bool (row.0 == id)) [
+      | inl is ↦
+          let e = eqb-true row.0 id is in
+          let same = same_some row.1 bytes (sym (body_yes row rows id is) ∙ found) in
+          bytes_here id bytes row rows e ∙ ap (λ (r : ℕ × List ℕ). r ∷ rows) (λ i. (sym e i, sym same i))
+      | inr isnt ↦
+          let later = sym (body_no row rows id isnt) ∙ found in
+          bytes_behind id bytes row rows (body_above row.0 id bytes rows parts.1 later) ∙ ap (λ (l : List (ℕ × List ℕ)). row ∷ l) (bytes_there row.0 id bytes rows parts.1 later)
+    ]
+
+pub with_body-there : (rows : Rows) → AreRows rows → (id : ℕ) (bytes : List ℕ) → body_of rows.read id ≡ Some bytes → with_body rows.read id bytes ≡ rows.read
+with_body-there rows are id bytes there = ap (λ (bodies : List (ℕ × List ℕ)). record rows.read { bodies = bodies }) (bytes_there 0 id bytes rows.read.bodies are.body_numbers there)

@@ -337,6 +337,20 @@ put-replaces k (x ∷ xs) id node new rises found same =
           ∙ sym (ap (λ (n : Node). n ∷ map (replaced new) xs) (replaced_elsewhere new x (λ e. absurd (omega (arith, below, e)))))
     ]
 
+-- an object that is there, put once more, leaves all as it is
+pub put_there : (k : ℕ) (nodes : List Node) (node : Node) → is_rising (k ∷ map (λ (n : Node). n.id) nodes) ≡ true → find_id node.id nodes ≡ Some node → put_node node nodes ≡ nodes
+put_there k [] node rises found = absurd (not_none node found)
+put_there k (x ∷ xs) node rises found =
+    let parts = and_parts (nat_lt k x.id) (is_rising (x.id ∷ map (λ (n : Node). n.id) xs)) rises in
+    elim (cases_Bool (x.id == node.id)) [
+      | inl is ↦
+          let here = same_some x node (sym (find_yes (λ (n : Node). n.id == node.id) x xs is) ∙ found) in
+          put_same node x xs (eqb-true x.id node.id is) ∙ ap (λ (n : Node). n ∷ xs) (sym here)
+      | inr isnt ↦
+          let later = sym (find_no (λ (n : Node). n.id == node.id) x xs isnt) ∙ found in
+          put_behind node x xs (found_above x.id xs node.id node parts.1 later) ∙ ap (λ (l : List Node). x ∷ l) (put_there x.id xs node parts.1 later)
+    ]
+
 place_of : (a b c : Node) → a ≡ b → IsSamePlace b c → IsSamePlace a c
 place_of a b c e same = subst (λ (n : Node). IsSamePlace n c) (sym e) same
 

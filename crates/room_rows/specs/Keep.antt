@@ -83,13 +83,17 @@ IsChildOf parent name rows found = found ≡ child_of rows.read parent name
 abbrev pub AreChildrenOf : ℕ → Rows → List Node → Type 0
 AreChildrenOf parent rows nodes = nodes ≡ children_of rows.read parent
 
--- the name and the kind of each child
+-- The name and the kind of each child. A keeper may answer from names and kinds alone; so where a
+-- row can't be read, which may be a child's, nothing is said.
 abbrev pub AreNamedUnder : ℕ → Rows → List (List ℕ × ObjKind) → Type 0
 AreNamedUnder parent rows names =
-    names ≡ map (λ node. (node.name, node.kind)) (children_of rows.read parent)
+    rows.unreadable ≡ []
+    → names ≡ map (λ node. (node.name, node.kind)) (children_of rows.read parent)
 
+-- the same of whether there is a child
 abbrev pub HasChildren : ℕ → Rows → Bool → Type 0
-HasChildren parent rows answer = answer ≡ not (is_empty (children_of rows.read parent))
+HasChildren parent rows answer =
+    rows.unreadable ≡ [] → answer ≡ not (is_empty (children_of rows.read parent))
 
 abbrev pub IsBodyOf : ℕ → Rows → Option (List ℕ) → Type 0
 IsBodyOf id rows body = body ≡ body_of rows.read id

@@ -1,4 +1,5 @@
 //! The objects along a path.
+ghost use Rattle.std.specs.Prelude.{◌≡◌, ◌-◌, ◌≤◌, length};
 ghost use Rattle.room_rows.specs.Calls.{Reads};
 ghost use Rattle.room_rows.specs.Keep.{HasNoRoot};
 ghost use Rattle.room_rows.specs.Walk.{IsWalk};
@@ -6,6 +7,7 @@ ghost use Rattle.room_rows.specs.Walk.{IsWalk};
 use crate::keep::{Keep, KeepFault};
 use crate::node::{Nodes, Walk};
 use crate::path::Path;
+use crate::text::Text;
 use std::alloc::Global;
 
 /// The objects that the path leads to, from the root on, and how many of its names are left over.
@@ -23,15 +25,21 @@ pub fn walk<K: Keep>(alloc: Global, keep: &mut K, path: &Path) -> Result<Walk, K
         let child = keep.child(node.id, name.as_str())?;
         chain.push(node)?;
         match child {
-            None => {
-                return Ok(Walk {
-                    chain,
-                    rest: names.len() - index,
-                });
-            }
+            None => return Ok(walked(chain, names, index)),
             Some(next) => node = next,
         }
     }
     chain.push(node)?;
-    Ok(Walk { chain, rest: 0 })
+    Ok(walked(chain, names, names.len()))
+}
+
+// The walk to these objects, which used so many of the names.
+fn walked(chain: Nodes, names: &[Text], used: usize) -> Walk
+    requires { used ≤ length names.now }
+    ensures { result ≡ record { chain = chain; rest = length names.now - used } }
+{
+    Walk {
+        chain,
+        rest: names.len() - used,
+    }
 }

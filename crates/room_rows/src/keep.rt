@@ -1,6 +1,7 @@
 //! What keeps the objects.
-ghost use Rattle.std.specs.Prelude.{◌≡◌, ℕ};
+ghost use Rattle.std.specs.Prelude.{◌≡◌, ℕ, Some};
 ghost use Rattle.room_rows.specs.declared.keep.KeepFault.TheVariants.{Memory};
+ghost use Rattle.room_rows.specs.Faults.{keep_fault_text};
 ghost use Rattle.room_rows.specs.Held.{with_held};
 ghost use Rattle.room_rows.specs.Keep.{
   Adds,
@@ -37,8 +38,10 @@ use crate::node::{AuditRow, NewNode, Node, Nodes, Numbers};
 use crate::text::Bytes;
 use room_ace::{Entry, Name, Names, Owners, Which};
 use std::alloc::AllocError;
+use std::fmt;
 
-/// Why a keeper gave no answer. The transaction round it is then given up.
+/// Why a keeper gave no answer. The transaction round it is then given up. It is displayed with the
+/// number of the damaged row, as `row 7 is damaged`.
 #[derive(Clone, Copy, Debug, PartialEq, Eq)]
 pub enum KeepFault {
     /// There was no memory.
@@ -51,6 +54,18 @@ pub enum KeepFault {
         /// The number.
         id: u64,
     },
+}
+
+impl fmt::Display for KeepFault {
+    ghost output = { λ fault. Some (keep_fault_text fault) };
+
+    fn fmt<W: fmt::Write>(&self, f: &mut fmt::Formatter<W>) -> fmt::Result {
+        match self {
+            KeepFault::Memory => f.write_str("out of memory"),
+            KeepFault::Store => f.write_str("the store failed"),
+            KeepFault::Damaged { id } => write!(f, "row {id} is damaged"),
+        }
+    }
 }
 
 impl From<AllocError> for KeepFault {
@@ -103,12 +118,14 @@ pub trait Keep {
         ensures read { IsRead rows failures writes Follows IsTrusted self.old self.new result
             IsUnreadable (AreChildrenOf parent) };
 
-    /// The names and kinds of the children, in order of name.
+    /// The names and kinds of the children, in order of name. It may be answered from names and
+    /// kinds alone, so a child whose row can't be read otherwise may be listed or left out: the
+    /// answer is promised where all rows can be read.
     fn listing(&mut self, parent: u64) -> Result<Listing, KeepFault>
         ensures read { IsRead rows failures writes Follows IsTrusted self.old self.new result
             IsUnreadable (AreNamedUnder parent) };
 
-    /// Whether there are children.
+    /// Whether there are children. As `listing`, it is promised where all rows can be read.
     fn has_children(&mut self, parent: u64) -> Result<bool, KeepFault>
         ensures read { IsRead rows failures writes Follows IsTrusted self.old self.new result
             IsUnreadable (HasChildren parent) };

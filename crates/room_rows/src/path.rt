@@ -123,16 +123,30 @@ impl Path {
     pub fn to_text(&self, alloc: Global) -> Result<String, AllocError>
         ensures { IfOk result (λ text. string_bytes text ≡ path_text self.now) }
     {
-        let mut text = String::new(alloc);
-        if self.names.is_empty() {
-            text.push('/')?;
-        }
-        for name in self.names.iter() {
-            text.push('/')?;
-            text.push_str(name.as_str())?;
-        }
-        Ok(text)
+        text_of(alloc, self.names())
     }
+
+    /// The text of the path of the first names, or of all of them where there are no more.
+    pub fn front_text(&self, alloc: Global, count: usize) -> Result<String, AllocError>
+        ensures { IfOk result (λ text. string_bytes text ≡ path_text (take count self.now)) }
+    {
+        text_of(alloc, &self.names()[..count.min(self.names.len())])
+    }
+}
+
+// The text of the path of these names.
+fn text_of(alloc: Global, names: &[Text]) -> Result<String, AllocError>
+    ensures { IfOk result (λ text. string_bytes text ≡ path_text names.now) }
+{
+    let mut text = String::new(alloc);
+    if names.is_empty() {
+        text.push('/')?;
+    }
+    for name in names {
+        text.push('/')?;
+        text.push_str(name.as_str())?;
+    }
+    Ok(text)
 }
 
 /// The path that the bytes spell: `/` alone for the root, or a `/` before each name.

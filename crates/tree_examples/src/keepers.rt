@@ -1,5 +1,6 @@
 //! Keepers in memory: what each call of the trait answers and leaves, and the calls that fail.
 use room_player::{Plan, faults_along, play_failing, plays};
+use room_rows::KeepFault;
 use std::alloc::Global;
 use std::test::Fail;
 
@@ -255,4 +256,16 @@ keeper Groups sales => groups
 #[test]
 fn members_join_and_leave(rt: HostRuntime) -> Result<(), Fail> {
     plays(rt.alloc(), &[GROUPS, MEMBERS])
+}
+
+#[test]
+fn keep_fault_texts(rt: HostRuntime) -> Result<(), Fail> {
+    for (fault, text) in [
+        (KeepFault::Memory, "out of memory"),
+        (KeepFault::Store, "the store failed"),
+        (KeepFault::Damaged { id: 7 }, "row 7 is damaged"),
+    ] {
+        assert_eq!(rt; format!(in rt.alloc(); "{fault}")?.as_str(), text);
+    }
+    Ok(())
 }

@@ -1,8 +1,7 @@
 use Rattle.std.proofs.Common.{[], refl, subst}
 use Rattle.room_judge.proofs.Calls.{none_done, finish, fails, memory, done}
-use Rattle.room_rows.specs.Rows.{Rows}
-use Rattle.room_desk.proofs.Blamed.{rootless_damaged}
-use Rattle.room_desk.proofs.Serving.{not_served, served_rulings}
+use Rattle.room_desk.proofs.Sound.Blamed.{rootless_damaged}
+use Rattle.room_desk.proofs.Steps.Serving.{not_served, served_rulings}
 use Rattle.room_judge.specs.Judged.{IsReached}
 use Rattle.room_judge.specs.declared.arrival.Arrival.{Arrival}
 use Rattle.room_machine.specs.declared.request.Request.TheVariants.{Can}

@@ -1,7 +1,7 @@
 use Rattle.std.proofs.Common.{ℕ, ◌≡◌, [], ◌∷◌, ◌++◌, List, ap, ◌∙◌, get_or}
 use Rattle.room_eval.specs.declared.outcome.Ruling.{Ruling}
 use Rattle.room_eval.specs.Verdict.{ruling_of}
-use Rattle.room_desk.proofs.AskedBits.{asked_more, is_asked}
+use Rattle.room_desk.proofs.Steps.AskedBits.{asked_more, is_asked}
 use Rattle.room_desk.proofs.asking.rulings_of.Goals as goal
 
 pub ruling-requires : goal.ruling-requires

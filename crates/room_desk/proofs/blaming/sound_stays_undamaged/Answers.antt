@@ -1,4 +1,4 @@
-use Rattle.room_desk.proofs.InTurn.{never_after}
+use Rattle.room_desk.proofs.Steps.InTurn.{never_after}
 use Rattle.room_desk.proofs.blaming.sound_stays_undamaged.Goals as goal
 
 pub returns : goal.returns

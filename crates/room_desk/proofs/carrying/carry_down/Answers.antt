@@ -1,4 +1,4 @@
-use Rattle.room_desk.proofs.CarriedDown.{carried_ok, carried_err}
+use Rattle.room_desk.proofs.Lists.CarriedDown.{carried_ok, carried_err}
 use Rattle.room_desk.proofs.carrying.carry_down.Goals as goal
 
 pub returns-in-Ok : goal.returns-in-Ok

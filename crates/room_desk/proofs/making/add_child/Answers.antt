@@ -1,7 +1,7 @@
 use Rattle.std.proofs.Common.{refl, subst}
 use Rattle.room_rows.specs.declared.node.NewNode.{NewNode}
 use Rattle.room_desk.specs.Made.{IsMade}
-use Rattle.room_judge.proofs.Calls.{none_done, finish, done, of_write}
+use Rattle.room_judge.proofs.Calls.{finish, done, of_write}
 use Rattle.room_machine.specs.declared.reply.Reply.TheVariants.{Made}
 use Rattle.room_desk.proofs.making.add_child.Goals as goal
 

@@ -1,10 +1,8 @@
-use Rattle.std.proofs.Common.{subst}
-use Rattle.room_rows.specs.Rows.{Rows}
 use Rattle.room_judge.specs.declared.arrival.Spot.TheVariants.{Under, Barred}
 use Rattle.room_judge.proofs.Calls.{none_done, tail_known, finish, fails, done}
-use Rattle.room_desk.proofs.FolderMade.{folder_barred, make_in}
-use Rattle.room_desk.proofs.ServedItems.{spotted_blames}
-use Rattle.room_desk.proofs.Blamed.{rootless_damaged}
+use Rattle.room_desk.proofs.Made.FolderMade.{folder_barred, make_in}
+use Rattle.room_desk.proofs.Made.ServedItems.{spotted_blames}
+use Rattle.room_desk.proofs.Sound.Blamed.{rootless_damaged}
 use Rattle.room_judge.proofs.Folders.{spotted_as}
 use Rattle.room_desk.proofs.making.make_below.Goals as goal
 

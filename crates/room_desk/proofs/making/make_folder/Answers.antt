@@ -1,6 +1,6 @@
 use Rattle.room_judge.proofs.Calls.{none_done, finish}
-use Rattle.room_desk.proofs.FolderMade.{folder_root}
-use Rattle.room_desk.proofs.ServedItems.{name_of_parts}
+use Rattle.room_desk.proofs.Made.FolderMade.{folder_root}
+use Rattle.room_desk.proofs.Made.ServedItems.{name_of_parts}
 use Rattle.room_desk.proofs.making.make_folder.Goals as goal
 
 pub make_below-requires : goal.make_below-requires

@@ -5,7 +5,7 @@ use Rattle.room_machine.specs.declared.reply.Reason.TheVariants.{Exists}
 use Rattle.room_desk.specs.Made.{MakesChild, new_child}
 use Rattle.room_judge.specs.Stored.{found_site}
 use Rattle.room_judge.proofs.Calls.{tail, done}
-use Rattle.room_desk.proofs.ServedItems.{added_behind, judged_unread}
+use Rattle.room_desk.proofs.Made.ServedItems.{added_behind, judged_unread}
 use Rattle.room_desk.proofs.making.make_new.Goals as goal
 
 pub returns-else-is_there : goal.returns-else-is_there

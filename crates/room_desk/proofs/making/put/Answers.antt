@@ -1,6 +1,6 @@
 use Rattle.room_judge.proofs.Calls.{none_done, finish}
-use Rattle.room_desk.proofs.PutMade.{put_root}
-use Rattle.room_desk.proofs.ServedItems.{name_of_parts}
+use Rattle.room_desk.proofs.Made.PutMade.{put_root}
+use Rattle.room_desk.proofs.Made.ServedItems.{name_of_parts}
 use Rattle.room_desk.proofs.making.put.Goals as goal
 
 pub put_below-requires : goal.put_below-requires

@@ -1,10 +1,9 @@
-use Rattle.std.proofs.Common.{ℕ, List, length, ap, subst}
-use Rattle.room_rows.specs.Rows.{Rows}
+use Rattle.std.proofs.Common.{ℕ, List, length, ap}
 use Rattle.room_judge.specs.declared.arrival.Spot.TheVariants.{Under, Barred}
 use Rattle.room_judge.proofs.Calls.{none_done, tail_known, finish, fails, done}
-use Rattle.room_desk.proofs.PutMade.{put_barred, put_on, put_in}
-use Rattle.room_desk.proofs.ServedItems.{spotted_blames}
-use Rattle.room_desk.proofs.Blamed.{rootless_damaged}
+use Rattle.room_desk.proofs.Made.PutMade.{put_barred, put_on, put_in}
+use Rattle.room_desk.proofs.Made.ServedItems.{spotted_blames}
+use Rattle.room_desk.proofs.Sound.Blamed.{rootless_damaged}
 use Rattle.room_judge.proofs.Folders.{spotted_as, spotted_child}
 use Rattle.room_desk.proofs.making.put_below.Goals as goal
 

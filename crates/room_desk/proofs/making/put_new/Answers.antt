@@ -6,7 +6,7 @@ use Rattle.room_machine.specs.declared.reply.Reason.TheVariants.{TooLarge}
 use Rattle.room_desk.specs.Made.{new_child}
 use Rattle.room_judge.specs.Stored.{found_site}
 use Rattle.room_judge.proofs.Calls.{tail, done}
-use Rattle.room_desk.proofs.ServedItems.{added_behind, judged_unread}
+use Rattle.room_desk.proofs.Made.ServedItems.{added_behind, judged_unread}
 use Rattle.room_desk.proofs.making.put_new.Goals as goal
 
 pub returns-else-too_many : goal.returns-else-too_many

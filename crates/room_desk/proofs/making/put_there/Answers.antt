@@ -1,7 +1,7 @@
 use Rattle.room_judge.specs.Stored.{found_site}
 use Rattle.room_judge.proofs.Calls.{tail, done}
 use Rattle.room_judge.proofs.Judging.{blames_first}
-use Rattle.room_desk.proofs.ServedItems.{put_behind}
+use Rattle.room_desk.proofs.Made.ServedItems.{put_behind}
 use Rattle.room_desk.proofs.making.put_there.Goals as goal
 
 pub returns-in-None : goal.returns-in-None

@@ -6,7 +6,7 @@ use Rattle.room_desk.specs.Moving.{begins, free_place, leaving}
 use Rattle.room_machine.specs.Site.{front}
 use Rattle.room_judge.specs.Stored.{found_site}
 use Rattle.room_judge.proofs.Calls.{finish, tail, done}
-use Rattle.room_desk.proofs.FreePlaces.{free_after}
+use Rattle.room_desk.proofs.Moves.FreePlaces.{free_after}
 use Rattle.room_judge.proofs.Judging.{fails_first, judged_as}
 use Rattle.room_desk.proofs.moving.check_place.Goals as goal
 

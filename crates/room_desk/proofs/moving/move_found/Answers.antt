@@ -12,7 +12,7 @@ use Rattle.room_machine.specs.declared.reply.Reply.{Reply}
 use Rattle.room_machine.specs.declared.request.Request.TheVariants.{Move}
 use Rattle.room_machine.specs.declared.reply.Reason.TheVariants.{Exists}
 use Rattle.room_judge.proofs.Calls.{none_done, tail, finish, fails, done}
-use Rattle.room_desk.proofs.MovingSteps.{moves, name_is, never_rootless, never_unplaced, place_ended, root_refused, some_last}
+use Rattle.room_desk.proofs.Moves.MovingSteps.{moves, name_is, never_rootless, never_unplaced, place_ended, root_refused, some_last}
 use Rattle.room_desk.proofs.moving.move_found.Goals as goal
 
 pub returns-in_err-arrival-in-Some : goal.returns-in_err-arrival-in-Some

@@ -1,10 +1,9 @@
 use Rattle.std.proofs.Common.{subst}
-use Rattle.room_rows.specs.Rows.{Rows}
 use Rattle.room_judge.specs.Spot.{IsPaired}
 use Rattle.room_judge.specs.declared.arrival.Pair.{Pair}
 use Rattle.room_judge.proofs.Calls.{none_done, tail_known, finish, fails, done}
-use Rattle.room_desk.proofs.MovingSteps.{empty_path, root_stays, way_halted}
-use Rattle.room_desk.proofs.Blamed.{rootless_damaged}
+use Rattle.room_desk.proofs.Moves.MovingSteps.{empty_path, root_stays, way_halted}
+use Rattle.room_desk.proofs.Sound.Blamed.{rootless_damaged}
 use Rattle.room_desk.proofs.moving.move_object.Goals as goal
 
 pub returns-then-is_root : goal.returns-then-is_root

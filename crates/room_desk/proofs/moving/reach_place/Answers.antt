@@ -7,7 +7,7 @@ use Rattle.room_machine.specs.Site.{front}
 use Rattle.room_judge.specs.Stored.{found_site}
 use Rattle.room_judge.specs.declared.arrival.Arrival.TheVariants.{At, Ended}
 use Rattle.room_judge.proofs.Calls.{then, finish, fails, done}
-use Rattle.room_desk.proofs.MovingWays.{front_reached, place_reached}
+use Rattle.room_desk.proofs.Moves.MovingWays.{front_reached, place_reached}
 use Rattle.room_judge.proofs.Ways.{not_reached}
 use Rattle.room_desk.proofs.moving.reach_place.Goals as goal
 

@@ -2,9 +2,9 @@ use Rattle.std.proofs.Common.{[], ◌∷◌, refl, sym, subst}
 use Rattle.room_judge.proofs.Calls.{none_done, tail_known, finish, fails, done}
 use Rattle.room_judge.specs.Judged.{CarriesOut}
 use Rattle.room_machine.specs.declared.reply.Reply.{Reply}
-use Rattle.room_desk.proofs.Blamed.{rootless_damaged}
-use Rattle.room_desk.proofs.Serving.{CheckAt, reached_as, reached_damaged, not_served}
-use Rattle.room_desk.proofs.OwnersSet.{owners_set}
+use Rattle.room_desk.proofs.Sound.Blamed.{rootless_damaged}
+use Rattle.room_desk.proofs.Steps.Serving.{CheckAt, reached_as, reached_damaged, not_served}
+use Rattle.room_desk.proofs.Owned.OwnersSet.{owners_set}
 use Rattle.room_judge.specs.declared.arrival.Arrival.TheVariants.{At, Ended}
 use Rattle.room_machine.specs.declared.request.Request.TheVariants.{SetOwners}
 use Rattle.room_ace.specs.Rights.{write_owner}

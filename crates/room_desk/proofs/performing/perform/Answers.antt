@@ -1,9 +1,9 @@
 use Rattle.std.proofs.Common.{to_z, of_z, w64}
 use Rattle.std.proofs.lemmas.Int.{to_z-of_z}
 use Rattle.room_judge.proofs.Calls.{tail, done, of_read}
-use Rattle.room_desk.proofs.Blamed.{damaged_before}
+use Rattle.room_desk.proofs.Sound.Blamed.{damaged_before}
 use Rattle.std.specs.Option.{option_copied}
-use Rattle.room_desk.proofs.InTurn.{carried}
+use Rattle.room_desk.proofs.Steps.InTurn.{carried}
 use Rattle.room_desk.proofs.performing.perform.Goals as goal
 
 pub returns : goal.returns

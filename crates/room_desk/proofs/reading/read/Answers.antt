@@ -1,7 +1,7 @@
 use Rattle.std.proofs.Common.{[], ◌∷◌, refl}
 use Rattle.room_judge.proofs.Calls.{none_done, tail_known, finish, fails, done, of_read}
-use Rattle.room_desk.proofs.Blamed.{rootless_damaged}
-use Rattle.room_desk.proofs.Serving.{DocumentAt, bytes_answered, no_bytes, not_served, reached_as}
+use Rattle.room_desk.proofs.Sound.Blamed.{rootless_damaged}
+use Rattle.room_desk.proofs.Steps.Serving.{DocumentAt, bytes_answered, no_bytes, not_served, reached_as}
 use Rattle.room_judge.specs.declared.arrival.Arrival.TheVariants.{At, Ended}
 use Rattle.room_machine.specs.declared.request.Request.TheVariants.{Read}
 use Rattle.room_ace.specs.Rights.{read_data}

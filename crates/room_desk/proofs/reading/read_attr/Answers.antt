@@ -1,8 +1,7 @@
-use Rattle.std.proofs.Common.{[], ◌∷◌, refl, subst}
+use Rattle.std.proofs.Common.{[], ◌∷◌, refl}
 use Rattle.room_judge.proofs.Calls.{none_done, finish, fails, done}
-use Rattle.room_rows.specs.Rows.{Rows}
-use Rattle.room_desk.proofs.Blamed.{rootless_damaged}
-use Rattle.room_desk.proofs.Serving.{CheckAt, reached_as, not_served, served_attr}
+use Rattle.room_desk.proofs.Sound.Blamed.{rootless_damaged}
+use Rattle.room_desk.proofs.Steps.Serving.{CheckAt, reached_as, not_served, served_attr}
 use Rattle.room_judge.specs.declared.arrival.Arrival.TheVariants.{At, Ended}
 use Rattle.room_machine.specs.declared.request.Request.TheVariants.{ReadAttr}
 use Rattle.room_ace.specs.Rights.{read_attributes}

@@ -3,8 +3,8 @@ use Rattle.room_judge.proofs.Calls.{none_done, finish, fails, memory, done}
 use Rattle.room_rows.specs.HeldList.{Held}
 use Rattle.room_rows.specs.Held.{full_of}
 use Rattle.room_machine.specs.declared.reply.Reply.TheVariants.{Lists}
-use Rattle.room_desk.proofs.Blamed.{rootless_damaged}
-use Rattle.room_desk.proofs.Serving.{CheckAt, reached_as, not_served, served_list}
+use Rattle.room_desk.proofs.Sound.Blamed.{rootless_damaged}
+use Rattle.room_desk.proofs.Steps.Serving.{CheckAt, reached_as, not_served, served_list}
 use Rattle.room_judge.specs.declared.arrival.Arrival.TheVariants.{At, Ended}
 use Rattle.room_machine.specs.declared.request.Request.TheVariants.{ReadList}
 use Rattle.room_ace.specs.Rights.{read_acl}

@@ -1,6 +1,6 @@
 use Rattle.std.proofs.Common.{ℕ, List, [], ◌≡◌, subst, sym, ap, ◌∙◌, take}
 use Rattle.room_judge.proofs.Calls.{none_done, finish}
-use Rattle.room_desk.proofs.GoneSteps.{no_names, root_kept}
+use Rattle.room_desk.proofs.Gone.GoneSteps.{no_names, root_kept}
 use Rattle.room_judge.specs.Judged.{CarriesOut}
 use Rattle.room_machine.specs.declared.reply.Reply.TheVariants.{Refused}
 use Rattle.room_machine.specs.declared.reply.Reason.TheVariants.{Root}

@@ -2,7 +2,7 @@ use Rattle.std.proofs.Common.{[], ◌∷◌, Option, subst}
 use Rattle.room_judge.proofs.Calls.{tail, finish, done}
 use Rattle.room_rows.specs.Keep.{IsUnreadable}
 use Rattle.room_rows.specs.Rows.{Rows}
-use Rattle.room_desk.proofs.Acting.{deletion_fails, deletion_passes}
+use Rattle.room_desk.proofs.Gone.Acting.{deletion_fails, deletion_passes}
 use Rattle.room_judge.specs.Judged.{IsJudged}
 use Rattle.room_machine.specs.Plan.{Deletion}
 use Rattle.room_judge.specs.Stored.{found_site}
@@ -16,7 +16,7 @@ returns-in-Some g c =
     let target = found_site c.args.path.now c.args.target.now in
     let folder = found_site c.args.path.now c.args.folder.now in
     record {
-      done = finish m.laws _ (done c.in_ok-refusal.ensures.done) (λ old new are judged.
+      done = finish m.laws _ (done c.in_ok-refusal.ensures.done) (λ old new are judged seen.
           deletion_fails c.args.asker.now c.args.path.now target folder c.args.target.now.node.id old new c.in-Some.reply
           (subst (λ (o : Option Reply). IsJudged c.args.asker.now (Deletion target folder ∷ []) old o new) c.in-Some.is judged));
     }

@@ -1,7 +1,7 @@
 use Rattle.std.proofs.Common.{subst}
 use Rattle.room_judge.proofs.Calls.{none_done, tail_known, finish, fails, done}
-use Rattle.room_desk.proofs.Blamed.{noted_unread, rootless_damaged}
-use Rattle.room_desk.proofs.GoneSteps.{has_name, remove_done, remove_halted}
+use Rattle.room_desk.proofs.Sound.Blamed.{noted_unread, rootless_damaged}
+use Rattle.room_desk.proofs.Gone.GoneSteps.{has_name, remove_done, remove_halted}
 use Rattle.room_judge.specs.Spot.{IsPaired}
 use Rattle.room_judge.specs.declared.arrival.Pair.{Pair}
 use Rattle.room_desk.proofs.removing.remove_named.Goals as goal

@@ -1,10 +1,9 @@
-use Rattle.std.proofs.Common.{List, length, arith, refl, ◌≡◌, [], ◌∷◌, sym, subst, ◌∙◌}
+use Rattle.std.proofs.Common.{List, length, arith, refl, ◌≡◌, [], ◌∷◌, sym, ◌∙◌}
 use Rattle.room_judge.proofs.Calls.{none_done, tail_known, fails, damaged, done, of_read}
-use Rattle.room_rows.specs.Rows.{Rows}
 use Rattle.room_rows.specs.declared.node.Node.{Node}
-use Rattle.room_desk.proofs.RootedWays.{no_walk}
-use Rattle.room_desk.proofs.SetReset.{reset_blames, reset_done}
-use Rattle.room_desk.proofs.Blamed.{rootless_damaged}
+use Rattle.room_desk.proofs.Sound.RootedWays.{no_walk}
+use Rattle.room_desk.proofs.Lists.SetReset.{reset_blames, reset_done}
+use Rattle.room_desk.proofs.Sound.Blamed.{rootless_damaged}
 use Rattle.room_desk.proofs.resetting.reset.Goals as goal
 
 no_length : (nodes : List Node) → length nodes ≡ 0 → nodes ≡ []

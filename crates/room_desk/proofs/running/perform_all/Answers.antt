@@ -1,5 +1,5 @@
-use Rattle.room_judge.proofs.Calls.{HasDone, none_done, then, finish, fails, memory, done}
-use Rattle.room_desk.proofs.InTurn.{blamed_after, first_more, first_none, runs_all}
+use Rattle.room_judge.proofs.Calls.{HasDone, then, fails, memory, done}
+use Rattle.room_desk.proofs.Steps.InTurn.{blamed_after, first_more}
 use Rattle.room_desk.proofs.running.perform_all.Goals as goal
 
 pub returns-in_err-reply : goal.returns-in_err-reply

@@ -1,5 +1,5 @@
 use Rattle.std.proofs.Common.{rules, ◌≡◌, ◌∙◌}
-use Rattle.room_desk.proofs.SentEntries.{takes_next, leaves_next}
+use Rattle.room_desk.proofs.Lists.SentEntries.{takes_next, leaves_next}
 use Rattle.room_desk.proofs.setting.sent_entries.Goals as goal
 use Rattle.room_desk.proofs.setting.sent_entries.Goals.{then-flags-inherited+in_ok-clone+in_ok-push, else-flags-inherited}
 

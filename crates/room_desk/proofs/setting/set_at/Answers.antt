@@ -2,7 +2,7 @@ use Rattle.std.proofs.Common.{List, ap, ◌∙◌}
 use Rattle.room_ace.specs.Ace.{Ace}
 use Rattle.room_judge.proofs.Calls.{none_done, fails, tail_known, done, of_read}
 use Rattle.room_desk.specs.Setting.{sent_with}
-use Rattle.room_desk.proofs.SettingCalls.{fails_before, no_answer, quiet_before, set_from, unread_before}
+use Rattle.room_desk.proofs.Lists.SettingCalls.{fails_before, no_answer, quiet_before, set_from, unread_before}
 use Rattle.room_desk.proofs.setting.set_at.Goals as goal
 
 pub returns-in_err-inh : goal.returns-in_err-inh

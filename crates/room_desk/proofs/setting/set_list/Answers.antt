@@ -1,9 +1,8 @@
-use Rattle.std.proofs.Common.{[], ◌∷◌, subst}
+use Rattle.std.proofs.Common.{[], ◌∷◌}
 use Rattle.room_judge.proofs.Calls.{none_done, tail_known, finish, fails, done}
-use Rattle.room_rows.specs.Rows.{Rows}
-use Rattle.room_desk.proofs.SetRequest.{set_ended, set_done, set_blames}
-use Rattle.room_desk.proofs.Blamed.{rootless_damaged}
-use Rattle.room_desk.proofs.Serving.{CheckAt, reached_as}
+use Rattle.room_desk.proofs.Lists.SetRequest.{set_ended, set_done, set_blames}
+use Rattle.room_desk.proofs.Sound.Blamed.{rootless_damaged}
+use Rattle.room_desk.proofs.Steps.Serving.{CheckAt, reached_as}
 use Rattle.room_judge.specs.declared.arrival.Arrival.TheVariants.{At, Ended}
 use Rattle.room_ace.specs.Rights.{write_acl}
 use Rattle.room_desk.proofs.setting.set_list.Goals as goal

@@ -2,7 +2,7 @@ use Rattle.std.proofs.Common.{refl, sym, ◌∙◌, inl, inr}
 use Rattle.std.proofs.lemmas.Bool.{false≢true}
 use Rattle.room_judge.proofs.Calls.{none_done, finish, tail}
 use Rattle.room_desk.specs.Setting.{list_of}
-use Rattle.room_desk.proofs.SettingCalls.{fails_before, list_sent, written_as}
+use Rattle.room_desk.proofs.Lists.SettingCalls.{fails_before, list_sent, written_as}
 use Rattle.room_desk.proofs.setting.store_list.Goals as goal
 
 pub returns-then-is_same_list : goal.returns-then-is_same_list

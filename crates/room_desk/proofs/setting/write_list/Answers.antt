@@ -2,7 +2,7 @@ use Rattle.std.proofs.Common.{Bool, refl, sym, ap, subst, ◌∙◌}
 use Rattle.room_ace.specs.declared.flags.ListFlags.{ListFlags}
 use Rattle.room_judge.proofs.Calls.{none_done, finish, fails, tail, done, of_write}
 use Rattle.room_desk.specs.Carrying.{GoesDown}
-use Rattle.room_desk.proofs.SettingCalls.{carried_fails, unread_before}
+use Rattle.room_desk.proofs.Lists.SettingCalls.{carried_fails, unread_before}
 use Rattle.room_desk.proofs.setting.write_list.Goals as goal
 
 pub returns-in_err-set_held : goal.returns-in_err-set_held

@@ -2,7 +2,7 @@ use Rattle.std.proofs.Common.{List, ap, ◌∙◌}
 use Rattle.room_ace.specs.Ace.{Ace}
 use Rattle.room_judge.proofs.Calls.{none_done, tail}
 use Rattle.room_desk.specs.Setting.{list_of}
-use Rattle.room_desk.proofs.SettingCalls.{fails_before, written_as}
+use Rattle.room_desk.proofs.Lists.SettingCalls.{fails_before, written_as}
 use Rattle.room_desk.proofs.setting.write_parts.Goals as goal
 
 pub returns : goal.returns

@@ -1,9 +1,8 @@
-use Rattle.std.proofs.Common.{[], ◌∷◌, subst}
+use Rattle.std.proofs.Common.{[], ◌∷◌}
 use Rattle.room_judge.proofs.Calls.{none_done, tail_known, finish, fails, done}
-use Rattle.room_rows.specs.Rows.{Rows}
-use Rattle.room_desk.proofs.Appending.{append_ended, append_done, append_blames}
-use Rattle.room_desk.proofs.Blamed.{rootless_damaged}
-use Rattle.room_desk.proofs.Serving.{DocumentAt, reached_as}
+use Rattle.room_desk.proofs.Bytes.Appending.{append_ended, append_done, append_blames}
+use Rattle.room_desk.proofs.Sound.Blamed.{rootless_damaged}
+use Rattle.room_desk.proofs.Steps.Serving.{DocumentAt, reached_as}
 use Rattle.room_judge.specs.declared.arrival.Arrival.TheVariants.{At, Ended}
 use Rattle.room_ace.specs.Rights.{append_data}
 use Rattle.room_desk.proofs.writing.append.Goals as goal

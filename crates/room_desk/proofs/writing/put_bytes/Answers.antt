@@ -2,7 +2,7 @@ use Rattle.std.proofs.Common.{ℕ, List, ap, subst, ◌∙◌, length, take}
 use Rattle.room_judge.proofs.Calls.{none_done, finish, fails, memory, done, of_write}
 use Rattle.room_rows.specs.Rows.{Rows}
 use Rattle.room_rows.specs.Keep.{IsUnreadable}
-use Rattle.room_desk.proofs.Appending.{put_refused, put_set}
+use Rattle.room_desk.proofs.Bytes.Appending.{put_refused, put_set}
 use Rattle.std.proofs.Math.Seq.{take-length}
 use Rattle.std.proofs.lemmas.Bool.{lt-ltb, le-ltb}
 use Rattle.room_machine.specs.declared.reply.Reply.TheVariants.{Refused}

@@ -1,1 +1,0 @@
-use Rattle.room_judge.proofs.spotting.spot_under.Goals as goal

@@ -43,7 +43,7 @@ returns-in-None g c =
           let w = (k.rows c.args.keep.now).read in
           let none : child_of w c.names.node.id c.index-names-index.result ≡ None = ap (child_of w c.names.node.id) (sym c.as_str.ensures) ∙ sym (on.answers t) ∙ c.in-None.is in
           let ends = walk_ends w c.names.node c.names.chain c.names-names.result.now c.names.index c.index-names-index.result c.names-test.true c.index-names-index.is none in
-          ap (λ (l : List Node). record { chain = l; rest = length c.names-names.result.now - c.names.index }) c.in_ok-push.ensures.ok
+          c.walked.ensures ∙ ap (λ (l : List Node). record { chain = l; rest = length c.names-names.result.now - c.names.index }) c.in_ok-push.ensures.ok
           ∙ sym ends ∙ c.names.invariant.along before);
     }
 

@@ -1,0 +1,3 @@
+-- A document gets other bytes.
+pub mod SoundBytes
+pub mod Appending

@@ -1,0 +1,5 @@
+-- An object is removed.
+pub mod Childless
+pub mod SoundRemoved
+pub mod Acting
+pub mod GoneSteps

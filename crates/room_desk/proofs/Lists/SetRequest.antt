@@ -1,0 +1,120 @@
+-- A request that sets a list is a step.
+use Rattle.std.proofs.Common.{◌≡◌, ℕ, true, false, List, [], ◌∷◌, ◌++◌, map, Option, Some, None, refl, sym, ap, subst, ◌∙◌, append_assoc}
+use Rattle.std.specs.Option.{option_map, option_map_or}
+use Rattle.std.proofs.lemmas.List.{append-nil}
+use Rattle.room_ace.specs.Rights.{write_acl}
+use Rattle.room_ace.specs.Sent.{Sent}
+use Rattle.room_ace.specs.Valid.{first_bad_entry}
+use Rattle.room_ace.specs.declared.fault.EntryFault.{EntryFault}
+use Rattle.room_ace.specs.declared.object.Which.{Which}
+use Rattle.room_rows.specs.declared.node.Node.{Node}
+use Rattle.room_rows.specs.Content.{node_at, parent_of}
+use Rattle.room_rows.specs.Keep.{IsDamaged}
+use Rattle.room_rows.specs.Meaning.{meaning}
+use Rattle.room_rows.specs.declared.node.AuditRow.{AuditRow}
+use Rattle.room_machine.specs.Judge.{records_of_plan}
+use Rattle.room_rows.specs.Rows.{Rows, AreRows}
+use Rattle.room_inherit.specs.Sound.{AreSound}
+use Rattle.room_judge.specs.declared.arrival.Arrival.TheVariants.{At, Ended}
+use Rattle.room_judge.specs.declared.asker.Asker.{Asker}
+use Rattle.room_machine.specs.declared.reply.Reason.TheVariants.{BadList}
+use Rattle.room_machine.specs.declared.reply.Reply.{Reply}
+use Rattle.room_machine.specs.declared.reply.Reply.TheVariants.{Done, Refused}
+use Rattle.room_machine.specs.declared.request.Request.TheVariants.{SetList}
+use Rattle.room_machine.specs.Effect.{set_list}
+use Rattle.room_judge.specs.Judged.{CarriesOut, IsJudged, IsReached, noted}
+use Rattle.room_machine.specs.Plan.{Item, bad_list, plan_of, way, where_found}
+use Rattle.room_desk.specs.Carrying.{IsRooted, IsUnreadableIfRooted}
+use Rattle.room_desk.proofs.Sound.Blamed.{noted_unread}
+use Rattle.room_desk.proofs.Moves.MovingPlan.{along_noted}
+use Rattle.room_desk.proofs.Sound.RootedWays.{rooted_along}
+use Rattle.room_desk.specs.Setting.{IsSetOrRefused, IsSetWell, SetUnless, kept_site, reason_of}
+use Rattle.room_machine.specs.Site.{Site, site_at}
+use Rattle.room_judge.specs.Stored.{stored_along, to_stored}
+use Rattle.room_desk.proofs.Sound.Filled.{fill_item, plan_judged}
+use Rattle.room_judge.proofs.Judging.{fails_first, judged_none, passes_first, refuses}
+use Rattle.room_desk.proofs.Steps.Serving.{CheckAt}
+use Rattle.room_desk.proofs.Lists.SetEffect.{set_effect}
+use Rattle.room_desk.proofs.Sound.Sites.{fill}
+use Rattle.room_desk.proofs.Sound.SoundParts.{sound_noted, sound_parts}
+use Rattle.room_desk.proofs.Steps.Stepping.{changed_step, refused_step}
+use Rattle.room_desk.proofs.Made.Uplink.{target_stands}
+
+-- items behind others at the target
+more_items : (first more : Site → List Item) (front : List Item) (o : Option Site) → front ++ where_found o (λ s. first s ++ more s) ≡ (front ++ where_found o first) ++ where_found o more
+more_items first more front None = sym (append-nil (front ++ []))
+more_items first more front (Some site) = sym (append_assoc front (first site) (more site))
+
+module _ (path : List (List ℕ)) (which : Which) (sent : Sent) where
+  -- the refusal of an entry that may not stand there
+  abbrev pub listed : Site → List Item
+  listed site = bad_list path (first_bad_entry 1 which site.node.kind sent.entries)
+
+  abbrev pub items : Site → List Item
+  items site = CheckAt (write_acl ∷ []) site ++ listed site
+
+  pub items_filled : (site : Site) → items (fill site) ≡ map fill_item (items site)
+  items_filled site = ap (λ rest. CheckAt (write_acl ∷ []) (fill site) ++ rest) (on (first_bad_entry 1 which site.node.kind sent.entries))
+    where
+      on : (faults : Option EntryFault) → bad_list path faults ≡ map fill_item (bad_list path faults)
+      on None = refl
+      on (Some fault) = refl
+
+module _ (asker : Asker) (path : List (List ℕ)) (which : Which) (sent : Sent) where
+  abbrev refusing : Site → List Item
+  refusing site = listed path which sent site
+
+  planned : (old new : Rows) (answer : Option Reply) → AreRows old → AreSound old
+      → IsJudged asker (to_stored old.read path (CheckAt (write_acl ∷ [])) ++ where_found (site_at (stored_along old.read path) path) refusing) old answer new
+      → IsJudged asker (plan_of (meaning old.read) (SetList path which sent)) old answer new
+  planned old new answer are sound judged =
+      plan_judged asker path (items path which sent) old new answer are (sound_parts old sound) (items_filled path which sent)
+      (subst (λ list. IsJudged asker list old answer new) (sym (more_items (CheckAt (write_acl ∷ [])) refusing (way false (stored_along old.read path) path) (site_at (stored_along old.read path) path))) judged)
+
+  pub set_ended : (old new : Rows) (reply : Reply) → AreRows old → IsReached asker path (CheckAt (write_acl ∷ [])) old (Ended reply) new → CarriesOut asker (SetList path which sent) old reply new
+  set_ended old new reply are reached known sound =
+      refused_step asker (SetList path which sent) old known sound new reply
+      (planned old new (Some reply) are sound (fails_first asker (to_stored old.read path (CheckAt (write_acl ∷ []))) (where_found (site_at (stored_along old.read path) path) refusing) old new reply reached.judged))
+
+  module _ (old mid : Rows) (node : Node) (are : AreRows old) (reached : IsReached asker path (CheckAt (write_acl ∷ [])) old (At node) mid) where
+    there : node_at old.read node.id ≡ Some node
+    there = target_stands old.read are.numbers path path node reached.found
+
+    there_mid : node_at mid.read node.id ≡ Some node
+    there_mid = ap (λ (r : Rows). node_at r.read node.id) reached.judged.notes ∙ there
+
+    -- what the items behind the check answer
+    behind : (faults : Option EntryFault) (new : Rows) (answer : Option Reply) → first_bad_entry 1 which node.kind sent.entries ≡ faults → IsJudged asker (bad_list path faults) mid answer new → AreSound old
+        → IsJudged asker (plan_of (meaning old.read) (SetList path which sent)) old answer new
+    behind faults new answer are_faults judged sound =
+        planned old new answer are sound
+        (passes_first asker (to_stored old.read path (CheckAt (write_acl ∷ []))) (where_found (site_at (stored_along old.read path) path) refusing) old mid new answer reached.judged
+        (subst (λ list. IsJudged asker list mid answer new) (ap (bad_list path) (sym are_faults) ∙ ap (λ o. where_found o refusing) (sym reached.found)) judged))
+
+    set_well : (new : Rows) → first_bad_entry 1 which node.kind sent.entries ≡ None → IsSetWell which sent node mid new → CarriesOut asker (SetList path which sent) old Done new
+    set_well new none well known sound =
+        let judged = behind None mid None none (judged_none asker mid mid refl) sound in
+        changed_step asker (SetList path which sent) old known sound mid new Done (set_list (meaning old.read) which sent (option_map (kept_site old.read) (parent_of old.read node)) (kept_site old.read node)) judged
+        (λ id. set_effect old are (sound_parts old sound) which sent node path reached.found asker.caller id)
+        (well.means ∙ ap (λ (r : Rows). set_list (meaning r.read) which sent (option_map (kept_site r.read) (parent_of r.read node)) (kept_site r.read node)) judged.notes)
+        well.sound
+
+    on_faults : (faults : Option EntryFault) (new : Rows) (reply : Reply) → first_bad_entry 1 which node.kind sent.entries ≡ faults → IsSetOrRefused path which sent node mid reply new
+        → reply ≡ option_map_or (λ why. Refused path why) (reason_of faults) Done → SetUnless (reason_of faults) which sent node mid new → CarriesOut asker (SetList path which sent) old reply new
+    on_faults None new reply none said replies becomes known sound =
+        subst (λ (r : Reply). CarriesOut asker (SetList path which sent) old r new) (sym replies)
+        (set_well new none (becomes there_mid (ap reason_of none) said.few (subst AreSound (sym reached.judged.notes) (sound_noted old _ sound)))) known sound
+    on_faults (Some fault) new reply some said replies becomes known sound =
+        refused_step asker (SetList path which sent) old known sound new reply
+        (behind (Some fault) new (Some reply) some (refuses asker path (BadList fault.place fault.why) true [] mid new reply replies refl becomes) sound)
+
+    pub set_done : (new : Rows) (reply : Reply) → IsSetOrRefused path which sent node mid reply new → CarriesOut asker (SetList path which sent) old reply new
+    set_done new reply said = on_faults (first_bad_entry 1 which node.kind sent.entries) new reply refl said said.replies said.becomes
+
+    pub set_blames : (at : ℕ) → IsUnreadableIfRooted node.id mid at → IsDamaged old at
+    set_blames at fails =
+        let rooted : IsRooted node.id (noted old records) = rooted_along (noted old records) are.numbers path path node (ap (λ sites. site_at sites path) (along_noted old.read records path) ∙ reached.found) in
+        noted_unread old mid records at reached.judged.notes (fails (subst (IsRooted node.id) (sym reached.judged.notes) rooted))
+      where
+        records : List AuditRow
+        records = records_of_plan asker.caller asker.at (to_stored old.read path (CheckAt (write_acl ∷ [])))

@@ -1,0 +1,3 @@
+-- An object gets other owners.
+pub mod SoundOwners
+pub mod OwnersSet

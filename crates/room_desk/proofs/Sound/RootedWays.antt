@@ -1,0 +1,104 @@
+-- What a walk finds is rooted, whatever else the rows say.
+use Rattle.std.proofs.Common.{◌≡◌, ℕ, suc, true, false, List, [], ◌∷◌, ◌++◌, length, Option, Some, None, refl, sym, ap, subst, ◌∙◌, inl, inr}
+use Rattle.std.specs.Option.{option_map_or}
+use Rattle.room_rows.specs.declared.node.Node.{Node}
+use Rattle.room_rows.specs.declared.node.Walk.{Walk}
+use Rattle.room_rows.specs.Content.{Content, child_of, node_at, reaches_root, root_of}
+use Rattle.room_rows.specs.Keep.{IsDamaged}
+use Rattle.room_rows.specs.Rows.{Rows}
+use Rattle.room_rows.specs.Walk.{behind, walk_from, walk_of}
+use Rattle.room_rows.proofs.Frames.{Rises, child_of-is_there, child_of-parent, root_of-is_there, root_of-parent}
+use Rattle.room_machine.specs.Site.{Site, site_at}
+use Rattle.room_judge.specs.Stored.{stored_along, stored_from, stored_site}
+use Rattle.room_desk.specs.Carrying.{IsRooted}
+use Rattle.room_desk.proofs.Placed.Climbing.{same_some}
+use Rattle.room_desk.proofs.Lists.ResetWay.{same_last}
+
+module _ (rows : Content) (rises : Rises rows) where
+  -- it stands there, and so many steps lead from it to the root
+  pub record IsUp (node : Node) : Type 0 where
+    pub there : node_at rows node.id ≡ Some node
+    pub steps : ℕ
+    pub reaches : reaches_root steps rows node.parent ≡ true
+
+  up_root : (root : Node) → root_of rows ≡ Some root → IsUp root
+  up_root root is = record { there = root_of-is_there rows rises root is; steps = 0; reaches = ap (reaches_root 0 rows) (root_of-parent rows root is) }
+
+  up_child : (node child : Node) (name : List ℕ) → IsUp node → child_of rows node.id name ≡ Some child → IsUp child
+  up_child node child name up is = record {
+    there = child_of-is_there rows rises node.id name child is;
+    steps = suc up.steps;
+    reaches = ap (reaches_root (suc up.steps) rows) (child_of-parent rows node.id name child is) ∙ ap (λ o. option_map_or (λ (a : Node). reaches_root up.steps rows a.parent) o false) up.there ∙ up.reaches;
+  }
+
+  up_from : (names path : List (List ℕ)) (node : Node) (site : Site) → IsUp node → site_at (stored_from rows path node names) names ≡ Some site → IsUp site.node
+  up_from [] path node site up is = subst (λ (s : Site). IsUp s.node) (same_some (stored_site path node) site is) up
+  up_from (name ∷ names) path node site up is = on (child_of rows node.id name) (λ child known. up_from names (path ++ name ∷ []) child site (up_child node child name up known)) is
+    where
+      on : (o : Option Node) → ((child : Node) → o ≡ Some child → site_at (stored_from rows (path ++ name ∷ []) child names) names ≡ Some site → IsUp site.node)
+          → site_at (option_map_or (λ child. stored_from rows (path ++ name ∷ []) child names) o []) names ≡ Some site → IsUp site.node
+      on None known is = absurd (let wrong : ⊥ = cc in wrong)
+      on (Some child) known is = known child refl is
+
+  up_along : (path : List (List ℕ)) (site : Site) → site_at (stored_along rows path) path ≡ Some site → IsUp site.node
+  up_along path site is = on (root_of rows) (λ root known. up_from path [] root site (up_root root known)) is
+    where
+      on : (o : Option Node) → ((root : Node) → o ≡ Some root → site_at (stored_from rows [] root path) path ≡ Some site → IsUp site.node) → site_at (option_map_or (λ root. stored_from rows [] root path) o []) path ≡ Some site → IsUp site.node
+      on None known is = absurd (let wrong : ⊥ = cc in wrong)
+      on (Some root) known is = known root refl is
+
+  -- the end of a walk
+  pub record IsUpEnd (chain : List Node) : Type 0 where
+    pub front : List Node
+    pub last : Node
+    pub is : chain ≡ front ++ last ∷ []
+    pub up : IsUp last
+
+  end_from : (names : List (List ℕ)) (node : Node) → IsUp node → IsUpEnd (walk_from rows node names).chain
+  end_from [] node up = record { front = []; last = node; is = refl; up = up }
+  end_from (name ∷ names) node up = on (child_of rows node.id name) (λ child known. end_from names child (up_child node child name up known))
+    where
+      on : (o : Option Node) → ((child : Node) → o ≡ Some child → IsUpEnd (walk_from rows child names).chain)
+          → IsUpEnd (option_map_or (λ child. behind node (walk_from rows child names)) o (record { chain = node ∷ []; rest = length (name ∷ names) })).chain
+      on None known = record { front = []; last = node; is = refl; up = up }
+      on (Some child) known = let end = known child refl in record { front = node ∷ end.front; last = end.last; is = ap (λ (l : List Node). node ∷ l) end.is; up = end.up }
+
+  last_up : (path : List (List ℕ)) (front : List Node) (last : Node) → (walk_of rows path).chain ≡ front ++ last ∷ [] → IsUp last
+  last_up path front last is = on (root_of rows) (λ root known. end_from path root (up_root root known)) is
+    where
+      none_ends : (l : List Node) → [] ≡ l ++ last ∷ [] → ⊥
+      none_ends [] is = let wrong : ⊥ = cc in wrong
+      none_ends (x ∷ xs) is = let wrong : ⊥ = cc in wrong
+
+      on : (o : Option Node) → ((root : Node) → o ≡ Some root → IsUpEnd (walk_from rows root path).chain) → (option_map_or (λ root. walk_from rows root path) o (record { chain = []; rest = length path })).chain ≡ front ++ last ∷ [] → IsUp last
+      on None known is = absurd (none_ends front is)
+      on (Some root) known is = let end = known root refl in subst IsUp (same_last end.front front end.last last (sym end.is ∙ is)) end.up
+
+-- ---- as the calls give it
+
+rooted_up : (rows : Rows) → (rises : Rises rows.read) → (node : Node) → IsUp rows.read rises node → IsRooted node.id rows
+rooted_up rows rises node up = record { rises = rises; node = node; there = up.there; steps = up.steps; reaches = up.reaches }
+
+-- the object at the path
+pub rooted_along : (rows : Rows) → Rises rows.read → (path at : List (List ℕ)) (node : Node) → site_at (stored_along rows.read path) path ≡ Some (stored_site at node) → IsRooted node.id rows
+rooted_along rows rises path at node is = rooted_up rows rises node (up_along rows.read rises path (stored_site at node) is)
+
+-- the last object of a walk
+pub rooted_last : (rows : Rows) → Rises rows.read → (path : List (List ℕ)) (walk : Walk) (front : List Node) (last : Node) → walk ≡ walk_of rows.read path → walk.chain ≡ front ++ last ∷ [] → IsRooted last.id rows
+rooted_last rows rises path walk front last is chain = rooted_up rows rises last (last_up rows.read rises path front last (sym (ap (λ (w : Walk). w.chain) is) ∙ chain))
+
+-- a walk that finds nothing
+pub no_walk : (path : List (List ℕ)) (old : Rows) (walk : Walk) → walk ≡ walk_of old.read path → walk.chain ≡ [] → IsDamaged old 0
+no_walk path old walk is none = on (root_of old.read) refl (sym (ap (λ (w : Walk). w.chain) is) ∙ none)
+  where
+    starts : (rows : Content) (node : Node) (names : List (List ℕ)) → (walk_from rows node names).chain ≡ [] → ⊥
+    starts rows node [] none = let wrong : ⊥ = cc in wrong
+    starts rows node (name ∷ names) none = on (child_of rows node.id name) none
+      where
+        on : (o : Option Node) → (option_map_or (λ child. behind node (walk_from rows child names)) o (record { chain = node ∷ []; rest = length (name ∷ names) })).chain ≡ [] → ⊥
+        on None none = let wrong : ⊥ = cc in wrong
+        on (Some child) none = let wrong : ⊥ = cc in wrong
+
+    on : (o : Option Node) → root_of old.read ≡ o → (option_map_or (λ root. walk_from old.read root path) o (record { chain = []; rest = length path })).chain ≡ [] → IsDamaged old 0
+    on None rootless none = inl (inr (refl, rootless))
+    on (Some root) known none = absurd (starts old.read root path none)

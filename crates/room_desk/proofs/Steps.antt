@@ -1,0 +1,5 @@
+-- Requests as steps of the machine, one and several.
+pub mod Stepping
+pub mod Serving
+pub mod InTurn
+pub mod AskedBits

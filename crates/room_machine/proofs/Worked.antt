@@ -1,0 +1,3 @@
+-- Worked examples of steps.
+pub mod Worlds
+pub mod Rows
