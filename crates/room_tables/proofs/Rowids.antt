@@ -1,0 +1,120 @@
+-- Rows by their rowids.
+use Rattle.std.proofs.Common.{◌≡◌, ℤ, List, [], ◌∷◌, ◌++◌, filter, Some, IsTrue, inl, inr, ◌⊎◌, refl, sym, ap, subst, ◌∙◌, true, false, Bool, not, cond, find, arith}
+use Rattle.std.specs.Ordering.{is_eq, is_lt}
+use Rattle.std.specs.List.{AllByRecursion}
+use Rattle.sqlite.specs.declared.types.Value.{Value}
+use Rattle.sqlite.specs.declared.types.Value.TheVariants.{Null, Int, Real, Text, Blob}
+use Rattle.sqlite.specs.Order.{Row, value_cmp}
+use Rattle.sqlite.specs.Tree.{rowid, has_rowid, without_rowid, IsTable}
+use Rattle.sqlite_trees.proofs.TreeLemmas.{later_rowids}
+use Rattle.std.proofs.Common.{drop}
+use Rattle.std.specs.List.Sorted.{IsPermutation}
+use Rattle.std.proofs.lemmas.List.Sorted.{length_permutation}
+use Rattle.sqlite_trees.specs.View.{is_int}
+use Rattle.sqlite_value.proofs.OrderLemmas.{value_cmp-Int, value_cmp_total}
+use Rattle.sqlite_rules.specs.Lists.{Has}
+use Rattle.std.proofs.lemmas.Cmp.{tied_itself}
+use Rattle.std.specs.FinMap.{int_cmp-IsAntisymmetric}
+use Rattle.std.specs.declared.cmp.Ordering.{Ordering}
+use Rattle.std.specs.declared.cmp.Ordering.TheVariants.{Less, Equal, Greater}
+
+pub has_itself : (id : ℤ) → is_eq (value_cmp (Int id) (Int id)) ≡ true
+has_itself id = ap is_eq (tied_itself value_cmp_total (Int id))
+
+pub is_equal : (o : Ordering) → is_eq o ≡ true → o ≡ Equal
+is_equal Less h = absurd (let e = h in cc)
+is_equal Equal h = refl
+is_equal Greater h = absurd (let e = h in cc)
+
+pub same_int : (m n : ℤ) → is_eq (value_cmp (Int m) (Int n)) ≡ true → m ≡ n
+same_int m n h = int_cmp-IsAntisymmetric m n (is_equal _ (ap is_eq (sym (value_cmp-Int m n)) ∙ h))
+
+pub rowid_is : (id : ℤ) (r : Row) → IsTrue (is_int (rowid r)) → has_rowid id r ≡ true → rowid r ≡ Int id
+rowid_is id r int h = go (rowid r) int h
+  where
+    go : (v : Value) → IsTrue (is_int v) → is_eq (value_cmp v (Int id)) ≡ true → v ≡ Int id
+    go (Int n) i e = ap Int (same_int n id e)
+    go Null i e = absurd (let x = i in cc)
+    go (Real x) i e = absurd (let y = i in cc)
+    go (Text t) i e = absurd (let y = i in cc)
+    go (Blob b) i e = absurd (let y = i in cc)
+
+first_step : {A : Type 0} (p : A → Bool) (y : A) (ys : List A) (x : A) (more : List A) (b : Bool) → p y ≡ b → (filter p ys ≡ x ∷ more → (find p ys ≡ Some x) × (p x ≡ true))
+    → cond b (y ∷ filter p ys) (filter p ys) ≡ x ∷ more → (cond b (Some y) (find p ys) ≡ Some x) × (p x ≡ true)
+first_step p y ys x more true is later e = let same : y ≡ x = cc in (ap Some same, subst (λ z. p z ≡ true) same is)
+first_step p y ys x more false is later e = later e
+
+pub first_one : {A : Type 0} (p : A → Bool) (xs : List A) (x : A) (more : List A) → filter p xs ≡ x ∷ more → (find p xs ≡ Some x) × (p x ≡ true)
+first_one p [] x more h = absurd (let e = h in cc)
+first_one p (y ∷ ys) x more h = first_step p y ys x more (p y) refl (first_one p ys x more) h
+
+pub only_one : {A : Type 0} (p : A → Bool) (xs : List A) (x : A) → filter p xs ≡ x ∷ [] → (find p xs ≡ Some x) × (p x ≡ true)
+only_one p xs x h = first_one p xs x [] h
+
+pub none_taken : (id : ℤ) (rows : List Row) → AllByRecursion (λ r. has_rowid id r ≡ false) rows → without_rowid id rows ≡ rows
+none_taken id [] all = refl
+none_taken id (r ∷ rows) all = rw all.0 (ap (λ l. r ∷ l) (none_taken id rows all.1))
+
+pub each_of : {X : Type 0} (P : X → Type 0) (rows : List X) → ((x : X) → Has rows x → P x) → AllByRecursion P rows
+each_of P [] h = tt
+each_of P (x ∷ rows) h = (h x (inl refl), each_of P rows (λ y there. h y (inr there)))
+
+pub of_each : {X : Type 0} (P : X → Type 0) (rows : List X) → AllByRecursion P rows → (x : X) → Has rows x → P x
+of_each P (y ∷ rows) all x (inl e) = subst P (sym e) all.0
+of_each P (y ∷ rows) all x (inr there) = of_each P rows all.1 x there
+of_each P [] all x there = absurd there
+
+pub pop_two : {A : Type 0} (a b : A) (below : List A) (w : A) → a ∷ b ∷ [] ≡ below ++ w ∷ [] → (below ≡ a ∷ []) × (w ≡ b)
+pop_two a b [] w h = absurd (let e = h in cc)
+pop_two a b (x ∷ []) w h = (let e = h in cc, let e = h in cc)
+pop_two a b (x ∷ y ∷ []) w h = absurd (let e = h in cc)
+pop_two a b (x ∷ y ∷ z ∷ more) w h = absurd (let e = h in cc)
+
+pub pop_one : {A : Type 0} (a : A) (below : List A) (w : A) → a ∷ [] ≡ below ++ w ∷ [] → (below ≡ []) × (w ≡ a)
+pop_one a [] w h = (refl, let e = h in cc)
+pop_one a (x ∷ []) w h = absurd (let e = h in cc)
+pop_one a (x ∷ y ∷ more) w h = absurd (let e = h in cc)
+
+none_pass : {A : Type 0} (p : A → Bool) (xs : List A) → AllByRecursion (λ x. p x ≡ false) xs → filter p xs ≡ []
+none_pass p [] all = refl
+none_pass p (x ∷ xs) all = rw all.0 (none_pass p xs all.1)
+
+is_not_less : (o : Ordering) → is_eq o ≡ true → is_lt o ≡ false
+is_not_less Less h = absurd (let e = h in cc)
+is_not_less Equal h = refl
+is_not_less Greater h = refl
+
+-- a table has a rowid at most once
+pub at_most_one : (id : ℤ) (rows : List Row) → IsTable rows → (filter (has_rowid id) rows ≡ []) ⊎ ((r : Row) × (filter (has_rowid id) rows ≡ r ∷ []))
+at_most_one id [] table = inl refl
+at_most_one id (r ∷ rows) table = go (has_rowid id r) refl (at_most_one id rows table.1)
+  where
+    go : (b : Bool) → has_rowid id r ≡ b → ((filter (has_rowid id) rows ≡ []) ⊎ ((x : Row) × (filter (has_rowid id) rows ≡ x ∷ [])))
+        → (cond b (r ∷ filter (has_rowid id) rows) (filter (has_rowid id) rows) ≡ []) ⊎ ((x : Row) × (cond b (r ∷ filter (has_rowid id) rows) (filter (has_rowid id) rows) ≡ x ∷ []))
+    go true is more = inr (r, ap (λ l. r ∷ l) (none_pass _ rows (later_rowids (Int id) r rows (is_not_less _ is) table.0)))
+    go false is more = more
+
+pub kept_all : (id : ℤ) (rows : List Row) → filter (has_rowid id) rows ≡ [] → without_rowid id rows ≡ rows
+kept_all id [] none = refl
+kept_all id (r ∷ rows) none = go (has_rowid id r) none (kept_all id rows)
+  where
+    go : (b : Bool) → cond b (r ∷ filter (has_rowid id) rows) (filter (has_rowid id) rows) ≡ [] → (filter (has_rowid id) rows ≡ [] → without_rowid id rows ≡ rows)
+        → cond (not b) (r ∷ without_rowid id rows) (without_rowid id rows) ≡ r ∷ rows
+    go true e more = absurd (let x = e in cc)
+    go false e more = ap (λ l. r ∷ l) (more e)
+
+pub has_found : {A : Type 0} (p : A → Bool) (xs : List A) (x : A) → find p xs ≡ Some x → Has xs x
+has_found p [] x h = absurd (let e = h in cc)
+has_found p (y ∷ ys) x h = go (p y) h (has_found p ys x)
+  where
+    go : (b : Bool) → cond b (Some y) (find p ys) ≡ Some x → (find p ys ≡ Some x → Has ys x) → Has (y ∷ ys) x
+    go true e more = inl (let e' = e in cc)
+    go false e more = inr (more e)
+
+pub cells_of : (id : ℤ) (r : Row) → rowid r ≡ Int id → r ≡ Int id ∷ drop 1 r
+cells_of id [] h = absurd (let e = h in cc)
+cells_of id (v ∷ cells) h = ap (λ x. x ∷ cells) h
+
+pub alone_in : {X : Type 0} (ys : List X) → IsPermutation [] ys → ys ≡ []
+alone_in [] h = refl
+alone_in (y ∷ ys) h = absurd (omega (arith, length_permutation [] (y ∷ ys) h))

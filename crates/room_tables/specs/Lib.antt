@@ -1,0 +1,11 @@
+pub mod Tables
+pub mod Shown
+pub mod Statements
+pub mod Meaning
+pub mod Keyed
+pub mod Filed
+pub mod Paired
+pub mod RoomRows
+pub mod Trust
+pub mod Seeing
+pub mod Columns

@@ -1,0 +1,10 @@
+//! The rows of a room in the tables of a SQLite database.
+#![tactic(auto)]
+
+mod columns;
+mod keeper;
+mod reading;
+mod seen;
+mod statements;
+
+pub use crate::keeper::Keeper;
