@@ -1,0 +1,13 @@
+pub mod Texts
+pub mod Steps
+pub mod Creates
+pub mod Within
+pub mod Meant
+pub mod FirstRows
+pub mod Founded
+pub mod Answers
+pub mod Asked
+pub mod Adopted
+pub mod Stamped
+pub mod Moving
+pub mod Migrated

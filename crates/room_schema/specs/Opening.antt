@@ -1,0 +1,69 @@
+-- What opening a room is.
+use Rattle.std.specs.Prelude.{◌≡◌, ◌≤◌, ◌<ℤ◌, ℤ, pos, Option, Some, None, Result, Ok, Err}
+use Rattle.std.specs.Prelude.{MatchResult, OnOk, IsTrue, false}
+use Rattle.sqlite_trees.specs.View.{doubt}
+use Rattle.sqlite_resolve.specs.declared.error.CompileError.{CompileError}
+use Rattle.sqlite.specs.State.{State, HasCleanDisk}
+use Rattle.sqlite.specs.declared.error.Error.{Error}
+use Rattle.sqlite.specs.declared.error.Error.TheVariants.{SqlInputError}
+use Rattle.room_tables.specs.Tables.{room_schema}
+use Rattle.room_schema.specs.Within.{IsWithin}
+use Rattle.room_schema.specs.NewRoom.{meta_of}
+use Rattle.room_schema.specs.declared.fault.OpenFault.{OpenFault}
+use Rattle.room_schema.specs.declared.fault.OpenFault.TheVariants.{NotRooms, OldVersion, NewVersion}
+use Rattle.room_schema.specs.declared.fault.OpenFault.TheVariants.{Db, Memory}
+
+abbrev pub IsNotUnderstood : Error → Type 0
+IsNotUnderstood e = (fault : CompileError) × (e ≡ SqlInputError fault)
+
+-- what a query that failed is called
+abbrev pub IsCalled : Error → OpenFault → Type 0
+IsCalled e NotRooms = IsNotUnderstood e
+IsCalled e (OldVersion n) = ⊥
+IsCalled e (NewVersion n) = ⊥
+IsCalled e Db = Unit {0}
+IsCalled e Memory = Unit {0}
+
+-- the database failed, or memory
+abbrev pub IsFailure : OpenFault → Type 0
+IsFailure NotRooms = ⊥
+IsFailure (OldVersion n) = ⊥
+IsFailure (NewVersion n) = ⊥
+IsFailure Db = Unit {0}
+IsFailure Memory = Unit {0}
+
+-- What is said where a schema of this number is wanted, and there is that number or none. The
+-- database may fail, and memory too.
+abbrev pub Says : ℤ → Option ℤ → Result (Unit {0}) OpenFault → Type 0
+Says wanted version (Ok _) = version ≡ Some wanted
+Says wanted version (Err NotRooms) = version ≡ None
+Says wanted version (Err (OldVersion n)) = (version ≡ Some n) × (n <ℤ wanted)
+Says wanted version (Err (NewVersion n)) = (version ≡ Some n) × (wanted <ℤ n)
+Says wanted version (Err Db) = Unit {0}
+Says wanted version (Err Memory) = Unit {0}
+
+-- The number of the schema is asked, inside a transaction.
+pub record AsksVersion (old new : State) (result : Result (Option ℤ) OpenFault) : Type 0 where
+  pub clean : doubt old.is_clean ≤ doubt new.is_clean
+  pub within : IsTrue old.in_transaction → IsWithin old new
+  pub told : HasCleanDisk new → old.now.schema ≡ room_schema
+      → MatchResult result (λ version. (version ≡ meta_of old.now) × (new.now ≡ old.now)) IsFailure
+
+-- The schema is expected to have this number.
+pub record Expects (wanted : ℤ) (old new : State)
+    (result : Result (Unit {0}) OpenFault) : Type 0 where
+  pub clean : doubt old.is_clean ≤ doubt new.is_clean
+  pub within : IsTrue old.in_transaction → IsWithin old new
+  pub told : HasCleanDisk new → old.now.schema ≡ room_schema
+      → Says wanted (meta_of old.now) result × OnOk result (new.now ≡ old.now)
+
+-- What opening a room is.
+pub record Adopts (old new : State) (result : Result (Unit {0}) OpenFault) : Type 0 where
+  pub ended : new.in_transaction ≡ false
+  pub clean : doubt old.is_clean ≤ doubt new.is_clean
+  pub was_open : HasCleanDisk new → IsTrue new.is_open → IsTrue old.is_open
+  -- nothing is changed
+  pub kept : HasCleanDisk new → IsTrue new.is_open
+      → (new.now ≡ old.now) × (new.committed ≡ old.committed)
+  -- over a room's tables the answer is what the row of `meta` says
+  pub told : HasCleanDisk new → old.now.schema ≡ room_schema → Says (pos 2) (meta_of old.now) result

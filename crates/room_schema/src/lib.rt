@@ -1,0 +1,18 @@
+//! What makes, recognizes and raises the tables of a room.
+#![tactic(auto)]
+
+mod adopting;
+mod fault;
+mod first_rows;
+mod founding;
+mod migrating;
+mod raising;
+mod tables;
+#[cfg(test)]
+mod tests;
+mod version;
+
+pub use adopting::adopt;
+pub use fault::{CreateFault, MigrateFault, OpenFault};
+pub use founding::create;
+pub use migrating::migrate;
