@@ -1,0 +1,10 @@
+pub mod Adding
+pub mod Cutting
+mod Examples
+pub mod FieldValues
+pub mod InJson
+pub mod NoFloat
+pub mod NoText
+mod Replies
+mod Routed
+pub mod Tables

@@ -1,0 +1,5 @@
+use Rattle.room_message.proofs.Tables.{allows}
+use Rattle.room_message.proofs.laws.allows_what_is_asked.Goals as goal
+
+pub returns : goal.returns
+returns c = allows

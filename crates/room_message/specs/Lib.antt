@@ -1,0 +1,12 @@
+pub mod Words
+pub mod Routes
+pub mod Target
+pub mod Fields
+pub mod Values
+pub mod Json
+pub mod Asked
+pub mod Form
+pub mod Bodies
+pub mod Reply
+pub mod Close
+pub mod Laws
