@@ -1,0 +1,16 @@
+//! Tests of connections at written examples. There is nothing here but tests: a crate with tests is
+//! proved twice, and so the crates below are proved once.
+#![tactic(auto)]
+
+#[cfg(test)]
+mod failing;
+#[cfg(test)]
+mod limits;
+#[cfg(test)]
+mod messages;
+#[cfg(test)]
+mod pieces;
+#[cfg(test)]
+mod scripts;
+#[cfg(test)]
+mod trees;

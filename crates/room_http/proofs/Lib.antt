@@ -1,0 +1,10 @@
+pub mod Digits
+pub mod FixedTexts
+pub mod Following
+pub mod Heads
+pub mod KnownBytes
+pub mod Runs
+pub mod Serving
+pub mod Telling
+pub mod Turning
+pub mod Unique

@@ -1,0 +1,200 @@
+-- A connection turn by turn.
+use Rattle.std.proofs.Common.{◌≡◌, ℕ, ℤ, ◌+◌, ◌<◌, true, false, length, List, [], ◌∷◌, ◌++◌, refl, sym, ap, subst, ◌∙◌, append_assoc, arith}
+use Rattle.std.proofs.lemmas.List.{append-nil, length-append}
+use Rattle.std.proofs.lemmas.List.Elements.{All-append, All-nil, All-from_recursion}
+use Rattle.std.proofs.lemmas.Grind.{flat_map-append}
+use Rattle.std.specs.Io.KnownBytes.{Appends}
+use Rattle.room_http.proofs.Runs.{Leads-then, Runs-none}
+use Rattle.room_http.specs.declared.ended.Cause.{Cause}
+use Rattle.room_http.specs.declared.ended.Ended.{Ended}
+use Rattle.room_http.specs.declared.ended.ServeFault.{ServeFault}
+use Rattle.room_http.specs.declared.server.Stop.{Stop}
+use Rattle.room_http.specs.Limits.{max_messages}
+use Rattle.room_http.specs.Message.{print_message}
+use Rattle.room_http.specs.Stream.{Exchange, IsOpen, exchange_text, bytes_of, texts_of, last_text, Last, last_exchange, Leads, Ends}
+use Rattle.room_http.specs.Serve.{Seen, Blames, FaultsRose, Serves, Stops, Connects, Next, next_text, next_exchange, IsNext, NextRose}
+use Rattle.room_http.specs.Turn.{Along, TurnsOpen, TurnsLast, TurnsStop}
+use Rattle.room_http.proofs.KnownBytes.{Appends-then, Appends-none, Consumes-then, Consumes-none}
+
+pub Along-begin : (holds : Type 0) (at : ℤ) (old : Seen) → Along holds at 0 old old []
+Along-begin holds at old = record {
+  read = [];
+  exchanges = [];
+  reads = Consumes-none old.left;
+  opens = record { whole = refl; each = All-nil IsOpen };
+  count = refl;
+  few = omega arith;
+  writes = Appends-none old.sent;
+  run = λ s. Runs-none old.content;
+  faults = refl;
+}
+
+-- the bytes of one more exchange
+bytes-then : (read buf more after : List ℕ) (xs : List Exchange) (x : Exchange)
+    → read ≡ bytes_of xs ++ buf → print_message x.message ++ after ≡ buf ++ more
+    → read ++ more ≡ bytes_of (xs ++ x ∷ []) ++ after
+bytes-then read buf more after xs x whole came =
+    let print : Exchange → List ℕ = λ y. print_message y.message in
+    let one : bytes_of (xs ++ x ∷ []) ≡ bytes_of xs ++ print x =
+    flat_map-append print xs (x ∷ []) ∙ ap (λ t. bytes_of xs ++ t) (append-nil (print x)) in
+    ap (λ t. t ++ more) whole ∙ append_assoc (bytes_of xs) buf more
+    ∙ ap (λ t. bytes_of xs ++ t) (sym came)
+    ∙ sym (append_assoc (bytes_of xs) (print x) after)
+    ∙ ap (λ t. t ++ after) (sym one)
+
+pub Along-then : (so_far one all : Type 0) (at : ℤ) (n : ℕ) (old mid new : Seen) (buf after : List ℕ)
+    → Along so_far at n old mid buf → (all → so_far) → (all → one) → TurnsOpen one at n mid new buf after
+    → Along all at (n + 1) old new after
+Along-then so_far one all at n old mid new buf after a f s t =
+    let xs = a.exchanges in
+    let x = t.x in
+    let text : List ℕ = exchange_text false x in
+    let one : texts_of (xs ++ x ∷ []) ≡ texts_of xs ++ text =
+    flat_map-append (exchange_text false) xs (x ∷ []) ∙ ap (λ k. texts_of xs ++ k) (append-nil text) in
+    let W : List ℕ → Type 0 = λ k. Appends old.sent new.sent k in
+    record {
+      read = a.read ++ t.came.0;
+      exchanges = xs ++ x ∷ [];
+      reads = Consumes-then old.left mid.left new.left a.read t.came.0 a.reads t.came.1;
+      opens = record {
+        whole = bytes-then a.read buf t.came.0 after xs x a.opens.whole t.came.2;
+        each = All-append IsOpen xs (x ∷ []) a.opens.each (All-from_recursion IsOpen (x ∷ []) (t.is_open, tt));
+      };
+      few = t.more;
+      count = ap (λ k. k + 1) a.count ∙ sym (length-append xs (x ∷ []));
+      writes = subst W (sym one) (Appends-then old.sent mid.sent new.sent (texts_of xs) text a.writes t.writes);
+      run = λ q. Leads-then old.content mid.content new.content at xs (x ∷ []) (a.run (f q)) (t.run (s q));
+      faults = t.faults ∙ a.faults;
+    }
+
+-- the bytes of what ends the connection
+bytes-last : (read buf more rest : List ℕ) (xs : List Exchange)
+    → read ≡ bytes_of xs ++ buf → rest ≡ buf ++ more → read ++ more ≡ bytes_of xs ++ rest
+bytes-last read buf more rest xs whole came =
+    ap (λ t. t ++ more) whole ∙ append_assoc (bytes_of xs) buf more ∙ ap (λ t. bytes_of xs ++ t) (sym came)
+
+pub Serves-from : (so_far one all : Type 0) (at : ℤ) (n : ℕ) (old mid new : Seen) (buf : List ℕ) (ended : Ended)
+    → Along so_far at n old mid buf → (all → so_far) → (all → one) → TurnsLast one at n mid new buf ended
+    → Serves all at old new ended
+Serves-from so_far one all at n old mid new buf ended a f s t =
+    let F : ℕ → Type 0 = λ f. FaultsRose t.last f new.faults in
+    let E : ℕ → Type 0 = λ k. Ends t.rest k t.last in
+    record {
+      read = a.read ++ t.came.0;
+      exchanges = a.exchanges;
+      last = t.last;
+      reads = Consumes-then old.left mid.left new.left a.read t.came.0 a.reads t.came.1;
+      stream = record {
+        rest = t.rest;
+        opens = record { whole = bytes-last a.read buf t.came.0 t.rest a.exchanges a.opens.whole t.came.2; each = a.opens.each };
+        few = subst (λ k. k < max_messages) a.count a.few;
+        ends = subst E a.count t.ends;
+      };
+      writes = Appends-then old.sent mid.sent new.sent (texts_of a.exchanges) (last_text t.last) a.writes t.writes;
+      ended_is = t.is;
+      at_end = t.at_end;
+      run = λ q. Leads-then old.content mid.content new.content at a.exchanges (last_exchange t.last) (a.run (f q)) (t.run (s q));
+      faults = subst F a.faults t.faults;
+    }
+
+pub Stops-from : (so_far one all : Type 0) (at : ℤ) (n : ℕ) (old mid new : Seen) (buf : List ℕ) (stop : Stop) (fault : ServeFault)
+    → fault.answered ≡ n → fault.acted ≡ stop.acted → fault.cause ≡ stop.cause
+    → Along so_far at n old mid buf → (all → so_far) → (all → one) → TurnsStop one at n mid new buf stop
+    → Stops all at old new fault
+Stops-from so_far one all at n old mid new buf stop fault answered acted cause a f s t =
+    let N : ℕ → Type 0 = λ k. IsNext t.rest k t.next in
+    let F : ℕ → Type 0 = λ f. NextRose t.next f new.faults in
+    record {
+      read = a.read ++ t.came.0;
+      exchanges = a.exchanges;
+      next = t.next;
+      rest = t.rest;
+      reads = Consumes-then old.left mid.left new.left a.read t.came.0 a.reads t.came.1;
+      opens = record { whole = bytes-last a.read buf t.came.0 t.rest a.exchanges a.opens.whole t.came.2; each = a.opens.each };
+      answered = answered ∙ a.count;
+      few = subst (λ k. k < max_messages) a.count a.few;
+      is_next = subst N a.count t.is_next;
+      begun = t.writes.0;
+      beginning = (t.writes.1, t.writes.2);
+      writes = Appends-then old.sent mid.sent new.sent (texts_of a.exchanges) t.writes.0 a.writes t.writes.3;
+      acted = acted ∙ t.acted;
+      cause = subst (λ (k : Cause). Blames k t.next t.writes.0) (sym cause) t.cause;
+      run = λ q. Leads-then old.content mid.content new.content at a.exchanges (next_exchange t.next) (a.run (f q)) (t.run (s q));
+      faults = subst F a.faults t.faults;
+    }
+
+-- ---- however it ended
+
+-- what came next where the connection ended so
+abbrev next_of : Last → Next
+next_of Last.Clean = Next.Unknown
+next_of Last.Cut = Next.Unknown
+next_of (Last.Refused refusal) = Next.Refusing refusal
+next_of (Last.Closing x) = Next.Exchanging x true
+next_of (Last.Failed m) = Next.Failing m
+
+is-next-of : (last : Last) (rest : List ℕ) (n : ℕ) → Ends rest n last → IsNext rest n (next_of last)
+is-next-of Last.Clean rest n e = tt
+is-next-of Last.Cut rest n e = tt
+is-next-of (Last.Refused refusal) rest n e = e
+is-next-of (Last.Closing x) rest n e = e
+is-next-of (Last.Failed m) rest n e = e
+
+next-text-of : (last : Last) → next_text (next_of last) ≡ last_text last
+next-text-of Last.Clean = refl
+next-text-of Last.Cut = refl
+next-text-of (Last.Refused refusal) = refl
+next-text-of (Last.Closing x) = refl
+next-text-of (Last.Failed m) = refl
+
+next-exchange-of : (last : Last) → last_exchange last ≡ next_exchange (next_of last)
+next-exchange-of Last.Clean = refl
+next-exchange-of Last.Cut = refl
+next-exchange-of (Last.Refused refusal) = refl
+next-exchange-of (Last.Closing x) = refl
+next-exchange-of (Last.Failed m) = refl
+
+next-rose-of : (last : Last) (old new : ℕ) → FaultsRose last old new → NextRose (next_of last) old new
+next-rose-of Last.Clean old new f = f
+next-rose-of Last.Cut old new f = f
+next-rose-of (Last.Refused refusal) old new f = f
+next-rose-of (Last.Closing x) old new f = f
+next-rose-of (Last.Failed m) old new f = f
+
+pub served-connects : (holds : Type 0) (at : ℤ) (old new : Seen) (ended : Ended)
+    → Serves holds at old new ended → Connects holds at old new
+served-connects holds at old new ended s =
+    let L : List Exchange → Type 0 = λ ys. Leads old.content at (s.exchanges ++ ys) new.content in
+    record {
+      read = s.read;
+      exchanges = s.exchanges;
+      next = next_of s.last;
+      rest = s.stream.rest;
+      reads = s.reads;
+      opens = s.stream.opens;
+      few = s.stream.few;
+      is_next = is-next-of s.last s.stream.rest (length s.exchanges) s.stream.ends;
+      begun = last_text s.last;
+      beginning = ([], next-text-of s.last ∙ sym (append-nil (last_text s.last)));
+      writes = s.writes;
+      run = λ h. subst L (next-exchange-of s.last) (s.run h);
+      faults = next-rose-of s.last old.faults new.faults s.faults;
+    }
+
+pub stopped-connects : (holds : Type 0) (at : ℤ) (old new : Seen) (fault : ServeFault)
+    → Stops holds at old new fault → Connects holds at old new
+stopped-connects holds at old new fault s = record {
+  read = s.read;
+  exchanges = s.exchanges;
+  next = s.next;
+  rest = s.rest;
+  reads = s.reads;
+  opens = s.opens;
+  few = s.few;
+  is_next = s.is_next;
+  begun = s.begun;
+  beginning = s.beginning;
+  writes = s.writes;
+  run = s.run;
+  faults = s.faults;
+}

@@ -1,0 +1,272 @@
+-- One turn of the server.
+use Rattle.std.proofs.Common.{◌≡◌, ℕ, ℤ, ◌+◌, ◌<◌, ◌||◌, ◌==◌, Bool, true, false, List, [], ◌∷◌, ◌++◌, drop, refl, sym, ap, subst, ◌∙◌, arith, Option, Some, None, unwrap_or, Result, Ok, Err, IfOk, IfErr}
+use Rattle.std.proofs.Common.{◌≢◌}
+use Rattle.std.proofs.lemmas.Bool.{eq-eqb, true≢false}
+use Rattle.std.proofs.lemmas.List.{append-nil}
+use Rattle.std.specs.List.{slice_range}
+use Rattle.std.specs.Io.KnownBytes.{Appends, IsAtEnd}
+use Rattle.room_rows.specs.Content.{Content}
+use Rattle.room_machine.specs.declared.reply.Reply.{Reply}
+use Rattle.room_machine.specs.Run.{Event}
+use Rattle.room_message.specs.declared.head.Head.{Head}
+use Rattle.room_message.specs.Asked.{request_of}
+use Rattle.room_message.specs.Close.{asks_close}
+use Rattle.room_http.proofs.Runs.{Runs-none}
+use Rattle.room_http.specs.declared.next.NextMessage.{NextMessage}
+use Rattle.room_http.specs.declared.ended.Ended.{Ended}
+use Rattle.room_http.specs.declared.server.Stop.{Stop}
+use Rattle.room_http.specs.Limits.{max_messages}
+use Rattle.room_http.specs.Message.{Message, print_message, IsRefused, IsPart, asked, closes, head_of}
+use Rattle.room_http.specs.Text.{store_text, refusal_text}
+use Rattle.room_http.specs.Stream.{Last, answer_text, events_from, Runs, Leads, says_close}
+use Rattle.room_http.specs.Spans.{Came}
+use Rattle.room_http.specs.Serve.{Seen, Next, BlamesBefore}
+use Rattle.room_http.specs.Turn.{TurnsOpen, TurnsLast, TurnsStop, Turns, WholeNext}
+use Rattle.room_http.specs.Tell.{Replies, Fails, Begun, IsBegun, StopsWithin}
+use Rattle.room_http.proofs.KnownBytes.{Appends-none, Came-none, Came-then, Consumes-none}
+use Rattle.room_http.specs.declared.refusal.Refusal.{Refusal}
+
+-- the message asks what its copied head and its body ask
+pub asks-the-same : (buf : List ℕ) (next : NextMessage) (w : WholeNext buf next)
+    → request_of next.head (slice_range buf next.start next.end) ≡ asked w.message
+asks-the-same buf next w =
+    ap (λ (h : Head). request_of h (slice_range buf next.start next.end)) w.head
+    ∙ ap (λ b. request_of (head_of w.message.head) b) w.body
+
+pub closes-the-same : (buf : List ℕ) (next : NextMessage) (w : WholeNext buf next) (n : ℕ) (close : Bool)
+    → close ≡ (asks_close next.head || ((n + 1) == max_messages)) → says_close w.message n ≡ close
+closes-the-same buf next w n close e =
+    ap (λ (h : Head). asks_close h || ((n + 1) == max_messages)) (sym w.head) ∙ sym e
+
+or-first : (a b : Bool) → (a || b) ≡ false → a ≡ false
+or-first true b h = h
+or-first false b h = refl
+
+or-second : (a b : Bool) → (a || b) ≡ false → b ≡ false
+or-second true true h = h
+or-second true false h = refl
+or-second false b h = h
+
+not-last : (n : ℕ) → n < max_messages → ((n + 1) == max_messages) ≡ false → n + 1 < max_messages
+not-last n few off =
+    let ne : n + 1 ≢ max_messages = λ e. true≢false (sym (eq-eqb (n + 1) max_messages e) ∙ off) in
+    omega (arith, ne, few)
+
+-- one exchange of a run
+leads-one : (at : ℤ) (old new : Content → Type 0) (m : Message) (reply : Option Reply)
+    → Runs old (events_from at (asked m) reply) new
+    → Leads old at (record { message = m; reply = reply } ∷ []) new
+leads-one at old new m reply run =
+    subst (λ (events : List Event). Runs old events new)
+    (sym (append-nil (events_from at (asked m) reply))) run
+
+pub take-open : (holds : Type 0) (at : ℤ) (n : ℕ) (old new : Seen) (buf after : List ℕ) (next : NextMessage) (w : WholeNext buf next)
+    (reply : Option Reply) → n < max_messages → new.left ≡ old.left → says_close w.message n ≡ false → after ≡ drop next.end buf
+    → Replies holds at (asked w.message) old new reply → Appends old.sent new.sent (answer_text false (asked w.message) reply)
+    → TurnsOpen holds at n old new buf after
+take-open holds at n old new buf after next w reply few same stays rest r wrote =
+    let m = w.message in
+    let L : Option (List ℕ) → Type 0 = λ l. Came old.left l buf (print_message m ++ after) in
+    let whole : print_message m ++ after ≡ buf = ap (λ t. print_message m ++ t) rest ∙ sym w.whole in
+    let off : ((n + 1) == max_messages) ≡ false = or-second (closes m) ((n + 1) == max_messages) stays in
+    record {
+      x = record { message = m; reply = reply };
+      is_open = record { is = record { message = w.is; agrees = r.agrees }; stays = or-first (closes m) ((n + 1) == max_messages) stays };
+      more = not-last n few off;
+      came = subst L (sym same) ([], Consumes-none old.left, whole ∙ sym (append-nil buf));
+      writes = wrote;
+      run = λ s. leads-one at old.content new.content m reply (r.run s);
+      faults = r.faults;
+    }
+
+came-same : (u v : Option (List ℕ)) (buf : List ℕ) → v ≡ u → Came u v buf buf
+came-same u v buf e =
+    let L : Option (List ℕ) → Type 0 = λ l. Came u l buf buf in
+    subst L (sym e) (Came-none u buf)
+
+pub take-closing : (holds : Type 0) (at : ℤ) (n : ℕ) (old new : Seen) (buf : List ℕ) (next : NextMessage) (w : WholeNext buf next)
+    (reply : Option Reply) → new.left ≡ old.left → says_close w.message n ≡ true
+    → Replies holds at (asked w.message) old new reply → Appends old.sent new.sent (answer_text true (asked w.message) reply)
+    → TurnsLast holds at n old new buf Ended.Closed
+take-closing holds at n old new buf next w reply same close r wrote =
+    let m = w.message in
+    record {
+      last = Last.Closing (record { message = m; reply = reply });
+      is = refl;
+      rest = buf;
+      came = came-same old.left new.left buf same;
+      ends = (record { message = w.is; agrees = r.agrees }, close, (drop next.end buf, w.whole));
+      writes = wrote;
+      at_end = tt;
+      run = λ s. leads-one at old.content new.content m reply (r.run s);
+      faults = r.faults;
+    }
+
+pub take-failed : (holds : Type 0) (at : ℤ) (n : ℕ) (old new : Seen) (buf : List ℕ) (next : NextMessage) (w : WholeNext buf next)
+    → new.left ≡ old.left → Fails holds (asked w.message) old new → Appends old.sent new.sent store_text
+    → TurnsLast holds at n old new buf Ended.Closed
+take-failed holds at n old new buf next w same f wrote =
+    record {
+      last = Last.Failed w.message;
+      is = refl;
+      rest = buf;
+      came = came-same old.left new.left buf same;
+      ends = (w.is, f.0, (drop next.end buf, w.whole));
+      writes = wrote;
+      at_end = tt;
+      run = λ s room is. (room, refl, f.1 s room is);
+      faults = f.2;
+    }
+
+pub take-stop : (holds : Type 0) (at : ℤ) (n : ℕ) (old new : Seen) (buf : List ℕ) (next : NextMessage) (w : WholeNext buf next)
+    (close : Bool) (stop : Stop) (begun : Begun) → new.left ≡ old.left → says_close w.message n ≡ close
+    → IsBegun holds at close (asked w.message) old new stop.acted stop.cause begun
+    → TurnsStop holds at n old new buf stop
+take-stop holds at n old new buf next w close stop Begun.Nothing same e b =
+    record {
+      next = Next.Unknown;
+      rest = buf;
+      came = came-same old.left new.left buf same;
+      is_next = tt;
+      writes = ([], [], refl, b.0);
+      acted = b.1;
+      cause = subst BlamesBefore (sym b.4) tt;
+      run = λ s room is. (room, refl, b.2 room is);
+      faults = b.3;
+    }
+take-stop holds at n old new buf next w close stop (Begun.Telling reply) same e b =
+    let m = w.message in
+    record {
+      next = Next.Exchanging (record { message = m; reply = reply }) close;
+      rest = buf;
+      came = came-same old.left new.left buf same;
+      is_next = (record { message = w.is; agrees = b.0.agrees }, e, (drop next.end buf, w.whole));
+      writes = b.1.0;
+      acted = b.2;
+      cause = b.1.1;
+      run = λ s. leads-one at old.content new.content m reply (b.0.run s);
+      faults = b.0.faults;
+    }
+take-stop holds at n old new buf next w close stop Begun.Failing same e b =
+    record {
+      next = Next.Failing w.message;
+      rest = buf;
+      came = came-same old.left new.left buf same;
+      is_next = (w.is, b.0.0, (drop next.end buf, w.whole));
+      writes = b.1.0;
+      acted = b.2;
+      cause = b.1.1;
+      run = λ s room is. (room, refl, b.0.1 s room is);
+      faults = b.0.2;
+    }
+
+-- a turn after more bytes came
+pub shift : (holds : Type 0) (at : ℤ) (n : ℕ) (left mid sent : Option (List ℕ)) (content : Content → Type 0) (faults : ℕ) (new : Seen)
+    (buf came after : List ℕ) (result : Result (Option Ended) Stop)
+    → Came left mid buf came
+    → Turns holds at n (record { left = mid; sent = sent; content = content; faults = faults }) new came after result
+    → Turns holds at n (record { left = left; sent = sent; content = content; faults = faults }) new buf after result
+shift holds at n left mid sent content faults new buf came after (Ok None) more t = record {
+  x = t.x;
+  is_open = t.is_open;
+  more = t.more;
+  came = Came-then left mid new.left buf came (print_message t.x.message ++ after) more t.came;
+  writes = t.writes;
+  run = t.run;
+  faults = t.faults;
+}
+shift holds at n left mid sent content faults new buf came after (Ok (Some ended)) more t = record {
+  last = t.last;
+  is = t.is;
+  rest = t.rest;
+  came = Came-then left mid new.left buf came t.rest more t.came;
+  ends = t.ends;
+  writes = t.writes;
+  at_end = t.at_end;
+  run = t.run;
+  faults = t.faults;
+}
+shift holds at n left mid sent content faults new buf came after (Err stop) more t = record {
+  next = t.next;
+  rest = t.rest;
+  came = Came-then left mid new.left buf came t.rest more t.came;
+  is_next = t.is_next;
+  writes = t.writes;
+  acted = t.acted;
+  cause = t.cause;
+  run = t.run;
+  faults = t.faults;
+}
+
+-- what stands at the front was refused
+none-is-no-some : {A : Type 0} {x : A} → None ≡ Some x → ⊥
+none-is-no-some {A} {x} e =
+    let P : Option A → Type 0 = λ o. elim o [ None ↦ Unit {0} | Some y ↦ ⊥ ] in
+    subst P e tt
+
+some-same : {A : Type 0} (x y : A) → Some x ≡ Some y → x ≡ y
+some-same x y e = ap (λ o. unwrap_or o x) e
+
+pub turn-refused : (holds : Type 0) (at : ℤ) (n : ℕ) (left mid sent wrote : Option (List ℕ)) (content : Content → Type 0) (faults : ℕ)
+    (buf came after : List ℕ) (reason : Refusal) (result : Result (Option Ended) Stop)
+    → Came left mid buf came → IsRefused came reason
+    → IfOk result (λ ended. (ended ≡ Some Ended.Closed) × Appends sent wrote (refusal_text reason))
+    → IfErr result (λ stop. (stop.acted ≡ false) × StopsWithin sent wrote (refusal_text reason) stop.cause)
+    → Turns holds at n (record { left = left; sent = sent; content = content; faults = faults })
+    (record { left = mid; sent = wrote; content = content; faults = faults }) buf after result
+turn-refused holds at n left mid sent wrote content faults buf came after reason (Ok None) more is ok err = absurd (none-is-no-some ok.0)
+turn-refused holds at n left mid sent wrote content faults buf came after reason (Ok (Some ended)) more is ok err = record {
+  last = Last.Refused reason;
+  is = some-same ended Ended.Closed ok.0;
+  rest = came;
+  came = more;
+  ends = is;
+  writes = ok.1;
+  at_end = tt;
+  run = λ s. Runs-none content;
+  faults = refl;
+}
+turn-refused holds at n left mid sent wrote content faults buf came after reason (Err stop) more is ok err = record {
+  next = Next.Refusing reason;
+  rest = came;
+  came = more;
+  is_next = is;
+  writes = err.1.0;
+  acted = err.0;
+  cause = err.1.1;
+  run = λ s. Runs-none content;
+  faults = refl;
+}
+
+-- the input ended
+pub turn-clean : (holds : Type 0) (at : ℤ) (n : ℕ) (left mid sent : Option (List ℕ)) (content : Content → Type 0) (faults : ℕ)
+    (buf came : List ℕ) → Came left mid buf came → IsAtEnd mid × (came ≡ [])
+    → TurnsLast holds at n (record { left = left; sent = sent; content = content; faults = faults })
+    (record { left = mid; sent = sent; content = content; faults = faults }) buf Ended.Clean
+turn-clean holds at n left mid sent content faults buf came more e = record {
+  last = Last.Clean;
+  is = refl;
+  rest = came;
+  came = more;
+  ends = e.1;
+  writes = Appends-none sent;
+  at_end = e.0;
+  run = λ s. Runs-none content;
+  faults = refl;
+}
+
+pub turn-cut : (holds : Type 0) (at : ℤ) (n : ℕ) (left mid sent : Option (List ℕ)) (content : Content → Type 0) (faults : ℕ)
+    (buf came : List ℕ) → Came left mid buf came → IsAtEnd mid × IsPart came
+    → TurnsLast holds at n (record { left = left; sent = sent; content = content; faults = faults })
+    (record { left = mid; sent = sent; content = content; faults = faults }) buf Ended.Cut
+turn-cut holds at n left mid sent content faults buf came more e = record {
+  last = Last.Cut;
+  is = refl;
+  rest = came;
+  came = more;
+  ends = e.1;
+  writes = Appends-none sent;
+  at_end = e.0;
+  run = λ s. Runs-none content;
+  faults = refl;
+}

@@ -1,0 +1,81 @@
+-- What answering one message gives (own).
+use Rattle.std.specs.Prelude.{◌≡◌, ℕ, ℤ, ◌-◌, ◌^◌, ◌<◌, ◌≤◌, ◌⊎◌, Bool, true, false, List, Result}
+use Rattle.std.specs.Prelude.{Ok, Err}
+use Rattle.room_rows.specs.Content.{Content}
+use Rattle.room_machine.specs.declared.desk.DeskFault.{DeskFault}
+use Rattle.room_machine.specs.declared.reply.Reply.{Reply}
+use Rattle.room_machine.specs.Desk.{Steps}
+use Rattle.room_message.specs.Asked as message
+use Rattle.room_message.specs.Reply.{reply_text, fault_text}
+use Rattle.room_message.specs.declared.fault.HttpFault.{HttpFault}
+use Rattle.room_http.specs.declared.told.Answer.{Answer}
+use Rattle.room_http.specs.declared.told.Response.{Response}
+use Rattle.room_http.specs.declared.told.Lost.{Lost}
+use Rattle.room_http.specs.Message.{Asked}
+use Rattle.room_http.specs.Stream.{Asks}
+
+-- what the desk kept it keeps
+abbrev pub Keeps : (Content → Type 0) → (Content → Type 0) → Type 0
+Keeps old new = (room : Content) → old room → new room
+
+-- the desk took the step that the message asks for, and replied so
+pub record Stepped (holds : Type 0) (at : ℤ) (old new : Content → Type 0) (asked : Asked)
+    (reply : Reply) : Type 0 where
+  pub call : message.Message
+  pub asks : asked ≡ Ok call
+  pub step : holds → Steps {E = DeskFault} old call.0 at call.1 (Ok reply) new
+
+-- the step was taken where the flag says so, and else nothing was done
+abbrev pub ActedIf : Bool → Type 0 → ℤ → (Content → Type 0) → (Content → Type 0) → Asked → Type 0
+ActedIf true holds at old new asked = (reply : Reply) × Stepped holds at old new asked reply
+ActedIf false holds at old new asked = Keeps old new
+
+-- the text of the first test that fails, where the desk did nothing
+abbrev pub TellsFault : Bool → Asked → (Content → Type 0) → (Content → Type 0) → List ℕ → Type 0
+TellsFault close asked old new text =
+    ((fault : HttpFault) × (asked ≡ Err fault) × (text ≡ fault_text fault close)) × Keeps old new
+
+-- the text of the desk's reply, where it took the step
+abbrev pub TellsReply : Type 0 → ℤ → Bool → Asked → (Content → Type 0) → (Content → Type 0)
+    → List ℕ → Type 0
+TellsReply holds at close asked old new text =
+    (reply : Reply) × Stepped holds at old new asked reply × (text ≡ reply_text reply close)
+
+-- the count of faults rose, as far as it can
+abbrev pub Rose : ℕ → ℕ → Type 0
+Rose old new = (old < new) ⊎ (2 ^ 64 - 1 ≤ old)
+
+-- the desk failed at what the message asks
+abbrev pub Failed : Type 0 → Asked → (Content → Type 0) → (Content → Type 0) → ℕ → ℕ → Type 0
+Failed holds asked old new faults_old faults_new =
+    Asks asked × (holds → Keeps old new) × Rose faults_old faults_new
+
+abbrev pub Responds : Type 0 → ℤ → Bool → Asked → (Content → Type 0) → (Content → Type 0)
+    → ℕ → ℕ → Result Response Lost → Type 0
+Responds holds at close asked old new faults_old faults_new (Ok (Response.Refused text)) =
+    TellsFault close asked old new text.items × (faults_new ≡ faults_old)
+Responds holds at close asked old new faults_old faults_new (Ok (Response.Replied text)) =
+    TellsReply holds at close asked old new text.items × (faults_new ≡ faults_old)
+Responds holds at close asked old new faults_old faults_new (Ok Response.Fault) =
+    Failed holds asked old new faults_old faults_new
+Responds holds at close asked old new faults_old faults_new (Err lost) =
+    ActedIf lost.acted holds at old new asked × (faults_new ≡ faults_old)
+
+-- the same where the desk isn't asked
+abbrev pub Refuses : HttpFault → Bool → Result Response Lost → Type 0
+Refuses fault close (Ok (Response.Refused text)) = text.items ≡ fault_text fault close
+Refuses fault close (Ok (Response.Replied text)) = ⊥
+Refuses fault close (Ok Response.Fault) = ⊥
+Refuses fault close (Err lost) = lost.acted ≡ false
+
+-- What the answer to a message says of the text and of the desk, between two moments. `holds` is
+-- what has to hold of the desk for what is said of its steps.
+abbrev pub Answers : Type 0 → ℤ → Bool → Asked → (Content → Type 0) → (Content → Type 0)
+    → ℕ → ℕ → Result Answer Lost → Type 0
+Answers holds at close asked old new faults_old faults_new (Ok (Answer.Text text)) =
+    (TellsFault close asked old new text.items ⊎ TellsReply holds at close asked old new text.items)
+    × (faults_new ≡ faults_old)
+Answers holds at close asked old new faults_old faults_new (Ok Answer.Fault) =
+    Failed holds asked old new faults_old faults_new
+Answers holds at close asked old new faults_old faults_new (Err lost) =
+    ActedIf lost.acted holds at old new asked × (faults_new ≡ faults_old)

@@ -1,0 +1,10 @@
+pub mod Limits
+pub mod Message
+pub mod Text
+pub mod Stream
+pub mod Answer
+pub mod Serve
+pub mod Laws
+pub mod Spans
+pub mod Turn
+pub mod Tell

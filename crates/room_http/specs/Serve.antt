@@ -1,0 +1,145 @@
+-- What serving a connection gives (own).
+use Rattle.std.specs.Prelude.{◌≡◌, ℕ, ℤ, ◌<◌, Bool, false, List, [], ◌∷◌, ◌++◌, length, Option}
+use Rattle.std.specs.Prelude.{is_some, ⊤}
+use Rattle.std.specs.Io.KnownBytes.{Appends, Consumes, IsAtEnd}
+use Rattle.room_rows.specs.Content.{Content}
+use Rattle.room_http.specs.declared.ended.Cause.{Cause}
+use Rattle.room_http.specs.declared.ended.Ended.{Ended}
+use Rattle.room_http.specs.declared.ended.ServeFault.{ServeFault}
+use Rattle.room_http.specs.declared.refusal.Refusal.{Refusal}
+use Rattle.room_http.specs.Limits.{max_messages}
+use Rattle.room_http.specs.Message.{Message, IsMessage, IsRefused, asked}
+use Rattle.room_http.specs.Text.{refusal_text, store_text}
+use Rattle.room_http.specs.Answer.{Rose}
+use Rattle.room_http.specs.Stream.{Exchange, IsExchange, exchange_text, Last, Asks, says_close}
+use Rattle.room_http.specs.Stream.{StartsWith, ended_of, last_text, last_exchange, Leads, Opens}
+use Rattle.room_http.specs.Stream.{Stream, texts_of}
+
+-- what can be told at one moment: the bytes that the reader has left and that the writer took, what
+-- the desk keeps, and how often it failed
+pub record Seen : Type 1 where
+  pub left : Option (List ℕ)
+  pub sent : Option (List ℕ)
+  pub content : Content → Type 0
+  pub faults : ℕ
+
+-- the reader has nothing left where the end says so
+abbrev pub AtEndIf : Last → Option (List ℕ) → Type 0
+AtEndIf Last.Clean left = IsAtEnd left
+AtEndIf Last.Cut left = IsAtEnd left
+AtEndIf last left = ⊤
+
+-- the count of faults rose where the desk failed, and nowhere else
+abbrev pub FaultsRose : Last → ℕ → ℕ → Type 0
+FaultsRose (Last.Failed m) old new = Rose old new
+FaultsRose last old new = new ≡ old
+
+-- A connection that ended: what was read is a stream, what was written its replies, and what the
+-- desk did their run. `holds` is what has to hold of the desk for that.
+pub record Serves (holds : Type 0) (at : ℤ) (old new : Seen) (ended : Ended) : Type 0 where
+  pub read : List ℕ
+  pub exchanges : List Exchange
+  pub last : Last
+  pub reads : Consumes old.left new.left read
+  pub stream : Stream read exchanges last
+  pub writes : Appends old.sent new.sent (texts_of exchanges ++ last_text last)
+  pub ended_is : ended ≡ ended_of last
+  pub at_end : AtEndIf last new.left
+  pub run : holds → Leads old.content at (exchanges ++ last_exchange last) new.content
+  pub faults : FaultsRose last old.faults new.faults
+
+-- ---- a connection that a fault ended
+
+-- what comes next, as far as the fault lets it be known: an exchange, with what its reply says of
+-- the connection; a refusal; or a message that the desk failed at
+pub data Next : Type 0 where
+  Unknown : Next
+  Exchanging : Exchange → Bool → Next
+  Refusing : Refusal → Next
+  Failing : Message → Next
+
+-- it stands at the front of the bytes that are left, after so many exchanges
+abbrev pub IsNext : List ℕ → ℕ → Next → Type 0
+IsNext left n Next.Unknown = ⊤
+IsNext left n (Next.Exchanging x close) =
+    IsExchange x × (says_close x.message n ≡ close) × StartsWith left x.message
+IsNext left n (Next.Refusing refusal) = IsRefused left refusal
+IsNext left n (Next.Failing m) = IsMessage m × Asks (asked m) × StartsWith left m
+
+abbrev pub next_text : Next → List ℕ
+next_text Next.Unknown = []
+next_text (Next.Exchanging x close) = exchange_text close x
+next_text (Next.Refusing refusal) = refusal_text refusal
+next_text (Next.Failing m) = store_text
+
+abbrev pub next_exchange : Next → List Exchange
+next_exchange (Next.Exchanging x close) = x ∷ []
+next_exchange next = []
+
+-- the desk took the step of the next message
+abbrev pub did_act : Next → Bool
+did_act (Next.Exchanging x close) = is_some x.reply
+did_act next = false
+
+-- the count of faults rose where the desk failed, and nowhere else
+abbrev pub NextRose : Next → ℕ → ℕ → Type 0
+NextRose (Next.Failing m) old new = Rose old new
+NextRose next old new = new ≡ old
+
+-- what failed before the next message was known
+abbrev pub BlamesBefore : Cause → Type 0
+BlamesBefore Cause.Read = ⊤
+BlamesBefore Cause.Write = ⊥
+BlamesBefore Cause.Memory = ⊤
+
+-- what failed once a text was due, of which this was written
+abbrev pub BlamesText : Cause → List ℕ → Type 0
+BlamesText Cause.Read begun = ⊥
+BlamesText Cause.Write begun = ⊤
+BlamesText Cause.Memory begun = begun ≡ []
+
+abbrev pub Blames : Cause → Next → List ℕ → Type 0
+Blames cause Next.Unknown begun = BlamesBefore cause
+Blames cause (Next.Exchanging x close) begun = BlamesText cause begun
+Blames cause (Next.Refusing refusal) begun = BlamesText cause begun
+Blames cause (Next.Failing m) begun = BlamesText cause begun
+
+-- A connection that a fault ended: so many replies went out whole, and then a beginning of the next
+-- one's text, perhaps nothing of it.
+pub record Stops (holds : Type 0) (at : ℤ) (old new : Seen) (fault : ServeFault) : Type 0 where
+  pub read : List ℕ
+  pub exchanges : List Exchange
+  pub next : Next
+  pub rest : List ℕ
+  pub reads : Consumes old.left new.left read
+  pub opens : Opens read exchanges rest
+  pub answered : fault.answered ≡ length exchanges
+  pub few : length exchanges < max_messages
+  pub is_next : IsNext rest (length exchanges) next
+  pub begun : List ℕ
+  pub beginning : (back : List ℕ) × (next_text next ≡ begun ++ back)
+  pub writes : Appends old.sent new.sent (texts_of exchanges ++ begun)
+  pub acted : fault.acted ≡ did_act next
+  pub cause : Blames fault.cause next begun
+  pub run : holds → Leads old.content at (exchanges ++ next_exchange next) new.content
+  pub faults : NextRose next old.faults new.faults
+
+-- ---- however it ended
+
+-- What a connection is, however it ended: the bytes that were read begin with messages that leave
+-- it open; what was written are their replies, and a beginning of what comes next; and what the
+-- desk did is a run of the room machine over them, with the next message where its step was taken.
+pub record Connects (holds : Type 0) (at : ℤ) (old new : Seen) : Type 0 where
+  pub read : List ℕ
+  pub exchanges : List Exchange
+  pub next : Next
+  pub rest : List ℕ
+  pub reads : Consumes old.left new.left read
+  pub opens : Opens read exchanges rest
+  pub few : length exchanges < max_messages
+  pub is_next : IsNext rest (length exchanges) next
+  pub begun : List ℕ
+  pub beginning : (back : List ℕ) × (next_text next ≡ begun ++ back)
+  pub writes : Appends old.sent new.sent (texts_of exchanges ++ begun)
+  pub run : holds → Leads old.content at (exchanges ++ next_exchange next) new.content
+  pub faults : NextRose next old.faults new.faults

@@ -1,0 +1,67 @@
+-- The parts of a head, as spans of its own bytes, and what the look for a head found.
+use Rattle.std.specs.Prelude.{◌≡◌, ℕ, ◌<◌, ◌≤◌, ◌⊎◌, List, ◌++◌, length, take, drop, map, All}
+use Rattle.std.specs.Prelude.{Option}
+use Rattle.std.specs.Io.KnownBytes.{Consumes, IsAtEnd}
+use Rattle.httparse.specs.declared.spans.HeaderSpan.{HeaderSpan}
+use Rattle.httparse.specs.declared.spans.RequestSpans.{RequestSpans}
+use Rattle.httparse.specs.Grammar.{RequestHead, print_request, HasNoRequest, NeverHasRequest}
+use Rattle.httparse.specs.Grammar.{MayBecomeRequest}
+use Rattle.httparse.specs.Spans.{span_bytes, header_bytes, IsWithin, IsHeaderWithin, AreFieldsAt}
+use Rattle.room_message.specs.declared.head.Head.{Head}
+use Rattle.room_http.specs.declared.cut.HeadScan.{HeadScan}
+use Rattle.room_http.specs.declared.cut.HeadRead.{HeadRead}
+use Rattle.room_http.specs.declared.refusal.Refusal.{Refusal}
+use Rattle.room_http.specs.Limits.{max_head}
+use Rattle.room_http.specs.Message.{field_of, IsHead, BeginsWith, HasNoHead, HasTooMany}
+
+-- the spans cover the parts of the head
+pub record AreSpansOf (spans : List HeaderSpan) (r : RequestSpans) (h : RequestHead) : Type 0 where
+  pub len : r.len ≡ length (print_request h)
+  pub method_in : IsWithin r.len r.method
+  pub path_in : IsWithin r.len r.path
+  pub fields_in : All (IsHeaderWithin r.len) (take r.headers spans)
+  pub count : r.headers ≤ length spans
+  pub method : span_bytes (print_request h) r.method ≡ h.method
+  pub path : span_bytes (print_request h) r.path ≡ h.target
+  pub version : r.version ≡ h.minor
+  pub fields : AreFieldsAt (print_request h) spans r.headers h.fields
+
+-- the parts that the spans cover
+abbrev pub head_at : List ℕ → List HeaderSpan → RequestSpans → Head
+head_at bytes spans r = record {
+  method = span_bytes bytes r.method;
+  target = span_bytes bytes r.path;
+  minor = r.version;
+  fields = map field_of (map (header_bytes bytes) (take r.headers spans));
+}
+
+-- what the look for a head found
+abbrev pub Scans : List ℕ → List HeaderSpan → HeadScan → Type 0
+Scans buf spans (HeadScan.Whole r) =
+    (h : RequestHead) × BeginsWith buf h (drop r.len buf) × AreSpansOf spans r h
+Scans buf spans HeadScan.Part =
+    (length buf < max_head) × HasNoRequest buf × MayBecomeRequest buf
+Scans buf spans (HeadScan.Refused refusal) = HasNoHead buf refusal
+
+-- what it found in the bytes where a head may stand
+abbrev pub ScansWindow : List ℕ → List HeaderSpan → HeadScan → Type 0
+ScansWindow w spans (HeadScan.Whole r) =
+    (h : RequestHead) × IsHead h × (w ≡ print_request h ++ drop r.len w) × AreSpansOf spans r h
+ScansWindow w spans HeadScan.Part = (length w < max_head) × HasNoRequest w × MayBecomeRequest w
+ScansWindow w spans (HeadScan.Refused Refusal.BadHead) = NeverHasRequest w
+ScansWindow w spans (HeadScan.Refused Refusal.TooManyFields) =
+    HasTooMany w ⊎ ((max_head ≤ length w) × HasNoRequest w × MayBecomeRequest w)
+ScansWindow w spans (HeadScan.Refused refusal) = ⊥
+
+-- these bytes came from the reader, behind those that were there
+abbrev pub Came : Option (List ℕ) → Option (List ℕ) → List ℕ → List ℕ → Type 0
+Came old_left new_left old new =
+    (more : List ℕ) × Consumes old_left new_left more × (new ≡ old ++ more)
+
+-- what was found when the reading of a head ended
+abbrev pub HeadCame : List ℕ → List HeaderSpan → Option (List ℕ) → HeadRead → Type 0
+HeadCame buf spans left (HeadRead.Found r) =
+    (h : RequestHead) × BeginsWith buf h (drop r.len buf) × AreSpansOf spans r h
+HeadCame buf spans left HeadRead.Ended =
+    IsAtEnd left × (length buf < max_head) × HasNoRequest buf × MayBecomeRequest buf
+HeadCame buf spans left (HeadRead.NotHead refusal) = HasNoHead buf refusal

@@ -1,0 +1,136 @@
+-- The stream: the bytes of a connection as messages with their replies, and its end (own).
+use Rattle.std.specs.Prelude.{◌≡◌, ℕ, ℤ, ◌+◌, ◌<◌, Bool, true, false, ◌||◌, ◌==◌, List, [], ◌∷◌}
+use Rattle.std.specs.Prelude.{◌++◌, length, Option, Some, None, Ok, Err, All, ⊤}
+use Rattle.std.specs.List.{flat_map}
+use Rattle.room_rows.specs.Content.{Content}
+use Rattle.room_machine.specs.declared.reply.Reply.{Reply}
+use Rattle.room_machine.specs.Run.{Event, Run}
+use Rattle.room_message.specs.Reply.{reply_text, fault_text}
+use Rattle.room_http.specs.declared.refusal.Refusal.{Refusal}
+use Rattle.room_http.specs.declared.ended.Ended.{Ended}
+use Rattle.room_http.specs.Limits.{max_messages}
+use Rattle.room_http.specs.Message.{Message, print_message, IsMessage, IsRefused, IsPart, Asked}
+use Rattle.room_http.specs.Message.{asked, closes}
+use Rattle.room_http.specs.Text.{refusal_text, store_text}
+
+-- ---- a message and its reply
+
+-- a message, and the reply of the desk if it was asked
+pub record Exchange : Type 0 where
+  pub message : Message
+  pub reply : Option Reply
+
+-- the desk is asked exactly where no test refuses the message
+abbrev pub Agrees : Asked → Option Reply → Type 0
+Agrees (Ok call) (Some reply) = ⊤
+Agrees (Err fault) None = ⊤
+Agrees (Ok call) None = ⊥
+Agrees (Err fault) (Some reply) = ⊥
+
+pub record IsExchange (x : Exchange) : Type 0 where
+  pub message : IsMessage x.message
+  pub agrees : Agrees (asked x.message) x.reply
+
+-- the text of the reply: that of the first test that fails, else that of the desk's reply
+abbrev pub answer_text : Bool → Asked → Option Reply → List ℕ
+answer_text close (Err fault) reply = fault_text fault close
+answer_text close (Ok call) (Some reply) = reply_text reply close
+answer_text close (Ok call) None = []
+
+abbrev pub exchange_text : Bool → Exchange → List ℕ
+exchange_text close x = answer_text close (asked x.message) x.reply
+
+-- what happens at the desk, at this moment
+abbrev pub events_from : ℤ → Asked → Option Reply → List Event
+events_from at (Ok call) (Some reply) = Event.Asked call.0 at call.1 reply ∷ []
+events_from at (Ok call) None = []
+events_from at (Err fault) reply = []
+
+abbrev pub event_of : ℤ → Exchange → List Event
+event_of at x = events_from at (asked x.message) x.reply
+
+-- these events are a run from what the desk kept to what it keeps then
+abbrev pub Runs : (Content → Type 0) → List Event → (Content → Type 0) → Type 0
+Runs old events new =
+    (room : Content) → old room → (next : Content) × Run room events next × new next
+
+-- the exchanges are such a run
+abbrev pub Leads : (Content → Type 0) → ℤ → List Exchange → (Content → Type 0) → Type 0
+Leads old at xs new = Runs old (flat_map (event_of at) xs) new
+
+-- ---- the end
+
+-- what ended the stream after the exchanges that left it open: the input between messages or inside
+-- one, a refusal, an exchange whose reply closes, or a message that the desk failed at
+pub data Last : Type 0 where
+  Clean Cut : Last
+  Refused : Refusal → Last
+  Closing : Exchange → Last
+  Failed : Message → Last
+
+-- the message asks something of the desk
+abbrev pub Asks : Asked → Type 0
+Asks (Ok call) = ⊤
+Asks (Err fault) = ⊥
+
+-- the reply to the message after so many others says that the connection ends
+abbrev pub says_close : Message → ℕ → Bool
+says_close m n = closes m || ((n + 1) == max_messages)
+
+-- the bytes begin with the message
+abbrev pub StartsWith : List ℕ → Message → Type 0
+StartsWith bytes m = (rest : List ℕ) × (bytes ≡ print_message m ++ rest)
+
+-- the bytes that are left, after so many exchanges, end so
+abbrev pub Ends : List ℕ → ℕ → Last → Type 0
+Ends left n Last.Clean = left ≡ []
+Ends left n Last.Cut = IsPart left
+Ends left n (Last.Refused refusal) = IsRefused left refusal
+Ends left n (Last.Closing x) =
+    IsExchange x × (says_close x.message n ≡ true) × StartsWith left x.message
+Ends left n (Last.Failed m) = IsMessage m × Asks (asked m) × StartsWith left m
+
+-- the text that the end brings
+abbrev pub last_text : Last → List ℕ
+last_text Last.Clean = []
+last_text Last.Cut = []
+last_text (Last.Refused refusal) = refusal_text refusal
+last_text (Last.Closing x) = exchange_text true x
+last_text (Last.Failed m) = store_text
+
+-- the exchange that ended the stream, if one did
+abbrev pub last_exchange : Last → List Exchange
+last_exchange (Last.Closing x) = x ∷ []
+last_exchange last = []
+
+abbrev pub ended_of : Last → Ended
+ended_of Last.Clean = Ended.Clean
+ended_of Last.Cut = Ended.Cut
+ended_of last = Ended.Closed
+
+-- ---- the whole
+
+-- an exchange after which the connection stays open
+pub record IsOpen (x : Exchange) : Type 0 where
+  pub is : IsExchange x
+  pub stays : closes x.message ≡ false
+
+-- the bytes of the exchanges
+abbrev pub bytes_of : List Exchange → List ℕ
+bytes_of xs = flat_map (λ x. print_message x.message) xs
+
+-- the texts of their replies
+abbrev pub texts_of : List Exchange → List ℕ
+texts_of xs = flat_map (exchange_text false) xs
+
+-- the bytes begin with these exchanges, each of which leaves the connection open, and then the rest
+pub record Opens (bytes : List ℕ) (xs : List Exchange) (rest : List ℕ) : Type 0 where
+  pub whole : bytes ≡ bytes_of xs ++ rest
+  pub each : All IsOpen xs
+
+-- The bytes are these exchanges and end so.
+pub record Stream (bytes : List ℕ) (xs : List Exchange) (last : Last) : Type 0 where
+  pub rest : List ℕ
+  pub opens : Opens bytes xs rest
+  pub few : length xs < max_messages
+  pub ends : Ends rest (length xs) last

@@ -1,0 +1,53 @@
+-- How one message was answered, as far as the desk and the writer go.
+use Rattle.std.specs.Prelude.{◌≡◌, ℤ, Bool, false, List, ℕ, [], Option, is_some, Result, Ok, Err}
+use Rattle.std.specs.Io.KnownBytes.{Appends}
+use Rattle.room_machine.specs.declared.reply.Reply.{Reply}
+use Rattle.room_http.specs.declared.ended.Cause.{Cause}
+use Rattle.room_http.specs.declared.server.Stop.{Stop}
+use Rattle.room_http.specs.declared.server.Told.{Told}
+use Rattle.room_http.specs.Message.{Asked}
+use Rattle.room_http.specs.Text.{store_text}
+use Rattle.room_http.specs.Answer.{Keeps, Failed}
+use Rattle.room_http.specs.Stream.{Agrees, answer_text, events_from, Runs}
+use Rattle.room_http.specs.Serve.{Seen, BlamesText}
+use Rattle.room_http.specs.Turn.{WritesSome}
+
+-- the desk did what the message asks, and this is its reply, or a test refuses the message
+pub record Replies (holds : Type 0) (at : ℤ) (asked : Asked) (old new : Seen)
+    (reply : Option Reply) : Type 0 where
+  pub agrees : Agrees asked reply
+  pub run : holds → Runs old.content (events_from at asked reply) new.content
+  pub faults : new.faults ≡ old.faults
+
+-- the desk failed, and what it keeps is as it was
+abbrev pub Fails : Type 0 → Asked → Seen → Seen → Type 0
+Fails holds asked old new = Failed holds asked old.content new.content old.faults new.faults
+
+-- what was begun when a fault came
+pub data Begun : Type 0 where
+  Nothing : Begun
+  Telling : Option Reply → Begun
+  Failing : Begun
+
+-- a beginning of the text was written, and this failed
+abbrev pub StopsWithin : Option (List ℕ) → Option (List ℕ) → List ℕ → Cause → Type 0
+StopsWithin old new text cause = (wrote : WritesSome old new text) × BlamesText cause wrote.0
+
+abbrev pub IsBegun : Type 0 → ℤ → Bool → Asked → Seen → Seen → Bool → Cause → Begun → Type 0
+IsBegun holds at close asked old new acted cause Begun.Nothing =
+    Appends old.sent new.sent [] × (acted ≡ false) × Keeps old.content new.content
+    × (new.faults ≡ old.faults) × (cause ≡ Cause.Memory)
+IsBegun holds at close asked old new acted cause (Begun.Telling reply) =
+    Replies holds at asked old new reply
+    × StopsWithin old.sent new.sent (answer_text close asked reply) cause × (acted ≡ is_some reply)
+IsBegun holds at close asked old new acted cause Begun.Failing =
+    Fails holds asked old new × StopsWithin old.sent new.sent store_text cause × (acted ≡ false)
+
+abbrev pub Tells : Type 0 → ℤ → Bool → Asked → Seen → Seen → Result Told Stop → Type 0
+Tells holds at close asked old new (Ok Told.Answered) =
+    (reply : Option Reply) × Replies holds at asked old new reply
+    × Appends old.sent new.sent (answer_text close asked reply)
+Tells holds at close asked old new (Ok Told.Failed) =
+    Fails holds asked old new × Appends old.sent new.sent store_text
+Tells holds at close asked old new (Err stop) =
+    (begun : Begun) × IsBegun holds at close asked old new stop.acted stop.cause begun

@@ -1,0 +1,95 @@
+-- One turn of the server, and a connection so far.
+use Rattle.std.specs.Prelude.{◌≡◌, ℕ, ℤ, ◌+◌, ◌<◌, ◌≤◌, false, List, [], ◌∷◌, ◌++◌, length, drop}
+use Rattle.std.specs.Prelude.{slice_range, Option, Some, None, Result, Ok, Err}
+use Rattle.std.specs.Io.KnownBytes.{Appends, Consumes, IsAtEnd}
+use Rattle.room_http.specs.declared.ended.Ended.{Ended}
+use Rattle.room_http.specs.declared.server.Stop.{Stop}
+use Rattle.room_http.specs.declared.next.NextMessage.{NextMessage}
+use Rattle.room_http.specs.declared.next.Upcoming.{Upcoming}
+use Rattle.room_http.specs.Limits.{max_messages}
+use Rattle.room_http.specs.Message.{Message, print_message, IsMessage, IsRefused, IsPart, head_of}
+use Rattle.room_http.specs.Stream.{Exchange, IsOpen, exchange_text, Last, Ends, ended_of, last_text}
+use Rattle.room_http.specs.Stream.{last_exchange, Leads, Opens, texts_of}
+use Rattle.room_http.specs.Serve.{Seen, AtEndIf, FaultsRose, Next, IsNext, next_text, next_exchange}
+use Rattle.room_http.specs.Serve.{did_act, Blames, NextRose}
+use Rattle.room_http.specs.Spans.{Came}
+
+-- a beginning of the text was written
+abbrev pub WritesSome : Option (List ℕ) → Option (List ℕ) → List ℕ → Type 0
+WritesSome old new text =
+    (front : List ℕ) × (back : List ℕ) × (text ≡ front ++ back) × Appends old new front
+
+-- ---- the next message
+
+-- the message at the front of the bytes, with its head and the place of its body
+pub record WholeNext (buf : List ℕ) (next : NextMessage) : Type 0 where
+  pub message : Message
+  pub is : IsMessage message
+  pub head : next.head ≡ head_of message.head
+  pub whole : buf ≡ print_message message ++ drop next.end buf
+  pub ordered : next.start ≤ next.end
+  pub in_range : next.end ≤ length buf
+  pub body : slice_range buf next.start next.end ≡ message.body
+
+-- what the next message turned out to be
+abbrev pub Coming : List ℕ → Option (List ℕ) → Upcoming → Type 0
+Coming buf left Upcoming.Clean = IsAtEnd left × (buf ≡ [])
+Coming buf left Upcoming.Cut = IsAtEnd left × IsPart buf
+Coming buf left (Upcoming.Refused refusal) = IsRefused buf refusal
+Coming buf left (Upcoming.Whole next) = WholeNext buf next
+
+-- ---- a turn, after n messages
+
+pub record TurnsOpen (holds : Type 0) (at : ℤ) (n : ℕ) (old new : Seen)
+    (buf_old buf_new : List ℕ) : Type 0 where
+  pub x : Exchange
+  pub is_open : IsOpen x
+  pub more : n + 1 < max_messages
+  pub came : Came old.left new.left buf_old (print_message x.message ++ buf_new)
+  pub writes : Appends old.sent new.sent (exchange_text false x)
+  pub run : holds → Leads old.content at (x ∷ []) new.content
+  pub faults : new.faults ≡ old.faults
+
+pub record TurnsLast (holds : Type 0) (at : ℤ) (n : ℕ) (old new : Seen) (buf : List ℕ)
+    (ended : Ended) : Type 0 where
+  pub last : Last
+  pub is : ended ≡ ended_of last
+  pub rest : List ℕ
+  pub came : Came old.left new.left buf rest
+  pub ends : Ends rest n last
+  pub writes : Appends old.sent new.sent (last_text last)
+  pub at_end : AtEndIf last new.left
+  pub run : holds → Leads old.content at (last_exchange last) new.content
+  pub faults : FaultsRose last old.faults new.faults
+
+pub record TurnsStop (holds : Type 0) (at : ℤ) (n : ℕ) (old new : Seen) (buf : List ℕ)
+    (stop : Stop) : Type 0 where
+  pub next : Next
+  pub rest : List ℕ
+  pub came : Came old.left new.left buf rest
+  pub is_next : IsNext rest n next
+  pub writes : WritesSome old.sent new.sent (next_text next)
+  pub acted : stop.acted ≡ did_act next
+  pub cause : Blames stop.cause next writes.0
+  pub run : holds → Leads old.content at (next_exchange next) new.content
+  pub faults : NextRose next old.faults new.faults
+
+abbrev pub Turns : Type 0 → ℤ → ℕ → Seen → Seen → List ℕ → List ℕ → Result (Option Ended) Stop
+    → Type 0
+Turns holds at n old new buf_old buf_new (Ok None) = TurnsOpen holds at n old new buf_old buf_new
+Turns holds at n old new buf_old buf_new (Ok (Some ended)) =
+    TurnsLast holds at n old new buf_old ended
+Turns holds at n old new buf_old buf_new (Err stop) = TurnsStop holds at n old new buf_old stop
+
+-- ---- a connection so far
+
+pub record Along (holds : Type 0) (at : ℤ) (n : ℕ) (old new : Seen) (buf : List ℕ) : Type 0 where
+  pub read : List ℕ
+  pub exchanges : List Exchange
+  pub reads : Consumes old.left new.left read
+  pub opens : Opens read exchanges buf
+  pub count : n ≡ length exchanges
+  pub few : n < max_messages
+  pub writes : Appends old.sent new.sent (texts_of exchanges)
+  pub run : holds → Leads old.content at exchanges new.content
+  pub faults : new.faults ≡ old.faults

@@ -1,0 +1,143 @@
+//! The bytes of a reader, read until a head or a body is whole.
+ghost use Rattle.std.specs.Prelude.{◌≡◌, ℕ, ◌<◌, ◌≤◌, List, length, drop, true, false, Ok, IfErr};
+ghost use Rattle.std.specs.Prelude.{IfOk, OnOk, OnErr};
+ghost use Rattle.std.specs.Io.KnownBytes.{Consumes, IsAtEnd};
+ghost use Rattle.room_http.specs.Limits.{max_fields, max_head};
+ghost use Rattle.room_http.specs.Serve.{BlamesBefore};
+ghost use Rattle.room_http.specs.Spans.{Came, HeadCame, Scans, ScansWindow};
+
+use crate::ended::Cause;
+use crate::refusal::Refusal;
+use httparse::spans::{HeaderSpan, RequestSpans, parse_request};
+use httparse::{Error, Status};
+use std::io::Read;
+
+const READ_SIZE: usize = 16_384;
+
+const MAX_HEAD: usize = 16_384;
+
+// Reads once, and adds what came. Nothing comes only at the end of the input.
+fn fill<R: Read>(r: &mut R, buf: &mut Vec<u8>) -> Result<bool, Cause>
+    ensures came { IfOk result (λ some. Came
+        (R.remaining r.old) (R.remaining r.new) buf.old.items buf.new.items) }
+    ensures more { result ≡ Ok true → length buf.old.items < length buf.new.items }
+    ensures end { result ≡ Ok false
+        → (buf.new.items ≡ buf.old.items) × IsAtEnd (R.remaining r.new) }
+    ensures lost { OnErr result
+        ((more : List ℕ) × Consumes (R.remaining r.old) (R.remaining r.new) more) }
+    ensures err { OnErr result (buf.new.items ≡ buf.old.items) }
+    ensures cause { IfErr result BlamesBefore }
+{
+    let mut chunk = [0u8; READ_SIZE];
+    match r.read(&mut chunk) {
+        Ok(count) => {
+            let piece = &chunk[..count];
+            if piece.is_empty() {
+                return Ok(false);
+            }
+            match buf.extend_from_slice(piece) {
+                Ok(()) => Ok(true),
+                Err(_) => Err(Cause::Memory),
+            }
+        }
+        Err(_) => Err(Cause::Read),
+    }
+}
+
+// Drops so many bytes from the front.
+pub(crate) fn drop_front(buf: &mut Vec<u8>, count: usize)
+    requires { count ≤ length buf.old.items }
+    ensures { buf.new.items ≡ drop count buf.old.items }
+{
+    let rest = buf.len() - count;
+    buf.rotate_left(count);
+    buf.truncate(rest);
+}
+
+// What stands at the front of the bytes, as far as its head goes.
+#[derive(Clone, Copy)]
+enum HeadScan {
+    Whole(RequestSpans),
+    Part,
+    Refused(Refusal),
+}
+
+// Looks for a head in the bytes where one may stand.
+fn scan_window(window: &[u8], spans: &mut [HeaderSpan]) -> HeadScan
+    requires room { length spans.old ≡ max_fields }
+    requires short { length window.now ≤ max_head }
+    ensures { ScansWindow window.now spans.new result }
+{
+    match parse_request(window, spans) {
+        Ok(Status::Complete(head)) => HeadScan::Whole(head),
+        Ok(Status::Partial) if window.len() < MAX_HEAD => HeadScan::Part,
+        Ok(Status::Partial) => HeadScan::Refused(Refusal::TooManyFields),
+        Err(Error::TooManyHeaders) => HeadScan::Refused(Refusal::TooManyFields),
+        Err(_) => HeadScan::Refused(Refusal::BadHead),
+    }
+}
+
+// Looks for a head within the limits.
+fn scan_head(buf: &[u8], spans: &mut [HeaderSpan]) -> HeadScan
+    requires { length spans.old ≡ max_fields }
+    ensures { Scans buf.now spans.new result }
+{
+    scan_window(&buf[..buf.len().min(MAX_HEAD)], spans)
+}
+
+// What was read, as far as a head goes.
+#[derive(Clone, Copy)]
+pub(crate) enum HeadRead {
+    Found(RequestSpans),
+    Ended,
+    NotHead(Refusal),
+}
+
+// Reads until a head is there, none can be, or the input ends.
+pub(crate) fn read_head<R: Read>(
+    r: &mut R,
+    buf: &mut Vec<u8>,
+    spans: &mut [HeaderSpan],
+) -> Result<HeadRead, Cause>
+    requires { length spans.old ≡ max_fields }
+    ensures came { OnOk result
+        (Came (R.remaining r.old) (R.remaining r.new) buf.old.items buf.new.items) }
+    ensures lost { OnErr result
+        ((all : List ℕ) × Came (R.remaining r.old) (R.remaining r.new) buf.old.items all) }
+    ensures head { IfOk result (HeadCame buf.new.items spans.new (R.remaining r.new)) }
+    ensures cause { IfErr result BlamesBefore }
+{
+    'reading: loop {
+        match scan_head(buf.as_slice(), spans) {
+            HeadScan::Whole(head) => return Ok(HeadRead::Found(head)),
+            HeadScan::Refused(refusal) => return Ok(HeadRead::NotHead(refusal)),
+            HeadScan::Part => {}
+        }
+        match fill(r, buf) {
+            Ok(true) => {}
+            Ok(false) => return Ok(HeadRead::Ended),
+            Err(cause) => return Err(cause),
+        }
+    }
+}
+
+// Reads until so many bytes are there, or the input ends.
+pub(crate) fn read_body<R: Read>(r: &mut R, buf: &mut Vec<u8>, total: usize) -> Result<bool, Cause>
+    ensures came { OnOk result
+        (Came (R.remaining r.old) (R.remaining r.new) buf.old.items buf.new.items) }
+    ensures lost { OnErr result
+        ((all : List ℕ) × Came (R.remaining r.old) (R.remaining r.new) buf.old.items all) }
+    ensures whole { result ≡ Ok true → total ≤ length buf.new.items }
+    ensures cut { result ≡ Ok false
+        → (length buf.new.items < total) × IsAtEnd (R.remaining r.new) }
+    ensures cause { IfErr result BlamesBefore }
+{
+    'reading: while buf.len() < total {
+        match fill(r, buf) {
+            Ok(true) => {}
+            Ok(false) => return Ok(false),
+            Err(cause) => return Err(cause),
+        }
+    }
+    Ok(true)
+}

@@ -1,0 +1,73 @@
+//! The next message of a stream.
+ghost use Rattle.std.specs.Prelude.{◌≡◌, ℕ, List, length, OnOk, OnErr, IfErr, IfOk};
+ghost use Rattle.room_http.specs.Limits.{max_fields};
+ghost use Rattle.room_http.specs.Serve.{BlamesBefore};
+ghost use Rattle.room_http.specs.Spans.{Came};
+ghost use Rattle.room_http.specs.Turn.{Coming};
+
+use crate::cut::{HeadRead, read_body, read_head};
+use crate::ended::Cause;
+use crate::fields::{copied_head, declared_size};
+use crate::refusal::Refusal;
+use httparse::spans::HeaderSpan;
+use room_message::Head;
+use std::alloc::Global;
+use std::io::Read;
+
+// A whole message at the front of the bytes: its head, and where its body lies.
+#[derive(Drop)]
+pub(crate) struct NextMessage {
+    pub head: Head,
+    pub start: usize,
+    pub end: usize,
+}
+
+// What stands at the front of the bytes.
+#[derive(Drop)]
+pub(crate) enum Upcoming {
+    Clean,
+    Cut,
+    Refused(Refusal),
+    Whole(NextMessage),
+}
+
+// Reads until a message is whole, is refused, or the input ends.
+pub(crate) fn next_message<R: Read>(
+    alloc: Global,
+    r: &mut R,
+    buf: &mut Vec<u8>,
+    spans: &mut [HeaderSpan],
+) -> Result<Upcoming, Cause>
+    requires { length spans.old ≡ max_fields }
+    ensures came { OnOk result
+        (Came (R.remaining r.old) (R.remaining r.new) buf.old.items buf.new.items) }
+    ensures lost { OnErr result
+        ((all : List ℕ) × Came (R.remaining r.old) (R.remaining r.new) buf.old.items all) }
+    ensures next { IfOk result (Coming buf.new.items (R.remaining r.new)) }
+    ensures cause { IfErr result BlamesBefore }
+{
+    let at = match read_head(r, buf, spans) {
+        Ok(HeadRead::Found(at)) => at,
+        Ok(HeadRead::NotHead(refusal)) => return Ok(Upcoming::Refused(refusal)),
+        Ok(HeadRead::Ended) if buf.is_empty() => return Ok(Upcoming::Clean),
+        Ok(HeadRead::Ended) => return Ok(Upcoming::Cut),
+        Err(cause) => return Err(cause),
+    };
+    let Ok(head) = copied_head(alloc, &buf[..at.len], spans, at) else {
+        return Err(Cause::Memory);
+    };
+    let size = match declared_size(head.fields.as_slice()) {
+        Ok(size) => size,
+        Err(refusal) => return Ok(Upcoming::Refused(refusal)),
+    };
+    let end = at.len + size;
+    match read_body(r, buf, end) {
+        Ok(true) => Ok(Upcoming::Whole(NextMessage {
+            head,
+            start: at.len,
+            end,
+        })),
+        Ok(false) => Ok(Upcoming::Cut),
+        Err(cause) => Err(cause),
+    }
+}

@@ -1,0 +1,93 @@
+//! The answer to one whole message.
+ghost use Rattle.std.specs.Option.{option_copied};
+ghost use Rattle.std.specs.Prelude.{Ok};
+ghost use Rattle.room_message.specs.Asked.{request_of};
+ghost use Rattle.room_http.specs.Answer.{Answers, Refuses, Responds};
+
+use crate::told::{Answer, Lost, Response};
+use room_ace::{Failure, Name};
+use room_machine::{Desk, Request};
+use room_message::{Head, HttpFault, Routes, fault_bytes, reply_bytes, request_of};
+use std::alloc::Global;
+
+/// Answers a whole message at a moment, in seconds from 1970-01-01 00:00 UTC, from the test of its
+/// method on. With `close` the reply says that the connection ends.
+pub fn answer<D: Desk>(
+    alloc: Global,
+    routes: &Routes,
+    desk: &mut D,
+    at: i64,
+    head: &Head,
+    body: &[u8],
+    close: bool,
+) -> Result<Answer, Lost>
+    ensures answers { Answers (D.trusted desk.new × D.sound desk.old) at close
+        (request_of head.now body.now)
+        (D.content desk.old) (D.content desk.new) (D.faults desk.old) (D.faults desk.new) result }
+    ensures trusted { D.trusted desk.new → D.trusted desk.old }
+    ensures sound { D.trusted desk.new → D.sound desk.old → D.sound desk.new }
+{
+    match respond(alloc, routes, desk, at, head, body, close) {
+        Ok(Response::Refused(text)) => Ok(Answer::Text(text)),
+        Ok(Response::Replied(text)) => Ok(Answer::Text(text)),
+        Ok(Response::Fault) => Ok(Answer::Fault),
+        Err(lost) => Err(lost),
+    }
+}
+
+// The same, telling whether the desk was asked.
+pub(crate) fn respond<D: Desk>(
+    alloc: Global,
+    routes: &Routes,
+    desk: &mut D,
+    at: i64,
+    head: &Head,
+    body: &[u8],
+    close: bool,
+) -> Result<Response, Lost>
+    ensures responds { Responds (D.trusted desk.new × D.sound desk.old) at close
+        (request_of head.now body.now)
+        (D.content desk.old) (D.content desk.new) (D.faults desk.old) (D.faults desk.new) result }
+    ensures trusted { D.trusted desk.new → D.trusted desk.old }
+    ensures sound { D.trusted desk.new → D.sound desk.old → D.sound desk.new }
+{
+    match request_of(alloc, routes, head, body) {
+        Ok((caller, request)) => ask(alloc, desk, at, caller.as_ref(), &request, close),
+        Err(Failure::Fault(fault)) => refused(alloc, fault, close),
+        Err(Failure::OutOfMemory) => Err(Lost { acted: false }),
+    }
+}
+
+// The text of the first test that fails.
+fn refused(alloc: Global, fault: HttpFault, close: bool) -> Result<Response, Lost>
+    ensures { Refuses fault close result }
+{
+    match fault_bytes(alloc, fault, close) {
+        Ok(text) => Ok(Response::Refused(text)),
+        Err(_) => Err(Lost { acted: false }),
+    }
+}
+
+// Asks the desk.
+fn ask<D: Desk>(
+    alloc: Global,
+    desk: &mut D,
+    at: i64,
+    caller: Option<&Name>,
+    request: &Request,
+    close: bool,
+) -> Result<Response, Lost>
+    ensures responds { Responds (D.trusted desk.new × D.sound desk.old) at close
+        (Ok (option_copied caller.entry, request.now))
+        (D.content desk.old) (D.content desk.new) (D.faults desk.old) (D.faults desk.new) result }
+    ensures trusted { D.trusted desk.new → D.trusted desk.old }
+    ensures sound { D.trusted desk.new → D.sound desk.old → D.sound desk.new }
+{
+    match desk.run(alloc, caller, at, request) {
+        Ok(reply) => match reply_bytes(alloc, &reply, close) {
+            Ok(text) => Ok(Response::Replied(text)),
+            Err(_) => Err(Lost { acted: true }),
+        },
+        Err(_) => Ok(Response::Fault),
+    }
+}

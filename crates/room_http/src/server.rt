@@ -1,0 +1,302 @@
+//! A connection, over any reader, writer and desk.
+ghost use Rattle.std.specs.Prelude.{◌≡◌, ◌<◌, ◌+◌, ◌||◌, ◌==◌, ℕ, List, length, IfOk, IfErr};
+ghost use Rattle.std.specs.Prelude.{Option, false};
+ghost use Rattle.std.specs.Io.KnownBytes.{Appends};
+ghost use Rattle.room_message.specs.Asked.{request_of};
+ghost use Rattle.room_message.specs.Close.{asks_close};
+ghost use Rattle.room_http.specs.Limits.{max_fields, max_messages};
+ghost use Rattle.room_http.specs.Text.{refusal_text};
+ghost use Rattle.room_http.specs.Serve.{Connects, Seen, Serves, Stops};
+ghost use Rattle.room_http.specs.Turn.{Turns, WholeNext};
+ghost use Rattle.room_http.specs.Tell.{StopsWithin, Tells};
+
+use crate::cut::drop_front;
+use crate::ended::{Cause, Ended, ServeFault};
+use crate::next::{NextMessage, Upcoming, next_message};
+use crate::refusal::{Refusal, refusal_bytes, store_bytes};
+use crate::respond::respond;
+use crate::told::Response;
+use crate::write::write_text;
+use httparse::spans::{EMPTY_HEADER_SPAN, HeaderSpan};
+use room_machine::Desk;
+use room_message::{Head, Routes, asks_close};
+use std::alloc::Global;
+use std::io::{Read, Write};
+
+const MAX_FIELDS: usize = 64;
+
+const MAX_MESSAGES: u64 = 10_000;
+
+// What stopped a turn.
+#[derive(Clone, Copy)]
+pub(crate) struct Stop {
+    pub acted: bool,
+    pub cause: Cause,
+}
+
+// What was written whole.
+#[derive(Clone, Copy)]
+pub(crate) enum Told {
+    // The reply to the message.
+    Answered,
+    // That the desk failed.
+    Failed,
+}
+
+// Answers one message, and writes the text.
+fn tell<W: Write, D: Desk>(
+    alloc: Global,
+    routes: &Routes,
+    desk: &mut D,
+    at: i64,
+    w: &mut W,
+    head: &Head,
+    body: &[u8],
+    close: bool,
+) -> Result<Told, Stop>
+    ensures tells { (left : Option (List ℕ)) → Tells (D.trusted desk.new × D.sound desk.old) at
+        close (request_of head.now body.now)
+        (record {
+          left = left;
+          sent = W.contents w.old;
+          content = D.content desk.old;
+          faults = D.faults desk.old;
+        })
+        (record {
+          left = left;
+          sent = W.contents w.new;
+          content = D.content desk.new;
+          faults = D.faults desk.new;
+        }) result }
+    ensures trusted { D.trusted desk.new → D.trusted desk.old }
+    ensures sound { D.trusted desk.new → D.sound desk.old → D.sound desk.new }
+{
+    match respond(alloc, routes, desk, at, head, body, close) {
+        Ok(Response::Refused(text)) => match write_text(w, text.as_slice()) {
+            Ok(()) => Ok(Told::Answered),
+            Err(cause) => Err(Stop {
+                acted: false,
+                cause,
+            }),
+        },
+        Ok(Response::Replied(text)) => match write_text(w, text.as_slice()) {
+            Ok(()) => Ok(Told::Answered),
+            Err(cause) => Err(Stop { acted: true, cause }),
+        },
+        Ok(Response::Fault) => match write_text(w, store_bytes()) {
+            Ok(()) => Ok(Told::Failed),
+            Err(cause) => Err(Stop {
+                acted: false,
+                cause,
+            }),
+        },
+        Err(lost) => Err(Stop {
+            acted: lost.acted,
+            cause: Cause::Memory,
+        }),
+    }
+}
+
+// Whether the reply to the message after so many ends the connection.
+fn says_close(head: &Head, answered: u64) -> bool
+    requires { answered < max_messages }
+    ensures { result ≡ (asks_close head.now || ((answered + 1) == max_messages)) }
+{
+    asks_close(head) || answered + 1 == MAX_MESSAGES
+}
+
+// Answers the message at the front of the bytes, and drops it from there if the connection stays
+// open.
+fn take_message<W: Write, D: Desk>(
+    alloc: Global,
+    routes: &Routes,
+    desk: &mut D,
+    at: i64,
+    w: &mut W,
+    buf: &mut Vec<u8>,
+    next: NextMessage,
+    answered: u64,
+) -> Result<Option<Ended>, Stop>
+    requires few { answered < max_messages }
+    requires next { WholeNext buf.old.items next }
+    ensures turn { (left : Option (List ℕ)) → Turns (D.trusted desk.new × D.sound desk.old) at
+        answered
+        (record {
+          left = left;
+          sent = W.contents w.old;
+          content = D.content desk.old;
+          faults = D.faults desk.old;
+        })
+        (record {
+          left = left;
+          sent = W.contents w.new;
+          content = D.content desk.new;
+          faults = D.faults desk.new;
+        })
+        buf.old.items buf.new.items result }
+    ensures trusted { D.trusted desk.new → D.trusted desk.old }
+    ensures sound { D.trusted desk.new → D.sound desk.old → D.sound desk.new }
+{
+    let close = says_close(&next.head, answered);
+    let body = &buf[next.start..next.end];
+    let told = match tell(alloc, routes, desk, at, w, &next.head, body, close) {
+        Ok(told) => told,
+        Err(stop) => return Err(stop),
+    };
+    match told {
+        Told::Failed => Ok(Some(Ended::Closed)),
+        Told::Answered => {
+            if close {
+                return Ok(Some(Ended::Closed));
+            }
+            drop_front(buf, next.end);
+            Ok(None)
+        }
+    }
+}
+
+// Writes the reply to what is refused.
+fn refuse<W: Write>(alloc: Global, w: &mut W, refusal: Refusal) -> Result<Option<Ended>, Stop>
+    ensures ok { IfOk result (λ ended. (ended ≡ Some Ended.Closed)
+        × Appends (W.contents w.old) (W.contents w.new) (refusal_text refusal)) }
+    ensures err { IfErr result (λ stop. (stop.acted ≡ false)
+        × StopsWithin (W.contents w.old) (W.contents w.new) (refusal_text refusal) stop.cause) }
+{
+    let Ok(text) = refusal_bytes(alloc, refusal) else {
+        return Err(Stop {
+            acted: false,
+            cause: Cause::Memory,
+        });
+    };
+    match write_text(w, text.as_slice()) {
+        Ok(()) => Ok(Some(Ended::Closed)),
+        Err(cause) => Err(Stop {
+            acted: false,
+            cause,
+        }),
+    }
+}
+
+// Reads, answers and writes once.
+fn turn<R: Read, W: Write, D: Desk>(
+    alloc: Global,
+    routes: &Routes,
+    desk: &mut D,
+    at: i64,
+    r: &mut R,
+    w: &mut W,
+    buf: &mut Vec<u8>,
+    spans: &mut [HeaderSpan],
+    answered: u64,
+) -> Result<Option<Ended>, Stop>
+    requires few { answered < max_messages }
+    requires room { length spans.old ≡ max_fields }
+    ensures turn { Turns (D.trusted desk.new × D.sound desk.old) at answered
+        (record {
+          left = R.remaining r.old;
+          sent = W.contents w.old;
+          content = D.content desk.old;
+          faults = D.faults desk.old;
+        })
+        (record {
+          left = R.remaining r.new;
+          sent = W.contents w.new;
+          content = D.content desk.new;
+          faults = D.faults desk.new;
+        })
+        buf.old.items buf.new.items result }
+    ensures trusted { D.trusted desk.new → D.trusted desk.old }
+    ensures sound { D.trusted desk.new → D.sound desk.old → D.sound desk.new }
+{
+    let next = match next_message(alloc, r, buf, spans) {
+        Ok(next) => next,
+        Err(cause) => {
+            return Err(Stop {
+                acted: false,
+                cause,
+            });
+        }
+    };
+    match next {
+        Upcoming::Whole(next) => take_message(alloc, routes, desk, at, w, buf, next, answered),
+        Upcoming::Refused(refusal) => refuse(alloc, w, refusal),
+        Upcoming::Clean => Ok(Some(Ended::Clean)),
+        Upcoming::Cut => Ok(Some(Ended::Cut)),
+    }
+}
+
+/// Answers the messages of a connection, one after another, until it ends: 10,000 at most. They are
+/// asked at this moment, in seconds from 1970-01-01 00:00 UTC. The first error of the reader or the
+/// writer stops the call.
+pub fn serve<R: Read, W: Write, D: Desk>(
+    alloc: Global,
+    routes: &Routes,
+    desk: &mut D,
+    at: i64,
+    r: &mut R,
+    w: &mut W,
+) -> Result<Ended, ServeFault>
+    ensures connects { Connects (D.trusted desk.new × D.sound desk.old) at
+        (record {
+          left = R.remaining r.old;
+          sent = W.contents w.old;
+          content = D.content desk.old;
+          faults = D.faults desk.old;
+        })
+        (record {
+          left = R.remaining r.new;
+          sent = W.contents w.new;
+          content = D.content desk.new;
+          faults = D.faults desk.new;
+        }) }
+    ensures serves { IfOk result (Serves (D.trusted desk.new × D.sound desk.old) at
+        (record {
+          left = R.remaining r.old;
+          sent = W.contents w.old;
+          content = D.content desk.old;
+          faults = D.faults desk.old;
+        })
+        (record {
+          left = R.remaining r.new;
+          sent = W.contents w.new;
+          content = D.content desk.new;
+          faults = D.faults desk.new;
+        })) }
+    ensures stops { IfErr result (Stops (D.trusted desk.new × D.sound desk.old) at
+        (record {
+          left = R.remaining r.old;
+          sent = W.contents w.old;
+          content = D.content desk.old;
+          faults = D.faults desk.old;
+        })
+        (record {
+          left = R.remaining r.new;
+          sent = W.contents w.new;
+          content = D.content desk.new;
+          faults = D.faults desk.new;
+        })) }
+    ensures trusted { D.trusted desk.new → D.trusted desk.old }
+    ensures sound { D.trusted desk.new → D.sound desk.old → D.sound desk.new }
+{
+    let mut buf = Vec::new(alloc);
+    let mut spans = [EMPTY_HEADER_SPAN; MAX_FIELDS];
+    for answered in 0..MAX_MESSAGES {
+        let ended = match turn(
+            alloc, routes, desk, at, r, w, &mut buf, &mut spans, answered,
+        ) {
+            Ok(ended) => ended,
+            Err(stop) => {
+                return Err(ServeFault {
+                    answered,
+                    acted: stop.acted,
+                    cause: stop.cause,
+                });
+            }
+        };
+        match ended {
+            Some(ended) => return Ok(ended),
+            None => {}
+        }
+    }
+    unreachable!()
+}

@@ -1,0 +1,28 @@
+//! What answering one message gives.
+
+/// What answers a message.
+#[derive(Drop)]
+pub enum Answer {
+    /// The text of the reply.
+    Text(Vec<u8>),
+    /// The desk answered a fault.
+    Fault,
+}
+
+/// There was no memory outside the desk.
+#[derive(Clone, Copy, Debug, PartialEq, Eq)]
+pub struct Lost {
+    /// Whether the desk took the step before that.
+    pub acted: bool,
+}
+
+/// What answers a message, and whether the desk was asked.
+#[derive(Drop)]
+pub(crate) enum Response {
+    /// The text of the reply to a message that a test refuses.
+    Refused(Vec<u8>),
+    /// The text of the desk's reply.
+    Replied(Vec<u8>),
+    /// The desk answered a fault.
+    Fault,
+}
