@@ -1,22 +1,23 @@
 -- One list carried down after the other.
-use Rattle.std.proofs.Common.{◌≡◌, ℕ, zero, suc, ◌+◌, Bool, true, false, cond, ◌&&◌, ◌||◌, List, [], ◌∷◌, map, length, Option, Some, None, Ok, Err, refl, sym, ap, subst, ◌∙◌, inl, inr, arith}
+use Rattle.std.proofs.Common.{◌≡◌, ℕ, ◌+◌, Bool, true, false, cond, ◌||◌, List, [], ◌∷◌, map, Option, Some, None, Ok, Err, refl, sym, ap, subst, ◌∙◌, inl, inr, arith}
 use Rattle.std.specs.Prelude.{is_none, option_and_then}
 use Rattle.std.specs.List.{list_all, find}
 use Rattle.std.specs.Option.{option_map, option_map_or}
-use Rattle.std.proofs.lemmas.List.{length-map}
 use Rattle.room_ace.specs.Ace.{Ace}
 use Rattle.room_ace.specs.Same.{same_entries}
 use Rattle.room_ace.specs.declared.object.Which.{Which}
 use Rattle.room_ace.specs.declared.object.Which.TheVariants.{Dacl, Sacl}
 use Rattle.room_rows.specs.declared.keep.Keep.{Ghosts}
 use Rattle.room_rows.specs.declared.node.Node.{Node}
-use Rattle.room_rows.specs.Content.{Content, node_at, parent_of, root_of, is_root, is_linked_in, reaches_root}
+use Rattle.room_rows.specs.Content.{Content, node_at, parent_of, root_of, is_root, is_linked_in}
 use Rattle.room_rows.specs.Counts.{capped_below}
 use Rattle.room_rows.specs.Held.{held_of, is_linked}
 use Rattle.room_rows.specs.Keep.{HasNoRoot, capped, reading, KeepLaws}
 use Rattle.room_rows.specs.Rows.{Rows, is_unreadable}
+use Rattle.room_rows.proofs.Lookups.{IsSamePlace}
 use Rattle.room_rows.proofs.Steps.{later_cause}
 use Rattle.room_inherit.specs.Law.{AllAgree, agrees, agrees_with}
+use Rattle.room_inherit.specs.Sound.{reaches}
 use Rattle.room_inherit.specs.Spread.{ChangedAgree, HasSpreadCause, is_changed, stores_as_before, with_lists}
 use Rattle.room_inherit.specs.SpreadAll.{IsSpreadAll, IsSwept, IsTree, SpreadsAll, Sweeps}
 use Rattle.room_inherit.specs.declared.outcome.Spread.{Spread}
@@ -28,10 +29,7 @@ use Rattle.room_inherit.proofs.Renewing.{map_map}
 use Rattle.room_inherit.proofs.Frontier.{set, find_set}
 use Rattle.room_inherit.proofs.Calls.{capped_add}
 use Rattle.room_inherit.proofs.NoFault.{checked_is_tree}
-
-all_map : (p q : Node → Bool) (g : Node → Node) → ((n : Node) → p (g n) ≡ q n) → (xs : List Node) → list_all p (map g xs) ≡ list_all q xs
-all_map p q g same [] = refl
-all_map p q g same (x ∷ xs) = λ i. same x i && all_map p q g same xs i
+use Rattle.room_inherit.proofs.Unmoved.{all_map, reach_all}
 
 -- the parent of an object is found with its other list
 parent_set : (which : Which) (f : Node → List Ace) (old : Content) (n : Node) → parent_of (with_lists which f old) (set which f n) ≡ option_map (set which f) (parent_of old n)
@@ -57,21 +55,13 @@ module _ (f : Node → List Ace) (old : Content) where
   there_mid : (n : Node) → node_at old n.id ≡ Some n → node_at mid (set Dacl f n).id ≡ Some (set Dacl f n)
   there_mid n there = find_set Dacl f n.id old.nodes ∙ ap (option_map (set Dacl f)) there
 
-  reaches_mid : (k : ℕ) (o : Option ℕ) → reaches_root k mid o ≡ reaches_root k old o
-  reaches_mid k None = refl
-  reaches_mid zero (Some p) = refl
-  reaches_mid (suc k) (Some p) = ap (λ o. option_map_or (λ (q : Node). reaches_root k mid q.parent) o false) (find_set Dacl f p old.nodes) ∙ on (node_at old p) (λ o. reaches_mid k o)
-    where
-      on : (o : Option Node) → ((x : Option ℕ) → reaches_root k mid x ≡ reaches_root k old x)
-          → option_map_or (λ (q : Node). reaches_root k mid q.parent) (option_map (set Dacl f) o) false ≡ option_map_or (λ (q : Node). reaches_root k old q.parent) o false
-      on None before = refl
-      on (Some q) before = before q.parent
+  place : (n : Node) → IsSamePlace (set Dacl f n) n
+  place n = record { number = refl; parent = refl; name = refl }
 
   tree_mid : IsTree old → IsTree mid
   tree_mid tree = record {
     one_root = count_length is_root (map (set Dacl f) old.nodes) ∙ count_map is_root (set Dacl f) old.nodes ∙ sym (count_length is_root old.nodes) ∙ tree.one_root;
-    connected = all_map (λ node. reaches_root (length mid.nodes) mid node.parent) (λ node. reaches_root (length old.nodes) old node.parent) (set Dacl f)
-        (λ n. reaches_mid (length mid.nodes) n.parent ∙ ap (λ k. reaches_root k old n.parent) (length-map old.nodes (set Dacl f))) old.nodes ∙ tree.connected;
+    connected = all_map (reaches mid) (reaches old) (set Dacl f) (reach_all old (set Dacl f) place) old.nodes ∙ tree.connected;
   }
 
   root_mid : (nodes : List Node) → find (λ node. is_none node.parent) (map (set Dacl f) nodes) ≡ None → find (λ node. is_none node.parent) nodes ≡ None

@@ -1,5 +1,5 @@
 -- What sound rows mean is a content.
-use Rattle.std.proofs.Common.{◌≡◌, ℕ, zero, suc, ◌+◌, ◌<◌, ◌≤◌, ◌==◌, Bool, true, false, cond, not, ◌&&◌, ◌||◌, List, [], ◌∷◌, map, filter, length, Option, Some, None, refl, sym, ap, ◌∙◌, inl, inr, arith}
+use Rattle.std.proofs.Common.{◌≡◌, ℕ, ◌+◌, ◌<◌, ◌≤◌, ◌==◌, Bool, true, false, cond, not, ◌&&◌, ◌||◌, List, [], ◌∷◌, map, filter, length, Option, Some, None, refl, sym, ap, ◌∙◌, inl, inr, arith}
 use Rattle.std.specs.Prelude.{is_none, is_some, nat_lt, nat_le}
 use Rattle.std.specs.List.{find, list_all, list_any}
 use Rattle.std.specs.Option.{option_map, option_map_or}
@@ -11,20 +11,21 @@ use Rattle.room_ace.specs.declared.object.Which.{Which}
 use Rattle.room_ace.specs.declared.object.Which.TheVariants.{Dacl, Sacl}
 use Rattle.room_rows.specs.HeldList.{Held}
 use Rattle.room_rows.specs.declared.node.Node.{Node}
-use Rattle.room_rows.specs.Content.{Content, are_names_apart, body_in, body_of, has_folder_above, is_empty, is_folder, is_linked_in, is_rising, is_root, keeps_none_linked, node_at, parent_of, reaches_root, root_of, same_parent}
+use Rattle.room_rows.specs.Content.{Content, are_names_apart, body_in, body_of, has_folder_above, is_empty, is_folder, is_linked_in, is_rising, is_root, keeps_none_linked, parent_of, root_of, same_parent}
 use Rattle.room_rows.specs.Finding.{find_id}
 use Rattle.room_rows.specs.Held.{held_of, is_linked}
 use Rattle.room_rows.specs.Meaning.{kept_held, kept_node, meaning}
 use Rattle.room_rows.specs.Paths.{is_object_name}
 use Rattle.room_rows.specs.Rows.{AreRows, Rows, numbers_of, put_numbers}
-use Rattle.room_rows.proofs.Frames.{KeepsPlaces, keeps_places, node_at-with_each, numbers-with_each, parent_of-with_each, root_of-with_each}
-use Rattle.room_rows.proofs.Lookups.{filter-changed}
+use Rattle.room_rows.proofs.Frames.{KeepsPlaces, numbers-with_each, root_of-with_each}
+use Rattle.room_rows.proofs.Lookups.{IsSamePlace, filter-changed}
 use Rattle.room_inherit.specs.Laws.{HasNoFault, SoundIsContent}
 use Rattle.room_inherit.specs.Sound.{bad_root, has_sound_body, has_sound_name, reaches, same_place}
 use Rattle.room_inherit.proofs.Children.{apart_rising, each_above, each_found, each_there, found_id, ids_of}
 use Rattle.room_inherit.proofs.Members.{Each, any_map, any_none, count, count_length, each_fails, one_if}
 use Rattle.room_inherit.proofs.NoFault.{no_fault, none_bad, root_alone}
 use Rattle.room_inherit.proofs.Stored.{all_found, linked_kept}
+use Rattle.room_inherit.proofs.Unmoved as unmoved
 use Rattle.room_inherit.proofs.Whole.{among_found, none_unreadable}
 
 -- ---- lists
@@ -32,11 +33,6 @@ use Rattle.room_inherit.proofs.Whole.{among_found, none_unreadable}
 tail_rises : (k : ℕ) (ids : List ℕ) → is_rising (k ∷ ids) ≡ true → is_rising ids ≡ true
 tail_rises k [] rises = refl
 tail_rises k (x ∷ xs) rises = (and_parts (nat_lt k x) (is_rising (x ∷ xs)) rises).1
-
--- what all pass, all pass that are changed so
-all_kept : (change : Node → Node) (p q : Node → Bool) → ((n : Node) → p (change n) ≡ q n) → (nodes : List Node) → list_all q nodes ≡ true → list_all p (map change nodes) ≡ true
-all_kept change p q same [] all = refl
-all_kept change p q same (x ∷ xs) all = let parts = and_parts (q x) (list_all q xs) all in and_from (p (change x)) _ (same x ∙ parts.0) (all_kept change p q same xs parts.1)
 
 all_of : (p : Node → Bool) → ((n : Node) → p n ≡ true) → (nodes : List Node) → list_all p nodes ≡ true
 all_of p each [] = refl
@@ -112,31 +108,14 @@ module _ (rows : Content) where
   abbrev means : Content
   means = meaning rows
 
+  place : (node : Node) → IsSamePlace (kept node) node
+  place node = record { number = refl; parent = refl; name = refl }
+
   places : KeepsPlaces rows kept
-  places = keeps_places rows kept (λ n. record { number = refl; parent = refl; name = refl })
+  places = unmoved.places rows kept place
 
   above : (node : Node) → parent_of means node ≡ option_map kept (parent_of rows node)
-  above node = parent_of-with_each rows kept places node
-
-  folder_above : (node : Node) → has_folder_above means (kept node) ≡ has_folder_above rows node
-  folder_above node = ap (λ o. is_root node || option_map_or is_folder o false) (above node) ∙ on (parent_of rows node)
-    where
-      on : (o : Option Node) → (is_root node || option_map_or is_folder (option_map kept o) false) ≡ (is_root node || option_map_or is_folder o false)
-      on None = refl
-      on (Some parent) = refl
-
-  reach : (n : ℕ) (id : Option ℕ) → reaches_root n means id ≡ reaches_root n rows id
-  reach zero None = refl
-  reach zero (Some id) = refl
-  reach (suc n) None = refl
-  reach (suc n) (Some id) = ap (λ o. option_map_or (λ (p : Node). reaches_root n means p.parent) o false) (node_at-with_each rows kept places id) ∙ on (node_at rows id) (λ p. reach n p)
-    where
-      on : (o : Option Node) → ((p : Option ℕ) → reaches_root n means p ≡ reaches_root n rows p) → option_map_or (λ (p : Node). reaches_root n means p.parent) (option_map kept o) false ≡ option_map_or (λ (p : Node). reaches_root n rows p.parent) o false
-      on None more = refl
-      on (Some parent) more = more parent.parent
-
-  reach_all : (node : Node) → reaches_root (length means.nodes) means (kept node).parent ≡ reaches rows node
-  reach_all node = ap (λ n. reaches_root n means node.parent) (length-map rows.nodes kept) ∙ reach (length rows.nodes) node.parent
+  above node = unmoved.above rows kept place node
 
   -- a linked object keeps no entries
   kept_list : (which : Which) (node : Node) → held_of which (kept node) ≡ kept_held (is_linked_in rows which node) (held_of which node)
@@ -336,11 +315,11 @@ sound_is_content rows are sound =
     record {
       numbers = ap is_rising (numbers-with_each content (kept content) (places content)) ∙ tail_rises 0 (ids_of content.nodes) are.numbers;
       one_root = one_root content none.root;
-      parents = all_kept (kept content) (has_folder_above (meaning content)) (has_folder_above content) (folder_above content) content.nodes none.parents;
-      connected = all_kept (kept content) (λ (node : Node). reaches_root (length (meaning content).nodes) (meaning content) node.parent) (reaches content) (reach_all content) content.nodes none.reach;
+      parents = unmoved.all_kept (kept content) (has_folder_above (meaning content)) (has_folder_above content) (unmoved.folder_above content (kept content) (place content) (λ n. refl)) content.nodes none.parents;
+      connected = unmoved.all_kept (kept content) (reaches (meaning content)) (reaches content) (unmoved.reach_all content (kept content) (place content)) content.nodes none.reach;
       names = names_apart content content.nodes 0 are.numbers (each_there (There content) content.nodes (apart_rising 0 content.nodes are.numbers) (λ n there. there)) (each_passes (has_sound_name content) content.nodes none.names) (omega (arith, lone_root));
       bodies = bodies rows are none (none_unreadable rows (none_bad rows none));
-      kept = all_kept (kept content) (λ (node : Node). keeps_none_linked (meaning content) Dacl node && keeps_none_linked (meaning content) Sacl node) (λ n. true)
+      kept = unmoved.all_kept (kept content) (λ (node : Node). keeps_none_linked (meaning content) Dacl node && keeps_none_linked (meaning content) Sacl node) (λ n. true)
           (λ n. and_from (keeps_none_linked (meaning content) Dacl (kept content n)) _ (keeps_none content Dacl n) (keeps_none content Sacl n)) content.nodes (all_of (λ n. true) (λ n. refl) content.nodes);
       members = are.members;
     }

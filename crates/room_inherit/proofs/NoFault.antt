@@ -8,8 +8,9 @@ use Rattle.room_rows.specs.Rows.{Rows, numbers_of}
 use Rattle.room_inherit.specs.declared.report.Report.{Report}
 use Rattle.room_inherit.specs.declared.report.Report.TheVariants.{Sound, Fault}
 use Rattle.room_inherit.specs.declared.report.Unsound.TheVariants.{Loop, BadList, BrokenLaw, BadRoot, BadParent, BadName, BadBody}
-use Rattle.room_inherit.specs.Laws.{CheckedIsTree, HasNoFault, SoundIsNoFault}
-use Rattle.room_inherit.specs.Sound.{AreSound, bad_root, fault_of, first_bad_list, first_failing, has_bad_list, has_sound_body, has_sound_name, keeps_law, numbered, or_else, or_sound, reaches, true_path}
+use Rattle.room_inherit.specs.Kept.{kept_report_of, stores_kept_alone}
+use Rattle.room_inherit.specs.Laws.{CheckedIsTree, HasNoFault, KeptIsNoFault, SoundIsNoFault}
+use Rattle.room_inherit.specs.Sound.{AreSound, AreSoundKept, bad_root, fault_of, first_bad_list, first_failing, first_fault, has_bad_list, has_sound_body, has_sound_name, keeps_law, numbered, or_else, or_sound, reaches, true_path}
 
 -- ---- a test that finds nothing, passed by all
 
@@ -39,15 +40,16 @@ unbad rows = λ i. find (λ id. twice (has_bad_list rows id) i) (numbers_of rows
 -- ---- the report by what each test found
 
 module _ (path : Node → List ℕ) where
-  abbrev by_tests : Option ℕ → Option ℕ → Option Node → Option Node → Option Node → Option Node → Option Node → Report
-  by_tests list root parent reach name body law =
-      or_sound (or_else (
+  abbrev by_six : Option ℕ → Option ℕ → Option Node → Option Node → Option Node → Option Node → Option Report
+  by_six list root parent reach name body =
       or_else (option_map (λ id. Fault (numbered id) BadList) list) (
       or_else (or_else (option_map (λ id. Fault (numbered id) BadRoot) root) (
       or_else (fault_of (λ node. numbered node.id) BadParent parent) (
       or_else (fault_of (λ node. numbered node.id) Loop reach) (fault_of path BadName name))))
-      (fault_of path BadBody body)))
-      (fault_of path BrokenLaw law))
+      (fault_of path BadBody body))
+
+  abbrev by_tests : Option ℕ → Option ℕ → Option Node → Option Node → Option Node → Option Node → Option Node → Report
+  by_tests list root parent reach name body law = or_sound (or_else (by_six list root parent reach name body) (fault_of path BrokenLaw law))
 
   each_none : (list root : Option ℕ) (parent reach name body law : Option Node) → by_tests list root parent reach name body law ≡ Sound
       → (list ≡ None) × (root ≡ None) × (parent ≡ None) × (reach ≡ None) × (name ≡ None) × (body ≡ None) × (law ≡ None)
@@ -60,26 +62,65 @@ module _ (path : Node → List ℕ) where
   each_none None None None None None None (Some x) sound = absurd (let wrong : ⊥ = cc in wrong)
   each_none None None None None None None None sound = (refl, refl, refl, refl, refl, refl, refl)
 
-pub no_fault : (rows : Rows) → AreSound rows → HasNoFault rows
-no_fault rows sound =
+-- the first six tests find nothing
+pub record IsChecked (rows : Rows) : Type 0 where
+  pub lists : list_all (λ id. not (has_bad_list rows id)) (numbers_of rows) ≡ true
+  pub root : bad_root (filter is_root rows.read.nodes) ≡ None
+  pub parents : list_all (has_folder_above rows.read) rows.read.nodes ≡ true
+  pub reach : list_all (reaches rows.read) rows.read.nodes ≡ true
+  pub names : list_all (has_sound_name rows.read) rows.read.nodes ≡ true
+  pub bodies : list_all (has_sound_body rows.read) rows.read.nodes ≡ true
+
+-- nor does a last one
+nothing_found : (rows : Rows) (law : Option Node) → or_sound (or_else (first_fault rows) (fault_of (true_path rows.read) BrokenLaw law)) ≡ Sound → IsChecked rows × (law ≡ None)
+nothing_found rows law sound =
     let tree = rows.read in
     let none = each_none (true_path tree) (first_bad_list rows) (bad_root (filter is_root tree.nodes)) (first_failing (has_folder_above tree) tree) (first_failing (reaches tree) tree) (first_failing (has_sound_name tree) tree)
-    (first_failing (has_sound_body tree) tree) (first_failing (keeps_law tree) tree) sound in
+    (first_failing (has_sound_body tree) tree) law sound in (
+      record {
+        lists = all_pass (λ id. not (has_bad_list rows id)) (numbers_of rows) (unbad rows ∙ none.0);
+        root = none.1;
+        parents = all_pass (has_folder_above tree) tree.nodes none.2;
+        reach = all_pass (reaches tree) tree.nodes none.3;
+        names = all_pass (has_sound_name tree) tree.nodes none.4;
+        bodies = all_pass (has_sound_body tree) tree.nodes none.5;
+      },
+      none.6,
+    )
+
+pub checked : (rows : Rows) → first_fault rows ≡ None → IsChecked rows
+checked rows unfaulted = (nothing_found rows None (ap (λ f. or_sound (or_else f None)) unfaulted)).0
+
+pub list_checked : (rows : Rows) → IsChecked rows → first_bad_list rows ≡ None
+list_checked rows none = sym (unbad rows) ∙ none_fails (λ id. not (has_bad_list rows id)) (numbers_of rows) none.lists
+
+unfaulted : (rows : Rows) → IsChecked rows → first_fault rows ≡ None
+unfaulted rows none =
+    let tree = rows.read in
+    λ i. by_six (true_path tree) (list_checked rows none i) (none.root i) (none_fails (has_folder_above tree) tree.nodes none.parents i)
+    (none_fails (reaches tree) tree.nodes none.reach i) (none_fails (has_sound_name tree) tree.nodes none.names i) (none_fails (has_sound_body tree) tree.nodes none.bodies i)
+
+pub no_fault : (rows : Rows) → AreSound rows → HasNoFault rows
+no_fault rows sound =
+    let none = nothing_found rows (first_failing (keeps_law rows.read) rows.read) sound in
     record {
-      lists = all_pass (λ id. not (has_bad_list rows id)) (numbers_of rows) (unbad rows ∙ none.0);
-      root = none.1;
-      parents = all_pass (has_folder_above tree) tree.nodes none.2;
-      reach = all_pass (reaches tree) tree.nodes none.3;
-      names = all_pass (has_sound_name tree) tree.nodes none.4;
-      bodies = all_pass (has_sound_body tree) tree.nodes none.5;
-      law = all_pass (keeps_law tree) tree.nodes none.6;
+      lists = none.0.lists;
+      root = none.0.root;
+      parents = none.0.parents;
+      reach = none.0.reach;
+      names = none.0.names;
+      bodies = none.0.bodies;
+      law = all_pass (keeps_law rows.read) rows.read.nodes none.1;
     }
+
+-- what is left is the last test
+pub last_passes : (rows : Rows) (test : Node → Bool) → first_fault rows ≡ None → list_all test rows.read.nodes ≡ true
+    → or_sound (or_else (first_fault rows) (fault_of (true_path rows.read) BrokenLaw (first_failing test rows.read))) ≡ Sound
+last_passes rows test unfaulted law = λ i. or_sound (or_else (unfaulted i) (fault_of (true_path rows.read) BrokenLaw (none_fails test rows.read.nodes law i)))
 
 pub sound : (rows : Rows) → HasNoFault rows → AreSound rows
 sound rows none =
-    let tree = rows.read in
-    λ i. by_tests (true_path tree) ((sym (unbad rows) ∙ none_fails (λ id. not (has_bad_list rows id)) (numbers_of rows) none.lists) i) (none.root i) (none_fails (has_folder_above tree) tree.nodes none.parents i)
-    (none_fails (reaches tree) tree.nodes none.reach i) (none_fails (has_sound_name tree) tree.nodes none.names i) (none_fails (has_sound_body tree) tree.nodes none.bodies i) (none_fails (keeps_law tree) tree.nodes none.law i)
+    last_passes rows (keeps_law rows.read) (unfaulted rows (record { lists = none.lists; root = none.root; parents = none.parents; reach = none.reach; names = none.names; bodies = none.bodies })) none.law
 
 pub none_bad : (rows : Rows) → HasNoFault rows → first_bad_list rows ≡ None
 none_bad rows none = sym (unbad rows) ∙ none_fails (λ id. not (has_bad_list rows id)) (numbers_of rows) none.lists
@@ -96,10 +137,15 @@ root_alone (root ∷ other ∷ others) none = absurd (let wrong : ⊥ = cc in wr
 
 pub checked_is_tree : CheckedIsTree
 checked_is_tree rows unfaulted =
-    let tree = rows.read in
-    let none = each_none (true_path tree) (first_bad_list rows) (bad_root (filter is_root tree.nodes)) (first_failing (has_folder_above tree) tree) (first_failing (reaches tree) tree) (first_failing (has_sound_name tree) tree)
-    (first_failing (has_sound_body tree) tree) None (ap (λ f. or_sound (or_else f None)) unfaulted) in
-    record {
-      one_root = root_alone (filter is_root tree.nodes) none.1;
-      connected = all_pass (reaches tree) tree.nodes none.3;
-    }
+    let none = checked rows unfaulted in record { one_root = root_alone (filter is_root rows.read.nodes) none.root; connected = none.reach }
+
+-- ---- rows that hold the kept entries alone
+
+pub kept_is_no_fault : KeptIsNoFault
+kept_is_no_fault rows = (there, back)
+  where
+    there : kept_report_of rows ≡ Sound → AreSoundKept rows
+    there sound = let none = nothing_found rows (first_failing (stores_kept_alone rows.read) rows.read) sound in (unfaulted rows none.0, all_pass (stores_kept_alone rows.read) rows.read.nodes none.1)
+
+    back : AreSoundKept rows → kept_report_of rows ≡ Sound
+    back kept = last_passes rows (stores_kept_alone rows.read) kept.0 kept.1

@@ -2,7 +2,7 @@
 use Rattle.std.proofs.Common.{◌≡◌, ℕ, ◌<◌, ◌+◌, ◌==◌, ◌||◌, Bool, true, false, cond, List, [], ◌∷◌, ◌++◌, length, get_or, drop, Some, None, nat_lt, refl, sym, ap, ◌∙◌, inl, inr, append_assoc}
 use Rattle.std.specs.Prelude.{is_some}
 use Rattle.std.specs.List.{find, list_any, filter_map, cons_option}
-use Rattle.std.proofs.lemmas.Bool.{cases_Bool, false≢true, eqb-true, eq-eqb, or_left, or_right, or_from, cond-true, cond-false}
+use Rattle.std.proofs.lemmas.Bool.{cases_Bool, false≢true, eqb-true, eq-eqb, or_left, or_right, or_from, cond-true, cond-false, false_from_ne_true}
 use Rattle.std.proofs.lemmas.List.{drop_more}
 use Rattle.std.proofs.lemmas.List.Recursion.{or_at}
 use Rattle.room_ace.specs.Pieces.{is_among}
@@ -82,6 +82,12 @@ all_read rows (x ∷ xs) are none =
 
 pub none_unreadable : (rows : Rows) → first_bad_list rows ≡ None → rows.unreadable ≡ []
 none_unreadable rows none = all_read rows rows.unreadable refl none
+
+-- the row of an object that is found is none
+pub not_bad : (rows : Rows) → first_bad_list rows ≡ None → (id : ℕ) (node : Node) → node_at rows.read id ≡ Some node → has_bad_list rows id ≡ false
+not_bad rows none id node found =
+    let listed : is_among (numbers_of rows) id ≡ true = among_numbers rows.unreadable (ids_of rows.read.nodes) id ∙ or_right (is_among rows.unreadable id) _ (among_found rows.read.nodes id ∙ ap is_some found) in
+    false_from_ne_true (has_bad_list rows id) (λ bad. false≢true (sym (none_found (has_bad_list rows) (numbers_of rows) none) ∙ any_at (has_bad_list rows) (numbers_of rows) id listed bad))
 
 -- the objects of all numbers are all objects
 pub whole : (rows : Rows) → AreRows rows → first_bad_list rows ≡ None → (nodes : List Node) (ids : List ℕ) → ids ≡ numbers_of rows → nodes ≡ filter_map (node_at rows.read) ids → nodes ≡ rows.read.nodes

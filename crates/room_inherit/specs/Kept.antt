@@ -4,10 +4,12 @@ use Rattle.room_ace.specs.declared.object.Which.TheVariants.{Dacl, Sacl}
 use Rattle.room_rows.specs.Content.{Content, keeps_none_linked}
 use Rattle.room_rows.specs.Rows.{Rows}
 use Rattle.room_rows.specs.declared.node.Node.{Node}
-use Rattle.room_inherit.specs.Sound.{fault_of, first_bad_list, first_failing, first_fault, or_else}
-use Rattle.room_inherit.specs.Sound.{or_sound, true_path}
+use Rattle.room_inherit.specs.Sound.{fault_of, first_bad_list, first_failing, first_fault}
+use Rattle.room_inherit.specs.Sound.{keeps_law, or_else, or_sound, true_path}
 use Rattle.room_inherit.specs.declared.report.Report.{Report}
 use Rattle.room_inherit.specs.declared.report.Unsound.TheVariants.{BrokenLaw}
+use Rattle.room_inherit.specs.declared.verifying.Holding.{Holding}
+use Rattle.room_inherit.specs.declared.verifying.Holding.TheVariants.{Finished, Kept}
 
 -- no entries are stored where they come from the parent
 abbrev pub stores_kept_alone : Content → Node → Bool
@@ -22,7 +24,20 @@ kept_report_of rows = or_sound (or_else (first_fault rows) (fault_of (true_path 
 abbrev pub IsKeptReport : Rows → Report → Type 0
 IsKeptReport rows report = report ≡ kept_report_of rows
 
+-- what the last test asks of an object, by what the rows are to hold
+abbrev pub is_lawful : Holding → Content → Node → Bool
+is_lawful Finished = keeps_law
+is_lawful Kept = stores_kept_alone
+
+-- what a look through the rows finds
+abbrev pub report_by : Holding → Rows → Report
+report_by holding rows = or_sound (or_else (first_fault rows) (fault_of (true_path rows.read)
+    BrokenLaw (first_failing (is_lawful holding rows.read) rows.read)))
+
+abbrev pub IsReportBy : Holding → Rows → Report → Type 0
+IsReportBy holding rows report = report ≡ report_by holding rows
+
 -- the same where these are the objects of the rows, and no list is bad
-abbrev pub IsKeptReportOf : List Node → Rows → Report → Type 0
-IsKeptReportOf nodes rows report =
-    nodes ≡ rows.read.nodes → first_bad_list rows ≡ None → report ≡ kept_report_of rows
+abbrev pub IsReportOf : Holding → List Node → Rows → Report → Type 0
+IsReportOf holding nodes rows report =
+    nodes ≡ rows.read.nodes → first_bad_list rows ≡ None → report ≡ report_by holding rows

@@ -39,11 +39,7 @@ abbrev pub IsBadBody : List Node → Rows → Option (Bor Node) → Type 0
 IsBadBody nodes rows found =
     option_copied found ≡ find (λ node. not (has_sound_body rows.read node)) nodes
 
--- what the rows have, where these are their objects, and no list is bad
-abbrev pub IsReportOf : List Node → Rows → Report → Type 0
-IsReportOf nodes rows report =
-    nodes ≡ rows.read.nodes → first_bad_list rows ≡ None → report ≡ report_of rows
-
+-- what is found in the rows
 abbrev pub IsReport : Rows → Report → Type 0
 IsReport rows report = report ≡ report_of rows
 

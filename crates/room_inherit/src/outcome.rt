@@ -1,6 +1,6 @@
 //! What carrying lists down answers.
 ghost use Rattle.std.specs.Prelude.{◌≡◌, Some};
-ghost use Rattle.room_inherit.specs.FaultTexts.{keep_fault_text, spread_fault_text};
+ghost use Rattle.room_inherit.specs.FaultTexts.{spread_fault_text};
 ghost use Rattle.room_inherit.specs.declared.outcome.SpreadFault.TheVariants.{Keeper};
 ghost use Rattle.room_rows.specs.declared.keep.KeepFault.TheVariants.{Memory};
 
@@ -24,33 +24,14 @@ pub enum SpreadFault {
     Loop,
 }
 
-impl SpreadFault {
-    /// What came in the way, without the number of a damaged row.
-    pub fn as_str(self) -> &'static str
-        ensures { result.now ≡ spread_fault_text self }
-    {
-        match self {
-            SpreadFault::Keeper(fault) => keep_fault_text(fault),
-            SpreadFault::Loop => "an object is its own ancestor",
-        }
-    }
-}
-
-fn keep_fault_text(fault: KeepFault) -> &'static str
-    ensures { result.now ≡ keep_fault_text fault }
-{
-    match fault {
-        KeepFault::Memory => "out of memory",
-        KeepFault::Store => "the store failed",
-        KeepFault::Damaged { id: _ } => "a row is damaged",
-    }
-}
-
 impl fmt::Display for SpreadFault {
     ghost output = { λ fault. Some (spread_fault_text fault) };
 
     fn fmt<W: fmt::Write>(&self, f: &mut fmt::Formatter<W>) -> fmt::Result {
-        f.write_str(self.as_str())
+        match self {
+            SpreadFault::Keeper(fault) => write!(f, "{fault}"),
+            SpreadFault::Loop => f.write_str("an object is its own ancestor"),
+        }
     }
 }
 

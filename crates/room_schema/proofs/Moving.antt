@@ -5,16 +5,16 @@ use Rattle.sqlite.specs.Effect.{Database}
 use Rattle.sqlite.specs.declared.error.Error.{Error}
 use Rattle.sqlite.specs.State.{State, HasCleanDisk}
 use Rattle.room_rows.specs.declared.keep.KeepFault.{KeepFault}
-use Rattle.room_inherit.specs.SpreadAll.{IsSpreadAll}
 use Rattle.room_inherit.specs.declared.report.Report.TheVariants.{Fault, Sound}
 use Rattle.room_inherit.specs.declared.report.Unsound as unsound
 use Rattle.room_tables.specs.Meaning.{rows_of}
+use Rattle.room_tables.specs.RoomRows.{room_rows}
 use Rattle.room_tables.specs.Shown.{IsRoom, Stays}
 use Rattle.room_tables.specs.Trust.{IsTrusted}
 use Rattle.room_schema.specs.NewRoom.{meta_of}
 use Rattle.room_schema.specs.Opening.{Expects, IsFailure, Says}
 use Rattle.room_inherit.specs.Kept.{kept_report_of}
-use Rattle.room_schema.specs.Raising.{IsInside, IsRaised, Leads, Stamps}
+use Rattle.room_schema.specs.Raising.{AreRaised, IsInside, IsRaised, Leads, SpreadIsRaised, Stamps}
 use Rattle.room_schema.specs.Within.{IsWithin}
 use Rattle.room_schema.specs.declared.fault.MigrateFault.{MigrateFault}
 use Rattle.room_schema.specs.declared.fault.MigrateFault.TheVariants.{Opening, Unsound}
@@ -151,8 +151,8 @@ module _ (begun : State) (inside : IsTrue begun.in_transaction) where
             pub not_read : IsInside begun end (Err (Opening Db))
             not_read = inside_by begun end (Err (Opening Db)) all (λ _ _ _ _. tt)
 
-          pub all_done : (end : State) → Expects (pos 2) stamped end (Ok tt) → IsInside begun end (Ok tt)
-          all_done end again = inside_by begun end (Ok tt) (all end (Ok tt) again) leads
+          pub all_done : SpreadIsRaised → (end : State) → Expects (pos 2) stamped end (Ok tt) → IsInside begun end (Ok tt)
+          all_done raised_so end again = inside_by begun end (Ok tt) (all end (Ok tt) again) leads
             where
               leads : HasCleanDisk end → IsTrue end.is_open → IsRoom begun.committed → IsRoom begun.now → Leads begun.now end.now (Ok tt)
               leads now open' one two =
@@ -165,11 +165,9 @@ module _ (begun : State) (inside : IsTrue begun.in_transaction) where
                   let read = again.told now room3.schema in
                   let made = becomes (trusted now2 open2 one two) in
                   let room2 = second_room now2 open2 one two in
-                  let rows : rows_of end.now ≡ rows_of raised.now = ap rows_of read.1 ∙ (stamps.keeps now3 room2).1 in
-                  let spread = made.1 refl in (
+                  let rows : rows_of end.now ≡ rows_of raised.now = ap rows_of read.1 ∙ (stamps.keeps now3 room2).1 in (
                     told.0,
                     subst (λ d. meta_of d ≡ Some (pos 2)) (sym read.1) read.0,
                     subst IsRoom (sym read.1) room3,
-                    sym (subst (λ d. Sound ≡ kept_report_of (rows_of d)) told.1 made.0),
-                    (spread.0, subst₂ (λ old new. IsSpreadAll old new spread.0) (ap rows_of told.1) (sym rows) spread.1),
+                    subst₂ AreRaised (ap rows_of told.1) (sym rows) (raised_so (rows_of asked.now) (rows_of raised.now) (room_rows asked.now (first_room (back now2) (stays.was_open now2 open2) one two)) (sym made.0) (made.1 refl)),
                   )

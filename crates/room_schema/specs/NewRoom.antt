@@ -8,6 +8,7 @@ use Rattle.room_ace.specs.declared.entry.EntryKind.TheVariants.{Allow}
 use Rattle.room_ace.specs.declared.entry.Who.TheVariants.{Owner}
 use Rattle.room_ace.specs.declared.object.ObjKind.TheVariants.{Folder}
 use Rattle.room_ace.specs.declared.parties.Owners.{Owners}
+use Rattle.room_inherit.specs.Sound.{AreSound}
 use Rattle.room_rows.specs.HeldList.{Held}
 use Rattle.room_rows.specs.declared.node.Node.{Node}
 use Rattle.room_rows.specs.Rows.{Rows}
@@ -77,6 +78,10 @@ new_room owners = record {
   read = record { nodes = new_root owners ∷ []; bodies = []; members = []; audits = [] };
   unreadable = [];
 }
+
+-- It is sound, whoever owns it.
+abbrev pub NewRoomIsSound : Type 0
+NewRoomIsSound = (owners : Owners) → AreSound (new_room owners)
 
 pub record IsNewRoom (owners : Owners) (db : Database) : Type 0 where
   pub room : IsRoom db

@@ -1,5 +1,5 @@
 -- What raising the rows of schema 1 is.
-use Rattle.std.specs.Prelude.{◌≡◌, ◌≤◌, ◌&&◌, ℕ, pos, Bool, true, false, Some, Result, Ok, Err}
+use Rattle.std.specs.Prelude.{◌≡◌, ◌≤◌, ℕ, pos, true, false, Some, Result, Ok, Err}
 use Rattle.std.specs.Prelude.{IfOk, OnOk, OnErr, IsTrue}
 use Rattle.sqlite_trees.specs.View.{doubt}
 use Rattle.sqlite.specs.Effect.{Database}
@@ -12,17 +12,29 @@ use Rattle.room_schema.specs.Opening.{Says}
 use Rattle.room_schema.specs.Within.{IsWithin}
 use Rattle.room_schema.specs.declared.fault.MigrateFault.{MigrateFault}
 use Rattle.room_schema.specs.declared.fault.MigrateFault.TheVariants.{Opening, Unsound}
-use Rattle.room_ace.specs.declared.object.Which.TheVariants.{Dacl, Sacl}
-use Rattle.room_rows.specs.Content.{Content, keeps_none_linked}
-use Rattle.room_rows.specs.Rows.{Rows}
+use Rattle.room_rows.specs.Meaning.{meaning}
+use Rattle.room_rows.specs.Rows.{AreRows, Rows}
 use Rattle.room_rows.specs.declared.keep.Keep.{Ghosts}
 use Rattle.room_rows.specs.declared.keep.KeepFault.{KeepFault}
-use Rattle.room_rows.specs.declared.node.Node.{Node}
 use Rattle.room_inherit.specs.Kept.{kept_report_of}
+use Rattle.room_inherit.specs.Sound.{AreSound, AreSoundKept}
 use Rattle.room_inherit.specs.SpreadAll.{IsSpreadAll}
 use Rattle.room_inherit.specs.declared.report.Report.{Report}
 use Rattle.room_inherit.specs.declared.report.Report.TheVariants.{Fault, Sound}
-use Rattle.room_inherit.specs.declared.report.Unsound.TheVariants.{BrokenLaw}
+
+-- Rows that are sound for schema 1 become rows that are sound for schema 2 and mean the same, by
+-- carrying all lists down.
+pub record AreRaised (old new : Rows) : Type 0 where
+  pub before : AreSoundKept old
+  pub after : AreSound new
+  pub same : meaning new.read ≡ meaning old.read
+  pub spread : (changed : ℕ) × IsSpreadAll old new changed
+
+-- Where nothing is found in rows of schema 1, carrying all lists down raises them.
+abbrev pub SpreadIsRaised : Type 0
+SpreadIsRaised =
+    (old new : Rows) → AreRows old → kept_report_of old ≡ Sound
+    → (changed : ℕ) × IsSpreadAll old new changed → AreRaised old new
 
 -- what is found, and if that is nothing, all lists are carried down
 abbrev pub IsRaised : Rows → Report → Rows → Type 0
@@ -56,8 +68,7 @@ pub record Stamps (old new : State) (result : Result ℕ Error) : Type 0 where
 abbrev pub Leads : Database → Database → Result (Unit {0}) MigrateFault → Type 0
 Leads old new (Ok _) =
     (meta_of old ≡ Some (pos 1)) × (meta_of new ≡ Some (pos 2)) × IsRoom new
-    × (kept_report_of (rows_of old) ≡ Sound)
-    × ((changed : ℕ) × IsSpreadAll (rows_of old) (rows_of new) changed)
+    × AreRaised (rows_of old) (rows_of new)
 Leads old new (Err (Opening fault)) = Says (pos 1) (meta_of old) (Err fault)
 Leads old new (Err (Unsound path why)) =
     (meta_of old ≡ Some (pos 1)) × (kept_report_of (rows_of old) ≡ Fault path why)

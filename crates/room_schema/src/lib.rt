@@ -5,6 +5,7 @@ mod adopting;
 mod fault;
 mod first_rows;
 mod founding;
+pub mod laws;
 mod migrating;
 mod raising;
 mod tables;

@@ -4,6 +4,7 @@ ghost use Rattle.sqlite.specs.Held.{state};
 ghost use Rattle.room_schema.specs.Raising.{IsInside, Migrates};
 
 use crate::fault::{MigrateFault, OpenFault, failure_of, keeper_failure};
+use crate::laws::spread_is_raised;
 use crate::raising::raise_inside;
 use crate::version::{expect_version, update_version};
 use room_inherit::Report;
@@ -19,6 +20,7 @@ fn migrate_inside<S: Alter>(alloc: Global, tx: &mut Transaction<'_, S>) -> Resul
     ensures inside { IsTrue (state S.Store tx.old.conn.now).in_transaction
         → IsInside (state S.Store tx.old.conn.now) (state S.Store tx.new.conn.now) result }
 {
+    spread_is_raised();
     match expect_version(tx, OLD_SCHEMA) {
         Ok(()) => {}
         Err(fault) => return Err(MigrateFault::Opening(fault)),
@@ -39,7 +41,8 @@ fn migrate_inside<S: Alter>(alloc: Global, tx: &mut Transaction<'_, S>) -> Resul
 }
 
 /// Raises a room of schema 1, which stores the inherited entries of objects that aren't linked and
-/// no others, to schema 2, which stores those of all objects. The rows are tested before.
+/// no others, to schema 2, which stores those of all objects. The rows are tested before. After
+/// that they are sound and mean what they meant.
 pub fn migrate<S: Alter>(alloc: Global, conn: &mut Connection<S>) -> Result<(), MigrateFault>
     requires { conn.old.in_transaction ≡ false }
     ensures { Migrates (state S.Store conn.old) (state S.Store conn.new) result }
