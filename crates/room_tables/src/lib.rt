@@ -8,3 +8,4 @@ mod seen;
 mod statements;
 
 pub use crate::keeper::Keeper;
+pub use crate::reading::{name_of, text_at, value_at};

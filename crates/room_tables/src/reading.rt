@@ -13,8 +13,8 @@ use sqlite::Row;
 use sqlite::types::ValueRef;
 use std::alloc::{AllocError, Global};
 
-// The value in a column, and NULL past the end.
-pub(crate) fn value_at(row: &Row, at: usize) -> ValueRef<'_>
+/// The value in a column, and NULL past the end.
+pub fn value_at(row: &Row, at: usize) -> ValueRef<'_>
     ensures { owned result ≡ column row.now at }
 {
     match row.get_ref(at) {
@@ -92,7 +92,8 @@ pub(crate) fn str_of(value: ValueRef<'_>) -> Option<&str>
     }
 }
 
-pub(crate) fn name_of(alloc: Global, value: ValueRef<'_>) -> Result<Option<Name>, AllocError>
+/// A name, if the value is the text of one.
+pub fn name_of(alloc: Global, value: ValueRef<'_>) -> Result<Option<Name>, AllocError>
     ensures { IfOk result (λ name. name ≡ name_in (owned value.entry)) }
 {
     let Some(text) = str_of(value) else {
@@ -105,7 +106,8 @@ pub(crate) fn name_of(alloc: Global, value: ValueRef<'_>) -> Result<Option<Name>
     }
 }
 
-pub(crate) fn text_at(alloc: Global, value: ValueRef<'_>) -> Result<Option<Text>, AllocError>
+/// A text that is kept, if it is UTF-8.
+pub fn text_at(alloc: Global, value: ValueRef<'_>) -> Result<Option<Text>, AllocError>
     ensures { IfOk result (λ text. text ≡ text_in (owned value.entry)) }
 {
     match str_of(value) {

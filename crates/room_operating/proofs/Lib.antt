@@ -1,0 +1,6 @@
+pub mod Sets
+pub mod Members
+pub mod Exchanging
+pub mod Gathering
+pub mod Following
+pub mod Recorded
