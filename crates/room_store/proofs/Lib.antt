@@ -1,0 +1,5 @@
+mod Transact
+mod Turning
+mod Leading
+mod Exchanged
+mod Opened

@@ -1,0 +1,39 @@
+-- A store over a new room, and over one that is there.
+use Rattle.std.proofs.Common.{◌≡◌, ◌≤◌, Ok, Err, Result, refl, sym, ap, subst, ◌∙◌, arith}
+use Rattle.std.specs.Prelude.{[], OnOk}
+use Rattle.sqlite.specs.State.{State, HasCleanDisk}
+use Rattle.room_ace.specs.Bits.{all_bits}
+use Rattle.room_ace.specs.declared.parties.Owners.{Owners}
+use Rattle.room_rows.specs.Meaning.{meaning}
+use Rattle.room_inherit.specs.Sound.{AreSound}
+use Rattle.room_tables.specs.Meaning.{rows_of}
+use Rattle.room_tables.specs.Shown.{HasTables, tables_of}
+use Rattle.room_schema.specs.Making.{Founds}
+use Rattle.room_schema.specs.NewRoom.{new_room}
+use Rattle.room_schema.specs.Opening.{Adopts}
+use Rattle.room_schema.specs.declared.fault.CreateFault.{CreateFault}
+use Rattle.room_schema.specs.declared.fault.OpenFault.{OpenFault}
+use Rattle.room_store.specs.Kept.{IsSound, Keeps}
+use Rattle.room_store.specs.Leads.{Leads}
+use Rattle.room_store.specs.Opens.{Creates, Opens}
+
+-- a root with the owner's entry is a sound room
+new_is_sound : (owners : Owners) → AreSound (new_room owners)
+unfolding all_bits
+new_is_sound owners = refl
+
+pub creates : (owners : Owners) (old new : State) (result : Result (Unit {0}) CreateFault)
+    → Founds owners old new result → Creates owners old new result
+creates owners old new (Ok done) founds = record {
+  founds = founds;
+  opens = λ now.
+      let made = founds.made now in
+      let it = made.1 in (
+        (λ is_open. (
+          tables_of it.room,
+          subst AreSound (sym it.rows) (new_is_sound owners),
+        )),
+        (λ is_open. ap (λ rows. meaning rows.read) it.rows),
+      );
+}
+creates owners old new (Err fault) founds = record { founds = founds; opens = λ _. tt }

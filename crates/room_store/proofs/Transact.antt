@@ -1,0 +1,186 @@
+-- Calls in a transaction that is committed, or given up.
+use Rattle.std.proofs.Common.{◌≡◌, ◌≤◌, ℕ, Result, Ok, Err, IsTrue, IfOk, inl, inr, refl, sym, ap, subst, subst₂, ◌∙◌, true, false, arith}
+use Rattle.sqlite_trees.specs.View.{doubt}
+use Rattle.sqlite.specs.Effect.{Database, IsDatabase}
+use Rattle.sqlite.specs.declared.error.Error.{Error}
+use Rattle.sqlite.specs.State.{State, HasCleanDisk, Shows, IsRolledBack}
+use Rattle.sqlite.specs.Steps.{FailsToCommit}
+use Rattle.room_rows.specs.declared.keep.KeepFault.{KeepFault}
+use Rattle.room_rows.specs.declared.keep.KeepFault.TheVariants as keep
+use Rattle.room_rows.specs.Rows.{Rows}
+use Rattle.room_tables.specs.Meaning.{rows_of}
+use Rattle.room_tables.specs.Shown.{HasTables, IsRoom, Stays, room_of, tables_of}
+use Rattle.room_tables.specs.Trust.{IsTrusted}
+use Rattle.room_store.specs.declared.fault.StoreFault.{StoreFault}
+use Rattle.room_store.specs.declared.fault.StoreFault.TheVariants.{Db, Damaged}
+use Rattle.room_store.specs.Premise.{StorePremise}
+use Rattle.room_store.specs.Ran.{LeavesOpen, Looked, Ran}
+use Rattle.room_operating.specs.Carries.{ByRows, Carries, OnRows, Reading}
+use Rattle.room_store.specs.Turn.{Finishes, GivesUp, fault_as}
+
+-- a transaction begins
+pub record Begins (old begun : State) : Type 0 where
+  pub now : begun.now ≡ old.now
+  pub committed : begun.committed ≡ old.committed
+  pub same_open : begun.is_open ≡ old.is_open
+  pub same_clean : begun.is_clean ≡ old.is_clean
+  pub mode : begun.in_transaction ≡ true
+  pub settled : IsTrue old.is_open → old.now ≡ old.committed
+  pub sound : IsTrue old.is_open → IsDatabase old.now
+
+-- the fault of a keeper that a store tells as damage
+damage_of : (why : KeepFault) → fault_as why ≡ Damaged → (id : ℕ) × (why ≡ keep.Damaged id)
+damage_of keep.Memory is = absurd (let e = is in cc)
+damage_of keep.Store is = absurd (let e = is in cc)
+damage_of (keep.Damaged id) is = (id, refl)
+
+no_damage : {X : Type 0} (fault : StoreFault) → fault ≡ Db → ◌≡◌ {A = Result X StoreFault} (Err fault) (Err Damaged) → ⊥
+no_damage fault is damaged = absurd (let e = sym is ∙ fault_in damaged in cc)
+  where
+    fault_in : {X : Type 0} {a b : StoreFault} → ◌≡◌ {A = Result X StoreFault} (Err a) (Err b) → a ≡ b
+    fault_in e = cc
+
+same_fault : {X : Type 0} {a b : StoreFault} → ◌≡◌ {A = Result X StoreFault} (Err a) (Err b) → a ≡ b
+same_fault e = cc
+
+pub refused : {X : Type 0} (old : State) (Blames : Rows → Type 0) (Becomes : Rows → X → Rows → Type 0) → Ran {X = X} old old (Err Db) Blames Becomes
+refused old Blames Becomes = record {
+  leaves = record { ended = λ h. h; clean = λ h. h; was_open = λ _ h. h };
+  answers = λ _. tt;
+  step = λ _. tt;
+  kept = λ _ _. refl;
+  tables = λ premise _. premise.tables;
+  damaged = λ _ _ is. absurd (no_damage Db refl is);
+}
+
+pub not_looked : {X : Type 0} (old : State) (Blames : Database → Type 0) (Answers : Database → X → Type 0) → Looked {X = X} old old (Err Db) Blames Answers
+not_looked old Blames Answers = record {
+  leaves = record { ended = λ h. h; clean = λ h. h; was_open = λ _ h. h };
+  same = λ _ _. refl;
+  answer = λ _ _. tt;
+  damaged = λ _ _ is. absurd (no_damage Db refl is);
+}
+
+module _ (old begun mid end : State) (begins : Begins old begun) (stays : Stays begun mid) (ended : end.in_transaction ≡ false) (clean : doubt mid.is_clean ≤ doubt end.is_clean) where
+  clean_mid : HasCleanDisk end → HasCleanDisk mid
+  clean_mid h = omega arith
+
+  old_clean : HasCleanDisk end → HasCleanDisk old
+  old_clean h =
+      let mid' : HasCleanDisk mid = clean_mid h in
+      let begun' : HasCleanDisk begun = omega (arith, stays.clean, mid') in
+      subst (λ b. doubt b ≡ 0) begins.same_clean begun'
+
+  old_open : HasCleanDisk end → IsTrue mid.is_open → IsTrue old.is_open
+  old_open now open' = sym begins.same_open ∙ stays.was_open (clean_mid now) open'
+
+  -- what is known of the tables once the calls were made
+  record Made : Type 0 where
+    same : old.now ≡ old.committed
+    trusted : IsTrusted begun mid
+    committed : mid.committed ≡ old.now
+    room : IsRoom mid.now
+
+  made : HasCleanDisk end → IsTrue mid.is_open → HasTables old.now → Made
+  made now open' tables =
+      let open'' : IsTrue old.is_open = old_open now open' in
+      let room : IsRoom old.now = room_of tables (begins.sound open'') in
+      let same = begins.settled open'' in
+      let one = subst IsRoom (sym begins.now) room in
+      let two = subst IsRoom (sym begins.committed) (subst IsRoom same room) in
+      let kept = stays.kept (clean_mid now) open' two one in
+      record { same = same; trusted = record { clean = clean_mid now; is_open = open'; now = one; committed = two }; committed = kept.0 ∙ begins.committed ∙ sym same; room = kept.1 }
+
+  leaves : (HasCleanDisk end → IsTrue end.is_open → IsTrue mid.is_open) → LeavesOpen old end
+  leaves was = record { ended = λ _. ended; clean = old_clean; was_open = λ now open'. old_open now (was now open') }
+
+  undone_at : HasCleanDisk end → IsTrue end.is_open → HasTables old.now → IsRolledBack mid end → end.now ≡ old.now
+  undone_at now open' tables back = (back.undone open').0 ∙ (made now (back.was_open open') tables).committed
+
+  was_at : IsTrue end.is_open → (why : Error) → FailsToCommit mid end why → IsTrue mid.is_open
+  was_at open' why (inl fails) = fails.3.was_open open'
+  was_at open' why (inr (is, mode, same)) = same.0.was_open
+
+  left_at : HasCleanDisk end → IsTrue end.is_open → HasTables old.now → (why : Error) → FailsToCommit mid end why → end.now ≡ old.now
+  left_at now open' tables why (inl fails) = undone_at now open' tables fails.3
+  left_at now open' tables why (inr (is, mode, same)) =
+      let m = made now same.0.was_open tables in
+      let settled = stays.settled (clean_mid now) same.0.was_open m.trusted.committed m.trusted.now (λ off. absurd (let e' = sym off ∙ begins.mode in cc)) mode in
+      same.0.now_is ∙ settled ∙ m.committed
+
+  module _ {X : Type 0} (Blames : Rows → Type 0) (Becomes : Rows → X → Rows → Type 0) where
+    committed : (x y : X) → (HasCleanDisk end → y ≡ x) → (IsTrusted begun mid → Becomes (rows_of begun.now) x (rows_of mid.now)) → (HasCleanDisk end → Shows mid end mid.now mid.now false) → Ran old end (Ok y) Blames Becomes
+    committed x y same becomes shows = record {
+      leaves = leaves (λ now _. (shows now).was_open);
+      answers = λ now. (old_open now (shows now).was_open, (shows now).is_open);
+      step = λ premise.
+          let s = shows premise.disk in
+          let m = made premise.disk s.was_open premise.tables in
+          subst (λ z. Becomes (rows_of old.now) z (rows_of end.now)) (sym (same premise.disk)) (subst₂ (λ a b. Becomes (rows_of a) x (rows_of b)) begins.now (sym s.now_is) (becomes m.trusted));
+      kept = λ _ _. tt;
+      tables = λ premise _.
+          let s = shows premise.disk in
+          subst HasTables (sym s.now_is) (tables_of (made premise.disk s.was_open premise.tables).room);
+      damaged = λ _ _ is. absurd (let e = is in cc);
+    }
+
+    given_up : (fault : StoreFault) → (HasCleanDisk end → IsTrue end.is_open → IsTrue mid.is_open) → (HasCleanDisk end → IsTrue end.is_open → HasTables old.now → end.now ≡ old.now)
+        → (StorePremise old end → IsTrue end.is_open → fault ≡ Damaged → Blames (rows_of old.now)) → Ran {X = X} old end (Err fault) Blames Becomes
+    given_up fault was left damaged = record {
+      leaves = leaves was;
+      answers = λ _. tt;
+      step = λ _. tt;
+      kept = λ premise open'. left premise.disk open' premise.tables;
+      tables = λ premise open'. subst HasTables (sym (left premise.disk open' premise.tables)) premise.tables;
+      damaged = λ premise open' is. damaged premise open' (same_fault is);
+    }
+
+    blamed : (why : KeepFault) (fault : StoreFault) → Carries {X = X} begun mid (Err why) (OnRows Blames) (ByRows Becomes) → StorePremise old end → IsTrue mid.is_open → fault ≡ fault_as why → fault ≡ Damaged → Blames (rows_of old.now)
+    blamed why fault carries premise open' is damaged =
+        let named = damage_of why (sym is ∙ damaged) in
+        let m = made premise.disk open' premise.tables in
+        subst (λ db. Blames (rows_of db)) begins.now (carries.blames m.trusted named.0 (ap Err named.1))
+
+    pub ran : (done : Result X KeepFault) (result : Result X StoreFault) → Carries begun mid done (OnRows Blames) (ByRows Becomes) → (HasCleanDisk end → Finishes mid end done result) → Ran old end result Blames Becomes
+    ran (Ok x) (Ok y) carries ends = committed x y (λ now. (ends now).0) (λ trust. carries.becomes trust) (λ now. (ends now).2)
+    ran (Ok x) (Err fault) carries ends =
+        given_up fault (λ now open'. was_at open' (ends now).1 (ends now).2) (λ now open' tables. left_at now open' tables (ends now).1 (ends now).2)
+        (λ premise _ is. absurd (let e = sym (ends premise.disk).0 ∙ is in cc))
+    ran (Err why) (Ok y) carries ends = record {
+      leaves = leaves (λ now _. absurd (ends now));
+      answers = λ now. absurd (ends now);
+      step = λ premise. absurd (ends premise.disk);
+      kept = λ _ _. tt;
+      tables = λ premise _. absurd (ends premise.disk);
+      damaged = λ premise _ _. absurd (ends premise.disk);
+    }
+    ran (Err why) (Err fault) carries ends =
+        given_up fault (λ now open'. (ends now).1.was_open open') (λ now open' tables. undone_at now open' tables (ends now).1)
+        (λ premise open' is. blamed why fault carries premise ((ends premise.disk).1.was_open open') (ends premise.disk).0 is)
+
+  module _ {X : Type 0} (Blames : Database → Type 0) (Answers : Database → X → Type 0) where
+    -- the same for calls that only read, and are given up whatever they answer
+    look : (done : Result X KeepFault) → Carries begun mid done Blames (Reading Answers) → (result : Result X StoreFault) → (HasCleanDisk end → IsRolledBack mid end)
+        → (StorePremise old end → IsTrue mid.is_open → IfOk result (Answers old.now)) → (StorePremise old end → IsTrue mid.is_open → result ≡ Err Damaged → Blames old.now)
+        → Looked old end result Blames Answers
+    look done carries result back answer damaged = record {
+      leaves = leaves (λ now open'. (back now).was_open open');
+      same = λ premise open'. undone_at premise.disk open' premise.tables (back premise.disk);
+      answer = λ premise open'. answer premise ((back premise.disk).was_open open');
+      damaged = λ premise open' is. damaged premise ((back premise.disk).was_open open') is;
+    }
+
+    pub looked : (done : Result X KeepFault) (result : Result X StoreFault) → Carries begun mid done Blames (Reading Answers) → (HasCleanDisk end → GivesUp mid end done result)
+        → Looked old end result Blames Answers
+    looked (Ok x) (Ok y) carries ends =
+        look (Ok x) carries (Ok y) (λ now. (ends now).1)
+        (λ premise open'. subst (Answers old.now) (sym (ends premise.disk).0) (subst (λ db. Answers db x) begins.now (carries.becomes (made premise.disk open' premise.tables).trusted)))
+        (λ _ _ is. absurd (let e = is in cc))
+    looked (Ok x) (Err fault) carries ends = look (Ok x) carries (Err fault) (λ now. absurd (ends now)) (λ _ _. tt) (λ premise. absurd (ends premise.disk))
+    looked (Err why) (Ok y) carries ends = look (Err why) carries (Ok y) (λ now. absurd (ends now)) (λ premise. absurd (ends premise.disk)) (λ premise. absurd (ends premise.disk))
+    looked (Err why) (Err fault) carries ends =
+        look (Err why) carries (Err fault) (λ now. (ends now).1) (λ _ _. tt)
+        (λ premise open' is.
+        let named = damage_of why (sym (ends premise.disk).0 ∙ same_fault is) in
+        let m = made premise.disk open' premise.tables in
+        subst Blames begins.now (carries.blames m.trusted named.0 (ap Err named.1)))

@@ -1,0 +1,6 @@
+pub mod Premise
+pub mod Kept
+pub mod Ran
+pub mod Turn
+pub mod Leads
+pub mod Opens

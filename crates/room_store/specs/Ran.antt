@@ -1,0 +1,50 @@
+-- What one call of a store is.
+use Rattle.std.specs.Prelude.{◌≡◌, ℕ, Result, Err, IsTrue, IfOk, OnOk, OnErr, false}
+use Rattle.sqlite.specs.Effect.{Database}
+use Rattle.sqlite.specs.State.{State, HasCleanDisk}
+use Rattle.room_rows.specs.Keep.{IsDamaged}
+use Rattle.room_rows.specs.Rows.{Rows}
+use Rattle.room_store.specs.declared.fault.StoreFault.{StoreFault}
+use Rattle.room_store.specs.declared.fault.StoreFault.TheVariants.{Damaged}
+use Rattle.room_tables.specs.Meaning.{rows_of}
+use Rattle.room_tables.specs.Shown.{HasTables}
+use Rattle.room_store.specs.Premise.{StorePremise}
+
+-- what any call leaves of the connection
+pub record LeavesOpen (old new : State) : Type 0 where
+  -- It leaves no transaction open.
+  pub ended : old.in_transaction ≡ false → new.in_transaction ≡ false
+  -- A disk that gave back what was written up to the end did so up to the beginning.
+  pub clean : HasCleanDisk new → HasCleanDisk old
+  -- A connection that was shut stays so.
+  pub was_open : HasCleanDisk new → IsTrue new.is_open → IsTrue old.is_open
+
+-- A call that writes: one transaction, which is given up at a fault.
+pub record Ran {X : Type 0} (old new : State) (result : Result X StoreFault)
+    (Blames : Rows → Type 0) (Becomes : Rows → X → Rows → Type 0) : Type 0 where
+  pub leaves : LeavesOpen old new
+  -- A connection that is shut gives no answer.
+  pub answers : HasCleanDisk new → OnOk result (IsTrue old.is_open × IsTrue new.is_open)
+  -- An answer tells what became of the rows.
+  pub step : StorePremise old new
+      → IfOk result (λ answer. Becomes (rows_of old.now) answer (rows_of new.now))
+  -- A fault leaves the tables, where the connection is still open.
+  pub kept : StorePremise old new → IsTrue new.is_open → OnErr result (new.now ≡ old.now)
+  -- They are still those of a room.
+  pub tables : StorePremise old new → IsTrue new.is_open → HasTables new.now
+  -- `Damaged` comes for such rows.
+  pub damaged : StorePremise old new → IsTrue new.is_open → result ≡ Err Damaged
+      → Blames (rows_of old.now)
+
+-- A call that reads. Whatever it answers, the tables are as they were.
+pub record Looked {X : Type 0} (old new : State) (result : Result X StoreFault)
+    (Blames : Database → Type 0) (Answers : Database → X → Type 0) : Type 0 where
+  pub leaves : LeavesOpen old new
+  pub same : StorePremise old new → IsTrue new.is_open → new.now ≡ old.now
+  pub answer : StorePremise old new → IsTrue new.is_open → IfOk result (Answers old.now)
+  pub damaged : StorePremise old new → IsTrue new.is_open → result ≡ Err Damaged
+      → Blames old.now
+
+-- some row is damaged
+abbrev pub HasDamage : Rows → Type 0
+HasDamage rows = (at : ℕ) × IsDamaged rows at

@@ -1,0 +1,32 @@
+-- How the transaction round the calls of a keeper begins and ends.
+use Rattle.std.specs.Prelude.{◌≡◌, Result, Ok, Err, IsTrue, false}
+use Rattle.sqlite.specs.declared.error.Error.{Error}
+use Rattle.sqlite.specs.State.{State, IsRolledBack, Shows}
+use Rattle.sqlite.specs.Steps.{FailsToCommit}
+use Rattle.room_rows.specs.declared.keep.KeepFault.{KeepFault}
+use Rattle.room_rows.specs.declared.keep.KeepFault.TheVariants as keep
+use Rattle.room_store.specs.declared.fault.StoreFault.{StoreFault}
+use Rattle.room_store.specs.declared.fault.StoreFault.TheVariants.{Memory, Db, Damaged}
+
+-- the fault of a store for that of its keeper
+abbrev pub fault_as : KeepFault → StoreFault
+fault_as keep.Memory = Memory
+fault_as keep.Store = Db
+fault_as (keep.Damaged id) = Damaged
+
+-- An answer is committed, or the commit fails. After a fault all is undone.
+abbrev pub Finishes : {X : Type 0} → State → State → Result X KeepFault → Result X StoreFault
+    → Type 0
+Finishes mid end (Ok x) (Ok y) =
+    (y ≡ x) × IsTrue mid.in_transaction × Shows mid end mid.now mid.now false
+Finishes mid end (Ok x) (Err fault) = (fault ≡ Db) × (why : Error) × FailsToCommit mid end why
+Finishes mid end (Err why) (Ok y) = ⊥
+Finishes mid end (Err why) (Err fault) = (fault ≡ fault_as why) × IsRolledBack mid end
+
+-- Whatever is answered, all is undone.
+abbrev pub GivesUp : {X : Type 0} → State → State → Result X KeepFault → Result X StoreFault
+    → Type 0
+GivesUp mid end (Ok x) (Ok y) = (y ≡ x) × IsRolledBack mid end
+GivesUp mid end (Ok x) (Err fault) = ⊥
+GivesUp mid end (Err why) (Ok y) = ⊥
+GivesUp mid end (Err why) (Err fault) = (fault ≡ fault_as why) × IsRolledBack mid end

@@ -1,0 +1,27 @@
+//! Why a store gives no answer.
+ghost use Rattle.std.specs.Prelude.{◌≡◌};
+ghost use Rattle.room_store.specs.Turn.{fault_as};
+
+use room_rows::KeepFault;
+
+/// Why the store gave no answer. The tables then mean what they meant.
+#[derive(Clone, Copy, Debug, PartialEq, Eq)]
+pub enum StoreFault {
+    /// There was no memory.
+    Memory,
+    /// The database failed, or the connection is in a transaction of its owner's.
+    Db,
+    /// A row can't be read, or something that belongs to it is missing.
+    Damaged,
+}
+
+/// The fault of a store for that of its keeper.
+pub(crate) fn fault_of(fault: KeepFault) -> StoreFault
+    ensures { result ≡ fault_as fault }
+{
+    match fault {
+        KeepFault::Memory => StoreFault::Memory,
+        KeepFault::Store => StoreFault::Db,
+        KeepFault::Damaged { .. } => StoreFault::Damaged,
+    }
+}

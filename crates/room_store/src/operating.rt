@@ -1,0 +1,71 @@
+//! What an operator asks of all pairs and all records, each in one transaction.
+ghost use Rattle.sqlite.specs.Held.{state};
+ghost use Rattle.room_store.specs.Ran.{Looked, Ran};
+ghost use Rattle.room_operating.specs.Carries.{NoTables};
+ghost use Rattle.room_operating.specs.Operating.{
+  AreMembers,
+  AreRecords,
+  HasUnreadRecord,
+  ReplacesMembers,
+};
+
+use crate::fault::StoreFault;
+use crate::look::give_up;
+use crate::turn::finish;
+use room_ace::Name;
+use room_operating::{all_members, all_records, put_members};
+use room_rows::AuditRow;
+use sqlite::{Alter, Connection};
+use std::alloc::Global;
+
+/// The pairs. Nothing changes, and within another transaction it answers `Db` at once.
+pub(crate) fn members_on<S: Alter>(
+    alloc: Global,
+    conn: &mut Connection<S>,
+) -> Result<Vec<(Name, Name)>, StoreFault>
+    ensures looked { Looked (state S.Store conn.old) (state S.Store conn.new) result NoTables
+        (λ db pairs. AreMembers db pairs.items) }
+{
+    if !conn.is_autocommit() {
+        return Err(StoreFault::Db);
+    }
+    let _schema = conn.schema();
+    let mut tx = conn.transaction();
+    let done = all_members(alloc, &mut tx);
+    give_up(tx, done)
+}
+
+/// The records. Nothing changes, and within another transaction it answers `Db` at once.
+pub(crate) fn audits_on<S: Alter>(
+    alloc: Global,
+    conn: &mut Connection<S>,
+) -> Result<Vec<AuditRow>, StoreFault>
+    ensures looked { Looked (state S.Store conn.old) (state S.Store conn.new) result
+        HasUnreadRecord (λ db records. AreRecords db records.items) }
+{
+    if !conn.is_autocommit() {
+        return Err(StoreFault::Db);
+    }
+    let _schema = conn.schema();
+    let mut tx = conn.transaction();
+    let done = all_records(alloc, &mut tx);
+    give_up(tx, done)
+}
+
+/// Exchanges the pairs in one transaction. Within another one it answers `Db` at once.
+pub(crate) fn replace_on<S: Alter>(
+    alloc: Global,
+    conn: &mut Connection<S>,
+    pairs: &[(Name, Name)],
+) -> Result<(), StoreFault>
+    ensures ran { Ran (state S.Store conn.old) (state S.Store conn.new) result (λ _. ⊥)
+        (ReplacesMembers pairs.now) }
+{
+    if !conn.is_autocommit() {
+        return Err(StoreFault::Db);
+    }
+    let _schema = conn.schema();
+    let mut tx = conn.transaction();
+    let done = put_members(alloc, &mut tx, pairs);
+    finish(tx, done)
+}

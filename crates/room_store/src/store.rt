@@ -1,0 +1,152 @@
+//! The store.
+ghost use Rattle.std.specs.Prelude.{◌≡◌, []};
+ghost use Rattle.std.specs.Option.{option_copied};
+ghost use Rattle.sqlite.specs.Held.{state};
+ghost use Rattle.room_inherit.specs.Reading.{IsReport};
+ghost use Rattle.room_judge.specs.Judged.{Performs, Resets};
+ghost use Rattle.room_machine.specs.Run.{Event};
+ghost use Rattle.room_store.specs.Leads.{Leads, event_of};
+ghost use Rattle.room_store.specs.Ran.{HasDamage, Looked, Ran};
+ghost use Rattle.room_operating.specs.Carries.{NoTables};
+ghost use Rattle.room_tables.specs.Meaning.{rows_of};
+ghost use Rattle.room_operating.specs.Operating.{
+  AreMembers,
+  AreRecords,
+  HasUnreadRecord,
+  ReplacesMembers,
+};
+
+use crate::fault::StoreFault;
+use crate::operating::{audits_on, members_on, replace_on};
+use crate::resetting::reset_on;
+use crate::running::run_on;
+use crate::verifying::verify_on;
+use room_ace::{Name, SentList, Which};
+use room_inherit::Report;
+use room_inherit::laws::sound_is_no_fault;
+use room_machine::{Reply, Request};
+use room_rows::{AuditRow, Path};
+use sqlite::{Alter, Connection};
+use std::alloc::Global;
+
+/// A room in the tables of a connection. Each call that writes is one transaction; within a
+/// transaction of the connection's owner all calls answer `Db`.
+pub struct Store<S: Alter> {
+    pub(crate) conn: Connection<S>,
+    // how often the store has answered a fault as a desk
+    pub(crate) faults: u64,
+}
+
+impl<S: Alter + Drop> Drop for Store<S> {
+    fn drop(self) {
+        let Store { conn: _, faults: _ } = self;
+    }
+}
+
+impl<S: Alter> Store<S> {
+    // A store over these tables, which has had no fault.
+    pub(crate) fn over(conn: Connection<S>) -> Store<S>
+        ensures conn { result.conn ≡ conn }
+        ensures faults { result.faults ≡ 0 }
+    {
+        Store { conn, faults: 0 }
+    }
+
+    /// Carries out one request of a caller, who is anonymous without a name, at a moment in seconds
+    /// from 1970-01-01 00:00 UTC. From sound rows it is one step of the room machine on what the
+    /// tables mean. A fault leaves the tables, and `Damaged` comes only for a damaged row, so never
+    /// on sound rows.
+    pub fn run(
+        &mut self,
+        alloc: Global,
+        caller: Option<&Name>,
+        at: i64,
+        request: &Request,
+    ) -> Result<Reply, StoreFault>
+        ensures ran { Ran (state S.Store self.old.conn) (state S.Store self.new.conn) result
+            HasDamage (Performs (option_copied caller.entry) at request.now) }
+        ensures leads { Leads (state S.Store self.old.conn) (event_of result
+            (Event.Asked (option_copied caller.entry) at request.now))
+            (state S.Store self.new.conn) }
+        ensures faults { self.new.faults ≡ self.old.faults }
+    {
+        run_on(alloc, &mut self.conn, caller, at, request)
+    }
+
+    /// Sets one of an object's lists as the request does, but asks no bits and leaves no record.
+    /// The reply is `Done`, or a refusal: no such object, a document on the way, or an entry that
+    /// isn't valid. Its faults are those of `run`.
+    pub fn reset(
+        &mut self,
+        alloc: Global,
+        path: &Path,
+        which: Which,
+        sent: &SentList,
+    ) -> Result<Reply, StoreFault>
+        ensures ran { Ran (state S.Store self.old.conn) (state S.Store self.new.conn) result
+            HasDamage (Resets path.now which sent.now) }
+        ensures leads { Leads (state S.Store self.old.conn) (event_of result
+            (Event.WasReset path.now which sent.now)) (state S.Store self.new.conn) }
+        ensures faults { self.new.faults ≡ self.old.faults }
+    {
+        reset_on(alloc, &mut self.conn, path, which, sent)
+    }
+
+    /// Whether the rows are sound, or the first fault of seven tests. Nothing changes, and
+    /// `Damaged` never comes: a row that can't be read is a fault that the report tells.
+    pub fn verify(&mut self, alloc: Global) -> Result<Report, StoreFault>
+        ensures looked { Looked (state S.Store self.old.conn) (state S.Store self.new.conn) result
+            NoTables (λ db report. IsReport (rows_of db) report) }
+        ensures leads { Leads (state S.Store self.old.conn) [] (state S.Store self.new.conn) }
+        ensures faults { self.new.faults ≡ self.old.faults }
+    {
+        verify_on(alloc, &mut self.conn)
+    }
+
+    /// The pairs of group and user become these, each once. It is the operator's step of the room
+    /// machine. `Damaged` never comes.
+    pub fn replace_members(
+        &mut self,
+        alloc: Global,
+        pairs: &[(Name, Name)],
+    ) -> Result<(), StoreFault>
+        ensures ran { Ran (state S.Store self.old.conn) (state S.Store self.new.conn) result
+            (λ _. ⊥) (ReplacesMembers pairs.now) }
+        ensures leads { Leads (state S.Store self.old.conn) (event_of result
+            (λ _. Event.Replaced pairs.now)) (state S.Store self.new.conn) }
+        ensures faults { self.new.faults ≡ self.old.faults }
+    {
+        sound_is_no_fault();
+        replace_on(alloc, &mut self.conn, pairs)
+    }
+
+    /// The pairs, in order of group and then of user, each once. A row whose group or user is no
+    /// name is left out. Nothing changes, and `Damaged` never comes.
+    pub fn members(&mut self, alloc: Global) -> Result<Vec<(Name, Name)>, StoreFault>
+        ensures looked { Looked (state S.Store self.old.conn) (state S.Store self.new.conn) result
+            NoTables (λ db pairs. AreMembers db pairs.items) }
+        ensures leads { Leads (state S.Store self.old.conn) [] (state S.Store self.new.conn) }
+        ensures faults { self.new.faults ≡ self.old.faults }
+    {
+        members_on(alloc, &mut self.conn)
+    }
+
+    /// The records, in the order in which they were added. Nothing changes, and `Damaged` comes
+    /// exactly where a row of records can't be read.
+    pub fn audits(&mut self, alloc: Global) -> Result<Vec<AuditRow>, StoreFault>
+        ensures looked { Looked (state S.Store self.old.conn) (state S.Store self.new.conn) result
+            HasUnreadRecord (λ db records. AreRecords db records.items) }
+        ensures leads { Leads (state S.Store self.old.conn) [] (state S.Store self.new.conn) }
+        ensures faults { self.new.faults ≡ self.old.faults }
+    {
+        audits_on(alloc, &mut self.conn)
+    }
+
+    /// The connection, with the tables as they are.
+    pub fn into_conn(self) -> Connection<S>
+        ensures { result ≡ self.conn }
+    {
+        let Store { conn, faults: _ } = self;
+        conn
+    }
+}
