@@ -1,0 +1,6 @@
+pub mod Counting
+pub mod Depth
+pub mod Reading
+pub mod Turning
+pub mod Waits
+pub mod Whole

@@ -1,0 +1,18 @@
+-- The text of a room is the whole of it.
+use Rattle.std.proofs.Common.{ℕ, ◌+◌, ◌<◌, ◌≤◌, [], length, sym, ◌∙◌, arith}
+use Rattle.room_rows.specs.Rows.{numbers_of}
+use Rattle.room_dump.specs.Laws.{TextIsWhole}
+use Rattle.room_dump.proofs.Counting.{count}
+use Rattle.room_dump.proofs.Depth.{always, deep_enough}
+use Rattle.room_dump.proofs.Turning.{begins_alone, told_from}
+
+below_both : (rest most depth : ℕ) → ((1 + 0) + rest) + 0 ≤ most → most ≤ depth → rest < depth
+below_both rest most depth e f = omega (arith, e, f)
+
+pub whole : TextIsWhole
+whole rows are root is depth deep =
+    let most = length (numbers_of rows) in
+    let t = begins_alone rows are root is [] in
+    deep_enough depth most rows.read t.rest [] root t.waits.0.0 t.rests t.once
+    (below_both (count always t.rest) most depth t.fewer deep) (below_both (count always t.rest) most most t.fewer (omega arith))
+    ∙ sym (told_from rows root is)

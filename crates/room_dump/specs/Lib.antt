@@ -1,0 +1,5 @@
+pub mod Lines
+pub mod Dump
+pub mod Waiting
+pub mod Telling
+pub mod Laws
