@@ -3,10 +3,9 @@ ghost use Rattle.std.specs.Prelude.{◌≡◌, ◌++◌, ◌∷◌, [], All, IfO
 ghost use Rattle.room_ace.specs.Column.{entries_of, entry_in};
 ghost use Rattle.room_ace.specs.Laws.{IsEntry};
 ghost use Rattle.room_ace.specs.Lists.{entry_lines};
-ghost use Rattle.room_ace.specs.Text.{entry_text};
 
 use crate::entry::{Entries, Entry};
-use crate::entry_text::{print_entry, read_entry};
+use crate::entry_text::{read_entry, write_line};
 use crate::failure::Failure;
 use crate::lines::{split_line, text_of};
 use crate::list_lines::{is_blank, is_comment};
@@ -20,7 +19,7 @@ pub fn print_entries(alloc: Global, entries: &[Entry]) -> Result<String, AllocEr
     are_known(entries);
     let mut text = String::new(alloc);
     for entry in entries {
-        push_entry(alloc, &mut text, entry)?;
+        write_line(&mut text, entry)?;
     }
     Ok(text)
 }
@@ -32,16 +31,6 @@ fn are_known(entries: &[Entry])
     for entry in entries {
         entry.is_known();
     }
-}
-
-fn push_entry(alloc: Global, text: &mut String, entry: &Entry) -> Result<(), AllocError>
-    ensures { OnOk result
-        (string_bytes text.new ≡ string_bytes text.old ++ (entry_text entry.now ++ 10 ∷ [])) }
-{
-    let line = print_entry(alloc, entry)?;
-    text.push_str(line.as_str())?;
-    text.push('\n')?;
-    Ok(())
 }
 
 /// The entries that the bytes spell, if each line that says something spells one.

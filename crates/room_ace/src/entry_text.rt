@@ -162,14 +162,33 @@ fn who_of(alloc: Global, group: bool, text: &str) -> Result<Option<Who>, AllocEr
 pub fn print_entry(alloc: Global, entry: &Entry) -> Result<String, AllocError>
     ensures { IfOk result (λ text. string_bytes text ≡ entry_text entry.now) }
 {
-    let mut text = String::from_str(alloc, kind_letter(entry.kind()))?;
+    let mut text = String::new(alloc);
+    write_entry(&mut text, entry)?;
+    Ok(text)
+}
+
+/// Adds the printed form of the entry and LF.
+pub(crate) fn write_line(text: &mut String, entry: &Entry) -> Result<(), AllocError>
+    ensures { OnOk result
+        (string_bytes text.new ≡ string_bytes text.old ++ (entry_text entry.now ++ 10 ∷ [])) }
+{
+    write_entry(text, entry)?;
+    text.push('\n')?;
+    Ok(())
+}
+
+// Adds the printed form of the entry, part by part, so that no text is made for it alone.
+fn write_entry(text: &mut String, entry: &Entry) -> Result<(), AllocError>
+    ensures { OnOk result (string_bytes text.new ≡ string_bytes text.old ++ entry_text entry.now) }
+{
+    text.push_str(kind_letter(entry.kind()))?;
     text.push(':')?;
-    push_flags(&mut text, entry.flags())?;
+    push_flags(text, entry.flags())?;
     text.push(':')?;
     text.push_str(who_str(entry.who()))?;
     text.push(':')?;
-    entry.mask().push_letters(&mut text)?;
-    Ok(text)
+    entry.mask().push_letters(text)?;
+    Ok(())
 }
 
 fn kind_letter(kind: EntryKind) -> &'static str

@@ -1,7 +1,6 @@
 //! The text of a list: a line `list:` with the list's flags, then a line for each entry.
 ghost use Rattle.std.specs.Prelude.{◌≡◌, ◌++◌, ◌∷◌, ◌+◌, ◌<◌, ◌^◌, [], length, IfOk, OnOk};
 ghost use Rattle.std.specs.Prelude.{string_bytes};
-ghost use Rattle.room_ace.specs.Text.{entry_text};
 ghost use Rattle.room_ace.specs.Lists.{list_text, sent_of};
 ghost use Rattle.room_ace.specs.Gives.{Gives};
 ghost use Rattle.room_ace.specs.Reading.{failure_at, lines_after, sent_after, with_line};
@@ -9,7 +8,7 @@ ghost use Rattle.room_ace.specs.declared.failure.Failure.TheVariants.{Fault};
 ghost use Rattle.room_ace.specs.declared.fault.Why.TheVariants.{Entry as Told, List as Limit};
 
 use crate::entry::Entry;
-use crate::entry_text::{print_entry, push_if, read_entry};
+use crate::entry_text::{push_if, read_entry, write_line};
 use crate::failure::Failure;
 use crate::fault::{LineFault, ListFault, TextFault, Why};
 use crate::flags::ListFlags;
@@ -113,18 +112,7 @@ pub fn print_list(alloc: Global, flags: ListFlags, entries: &[Entry]) -> Result<
     push_if(&mut text, flags.protect, 'p')?;
     text.push('\n')?;
     for entry in entries {
-        push_line(alloc, &mut text, entry)?;
+        write_line(&mut text, entry)?;
     }
     Ok(text)
-}
-
-// Adds the line of an entry.
-fn push_line(alloc: Global, text: &mut String, entry: &Entry) -> Result<(), AllocError>
-    ensures { OnOk result
-        (string_bytes text.new ≡ string_bytes text.old ++ (entry_text entry.now ++ 10 ∷ [])) }
-{
-    let line = print_entry(alloc, entry)?;
-    text.push_str(line.as_str())?;
-    text.push('\n')?;
-    Ok(())
 }
