@@ -108,6 +108,6 @@ fn text_of<K: Keep>(alloc: Global, keep: &mut K) -> Result<String, KeepFault> {
 fn agrees(told: Result<String, KeepFault>, wanted: &str) -> Result<(), Fail> {
     match told {
         Ok(text) => agree("dump", text.as_str(), wanted),
-        Err(_) => Err(Fail::new("no dump")),
+        Err(fault) => Err(Fail::from(fault)),
     }
 }

@@ -7,6 +7,7 @@ use Rattle.room_rows.specs.declared.node.Node.{Node}
 use Rattle.room_rows.specs.Content.{Content, body_of, children_of, root_of}
 use Rattle.room_rows.specs.Rows.{Rows, numbers_of}
 use Rattle.room_dump.specs.Lines.{object_text}
+use Rattle.room_dump.specs.Members.{members_text}
 
 -- the number of a document's bytes, and 0 for a folder
 abbrev pub size_in : ObjKind → Option (List ℕ) → ℕ
@@ -37,3 +38,8 @@ tree_text (suc depth) content path node =
 abbrev pub objects_text : Rows → List ℕ
 objects_text rows =
     option_map_or (tree_text (length (numbers_of rows)) rows.read []) (root_of rows.read) []
+
+-- A whole room: all objects, and behind them the pairs, which rows have in order of group and then
+-- of user.
+abbrev pub room_text : Rows → List ℕ
+room_text rows = objects_text rows ++ members_text rows.read.members

@@ -1,4 +1,5 @@
 pub mod Lines
+pub mod Members
 pub mod Dump
 pub mod Waiting
 pub mod Telling

@@ -29,10 +29,10 @@ use Rattle.sqlite_tied.specs.Compute.{everything}
 use Rattle.sqlite_trees.specs.View.{IsShaped, is_int}
 use Rattle.sqlite_trees.specs.declared.store.Shape.TheVariants as Shape
 use Rattle.sqlite_trees.proofs.TreeLemmas.{IsShaped-put_row}
-use Rattle.room_operating.specs.Operating.{Exchanges, Joins, stored_pair}
+use Rattle.room_operating.specs.Operating.{Exchanges, stored_pair}
 use Rattle.room_tables.specs.Shown.{IsRoom}
 use Rattle.room_tables.specs.Tables.{members, room_schema}
-use Rattle.room_tables.proofs.Answers.{passes, shows, selected}
+use Rattle.room_tables.proofs.Answers.{shows, selected}
 use Rattle.room_tables.proofs.Executed.{WritesRoom}
 use Rattle.room_tables.proofs.Inserts.{fresh_alone}
 use Rattle.room_tables.proofs.Rowids.{each_of, has_itself, of_each}

@@ -4,3 +4,4 @@ pub mod Exchanging
 pub mod Gathering
 pub mod Following
 pub mod Recorded
+pub mod Dumped

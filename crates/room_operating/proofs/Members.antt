@@ -1,12 +1,11 @@
 -- What the query of all pairs shows, and what it is read as.
-use Rattle.std.proofs.Common.{◌≡◌, ℕ, List, [], ◌∷◌, map, filter, codes, None, Some, Option, refl, sym, ap, subst, ◌∙◌, true, false, Bool, cond, IsPermutation}
+use Rattle.std.proofs.Common.{◌≡◌, ℕ, List, [], ◌∷◌, map, filter, codes, None, Some, Option, refl, sym, ap, subst, ◌∙◌, true, false, Bool, IsPermutation}
 use Rattle.std.specs.Prelude.{◌||◌}
 use Rattle.std.specs.List.{cons_option, filter_map, list_any}
 use Rattle.std.specs.Option.{option_map_or}
 use Rattle.std.proofs.lemmas.List.Sorted.{list_any-IsPermutation}
 use Rattle.sqlite.specs.Order.{Row}
 use Rattle.sqlite.specs.Listing.{understood, reads_listing}
-use Rattle.sqlite.specs.Query.{Query}
 use Rattle.sqlite.specs.State.{State, Shown}
 use Rattle.sqlite.specs.Term.{Term, col}
 use Rattle.sqlite.proofs.Callers.{IsPlain, command_of}
@@ -14,7 +13,7 @@ use Rattle.sqlite_tied.specs.Compute.{everything}
 use Rattle.room_rows.specs.Content.{set_of}
 use Rattle.room_tables.specs.Meaning.{pair_in}
 use Rattle.room_operating.specs.Operating.{HasMembers, pair_seen, pairs_seen, rises_from, shown_pair}
-use Rattle.room_tables.specs.Paired.{Pair, sorted_set}
+use Rattle.room_tables.specs.Paired.{Pair}
 use Rattle.room_tables.specs.RoomRows.{set_sorted}
 use Rattle.room_tables.specs.Shown.{IsRoom}
 use Rattle.room_tables.specs.Tables.{room_schema}

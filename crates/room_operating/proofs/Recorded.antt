@@ -1,5 +1,5 @@
 -- What the query of all records shows, and what it is read as.
-use Rattle.std.proofs.Common.{◌≡◌, ◌&&◌, ℕ, ℤ, negsuc, List, [], ◌∷◌, map, filter, codes, Bool, Option}
+use Rattle.std.proofs.Common.{◌≡◌, ◌&&◌, ℕ, negsuc, List, [], ◌∷◌, map, filter, codes, Bool, Option}
 use Rattle.std.proofs.Common.{Some, None, Vec, Global, refl, sym, ap, subst, ◌∙◌, true, false, Less}
 use Rattle.std.specs.Prelude.{MatchOption, is_some}
 use Rattle.std.specs.List.{cons_option, filter_map, list_all}

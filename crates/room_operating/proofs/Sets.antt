@@ -1,6 +1,6 @@
 -- The set of pairs doesn't depend on the order in which they come.
-use Rattle.std.proofs.Common.{◌≡◌, ℕ, List, [], ◌∷◌, Bool, true, false, cond, refl, sym, ap, subst, ◌∙◌, inl, inr, Ordering, Less, Equal, Greater, is_lt, is_eq, nat_cmp, IsPermutation, true≢false}
-use Rattle.std.specs.Prelude.{◌||◌, ◌&&◌, Option, Some, None}
+use Rattle.std.proofs.Common.{◌≡◌, ℕ, List, [], ◌∷◌, Bool, true, false, refl, sym, ap, subst, ◌∙◌, Ordering, Less, Equal, Greater, is_lt, is_eq, nat_cmp, IsPermutation, true≢false}
+use Rattle.std.specs.Prelude.{◌||◌, Some, None}
 use Rattle.std.specs.List.{AllByRecursion, list_any}
 use Rattle.std.specs.List.Sorted.{IsStrictlySortedBy}
 use Rattle.std.specs.Ordering.{ordering_reverse, ordering_then}
@@ -12,7 +12,7 @@ use Rattle.std.proofs.lemmas.Map.Text.{is_eq-slice_cmp}
 use Rattle.std.proofs.lemmas.Slice.Eq.{bytes_eq-Decides}
 use Rattle.room_rows.specs.Content.{is_pair_before, put_pair, set_of}
 use Rattle.room_operating.specs.Operating.{rises_from}
-use Rattle.room_tables.specs.Paired.{Pair, all_past, before, before_is, not_back, pair_cmp, put_first, sorted_set, total}
+use Rattle.room_tables.specs.Paired.{Pair, all_past, before, before_is, not_back, pair_cmp, total}
 use Rattle.room_tables.specs.RoomRows.{set_sorted}
 
 -- ---- pairs that are told apart by no comparison

@@ -1,10 +1,13 @@
-//! What an operator asks of all pairs and all records of a room, each inside one transaction.
+//! What an operator asks of a whole room, of all its pairs and of all its records, each inside one
+//! transaction.
 #![tactic(auto)]
 
 mod operating;
 mod putting;
 mod records;
+mod telling;
 
 pub use operating::all_members;
 pub use putting::put_members;
 pub use records::all_records;
+pub use telling::dump_all;

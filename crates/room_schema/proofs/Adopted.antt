@@ -1,11 +1,12 @@
 -- A look at the schema's number, in a transaction that is given up.
-use Rattle.std.proofs.Common.{◌≡◌, ◌≤◌, pos, Result, IsTrue, sym, ap, subst, ◌∙◌, false, arith}
+use Rattle.std.proofs.Common.{◌≡◌, ◌≤◌, pos, Result, IsTrue, IsErrAnd, sym, ap, subst, ◌∙◌, false, arith}
 use Rattle.sqlite_trees.specs.View.{doubt}
 use Rattle.sqlite.specs.Effect.{Database}
 use Rattle.sqlite.specs.State.{State, HasCleanDisk, IsRolledBack}
-use Rattle.room_tables.specs.Tables.{room_schema}
+use Rattle.sqlite.specs.Schema.{Schema}
+use Rattle.room_tables.specs.Tables.{no_schema, room_schema}
 use Rattle.room_schema.specs.NewRoom.{meta_of}
-use Rattle.room_schema.specs.Opening.{Adopts, Expects, Says}
+use Rattle.room_schema.specs.Opening.{Adopts, Expects, IsRefusal, Says}
 use Rattle.room_schema.specs.Within.{IsWithin}
 use Rattle.room_schema.specs.declared.fault.OpenFault.{OpenFault}
 use Rattle.room_schema.proofs.Founded.{Begins}
@@ -18,8 +19,8 @@ module _ (old begun mid end : State) (begins : Begins old begun) (ended : end.in
     open_first : HasCleanDisk end → IsTrue end.is_open → IsTrue old.is_open
     open_first now open' = sym begins.same_open ∙ within.was_open (clean_mid now) ((back now).was_open open')
 
-    adopts : (r : Result (Unit {0}) OpenFault) → (HasCleanDisk end → old.now.schema ≡ room_schema → Says (pos 2) (meta_of old.now) r) → Adopts old end r
-    adopts r told = record {
+    adopts : (r : Result (Unit {0}) OpenFault) → (HasCleanDisk end → old.now.schema ≡ room_schema → Says (pos 2) (meta_of old.now) r) → (HasCleanDisk end → old.now.schema ≡ no_schema → IsErrAnd r IsRefusal) → Adopts old end r
+    adopts r told empty = record {
       ended = ended;
       clean = let same : doubt begun.is_clean ≡ doubt old.is_clean = ap doubt begins.same_clean in omega (arith, same, within.clean, clean);
       was_open = open_first;
@@ -28,12 +29,14 @@ module _ (old begun mid end : State) (begins : Begins old begun) (ended : end.in
           let same = within.committed (clean_mid now) ((back now).was_open open') ∙ begins.committed in
           (undone.0 ∙ same ∙ sym (begins.settled (open_first now open')), undone.1 ∙ same);
       told = told;
+      empty = empty;
     }
 
-  schema_begun : old.now.schema ≡ room_schema → begun.now.schema ≡ room_schema
+  schema_begun : {schema : Schema} → old.now.schema ≡ schema → begun.now.schema ≡ schema
   schema_begun has = ap (λ (d : Database). d.schema) begins.now ∙ has
 
   pub adopted : (r : Result (Unit {0}) OpenFault) → Expects (pos 2) begun mid r → Adopts old end r
   adopted r expects =
       let within = expects.within begins.mode in
       adopts within r (λ now has. subst (λ v. Says (pos 2) v r) (ap meta_of begins.now) (expects.told (clean_mid within now) (schema_begun has)).0)
+      (λ now has. expects.empty (clean_mid within now) (schema_begun has))

@@ -24,14 +24,14 @@ use Rattle.sqlite.specs.Clock.{timed}
 use Rattle.sqlite.specs.Listing.{understood}
 use Rattle.sqlite.specs.State.{State, HasCleanDisk, Shown, ShowsRows, FailsToQuery, FailsToShow, IsNotRun, IsTooLate, store_error}
 use Rattle.sqlite.proofs.Callers.{IsPlain, command_of, one_permutation, reads_as}
-use Rattle.room_tables.specs.Tables.{room_schema}
+use Rattle.room_tables.specs.Tables.{no_schema, room_schema}
 use Rattle.room_schema.specs.NewRoom.{is_version, meta_of, number_shown}
-use Rattle.room_schema.specs.Opening.{AsksVersion, Expects, IsCalled, IsFailure, Says}
+use Rattle.room_schema.specs.Opening.{AsksVersion, Expects, IsCalled, IsFailure, IsRefusal, Says}
 use Rattle.room_schema.specs.Within.{IsWithin}
 use Rattle.room_schema.specs.declared.fault.OpenFault.{OpenFault}
 use Rattle.room_schema.specs.declared.fault.OpenFault.TheVariants.{NotRooms, OldVersion, NewVersion, Db, Memory}
 use Rattle.room_schema.proofs.Answers.{passes, selected}
-use Rattle.room_schema.proofs.Texts.{asked_text, asked_is, asked_plain, asks_value, is_rooms}
+use Rattle.room_schema.proofs.Texts.{asked_text, asked_is, asked_nowhere, asked_plain, asks_value, is_rooms}
 use Rattle.room_schema.proofs.Within.{unchanged_within, undone_within, wrote_within}
 
 -- ---- the rows that are shown
@@ -160,6 +160,19 @@ understood_here old new fault has (inl (inr h)) =
     no_refusal old.step_limit fails.0 (timed [] h.0.formats h.1.now) fault (subst (λ k. RefusesToRead old.step_limit k fails.0 (timed [] h.0.formats h.1.now) (SqlInputError fault)) command fails.2)
 understood_here old new fault has (inr late) = let e = late.4 in cc
 
+-- ---- over an empty database it isn't
+
+shown_nowhere : (old new : State) (rows : List Row) → old.now.schema ≡ no_schema → Shown asked_text [] old new rows → ⊥
+unfolding Shown
+shown_nowhere old new rows has h = let e = sym asked_nowhere ∙ ap (λ s. understood s asked_text) (sym has) ∙ h.1.is in cc
+
+refusal_of : (e : Error) (fault : OpenFault) → IsCalled e fault → IsRefusal fault
+refusal_of e NotRooms called = tt
+refusal_of e (OldVersion n) called = called
+refusal_of e (NewVersion n) called = called
+refusal_of e Db called = tt
+refusal_of e Memory called = tt
+
 -- ---- the call
 
 module _ (old new : State) (clean : doubt old.is_clean ≤ doubt new.is_clean) where
@@ -168,6 +181,7 @@ module _ (old new : State) (clean : doubt old.is_clean ≤ doubt new.is_clean) w
     clean = clean;
     within = λ inside. query_within old new clean inside asked_text [] (Ok rows) ok (λ _. tt);
     told = λ now has. (is ∙ shown_number old new rows.items has (ok now), shown_same old new rows.items has (ok now));
+    empty = λ now has. absurd (shown_nowhere old new rows.items has (ok now));
   }
 
   pub asks_err : (e : Error) (fault : OpenFault) → IsCalled e fault → (HasCleanDisk new → FailsToQuery asked_text [] old new e ⊎ IsTooLate asked_text [] old new e)
@@ -176,6 +190,7 @@ module _ (old new : State) (clean : doubt old.is_clean ≤ doubt new.is_clean) w
     clean = clean;
     within = λ inside. query_within old new clean inside asked_text [] (Err e) (λ _. tt) err;
     told = λ now has. by fault called has (err now);
+    empty = λ now has. refusal_of e fault called;
   }
     where
       by : (f : OpenFault) → IsCalled e f → old.now.schema ≡ room_schema → FailsToQuery asked_text [] old new e ⊎ IsTooLate asked_text [] old new e → IsFailure f
@@ -190,6 +205,7 @@ expects_ok wanted old new version r asks says = record {
   clean = asks.clean;
   within = asks.within;
   told = λ now has. (subst (λ v. Says wanted v r) (asks.told now has).0 says, on_ok r (asks.told now has).1);
+  empty = λ now has. absurd (asks.empty now has);
 }
   where
     on_ok : (r : Result (Unit {0}) OpenFault) → new.now ≡ old.now → OnOk r (new.now ≡ old.now)
@@ -201,6 +217,7 @@ expects_err wanted old new fault asks = record {
   clean = asks.clean;
   within = asks.within;
   told = λ now has. (says fault (asks.told now has), tt);
+  empty = asks.empty;
 }
   where
     says : (f : OpenFault) → IsFailure f → Says wanted (meta_of old.now) (Err f)

@@ -1,5 +1,5 @@
 -- The texts that make the tables, and what they are understood as.
-use Rattle.std.proofs.Common.{◌≡◌, ℕ, List, [], ◌∷◌, codes, Ok, None, pos, negsuc, refl, false, true}
+use Rattle.std.proofs.Common.{◌≡◌, ℕ, List, [], ◌∷◌, codes, Ok, Err, None, pos, negsuc, refl, false, true}
 use Rattle.sqlite.specs.Command.{Command}
 use Rattle.sqlite.specs.Command.TheVariants.{CreateTable, Insert, Select, Update}
 use Rattle.sqlite.specs.Query.{Query, inner, end}
@@ -13,7 +13,8 @@ use Rattle.sqlite.specs.declared.types.Value.TheVariants.{Null, Int, Text}
 use Rattle.sqlite.specs.Compile.{table_defined_by}
 use Rattle.sqlite_tied.specs.Compute.{everything}
 use Rattle.sqlite.specs.Does.{lacks_sequence}
-use Rattle.sqlite.specs.Listing.{understood, reads_listing}
+use Rattle.sqlite_resolve.specs.declared.error.CompileError.TheVariants.{NoSuchTable}
+use Rattle.sqlite.specs.Listing.{understood, reads_listing, listing_schema}
 use Rattle.sqlite.specs.Schema.{Schema}
 use Rattle.sqlite.specs.Table.{Table}
 use Rattle.sqlite.proofs.Callers.{IsPlain, command_of, statement_of}
@@ -131,6 +132,11 @@ asked_is = (refl, refl)
 pub asked_plain : IsPlain (understood room_schema asked_text)
 unfolding understood everything
 asked_plain = (refl, refl)
+
+-- there is no such table in an empty database
+pub asked_nowhere : understood no_schema asked_text ≡ Err NoSuchTable
+unfolding understood everything listing_schema
+asked_nowhere = refl
 
 abbrev pub stamp_text : List ℕ
 stamp_text = codes "UPDATE meta SET value = 2 WHERE key = 'rooms'"

@@ -1,12 +1,12 @@
 -- What opening a room is.
 use Rattle.std.specs.Prelude.{◌≡◌, ◌≤◌, ◌<ℤ◌, ℤ, pos, Option, Some, None, Result, Ok, Err}
-use Rattle.std.specs.Prelude.{MatchResult, OnOk, IsTrue, false}
+use Rattle.std.specs.Prelude.{MatchResult, IsErrAnd, OnOk, IsTrue, false}
 use Rattle.sqlite_trees.specs.View.{doubt}
 use Rattle.sqlite_resolve.specs.declared.error.CompileError.{CompileError}
 use Rattle.sqlite.specs.State.{State, HasCleanDisk}
 use Rattle.sqlite.specs.declared.error.Error.{Error}
 use Rattle.sqlite.specs.declared.error.Error.TheVariants.{SqlInputError}
-use Rattle.room_tables.specs.Tables.{room_schema}
+use Rattle.room_tables.specs.Tables.{no_schema, room_schema}
 use Rattle.room_schema.specs.Within.{IsWithin}
 use Rattle.room_schema.specs.NewRoom.{meta_of}
 use Rattle.room_schema.specs.declared.fault.OpenFault.{OpenFault}
@@ -21,8 +21,8 @@ abbrev pub IsCalled : Error → OpenFault → Type 0
 IsCalled e NotRooms = IsNotUnderstood e
 IsCalled e (OldVersion n) = ⊥
 IsCalled e (NewVersion n) = ⊥
-IsCalled e Db = Unit {0}
-IsCalled e Memory = Unit {0}
+IsCalled e Db = ¬ IsNotUnderstood e
+IsCalled e Memory = ¬ IsNotUnderstood e
 
 -- the database failed, or memory
 abbrev pub IsFailure : OpenFault → Type 0
@@ -31,6 +31,14 @@ IsFailure (OldVersion n) = ⊥
 IsFailure (NewVersion n) = ⊥
 IsFailure Db = Unit {0}
 IsFailure Memory = Unit {0}
+
+-- There is no room, or the database failed, or memory.
+abbrev pub IsRefusal : OpenFault → Type 0
+IsRefusal NotRooms = Unit {0}
+IsRefusal (OldVersion n) = ⊥
+IsRefusal (NewVersion n) = ⊥
+IsRefusal Db = Unit {0}
+IsRefusal Memory = Unit {0}
 
 -- What is said where a schema of this number is wanted, and there is that number or none. The
 -- database may fail, and memory too.
@@ -48,6 +56,7 @@ pub record AsksVersion (old new : State) (result : Result (Option ℤ) OpenFault
   pub within : IsTrue old.in_transaction → IsWithin old new
   pub told : HasCleanDisk new → old.now.schema ≡ room_schema
       → MatchResult result (λ version. (version ≡ meta_of old.now) × (new.now ≡ old.now)) IsFailure
+  pub empty : HasCleanDisk new → old.now.schema ≡ no_schema → IsErrAnd result IsRefusal
 
 -- The schema is expected to have this number.
 pub record Expects (wanted : ℤ) (old new : State)
@@ -56,6 +65,7 @@ pub record Expects (wanted : ℤ) (old new : State)
   pub within : IsTrue old.in_transaction → IsWithin old new
   pub told : HasCleanDisk new → old.now.schema ≡ room_schema
       → Says wanted (meta_of old.now) result × OnOk result (new.now ≡ old.now)
+  pub empty : HasCleanDisk new → old.now.schema ≡ no_schema → IsErrAnd result IsRefusal
 
 -- What opening a room is.
 pub record Adopts (old new : State) (result : Result (Unit {0}) OpenFault) : Type 0 where
@@ -67,3 +77,5 @@ pub record Adopts (old new : State) (result : Result (Unit {0}) OpenFault) : Typ
       → (new.now ≡ old.now) × (new.committed ≡ old.committed)
   -- over a room's tables the answer is what the row of `meta` says
   pub told : HasCleanDisk new → old.now.schema ≡ room_schema → Says (pos 2) (meta_of old.now) result
+  -- an empty database is no room
+  pub empty : HasCleanDisk new → old.now.schema ≡ no_schema → IsErrAnd result IsRefusal

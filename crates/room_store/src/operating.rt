@@ -1,7 +1,8 @@
-//! What an operator asks of all pairs and all records, each in one transaction.
+//! What an operator asks of a whole room, of all pairs and of all records, each in one transaction.
 ghost use Rattle.sqlite.specs.Held.{state};
 ghost use Rattle.room_store.specs.Ran.{Looked, Ran};
 ghost use Rattle.room_operating.specs.Carries.{NoTables};
+ghost use Rattle.room_operating.specs.Dump.{HasDamagedRow, IsDump};
 ghost use Rattle.room_operating.specs.Operating.{
   AreMembers,
   AreRecords,
@@ -13,7 +14,7 @@ use crate::fault::StoreFault;
 use crate::look::give_up;
 use crate::turn::finish;
 use room_ace::Name;
-use room_operating::{all_members, all_records, put_members};
+use room_operating::{all_members, all_records, dump_all, put_members};
 use room_rows::AuditRow;
 use sqlite::{Alter, Connection};
 use std::alloc::Global;
@@ -68,4 +69,21 @@ pub(crate) fn replace_on<S: Alter>(
     let mut tx = conn.transaction();
     let done = put_members(alloc, &mut tx, pairs);
     finish(tx, done)
+}
+
+/// The text of the room. Nothing changes, and within another transaction it answers `Db` at once.
+pub(crate) fn dump_on<S: Alter>(
+    alloc: Global,
+    conn: &mut Connection<S>,
+) -> Result<String, StoreFault>
+    ensures looked { Looked (state S.Store conn.old) (state S.Store conn.new) result HasDamagedRow
+        IsDump }
+{
+    if !conn.is_autocommit() {
+        return Err(StoreFault::Db);
+    }
+    let _schema = conn.schema();
+    let mut tx = conn.transaction();
+    let done = dump_all(alloc, &mut tx);
+    give_up(tx, done)
 }

@@ -8,6 +8,7 @@ ghost use Rattle.room_machine.specs.Run.{Event};
 ghost use Rattle.room_store.specs.Leads.{Leads, event_of};
 ghost use Rattle.room_store.specs.Ran.{HasDamage, Looked, Ran};
 ghost use Rattle.room_operating.specs.Carries.{NoTables};
+ghost use Rattle.room_operating.specs.Dump.{HasDamagedRow, IsDump};
 ghost use Rattle.room_tables.specs.Meaning.{rows_of};
 ghost use Rattle.room_operating.specs.Operating.{
   AreMembers,
@@ -17,7 +18,7 @@ ghost use Rattle.room_operating.specs.Operating.{
 };
 
 use crate::fault::StoreFault;
-use crate::operating::{audits_on, members_on, replace_on};
+use crate::operating::{audits_on, dump_on, members_on, replace_on};
 use crate::resetting::reset_on;
 use crate::running::run_on;
 use crate::verifying::verify_on;
@@ -140,6 +141,19 @@ impl<S: Alter> Store<S> {
         ensures faults { self.new.faults ≡ self.old.faults }
     {
         audits_on(alloc, &mut self.conn)
+    }
+
+    /// The room as text: the lines of all objects, the root first and behind an object its children
+    /// with all that is below them, in order of name; then a line `member GROUP USER` for each pair,
+    /// in order of group and then of user. Both are told of the same rows. Nothing changes, and
+    /// `Damaged` comes only for a damaged row, so never on sound rows.
+    pub fn dump(&mut self, alloc: Global) -> Result<String, StoreFault>
+        ensures looked { Looked (state S.Store self.old.conn) (state S.Store self.new.conn) result
+            HasDamagedRow IsDump }
+        ensures leads { Leads (state S.Store self.old.conn) [] (state S.Store self.new.conn) }
+        ensures faults { self.new.faults ≡ self.old.faults }
+    {
+        dump_on(alloc, &mut self.conn)
     }
 
     /// The connection, with the tables as they are.

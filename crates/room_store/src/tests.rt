@@ -326,3 +326,93 @@ fn a_room_of_schema_2_is_not_raised(rt: HostRuntime) {
     let conn = new_store(alloc).expect(&rt, "a room").into_conn();
     assert!(rt; is_raised(alloc, conn));
 }
+
+// ---- what is missing in a room
+
+const META_ALONE: &str =
+    "CREATE TABLE meta (key TEXT PRIMARY KEY NOT NULL, value INTEGER NOT NULL) \
+     STRICT; INSERT INTO meta VALUES ('rooms', 2);";
+
+// The row of `meta` alone decides what is opened.
+fn store_of_meta(alloc: Global, text: &str) -> Option<Store<MemStore>> {
+    let mut conn = Connection::open_in_memory(alloc).ok()?;
+    conn.execute_batch(META_ALONE).ok()?;
+    conn.execute_batch(text).ok()?;
+    adopted(conn)
+}
+
+fn makes_a_folder(alloc: Global, store: &mut Store<MemStore>) -> Option<Result<Reply, StoreFault>> {
+    let user = read_name(alloc, "root").ok()?;
+    let request = Request::MakeFolder(path(alloc, "/a")?);
+    Some(store.run(alloc, Some(&user), 0, &request))
+}
+
+#[test]
+fn a_missing_table_is_told_by_the_call_that_needs_it(rt: HostRuntime) {
+    let alloc = rt.alloc();
+    let mut store = store_of_meta(alloc, "").expect(&rt, "a room");
+    assert!(rt; matches!(makes_a_folder(alloc, &mut store), Some(Err(StoreFault::Db))));
+    assert!(rt; matches!(store.verify(alloc), Err(StoreFault::Db)));
+    assert!(rt; matches!(store.dump(alloc), Err(StoreFault::Db)));
+    assert!(rt; matches!(store.members(alloc), Err(StoreFault::Db)));
+    assert!(rt; matches!(store.audits(alloc), Err(StoreFault::Db)));
+}
+
+#[test]
+fn a_missing_column_is_told_by_the_call_that_needs_it(rt: HostRuntime) {
+    let alloc = rt.alloc();
+    let mut store = store_of_meta(alloc, "CREATE TABLE members (grp TEXT NOT NULL) STRICT;").expect(
+        &rt, "a room",
+    );
+    assert!(rt; matches!(store.members(alloc), Err(StoreFault::Db)));
+}
+
+// ---- the text of a room
+
+const DUMPED: &str = "\
+folder root staff /
+dacl
+list:a
+A:fd:OWNER@:rwanNxDtThHdcCoy
+sacl
+list:a
+folder root staff /a
+dacl
+list:a
+A:fdI:OWNER@:rwanNxDtThHdcCoy
+sacl
+list:a
+document root staff 4 /a/b
+dacl
+list:a
+A:I:OWNER@:rwanNxDtThHdcCoy
+sacl
+list:a
+member admins zoe
+member staff alice
+member staff bob
+";
+
+fn tells(alloc: Global, store: &mut Store<MemStore>, wanted: &str) -> bool {
+    match store.dump(alloc) {
+        Ok(text) => text.as_str() == wanted,
+        Err(_) => false,
+    }
+}
+
+#[test]
+fn tells_objects_and_then_pairs(rt: HostRuntime) {
+    let alloc = rt.alloc();
+    let mut store = new_store(alloc).expect(&rt, "a room");
+    assert!(rt;
+        answers(
+            alloc,
+            &mut store,
+            &[(Call::Make, "made"), (Call::Put, "made")]
+        )
+    );
+    let pairs = [("staff", "bob"), ("admins", "zoe"), ("staff", "alice")];
+    assert!(rt; replaces(alloc, &mut store, &pairs));
+    assert!(rt; tells(alloc, &mut store, DUMPED));
+    assert!(rt; verifies(alloc, &mut store) == "sound");
+}

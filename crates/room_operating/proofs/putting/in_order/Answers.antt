@@ -1,4 +1,4 @@
-use Rattle.std.proofs.Common.{◌≡◌, ◌≤◌, ◌++◌, ap, sym, ◌∙◌, drop, length, map, rules, subst, IsPermutation}
+use Rattle.std.proofs.Common.{◌≤◌, ◌++◌, ap, sym, ◌∙◌, length, map, rules, subst, IsPermutation}
 use Rattle.std.proofs.Math.ListN.{drop_of_length-le}
 use Rattle.std.proofs.lemmas.List.{append-nil}
 use Rattle.std.proofs.lemmas.List.Sorted.{IsPermutation-map}
