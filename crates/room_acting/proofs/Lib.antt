@@ -1,0 +1,5 @@
+mod Ended
+mod Groups
+mod Texts
+mod Unrun
+mod Working

@@ -1,0 +1,30 @@
+-- A call that isn't made, for want of memory.
+use Rattle.std.proofs.Common.{◌≡◌, Result, Ok, Err, refl}
+use Rattle.std.specs.Prelude.{[]}
+use Rattle.sqlite.specs.State.{State}
+use Rattle.room_rows.specs.Rows.{Rows}
+use Rattle.room_store.specs.declared.fault.StoreFault.{StoreFault}
+use Rattle.room_store.specs.declared.fault.StoreFault.TheVariants.{Memory, Damaged}
+use Rattle.room_store.specs.Leads.{Leads}
+use Rattle.room_store.specs.Ran.{Ran}
+
+no_damage : {X : Type 0} → ◌≡◌ {A = Result X StoreFault} (Err Memory) (Err Damaged) → ⊥
+no_damage {X} damaged = absurd (let e = fault_in damaged in cc)
+  where
+    fault_in : {X : Type 0} {a b : StoreFault} → ◌≡◌ {A = Result X StoreFault} (Err a) (Err b) → a ≡ b
+    fault_in e = cc
+
+-- Nothing is changed.
+pub unrun : {X : Type 0} (old : State) (Blames : Rows → Type 0) (Becomes : Rows → X → Rows → Type 0) → Ran {X = X} old old (Err Memory) Blames Becomes
+unrun old Blames Becomes = record {
+  leaves = record { ended = λ h. h; clean = λ h. h; was_open = λ _ h. h };
+  answers = λ _. tt;
+  step = λ _. tt;
+  kept = λ _ _. refl;
+  tables = λ premise _. premise.tables;
+  damaged = λ _ _ is. absurd (no_damage is);
+}
+
+-- Nothing happens.
+pub still : (old : State) → Leads old [] old
+still old = record { trusted = λ h. h; sound = λ _ h. h; run = λ _ _ room keeps. (room, refl, keeps) }

@@ -1,0 +1,5 @@
+pub mod Counting
+pub mod Outcome
+pub mod Telling
+pub mod Doing
+pub mod Acting

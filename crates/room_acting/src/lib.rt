@@ -1,0 +1,14 @@
+//! The subcommands that work on a database for a while, and what they tell.
+#![tactic(auto)]
+
+mod acting;
+mod counting;
+mod doing;
+mod lines;
+mod opened;
+mod outcome;
+mod telling;
+
+pub use acting::act;
+pub use outcome::{Answer, Outcome};
+pub use telling::tell;

@@ -1,0 +1,14 @@
+//! How a subcommand ends: its exit status, and what it tells on the two writers.
+#![tactic(auto)]
+
+mod fault;
+mod no_room;
+mod status;
+mod texts;
+mod write;
+
+pub use fault::Fault;
+pub use no_room::NoRoom;
+pub use status::Status;
+pub use texts::{tell_fault, tell_text};
+pub use write::send_text;
