@@ -1,0 +1,18 @@
+use Rattle.std.proofs.Common.{inl, inr, refl, ◌∙◌}
+use Rattle.room_outcome.specs.declared.fault.Fault.{Fault}
+use Rattle.room_outcome.specs.declared.status.Status.{Status}
+use Rattle.room_hosting.proofs.Texts.{told_as, writes_none}
+use Rattle.room_hosting.proofs.telling.refuse.Goals as goal
+
+pub returns-in-Ok : goal.returns-in-Ok
+returns-in-Ok g c = told_as _ _ Status.Refused _ _ _ _ _ (c.as_bytes.ensures.value ∙ c.in-Ok.ensures.ok) c.tell_text.ensures
+
+pub returns-in-Err : goal.returns-in-Err
+returns-in-Err g c =
+    inr (record {
+      said = writes_none _ _;
+      why = Fault.Memory;
+      is = inl refl;
+      told = c.tell_fault.ensures.text;
+      ends = c.tell_fault.ensures.status;
+    })

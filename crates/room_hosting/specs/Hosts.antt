@@ -1,0 +1,82 @@
+-- What the subcommand `serve` does on an open database (own).
+use Rattle.std.specs.Prelude.{◌≡◌, ◌≤◌, ◌⊎◌, ℕ, List, [], ◌++◌, codes, length, Option, Result, Ok, Err}
+use Rattle.std.specs.Io.KnownBytes.{Appends}
+use Rattle.sqlite.specs.Held.{Held}
+use Rattle.sqlite.specs.State.{State}
+use Rattle.room_outcome.specs.Ending.{fault_line, no_room_text}
+use Rattle.room_outcome.specs.Written.{IsTold, TellsText}
+use Rattle.room_outcome.specs.declared.fault.Fault.{Fault}
+use Rattle.room_outcome.specs.declared.no_room.NoRoom.{NoRoom}
+use Rattle.room_outcome.specs.declared.status.Status.{Status}
+use Rattle.room_schema.specs.declared.fault.OpenFault.{OpenFault}
+use Rattle.room_store.specs.Leads.{Leads}
+use Rattle.room_store.specs.Opens.{Opens}
+use Rattle.room_serving.specs.Lines.{listening_line}
+use Rattle.room_serving.specs.Visits.{Visit, requests_of}
+use Rattle.room_serving.specs.declared.fault.ServingFault.{ServingFault}
+
+-- what is told where the database holds no room of this version
+abbrev pub refusal_line : NoRoom → List ℕ
+refusal_line why = codes "refused: " ++ (no_room_text why ++ codes "\n")
+
+-- why a database is not opened as a room: for what it holds, or by a fault
+abbrev pub reason_of : OpenFault → Result NoRoom Fault
+reason_of OpenFault.NotRooms = Ok NoRoom.NotRooms
+reason_of (OpenFault.OldVersion number) = Ok (NoRoom.Old number)
+reason_of (OpenFault.NewVersion number) = Ok (NoRoom.New number)
+reason_of OpenFault.Db = Err Fault.Database
+reason_of OpenFault.Memory = Err Fault.Memory
+
+-- what is told on the two writers, where these tell their bytes, and the status
+abbrev pub Refuses : NoRoom → Option (List ℕ) → Option (List ℕ) → Option (List ℕ)
+    → Option (List ℕ) → ℕ → Type 0
+Refuses why = TellsText (refusal_line why) Status.Refused
+
+abbrev pub TurnsDown : Result NoRoom Fault → Option (List ℕ) → Option (List ℕ)
+    → Option (List ℕ) → Option (List ℕ) → ℕ → Type 0
+TurnsDown (Ok why) = Refuses why
+TurnsDown (Err why) = IsTold [] (fault_line why) 3
+
+-- what is told of a fault where connections were served
+abbrev pub fault_of : ServingFault → Fault
+fault_of ServingFault.Memory = Fault.Memory
+fault_of ServingFault.File = Fault.File
+fault_of ServingFault.Net = Fault.Net
+
+-- the status where connections were served
+abbrev pub end_status : Result (Unit {0}) ServingFault → ℕ
+end_status (Ok done) = 0
+end_status (Err fault) = 3
+
+-- It was told that a port listens.
+abbrev pub TellsPort : Option (List ℕ) → Option (List ℕ) → Type 0
+TellsPort out out' = (port : ℕ) × Appends out out' (listening_line port)
+
+-- The database was not opened as a room, and nothing was served.
+pub record IsTurnedDown (old new : State) (out out' err err' : Option (List ℕ))
+    (status : ℕ) : Type 0 where
+  pub why : OpenFault
+  pub opens : Opens old new (Err why)
+  pub told : TurnsDown (reason_of why) out out' err err' status
+
+-- The requests of so many connections at most were served. All is done, or there was a fault.
+pub record IsServed (count : ℕ) (old new : State) (out out' : Option (List ℕ))
+    (status : ℕ) : Type 0 where
+  pub visits : List Visit
+  pub few : length visits ≤ count
+  pub leads : Leads old (requests_of visits) new
+  pub ends : ((status ≡ 0) × TellsPort out out') ⊎ (status ≡ 3)
+
+module _ {S : Type 0} (shown : Held S → State) where
+  -- The room was opened, and served.
+  pub record IsHosted (count : ℕ) (old new : Held S) (out out' : Option (List ℕ))
+      (status : ℕ) : Type 0 where
+    pub mid : Held S
+    pub opens : Opens (shown old) (shown mid) (Ok tt)
+    pub served : IsServed count (shown mid) (shown new) out out' status
+
+  abbrev pub Hosts : ℕ → Held S → Held S → Option (List ℕ) → Option (List ℕ)
+      → Option (List ℕ) → Option (List ℕ) → ℕ → Type 0
+  Hosts count old new out out' err err' status =
+      IsTurnedDown (shown old) (shown new) out out' err err' status
+      ⊎ IsHosted count old new out out' status

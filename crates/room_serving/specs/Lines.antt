@@ -1,0 +1,13 @@
+-- The lines that are told beside the replies (own).
+use Rattle.std.specs.Prelude.{ℕ, List, ◌++◌, codes, decimal}
+use Rattle.room_http.specs.declared.ended.Cause.{Cause}
+
+-- on which port connections are accepted
+abbrev pub listening_line : ℕ → List ℕ
+listening_line port = codes "listening 127.0.0.1:" ++ (decimal port ++ codes "\n")
+
+-- what ended the connection of this number
+abbrev pub fault_line : ℕ → Cause → List ℕ
+fault_line number Cause.Read = codes "connection " ++ (decimal number ++ codes ": read fault\n")
+fault_line number Cause.Write = codes "connection " ++ (decimal number ++ codes ": write fault\n")
+fault_line number Cause.Memory = codes "connection " ++ (decimal number ++ codes ": memory fault\n")

@@ -1,0 +1,11 @@
+//! Connections of a listener, one after another, over any desk.
+#![tactic(auto)]
+
+mod accepting;
+mod fault;
+mod moment;
+mod serving;
+mod telling;
+
+pub use fault::ServingFault;
+pub use serving::serve_on;
