@@ -2,23 +2,14 @@
 ghost use Rattle.std.specs.Prelude.{◌≡◌, ⊤, refl};
 ghost use Rattle.room_desk.specs.Memory.{content_in};
 
-use crate::pieces::{Pieces, Sink};
-use crate::scripts::{Talk, agrees, bytes_at, converse, play};
 use room_ace::Name;
 use room_desk::MemDesk;
-use room_http::{Cause, ServeFault};
+use room_http::Cause;
 use room_machine::{Desk, DeskFault, Reply, Request};
 use room_player::open_keep;
+use room_talk::{PUT_TWICE, Sink, Stop, agrees, play, stop_at_read, stop_at_write, stopped, tried};
 use std::alloc::Global;
 use std::test::Fail;
-
-const PUT_TWICE: &str = "\
->PUT /doc/f HTTP/1.1|Room-User: root|Content-Length: 5||hello
-<HTTP/1.1 201 Created|Content-Length: 0||
->PUT /doc/f HTTP/1.1|Room-User: root|Content-Length: 5||hello
-<HTTP/1.1 204 No Content||
-=Clean
-";
 
 const READ_BACK: &str = "\
 >GET /doc/f HTTP/1.1|Room-User: root||
@@ -44,37 +35,6 @@ const STORE_FAULT: &str = "\
 >GET /nope HTTP/1.1||
 =Closed
 ";
-
-// A connection that ended otherwise than it should have.
-fn other(talk: &Talk) -> Fail {
-    Fail::new(format_args!("{:?}", talk.end))
-}
-
-// That this ended the connection.
-fn stopped(talk: &Talk, answered: u64, acted: bool, cause: Cause) -> Result<(), Fail> {
-    let fault = ServeFault {
-        answered,
-        acted,
-        cause,
-    };
-    if talk.end == Err(fault) {
-        return Ok(());
-    }
-    Err(other(talk))
-}
-
-// A script over a reader and a writer.
-fn tried(
-    alloc: Global,
-    desk: &mut MemDesk,
-    script: &str,
-    reads: usize,
-    sink: Sink,
-) -> Result<Talk, Fail> {
-    let input = bytes_at(alloc, script, ">")?;
-    let mut reader = Pieces::failing(input.as_slice(), 1, reads);
-    converse(alloc, desk, &mut reader, sink)
-}
 
 const ALL: usize = 100_000;
 
@@ -127,62 +87,32 @@ fn no_route_write_fails(rt: HostRuntime) -> Result<(), Fail> {
     stopped(&talk, 0, false, Cause::Write)
 }
 
+// What stops a connection of an open room where so many writes pass.
+fn one_write(alloc: Global, script: &str, writes: usize, fails: bool) -> Result<Stop, Fail> {
+    let mut desk = MemDesk::new(open_keep(alloc)?);
+    stop_at_write(alloc, &mut desk, script, writes, fails)
+}
+
 // Stops a connection at each write in turn, until it goes to its end.
 fn stop_at_writes(alloc: Global, script: &str, fails: bool) -> Result<(), Fail> {
     'writes: for writes in 0..500 {
-        if stop_at_write(alloc, script, writes, fails)? {
+        if let Stop::None = one_write(alloc, script, writes, fails)? {
             return Ok(());
         }
     }
     Err(Fail::from("no end"))
 }
 
-// Whether the connection went to its end with so many writes of a byte.
-fn stop_at_write(alloc: Global, script: &str, writes: usize, fails: bool) -> Result<bool, Fail> {
+// What stops a connection of an open room where so many reads pass.
+fn one_read(alloc: Global, script: &str, reads: usize) -> Result<Stop, Fail> {
     let mut desk = MemDesk::new(open_keep(alloc)?);
-    let talk = tried(
-        alloc,
-        &mut desk,
-        script,
-        ALL,
-        Sink::of(alloc, 1, writes, fails),
-    )?;
-    went(alloc, script, &talk, Cause::Write)
+    stop_at_read(alloc, &mut desk, script, reads)
 }
 
-// Whether the connection went to its end, else it has to end with this cause.
-fn went(alloc: Global, script: &str, talk: &Talk, cause: Cause) -> Result<bool, Fail> {
-    match talk.end {
-        Ok(_) => {
-            agrees(alloc, script, talk)?;
-            Ok(true)
-        }
-        Err(fault) if fault.cause == cause => {
-            begins(alloc, script, talk)?;
-            Ok(false)
-        }
-        Err(_) => Err(other(talk)),
-    }
-}
-
-// That what was written is a beginning of what the script says.
-fn begins(alloc: Global, script: &str, talk: &Talk) -> Result<(), Fail> {
-    let wanted = bytes_at(alloc, script, "<")?;
-    if wanted.as_slice().starts_with(talk.sent.written()) {
-        return Ok(());
-    }
-    Err(other(talk))
-}
-
-fn stop_at_read(alloc: Global, script: &str, reads: usize) -> Result<bool, Fail> {
-    let mut desk = MemDesk::new(open_keep(alloc)?);
-    let talk = tried(alloc, &mut desk, script, reads, Sink::new(alloc))?;
-    went(alloc, script, &talk, Cause::Read)
-}
-
+// Stops a connection at each read in turn, until it goes to its end.
 fn stop_at_reads(alloc: Global, script: &str) -> Result<(), Fail> {
     'reads: for reads in 0..500 {
-        if stop_at_read(alloc, script, reads)? {
+        if let Stop::None = one_read(alloc, script, reads)? {
             return Ok(());
         }
     }
@@ -237,5 +167,17 @@ fn desk_always_faults(rt: HostRuntime) -> Result<(), Fail> {
         desk: MemDesk::new(open_keep(alloc)?),
         faults: 0,
     };
-    play(alloc, &mut desk, STORE_FAULT)
+    tells_fault(alloc, &mut desk)
+}
+
+// That the desk's fault is told and ends the connection. Want of memory outside the desk is no
+// such fault.
+fn tells_fault(alloc: Global, desk: &mut FaultyDesk) -> Result<(), Fail> {
+    let talk = tried(alloc, desk, STORE_FAULT, ALL, Sink::new(alloc))?;
+    if let Err(fault) = talk.end
+        && fault.cause == Cause::Memory
+    {
+        return Err(Fail::new("want of memory"));
+    }
+    agrees(alloc, STORE_FAULT, &talk)
 }

@@ -8,9 +8,3 @@ mod failing;
 mod limits;
 #[cfg(test)]
 mod messages;
-#[cfg(test)]
-mod pieces;
-#[cfg(test)]
-mod scripts;
-#[cfg(test)]
-mod trees;

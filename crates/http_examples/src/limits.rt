@@ -1,9 +1,8 @@
 //! The limits of a connection.
-use crate::pieces::{Pieces, Sink};
-use crate::scripts::{Talk, converse};
 use room_desk::MemDesk;
 use room_http::Ended;
 use room_player::open_keep;
+use room_talk::{Pieces, Sink, Talk, converse, is_short};
 use std::alloc::{AllocError, Global};
 use std::test::Fail;
 
@@ -11,13 +10,16 @@ use std::test::Fail;
 fn answered(alloc: Global, input: &[u8]) -> Result<Talk, Fail> {
     let mut desk = MemDesk::new(open_keep(alloc)?);
     let mut reader = Pieces::new(input, 100_000);
-    converse(alloc, &mut desk, &mut reader, Sink::new(alloc))
+    converse(alloc, &mut desk, 1000, &mut reader, Sink::new(alloc))
 }
 
 // That the reply begins so, and that the connection ends so.
 fn begins(talk: &Talk, front: &[u8], end: Ended) -> Result<(), Fail> {
     if talk.end == Ok(end) && talk.sent.written().starts_with(front) {
         return Ok(());
+    }
+    if is_short(talk) {
+        return Err(Fail::new("want of memory"));
     }
     let told = str::from_utf8(talk.sent.written()).unwrap_or("no text");
     Err(Fail::new(format_args!("{told:?} and {:?}", talk.end)))
@@ -74,28 +76,6 @@ fn length_of_head(rt: HostRuntime) -> Result<(), Fail> {
         b"HTTP/1.1 431 ",
         Ended::Closed,
     )
-}
-
-// A document is put with so many bytes.
-fn with_body(alloc: Global, count: usize) -> Result<Vec<u8>, AllocError> {
-    let head = b"PUT /doc/f HTTP/1.1\r\nRoom-User: root\r\nContent-Length:\t0001048576 \r\n\r\n";
-    let mut bytes = Vec::from_slice(alloc, head)?;
-    'bytes: for _ in 0..count {
-        bytes.push(b'x')?;
-    }
-    Ok(bytes)
-}
-
-#[test]
-fn largest_body(rt: HostRuntime) -> Result<(), Fail> {
-    let whole = with_body(rt.alloc(), 1_048_576)?;
-    begins(
-        &answered(rt.alloc(), whole.as_slice())?,
-        b"HTTP/1.1 201 Created\r\nContent-Length: 0\r\n\r\n",
-        Ended::Clean,
-    )?;
-    let part = with_body(rt.alloc(), 1_048_575)?;
-    begins(&answered(rt.alloc(), part.as_slice())?, b"", Ended::Cut)
 }
 
 // That this value of a Content-Length is refused so.
