@@ -1,0 +1,69 @@
+//! The examples of records, as the file that is exported.
+use std::test::Fail;
+use store_player::plays;
+
+const FAILED_READ: &str = "\
+root Put /f hi => made
+root SetList /f sacl list:a / U:F:EVERYONE@:r => done
+root Read /f => bytes hi
+alice Read /f => denied at /f bits r no-place no-entry
+store Audits => at,user,path,bits,granted,entry,kind|1000,alice,/f,r,no,1,audit|
+";
+
+const NO_OUTCOME: &str = "\
+root Put /f hi => made
+root SetList /f sacl list:a / U::EVERYONE@:r => done
+root Read /f => bytes hi
+alice Read /f => denied at /f bits r no-place no-entry
+store Audits => at,user,path,bits,granted,entry,kind|
+";
+
+#[test]
+fn failed_read_recorded(rt: HostRuntime) -> Result<(), Fail> {
+    plays(rt.alloc(), &[FAILED_READ])?;
+    plays(rt.alloc(), &[NO_OUTCOME])
+}
+
+const COMMA_IN_PATH: &str = "\
+root Put /a,b hi => made
+root SetList /a,b sacl list:a / U:F:EVERYONE@:r => done
+root Read /a,b => bytes hi
+alice Read /a,b => denied at /a,b bits r no-place no-entry
+store Audits => at,user,path,bits,granted,entry,kind|1000,alice,\"/a,b\",r,no,1,audit|
+";
+
+#[test]
+fn audit_path_quoted(rt: HostRuntime) -> Result<(), Fail> {
+    plays(rt.alloc(), &[COMMA_IN_PATH])
+}
+
+const ALARM_AND_AUDIT: &str = "\
+root Put /f hi => made
+root SetList /f dacl list:a / D::ANONYMOUS@:r / A::AUTHENTICATED@:r => done
+root SetList /f sacl list:a / L:F:ANONYMOUS@:r / U:SF:EVERYONE@:r => done
+store At 2000 => done
+- Read /f => denied at /f bits r place 1 D::ANONYMOUS@:r
+store At 2001 => done
+alice Read /f => bytes hi
+store Audits => at,user,path,bits,granted,entry,kind|\
+2000,,/f,r,no,1,alarm|2000,,/f,r,no,2,audit|2001,alice,/f,r,yes,2,audit|
+";
+
+#[test]
+fn alarm_and_audit_records(rt: HostRuntime) -> Result<(), Fail> {
+    plays(rt.alloc(), &[ALARM_AND_AUDIT])
+}
+
+const TWO_RECORDS: &str = "\
+root Put /f hi => made
+store Reset / sacl list:a / U:fdS:root:dDw => done
+store At 7 => done
+root Remove /f => done
+store Audits => at,user,path,bits,granted,entry,kind|\
+7,root,/f,d,yes,1,audit|7,root,/,D,yes,1,audit|
+";
+
+#[test]
+fn delete_two_records(rt: HostRuntime) -> Result<(), Fail> {
+    plays(rt.alloc(), &[TWO_RECORDS])
+}

@@ -1,0 +1,108 @@
+//! What a database is opened as, and rooms that are raised.
+use std::test::Fail;
+use store_player::examples::{MADE_OLD, MOVED_OUT, PROTECTED_AND_REJOINED, THREE_FOLDERS};
+use store_player::plays;
+
+const BY_META: &str = "\
+sql DELETE FROM meta => done
+store Mark => done
+store Adopt => NotRooms
+store Same => yes
+sql INSERT INTO meta VALUES ('rooms', 0) => done
+store Mark => done
+store Adopt => OldVersion 0
+store Same => yes
+sql UPDATE meta SET value = 1 => done
+store Adopt => OldVersion 1
+sql UPDATE meta SET value = 3 => done
+store Mark => done
+store Adopt => NewVersion 3
+store Same => yes
+sql UPDATE meta SET value = 2 => done
+store Adopt => done
+store Verify => sound
+";
+
+#[test]
+fn adopt_by_meta(rt: HostRuntime) -> Result<(), Fail> {
+    plays(rt.alloc(), &[BY_META])
+}
+
+const REJOINED_DUMP: &str = "\
+store Dump => folder root staff /|dacl|list:a|A::EVERYONE@:x|A:fd:root:rwanNxDtThHdcCoy|sacl|\
+list:a|folder root staff /a|dacl|list:a|A:fd:bob:r|A:fdI:root:rwanNxDtThHdcCoy|sacl|list:a|\
+folder root staff /a/b|dacl|list:a|A:fdI:bob:r|A:fdI:root:rwanNxDtThHdcCoy|sacl|list:a|\
+folder root staff /a/b/c|dacl|list:a|A:fdI:bob:r|A:fdI:root:rwanNxDtThHdcCoy|sacl|list:a|
+";
+
+const RAISED: &str = "\
+store Adopt => OldVersion 1
+store Migrate => done
+store Same => yes
+store Verify => sound
+store Migrate => NewVersion 2
+store Same => yes
+";
+
+#[test]
+fn migrate_then_same_dump(rt: HostRuntime) -> Result<(), Fail> {
+    plays(
+        rt.alloc(),
+        &[
+            THREE_FOLDERS,
+            PROTECTED_AND_REJOINED,
+            REJOINED_DUMP,
+            "store Mark => done",
+            MADE_OLD,
+            RAISED,
+            REJOINED_DUMP,
+        ],
+    )
+}
+
+// The folder b isn't linked where it stands.
+const KEPT: &str = "\
+store Mark => done
+sql UPDATE nodes SET dacl_inh = '' WHERE name IN ('a', 'y', 'z'); UPDATE meta SET value = 1 => done
+store Migrate => done
+store Same => yes
+root ReadList /z/b dacl => list:a / A:fdI:alice:r / A:fdI:root:ALL
+store Verify => sound
+store Migrate => NewVersion 2
+";
+
+#[test]
+fn migrate_keeps_kept_entries(rt: HostRuntime) -> Result<(), Fail> {
+    plays(rt.alloc(), &[MOVED_OUT, KEPT])
+}
+
+const UNSOUND: &str = "\
+sql UPDATE nodes SET dacl_inh = 'A:I:bob:r' || CAST(x'0A' AS TEXT) WHERE name = 'c' => done
+store Mark => done
+store Migrate => /a/b/c V3 broken-law
+store Same => yes
+store Adopt => OldVersion 1
+";
+
+#[test]
+fn migrate_unsound(rt: HostRuntime) -> Result<(), Fail> {
+    plays(
+        rt.alloc(),
+        &[THREE_FOLDERS, PROTECTED_AND_REJOINED, MADE_OLD, UNSOUND],
+    )
+}
+
+// A room of schema 1 is raised from schema 1 alone.
+const OTHER_VERSIONS: &str = "\
+sql UPDATE meta SET value = 0 => done
+store Mark => done
+store Migrate => OldVersion 0
+store Same => yes
+sql DELETE FROM meta => done
+store Migrate => NotRooms
+";
+
+#[test]
+fn migrate_by_meta(rt: HostRuntime) -> Result<(), Fail> {
+    plays(rt.alloc(), &[OTHER_VERSIONS])
+}

@@ -1,0 +1,119 @@
+//! The examples of rows that aren't sound.
+use std::test::Fail;
+use store_player::examples::{PROTECTED_AND_REJOINED, THREE_FOLDERS};
+use store_player::plays;
+
+const EMPTIED: &str = "\
+store Verify => sound
+sql UPDATE nodes SET dacl_inh = '' WHERE name = 'c' => done
+store Verify => /a/b/c V3 broken-law
+";
+
+#[test]
+fn verify_broken_law(rt: HostRuntime) -> Result<(), Fail> {
+    plays(
+        rt.alloc(),
+        &[THREE_FOLDERS, PROTECTED_AND_REJOINED, EMPTIED],
+    )
+}
+
+const STORED: &str = "\
+root ReadList /a/b/c dacl => denied at /a/b/c bits c no-place no-entry
+store Dump => folder root staff /|dacl|list:a|A::EVERYONE@:x|A:fd:root:rwanNxDtThHdcCoy|sacl|\
+list:a|folder root staff /a|dacl|list:a|A:fd:bob:r|A:fdI:root:rwanNxDtThHdcCoy|sacl|list:a|\
+folder root staff /a/b|dacl|list:a|A:fdI:bob:r|A:fdI:root:rwanNxDtThHdcCoy|sacl|list:a|\
+folder root staff /a/b/c|dacl|list:a|sacl|list:a|
+";
+
+#[test]
+fn read_uses_stored_list(rt: HostRuntime) -> Result<(), Fail> {
+    plays(
+        rt.alloc(),
+        &[THREE_FOLDERS, PROTECTED_AND_REJOINED, EMPTIED, STORED],
+    )
+}
+
+const BAD_LIST_TEXT: &str = "\
+root MakeFolder /a => made
+root Put /a/f hi => made
+sql UPDATE nodes SET dacl_own = 'A::alice' WHERE name = 'a' => done
+store Mark => done
+store Verify => ?2 V2 bad-list
+root Read /a/f => fault Damaged
+store Dump => fault Damaged
+store Same => yes
+";
+
+#[test]
+fn verify_bad_list_text(rt: HostRuntime) -> Result<(), Fail> {
+    plays(rt.alloc(), &[BAD_LIST_TEXT])
+}
+
+const MISSING_BODY: &str = "\
+root Put /f hi => made
+sql DELETE FROM bodies => done
+store Mark => done
+store Verify => /f V7 bad-body
+root Read /f => fault Damaged
+store Dump => fault Damaged
+store Same => yes
+";
+
+#[test]
+fn verify_missing_body(rt: HostRuntime) -> Result<(), Fail> {
+    plays(rt.alloc(), &[MISSING_BODY])
+}
+
+const TWO_ROOTS: &str = "\
+root MakeFolder /a => made
+sql UPDATE nodes SET parent = NULL WHERE name = 'a' => done
+store Verify => ?2 V4 bad-root
+";
+
+#[test]
+fn verify_two_roots(rt: HostRuntime) -> Result<(), Fail> {
+    plays(rt.alloc(), &[TWO_ROOTS])
+}
+
+const BAD_NAME: &str = "\
+root Put /f hi => made
+sql UPDATE nodes SET name = 'x/y' WHERE name = 'f' => done
+store Verify => /x/y V6 bad-name
+";
+
+#[test]
+fn verify_bad_name(rt: HostRuntime) -> Result<(), Fail> {
+    plays(rt.alloc(), &[BAD_NAME])
+}
+
+// One fault after the other, each of which is found before those that are there.
+const ONE_BY_ONE: &str = "\
+root MakeFolder /a => made
+root MakeFolder /a/b => made
+root Put /f hi => made
+root Put /g hi => made
+root MakeFolder /h => made
+root Put /i hi => made
+root MakeFolder /j => made
+root MakeFolder /k => made
+store Verify => sound
+sql UPDATE nodes SET dacl_inh = '' WHERE name = 'k' => done
+store Verify => /k V3 broken-law
+sql DELETE FROM bodies WHERE node = 4 => done
+store Verify => /f V7 bad-body
+sql UPDATE nodes SET name = 'x/y' WHERE name = 'g' => done
+store Verify => /x/y V6 bad-name
+sql UPDATE nodes SET parent = 3 WHERE name = 'a' => done
+store Verify => ?2 V1 loop
+sql UPDATE nodes SET parent = 4 WHERE name = 'i' => done
+store Verify => ?7 V5 bad-parent
+sql UPDATE nodes SET parent = NULL WHERE name = 'j' => done
+store Verify => ?8 V4 bad-root
+sql UPDATE nodes SET dacl_own = 'A::alice' WHERE name = 'h' => done
+store Verify => ?6 V2 bad-list
+";
+
+#[test]
+fn verify_in_order(rt: HostRuntime) -> Result<(), Fail> {
+    plays(rt.alloc(), &[ONE_BY_ONE])
+}
