@@ -1,35 +1,35 @@
 //! The program `rooms`: a document room behind access lists of RFC 8881, section 6.2.
 #![tactic(auto)]
 
-mod command;
-mod stop;
-#[cfg(test)]
-mod tests;
+mod files;
+mod input;
+mod work;
 
-use command::{Command, read_command};
 use room_check::answer;
+use room_console::{Stop, tell_stop};
+use room_words::{Command, read_command};
+use sqlite_std_file::{Start, Unknown};
 use std::env;
-use std::io::{self, ErrorKind};
+use std::io::ErrorKind;
 use std::process::ExitCode;
-use stop::Stop;
 
 fn main(rt: HostRuntime) -> ExitCode {
-    let status = match run(&rt) {
+    let status = match run(&rt, Unknown) {
         Ok(status) => status,
-        Err(stop) => {
-            // Where standard error fails too, the status alone tells of it.
-            let _ = stop.tell(&rt);
-            stop.status()
-        }
+        Err(stop) => tell_stop(rt.alloc(), &stop, &mut rt.stdout(), &mut rt.stderr()),
     };
     ExitCode::from(status)
 }
 
-// Carries out the command of the process's arguments, and answers the exit status.
-fn run(rt: &HostRuntime) -> Result<u8, Stop> {
+// Carries out the command of the process's arguments, and answers the exit status. What is supposed
+// of the files is `S`.
+fn run<S: Start>(rt: &HostRuntime, start: S) -> Result<u8, Stop> {
     let words = words_of(rt)?;
-    match read_command(rt.alloc(), words.as_slice())? {
-        Command::Check => Ok(answer(rt.alloc(), rt.reader(), &mut io::writer(rt))?),
+    let command = read_command(rt.alloc(), words.as_slice())?;
+    match command {
+        Command::Check => Ok(answer(rt.alloc(), rt.reader(), &mut rt.stdout())?),
+        Command::Serve { file, port, count } => work::serve(rt, start, file, port, count),
+        _ => work::carry_out(rt, start, &command),
     }
 }
 
@@ -37,7 +37,7 @@ fn words_of(rt: &HostRuntime) -> Result<Vec<String>, Stop> {
     match env::args(rt) {
         Ok(words) => Ok(words.collect(rt.alloc())?),
         Err(error) => match error.kind() {
-            ErrorKind::OutOfMemory => Err(Stop::Memory),
+            ErrorKind::OutOfMemory => Err(Stop::from(error)),
             _ => Err(Stop::NotText),
         },
     }

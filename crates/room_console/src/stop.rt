@@ -1,0 +1,55 @@
+//! Why the program ends before a task is done.
+
+use room_ace::Failure;
+use room_outcome::Fault;
+use room_tasks::Refusal;
+use room_words::CliFault;
+use std::alloc::AllocError;
+use std::io;
+
+/// Why the program ends before a task is done.
+#[derive(Drop)]
+pub enum Stop {
+    /// Something failed.
+    Failed(Fault),
+    /// The words or the input are refused.
+    Refused(Refusal),
+    /// The file that is to be made is there.
+    Exists,
+    /// The file is empty.
+    NotRooms,
+    /// The arguments are no command, or ask for help.
+    Words(CliFault),
+    /// An argument isn't UTF-8.
+    NotText,
+}
+
+impl From<AllocError> for Stop {
+    fn from(_error: AllocError) -> Stop {
+        Stop::Failed(Fault::Memory)
+    }
+}
+
+impl From<io::Error> for Stop {
+    fn from(error: io::Error) -> Stop {
+        Stop::Failed(Fault::of_stream(&error))
+    }
+}
+
+impl From<Failure<CliFault>> for Stop {
+    fn from(failure: Failure<CliFault>) -> Stop {
+        match failure {
+            Failure::OutOfMemory => Stop::Failed(Fault::Memory),
+            Failure::Fault(fault) => Stop::Words(fault),
+        }
+    }
+}
+
+impl From<Failure<Refusal>> for Stop {
+    fn from(failure: Failure<Refusal>) -> Stop {
+        match failure {
+            Failure::OutOfMemory => Stop::Failed(Fault::Memory),
+            Failure::Fault(why) => Stop::Refused(why),
+        }
+    }
+}

@@ -1,0 +1,110 @@
+//! The file of a room: made, found, opened, taken away.
+ghost use Rattle.std.specs.Prelude.{◌≡◌, IfOk, false};
+
+use room_console::Stop;
+use room_outcome::Fault;
+use sqlite::{Connection, Error, ErrorCode};
+use sqlite_std_file::{FileFrom, Start};
+use sqlite_store::FileStore;
+use std::fs::{self, OpenOptions};
+use std::io::{self, ErrorKind};
+use std::os::unix::fs::OpenOptionsExt;
+
+/// A connection to the file and to its log.
+pub type FileConnection<S> = Connection<FileStore<FileFrom<S>>>;
+
+// Only the owner may read the file: whoever else could would need no list.
+const OWNER_ALONE: u32 = 0o600;
+
+/// Makes an empty file where there is none, and answers the path of the log that it will have. A
+/// log that is left of another file of this name counts as that file.
+pub fn make(rt: &HostRuntime, file: &str) -> Result<String, Stop> {
+    let log = log_of(rt, file)?;
+    if is_there(rt, log.as_str())? {
+        return Err(Stop::Exists);
+    }
+    make_empty(rt, file)?;
+    Ok(log)
+}
+
+fn make_empty(rt: &HostRuntime, file: &str) -> Result<(), Stop> {
+    let mut options = OpenOptions::new();
+    options.write(true).create_new(true).mode(OWNER_ALONE);
+    match options.open(rt, file) {
+        Ok(_file) => Ok(()),
+        Err(error) if error.kind() == ErrorKind::AlreadyExists => Err(Stop::Exists),
+        Err(error) => Err(Stop::from(error)),
+    }
+}
+
+/// Takes away the file that `make` made, and the log that came beside it.
+pub fn take_away(rt: &HostRuntime, file: &str, log: &str) {
+    // What can't be taken away stays: why the file isn't wanted is what is told.
+    let _ = fs::remove_file(rt, file);
+    let _ = fs::remove_file(rt, log);
+}
+
+/// Opens the file of a room that is there.
+pub fn open<S: Start>(rt: &HostRuntime, file: &str, start: S) -> Result<FileConnection<S>, Stop>
+    ensures { IfOk result (λ conn. conn.in_transaction ≡ false) }
+{
+    if is_blank(rt, fs::canonicalize(rt, file)?.as_str())? {
+        return Err(Stop::NotRooms);
+    }
+    connect(rt, file, start)
+}
+
+/// Opens the file, which is there, as a database.
+pub fn connect<S: Start>(rt: &HostRuntime, file: &str, start: S) -> Result<FileConnection<S>, Stop>
+    ensures { IfOk result (λ conn. conn.in_transaction ≡ false) }
+{
+    // By its whole path a file is no database in memory and no address, whatever its name.
+    let path = fs::canonicalize(rt, file)?;
+    match Connection::open_from(rt, path.as_str(), false, start) {
+        Ok(conn) => Ok(conn),
+        Err((error, _left)) => Err(Stop::Failed(fault_of(error))),
+    }
+}
+
+fn fault_of(error: Error) -> Fault {
+    match error {
+        Error::SqliteFailure(ErrorCode::OutOfMemory) => Fault::Memory,
+        _ => Fault::Database,
+    }
+}
+
+/// Copies the log into the file, so that the file alone has the whole room. Where that fails
+/// nothing is lost: the log has what isn't copied, and the next one to open both finds it.
+pub fn close<S: Start>(conn: FileConnection<S>) {
+    let _ = conn.close();
+}
+
+// Whether the file is empty, and no log beside it holds what it is to become.
+fn is_blank(rt: &HostRuntime, path: &str) -> Result<bool, Stop> {
+    let found = fs::metadata(rt, path)?;
+    if !found.is_file() || found.len() > 0 {
+        return Ok(false);
+    }
+    is_empty(rt, log_of(rt, path)?.as_str())
+}
+
+fn is_empty(rt: &HostRuntime, path: &str) -> Result<bool, Stop> {
+    match fs::symlink_metadata(rt, path) {
+        Ok(found) => Ok(found.len() == 0),
+        Err(error) if error.kind() == ErrorKind::NotFound => Ok(true),
+        Err(error) => Err(Stop::from(error)),
+    }
+}
+
+fn is_there(rt: &HostRuntime, path: &str) -> Result<bool, Stop> {
+    match fs::symlink_metadata(rt, path) {
+        Ok(_) => Ok(true),
+        Err(error) if error.kind() == ErrorKind::NotFound => Ok(false),
+        Err(error) => Err(Stop::from(error)),
+    }
+}
+
+// The path of the log beside a file.
+fn log_of(rt: &HostRuntime, path: &str) -> io::Result<String> {
+    Ok(format!(in rt.alloc(); "{path}-wal")?)
+}

@@ -1,0 +1,39 @@
+# Words that are no command, help, and the order in which words come before everything else.
+
+refuses_words 'no subcommand'
+refuses_words 'unknown subcommand' paint
+refuses_words 'help is no subcommand' help
+refuses_words 'check takes nothing' check more
+refuses_words 'init wants three' init F root
+refuses_words 'init takes three' init F root staff more
+refuses_words 'serve wants a file' serve
+refuses_words 'groups wants a CSV file' groups F
+refuses_words 'reset wants a list' reset F /
+refuses_words 'dump wants a file' dump
+refuses_words 'unknown option' serve F --host x
+holds 'nothing was made' is_missing F
+
+# The value of an option, and the list's name, are words too.
+for words in '--port 0' '--port 65536' '--port x' '--port -1' '--count 0' '--count 1000001' '--count x' '--port' '--count 1 --count 2'; do
+  run serve missing $words
+  holds "serve $words" [ "$status" = 2 ]
+  holds "serve $words (standard output)" [ ! -s "$work/out" ]
+  holds "serve $words (standard error)" [ -s "$work/err" ]
+done
+run reset missing / xacl
+holds 'reset of no such list' [ "$status" = 2 ]
+holds 'reset of no such list (standard output)' [ ! -s "$work/out" ]
+
+run --help
+holds 'help' [ "$status" = 2 ]
+holds 'help (standard output)' [ ! -s "$work/out" ]
+cp "$work/err" help
+for name in check init serve groups groups-out audit dump reset verify migrate; do
+  holds "help names $name" grep -q "^  $name " help
+  run "$name" --help
+  holds "help of $name" [ "$status" = 2 ]
+  holds "help of $name (standard output)" [ ! -s "$work/out" ]
+  holds "help of $name (usage)" grep -q "^Usage: $(basename "$rooms") $name" "$work/err"
+done
+gives 'version' 2 '' 'rooms 0.1.0\n' --version
+gives 'an argument that is no text' 2 '' 'error: an argument is not UTF-8\n' dump $'F\xff'

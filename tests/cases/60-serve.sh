@@ -1,0 +1,103 @@
+# `serve`: a tour over real sockets, streams of every kind, and callers who break off.
+
+open_room F
+
+# One connection by default, and the server ends after it.
+printf '%s' $'PUT /doc/f HTTP/1.1\r\nRoom-User: root\r\nContent-Length: 5\r\n\r\nhello' >one
+if start_server F 1; then
+  { cat one one; last_message GET /doc/f root; } >"$work/sent"
+  exchange
+  { made goes-on; done_reply goes-on; reply '200 OK' application/octet-stream hello; } >"$work/want.reply"
+  same 'two messages at once, and a third' "$work/reply" "$work/want.reply"
+  server_ends 'the server ends after one' 0 ''
+fi
+gives 'the port of a server that ended is free' 0 'sound\n' '' verify F
+
+# All routes, a connection each.
+start_server F 52 || return
+asks 'no folder yet' "json '404 Not Found' '{\"at\":\"/a\",\"why\":\"no-such\"}'" GET /folder/a root
+asks 'a folder' made POST /folder/a root
+asks 'it is there' "json '409 Conflict' '{\"at\":\"/a\",\"why\":\"exists\"}'" POST /folder/a root
+asks 'a document' made PUT /doc/a/x root hello
+asks 'it is replaced' done_reply PUT /doc/a/x root hi
+asks 'bytes behind it' done_reply POST /doc/a/x root '!!'
+asks 'it is read' "reply '200 OK' application/octet-stream 'hi!!'" GET /doc/a/x root
+asks 'a document is no folder' "json '409 Conflict' '{\"at\":\"/a/x\",\"why\":\"wrong-kind\"}'" GET /folder/a/x root
+asks 'a listing' "json '200 OK' '[{\"kind\":\"folder\",\"name\":\"a\"},{\"kind\":\"document\",\"name\":\"f\"}]'" GET /folder/ root
+asks 'an empty listing for nobody' "denied / r null null" GET /folder/ -
+asks 'the list of the folder' "reply '200 OK' text/plain 'list:a
+A:fdI:root:$ALL
+'" GET /dacl/a root
+asks 'a list is set' done_reply PUT /dacl/a root 'list:a
+A:fd:alice:r
+A::alice:xt
+'
+asks 'it passes down' "reply '200 OK' text/plain 'list:a
+A:I:alice:r
+A:I:root:$ALL
+'" GET /dacl/a/x root
+asks 'alice reads by it' "reply '200 OK' application/octet-stream 'hi!!'" GET /doc/a/x alice
+asks 'bob does not pass' "denied /a x null null" GET /doc/a/x bob
+asks 'what is behind is hidden' "denied /a x null null" GET /doc/a/zz bob
+asks 'alice may not write' "denied /a/x w null null" PUT /doc/a/x alice no
+asks 'a list with a fault' "json '422 Unprocessable Entity' '{\"line\":1,\"why\":\"bad-list A6\"}'" PUT /dacl/a root A::a:r
+asks 'an entry with a fault' "json '422 Unprocessable Entity' '{\"at\":\"/a\",\"entry\":1,\"why\":\"bad-list A9\"}'" PUT /dacl/a root 'list:
+U:S:bob:r'
+asks 'a list of records' done_reply PUT /sacl/a/x root 'list:a
+U:F:EVERYONE@:r
+L:S:AUTHENTICATED@:w
+'
+asks 'which is read' "reply '200 OK' text/plain 'list:a
+U:F:EVERYONE@:r
+L:S:AUTHENTICATED@:w
+'" GET /sacl/a/x root
+asks 'owners' "json '200 OK' '{\"group\":\"staff\",\"kind\":\"folder\",\"owner\":\"root\"}'" GET /attr/a alice
+asks 'owners are set' done_reply PUT /attr/a/x root '{"group":"sales","owner":"alice"}'
+asks 'and read' "json '200 OK' '{\"group\":\"sales\",\"kind\":\"document\",\"owner\":\"alice\"}'" GET /attr/a/x root
+asks 'a body that is none' "json '400 Bad Request' '{\"why\":\"bad-body\"}'" PUT /attr/a/x root '{"owner":"x"}'
+asks 'rights' "json '200 OK' '{\"r\":\"allowed 1\",\"w\":\"silent\"}'" GET '/can/a?rw' alice
+asks 'no rights asked' "json '200 OK' '{}'" GET '/can/a?' alice
+asks 'a letter that is none' "json '400 Bad Request' '{\"why\":\"bad-target A4\"}'" GET '/can/a?rq' alice
+asks 'a move' done_reply POST /move/a/x root '{"to":"/y"}'
+asks 'back' done_reply POST /move/y root '{"to":"/a/x"}'
+asks 'a move into itself' "json '409 Conflict' '{\"at\":\"/a/b\",\"why\":\"loop\"}'" POST /move/a root '{"to":"/a/b"}'
+asks 'a move of the root' "json '409 Conflict' '{\"at\":\"/\",\"why\":\"root\"}'" POST /move/ root '{"to":"/z"}'
+asks 'a folder that is not empty' "json '409 Conflict' '{\"at\":\"/a\",\"why\":\"not-empty\"}'" DELETE /object/a root
+asks 'bob may not remove' "denied /a x null null" DELETE /object/a/x bob
+asks 'a document has no folder in it' "json '409 Conflict' '{\"at\":\"/f\",\"why\":\"not-folder\"}'" GET /doc/f/q root
+asks 'no route' "json '404 Not Found' '{\"why\":\"no-route\"}'" GET /nope -
+asks 'no such method' "no_method 'DELETE, GET, POST, PUT'" PATCH /doc/f root
+asks 'not for this word' "no_method 'GET, POST, PUT'" DELETE /doc/f root
+asks 'two users' "json '400 Bad Request' '{\"why\":\"bad-user\"}'" GET /doc/f root '' 'Room-User: root'
+asks 'no name' "json '400 Bad Request' '{\"why\":\"bad-user\"}'" GET /doc/f 'bad name'
+asks 'dots' "json '400 Bad Request' '{\"why\":\"bad-target P1\"}'" GET /folder/%2e%2e root
+asks 'a name in UTF-8' made PUT /doc/%C3%A9 root x
+asks 'a listing of bytes' "json '200 OK' '[{\"kind\":\"folder\",\"name\":\"a\"},{\"kind\":\"document\",\"name\":\"f\"},{\"kind\":\"document\",\"name\":\"é\"}]'" GET /folder/ root
+asks 'chunks' "json '501 Not Implemented' '{\"why\":\"transfer-coding\"}'" GET /doc/f root '' 'Transfer-Encoding: chunked'
+asks 'two lengths' "json '400 Bad Request' '{\"why\":\"bad-length\"}'" GET /doc/f root '' 'Content-Length: 5, 5'
+asks 'a length over the limit' "json '413 Payload Too Large' '{\"why\":\"too-large\"}'" PUT /doc/f root '' 'Content-Length: 1048577'
+asks 'many fields' "json '431 Request Header Fields Too Large' '{\"why\":\"too-many-fields\"}'" GET /doc/f root '' $(printf 'X:%d ' {1..64})
+asks 'removed' done_reply DELETE /object/%C3%A9 root
+asks 'gone' "json '404 Not Found' '{\"at\":\"/é\",\"why\":\"no-such\"}'" GET /doc/%C3%A9 root
+
+# Version 1.0 ends its connection; so does garbage, to which nothing is added.
+printf 'GET /doc/f HTTP/1.0\r\nRoom-User: root\r\n\r\nGET /doc/f HTTP/1.0\r\n\r\n' >"$work/sent"
+exchange
+reply '200 OK' application/octet-stream hello >"$work/want.reply"
+same 'version 1.0' "$work/reply" "$work/want.reply"
+printf '\x00\x01\xff garbage\r\n\r\nGET /doc/f HTTP/1.1\r\n\r\n' >"$work/sent"
+exchange
+json '400 Bad Request' '{"why":"bad-head"}' >"$work/want.reply"
+same 'garbage' "$work/reply" "$work/want.reply"
+{ printf 'GET /doc/f HTTP/1.1\r\nX: '; head -c 16360 /dev/zero | tr '\0' x; } >"$work/sent"
+exchange
+json '431 Request Header Fields Too Large' '{"why":"too-many-fields"}' >"$work/want.reply"
+same 'a head without an end' "$work/reply" "$work/want.reply"
+server_ends 'the server ends after all of them' 0 ''
+
+# The records of the tour: alice's write was no event; bob's reads stopped above it.
+run audit F
+head -1 "$work/out" >head
+printf 'at,user,path,bits,granted,entry,kind\n' >wanted
+same 'header of the records' head wanted
+gives 'sound after the tour' 0 'sound\n' '' verify F

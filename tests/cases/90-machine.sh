@@ -1,0 +1,151 @@
+# What the machine can refuse: a closed or full standard output, a full disk, rights, locks and ports.
+
+open_room F
+printf 'group,user\nsales,alice\n' >in.csv
+for command in 'dump F' 'audit F' 'groups-out F' 'verify F' 'migrate F' 'groups F in.csv'; do
+  "$rooms" $command </dev/null 2>"$work/err" >&-
+  status=$?
+  : >"$work/out"
+  wants "closed standard output: $command" 3 '' 'fault: file\n'
+  if [ -c /dev/full ]; then
+    "$rooms" $command </dev/null 2>"$work/err" >/dev/full
+    status=$?
+    wants "full standard output: $command" 3 '' 'fault: file\n'
+  fi
+done
+if [ "$loopback" = yes ]; then
+  for turn in {1..50}; do
+    "$rooms" serve F --port "$((port += 1))" </dev/null 2>"$work/err" >&-
+    status=$?
+    # The port may be another program's.
+    grep -q '^fault: net$' "$work/err" || break
+  done
+  wants 'closed standard output: serve' 3 '' 'fault: file\n'
+fi
+gives 'the members came in all the same' 0 'group,user\nsales,alice\n' '' groups-out F
+if [ -c /dev/full ]; then
+  "$rooms" init init-full root staff </dev/null 2>"$work/err" >/dev/full
+  status=$?
+  : >"$work/out"
+  wants 'full standard output: init' 3 '' 'fault: file\n'
+  holds 'no file stays' is_missing init-full
+fi
+gives 'sound' 0 'sound\n' '' verify F
+
+# One process at a time has a room, and one socket a port.
+open_room G
+if start_server F 1; then
+  gives 'two servers on one file' 3 '' 'fault: database\n' serve F --port "$((port + 1000))"
+  gives 'a look at a file that is served' 3 '' 'fault: database\n' dump F
+  gives 'init on a file that is served' 2 'refused: file exists\n' '' init F root staff
+  gives 'a port in use' 3 '' 'fault: net\n' serve G --port "$port"
+  asks 'the server is well' "json '200 OK' '{}'" GET '/can/?' root
+  server_ends 'it ends' 0 ''
+fi
+gives 'the file is free again' 0 'sound\n' '' verify F
+exec 7<>G
+gives 'another process has the file open' 0 'sound\n' '' verify G
+exec 7>&-
+if has_sqlite; then
+  mkfifo hold
+  { echo 'PRAGMA locking_mode=exclusive; BEGIN IMMEDIATE; SELECT 1;'; cat hold; } | sqlite3 G >held 2>&1 &
+  holder=$!
+  began=$SECONDS
+  until grep -q '^1$' held 2>/dev/null || [ $((SECONDS - began)) -ge "$patience" ]; do sleep 0.01; done
+  gives 'sqlite3 writes in the file' 3 '' 'fault: database\n' verify G
+  echo 'ROLLBACK;' >hold
+  wait "$holder"
+  gives 'and lets it go' 0 'sound\n' '' verify G
+else
+  skip 'sqlite3 writes in the file' 'no sqlite3, or one that is too old'
+fi
+if ln G second-name 2>/dev/null; then
+  gives 'a file with two names' 3 '' 'fault: database\n' verify G
+  rm second-name
+else
+  skip 'a file with two names' 'this disk has one name for each'
+fi
+
+# Rights.
+as_other() { # COMMAND ..
+  if [ "$(id -u)" != 0 ]; then "$@"; else setpriv --reuid=65534 --regid=65534 --clear-groups "$@"; fi
+}
+# Another user runs the program here and comes to its files, and nobody reads what nobody may.
+meets_rights() {
+  chmod 755 "$work" .
+  chmod 000 G G-wal
+  as_other "$rooms" --version </dev/null >/dev/null 2>&1
+  [ $? = 2 ] && as_other test -r "$PWD/in.csv" && ! as_other test -r "$PWD/G"
+}
+if ! meets_rights 2>/dev/null; then
+  chmod 600 G G-wal
+  skip 'a file without rights' 'no other user can run the program here, or that one may read all'
+else
+  as_other "$rooms" dump G </dev/null >"$work/out" 2>"$work/err"
+  status=$?
+  wants 'a file without rights' 3 '' 'fault: database\n'
+  as_other "$rooms" init New root staff </dev/null >"$work/out" 2>"$work/err"
+  status=$?
+  if [ "$(id -u)" = 0 ]; then wants 'a folder without rights' 3 '' 'fault: file\n'; fi
+  mkdir locked
+  chmod 000 locked
+  as_other "$rooms" dump locked/F </dev/null >"$work/out" 2>"$work/err"
+  status=$?
+  wants 'a folder that may not be entered' 3 '' 'fault: file\n'
+  chmod 600 G G-wal
+  chmod 700 locked
+fi
+
+# A disk without room: it takes a room and little more, and then it is filled up.
+mkdir small
+if mount -t tmpfs -o size=1m none small 2>/dev/null; then
+  gives 'init on a small disk' 0 'ready\n' '' init small/F root staff
+  from_lines 'list:a' "A:fd:root:$ALL"
+  gives 'reset on a small disk' 0 'done\n' '' reset small/F / dacl
+  input=/dev/null
+  run dump small/F
+  cp "$work/out" before
+  { echo group,user; seq -f 'b,user%05.0f' 20000; } >many.csv
+  head -c 2000000 /dev/zero >small/filler 2>/dev/null
+  gives 'groups on a full disk' 3 '' 'fault: database\n' groups small/F many.csv
+  run dump small/F
+  wants_file 'which changes nothing' 0 before
+  gives 'and stays sound' 0 'sound\n' '' verify small/F
+  if start_server small/F 3; then
+    asks 'a document on a full disk' "json '500 Internal Server Error' '{\"why\":\"store\"}'" PUT /doc/f root hello
+    asks 'a look at a full disk' "json '200 OK' '[]'" GET /folder/ root
+    rm small/filler
+    asks 'a document once there is room' made PUT /doc/f root hello
+    server_ends 'the server goes on' 0 ''
+  fi
+  head -c 2000000 /dev/zero >small/filler 2>/dev/null
+  gives 'init on a full disk' 3 '' 'fault: database\n' init small/G root staff
+  holds 'no file stays' is_missing small/G
+  holds 'no log stays' is_missing small/G-wal
+  rm small/filler small/F small/F-wal
+  gives 'a second try' 0 'ready\n' '' init small/G root staff
+  umount small
+else
+  skip 'a full disk' 'no leave to mount'
+fi
+
+# Want of memory.
+if (ulimit -v 60000) 2>/dev/null && has seq; then
+  { echo group,user; seq -f 'b,user%05.0f' 20000; } >many.csv
+  if ! (ulimit -v 20000; "$rooms" --version </dev/null 2>/dev/null; [ $? = 2 ]); then
+    skip 'want of memory' 'the program does not start in 20 MB'
+    return
+  fi
+  (ulimit -v 20000; "$rooms" groups F many.csv </dev/null >"$work/out" 2>"$work/err"; echo $? >status)
+  status=$(cat status)
+  if [ "$status" = 0 ]; then
+    skip 'want of memory' 'the limit was not met'
+  elif [ "$(cat "$work/err")" = 'fault: database' ]; then
+    # Where the database gets no room for a page, it tells that as a fault of its own.
+    wants 'want of memory' 3 '' 'fault: database\n'
+  else
+    wants 'want of memory' 3 '' 'fault: memory\n'
+  fi
+  gives 'which changes nothing' 0 'group,user\nsales,alice\n' '' groups-out F
+fi
+gives 'sound' 0 'sound\n' '' verify F

@@ -1,0 +1,104 @@
+# A room behind nginx, by contrib/nginx.conf: passwords, the caller's name, slow callers and large ones.
+
+nginx=$(command -v nginx || ls /usr/sbin/nginx 2>/dev/null)
+if [ -z "$nginx" ] || ! has curl; then
+  skip 'behind nginx' 'nginx or curl is missing'
+  return
+fi
+
+open_room F
+set_list F / dacl list:a "A:fd:root:$ALL" A:fd:alice:rwxa A:fd:bob:rx
+start_server F 1000 || return
+front=$((port + 1))
+
+# The configuration as it stands, with other ports and another place for the passwords.
+printf 'root:{PLAIN}r\nalice:{PLAIN}a\nbob:{PLAIN}b\n' >passwords
+chmod 755 "$work" .
+chmod 644 passwords
+{
+  echo "daemon off; pid $PWD/nginx.pid; error_log $PWD/error.log; worker_processes 1;"
+  [ "$(id -u)" != 0 ] || echo 'user root;'
+  echo 'events { worker_connections 256; }'
+  echo "http { access_log off; client_body_temp_path $PWD/t1; proxy_temp_path $PWD/t2;"
+  echo "fastcgi_temp_path $PWD/t3; uwsgi_temp_path $PWD/t4; scgi_temp_path $PWD/t5;"
+  sed -e "s/listen 80;/listen 127.0.0.1:$front;/" -e "s/127.0.0.1:8780/127.0.0.1:$port/" \
+    -e "s|/etc/nginx/rooms.htpasswd|$PWD/passwords|" "$here/../contrib/nginx.conf"
+  echo '}'
+} >nginx.conf
+"$nginx" -p "$PWD" -c "$PWD/nginx.conf" >nginx.out 2>&1 &
+proxy=$!
+began=$SECONDS
+until [ -s nginx.pid ] || ! kill -0 "$proxy" 2>/dev/null || [ $((SECONDS - began)) -ge "$patience" ]; do sleep 0.02; done
+if ! kill -0 "$proxy" 2>/dev/null || ! [ -s nginx.pid ]; then
+  skip 'behind nginx' "it does not start: $(head -c 300 nginx.out error.log 2>/dev/null)"
+  return
+fi
+
+# The status and the body of a request by a user with a password.
+ask() { # NAME STATUS BODY USER:PASSWORD TARGET ARGUMENT ..
+  local name=$1 wanted=$2 body=$3 who=$4 target=$5 got
+  shift 5
+  got=$(curl -s -o "$work/body" -w '%{http_code}' ${who:+-u "$who"} "$@" "http://127.0.0.1:$front$target")
+  [ "$got" = "$wanted" ] || { fail "$name" "status $got, wanted $wanted: $(head -c 200 "$work/body")"; return; }
+  [ "$body" = - ] && { pass; return; }
+  printf '%s' "$body" >"$work/want.body"
+  same "$name" "$work/body" "$work/want.body"
+}
+
+ask 'no password' 401 - '' /doc/f
+ask 'a wrong password' 401 - alice:x /doc/f
+ask 'alice makes a document' 201 '' alice:a /doc/f -X PUT --data-binary hello
+ask 'bob reads it' 200 hello bob:b /doc/f
+ask 'bob may not write' 403 '{"at":"/f","bits":"w","entry":null,"text":null}' bob:b /doc/f -X PUT --data-binary x
+ask 'bob is not root by saying so' 403 '{"at":"/f","bits":"w","entry":null,"text":null}' bob:b /doc/f -X PUT --data-binary x -H 'Room-User: root'
+ask 'nor in other letters' 403 '{"at":"/f","bits":"w","entry":null,"text":null}' bob:b /doc/f -X PUT --data-binary x -H 'room-user: root' -H 'ROOM-USER: root'
+ask 'its owner is alice' 200 '{"group":"staff","kind":"document","owner":"alice"}' root:r /attr/f
+ask 'escapes go on as they came' 201 '' alice:a /doc/%C3%A9%20b -X PUT --data-binary x
+ask 'and are one name' 200 '[{"kind":"document","name":"f"},{"kind":"document","name":"é b"}]' alice:a /folder/
+ask 'a slash that is escaped' 404 '{"at":"/g","why":"no-such"}' alice:a /doc/g%2Fh
+ask 'rights in a query' 200 '{"r":"allowed 3","w":"silent"}' bob:b '/can/f?rw'
+head -c 1048576 /dev/urandom >big
+ask 'the greatest document' 201 '' alice:a /doc/big -X PUT --data-binary @big -H 'Expect:'
+curl -s -u bob:b "http://127.0.0.1:$front/doc/big" >"$work/body"
+same 'it comes back' "$work/body" big
+printf x >>big
+ask 'one byte more' 413 - alice:a /doc/big -X PUT --data-binary @big -H 'Expect:'
+ask 'an upload in chunks' 204 '' alice:a /doc/f -X PUT --data-binary @passwords -H 'Transfer-Encoding: chunked'
+curl -s -u bob:b "http://127.0.0.1:$front/doc/f" >"$work/body"
+same 'which came in whole' "$work/body" passwords
+
+# A caller who sends slowly, and one who reads slowly: the others don't wait for them. Both take five seconds.
+truncate -s 1048576 big
+curl -s -o slow.out -w '%{http_code}' --limit-rate 200k -u alice:a -X PUT --data-binary @big -H 'Expect:' "http://127.0.0.1:$front/doc/slow" >slow.status &
+sender=$!
+curl -s -o slow.body --limit-rate 200k -u bob:b "http://127.0.0.1:$front/doc/big" &
+reader=$!
+sleep 0.3
+began=$SECONDS
+ask 'a quick caller beside slow ones' 200 '{}' bob:b '/can/f?'
+if kill -0 "$sender" 2>/dev/null; then
+  pass
+elif [ $((SECONDS - began)) -ge 4 ]; then
+  skip 'the slow sender is still at it' 'this machine is slow itself'
+else
+  fail 'the slow sender is still at it' 'it has ended'
+fi
+wait "$sender" "$reader"
+holds 'the slow upload ends well' [ "$(cat slow.status)" = 201 ]
+curl -s -u bob:b "http://127.0.0.1:$front/doc/slow" >"$work/body"
+same 'the slow upload is whole' "$work/body" big
+
+# Many at once: each gets its own answer.
+for n in {1..30}; do
+  curl -s -o "many.$n" -u alice:a -X PUT --data-binary "$n" "http://127.0.0.1:$front/doc/many$n" &
+  many[n]=$!
+done
+wait "${many[@]}"
+for n in {1..30}; do ask "one of many" 200 "$n" bob:b "/doc/many$n"; done
+
+stop_server
+ask 'no server behind it' 502 - bob:b /doc/f
+stop_proxy
+gives 'sound' 0 'sound\n' '' verify F
+run audit F
+holds 'nothing is on record' [ "$(wc -l <"$work/out")" = 1 ]

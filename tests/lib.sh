@@ -1,0 +1,147 @@
+# What the cases use: a run of the program, and comparisons of what it wrote.
+
+ALL=rwanNxDtThHdcCoy
+EMPTY_ROOM="folder root staff /\ndacl\nlist:a\nA:fd:OWNER@:$ALL\nsacl\nlist:a\n"
+
+pass() { passed=$((passed + 1)); }
+
+fail() { # NAME WHY
+  failed=$((failed + 1))
+  echo "FAILED $1: $2"
+}
+
+skip() { # NAME WHY
+  skipped=$((skipped + 1))
+  echo "skipped $1: $2"
+}
+
+# Bytes for a message of failure, so that none is lost.
+shown() { head -c 600 "$1" | od -An -c | sed 's/^ *//' | head -12; }
+
+# The two files have the same bytes.
+same() { # NAME GOT WANTED
+  if cmp -s "$2" "$3"; then
+    pass
+  else
+    fail "$1" "other bytes; got:"
+    shown "$2"
+    echo "  wanted:"
+    shown "$3"
+  fi
+}
+
+# A command succeeds.
+holds() { # NAME COMMAND ..
+  local name=$1
+  shift
+  if "$@"; then pass; else fail "$name" "doesn't hold: $*"; fi
+}
+
+# Runs the program on $input, with what it writes in $work/out and $work/err, and its status in $status.
+run() {
+  "$rooms" "$@" <"$input" >"$work/out" 2>"$work/err"
+  status=$?
+}
+
+# The status and every byte of the last run. OUT and ERR may hold escapes like \n.
+wants() { # NAME STATUS OUT ERR
+  printf '%b' "$3" >"$work/want.out"
+  printf '%b' "$4" >"$work/want.err"
+  if [ "$status" != "$2" ]; then
+    fail "$1" "status $status, wanted $2"
+    shown "$work/out"
+    shown "$work/err"
+  elif ! cmp -s "$work/out" "$work/want.out"; then
+    same "$1 (standard output)" "$work/out" "$work/want.out"
+  else
+    same "$1 (standard error)" "$work/err" "$work/want.err"
+  fi
+}
+
+# The same with the bytes of a file on standard output, and none on standard error.
+wants_file() { # NAME STATUS FILE
+  : >"$work/want.err"
+  if [ "$status" != "$2" ]; then
+    fail "$1" "status $status, wanted $2"
+    shown "$work/err"
+  elif ! cmp -s "$work/err" "$work/want.err"; then
+    same "$1 (standard error)" "$work/err" "$work/want.err"
+  else
+    same "$1" "$work/out" "$3"
+  fi
+}
+
+# The bytes of the last run are those of one of two files.
+one_of() { # NAME FILE FILE
+  if [ "$status" = 0 ] && { cmp -s "$work/out" "$2" || cmp -s "$work/out" "$3"; }; then
+    pass
+  else
+    fail "$1" "neither of both, status $status"
+    shown "$work/out"
+  fi
+}
+
+# A run, and what it has to write.
+gives() { # NAME STATUS OUT ERR ARGUMENT ..
+  local name=$1 wanted=$2 out=$3 err=$4
+  shift 4
+  run "$@"
+  wants "$name" "$wanted" "$out" "$err"
+}
+
+# Words that are refused: nothing on standard output, and the usage on standard error.
+refuses_words() { # NAME ARGUMENT ..
+  local name=$1
+  shift
+  run "$@"
+  if [ "$status" != 2 ]; then
+    fail "$name" "status $status, wanted 2"
+  elif [ -s "$work/out" ]; then
+    fail "$name" "it wrote on standard output"
+  elif ! grep -q "^Usage: $(basename "$rooms")" "$work/err"; then
+    fail "$name" "no usage on standard error"
+  else
+    pass
+  fi
+}
+
+# A list text on standard input, one argument a line.
+from_lines() {
+  printf '%s\n' "$@" >"$work/input"
+  input=$work/input
+}
+
+# A copy of a file of data, which may be written whatever the rights of that one.
+take() { cat "$data/$1" >"$2"; } # NAME COPY
+
+# A new room of root and staff.
+new_room() { # FILE
+  rm -f "$1" "$1-wal"
+  input=/dev/null
+  run init "$1" root staff
+  [ "$status" = 0 ] || fail "new room $1" "status $status"
+}
+
+# The same, in which root may do all, and all may pass through.
+open_room() { # FILE
+  new_room "$1"
+  from_lines 'list:a' 'A::EVERYONE@:x' "A:fd:root:$ALL"
+  run reset "$1" / dacl
+  [ "$status" = 0 ] || fail "open room $1" "status $status"
+  input=/dev/null
+}
+
+# A list set by the operator.
+set_list() { # FILE PATH dacl|sacl LINE ..
+  local file=$1 path=$2 which=$3
+  shift 3
+  from_lines "$@"
+  gives "reset $path $which" 0 'done\n' '' reset "$file" "$path" "$which"
+  input=/dev/null
+}
+
+is_there() { [ -e "$1" ]; }
+is_missing() { [ ! -e "$1" ] && [ ! -L "$1" ]; }
+has() { command -v "$1" >/dev/null 2>&1; }
+# An older sqlite3 doesn't read the tables.
+has_sqlite() { has sqlite3 && sqlite3 :memory: 'CREATE TABLE t (a INTEGER) STRICT;' >/dev/null 2>&1; }
