@@ -75,12 +75,26 @@ fn repeat(
 ) -> Result<()> {
     let root = name_of(rt.alloc(), "root")?;
     let start = Instant::now(rt)?;
-    for _ in 0..pairs {
-        told(ask(rt.alloc(), keep, &root, &both.first))?;
-        told(ask(rt.alloc(), keep, &root, &both.second))?;
-    }
+    ask_pairs(rt.alloc(), keep, &root, both, pairs)?;
     tell(rt, start, pairs.saturating_mul(2), work, size)?;
-    rt.println(told(ask(rt.alloc(), keep, &root, &both.first))?)?;
+    let word = told(ask(rt.alloc(), keep, &root, &both.first))?;
+    drop(root);
+    rt.println(word)?;
+    Ok(())
+}
+
+// Asks two requests in turn, so many times.
+fn ask_pairs(
+    alloc: Global,
+    keep: &mut MemKeep,
+    caller: &Name,
+    both: &Both,
+    pairs: u32,
+) -> Result<()> {
+    for _ in 0..pairs {
+        told(ask(alloc, keep, caller, &both.first))?;
+        told(ask(alloc, keep, caller, &both.second))?;
+    }
     Ok(())
 }
 
@@ -189,18 +203,17 @@ fn denied_in(
     keep: &mut MemKeep,
     entries: usize,
 ) -> Result<()> {
-    let id = add(rt.alloc(), keep, 1, "f", ObjKind::Document)?;
-    set_dacl(rt.alloc(), keep, id, &LIST[..entries.min(31)])?;
-    set_sacl(rt.alloc(), keep, id, &["U:F:EVERYONE@:r"])?;
+    add_closed(rt.alloc(), keep, entries)?;
     let both = read_twice(rt.alloc(), "/f")?;
-    repeat(
-        rt,
-        keep,
-        &both,
-        ROUNDS,
-        "denied, recorded, entries",
-        entries,
-    )
+    let work = "denied, recorded, entries";
+    repeat(rt, keep, &both, ROUNDS, work, entries)
+}
+
+// Adds the document.
+fn add_closed(alloc: Global, keep: &mut MemKeep, entries: usize) -> Result<()> {
+    let id = add(alloc, keep, 1, "f", ObjKind::Document)?;
+    set_dacl(alloc, keep, id, &LIST[..entries.min(31)])?;
+    set_sacl(alloc, keep, id, &["U:F:EVERYONE@:r"])
 }
 
 // A list of the root, in which the caller may do anything.
