@@ -1,6 +1,7 @@
 -- Exit statuses, and the lines of faults and of files that are refused (own).
 use Rattle.std.specs.Prelude.{◌≡◌, ◌⊎◌, ℕ, List, ◌++◌, codes}
 use Rattle.std.specs.Fmt.{signed_decimal}
+use Rattle.std.specs.declared.io.ErrorKind.{ErrorKind}
 use Rattle.room_outcome.specs.declared.fault.Fault.{Fault}
 use Rattle.room_outcome.specs.declared.fault.Fault.TheVariants as fault
 use Rattle.room_outcome.specs.declared.no_room.NoRoom.{NoRoom}
@@ -19,6 +20,11 @@ fault_line fault.Memory = codes "fault: memory\n"
 fault_line fault.Database = codes "fault: database\n"
 fault_line fault.File = codes "fault: file\n"
 fault_line fault.Net = codes "fault: net\n"
+
+-- the fault of a reader or of a writer
+abbrev pub fault_of_kind : ErrorKind → Fault
+fault_of_kind ErrorKind.OutOfMemory = fault.Memory
+fault_of_kind _ = fault.File
 
 -- what fails where a text is written
 abbrev pub IsOfWriting : Fault → Type 0
