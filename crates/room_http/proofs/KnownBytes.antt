@@ -1,5 +1,5 @@
 -- Known bytes that are read or written one text after another.
-use Rattle.std.proofs.Common.{Bool, true, false, Result, Ok, Err, ◌≡◌, ℕ, ◌+◌, ◌-◌, arith, List, [], ◌++◌, length, take, drop, subst, Option, Some, None, sym, ap, refl, ◌∙◌, append_assoc}
+use Rattle.std.proofs.Common.{Bool, true, false, Result, Ok, Err, OnOk, OnErr, ◌≡◌, ℕ, ◌+◌, ◌-◌, arith, List, [], ◌++◌, length, take, drop, subst, Option, Some, None, sym, ap, refl, ◌∙◌, append_assoc}
 use Rattle.std.proofs.lemmas.List.{append-nil, take-append-drop, take_all, length-drop}
 use Rattle.std.proofs.Math.Seq.{take-add}
 use Rattle.std.specs.Io.KnownBytes.{Appends, Consumes, Keeps}
@@ -38,6 +38,18 @@ Came-none u a = ([], Consumes-none u, sym (append-nil a))
 pub Came-then : (u v w : Option (List ℕ)) (a b d : List ℕ) → Came u v a b → Came v w b d → Came u w a d
 Came-then u v w a b d x y =
     (x.0 ++ y.0, Consumes-then u v w x.0 y.0 x.1 y.1, y.2 ∙ ap (λ (t : List ℕ). t ++ y.0) x.2 ∙ append_assoc a x.0 y.0)
+
+-- more bytes came, as an answer says
+pub came-behind : {A E : Type 0} (u v w : Option (List ℕ)) (a b d : List ℕ) (result : Result A E)
+    → Came u v a b → OnOk result (Came v w b d) → OnOk result (Came u w a d)
+came-behind u v w a b d (Ok value) x y = Came-then u v w a b d x y
+came-behind u v w a b d (Err why) x y = tt
+
+-- more bytes came and were lost, as a fault says
+pub lost-behind : {A E : Type 0} (u v w : Option (List ℕ)) (a b : List ℕ) (result : Result A E)
+    → Came u v a b → OnErr result ((all : List ℕ) × Came v w b all) → OnErr result ((all : List ℕ) × Came u w a all)
+lost-behind u v w a b (Ok value) x y = tt
+lost-behind u v w a b (Err why) x y = (y.0, Came-then u v w a b y.0 x y.1)
 
 -- bytes came, and were lost
 pub Came-lost : (u v w : Option (List ℕ)) (a b : List ℕ) → Came u v a b → (more : List ℕ) × Consumes v w more → (all : List ℕ) × Came u w a all

@@ -7,7 +7,10 @@ use Rattle.room_message.specs.declared.fault.HttpFault.{HttpFault}
 use Rattle.room_message.specs.Asked as message
 use Rattle.room_message.specs.Reply.{reply_text, fault_text}
 use Rattle.room_http.specs.Message.{Asked}
-use Rattle.room_http.specs.Answer.{Stepped, ActedIf, Keeps, TellsFault, TellsReply, Rose}
+use Rattle.room_http.specs.Answer.{Stepped, ActedIf, Delivers, Keeps, Responds, TellsFault, TellsReply, Rose}
+use Rattle.room_http.specs.declared.told.Response.{Response}
+use Rattle.room_http.specs.declared.told.Lost.{Lost}
+use Rattle.room_rows.specs.Content.{Content}
 use Rattle.room_http.specs.Stream.{Agrees, Asks, answer_text, events_from, Runs}
 use Rattle.room_http.specs.Serve.{Seen, BlamesText}
 use Rattle.room_http.specs.Turn.{WritesSome}
@@ -25,6 +28,16 @@ rose-by old new (inr le) e = inr le
 -- a count that rises by one, up to the greatest
 pub rose : (old new : ℕ) → new ≡ min (old + 1) (2 ^ 64 - 1) → Rose old new
 rose old new e = rose-by old new (cases_lt old (2 ^ 64 - 1)) e
+
+-- the desk took the step, and its reply is told
+pub responds-by : (holds : Type 0) (at : ℤ) (close : Bool) (asked : Asked) (old new : Content → Type 0) (before after : ℕ) (reply : Reply)
+    → Stepped holds at old new asked reply → after ≡ before
+    → (result : Result Response Lost) → Delivers reply close result → Responds holds at close asked old new before after result
+responds-by holds at close asked old new before after reply s same (Ok (Response.Refused text)) d = absurd d
+responds-by holds at close asked old new before after reply s same (Ok (Response.Replied text)) d = ((reply, s, d), same)
+responds-by holds at close asked old new before after reply s same (Ok Response.Fault) d = absurd d
+responds-by holds at close asked old new before after reply s same (Err lost) d =
+    (subst (λ (a : Bool). ActedIf a holds at old new asked) (sym d) (reply, s), same)
 
 -- of a message that a test refuses
 pub replies-refused : (holds : Type 0) (at : ℤ) (asked : Asked) (old new : Seen) (fault : HttpFault)

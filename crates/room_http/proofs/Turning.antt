@@ -102,6 +102,20 @@ take-closing holds at n old new buf next w reply same close r wrote =
       faults = r.faults;
     }
 
+-- a whole reply, whatever it says of the connection
+pub take-answered : (holds : Type 0) (at : ℤ) (n : ℕ) (old new : Seen) (buf after : List ℕ) (next : NextMessage) (w : WholeNext buf next)
+    (reply : Option Reply) (close : Bool) (ended : Option Ended) → n < max_messages → new.left ≡ old.left → says_close w.message n ≡ close
+    → (close ≡ true → ended ≡ Some Ended.Closed) → (close ≡ false → (ended ≡ None) × (after ≡ drop next.end buf))
+    → Replies holds at (asked w.message) old new reply → Appends old.sent new.sent (answer_text close (asked w.message) reply)
+    → Turns holds at n old new buf after (Ok ended)
+take-answered holds at n old new buf after next w reply true ended few same says closing staying r wrote =
+    subst (λ (e : Option Ended). Turns holds at n old new buf after (Ok e)) (sym (closing refl))
+    (take-closing holds at n old new buf next w reply same says r wrote)
+take-answered holds at n old new buf after next w reply false ended few same says closing staying r wrote =
+    let stays = staying refl in
+    subst (λ (e : Option Ended). Turns holds at n old new buf after (Ok e)) (sym stays.0)
+    (take-open holds at n old new buf after next w reply few same says stays.1 r wrote)
+
 pub take-failed : (holds : Type 0) (at : ℤ) (n : ℕ) (old new : Seen) (buf : List ℕ) (next : NextMessage) (w : WholeNext buf next)
     → new.left ≡ old.left → Fails holds (asked w.message) old new → Appends old.sent new.sent store_text
     → TurnsLast holds at n old new buf Ended.Closed

@@ -68,6 +68,13 @@ Refuses fault close (Ok (Response.Replied text)) = ⊥
 Refuses fault close (Ok Response.Fault) = ⊥
 Refuses fault close (Err lost) = lost.acted ≡ false
 
+-- the same where the desk took the step, and replied so
+abbrev pub Delivers : Reply → Bool → Result Response Lost → Type 0
+Delivers reply close (Ok (Response.Refused text)) = ⊥
+Delivers reply close (Ok (Response.Replied text)) = text.items ≡ reply_text reply close
+Delivers reply close (Ok Response.Fault) = ⊥
+Delivers reply close (Err lost) = lost.acted ≡ true
+
 -- What the answer to a message says of the text and of the desk, between two moments. `holds` is
 -- what has to hold of the desk for what is said of its steps.
 abbrev pub Answers : Type 0 → ℤ → Bool → Asked → (Content → Type 0) → (Content → Type 0)

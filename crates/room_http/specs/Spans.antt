@@ -35,10 +35,14 @@ head_at bytes spans r = record {
   fields = map field_of (map (header_bytes bytes) (take r.headers spans));
 }
 
+-- the spans cover a head at the front of the bytes
+abbrev pub SpansHead : List ℕ → List HeaderSpan → RequestSpans → Type 0
+SpansHead buf spans r =
+    (h : RequestHead) × BeginsWith buf h (drop r.len buf) × AreSpansOf spans r h
+
 -- what the look for a head found
 abbrev pub Scans : List ℕ → List HeaderSpan → HeadScan → Type 0
-Scans buf spans (HeadScan.Whole r) =
-    (h : RequestHead) × BeginsWith buf h (drop r.len buf) × AreSpansOf spans r h
+Scans buf spans (HeadScan.Whole r) = SpansHead buf spans r
 Scans buf spans HeadScan.Part =
     (length buf < max_head) × HasNoRequest buf × MayBecomeRequest buf
 Scans buf spans (HeadScan.Refused refusal) = HasNoHead buf refusal
@@ -60,8 +64,7 @@ Came old_left new_left old new =
 
 -- what was found when the reading of a head ended
 abbrev pub HeadCame : List ℕ → List HeaderSpan → Option (List ℕ) → HeadRead → Type 0
-HeadCame buf spans left (HeadRead.Found r) =
-    (h : RequestHead) × BeginsWith buf h (drop r.len buf) × AreSpansOf spans r h
+HeadCame buf spans left (HeadRead.Found r) = SpansHead buf spans r
 HeadCame buf spans left HeadRead.Ended =
     IsAtEnd left × (length buf < max_head) × HasNoRequest buf × MayBecomeRequest buf
 HeadCame buf spans left (HeadRead.NotHead refusal) = HasNoHead buf refusal

@@ -2,14 +2,14 @@
 ghost use Rattle.std.specs.Prelude.{◌≡◌, ℕ, List, length, OnOk, OnErr, IfErr, IfOk};
 ghost use Rattle.room_http.specs.Limits.{max_fields};
 ghost use Rattle.room_http.specs.Serve.{BlamesBefore};
-ghost use Rattle.room_http.specs.Spans.{Came};
+ghost use Rattle.room_http.specs.Spans.{Came, SpansHead};
 ghost use Rattle.room_http.specs.Turn.{Coming};
 
 use crate::cut::{HeadRead, read_body, read_head};
 use crate::ended::Cause;
 use crate::fields::{copied_head, declared_size};
 use crate::refusal::Refusal;
-use httparse::spans::HeaderSpan;
+use httparse::spans::{HeaderSpan, RequestSpans};
 use room_message::Head;
 use std::alloc::Global;
 use std::io::Read;
@@ -46,13 +46,31 @@ pub(crate) fn next_message<R: Read>(
     ensures next { IfOk result (Coming buf.new.items (R.remaining r.new)) }
     ensures cause { IfErr result BlamesBefore }
 {
-    let at = match read_head(r, buf, spans) {
-        Ok(HeadRead::Found(at)) => at,
-        Ok(HeadRead::NotHead(refusal)) => return Ok(Upcoming::Refused(refusal)),
-        Ok(HeadRead::Ended) if buf.is_empty() => return Ok(Upcoming::Clean),
-        Ok(HeadRead::Ended) => return Ok(Upcoming::Cut),
-        Err(cause) => return Err(cause),
-    };
+    match read_head(r, buf, spans) {
+        Ok(HeadRead::Found(at)) => next_behind(alloc, r, buf, spans, at),
+        Ok(HeadRead::NotHead(refusal)) => Ok(Upcoming::Refused(refusal)),
+        Ok(HeadRead::Ended) if buf.is_empty() => Ok(Upcoming::Clean),
+        Ok(HeadRead::Ended) => Ok(Upcoming::Cut),
+        Err(cause) => Err(cause),
+    }
+}
+
+// Reads the body behind the head at the front of the bytes.
+fn next_behind<R: Read>(
+    alloc: Global,
+    r: &mut R,
+    buf: &mut Vec<u8>,
+    spans: &[HeaderSpan],
+    at: RequestSpans,
+) -> Result<Upcoming, Cause>
+    requires { SpansHead buf.old.items spans.now at }
+    ensures came { OnOk result
+        (Came (R.remaining r.old) (R.remaining r.new) buf.old.items buf.new.items) }
+    ensures lost { OnErr result
+        ((all : List ℕ) × Came (R.remaining r.old) (R.remaining r.new) buf.old.items all) }
+    ensures next { IfOk result (Coming buf.new.items (R.remaining r.new)) }
+    ensures cause { IfErr result BlamesBefore }
+{
     let Ok(head) = copied_head(alloc, &buf[..at.len], spans, at) else {
         return Err(Cause::Memory);
     };

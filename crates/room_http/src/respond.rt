@@ -2,11 +2,11 @@
 ghost use Rattle.std.specs.Option.{option_copied};
 ghost use Rattle.std.specs.Prelude.{Ok};
 ghost use Rattle.room_message.specs.Asked.{request_of};
-ghost use Rattle.room_http.specs.Answer.{Answers, Refuses, Responds};
+ghost use Rattle.room_http.specs.Answer.{Answers, Delivers, Refuses, Responds};
 
 use crate::told::{Answer, Lost, Response};
 use room_ace::{Failure, Name};
-use room_machine::{Desk, Request};
+use room_machine::{Desk, Reply, Request};
 use room_message::{Head, HttpFault, Routes, fault_bytes, reply_bytes, request_of};
 use std::alloc::Global;
 
@@ -84,10 +84,17 @@ fn ask<D: Desk>(
     ensures sound { D.trusted desk.new → D.sound desk.old → D.sound desk.new }
 {
     match desk.run(alloc, caller, at, request) {
-        Ok(reply) => match reply_bytes(alloc, &reply, close) {
-            Ok(text) => Ok(Response::Replied(text)),
-            Err(_) => Err(Lost { acted: true }),
-        },
+        Ok(reply) => delivered(alloc, &reply, close),
         Err(_) => Ok(Response::Fault),
+    }
+}
+
+// The text of the desk's reply.
+fn delivered(alloc: Global, reply: &Reply, close: bool) -> Result<Response, Lost>
+    ensures { Delivers reply.now close result }
+{
+    match reply_bytes(alloc, reply, close) {
+        Ok(text) => Ok(Response::Replied(text)),
+        Err(_) => Err(Lost { acted: true }),
     }
 }

@@ -1,6 +1,6 @@
 //! A connection, over any reader, writer and desk.
-ghost use Rattle.std.specs.Prelude.{◌≡◌, ◌<◌, ◌+◌, ◌||◌, ◌==◌, ℕ, List, length, IfOk, IfErr};
-ghost use Rattle.std.specs.Prelude.{Option, false};
+ghost use Rattle.std.specs.Prelude.{◌≡◌, ◌<◌, ◌≤◌, ◌+◌, ◌||◌, ◌==◌, ℕ, List, length, drop};
+ghost use Rattle.std.specs.Prelude.{Option, true, false, IfOk, IfErr};
 ghost use Rattle.std.specs.Io.KnownBytes.{Appends};
 ghost use Rattle.room_message.specs.Asked.{request_of};
 ghost use Rattle.room_message.specs.Close.{asks_close};
@@ -145,14 +145,22 @@ fn take_message<W: Write, D: Desk>(
     };
     match told {
         Told::Failed => Ok(Some(Ended::Closed)),
-        Told::Answered => {
-            if close {
-                return Ok(Some(Ended::Closed));
-            }
-            drop_front(buf, next.end);
-            Ok(None)
-        }
+        Told::Answered => Ok(behind_reply(buf, next.end, close)),
     }
+}
+
+// What a whole reply leaves of the connection: its end, or the bytes behind the message.
+fn behind_reply(buf: &mut Vec<u8>, end: usize, close: bool) -> Option<Ended>
+    requires { end ≤ length buf.old.items }
+    ensures closes { close ≡ true → result ≡ Some Ended.Closed }
+    ensures stays { close ≡ false
+        → (result ≡ None) × (buf.new.items ≡ drop end buf.old.items) }
+{
+    if !close {
+        drop_front(buf, end);
+        return None;
+    }
+    Some(Ended::Closed)
 }
 
 // Writes the reply to what is refused.

@@ -1,15 +1,13 @@
-use Rattle.std.proofs.Common.{◌≡◌, ◌∙◌, refl, ap, subst, ℤ, ℕ, List, w64, Bool}
+use Rattle.std.proofs.Common.{◌≡◌, ◌∙◌, refl, ap, subst, ℤ, ℕ, List, w64}
 use Rattle.std.specs.List.{slice_range}
 use Rattle.std.proofs.lemmas.Int.{to_z-of_z}
-use Rattle.std.specs.Io.KnownBytes.{Appends}
 use Rattle.room_message.specs.Asked.{request_of}
 use Rattle.room_http.specs.declared.server.Told.{Told}
 use Rattle.room_http.specs.Message.{Asked, asked}
-use Rattle.room_http.specs.Stream.{answer_text}
 use Rattle.room_http.specs.Serve.{Seen}
 use Rattle.room_http.specs.Tell.{Tells}
 use Rattle.room_http.proofs.Telling.{at-value}
-use Rattle.room_http.proofs.Turning.{asks-the-same, closes-the-same, take-open, take-closing, take-failed, take-stop}
+use Rattle.room_http.proofs.Turning.{asks-the-same, closes-the-same, take-answered, take-failed, take-stop}
 use Rattle.room_http.proofs.server.take_message.Goals as goal
 
 pub returns-in-Failed-clause-turn : goal.returns-in-Failed-clause-turn
@@ -29,24 +27,6 @@ returns-in-Failed-clause-turn g c left =
     let fails = at-value (Tells all c.args.at close (asked w.message) old new) _ _ Told.Failed c.in-Ok.is c.in-Failed.is asks in
     take-failed all c.args.at c.args.answered old new buf next w refl fails.0 fails.1
 
-pub returns-then-close-clause-turn : goal.returns-then-close-clause-turn
-returns-then-close-clause-turn g c left =
-    let old : Seen = record { left = left; sent = g.W.Write.contents c.args.w.now; content = g.D.Desk.content c.args.desk.now; faults = g.D.Desk.faults c.args.desk.now } in
-    let new : Seen = record { left = left; sent = g.W.Write.contents c.tell.new.w; content = g.D.Desk.content c.tell.new.desk; faults = g.D.Desk.faults c.tell.new.desk } in
-    let all = g.D.Desk.trusted c.tell.new.desk × g.D.Desk.sound c.args.desk.now in
-    let buf = c.args.buf.now.items in
-    let next = c.args.next in
-    let w = c.requires.next in
-    let body : List ℕ → Asked = λ t. request_of next.head (slice_range t next.start next.end) in
-    let same : body c.deref.result.now ≡ asked w.message = ap body c.deref.ensures.value ∙ asks-the-same buf next w in
-    let close = c.says_close-close.result in
-    let says = closes-the-same buf next w c.args.answered close c.says_close-close.ensures in
-    let given = subst (λ (z : ℤ). Tells all z close (body c.deref.result.now) old new c.tell.result) (to_z-of_z w64 c.args.at c.ranges.at) (c.tell.ensures.tells left) in
-    let asks = subst (λ (a : Asked). Tells all c.args.at close a old new c.tell.result) same given in
-    let told = at-value (Tells all c.args.at close (asked w.message) old new) _ _ Told.Answered c.in-Ok.is c.in-Answered.is asks in
-    take-closing all c.args.at c.args.answered old new buf next w told.0 refl (says ∙ c.if-close.true) told.1
-    (subst (λ (b : Bool). Appends old.sent new.sent (answer_text b (asked w.message) told.0)) c.if-close.true told.2)
-
 pub returns-clause-turn : goal.returns-clause-turn
 returns-clause-turn g c left =
     let old : Seen = record { left = left; sent = g.W.Write.contents c.args.w.now; content = g.D.Desk.content c.args.desk.now; faults = g.D.Desk.faults c.args.desk.now } in
@@ -62,8 +42,8 @@ returns-clause-turn g c left =
     let given = subst (λ (z : ℤ). Tells all z close (body c.deref.result.now) old new c.tell.result) (to_z-of_z w64 c.args.at c.ranges.at) (c.tell.ensures.tells left) in
     let asks = subst (λ (a : Asked). Tells all c.args.at close a old new c.tell.result) same given in
     let told = at-value (Tells all c.args.at close (asked w.message) old new) _ _ Told.Answered c.in-Ok.is c.in-Answered.is asks in
-    take-open all c.args.at c.args.answered old new buf _ next w told.0 c.requires.few refl (says ∙ c.if-close.false) c.drop_front.ensures told.1
-    (subst (λ (b : Bool). Appends old.sent new.sent (answer_text b (asked w.message) told.0)) c.if-close.false told.2)
+    take-answered all c.args.at c.args.answered old new buf c.behind_reply.new.buf.items next w told.0 close c.behind_reply.result
+    c.requires.few refl says c.behind_reply.ensures.closes c.behind_reply.ensures.stays told.1 told.2
 
 pub returns-in-Err-clause-turn : goal.returns-in-Err-clause-turn
 returns-in-Err-clause-turn g c left =
