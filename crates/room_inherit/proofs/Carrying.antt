@@ -131,6 +131,7 @@ carrying d start same reach = record {
   first = λ old are is. carrying_first d.which d.start old start are (ap (node_at old.read) (sym same) ∙ is);
   on = λ turns rest w changed number next old now new are sofar visit. carrying_turn d reach turns rest w changed number next old now new are sofar visit;
   few = λ turns waiting changed old now sofar. let m = fewer d.which d.start waiting old sofar.lists sofar.first sofar.first_is sofar.front in let c = sofar.counted in omega (arith, m, c);
+  turned = λ turns waiting changed old now sofar. let t = sofar.turned in let c = sofar.counted in omega (arith, t, c);
   ends = λ turns waiting changed old now past sofar. let m = fewer d.which d.start waiting old sofar.lists sofar.first sofar.first_is sofar.front in let t = sofar.turned in omega (arith, m, past, t);
   numbers = λ turns waiting changed old now sofar. ap numbers_of sofar.becomes ∙ numbers_of-reading old (with_lists d.which sofar.lists old.read) (ids_set d.which sofar.lists old.read.nodes);
   unreadable = λ turns waiting changed at old now sofar damaged. ap (λ (r : Rows). is_unreadable r at) (sym sofar.becomes) ∙ damaged;

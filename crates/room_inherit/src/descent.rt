@@ -2,6 +2,7 @@
 ghost use Rattle.std.specs.Prelude.{◌≡◌, [], Some};
 ghost use Rattle.room_inherit.specs.Spread.{Holds, SpreadsIf};
 ghost use Rattle.room_inherit.specs.SpreadAll.{IsRoot, SweepsIf};
+ghost use Rattle.room_inherit.specs.Turns.{TakesTurns};
 ghost use Rattle.room_inherit.specs.declared.descent.Reach.TheVariants.{Renewed, All};
 
 use crate::outcome::{Spread, SpreadFault};
@@ -9,6 +10,10 @@ use crate::turn::visit;
 use room_ace::Which;
 use room_rows::{Keep, KeepFault, Node};
 use std::alloc::Global;
+
+// Turns that are taken before it is asked how many objects there are. A keeper may go through the
+// whole room for that, which is little beside so many turns.
+const FIRST_TURNS: usize = 65_536;
 
 /// To which children of an object it goes on.
 #[derive(Drop)]
@@ -50,8 +55,8 @@ pub(crate) fn carry_down<K: Keep>(
     go_down(alloc, keep, start, &descent, &mut waiting)
 }
 
-// The turns, of which the first is that of the start. How many there are at most is asked where
-// some objects wait after it.
+// The turns, of which the first is that of the start. How many objects there are is asked only
+// where some still wait after the first turns, since a keeper may have to go through all for that.
 fn go_down<K: Keep>(
     alloc: Global,
     keep: &mut K,
@@ -66,23 +71,43 @@ fn go_down<K: Keep>(
         → descent.now.reach ≡ All → SweepsIf K.Keep keep.old keep.new
         (IsRoot start.now) descent.now.which result }
 {
-    let mut changed = visit(alloc, keep, descent, start, waiting)?;
+    let begun = visit(alloc, keep, descent, start, waiting)?;
+    let soon = take_turns(alloc, keep, descent, waiting, FIRST_TURNS)?;
+    let mut changed = begun.saturating_add(soon);
     if waiting.is_empty() {
         return Ok(Spread { changed });
     }
     let most = keep.ids()?.as_slice().len();
-    'turns: for _turn in 1..most {
-        let Some(above) = waiting.pop() else {
-            return Ok(Spread { changed });
-        };
-        let visited = visit(alloc, keep, descent, &above, waiting);
-        // Let go here, and so not part by part on each way out.
-        drop(above);
-        changed = changed.saturating_add(visited?);
-    }
+    let later = take_turns(alloc, keep, descent, waiting, most)?;
+    changed = changed.saturating_add(later);
     if waiting.is_empty() {
         Ok(Spread { changed })
     } else {
         Err(SpreadFault::Keeper(KeepFault::Damaged { id: descent.start }))
     }
+}
+
+// Takes the last of those that wait for its turn, until none waits or so many turns were taken, and
+// says how many lists were written.
+fn take_turns<K: Keep>(
+    alloc: Global,
+    keep: &mut K,
+    descent: &Descent,
+    waiting: &mut Vec<Node>,
+    most: usize,
+) -> Result<u64, SpreadFault>
+    ensures turns { TakesTurns K.Keep descent.now most waiting.old.items waiting.new.items
+        keep.old keep.new result }
+{
+    let mut written: u64 = 0;
+    'turns: for _turn in 0..most {
+        let Some(above) = waiting.pop() else {
+            return Ok(written);
+        };
+        let visited = visit(alloc, keep, descent, &above, waiting);
+        // Let go here, and so not part by part on each way out.
+        drop(above);
+        written = written.saturating_add(visited?);
+    }
+    Ok(written)
 }

@@ -1,0 +1,12 @@
+use Rattle.std.proofs.Common.{◌≡◌, ℕ, ◌≤◌}
+use Rattle.room_rows.specs.Keep.{capped}
+use Rattle.room_inherit.specs.Turns.{AreTurns}
+use Rattle.room_inherit.proofs.descent.take_turns.Given as goal
+
+-- so many turns were taken
+abbrev pub invariant-turns : goal.invariant-turns
+invariant-turns g l =
+    record {
+      sofar : (total : ℕ) × AreTurns g.K.Keep l.descent l._turn l.fn.waiting.items l.waiting.items total l.fn.keep l.keep × (l.written ≡ capped total);
+      within : l._turn ≤ l.most;
+    }

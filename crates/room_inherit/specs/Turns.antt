@@ -1,0 +1,45 @@
+-- Turns of carrying lists down, one after the other.
+use Rattle.std.specs.Prelude.{◌≡◌, ℕ, zero, suc, ◌+◌, ◌≤◌, ◌⊎◌, List, [], ◌∷◌, ◌++◌}
+use Rattle.std.specs.Prelude.{Result, Ok, Err}
+use Rattle.room_rows.specs.declared.keep.Keep.{Ghosts}
+use Rattle.room_rows.specs.declared.node.Node.{Node}
+use Rattle.room_rows.specs.Keep.{capped}
+use Rattle.room_inherit.specs.Turn.{Visits}
+use Rattle.room_inherit.specs.declared.descent.Descent.{Descent}
+use Rattle.room_inherit.specs.declared.outcome.SpreadFault.{SpreadFault}
+
+module _ {S : Type 0} (k : Ghosts S) (descent : Descent) where
+  -- So many turns, in each of which the last of those that wait is visited: these wait before and
+  -- after, and so many lists are written.
+  abbrev pub AreTurns : ℕ → List Node → List Node → ℕ → S → S → Type 0
+  AreTurns zero before after written old new =
+      (before ≡ after) × (written ≡ 0) × (old ≡ new)
+  AreTurns (suc turns) before after written old new =
+      (rest : List Node) × (above : Node) × (sofar : ℕ) × (number : ℕ) × (mid : S)
+      × AreTurns turns before (rest ++ above ∷ []) sofar old mid
+      × Visits k mid new descent above rest after (Ok number)
+      × (written ≡ sofar + number)
+
+  -- at most so many turns, and as many where some still wait
+  pub record Took (most : ℕ) (before after : List Node) (written : ℕ) (old new : S) : Type 0 where
+    pub turns : ℕ
+    pub total : ℕ
+    pub are : AreTurns turns before after total old new
+    pub counted : written ≡ capped total
+    pub bounded : turns ≤ most
+    pub ends : (after ≡ []) ⊎ (most ≤ turns)
+
+  -- some turns, and one that failed
+  pub record Broke (before after : List Node) (fault : SpreadFault) (old new : S) : Type 0 where
+    pub turns : ℕ
+    pub total : ℕ
+    pub rest : List Node
+    pub above : Node
+    pub mid : S
+    pub are : AreTurns turns before (rest ++ above ∷ []) total old mid
+    pub fails : Visits k mid new descent above rest after (Err fault)
+
+  -- Turns are taken until none waits, or up to a bound.
+  abbrev pub TakesTurns : ℕ → List Node → List Node → S → S → Result ℕ SpreadFault → Type 0
+  TakesTurns most before after old new (Ok written) = Took most before after written old new
+  TakesTurns most before after old new (Err fault) = Broke before after fault old new
