@@ -19,19 +19,11 @@ pub held_id : (which : Which) (held : Held) (n : Node) → (with_held which held
 held_id Dacl held n = refl
 held_id Sacl held n = refl
 
-inh_id : (which : Which) (entries : List Ace) (n : Node) → (with_inh which entries n).id ≡ n.id
+pub inh_id : (which : Which) (entries : List Ace) (n : Node) → (with_inh which entries n).id ≡ n.id
 inh_id Dacl entries n = refl
 inh_id Sacl entries n = refl
 
-pub inh_changed : (old mid last : Rows) (id : ℕ) (which : Which) (entries : List Ace) (node before new : Node) → mid ≡ old → Some node ≡ node_at old.read id → node_at old.read id ≡ Some before → new ≡ with_inh which entries node
-    → ((b : Node) → node_at mid.read new.id ≡ Some b → last ≡ reading mid (with_node mid.read new)) → last ≡ reading old (with_node old.read (with_inh which entries before))
-inh_changed old mid last id which entries node before new same found there changed wrote =
-    let it : node ≡ before = same_some node before (found ∙ there) in
-    let number : new.id ≡ id = ap (λ (n : Node). n.id) changed ∙ inh_id which entries node ∙ ap (λ (n : Node). n.id) it ∙ node_at-number old.read id before there in
-    let at : node_at mid.read new.id ≡ Some before = ap (λ (r : Rows). node_at r.read new.id) same ∙ ap (node_at old.read) number ∙ there in
-    wrote before at ∙ ap (λ (r : Rows). reading r (with_node r.read new)) same ∙ ap (λ (n : Node). reading old (with_node old.read n)) (changed ∙ ap (with_inh which entries) it)
-
--- the same of any change that leaves the number
+-- by a change that leaves the number
 pub node_changed : (old mid last : Rows) (id : ℕ) (change : Node → Node) (node before new : Node) → ((n : Node) → (change n).id ≡ n.id) → mid ≡ old → Some node ≡ node_at old.read id → node_at old.read id ≡ Some before → new ≡ change node
     → ((b : Node) → node_at mid.read new.id ≡ Some b → last ≡ reading mid (with_node mid.read new)) → last ≡ reading old (with_node old.read (change before))
 node_changed old mid last id change node before new keeps same found there changed wrote =

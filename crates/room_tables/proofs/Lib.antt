@@ -25,6 +25,8 @@ pub mod Removed
 pub mod Put
 pub mod Replaced
 pub mod Filled
+pub mod Recast
+pub mod Inherited
 pub mod Filling
 pub mod Chosen
 pub mod Storing

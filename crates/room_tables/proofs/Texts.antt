@@ -170,6 +170,38 @@ pub update_is : command_of (understood room_schema update_text) ≡ Update 0 (re
 unfolding understood everything
 update_is = refl
 
+abbrev pub dacl_inh_text : List ℕ
+dacl_inh_text = codes "UPDATE nodes SET dacl_inh = ?2 WHERE id = ?1"
+
+abbrev pub dacl_inh_terms : List Term
+dacl_inh_terms = col 1 0 ∷ col 1 0 ∷ lit Null ∷ col 1 2 ∷ col 1 3 ∷ col 1 4 ∷ col 1 5 ∷ col 1 6 ∷ col 1 7 ∷ col 1 8 ∷ col 1 9 ∷ col 0 1 ∷ col 1 11 ∷ col 1 12 ∷ []
+
+abbrev pub sacl_inh_text : List ℕ
+sacl_inh_text = codes "UPDATE nodes SET sacl_inh = ?2 WHERE id = ?1"
+
+abbrev pub sacl_inh_terms : List Term
+sacl_inh_terms = col 1 0 ∷ col 1 0 ∷ lit Null ∷ col 1 2 ∷ col 1 3 ∷ col 1 4 ∷ col 1 5 ∷ col 1 6 ∷ col 1 7 ∷ col 1 8 ∷ col 1 9 ∷ col 1 10 ∷ col 1 11 ∷ col 0 1 ∷ []
+
+-- rows of nodes that are found by their number are written with these terms
+abbrev pub updates_nodes : List Term → Command
+updates_nodes terms = Update 0 (record { lets = []; body = query_of 0 (matches_parameter 0 0 ∷ []) terms [] })
+
+pub dacl_inh_is : command_of (understood room_schema dacl_inh_text) ≡ updates_nodes dacl_inh_terms
+unfolding understood everything
+dacl_inh_is = refl
+
+pub sacl_inh_is : command_of (understood room_schema sacl_inh_text) ≡ updates_nodes sacl_inh_terms
+unfolding understood everything
+sacl_inh_is = refl
+
+pub plain_dacl_inh : IsPlain (understood room_schema dacl_inh_text)
+unfolding understood everything
+plain_dacl_inh = (refl, refl)
+
+pub plain_sacl_inh : IsPlain (understood room_schema sacl_inh_text)
+unfolding understood everything
+plain_sacl_inh = (refl, refl)
+
 abbrev pub delete_text : List ℕ
 delete_text = codes "DELETE FROM nodes WHERE id = ?1"
 

@@ -1,16 +1,19 @@
 -- What the statements show of the tables, and what each leaves.
 use Rattle.std.specs.Prelude.{◌≡◌, ◌≤◌, ℕ, ℤ, List, [], ◌∷◌, ◌++◌, Bool, true, false, ◌&&◌, not}
-use Rattle.std.specs.Prelude.{IsTrue, pos}
+use Rattle.std.specs.Prelude.{IsTrue, pos, drop, find, Some}
+use Rattle.room_ace.specs.declared.object.Which.{Which}
+use Rattle.room_ace.specs.declared.object.Which.TheVariants.{Dacl, Sacl}
+use Rattle.sqlite_rules.specs.Cast.{cast_all}
 use Rattle.std.specs.Ordering.{is_eq, is_lt}
 use Rattle.sqlite.specs.declared.types.Value.TheVariants.{Null, Int, Text, Blob}
 use Rattle.sqlite.specs.Order.{Row, column, value_cmp}
-use Rattle.sqlite.specs.Tree.{Trees, rowid, without_rowid, put_row}
+use Rattle.sqlite.specs.Tree.{Trees, rowid, has_rowid, without_rowid, put_row}
 use Rattle.sqlite_trees.specs.View.{doubt, IsShaped}
 use Rattle.sqlite_trees.specs.declared.store.Shape.TheVariants.{Table}
 use Rattle.sqlite.specs.Effect.{Database, IsDatabase}
 use Rattle.sqlite.specs.State.{State, HasCleanDisk}
 use Rattle.sqlite.specs.Edit.{next_rowid, is_taken}
-use Rattle.room_tables.specs.Tables.{room_schema}
+use Rattle.room_tables.specs.Tables.{nodes, room_schema}
 
 -- a row of nodes as it is shown: all its columns, and its number first
 abbrev pub shown_node : Row → Row
@@ -108,6 +111,18 @@ pub record Replaces (id : ℤ) (values : Row) (db next : Trees) : Type 0 where
   pub bodies : next 2 ≡ db 2
   pub members : next 3 ≡ db 3
   pub audits : next 7 ≡ db 7
+
+-- the cells of a row of nodes behind its number, with this text for what a list inherits
+abbrev pub inheriting : Which → List ℕ → Row → Row
+inheriting Dacl text r = column r 2 ∷ column r 3 ∷ column r 4 ∷ column r 5 ∷ column r 6
+    ∷ column r 7 ∷ column r 8 ∷ column r 9 ∷ Text text ∷ column r 11 ∷ column r 12 ∷ []
+inheriting Sacl text r = column r 2 ∷ column r 3 ∷ column r 4 ∷ column r 5 ∷ column r 6
+    ∷ column r 7 ∷ column r 8 ∷ column r 9 ∷ column r 10 ∷ column r 11 ∷ Text text ∷ []
+
+-- the row of this number is replaced by one of these cells, as the columns make them
+abbrev pub Recasts : (Row → Row) → ℤ → Trees → Trees → Type 0
+Recasts change id db next = (r : Row) → find (has_rowid id) (db 0) ≡ Some r
+    → Replaces id (cast_all (drop 1 nodes.columns) (change r)) db next
 
 -- a row of bytes as it is stored
 abbrev pub stored_body : ℤ → List ℕ → Row

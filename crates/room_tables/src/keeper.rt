@@ -8,7 +8,8 @@ ghost use Rattle.room_tables.specs.Meaning.{rows_of};
 ghost use Rattle.room_tables.specs.Columns.{IsStored};
 ghost use Rattle.room_ace.specs.Valid.{is_document};
 ghost use Rattle.room_tables.specs.Shown.{GetsBytes, Stays};
-ghost use Rattle.room_tables.specs.Trust.{HasNoted, IsTrusted, Puts, Rewrites, stays_itself};
+ghost use Rattle.room_tables.specs.Trust.{HasNoted, Inherits, IsTrusted, Puts, Rewrites};
+ghost use Rattle.room_tables.specs.Trust.{stays_itself};
 ghost use Rattle.room_tables.specs.Trust.{stays_on, trusted_first, trusted_last};
 ghost use Rattle.room_tables.specs.RoomRows.{room_rows};
 
@@ -20,9 +21,9 @@ use crate::seen::{
 use crate::statements::{
     delete_node, insert_bytes, insert_node, insert_record, select_bytes, select_child,
     select_groups, select_names, select_node, select_numbers, select_some, select_top,
-    select_under, update_bytes, update_node,
+    select_under, update_bytes, update_inh, update_node,
 };
-use room_ace::{Entry, Name, Names, Owners, Which, names_are_text};
+use room_ace::{Entry, Name, Names, Owners, Which, names_are_text, print_entries};
 use room_rows::{
     AuditRow, Bytes, Held, Keep, KeepFault, Listing, NewNode, Node, Nodes, Numbers, Text,
     count_one, failed,
@@ -62,6 +63,35 @@ fn put<S: Alter>(keeper: &mut Keeper<'_, '_, S>, node: &Node) -> Result<(), Keep
     };
     let done = update_node(keeper.tx, at, &columns);
     drop(columns);
+    match done {
+        Ok(count) if count == 1 => {}
+        _ => return Err(failed(&mut keeper.failures)),
+    }
+    count_one(&mut keeper.writes);
+    Ok(())
+}
+
+// Writes what a list of an object that is there inherits. It is one column, which costs less than
+// half of the whole row.
+fn put_inh<S: Alter>(
+    keeper: &mut Keeper<'_, '_, S>,
+    id: u64,
+    which: Which,
+    entries: &[Entry],
+) -> Result<(), KeepFault>
+    ensures same_reference { keeper.new.tx.ghost_name ≡ keeper.old.tx.ghost_name }
+    ensures same_lender { keeper.new.tx.now.conn.ghost_name ≡ keeper.old.tx.now.conn.ghost_name }
+    ensures written { capped keeper.new.writes ≡ writes_after result (capped keeper.old.writes) }
+    ensures puts { Puts (state S.Store keeper.old.tx.now.conn.now)
+        (state S.Store keeper.new.tx.now.conn.now) keeper.old.failures keeper.new.failures
+        result (λ _. Inherits id which entries.now) }
+{
+    let Some(at) = rowid_of(id) else {
+        return Err(failed(&mut keeper.failures));
+    };
+    let text = print_entries(keeper.alloc, entries)?;
+    let done = update_inh(keeper.tx, at, which, text.as_str());
+    drop(text);
     match done {
         Ok(count) if count == 1 => {}
         _ => return Err(failed(&mut keeper.failures)),
@@ -288,12 +318,12 @@ impl<'a, 'conn, S: Alter> Keep for Keeper<'a, 'conn, S> {
     }
 
     fn set_inh(&mut self, id: u64, which: Which, entries: &[Entry]) -> Result<(), KeepFault> {
-        let Some(mut node) = self.node(id)? else {
-            return Err(failed(&mut self.failures));
-        };
-        let held = node.held(which).with_inh(self.alloc, entries)?;
-        node.set_held(which, held);
-        put(self, &node)
+        // a row that can't be read is blamed, as by all calls that change a part
+        match self.node(id)? {
+            Some(node) => drop(node),
+            None => return Err(failed(&mut self.failures)),
+        }
+        put_inh(self, id, which, entries)
     }
 
     fn set_owners(&mut self, id: u64, owners: &Owners) -> Result<(), KeepFault> {

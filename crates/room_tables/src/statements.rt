@@ -2,12 +2,14 @@
 ghost use Rattle.std.specs.Prelude.{◌≡◌};
 ghost use Rattle.sqlite.specs.Held.{state};
 ghost use Rattle.room_tables.specs.Columns.{IsParent, record_values, values_of};
-ghost use Rattle.room_tables.specs.Shown.{Bodies, Fills, Notes, Removes, Replaces};
+ghost use Rattle.room_tables.specs.Shown.{Bodies, Fills, Notes, Recasts, Removes, Replaces};
+ghost use Rattle.room_tables.specs.Shown.{inheriting};
 ghost use Rattle.room_tables.specs.Statements.{Asks, HasBytes, HasChild, HasGroups, HasNames};
 ghost use Rattle.room_tables.specs.Statements.{HasNode, HasNumbers, HasSome, HasTop, HasUnder};
 ghost use Rattle.room_tables.specs.Statements.{OfAny, OfNode, OfOne, Writes};
 
 use crate::columns::{Columns, Record};
+use room_ace::Which;
 use sqlite::{Alter, Error, Row, Transaction, params};
 
 /// The row of this number.
@@ -175,6 +177,55 @@ pub(crate) fn update_node<S: Alter>(
             &columns.sacl_inh,
         ],
     )
+}
+
+// Writes what the dacl inherits in the row of this number.
+fn update_dacl_inh<S: Alter>(
+    tx: &mut Transaction<'_, S>,
+    id: i64,
+    text: &str,
+) -> Result<usize, Error>
+    ensures same_reference { tx.new.conn.ghost_name ≡ tx.old.conn.ghost_name }
+    ensures writes { Writes (OfOne (Recasts (inheriting Which.Dacl text.now) id))
+        (state S.Store tx.old.conn.now) (state S.Store tx.new.conn.now) result }
+{
+    tx.execute(
+        "UPDATE nodes SET dacl_inh = ?2 WHERE id = ?1",
+        params![id, text],
+    )
+}
+
+// The same of the sacl.
+fn update_sacl_inh<S: Alter>(
+    tx: &mut Transaction<'_, S>,
+    id: i64,
+    text: &str,
+) -> Result<usize, Error>
+    ensures same_reference { tx.new.conn.ghost_name ≡ tx.old.conn.ghost_name }
+    ensures writes { Writes (OfOne (Recasts (inheriting Which.Sacl text.now) id))
+        (state S.Store tx.old.conn.now) (state S.Store tx.new.conn.now) result }
+{
+    tx.execute(
+        "UPDATE nodes SET sacl_inh = ?2 WHERE id = ?1",
+        params![id, text],
+    )
+}
+
+/// Writes what a list inherits in the row of this number, and none of its other columns.
+pub(crate) fn update_inh<S: Alter>(
+    tx: &mut Transaction<'_, S>,
+    id: i64,
+    which: Which,
+    text: &str,
+) -> Result<usize, Error>
+    ensures same_reference { tx.new.conn.ghost_name ≡ tx.old.conn.ghost_name }
+    ensures writes { Writes (OfOne (Recasts (inheriting which text.now) id))
+        (state S.Store tx.old.conn.now) (state S.Store tx.new.conn.now) result }
+{
+    match which {
+        Which::Dacl => update_dacl_inh(tx, id, text),
+        Which::Sacl => update_sacl_inh(tx, id, text),
+    }
 }
 
 /// Writes the bytes of this number, which has some.

@@ -1,12 +1,11 @@
-use Rattle.std.proofs.Common.{◌≡◌, ap, sym, ◌∙◌, arith}
+use Rattle.std.proofs.Common.{◌≡◌, ap, subst, ◌∙◌, arith}
 use Rattle.sqlite.specs.Held.{state}
-use Rattle.room_rows.specs.HeldList.{Held}
-use Rattle.room_rows.specs.Held.{with_held}
 use Rattle.room_rows.specs.Counts.{capped_rises}
-use Rattle.room_rows.specs.Keep.{capped, with_inh, writes_after}
+use Rattle.room_rows.specs.Rows.{Rows}
+use Rattle.room_rows.specs.Keep.{Changes, capped, with_inh, writes_after}
 use Rattle.room_tables.specs.Meaning.{rows_of}
 use Rattle.room_tables.specs.Trust.{stays_on, trusted_first, trusted_last}
-use Rattle.room_tables.proofs.Changing.{cause_later, inh_changed}
+use Rattle.room_tables.proofs.Changing.{cause_later}
 use Rattle.room_tables.proofs.Tests.{if_ok}
 use Rattle.room_tables.proofs.keeper.KeeperKeep.set_inh.Goals as goal
 
@@ -14,22 +13,21 @@ pub returns : goal.returns
 returns g c =
     let old = state g.S.Store c.args.self.now.tx.now.conn.now in
     let mid = state g.S.Store c.node.new.self.tx.now.conn.now in
-    let last = state g.S.Store c.put.new.keeper.tx.now.conn.now in
+    let last = state g.S.Store c.put_inh.new.keeper.tx.now.conn.now in
     let read = c.in_ok-node.ensures.read in
-    let put = c.put.ensures in
-    let changed : c.set_held.new.self ≡ with_inh c.args.which c.args.entries.now c.in-Some.node =
-    c.set_held.ensures ∙ ap (λ h. with_held c.args.which h c.in-Some.node) (c.in_ok-held.ensures ∙ ap (λ (h : Held). let k : Held = record h { inh = c.args.entries.now } in k) c.held.ensures) in
+    let put = c.put_inh.ensures in
     record {
       written = record {
         follows = (put.same_reference ∙ read.follows.0, put.same_lender ∙ read.follows.1, stays_on old mid last read.follows.2 put.puts.stays, omega (arith, read.follows.3, put.puts.no_less));
-        written = put.written ∙ ap (writes_after c.put.result) read.unwritten;
+        written = put.written ∙ ap (writes_after c.put_inh.result) read.unwritten;
         becomes = λ trust.
             let first = trusted_first old mid last read.follows.2 put.puts.stays trust in
             let second = trusted_last old mid last read.follows.2 put.puts.stays trust in
-            if_ok c.put.result _ _ (λ done wrote before there.
-            inh_changed (rows_of old.now) (rows_of mid.now) (rows_of last.now) c.args.id c.args.which c.args.entries.now c.in-Some.node before c.set_held.new.self (read.same first) (sym c.in-Some.is ∙ (read.answers first).0) there changed wrote)
+            let same : rows_of mid.now ≡ rows_of old.now = read.same first in
+            let changes : Rows → Type 0 = λ rows. Changes c.args.id (with_inh c.args.which c.args.entries.now) rows (rows_of last.now) in
+            if_ok c.put_inh.result _ _ (λ done wrote. subst changes same wrote)
             (put.puts.becomes second);
-        unfailed = if_ok c.put.result _ _ (λ done same. ap capped same ∙ read.unfailed) put.puts.unfailed;
-        fault = cause_later c.put.result _ _ _ _ (capped_rises _ _ read.follows.3) (capped_rises _ _ put.puts.no_less) put.puts.fault;
+        unfailed = if_ok c.put_inh.result _ _ (λ done same. ap capped same ∙ read.unfailed) put.puts.unfailed;
+        fault = cause_later c.put_inh.result _ _ _ _ (capped_rises _ _ read.follows.3) (capped_rises _ _ put.puts.no_less) put.puts.fault;
       };
     }
