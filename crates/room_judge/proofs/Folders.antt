@@ -25,8 +25,9 @@ use Rattle.room_machine.specs.Plan.{Item, Refusal, way, where_found}
 use Rattle.room_machine.specs.Judge.{first_failure, or_else, records_of_plan}
 use Rattle.room_judge.specs.Stored.{stored_site, stored_along, found_site, to_stored}
 use Rattle.room_judge.specs.Judged.{IsJudged, IsReached, name_after, noted, through}
-use Rattle.room_judge.specs.Spot.{IsSpotIn, IsSpotted, IsPaired, SpotsUnder, pair_of}
+use Rattle.room_judge.specs.Spot.{IsSpotIn, IsSpotted, IsPaired, SpotsAfter, SpotsUnder, pair_in, pair_of}
 use Rattle.room_judge.proofs.Judging.{failure_of_parts, records_of_parts, fails_first, passes_first, refuses, passes_on, judged_none}
+use Rattle.room_judge.proofs.Ways.{plain_way}
 use Rattle.room_judge.proofs.Spots.{below_of, missing, last_look, stem, way_along, folder_along, folder_found, target_found, folder_path, path_parts, take_front, name_is_last}
 
 -- ---- the folder of the last name
@@ -225,3 +226,27 @@ spotted_as asker path spot other old new same spotted = subst (λ (s : Spot). Is
 
 pub spotted_child : (asker : Asker) (path : List (List ℕ)) (folder : Found) (child other : Option Node) (old new : Rows) → child ≡ other → IsSpotted asker path old (Under folder child) new → IsSpotted asker path old (Under folder other) new
 spotted_child asker path folder child other old new same spotted = subst (λ (o : Option Node). IsSpotted asker path old (Under folder o) new) same spotted
+
+-- where a walk to the folder came to
+pub spot_follows : (asker : Asker) (path : List (List ℕ)) (depth : ℕ) → length path ≡ depth + 1 → (arrival : Arrival) (old mid new : Rows) (spot : Spot) → IsReached asker (take depth path) (λ _. []) old arrival mid → SpotsAfter asker path depth arrival mid spot new → IsSpotted asker path old spot new
+spot_follows asker path depth deep (At node) old mid new spot reached spots =
+    let some : 0 < length path = omega arith in
+    spot_on asker path some node depth deep old mid (walked_front asker path depth (At node) old mid deep reached) new spot spots
+spot_follows asker path depth deep (Ended reply) old mid new spot reached spots =
+    let some : 0 < length path = omega arith in
+    subst (λ (s : Spot). IsSpotted asker path old s new) (sym spots.0)
+    (spot_ends asker path some old new reply (subst (λ (r : Rows). IsReached asker (front path) (λ _. []) old (Ended reply) r) (sym spots.1) (walked_front asker path depth (Ended reply) old mid deep reached)))
+
+-- what was found is to be there
+pub paired_in : (asker : Asker) (path : List (List ℕ)) (some : 0 < length path) (old new : Rows) (spot : Spot) (pair : Pair) → pair ≡ pair_in path spot → IsSpotted asker path old spot new → IsPaired asker path old pair new
+paired_in asker path some old new (Under folder child) pair is spotted = paired_as asker path some old new folder child pair is spotted
+paired_in asker path some old new (Barred reply) pair is spotted = subst (λ (p : Pair). IsPaired asker path old p new) (sym is) (pair_barred asker path some old new reply spotted)
+
+-- the walk to the object alone
+abbrev pub target_in : Pair → Arrival
+target_in (Both folder target) = At target.node
+target_in (Halted reply) = Ended reply
+
+pub pair_reached : (asker : Asker) (path : List (List ℕ)) (pair : Pair) (old new : Rows) → IsPaired asker path old pair new → IsReached asker path (λ _. []) old (target_in pair) new
+pair_reached asker path (Both folder target) old new paired = record { judged = subst (λ items. IsJudged asker items old None new) (sym (plain_way asker path old)) paired.judged; found = paired.target }
+pair_reached asker path (Halted reply) old new paired = record { judged = subst (λ items. IsJudged asker items old (Some reply) new) (sym (plain_way asker path old)) paired.judged; found = tt }

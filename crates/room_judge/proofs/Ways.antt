@@ -18,7 +18,7 @@ use Rattle.room_machine.specs.declared.reply.Reason.TheVariants.{NoSuch}
 use Rattle.room_machine.specs.Site.{Site, site_at}
 use Rattle.room_machine.specs.Plan.{Item, Refusal, way, where_found}
 use Rattle.room_judge.specs.Stored.{stored_site, stored_from, stored_along, found_site, to_stored}
-use Rattle.room_judge.specs.Judged.{IsJudged, IsStepDown, IsReached, FindsNext, GoesOn, IfAt, StepsOn, ended, name_after, through, arrival_of}
+use Rattle.room_judge.specs.Judged.{FromRoot, IsJudged, IsStepDown, IsReached, FindsNext, GoesOn, IfAt, StepsOn, ended, name_after, through, arrival_of}
 use Rattle.room_judge.proofs.Judging.{SoFar, fails_first, passes_first, judged_none, refuses, passes_on, so_far_none, so_far_as, so_far_on, so_far_fails, so_far_last}
 
 -- ---- one step
@@ -115,7 +115,7 @@ module _ (asker : Asker) (path : List (List ℕ)) where
   abbrev all_of : Rows → List Item
   all_of old = way false (stored_along old.read path) path
 
-  plain_way : (old : Rows) → to_stored old.read path (λ _. []) ≡ all_of old
+  pub plain_way : (old : Rows) → to_stored old.read path (λ _. []) ≡ all_of old
   plain_way old = ap (λ items. all_of old ++ items) (nothing_there (site_at (stored_along old.read path) path)) ∙ append-nil (all_of old)
 
   pub way_begins : (node : Node) (old now : Rows) → root_of old.read ≡ Some node → now ≡ old → IsOnWay asker path (record { node = node; depth = 0 }) old now
@@ -268,3 +268,22 @@ module _ (asker : Asker) (path : List (List ℕ)) (n : ℕ) (within : n ≤ leng
 -- all names of the path
 pub walked_whole : (asker : Asker) (path : List (List ℕ)) (n : ℕ) (arrival : Arrival) (old new : Rows) → n ≡ length path → IsReached asker (take n path) (λ _. []) old arrival new → IsReached asker path (λ _. []) old arrival new
 walked_whole asker path n arrival old new all reached = subst (λ p. IsReached asker p (λ _. []) old arrival new) (ap (λ (k : ℕ). take k path) all ∙ take-length path) reached
+
+-- ---- from the root
+
+-- no step is done at the root
+pub root_reached : (asker : Asker) (path : List (List ℕ)) (n : ℕ) (node : Node) (old new : Rows) → n ≡ 0 → root_of old.read ≡ Some node → new ≡ old → IsReached asker (take n path) (λ _. []) old (At node) new
+root_reached asker path n node old new none is same =
+    subst (λ (k : ℕ). IsReached asker (take k path) (λ _. []) old (At node) new) (sym none)
+    (way_done asker [] (record { node = node; depth = 0 }) old new refl (way_begins asker [] node old new is same))
+
+-- the first step
+pub first_step : (asker : Asker) (path : List (List ℕ)) (n : ℕ) → n ≤ length path → (root : Found) (next : Arrival) (old new : Rows) → root.depth ≡ 0 → 0 < n → root_of old.read ≡ Some root.node → IsStepDown asker path root old next new → IsWalking asker (take n path) 1 next old new
+first_step asker path n within root next old new top some is step =
+    walks_on asker path n within 0 (At root.node) next old old new some (way_begins asker (take n path) root.node old old is refl)
+    (subst (λ (d : ℕ). IsStepDown asker path (record { node = root.node; depth = d }) old next new) top step)
+
+-- the root that was read is that of the rows
+pub reached_from : (asker : Asker) (path : List (List ℕ)) (root : Node) (arrival : Arrival) (old mid new : Rows) → root_of old.read ≡ Some root → mid ≡ old → FromRoot root (IsReached asker path (λ _. [])) mid arrival new → IsReached asker path (λ _. []) old arrival new
+reached_from asker path root arrival old mid new is same reached =
+    subst (λ (r : Rows). IsReached asker path (λ _. []) r arrival new) same (reached (ap (λ (r : Rows). root_of r.read) same ∙ is))

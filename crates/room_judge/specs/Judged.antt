@@ -17,8 +17,8 @@ use Rattle.room_rows.specs.declared.keep.Keep.{Ghosts}
 use Rattle.room_rows.specs.declared.keep.KeepFault.{KeepFault}
 use Rattle.room_rows.specs.declared.node.AuditRow.{AuditRow}
 use Rattle.room_rows.specs.declared.node.Node.{Node}
-use Rattle.room_rows.specs.Content.{child_of, is_folder, with_records}
-use Rattle.room_rows.specs.Keep.{HasCause, reading}
+use Rattle.room_rows.specs.Content.{child_of, is_folder, root_of, with_records}
+use Rattle.room_rows.specs.Keep.{HasCause, IsUnreadable, reading}
 use Rattle.room_rows.specs.Meaning.{meaning}
 use Rattle.room_rows.specs.Rows.{Rows}
 use Rattle.room_inherit.specs.Sound.{AreSound}
@@ -154,6 +154,13 @@ pub record IsReached (asker : Asker) (path : List (List ℕ)) (items : Site → 
   pub judged : IsJudged asker (to_stored old.read path items) old (ended arrival) new
   pub found : IfAt arrival
       (λ target. site_at (stored_along old.read path) path ≡ Some (stored_site path target))
+
+-- what becomes and what can't be read, where the node that was read before is the root
+abbrev pub FromRoot : {X : Type 0} → Node → (Rows → X → Rows → Type 0) → Rows → X → Rows → Type 0
+FromRoot root Becomes old x new = root_of old.read ≡ Some root → Becomes old x new
+
+abbrev pub IsUnreadableFrom : Node → Rows → ℕ → Type 0
+IsUnreadableFrom root rows at = root_of rows.read ≡ Some root → IsUnreadable rows at
 
 -- the object, or the reply that ends the walk there
 abbrev pub arrival_of : Node → Option Reply → Arrival

@@ -3,6 +3,8 @@ use Rattle.std.specs.Prelude.{◌≡◌, ℕ, List, Option, Some, None, length, 
 use Rattle.std.specs.Option.{option_map}
 use Rattle.room_rows.specs.declared.node.Node.{Node}
 use Rattle.room_rows.specs.Rows.{Rows}
+use Rattle.room_judge.specs.declared.arrival.Arrival.{Arrival}
+use Rattle.room_judge.specs.declared.arrival.Arrival.TheVariants.{At, Ended}
 use Rattle.room_judge.specs.declared.arrival.Found.{Found}
 use Rattle.room_judge.specs.declared.arrival.Pair.{Pair}
 use Rattle.room_judge.specs.declared.arrival.Pair.TheVariants.{Both, Halted}
@@ -59,6 +61,12 @@ pub record SpotsUnder (asker : Asker) (path : List (List ℕ)) (from : Found) (o
   pub folder : IfUnder spot (λ folder child. folder ≡ from)
   pub child : IfUnder spot (λ folder child. child ≡ child_below path from old)
 
+-- The same where a walk came to the folder; one that has ended stays so.
+abbrev pub SpotsAfter : Asker → List (List ℕ) → ℕ → Arrival → Rows → Spot → Rows → Type 0
+SpotsAfter asker path depth (At node) old spot new =
+    SpotsUnder asker path (record { node = node; depth = depth }) old spot new
+SpotsAfter asker path depth (Ended reply) old spot new = (spot ≡ Barred reply) × (new ≡ old)
+
 -- the folder, with what has the next name in it
 abbrev pub IsSpotIn : List (List ℕ) → Found → Rows → Spot → Type 0
 IsSpotIn path from rows spot = spot ≡ Under from (child_below path from rows)
@@ -67,3 +75,8 @@ IsSpotIn path from rows spot = spot ≡ Under from (child_below path from rows)
 abbrev pub pair_of : List (List ℕ) → Found → Option Node → Pair
 pair_of path folder (Some node) = Both folder (record { node = node; depth = length path })
 pair_of path folder None = Halted (Refused path NoSuch)
+
+-- the same of what was found at the spot
+abbrev pub pair_in : List (List ℕ) → Spot → Pair
+pair_in path (Under folder child) = pair_of path folder child
+pair_in path (Barred reply) = Halted reply

@@ -2,13 +2,21 @@
 ghost use Rattle.std.specs.Prelude.{◌≡◌, ◌<◌, ◌+◌, IfOk, length};
 ghost use Rattle.room_rows.specs.Calls.{Reads};
 ghost use Rattle.room_rows.specs.Keep.{HasNoRoot, IsUnreadable};
-ghost use Rattle.room_judge.specs.Judged.{Does};
-ghost use Rattle.room_judge.specs.Spot.{IsPaired, IsSpotIn, IsSpotted, SpotsUnder, pair_of};
+ghost use Rattle.room_judge.specs.Judged.{Does, FromRoot, IsUnreadableFrom};
+ghost use Rattle.room_judge.specs.Spot.{
+  IsPaired,
+  IsSpotIn,
+  IsSpotted,
+  SpotsAfter,
+  SpotsUnder,
+  pair_in,
+  pair_of,
+};
 
 use crate::arrival::{Arrival, Found, Pair, Spot};
 use crate::asker::Asker;
 use crate::checking::refused;
-use crate::walking::{pass_through, walk_along};
+use crate::walking::{pass_through, walk_along, walk_from};
 use room_machine::Reason;
 use room_rows::{Keep, KeepFault, Node, Path};
 use std::alloc::{AllocError, Global};
@@ -27,10 +35,7 @@ pub fn walk_to_spot<K: Keep>(
 {
     let depth = path.names().len() - 1;
     let arrival = walk_along(alloc, keep, asker, path, depth)?;
-    match arrival {
-        Arrival::Ended(reply) => Ok(Spot::Barred(reply)),
-        Arrival::At(node) => spot_under(alloc, keep, asker, path, Found { node, depth }),
-    }
+    spot_after(alloc, keep, asker, path, depth, arrival)
 }
 
 /// The walk to an object that has to be there, and to its folder. The path isn't the root's. Faults
@@ -45,9 +50,36 @@ pub fn walk_to_pair<K: Keep>(
     ensures done { Does K.Keep keep.old keep.new result HasNoRoot (IsPaired asker.now path.now) }
 {
     let spot = walk_to_spot(alloc, keep, asker, path)?;
+    Ok(pair_in(alloc, path, spot)?)
+}
+
+/// The same walk from a root that was read already. A fault is the keeper's, or want of memory.
+pub fn walk_to_pair_from<K: Keep>(
+    alloc: Global,
+    keep: &mut K,
+    asker: &Asker,
+    path: &Path,
+    root: &Found,
+) -> Result<Pair, KeepFault>
+    requires some { 0 < length path.now }
+    requires top { root.now.depth ≡ 0 }
+    ensures done { Does K.Keep keep.old keep.new result
+        (IsUnreadableFrom root.now.node)
+        (FromRoot root.now.node (IsPaired asker.now path.now)) }
+{
+    let depth = path.names().len() - 1;
+    let arrival = walk_from(alloc, keep, asker, path, depth, root)?;
+    let spot = spot_after(alloc, keep, asker, path, depth, arrival)?;
+    Ok(pair_in(alloc, path, spot)?)
+}
+
+// What is at the spot has to be there.
+fn pair_in(alloc: Global, path: &Path, spot: Spot) -> Result<Pair, AllocError>
+    ensures { IfOk result (λ pair. pair ≡ pair_in path.now spot) }
+{
     match spot {
         Spot::Barred(reply) => Ok(Pair::Halted(reply)),
-        Spot::Under { folder, child } => Ok(pair_under(alloc, path, folder, child)?),
+        Spot::Under { folder, child } => pair_under(alloc, path, folder, child),
     }
 }
 
@@ -70,6 +102,25 @@ fn pair_under(
             drop(folder);
             Ok(Pair::Halted(refused(alloc, path, depth, Reason::NoSuch)?))
         }
+    }
+}
+
+// What has the last name of the path where the walk came to. One that has ended stays so.
+fn spot_after<K: Keep>(
+    alloc: Global,
+    keep: &mut K,
+    asker: &Asker,
+    path: &Path,
+    depth: usize,
+    arrival: Arrival,
+) -> Result<Spot, KeepFault>
+    requires { length path.now ≡ depth + 1 }
+    ensures done { Does K.Keep keep.old keep.new result IsUnreadable
+        (SpotsAfter asker.now path.now depth arrival) }
+{
+    match arrival {
+        Arrival::Ended(reply) => Ok(Spot::Barred(reply)),
+        Arrival::At(node) => spot_under(alloc, keep, asker, path, Found { node, depth }),
     }
 }
 

@@ -4,10 +4,12 @@ ghost use Rattle.room_rows.specs.Keep.{HasNoRoot, IsNever, IsUnreadable};
 ghost use Rattle.room_judge.specs.Judged.{
   Does,
   FindsNext,
+  FromRoot,
   GoesOn,
   IsJudged,
   IsReached,
   IsStepDown,
+  IsUnreadableFrom,
   StepsOn,
   arrival_of,
   is_other,
@@ -115,6 +117,29 @@ fn step_on<K: Keep>(
     }
 }
 
+// The walk from the root to the object after so many names, one at least.
+fn walk_down<K: Keep>(
+    alloc: Global,
+    keep: &mut K,
+    asker: &Asker,
+    path: &Path,
+    depth: usize,
+    root: &Found,
+) -> Result<Arrival, KeepFault>
+    requires some { 0 < depth }
+    requires within { depth ≤ length path.now }
+    requires top { root.now.depth ≡ 0 }
+    ensures done { Does K.Keep keep.old keep.new result
+        (IsUnreadableFrom root.now.node)
+        (FromRoot root.now.node (IsReached asker.now (take depth path.now) (λ _. []))) }
+{
+    let mut arrival = step_down(alloc, keep, asker, path, root)?;
+    'names: for index in 1..depth {
+        arrival = step_on(alloc, keep, asker, path, index, arrival)?;
+    }
+    Ok(arrival)
+}
+
 /// The walk to the object after so many names of the path, as far as it is let through. There are
 /// as many names. A fault is the keeper's, or want of memory; where there is no root it is `Damaged
 /// { id: 0 }`.
@@ -129,11 +154,34 @@ pub fn walk_along<K: Keep>(
     ensures done { Does K.Keep keep.old keep.new result HasNoRoot
         (IsReached asker.now (take depth path.now) (λ _. [])) }
 {
-    let mut arrival = Arrival::At(keep.root()?);
-    'names: for index in 0..depth {
-        arrival = step_on(alloc, keep, asker, path, index, arrival)?;
+    let node = keep.root()?;
+    let is_there = depth == 0;
+    if is_there {
+        return Ok(Arrival::At(node));
     }
-    Ok(arrival)
+    walk_down(alloc, keep, asker, path, depth, &Found { node, depth: 0 })
+}
+
+/// The same walk from a root that was read already. A fault is the keeper's, or want of memory.
+pub fn walk_from<K: Keep>(
+    alloc: Global,
+    keep: &mut K,
+    asker: &Asker,
+    path: &Path,
+    depth: usize,
+    root: &Found,
+) -> Result<Arrival, KeepFault>
+    requires within { depth ≤ length path.now }
+    requires top { root.now.depth ≡ 0 }
+    ensures done { Does K.Keep keep.old keep.new result
+        (IsUnreadableFrom root.now.node)
+        (FromRoot root.now.node (IsReached asker.now (take depth path.now) (λ _. []))) }
+{
+    let is_there = depth == 0;
+    if is_there {
+        return Ok(Arrival::At(root.node.copy()?));
+    }
+    walk_down(alloc, keep, asker, path, depth, root)
 }
 
 /// The walk to the object at the path, as far as it is let through. Faults are those of

@@ -1,19 +1,24 @@
-use Rattle.std.proofs.Common.{inl, take}
-use Rattle.room_judge.proofs.Calls.{then, fails, done}
-use Rattle.room_judge.proofs.Ways.{walking_blames, walks_on}
+use Rattle.std.proofs.Common.{take, inl, ap, subst, ◌∙◌}
+use Rattle.room_rows.specs.Content.{root_of}
+use Rattle.room_rows.specs.Keep.{IsUnreadable}
+use Rattle.room_rows.specs.Rows.{Rows}
+use Rattle.room_judge.proofs.Calls.{finish, tail, done, of_read}
+use Rattle.room_judge.proofs.Ways.{reached_from, root_reached}
 use Rattle.room_judge.proofs.walking.walk_along.Goals as goal
 
-pub returns-in_err-arrival : goal.returns-in_err-arrival
-returns-in_err-arrival g c =
+pub returns-then-is_there : goal.returns-then-is_there
+returns-then-is_there g c =
     let m = g.met.K.Keep in
     record {
-      done = fails m.laws c.names.invariant c.in_err-arrival.ensures.done
-          (λ old mid at walking h. inl (walking_blames c.args.asker.now (take c.args.depth c.args.path.now) c.names.index c.names.arrival old mid at walking h))
-          c.from_residual-in_err-arrival.result c.from_residual-in_err-arrival.ensures.1;
+      done = finish m.laws _ (done (of_read c.in_ok-node.ensures.read)) (λ old new are both.
+          root_reached c.args.asker.now c.args.path.now c.args.depth c.in_ok-node.node old new c.if-is_there.true both.0 both.1);
     }
 
-pub names-preserved : goal.names-preserved
-names-preserved g c =
+pub returns : goal.returns
+returns g c =
     let m = g.met.K.Keep in
-    then m.laws c.names.invariant (done c.in_ok-arrival.ensures.done) (λ old now new walking step.
-    walks_on c.args.asker.now c.args.path.now c.args.depth c.requires c.names.index c.names.arrival c.in_ok-arrival.arrival old now new c.names-test.true walking step)
+    record {
+      done = tail m.laws (done (of_read c.in_ok-node.ensures.read)) c.walk_down.ensures.done
+          (λ old mid at both h. inl (subst (λ (r : Rows). IsUnreadable r at) both.1 (h (ap (λ (r : Rows). root_of r.read) both.1 ∙ both.0))))
+          (λ old mid arrival new both reached. reached_from c.args.asker.now (take c.args.depth c.args.path.now) c.in_ok-node.node arrival old mid new both.0 both.1 reached);
+    }
