@@ -130,3 +130,17 @@ root Remove /q/b/c => done # writes 1, records 0
 fn served_requests_write(rt: HostRuntime) -> Result<(), Fail> {
     play_counted(rt.alloc(), &[DEEP], SERVED)
 }
+
+// A move walks twice, and asks for the root once. What is asked by name: the objects on both ways,
+// and whether the new name is free. One refused for its path alone asks for nothing but groups.
+const MOVES: &str = "\
+root Move /a/b/c /a/c => done # root 1, child 5, groups 1
+root Move /a/c /c => done # root 1, child 3, groups 1
+root Move /q/r /z => refused at /q N1 # root 1, child 1, groups 1
+root Move / /z => refused at / N6 # root 0, child 0, groups 1
+";
+
+#[test]
+fn move_asks_for_the_root_once(rt: HostRuntime) -> Result<(), Fail> {
+    play_counted(rt.alloc(), &[DEEP], MOVES)
+}

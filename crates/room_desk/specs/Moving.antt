@@ -35,6 +35,7 @@ use Rattle.room_rows.specs.Content.{
   is_linked_in,
   is_rising,
   reaches_root,
+  root_of,
   with_node,
 }
 use Rattle.room_rows.specs.Held.{held_of}
@@ -91,17 +92,18 @@ IsTaken folder name rows answer = answer ≡ is_some (child_of rows.read folder 
 abbrev pub JudgesAll : (Rows → List Item) → Rows → Option Reply → Rows → Type 0
 JudgesAll items old answer new = (asker : Asker) → IsJudged asker (items old) old answer new
 
--- ---- the whole request, once the way to the object has been walked
+-- ---- the whole request, once the way to the object has been walked from this root
 
-abbrev pub MovesOn : Asker → List (List ℕ) → List (List ℕ) → Found → Found → Rows → Reply → Rows
-    → Type 0
-MovesOn asker path to from target mid reply new =
-    (old : Rows) → AreRows old → IsPaired asker path old (Both from target) mid → CarriesOut asker
-    (Move path to) old reply new
+abbrev pub MovesOn : Asker → List (List ℕ) → List (List ℕ) → Node → Found → Found → Rows → Reply
+    → Rows → Type 0
+MovesOn asker path to root from target mid reply new =
+    root_of mid.read ≡ Some root → (old : Rows) → AreRows old → IsPaired asker path old
+    (Both from target) mid → CarriesOut asker (Move path to) old reply new
 
-abbrev pub FailsToMove : Asker → List (List ℕ) → Found → Found → Rows → ℕ → Type 0
-FailsToMove asker path from target mid at =
-    (old : Rows) → AreRows old → IsPaired asker path old (Both from target) mid → IsDamaged old at
+abbrev pub FailsToMove : Asker → List (List ℕ) → Node → Found → Found → Rows → ℕ → Type 0
+FailsToMove asker path root from target mid at =
+    root_of mid.read ≡ Some root → (old : Rows) → AreRows old → IsPaired asker path old
+    (Both from target) mid → IsDamaged old at
 
 -- ---- the change
 

@@ -1,11 +1,13 @@
 //! The request that moves an object.
 ghost use Rattle.std.specs.Prelude.{◌≡◌, ◌+◌, ◌<◌, true, [], ◌∷◌, ◌++◌, length, take};
-ghost use Rattle.room_rows.specs.Keep.{HasNoRoot, IsDamaged, IsNever, IsUnreadable};
+ghost use Rattle.room_rows.specs.Keep.{IsDamaged, IsNever, IsUnreadable};
 ghost use Rattle.room_judge.specs.Judged.{
   CarriesOut,
   Does,
+  FromRoot,
   IsJudged,
   IsReached,
+  IsUnreadableFrom,
   arrival_of,
   through,
 };
@@ -19,8 +21,8 @@ ghost use Rattle.room_machine.specs.declared.request.Request.TheVariants.{Move};
 use crate::placing::{check_free, place_at};
 use room_ace::Mask;
 use room_judge::{
-    Arrival, Asker, Found, Pair, check, check_deletion, pass_through, refused, walk_along,
-    walk_to_pair,
+    Arrival, Asker, Found, Pair, check, check_deletion, pass_through, refused, walk_from,
+    walk_to_pair_from,
 };
 use room_machine::{Reason, Reply};
 use room_rows::{Keep, KeepFault, Node, Path};
@@ -40,31 +42,37 @@ pub(crate) fn move_object<K: Keep>(
     if path.is_root() {
         return Ok(refused(alloc, path, 0, Reason::Root)?);
     }
-    let pair = walk_to_pair(alloc, keep, asker, path)?;
+    let node = keep.root()?;
+    let root = Found { node, depth: 0 };
+    let pair = walk_to_pair_from(alloc, keep, asker, path, &root)?;
     match pair {
         Pair::Halted(reply) => Ok(reply),
-        Pair::Both { folder, target } => move_found(alloc, keep, asker, path, to, &folder, &target),
+        Pair::Both { folder, target } => {
+            move_found(alloc, keep, asker, path, to, &root, &folder, &target)
+        }
     }
 }
 
-// Moves the object that was found in this folder.
+// Moves the object that was found in this folder. Both walks begin at the root that was read once.
 fn move_found<K: Keep>(
     alloc: Global,
     keep: &mut K,
     asker: &Asker,
     path: &Path,
     to: &Path,
+    root: &Found,
     from: &Found,
     target: &Found,
 ) -> Result<Reply, KeepFault>
+    requires { root.now.depth ≡ 0 }
     ensures done { Does K.Keep keep.old keep.new result
-        (FailsToMove asker.now path.now from.now target.now)
-        (MovesOn asker.now path.now to.now from.now target.now) }
+        (FailsToMove asker.now path.now root.now.node from.now target.now)
+        (MovesOn asker.now path.now to.now root.now.node from.now target.now) }
 {
     match to.split_last() {
         None => refuse_root(alloc, keep, asker, path, to, from, target),
         Some((name, _)) => {
-            let arrival = reach_place(alloc, keep, asker, path, to, from, target)?;
+            let arrival = reach_place(alloc, keep, asker, path, to, root, from, target)?;
             match arrival {
                 Arrival::Ended(reply) => Ok(reply),
                 Arrival::At(folder) => {
@@ -104,17 +112,20 @@ fn reach_place<K: Keep>(
     asker: &Asker,
     path: &Path,
     to: &Path,
+    root: &Found,
     from: &Found,
     target: &Found,
 ) -> Result<Arrival, KeepFault>
-    requires { 0 < length to.now }
-    ensures done { Does K.Keep keep.old keep.new result HasNoRoot
-        (λ old arrival new. IsReached asker.now (front to.now)
+    requires some { 0 < length to.now }
+    requires top { root.now.depth ≡ 0 }
+    ensures done { Does K.Keep keep.old keep.new result
+        (IsUnreadableFrom root.now.node)
+        (FromRoot root.now.node (λ old arrival new. IsReached asker.now (front to.now)
         (at_place old.read to.now (begins path.now (front to.now)) (found_site path.now target.now)
-        (found_site path.now from.now)) old arrival new) }
+        (found_site path.now from.now)) old arrival new)) }
 {
     let depth = to.names().len() - 1;
-    let arrival = walk_along(alloc, keep, asker, to, depth)?;
+    let arrival = walk_from(alloc, keep, asker, to, depth, root)?;
     match arrival {
         Arrival::Ended(reply) => Ok(Arrival::Ended(reply)),
         Arrival::At(node) => {

@@ -1,18 +1,19 @@
 -- A move is a step.
-use Rattle.std.proofs.Common.{◌≡◌, ℕ, ◌<◌, ◌==◌, Bool, true, false, List, [], ◌∷◌, ◌++◌, length, take, Option, Some, None, refl, sym, ap, subst, ◌∙◌, inl, arith}
+use Rattle.std.proofs.Common.{◌≡◌, ℕ, ◌<◌, ◌==◌, Bool, true, false, List, [], ◌∷◌, ◌++◌, length, take, Option, Some, None, refl, sym, ap, subst, ◌∙◌, arith}
 use Rattle.std.specs.Option.{option_map_or}
 use Rattle.std.proofs.lemmas.Bool.{eqb-true}
 use Rattle.std.proofs.Math.Seq.{take-length}
 use Rattle.room_rows.specs.declared.node.Node.{Node}
 use Rattle.room_rows.specs.declared.node.AuditRow.{AuditRow}
 use Rattle.room_rows.specs.Content.{Content, is_empty, root_of, with_node, with_records}
-use Rattle.room_rows.specs.Keep.{HasNoRoot, IsDamaged}
+use Rattle.room_rows.specs.Keep.{IsDamaged, IsUnreadable}
 use Rattle.room_rows.specs.Meaning.{meaning}
 use Rattle.room_rows.specs.Paths.{is_object_name}
 use Rattle.room_rows.specs.Rows.{Rows, AreRows}
 use Rattle.room_inherit.specs.Sound.{AreSound}
 use Rattle.room_judge.specs.declared.arrival.Arrival.TheVariants.{At, Ended}
 use Rattle.room_judge.specs.declared.arrival.Found.{Found}
+use Rattle.room_judge.specs.declared.arrival.Pair.{Pair}
 use Rattle.room_judge.specs.declared.arrival.Pair.TheVariants.{Both, Halted}
 use Rattle.room_judge.specs.declared.asker.Asker.{Asker}
 use Rattle.room_machine.specs.declared.reply.Reply.{Reply}
@@ -25,7 +26,7 @@ use Rattle.room_machine.specs.Judge.{first_failure, records_of_plan}
 use Rattle.room_machine.specs.Effect.{moved_node, with_site}
 use Rattle.room_judge.specs.Stored.{found_site, stored_site, stored_from, stored_along, to_stored}
 use Rattle.room_judge.specs.Spot.{IsPaired}
-use Rattle.room_judge.specs.Judged.{CarriesOut, IsJudged, IsReached, noted}
+use Rattle.room_judge.specs.Judged.{CarriesOut, FromRoot, IsJudged, IsReached, noted}
 use Rattle.room_desk.specs.Moving.{CanGo, CanPlace, FailsToPlace, IsPlaced, at_place, begins}
 use Rattle.room_desk.proofs.Sound.Filled.{IsTarget, target_there}
 use Rattle.room_judge.proofs.Judging.{failure_of_parts, fails_first, passes_first, passes_on, refuses}
@@ -112,8 +113,8 @@ module _ (asker : Asker) (path to : List (List ℕ)) (from target : Found) (old 
   pub root_refused : (new : Rows) (reply : Reply) → to ≡ [] → IsJudged asker (Deletion target_site from_site ∷ Refusal [] Exists true ∷ []) mid (Some reply) new → CarriesOut asker (Move path to) old reply new
   root_refused new reply is judged = ended new reply (subst (λ p. IsJudged asker (stored_items old.read p is_below target_site from_site) mid (Some reply) new) (sym is) judged)
 
-  pub never_rootless : (at : ℕ) → HasNoRoot mid at → IsDamaged old at
-  never_rootless at h = inl (subst (λ (r : Rows). HasNoRoot r at) paired.judged.notes h)
+  pub never_unread : (at : ℕ) → IsUnreadable mid at → IsDamaged old at
+  never_unread at h = noted_unread old mid on_way at paired.judged.notes h
 
   module _ (some_to : 0 < length to) where
     at_first : to_stored mid.read (front to) (at_place mid.read to is_below target_site from_site) ≡ to_stored old.read (front to) (at_place old.read to is_below target_site from_site)
@@ -214,3 +215,12 @@ last_of (first ∷ next ∷ names) name = last_of (next ∷ names) name
 
 pub name_is : (to rest : List (List ℕ)) (name text : List ℕ) → to ≡ rest ++ name ∷ [] → text ≡ name → text ≡ last_name to
 name_is to rest name text is same = same ∙ sym (ap last_name is ∙ last_of rest name)
+
+-- the root that was read, and the walk from it
+pub rooted_pair : (asker : Asker) (path : List (List ℕ)) (root : Node) (pair : Pair) (old mid new : Rows) → root_of old.read ≡ Some root → mid ≡ old → FromRoot root (IsPaired asker path) mid pair new → IsPaired asker path old pair new
+rooted_pair asker path root pair old mid new is same paired =
+    subst (λ (r : Rows). IsPaired asker path r pair new) same (paired (ap (λ (r : Rows). root_of r.read) same ∙ is))
+
+-- records leave the root where it was
+pub root_after : (asker : Asker) (path : List (List ℕ)) (root : Node) (pair : Pair) (old mid : Rows) → root_of old.read ≡ Some root → IsPaired asker path old pair mid → root_of mid.read ≡ Some root
+root_after asker path root pair old mid is paired = ap (λ (r : Rows). root_of r.read) paired.judged.notes ∙ is
