@@ -144,3 +144,18 @@ root Move / /z => refused at / N6 # root 0, child 0, groups 1
 fn move_asks_for_the_root_once(rt: HostRuntime) -> Result<(), Fail> {
     play_counted(rt.alloc(), &[DEEP], MOVES)
 }
+
+// A list that is set looks at the object above as the way to the target found it. By its number one
+// object is read, from which the list is carried down; where it passes nothing on, none is.
+const SET_LISTS: &str = "\
+root SetList /a/b dacl list: / A:fd:alice:r => done # root 1, child 2, node 0, groups 1
+root SetList /a/b dacl list: / A:fd:alice:r => done # root 1, child 2, node 0, groups 1
+root SetList /a/b dacl list:a / A:fd:alice:r => done # root 1, child 2, node 1, groups 1
+root SetList / sacl list:p / U:S:root:C => done # root 1, child 0, node 0, groups 1
+operator Reset /a/b sacl list: / U:S:alice:C => done # root 1, child 2, node 0, groups 0
+";
+
+#[test]
+fn set_list_asks_once_for_each_object(rt: HostRuntime) -> Result<(), Fail> {
+    play_counted(rt.alloc(), &[DEEP], SET_LISTS)
+}

@@ -32,16 +32,21 @@ use Rattle.room_rows.specs.HeldList.{Held}
 use Rattle.room_rows.specs.declared.node.Node.{Node}
 use Rattle.room_rows.specs.Content.{Content, node_at, parent_of}
 use Rattle.room_rows.specs.Held.{held_of, full_of, with_held}
-use Rattle.room_rows.specs.Keep.{Changes}
+use Rattle.room_rows.specs.Keep.{Changes, IsDamaged}
 use Rattle.room_rows.specs.Meaning.{kept_node, meaning}
-use Rattle.room_rows.specs.Rows.{Rows}
+use Rattle.room_rows.specs.Rows.{Rows, AreRows}
 use Rattle.room_inherit.specs.Pass.{pass}
 use Rattle.room_inherit.specs.Sound.{AreSound}
 use Rattle.room_desk.specs.Carrying.{GoesDown}
+use Rattle.room_judge.specs.declared.arrival.Arrival.TheVariants.{At}
+use Rattle.room_judge.specs.declared.arrival.Found.{Found}
+use Rattle.room_judge.specs.declared.asker.Asker.{Asker}
+use Rattle.room_judge.specs.Judged.{CarriesOut, IsReached}
 use Rattle.room_machine.specs.declared.reply.Reason.{Reason}
 use Rattle.room_machine.specs.declared.reply.Reason.TheVariants.{BadList, NoSuch, NotFolder}
 use Rattle.room_machine.specs.declared.reply.Reply.{Reply}
 use Rattle.room_machine.specs.declared.reply.Reply.TheVariants.{Done, Refused}
+use Rattle.room_machine.specs.declared.request.Request.TheVariants.{SetList}
 use Rattle.room_machine.specs.Effect.{set_list}
 use Rattle.room_machine.specs.Site.{Site}
 
@@ -68,17 +73,20 @@ passing which flags None = None
 passing which flags (Some above) = if not flags.protect && (held_of which above).flags.auto
     then Some above else None
 
-abbrev pub IsPassingParent : Which → ListFlags → Node → Rows → Option Node → Type 0
-IsPassingParent which flags node rows found = found ≡ passing which flags (parent_of rows.read node)
-
 abbrev pub stored_inh : Which → Sent → ObjKind → Option Node → List Ace
 stored_inh which sent kind parent = option_map_or
     (λ above. pass kind (full_of (held_of which above))) parent (inherited_of sent.entries)
 
--- what is stored of the parent's list and of the sent entries
-abbrev pub IsNewInh : Which → Sent → Node → Rows → List Ace → Type 0
-IsNewInh which sent node rows entries =
-    entries ≡ stored_inh which sent node.kind (passing which sent.flags (parent_of rows.read node))
+-- what is stored of the list above and of the sent entries
+abbrev pub IsNewInh : Which → Sent → Node → Option Node → List Ace → Type 0
+IsNewInh which sent node above entries =
+    entries ≡ stored_inh which sent node.kind (passing which sent.flags above)
+
+-- the same under an object that has this list
+abbrev pub inh_under : Sent → ObjKind → Held → List Ace
+inh_under sent kind above =
+    if not sent.flags.protect && above.flags.auto then pass kind (full_of above)
+    else inherited_of sent.entries
 
 -- the list of these parts
 abbrev pub list_of : ListFlags → List Ace → List Ace → Held
@@ -136,10 +144,14 @@ IsSet which sent node old new =
     node_at old.read node.id ≡ Some node → fault_in 1 which node.kind sent.entries ≡ None
     → limit_fault sent.entries ≡ None → AreSound old → IsSetWell which sent node old new
 
+-- what becomes, where this is above the object
+abbrev pub Beneath : {X : Type 0} → Option Node → Node → (Rows → X → Rows → Type 0) → Rows → X
+    → Rows → Type 0
+Beneath above node Becomes old x new = parent_of old.read node ≡ above → Becomes old x new
+
 -- the list is stored already as it is to be
-abbrev pub IsStored : Which → Sent → Node → Rows → Type 0
-IsStored which sent node rows = stored_held which sent node.kind (parent_of rows.read node)
-    ≡ held_of which node
+abbrev pub IsStored : Which → Sent → Node → Option Node → Type 0
+IsStored which sent node above = stored_held which sent node.kind above ≡ held_of which node
 
 abbrev pub SetUnless : Option Reason → Which → Sent → Node → Rows → Rows → Type 0
 SetUnless None which sent node old new = IsSet which sent node old new
@@ -153,6 +165,27 @@ pub record IsSetOrRefused (path : List (List ℕ)) (which : Which) (sent : Sent)
       (fault_in 1 which node.kind sent.entries) Done
   pub few : limit_fault sent.entries ≡ None
   pub becomes : SetUnless (fault_in 1 which node.kind sent.entries) which sent node old new
+
+-- ---- the request
+
+-- The walk came to the target, and this is above it.
+pub record IsFoundUnder (asker : Asker) (path : List (List ℕ)) (target : Found)
+    (above : Option Node) (old mid : Rows) : Type 0 where
+  pub are : AreRows old
+  pub reached : IsReached asker path (λ _. []) old (At target.node) mid
+  pub depth : target.depth ≡ length path
+  pub parent : parent_of old.read target.node ≡ above
+
+-- the whole request, once the way to the target has been walked
+abbrev pub SetsOn : Asker → List (List ℕ) → Which → Sent → Found → Option Node → Rows → Reply → Rows
+    → Type 0
+SetsOn asker path which sent target above mid reply new =
+    (old : Rows) → IsFoundUnder asker path target above old mid
+    → CarriesOut asker (SetList path which sent) old reply new
+
+abbrev pub FailsToSet : Asker → List (List ℕ) → Found → Option Node → Rows → ℕ → Type 0
+FailsToSet asker path target above mid at =
+    (old : Rows) → IsFoundUnder asker path target above old mid → IsDamaged old at
 
 -- ---- the operator's reset
 

@@ -1,8 +1,9 @@
 //! The operator's reset of a list.
+ghost use Rattle.std.specs.Option.{option_copied};
 ghost use Rattle.room_rows.specs.Keep.{IsDamaged};
 ghost use Rattle.room_judge.specs.Judged.{Does, Resets};
 ghost use Rattle.room_desk.specs.Carrying.{IsUnreadableIfRooted};
-ghost use Rattle.room_desk.specs.Setting.{IsResetAtEnd};
+ghost use Rattle.room_desk.specs.Setting.{Beneath, IsResetAtEnd};
 
 use crate::setting::set_found;
 use room_ace::{ObjKind, SentList, Which};
@@ -28,25 +29,31 @@ pub fn reset<K: Keep>(
     let mut chain = found.chain.into_vec();
     match chain.pop() {
         None => Err(KeepFault::Damaged { id: 0 }),
-        Some(last) => reset_at_end(alloc, keep, path, &last, rest, which, sent),
+        Some(last) => {
+            let above = chain.last();
+            reset_at_end(alloc, keep, path, &last, above, rest, which, sent)
+        }
     }
 }
 
-// Sets the list of the last object that the walk found, where no names are left over.
+// Sets the list of the last object that the walk found, below the one before it, where no names are
+// left over.
 fn reset_at_end<K: Keep>(
     alloc: Global,
     keep: &mut K,
     path: &Path,
     last: &Node,
+    above: Option<&Node>,
     rest: usize,
     which: Which,
     sent: &SentList,
 ) -> Result<Reply, KeepFault>
     ensures done { Does K.Keep keep.old keep.new result (IsUnreadableIfRooted last.now.id)
-        (IsResetAtEnd path.now which sent.now last.now rest) }
+        (Beneath (option_copied above.entry) last.now
+        (IsResetAtEnd path.now which sent.now last.now rest)) }
 {
     if rest == 0 {
-        return set_found(alloc, keep, path, last, which, sent);
+        return set_found(alloc, keep, path, last, above, which, sent);
     }
     let count = path.names().len();
     match last.kind {

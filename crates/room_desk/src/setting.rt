@@ -1,30 +1,32 @@
 //! The request that sets a list.
-ghost use Rattle.std.specs.Prelude.{◌≡◌, ◌↔◌, IfOk, IsTrue};
+ghost use Rattle.std.specs.Prelude.{◌≡◌, ◌↔◌, IfOk, IsTrue, []};
+ghost use Rattle.std.specs.Option.{option_copied};
 ghost use Rattle.room_rows.specs.Held.{held_of};
-ghost use Rattle.room_rows.specs.Calls.{Reads};
-ghost use Rattle.room_rows.specs.Keep.{IsDamaged, IsUnreadable};
+ghost use Rattle.room_rows.specs.Keep.{IsDamaged};
 ghost use Rattle.room_judge.specs.Judged.{CarriesOut, Does};
 ghost use Rattle.room_desk.specs.Carrying.{IsUnreadableIfRooted};
 ghost use Rattle.room_desk.specs.Setting.{
+  Beneath,
+  FailsToSet,
   IsNewInh,
-  IsPassingParent,
   IsSet,
   IsSetOrRefused,
   IsStored,
   IsWrittenDown,
+  SetsOn,
   Stores,
   fault_in,
+  inh_under,
   list_of,
   marked,
   sent_with,
-  stored_inh,
 };
 ghost use Rattle.room_machine.specs.declared.request.Request.TheVariants.{SetList};
 
 use crate::carrying::carry_down;
 use room_ace::{Entries, Entry, ListFlags, Mask, ObjKind, SentList, Which, first_bad_entry};
 use room_inherit::pass;
-use room_judge::{Arrival, Asker, reach, refused};
+use room_judge::{Asker, Found, Pair, check, refused, walk_to_pair};
 use room_machine::{Reason, Reply};
 use room_rows::{Held, Keep, KeepFault, Node, Path};
 use std::alloc::{AllocError, Global};
@@ -41,30 +43,79 @@ pub(crate) fn set_list<K: Keep>(
     ensures done { Does K.Keep keep.old keep.new result IsDamaged
         (CarriesOut asker.now (SetList path.now which sent.now)) }
 {
-    let arrival = reach(alloc, keep, asker, path, Mask::write_acl())?;
-    match arrival {
-        Arrival::Ended(reply) => Ok(reply),
-        Arrival::At(node) => set_found(alloc, keep, path, &node, which, sent),
+    if path.is_root() {
+        return set_root(alloc, keep, asker, path, which, sent);
+    }
+    let pair = walk_to_pair(alloc, keep, asker, path)?;
+    match pair {
+        Pair::Halted(reply) => Ok(reply),
+        Pair::Both { folder, target } => {
+            let above = Some(&folder.node);
+            set_allowed(alloc, keep, asker, path, &target, above, which, sent)
+        }
     }
 }
 
-/// Sets the list of the object that was found at the path, unless an entry may not stand there.
+// The same at the root, which nothing is above.
+fn set_root<K: Keep>(
+    alloc: Global,
+    keep: &mut K,
+    asker: &Asker,
+    path: &Path,
+    which: Which,
+    sent: &SentList,
+) -> Result<Reply, KeepFault>
+    requires { path.now ≡ [] }
+    ensures done { Does K.Keep keep.old keep.new result IsDamaged
+        (CarriesOut asker.now (SetList path.now which sent.now)) }
+{
+    let node = keep.root()?;
+    let root = Found { node, depth: 0 };
+    set_allowed(alloc, keep, asker, path, &root, None, which, sent)
+}
+
+// Sets the list of the object that the walk came to, where the caller may write it.
+fn set_allowed<K: Keep>(
+    alloc: Global,
+    keep: &mut K,
+    asker: &Asker,
+    path: &Path,
+    target: &Found,
+    above: Option<&Node>,
+    which: Which,
+    sent: &SentList,
+) -> Result<Reply, KeepFault>
+    ensures done { Does K.Keep keep.old keep.new result
+        (FailsToSet asker.now path.now target.now (option_copied above.entry))
+        (SetsOn asker.now path.now which sent.now target.now (option_copied above.entry)) }
+{
+    let refusal = check(alloc, keep, asker, path, target, Mask::write_acl())?;
+    match refusal {
+        Some(reply) => Ok(reply),
+        None => set_found(alloc, keep, path, &target.node, above, which, sent),
+    }
+}
+
+/// Sets the list of the object that was found at the path, below its folder, unless an entry may
+/// not stand there. Nothing is above the root.
 pub(crate) fn set_found<K: Keep>(
     alloc: Global,
     keep: &mut K,
     path: &Path,
     node: &Node,
+    above: Option<&Node>,
     which: Which,
     sent: &SentList,
 ) -> Result<Reply, KeepFault>
     ensures done { Does K.Keep keep.old keep.new result (IsUnreadableIfRooted node.now.id)
-        (IsSetOrRefused path.now which sent.now node.now) }
+        (Beneath (option_copied above.entry) node.now
+        (IsSetOrRefused path.now which sent.now node.now)) }
 {
     let fault = bad_entry(sent.entries().as_slice(), which, node.kind);
     match fault {
         Some(why) => Ok(refused(alloc, path, path.names().len(), why)?),
         None => {
-            set_at(alloc, keep, node, which, sent)?;
+            set_at(alloc, keep, node, above, which, sent)?;
             Ok(Reply::Done)
         }
     }
@@ -89,15 +140,17 @@ fn set_at<K: Keep>(
     alloc: Global,
     keep: &mut K,
     node: &Node,
+    above: Option<&Node>,
     which: Which,
     sent: &SentList,
 ) -> Result<(), KeepFault>
     ensures done { Does K.Keep keep.old keep.new result (IsUnreadableIfRooted node.now.id)
-        (λ old _ new. IsSet which sent.now node.now old new) }
-    ensures quiet { K.IsTrusted keep.old keep.new → IsStored which sent.now node.now
-        (K.rows keep.old) → IfOk result (λ _. K.writes keep.new ≡ K.writes keep.old) }
+        (Beneath (option_copied above.entry) node.now
+        (λ old _ new. IsSet which sent.now node.now old new)) }
+    ensures quiet { IsStored which sent.now node.now (option_copied above.entry) → IfOk result
+        (λ _. K.writes keep.new ≡ K.writes keep.old) }
 {
-    let inh = new_inh(alloc, keep, node, which, sent)?;
+    let inh = new_inh(alloc, node, above, which, sent)?;
     store_list(alloc, keep, node, which, sent, &inh)
 }
 
@@ -166,64 +219,37 @@ fn is_same_list(held: &Held, flags: ListFlags, own: &Entries, inh: &Entries) -> 
     flags == held.flags() && own.is_same(held.own()) && inh.is_same(held.inh())
 }
 
-// The inherited entries to be stored: where the sent flags leave the list linked, what the parent
-// passes, and otherwise the sent entries that have the flag.
-fn new_inh<K: Keep>(
+// The inherited entries to be stored: where the sent flags leave the list linked, what the object
+// above passes, and otherwise the sent entries that have the flag.
+fn new_inh(
     alloc: Global,
-    keep: &mut K,
     node: &Node,
+    above: Option<&Node>,
     which: Which,
     sent: &SentList,
-) -> Result<Entries, KeepFault>
-    ensures read { Reads K.Keep keep.old keep.new result IsUnreadable
-        (IsNewInh which sent.now node.now) }
+) -> Result<Entries, AllocError>
+    ensures { IfOk result (IsNewInh which sent.now node.now (option_copied above.entry)) }
 {
-    let parent = passing_parent(keep, node, which, sent.flags())?;
-    Ok(inh_under(alloc, node.kind, which, sent, &parent)?)
+    match above {
+        None => sent_entries(alloc, sent, true),
+        Some(parent) => inh_under(alloc, node.kind, parent.held(which), sent),
+    }
 }
 
-// What is inherited from this parent, or is sent so where there is none.
+// The same under an object that has this list.
 fn inh_under(
     alloc: Global,
     kind: ObjKind,
-    which: Which,
+    above: &Held,
     sent: &SentList,
-    parent: &Option<Node>,
 ) -> Result<Entries, AllocError>
-    ensures { IfOk result (λ entries. entries ≡ stored_inh which sent.now kind parent.now) }
+    ensures { IfOk result (λ entries. entries ≡ inh_under sent.now kind above.now) }
 {
-    match parent {
-        Some(above) => pass(alloc, kind, above.held(which).full()),
-        None => sent_entries(alloc, sent, true),
-    }
-}
-
-// The parent that a list of these flags takes entries from, if there is one.
-fn passing_parent<K: Keep>(
-    keep: &mut K,
-    node: &Node,
-    which: Which,
-    flags: ListFlags,
-) -> Result<Option<Node>, KeepFault>
-    ensures read { Reads K.Keep keep.old keep.new result IsUnreadable
-        (IsPassingParent which flags node.now) }
-{
-    if flags.protect {
-        return Ok(None);
-    }
-    match node.parent {
-        None => Ok(None),
-        Some(id) => {
-            let parent = keep.node(id)?;
-            match parent {
-                None => Ok(None),
-                Some(above) => Ok(if above.held(which).flags().auto {
-                    Some(above)
-                } else {
-                    None
-                }),
-            }
-        }
+    let is_linked = !sent.flags().protect && above.flags().auto;
+    if is_linked {
+        pass(alloc, kind, above.full())
+    } else {
+        sent_entries(alloc, sent, true)
     }
 }
 

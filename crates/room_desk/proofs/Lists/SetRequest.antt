@@ -1,5 +1,6 @@
 -- A request that sets a list is a step.
 use Rattle.std.proofs.Common.{◌≡◌, ℕ, true, false, List, [], ◌∷◌, ◌++◌, map, Option, Some, None, refl, sym, ap, subst, ◌∙◌, append_assoc}
+use Rattle.std.specs.Prelude.{option_and_then}
 use Rattle.std.specs.Option.{option_map, option_map_or}
 use Rattle.std.proofs.lemmas.List.{append-nil}
 use Rattle.room_ace.specs.Rights.{write_acl}
@@ -8,7 +9,8 @@ use Rattle.room_ace.specs.Valid.{first_bad_entry}
 use Rattle.room_ace.specs.declared.fault.EntryFault.{EntryFault}
 use Rattle.room_ace.specs.declared.object.Which.{Which}
 use Rattle.room_rows.specs.declared.node.Node.{Node}
-use Rattle.room_rows.specs.Content.{node_at, parent_of}
+use Rattle.room_rows.specs.Content.{node_at, parent_of, root_of}
+use Rattle.room_rows.proofs.Frames.{root_of-parent}
 use Rattle.room_rows.specs.Keep.{IsDamaged}
 use Rattle.room_rows.specs.Meaning.{meaning}
 use Rattle.room_rows.specs.declared.node.AuditRow.{AuditRow}
@@ -22,15 +24,20 @@ use Rattle.room_machine.specs.declared.reply.Reply.{Reply}
 use Rattle.room_machine.specs.declared.reply.Reply.TheVariants.{Done, Refused}
 use Rattle.room_machine.specs.declared.request.Request.TheVariants.{SetList}
 use Rattle.room_machine.specs.Effect.{set_list}
-use Rattle.room_judge.specs.Judged.{CarriesOut, IsJudged, IsReached, noted}
-use Rattle.room_machine.specs.Plan.{Item, bad_list, plan_of, way, where_found}
+use Rattle.room_judge.specs.declared.arrival.Found.{Found}
+use Rattle.room_judge.specs.declared.arrival.Pair.TheVariants.{Both, Halted}
+use Rattle.room_judge.specs.Judged.{CarriesOut, IsJudged, IsReached, arrival_of, noted}
+use Rattle.room_judge.specs.Spot.{IsPaired}
+use Rattle.room_judge.proofs.Folders.{pair_reached}
+use Rattle.room_judge.proofs.Ways.{not_reached, reaches_with, root_reached}
+use Rattle.room_machine.specs.Plan.{Check, Item, bad_list, plan_of, way, where_found}
 use Rattle.room_desk.specs.Carrying.{IsRooted, IsUnreadableIfRooted}
 use Rattle.room_desk.proofs.Sound.Blamed.{noted_unread}
 use Rattle.room_desk.proofs.Moves.MovingPlan.{along_noted}
 use Rattle.room_desk.proofs.Sound.RootedWays.{rooted_along}
-use Rattle.room_desk.specs.Setting.{IsSetOrRefused, IsSetWell, SetUnless, kept_site, reason_of}
+use Rattle.room_desk.specs.Setting.{Beneath, IsFoundUnder, IsSetOrRefused, IsSetWell, SetUnless, kept_site, reason_of}
 use Rattle.room_machine.specs.Site.{Site, site_at}
-use Rattle.room_judge.specs.Stored.{stored_along, to_stored}
+use Rattle.room_judge.specs.Stored.{found_site, stored_along, to_stored}
 use Rattle.room_desk.proofs.Sound.Filled.{fill_item, plan_judged}
 use Rattle.room_judge.proofs.Judging.{fails_first, judged_none, passes_first, refuses}
 use Rattle.room_desk.proofs.Steps.Serving.{CheckAt}
@@ -38,7 +45,7 @@ use Rattle.room_desk.proofs.Lists.SetEffect.{set_effect}
 use Rattle.room_desk.proofs.Sound.Sites.{fill}
 use Rattle.room_desk.proofs.Sound.SoundParts.{sound_noted, sound_parts}
 use Rattle.room_desk.proofs.Steps.Stepping.{changed_step, refused_step}
-use Rattle.room_desk.proofs.Made.Uplink.{target_stands}
+use Rattle.room_desk.proofs.Made.Uplink.{parent_paired, target_stands}
 
 -- items behind others at the target
 more_items : (first more : Site → List Item) (front : List Item) (o : Option Site) → front ++ where_found o (λ s. first s ++ more s) ≡ (front ++ where_found o first) ++ where_found o more
@@ -118,3 +125,45 @@ module _ (asker : Asker) (path : List (List ℕ)) (which : Which) (sent : Sent) 
       where
         records : List AuditRow
         records = records_of_plan asker.caller asker.at (to_stored old.read path (CheckAt (write_acl ∷ [])))
+
+-- ---- once the way to the target has been walked
+
+module _ (asker : Asker) (path : List (List ℕ)) (which : Which) (sent : Sent) (target : Found) (above : Option Node) (old mid : Rows) (found : IsFoundUnder asker path target above old mid) where
+  checked : (new : Rows) (bits : List ℕ) (refusal place : Option Reply) → bits ≡ write_acl ∷ [] → refusal ≡ place → IsJudged asker (Check (found_site path target) bits ∷ []) mid refusal new
+      → IsReached asker path (CheckAt (write_acl ∷ [])) old (arrival_of target.node place) new
+  checked new bits refusal place same comes judged =
+      reaches_with asker path (CheckAt (write_acl ∷ [])) old mid new target.node target place (ap (λ (d : ℕ). record { node = target.node; depth = d }) found.depth) found.reached
+      (subst (λ (b : List ℕ). IsJudged asker (Check (found_site path target) b ∷ []) mid place new) same (subst (λ (o : Option Reply). IsJudged asker (Check (found_site path target) bits ∷ []) mid o new) comes judged))
+
+  pub not_allowed : (new : Rows) (bits : List ℕ) (refusal : Option Reply) (reply : Reply) → bits ≡ write_acl ∷ [] → refusal ≡ Some reply → IsJudged asker (Check (found_site path target) bits ∷ []) mid refusal new → CarriesOut asker (SetList path which sent) old reply new
+  not_allowed new bits refusal reply same comes judged = set_ended asker path which sent old new reply found.are (checked new bits refusal (Some reply) same comes judged)
+
+  module _ (end : Rows) (bits : List ℕ) (refusal : Option Reply) (same : bits ≡ write_acl ∷ []) (comes : refusal ≡ None) (judged : IsJudged asker (Check (found_site path target) bits ∷ []) mid refusal end) where
+    pub allowed_done : (new : Rows) (reply : Reply) → Beneath above target.node (IsSetOrRefused path which sent target.node) end reply new → CarriesOut asker (SetList path which sent) old reply new
+    allowed_done new reply said =
+        let reached = checked end bits refusal None same comes judged in
+        set_done asker path which sent old end target.node found.are reached new reply (said (ap (λ (r : Rows). parent_of r.read target.node) reached.judged.notes ∙ found.parent))
+
+    pub allowed_blames : (at : ℕ) → IsUnreadableIfRooted target.node.id end at → IsDamaged old at
+    allowed_blames at fails = set_blames asker path which sent old end target.node found.are (checked end bits refusal None same comes judged) at fails
+
+-- ---- where the walk comes to
+
+pub set_halted : (asker : Asker) (path : List (List ℕ)) (which : Which) (sent : Sent) (old new : Rows) (reply : Reply) → AreRows old → IsPaired asker path old (Halted reply) new → CarriesOut asker (SetList path which sent) old reply new
+set_halted asker path which sent old new reply are paired =
+    set_ended asker path which sent old new reply are (not_reached asker path (CheckAt (write_acl ∷ [])) old new reply (pair_reached asker path (Halted reply) old new paired))
+
+-- an object and its folder
+pub found_pair : (asker : Asker) (path : List (List ℕ)) (folder target : Found) (old mid : Rows) → AreRows old → IsPaired asker path old (Both folder target) mid → IsFoundUnder asker path target (Some folder.node) old mid
+found_pair asker path folder target old mid are paired = record {
+  are = are;
+  reached = pair_reached asker path (Both folder target) old mid paired;
+  depth = paired.depth;
+  parent = parent_paired old.read are.numbers path (found_site path folder) target.node paired.folder paired.target;
+}
+
+-- the root, which nothing is above
+pub found_root : (asker : Asker) (path : List (List ℕ)) (root : Node) (old mid : Rows) → path ≡ [] → AreRows old → root_of old.read ≡ Some root → mid ≡ old → IsFoundUnder asker path (record { node = root; depth = 0 }) None old mid
+found_root asker path root old mid empty are is same =
+    subst (λ (p : List (List ℕ)). IsFoundUnder asker p (record { node = root; depth = 0 }) None old mid) (sym empty)
+    (record { are = are; reached = root_reached asker [] 0 root old mid refl is same; depth = refl; parent = ap (option_and_then (node_at old.read)) (root_of-parent old.read root is) })

@@ -1,6 +1,6 @@
 -- The operator's reset of a list is its step.
 use Rattle.std.proofs.Common.{◌≡◌, ◌||◌, ℕ, zero, suc, true, false, cond, List, [], ◌∷◌, ◌++◌, filter, length, map, Option, Some, None, refl, sym, ap, subst, ◌∙◌}
-use Rattle.std.specs.Prelude.{is_none, option_and_then}
+use Rattle.std.specs.Prelude.{◌-◌, is_none, option_and_then, slice_get}
 use Rattle.std.specs.Option.{option_map_or}
 use Rattle.room_ace.specs.Sent.{Sent}
 use Rattle.room_ace.specs.Valid.{first_bad_entry}
@@ -26,8 +26,8 @@ use Rattle.room_judge.specs.Judged.{Resets}
 use Rattle.room_machine.specs.Plan.{Item, Check, Deletion, Refusal, bad_list, plan_of, way, where_found}
 use Rattle.room_desk.specs.Carrying.{IsRooted, IsUnreadableIfRooted}
 use Rattle.room_desk.proofs.Sound.Blamed.{unread_damaged}
-use Rattle.room_desk.proofs.Sound.RootedWays.{rooted_last}
-use Rattle.room_desk.specs.Setting.{IsResetAtEnd, IsSetOrRefused, SetUnless, reason_of}
+use Rattle.room_desk.proofs.Sound.RootedWays.{above_end, rooted_last}
+use Rattle.room_desk.specs.Setting.{Beneath, IsResetAtEnd, IsSetOrRefused, SetUnless, reason_of}
 use Rattle.room_machine.specs.Site.{Site, site_at, sites_along}
 use Rattle.room_machine.specs.Step.{answered, is_refusal, reset}
 use Rattle.room_judge.specs.Stored.{stored_along, stored_from, stored_site}
@@ -126,8 +126,9 @@ module _ (old : Rows) (are : AreRows old) (sound : AreSound old) (path : List (L
 -- ---- as the calls give it
 
 module _ (path : List (List ℕ)) (which : Which) (sent : Sent) (old mid : Rows) (walk : Walk) (front : List Node) (last : Node) (is : walk ≡ walk_of old.read path) (same : mid ≡ old) (chain : walk.chain ≡ front ++ last ∷ []) where
-  pub reset_done : (new : Rows) (reply : Reply) → AreRows old → IsResetAtEnd path which sent last walk.rest mid reply new → Resets path which sent old reply new
-  reset_done new reply are said sound =
+  pub reset_done : (above : Option Node) → above ≡ slice_get front (length front - 1) → (new : Rows) (reply : Reply) → AreRows old → Beneath above last (IsResetAtEnd path which sent last walk.rest) mid reply new → Resets path which sent old reply new
+  reset_done above read new reply are beneath sound =
+      let said = beneath (ap (λ (r : Rows). parent_of r.read last) same ∙ above_end old are.numbers path walk front last above is chain read) in
       let came = came_to old are sound path which sent walk front last is chain in
       at_end old are sound path which sent last new reply walk.rest came.stands came.comes (subst (λ (r : Rows). IsResetAtEnd path which sent last walk.rest r reply new) same said) sound
 

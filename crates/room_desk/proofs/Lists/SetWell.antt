@@ -182,7 +182,7 @@ module _ (which : Which) (sent : Sent) (node : Node) (old : Rows) (are : AreRows
 
 -- ---- as the calls give it
 
-module _ (which : Which) (sent : Sent) (node : Node) (inh : List Ace) (old new : Rows) (are : AreRows old) (is : IsNewInh which sent node old inh) where
+module _ (which : Which) (sent : Sent) (node : Node) (inh : List Ace) (old new : Rows) (are : AreRows old) (is : IsNewInh which sent node (parent_of old.read node) inh) where
   abbrev held : Held
   held = sent_with sent inh
 

@@ -1,5 +1,5 @@
 -- The calls that set a list.
-use Rattle.std.proofs.Common.{◌≡◌, ℕ, false, List, Result, Ok, Err, IfOk, ap, subst, ◌∙◌}
+use Rattle.std.proofs.Common.{◌≡◌, ℕ, false, List, Option, Result, Ok, Err, IfOk, sym, ap, subst, ◌∙◌}
 use Rattle.std.specs.Result.{IsErrAnd}
 use Rattle.room_ace.specs.Ace.{Ace}
 use Rattle.room_ace.specs.Sent.{Sent}
@@ -13,7 +13,7 @@ use Rattle.room_rows.specs.Keep.{Changes, IsUnreadable}
 use Rattle.room_rows.specs.Rows.{Rows, AreRows}
 use Rattle.room_rows.proofs.Frames.{place-with_held}
 use Rattle.room_desk.specs.Carrying.{HasLoop, IsUnreadableIfRooted}
-use Rattle.room_desk.specs.Setting.{IsNewInh, IsSet, IsWrittenDown, Stores, list_of, marked, sent_with}
+use Rattle.room_desk.specs.Setting.{Beneath, IsNewInh, IsSet, IsWrittenDown, Stores, list_of, marked, passing, sent_with, stored_inh}
 use Rattle.room_desk.proofs.Sound.Anchored.{changed_unread}
 use Rattle.room_desk.proofs.Lists.SetWell.{well_stored}
 
@@ -21,11 +21,6 @@ use Rattle.room_desk.proofs.Lists.SetWell.{well_stored}
 pub no_answer : (before after : ℕ) (r : Result (Unit {0}) KeepFault) (f : KeepFault) → IsErrAnd r (λ x. x ≡ f) → IfOk r (λ _. after ≡ before)
 no_answer before after (Ok x) f is = absurd is
 no_answer before after (Err g) f is = tt
-
--- the count before, as nothing was written up to there
-pub quiet_before : (r : Result (Unit {0}) KeepFault) (before mid after : ℕ) → mid ≡ before → IfOk r (λ _. after ≡ mid) → IfOk r (λ _. after ≡ before)
-quiet_before (Ok x) before mid after same quiet = quiet ∙ same
-quiet_before (Err e) before mid after same quiet = tt
 
 -- a row that can't be read, before anything is written
 pub unread_before : (id : ℕ) (old mid : Rows) (at : ℕ) → mid ≡ old → IsUnreadable mid at → IsUnreadableIfRooted id old at
@@ -45,5 +40,6 @@ list_sent sent flags own inh flags_are own_are = ap (λ f. list_of f own inh) fl
 pub written_as : (which : Which) (id : ℕ) (held other : Held) (old mid new : Rows) → held ≡ other → mid ≡ old → IsWrittenDown which id held mid tt new → IsWrittenDown which id other old tt new
 written_as which id held other old mid new same unread written = subst (λ (r : Rows). IsWrittenDown which id other r tt new) unread (subst (λ (h : Held). IsWrittenDown which id h mid tt new) same written)
 
-pub set_from : (which : Which) (sent : Sent) (node : Node) (inh : List Ace) (old mid new : Rows) → AreRows old → IsNewInh which sent node old inh → mid ≡ old → Stores which node (sent_with sent inh) mid tt new → IsSet which sent node old new
-set_from which sent node inh old mid new are is same stores = well_stored which sent node inh old new are is (subst (λ (r : Rows). Stores which node (sent_with sent inh) r tt new) same stores)
+pub set_from : (which : Which) (sent : Sent) (node : Node) (above : Option Node) (inh : List Ace) (old mid new : Rows) → AreRows old → IsNewInh which sent node above inh → mid ≡ old → Stores which node (sent_with sent inh) mid tt new → Beneath {X = Unit {0}} above node (λ o x n. IsSet which sent node o n) old tt new
+set_from which sent node above inh old mid new are is same stores up =
+    well_stored which sent node inh old new are (is ∙ ap (λ p. stored_inh which sent node.kind (passing which sent.flags p)) (sym up)) (subst (λ (r : Rows). Stores which node (sent_with sent inh) r tt new) same stores)

@@ -1,11 +1,11 @@
 -- The object at the end of a path, and the one above it.
 use Rattle.std.proofs.Common.{◌≡◌, ℕ, List, [], ◌∷◌, ◌++◌, Option, Some, None, refl, sym, ap, ◌∙◌}
 use Rattle.std.specs.Prelude.{option_and_then}
-use Rattle.std.specs.Option.{option_map_or}
+use Rattle.std.specs.Option.{option_map, option_map_or}
 use Rattle.room_rows.specs.declared.node.Node.{Node}
 use Rattle.room_rows.specs.Content.{Content, child_of, node_at, parent_of, root_of}
 use Rattle.room_rows.proofs.Frames.{Rises, child_of-is_there, child_of-parent, root_of-is_there, root_of-parent}
-use Rattle.room_machine.specs.Site.{Site, front, site_at}
+use Rattle.room_machine.specs.Site.{Site, front, parent_at, site_at}
 use Rattle.room_judge.specs.Stored.{stored_along, stored_from, stored_site}
 
 -- an object that is there
@@ -75,3 +75,10 @@ module _ (rows : Content) (rises : Rises rows) where
       on : (o : Option Node) → ((root : Node) → o ≡ Some root → root.parent ≡ None) → site_at (option_map_or (λ root. stored_from rows [] root []) o []) [] ≡ Some (stored_site q target) → parent_of rows target ≡ None
       on None known is = absurd (let wrong : ⊥ = cc in wrong)
       on (Some root) known is = ap (λ (n : Node). option_and_then (node_at rows) n.parent) (sym (same_target [] q root target is)) ∙ ap (option_and_then (node_at rows)) (known root refl)
+
+  -- the folder of the last name is what is above
+  pub parent_paired : (path : List (List ℕ)) (folder : Site) (target : Node) → parent_at (stored_along rows path) path ≡ Some folder → site_at (stored_along rows path) path ≡ Some (stored_site path target) → parent_of rows target ≡ Some folder.node
+  parent_paired [] folder target above is = absurd (let wrong : ⊥ = cc in wrong)
+  parent_paired (name ∷ names) folder target above is =
+      let up = target_above name names (name ∷ names) target is in
+      up.parent ∙ ap (λ (o : Option Site). option_map (λ (s : Site). s.node) o) (sym up.at ∙ above)

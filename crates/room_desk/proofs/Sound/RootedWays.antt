@@ -1,9 +1,10 @@
 -- What a walk finds is rooted, whatever else the rows say.
-use Rattle.std.proofs.Common.{◌≡◌, ℕ, suc, true, false, List, [], ◌∷◌, ◌++◌, length, Option, Some, None, refl, sym, ap, subst, ◌∙◌, inl, inr}
+use Rattle.std.proofs.Common.{◌≡◌, ℕ, suc, true, false, List, [], ◌∷◌, ◌++◌, length, Option, Some, None, refl, sym, ap, subst, ◌∙◌, arith, inl, inr}
+use Rattle.std.specs.Prelude.{◌-◌, option_and_then, slice_get}
 use Rattle.std.specs.Option.{option_map_or}
 use Rattle.room_rows.specs.declared.node.Node.{Node}
 use Rattle.room_rows.specs.declared.node.Walk.{Walk}
-use Rattle.room_rows.specs.Content.{Content, child_of, node_at, reaches_root, root_of}
+use Rattle.room_rows.specs.Content.{Content, child_of, node_at, parent_of, reaches_root, root_of}
 use Rattle.room_rows.specs.Keep.{IsDamaged}
 use Rattle.room_rows.specs.Rows.{Rows}
 use Rattle.room_rows.specs.Walk.{behind, walk_from, walk_of}
@@ -12,7 +13,17 @@ use Rattle.room_machine.specs.Site.{Site, site_at}
 use Rattle.room_judge.specs.Stored.{stored_along, stored_from, stored_site}
 use Rattle.room_desk.specs.Carrying.{IsRooted}
 use Rattle.room_desk.proofs.Placed.Climbing.{same_some}
-use Rattle.room_desk.proofs.Lists.ResetWay.{same_last}
+use Rattle.room_desk.proofs.Lists.ResetWay.{same_front, same_last}
+
+-- the last of the objects, or else the one before them
+pub last_or : Option Node → List Node → Option Node
+last_or before [] = before
+last_or before (x ∷ xs) = last_or (Some x) xs
+
+last_read : (before : Option Node) (x : Node) (xs : List Node) → slice_get (x ∷ xs) (length xs) ≡ last_or before (x ∷ xs)
+unfolding last_or
+last_read before x [] = refl
+last_read before x (y ∷ ys) = last_read (Some x) y ys
 
 module _ (rows : Content) (rises : Rises rows) where
   -- it stands there, and so many steps lead from it to the root
@@ -74,7 +85,49 @@ module _ (rows : Content) (rises : Rises rows) where
       on None known is = absurd (none_ends front is)
       on (Some root) known is = let end = known root refl in subst IsUp (same_last end.front front end.last last (sym end.is ∙ is)) end.up
 
+  -- ---- what is above the end of a walk
+
+  pub record IsEndBelow (before : Option Node) (chain : List Node) : Type 0 where
+    pub front : List Node
+    pub last : Node
+    pub is : chain ≡ front ++ last ∷ []
+    pub parent : parent_of rows last ≡ last_or before front
+
+  end_below : (names : List (List ℕ)) (node : Node) (before : Option Node) → node_at rows node.id ≡ Some node → parent_of rows node ≡ before → IsEndBelow before (walk_from rows node names).chain
+  unfolding last_or
+  end_below [] node before there up = record { front = []; last = node; is = refl; parent = up }
+  end_below (name ∷ names) node before there up =
+      on (child_of rows node.id name) (λ child known. end_below names child (Some node) (child_of-is_there rows rises node.id name child known) (ap (option_and_then (node_at rows)) (child_of-parent rows node.id name child known) ∙ there))
+    where
+      on : (o : Option Node) → ((child : Node) → o ≡ Some child → IsEndBelow (Some node) (walk_from rows child names).chain)
+          → IsEndBelow before (option_map_or (λ child. behind node (walk_from rows child names)) o (record { chain = node ∷ []; rest = length (name ∷ names) })).chain
+      on None known = record { front = []; last = node; is = refl; parent = up }
+      on (Some child) known = let end = known child refl in record { front = node ∷ end.front; last = end.last; is = ap (λ (l : List Node). node ∷ l) end.is; parent = end.parent }
+
+  above_last : (path : List (List ℕ)) (front : List Node) (last : Node) → (walk_of rows path).chain ≡ front ++ last ∷ [] → parent_of rows last ≡ last_or None front
+  above_last path front last is = on (root_of rows) (λ root known. end_below path root None (root_of-is_there rows rises root known) (ap (option_and_then (node_at rows)) (root_of-parent rows root known))) is
+    where
+      none_ends : (l : List Node) → [] ≡ l ++ last ∷ [] → ⊥
+      none_ends [] is = let wrong : ⊥ = cc in wrong
+      none_ends (x ∷ xs) is = let wrong : ⊥ = cc in wrong
+
+      on : (o : Option Node) → ((root : Node) → o ≡ Some root → IsEndBelow None (walk_from rows root path).chain) → (option_map_or (λ root. walk_from rows root path) o (record { chain = []; rest = length path })).chain ≡ front ++ last ∷ []
+          → parent_of rows last ≡ last_or None front
+      on None known is = absurd (none_ends front is)
+      on (Some root) known is =
+          let end = known root refl in
+          ap (parent_of rows) (sym (same_last end.front front end.last last (sym end.is ∙ is))) ∙ end.parent ∙ ap (last_or None) (same_front end.front front end.last last (sym end.is ∙ is))
+
 -- ---- as the calls give it
+
+-- what is above the last object of a walk
+pub above_end : (rows : Rows) → Rises rows.read → (path : List (List ℕ)) (walk : Walk) (front : List Node) (last : Node) (above : Option Node) → walk ≡ walk_of rows.read path → walk.chain ≡ front ++ last ∷ [] → above ≡ slice_get front (length front - 1) → parent_of rows.read last ≡ above
+unfolding last_or
+above_end rows rises path walk front last above is chain read = above_last rows.read rises path front last (sym (ap (λ (w : Walk). w.chain) is) ∙ chain) ∙ sym (on front) ∙ sym read
+  where
+    on : (l : List Node) → slice_get l (length l - 1) ≡ last_or None l
+    on [] = refl
+    on (x ∷ xs) = let before : suc (length xs) - 1 ≡ length xs = omega arith in ap (slice_get (x ∷ xs)) before ∙ last_read None x xs
 
 rooted_up : (rows : Rows) → (rises : Rises rows.read) → (node : Node) → IsUp rows.read rises node → IsRooted node.id rows
 rooted_up rows rises node up = record { rises = rises; node = node; there = up.there; steps = up.steps; reaches = up.reaches }

@@ -1,4 +1,5 @@
-use Rattle.std.proofs.Common.{List, length, arith, refl, ◌≡◌, [], ◌∷◌, sym, ◌∙◌}
+use Rattle.std.proofs.Common.{List, length, arith, refl, ◌≡◌, [], ◌∷◌, sym, ap, ◌∙◌}
+use Rattle.std.specs.Prelude.{◌-◌, slice_get}
 use Rattle.room_judge.proofs.Calls.{none_done, tail_known, fails, damaged, done, of_read}
 use Rattle.room_rows.specs.declared.node.Node.{Node}
 use Rattle.room_desk.proofs.Sound.RootedWays.{no_walk}
@@ -31,8 +32,9 @@ returns g c =
     let m = g.met.K.Keep in
     let chain = sym c.into_vec-chain.ensures ∙ c.in-Some.ensures.items in
     let front = c.pop.new.self.items in
+    let above = c.last-above.ensures.value ∙ ap (λ (l : List Node). slice_get l (length l - 1)) c.deref.ensures.value in
     record {
       done = tail_known m.laws (done (of_read c.in_ok-found.ensures.read)) c.reset_at_end.ensures.done
           (λ old mid at are both h. reset_blames c.args.path.now c.args.which c.args.sent.now old mid c.in_ok-found.found front c.in-Some.last both.0 both.1 chain at are h)
-          (λ old mid reply new are both said. reset_done c.args.path.now c.args.which c.args.sent.now old mid c.in_ok-found.found front c.in-Some.last both.0 both.1 chain new reply are said);
+          (λ old mid reply new are both said. reset_done c.args.path.now c.args.which c.args.sent.now old mid c.in_ok-found.found front c.in-Some.last both.0 both.1 chain _ above new reply are said);
     }

@@ -1,34 +1,29 @@
-use Rattle.std.proofs.Common.{[], ◌∷◌}
+use Rattle.std.proofs.Common.{subst}
+use Rattle.room_judge.specs.Spot.{IsPaired}
+use Rattle.room_judge.specs.declared.arrival.Pair.{Pair}
 use Rattle.room_judge.proofs.Calls.{none_done, tail_known, finish, fails, done}
-use Rattle.room_desk.proofs.Lists.SetRequest.{set_ended, set_done, set_blames}
+use Rattle.room_desk.proofs.Lists.SetRequest.{found_pair, set_halted}
 use Rattle.room_desk.proofs.Sound.Blamed.{rootless_damaged}
-use Rattle.room_desk.proofs.Steps.Serving.{CheckAt, reached_as}
-use Rattle.room_judge.specs.declared.arrival.Arrival.TheVariants.{At, Ended}
-use Rattle.room_ace.specs.Rights.{write_acl}
 use Rattle.room_desk.proofs.setting.set_list.Goals as goal
 
-pub returns-in_err-arrival : goal.returns-in_err-arrival
-returns-in_err-arrival g c =
-    let k = g.K.Keep in
+pub returns-in_err-pair : goal.returns-in_err-pair
+returns-in_err-pair g c =
     let m = g.met.K.Keep in
-    record { done = fails m.laws (none_done m.laws c.args.keep.now) c.in_err-arrival.ensures.done (λ old mid at same h. rootless_damaged old mid at same h) c.from_residual.result c.from_residual.ensures.1 }
+    record { done = fails m.laws (none_done m.laws c.args.keep.now) c.in_err-pair.ensures.done (λ old mid at same h. rootless_damaged old mid at same h) c.from_residual.result c.from_residual.ensures.1 }
 
-pub returns-in-Ended : goal.returns-in-Ended
-returns-in-Ended g c =
-    let k = g.K.Keep in
+pub returns-in-Halted : goal.returns-in-Halted
+returns-in-Halted g c =
     let m = g.met.K.Keep in
     record {
-      done = finish m.laws _ (done c.in_ok-arrival.ensures.done) (λ old new are reached.
-          set_ended c.args.asker.now c.args.path.now c.args.which c.args.sent.now old new c.in-Ended.reply are (reached_as c.args.asker.now c.args.path.now CheckAt c.write_acl.result (write_acl ∷ []) _ (Ended c.in-Ended.reply) old new c.write_acl.ensures c.in-Ended.is reached));
+      done = finish m.laws _ (done c.in_ok-pair.ensures.done) (λ old new are paired.
+          set_halted c.args.asker.now c.args.path.now c.args.which c.args.sent.now old new c.in-Halted.reply are (subst (λ (p : Pair). IsPaired c.args.asker.now c.args.path.now old p new) c.in-Halted.is paired));
     }
 
-pub returns-in-At : goal.returns-in-At
-returns-in-At g c =
-    let k = g.K.Keep in
+pub returns-in-Both : goal.returns-in-Both
+returns-in-Both g c =
     let m = g.met.K.Keep in
     record {
-      done = tail_known m.laws (done c.in_ok-arrival.ensures.done) c.set_found.ensures.done
-          (λ old mid at are reached h. set_blames c.args.asker.now c.args.path.now c.args.which c.args.sent.now old mid c.in-At.node are (reached_as c.args.asker.now c.args.path.now CheckAt c.write_acl.result (write_acl ∷ []) _ (At c.in-At.node) old mid c.write_acl.ensures c.in-At.is reached) at h)
-          (λ old mid reply new are reached said.
-          set_done c.args.asker.now c.args.path.now c.args.which c.args.sent.now old mid c.in-At.node are (reached_as c.args.asker.now c.args.path.now CheckAt c.write_acl.result (write_acl ∷ []) _ (At c.in-At.node) old mid c.write_acl.ensures c.in-At.is reached) new reply said);
+      done = tail_known m.laws (done c.in_ok-pair.ensures.done) c.set_allowed.ensures.done
+          (λ old mid at are paired fails. fails old (found_pair c.args.asker.now c.args.path.now c.in-Both.folder c.in-Both.target old mid are (subst (λ (p : Pair). IsPaired c.args.asker.now c.args.path.now old p mid) c.in-Both.is paired)))
+          (λ old mid reply new are paired sets. sets old (found_pair c.args.asker.now c.args.path.now c.in-Both.folder c.in-Both.target old mid are (subst (λ (p : Pair). IsPaired c.args.asker.now c.args.path.now old p mid) c.in-Both.is paired)));
     }
