@@ -95,6 +95,12 @@ json '431 Request Header Fields Too Large' '{"why":"too-many-fields"}' >"$work/w
 same 'a head without an end' "$work/reply" "$work/want.reply"
 server_ends 'the server ends after all of them' 0 ''
 
+# A path of `reset` that leads through a document.
+from_lines list:
+gives 'reset below a document' 2 'refused: N2 not-folder at /f\n' '' reset F /f/q dacl
+gives 'reset far below a document' 2 'refused: N2 not-folder at /f\n' '' reset F /f/q/r sacl
+input=/dev/null
+
 # The records of the tour: alice's write was no event; bob's reads stopped above it.
 run audit F
 head -1 "$work/out" >head

@@ -60,8 +60,19 @@ if has perl && perl -MIO::Socket::INET -e 1 2>/dev/null; then
     same 'half closed' "$work/reply" "$work/want.reply"
     server_ends 'the server ends' 0 ''
   }
+
+  # A caller who resets in the middle of a head: the server is reading.
+  start_server F 2 && {
+    perl -MIO::Socket::INET -MSocket -e '
+      my $s = IO::Socket::INET->new(PeerAddr => "127.0.0.1", PeerPort => shift) or die;
+      print $s "GET /doc/f HTT"; $s->flush; select(undef, undef, undef, 0.1);
+      setsockopt($s, SOL_SOCKET, SO_LINGER, pack("ii", 1, 0)); close $s;
+    ' "$port" 2>/dev/null
+    asks 'the next caller is served' "reply '200 OK' application/octet-stream hello" GET /doc/f root
+    server_ends 'a reset while it reads is told' 0 'connection 1: read fault\n'
+  }
 else
-  skip 'half closed' 'no perl'
+  skip 'half closed, and a reset while it reads' 'no perl'
 fi
 
 # 10,000 messages are the most of a connection.

@@ -53,9 +53,17 @@ made_unsound verify-bad-list-text "UPDATE nodes SET dacl_own = 'A::alice' WHERE 
 made_unsound 'an entry that is not valid' "UPDATE nodes SET dacl_own = 'A:i:alice:r' || char(10) WHERE name = 'a'" '?N V2 bad-list'
 made_unsound verify-two-roots "UPDATE nodes SET parent = NULL WHERE name = 'a'" '?N V4 bad-root'
 made_unsound 'no folder as root' "UPDATE nodes SET kind = 0, dacl_own = '' WHERE parent IS NULL" '?1 V4 bad-root'
+made_unsound 'a parent that is no folder' "INSERT INTO nodes VALUES (900, 1, 'q', 0, 'root', 'staff', 1, 1, '', '', '', '');
+  UPDATE nodes SET parent = 900 WHERE name = 'a'" '?N V5 bad-parent'
 made_unsound 'verify-loop' "UPDATE nodes SET parent = (SELECT id FROM nodes WHERE name = 'c') WHERE name = 'a'" '?N V1 loop'
 made_unsound verify-bad-name "UPDATE nodes SET name = 'x/y' WHERE name = 'c'" '/a/b/x/y V6 bad-name'
 made_unsound 'a folder with bytes' "INSERT INTO bodies VALUES ((SELECT id FROM nodes WHERE name = 'c'), x'00')" '/a/b/c V7 bad-body'
+
+# A parent that is not there breaks what the tables themselves demand, and such a file is not opened.
+cp F U
+rm -f U-wal
+sqlite3 U "PRAGMA foreign_keys=off; UPDATE nodes SET parent = 999 WHERE name = 'a'" >/dev/null
+gives 'a parent that is not there' 3 '' 'fault: database\n' verify U
 
 # What a row that can't be read does to the others.
 cp F U
@@ -73,3 +81,22 @@ gives 'which is no fault of the rows' 0 'sound\n' '' verify U
 cp F U
 sqlite3 U "INSERT INTO members (grp, user) VALUES ('bad name', 'alice')"
 gives 'a pair that is none is left out' 0 'group,user\n' '' groups-out U
+
+# What a column that is gone does to the calls that need it.
+cp F U
+if sqlite3 U 'ALTER TABLE nodes DROP COLUMN sacl_inh' 2>/dev/null; then
+  gives 'verify without a column' 3 '' 'fault: database\n' verify U
+  gives 'dump without a column' 3 '' 'fault: database\n' dump U
+  set_aside=$(cksum <U)
+  from_lines list:a
+  gives 'reset without a column' 3 '' 'fault: database\n' reset U /a dacl
+  input=/dev/null
+  if start_server U 1; then
+    asks 'a request without a column' "json '500 Internal Server Error' '{\"why\":\"store\"}'" GET /dacl/a root
+    server_ends 'the server goes on without a column' 0 ''
+  fi
+  holds 'nothing is changed' [ "$set_aside" = "$(cksum <U)" ]
+  gives 'members need no such column' 0 'group,user\n' '' groups-out U
+else
+  skip 'a column that is gone' 'this sqlite3 drops no column'
+fi

@@ -5,7 +5,7 @@ at_call() { # NUMBER HOW COMMAND ..: the status is that of the program, or 137
   local number=$1 how=$2
   shift 2
   { strace -f -qq -o /dev/null -e "trace=$calls" -e "inject=$calls:$how:when=$number" \
-    "$rooms" "$@" </dev/null >"$work/out" 2>"$work/err"; } 2>/dev/null
+    "$rooms" "$@" <"$input" >"$work/out" 2>"$work/err"; } 2>/dev/null
   status=$?
 }
 if ! has strace || ! strace -f -qq -o /dev/null -e trace=$calls -e inject=$calls:error=EIO:when=1 true 2>/dev/null; then
@@ -65,3 +65,131 @@ for how in signal=KILL error=EIO error=ENOSPC; do
     [ "$ended" = 0 ] && break
   done
 done
+
+# A list that is set, and a file that is raised: the file holds what was before or what was asked, whole.
+restore() { # FROM
+  cp "$1" F
+  rm -f F-wal
+  [ ! -e "$1-wal" ] || cp "$1-wal" F-wal
+}
+before_or_after() { # NAME TOLD FROM OLD NEW COMMAND ..: OLD and NEW are texts of `look`
+  local what=$1 told=$2 from=$3 old=$4 new=$5
+  shift 5
+  for how in signal=KILL error=EIO error=ENOSPC; do
+    for number in {1..60}; do
+      restore "$from"
+      at_call "$number" "$how" "$@"
+      ended=$status
+      name="$what, $how at call $number"
+      answered=no
+      [ ! -s "$work/out" ] || answered=yes
+      case $ended in
+        0) wants "$name" 0 "$told" '' ;;
+        137) pass ;;
+        *) wants "$name" 3 '' 'fault: database\n' ;;
+      esac
+      look
+      if [ "$answered" = yes ]; then wants_file "$name: there" 0 "$new"; else one_of "$name" "$old" "$new"; fi
+      [ "$ended" = 0 ] && break
+    done
+    holds "$what, $how: the calls came to an end" [ "$ended" = 0 ]
+  done
+}
+
+look() { input=/dev/null run dump F; }
+take "rejoined.1.db" R
+gives 'a room of three folders' 0 'migrated\n' '' migrate R
+restore R
+look
+cp "$work/out" old
+set_list F / dacl list:a "A:fd:alice:$ALL"
+look
+cp "$work/out" new
+from_lines list:a "A:fd:alice:$ALL"
+before_or_after reset 'done\n' R old new reset F / dacl
+input=/dev/null
+
+look() { # what can be told of both schemas
+  run dump F
+  [ "$status" = 0 ] || run verify F
+  status=0
+}
+take "rejoined.1.db" O
+printf 'refused: schema 1 is old\n' >old
+before_or_after migrate 'migrated\n' O old "$data/rejoined.dump" migrate F
+
+# A request: the server tells the fault in its reply, or is killed before there is one.
+look() { run dump F; }
+serve_once() { # NUMBER HOW: the reply to a document that is put, and the server's status
+  local number=$1 how=$2 tries
+  for tries in {1..50}; do
+    port=$((port + 1))
+    : >"$work/server.out"
+    { strace -f -qq -o /dev/null -e "trace=$calls" -e "inject=$calls:$how:when=$number" \
+      "$rooms" serve F --port "$port" </dev/null >"$work/server.out" 2>"$work/server.err"; } 2>/dev/null &
+    server=$!
+    : >"$work/reply"
+    if await_line; then
+      last_message PUT /doc/f root hello >"$work/sent"
+      exchange 2>/dev/null
+    fi
+    wait_for "$server" || fail 'a traced server' "it doesn't end"
+    wait "$server" 2>/dev/null
+    ended=$?
+    server=
+    grep -q '^fault: net$' "$work/server.err" || return
+  done
+}
+if [ "$loopback" = yes ]; then
+  open_room S
+  restore S
+  look
+  cp "$work/out" old
+  calls_of_all=$calls
+  start_server F 1 && {
+    asks 'a document' made PUT /doc/f root hello
+    server_ends 'it ends' 0 ''
+  }
+  look
+  cp "$work/out" new
+  made >replied
+  json '500 Internal Server Error' '{"why":"store"}' >failed
+  for how in signal=KILL error=EIO error=ENOSPC; do
+    for number in {1..40}; do
+      restore S
+      serve_once "$number" "$how"
+      name="a request, $how at call $number"
+      if cmp -s "$work/reply" replied; then
+        look
+        wants_file "$name: there" 0 new
+        # Nothing was left to fail or to kill.
+        [ "$ended" != 0 ] || [ -s "$work/server.err" ] || break
+      elif [ ! -s "$work/reply" ] || cmp -s "$work/reply" failed; then
+        look
+        one_of "$name" old new
+      else
+        same "$name: reply" "$work/reply" failed
+      fi
+      gives "$name: sound" 0 'sound\n' '' verify F
+    done
+    holds "a request, $how: the calls came to an end" [ "$number" -lt 40 ]
+  done
+else
+  skip 'a request at each call on the disk' 'this machine has no loopback'
+fi
+
+# Reads that fail change nothing.
+calls=pread64,read
+restore R
+rm -f F-wal
+before=$(cksum <F)
+run dump F
+cp "$work/out" whole
+for number in {1..40}; do
+  restore R
+  at_call "$number" error=EIO dump F
+  [ "$status" = 0 ] && break
+  holds "a read that fails, call $number: nothing is told" [ ! -s "$work/out" ]
+  holds "a read that fails, call $number: nothing is changed" [ "$(cksum <F)" = "$before" ]
+done
+wants_file 'reads came to an end' 0 whole
