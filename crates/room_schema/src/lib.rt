@@ -9,8 +9,6 @@ pub mod laws;
 mod migrating;
 mod raising;
 mod tables;
-#[cfg(test)]
-mod tests;
 mod version;
 
 pub use adopting::adopt;

@@ -10,8 +10,6 @@ mod operating;
 mod resetting;
 mod running;
 mod store;
-#[cfg(test)]
-mod tests;
 mod turn;
 mod verifying;
 

@@ -1,4 +1,5 @@
-//! Databases of another make: with tables of a room that keep nothing out, or lack one.
+//! Databases that hold no room, a new one, and those of another make: with tables of a room that
+//! keep nothing out, or lack one.
 use std::test::Fail;
 use store_player::{plays, plays_in_nothing};
 
@@ -92,8 +93,52 @@ fn rows_of_loose_tables(rt: HostRuntime) -> Result<(), Fail> {
     Ok(())
 }
 
+// A database that holds no room is opened as none, and none is made beside a table.
+const NONE: &str = "\
+store Mark => done
+store Adopt => NotRooms
+store Migrate => NotRooms
+store Same => yes
+sql CREATE TABLE meta (key TEXT PRIMARY KEY NOT NULL, value INTEGER NOT NULL) STRICT => done
+store Adopt => NotRooms
+store Migrate => NotRooms
+store Mark => done
+store Create => fault Db
+store Same => yes
+sql INSERT INTO meta VALUES ('room', 2) => done
+store Adopt => NotRooms
+sql DROP TABLE meta; CREATE TABLE meta (key TEXT, number INTEGER) => done
+store Adopt => NotRooms
+store Migrate => NotRooms
+";
+
+#[test]
+fn databases_without_a_room(rt: HostRuntime) -> Result<(), Fail> {
+    plays_in_nothing(rt.alloc(), &[NONE])
+}
+
+// What a new room has in its tables. It isn't made a second time.
+const NEW: &str = "\
+store Create => done
+rows SELECT id || '/' || (parent IS NULL) || '/' || name || '/' || kind || '/' || owner || '/' \
+|| grp || '/' || dacl_flags || '/' || sacl_flags || '/' || dacl_own || '/' || dacl_inh || '/' \
+|| sacl_own || '/' || sacl_inh || '/' || (SELECT count(*) FROM bodies) \
+|| (SELECT count(*) FROM members) || (SELECT count(*) FROM audits) || '/' \
+|| (SELECT value FROM meta WHERE key = 'rooms') FROM nodes \
+=> 1/1//1/root/staff/1/1/A:fd:OWNER@:rwanNxDtThHdcCoy|////000/2
+store Adopt => done
+store Mark => done
+store Create => fault Db
+store Same => yes
+";
+
+#[test]
+fn new_room_has_its_root_alone(rt: HostRuntime) -> Result<(), Fail> {
+    plays_in_nothing(rt.alloc(), &[NEW])
+}
+
 // A table is gone. It is opened all the same, and what needs the table is answered by a fault.
-const LACKING: [&str; 4] = [
+const LACKING: [&str; 6] = [
     "\
 sql DROP TABLE audits => done
 store Mark => done
@@ -136,6 +181,21 @@ store Reset / dacl list: => fault Db
 store Dump => fault Db
 store Same => yes
 store Members => members
+",
+    // A column is gone.
+    "\
+sql DROP TABLE members; CREATE TABLE members (grp TEXT NOT NULL) STRICT => done
+store Adopt => done
+store Members => fault Db
+root Read /f => fault Db
+",
+    // And `meta` itself.
+    "\
+sql DROP TABLE meta => done
+store Mark => done
+store Adopt => NotRooms
+store Migrate => NotRooms
+store Same => yes
 ",
 ];
 

@@ -67,3 +67,18 @@ store Audits => at,user,path,bits,granted,entry,kind|\
 fn delete_two_records(rt: HostRuntime) -> Result<(), Fail> {
     plays(rt.alloc(), &[TWO_RECORDS])
 }
+
+// Records as they stand in the table, and one of bits that no mask has.
+const WRITTEN: &str = "\
+sql INSERT INTO audits VALUES (1, 5, '', '/a', 3, 0, -2); \
+INSERT INTO audits VALUES (2, 7, 'bob', '/', 32, 1, 1) => done
+store Audits => at,user,path,bits,granted,entry,kind|5,,/a,rw,no,2,alarm|7,bob,/,x,yes,1,audit|
+sql INSERT INTO audits VALUES (3, 9, 'bob', '/', 2048, 1, 1) => done
+store Audits => fault Damaged
+store Verify => sound
+";
+
+#[test]
+fn records_of_the_table(rt: HostRuntime) -> Result<(), Fail> {
+    plays(rt.alloc(), &[WRITTEN])
+}

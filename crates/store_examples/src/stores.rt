@@ -119,8 +119,11 @@ fn import_bad_name(rt: HostRuntime) -> Result<(), Fail> {
     plays_in_empty(rt.alloc(), &[IMPORT, BAD_NAME])
 }
 
-// Pairs come in order of group and then of user, each once, and the next file takes their place.
+// Pairs come in order of group and then of user, each once, and the next file takes their place. A
+// row that is no pair of names is left out.
 const IN_ORDER: &str = "\
+sql INSERT INTO members VALUES ('no name:', 'bob') => done
+store Members => members
 store Import group,user / staff,bob / admins,zoe / staff,alice / staff,bob => done
 store Members => members admins:zoe staff:alice staff:bob
 store Import group,user / staff,bob => done
