@@ -185,7 +185,7 @@ rm -f F-wal
 before=$(cksum <F)
 run dump F
 cp "$work/out" whole
-for number in {1..40}; do
+for number in {1..300}; do
   restore R
   at_call "$number" error=EIO dump F
   [ "$status" = 0 ] && break

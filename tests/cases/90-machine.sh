@@ -149,3 +149,40 @@ if (ulimit -v 60000) 2>/dev/null && has seq; then
   gives 'which changes nothing' 0 'group,user\nsales,alice\n' '' groups-out F
 fi
 gives 'sound' 0 'sound\n' '' verify F
+
+# A connection that wants memory is told, and the next one is served: with little more memory than a server needs, the
+# largest body doesn't fit.
+if [ "$loopback" = no ] || ! (ulimit -v 60000) 2>/dev/null; then
+  skip 'a connection that wants memory' 'no loopback, or no limit of memory'
+  return
+fi
+open_room W
+{ printf 'PUT /doc/big HTTP/1.1\r\nRoom-User: root\r\nConnection: close\r\nContent-Length: 1048576\r\n\r\n'; head -c 1048576 /dev/zero; } >large
+told=no
+for ((limit = 8000; limit <= 40000; limit += 500)); do
+  port=$((port + 1))
+  : >"$work/server.out"
+  (ulimit -v "$limit" && exec "$rooms" serve W --port "$port" --count 2) </dev/null >"$work/server.out" 2>"$work/server.err" &
+  server=$!
+  if await_line; then
+    cp large "$work/sent"
+    exchange 2>/dev/null
+    cp "$work/reply" first.reply
+    last_message GET '/can/?' root >"$work/sent"
+    exchange
+    wait_for "$server" || fail 'a server with little memory' "it doesn't end"
+    if [ -s "$work/server.err" ]; then
+      server_ends 'a connection that wants memory' 0 'connection 1: memory fault\n'
+      holds 'it has no reply' [ ! -s first.reply ]
+      json '200 OK' '{}' >"$work/want.reply"
+      same 'the next one is served' "$work/reply" "$work/want.reply"
+      told=yes
+    fi
+    # With more memory than this the request itself is answered.
+    [ "$told" = no ] && [ ! -s first.reply ] || break
+  fi
+  stop_server
+done
+stop_server
+[ "$told" = yes ] || skip 'a connection that wants memory' 'the limit was not met'
+gives 'sound after want of memory' 0 'sound\n' '' verify W
