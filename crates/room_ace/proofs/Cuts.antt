@@ -1,28 +1,47 @@
 -- A text cut at a separator, and names by their parts.
-use Rattle.std.proofs.Common.{ℕ, ◌+◌, ◌<◌, ◌≡◌, Bool, false, cond, not, ◌&&◌, eqb, List, [], ◌∷◌, Option, Some, None, refl, sym, ap, ◌∙◌, subst, inl, inr, arith, length, MatchOption, Bor}
-use Rattle.std.specs.List.{slice_split, position_or_len, before_first, after_first}
-use Rattle.std.proofs.lemmas.Bool.{cases_Bool}
+use Rattle.std.proofs.Common.{ℕ, ◌+◌, ◌<◌, ◌≤◌, ◌≡◌, Bool, false, cond, ◌&&◌, eqb, List, [], ◌∷◌, Some, None, refl, sym, ap, ◌∙◌, inl, inr, arith, length, take, drop}
+use Rattle.std.specs.Prelude.{◌==◌, nat_lt}
+use Rattle.std.specs.List.{slice_split, position, position_or_len}
+use Rattle.std.proofs.lemmas.Bool.{cases_Bool, ltb-true, ltb-false}
 use Rattle.std.proofs.lemmas.List.Splits.{slice_split_first, length-slice_split}
 use Rattle.room_ace.specs.Pieces.{pieces}
 use Rattle.room_ace.specs.Names.{is_name, is_part, is_local_byte, is_domain_byte, are_name_parts}
 
+-- what `position` gives, as the place and its bound
+pub place_of : (n m i : ℕ) → cond (nat_lt n m) (Some n) None ≡ Some i → (n < m) × (n ≡ i)
+place_of n m i found =
+    elim (cases_Bool (nat_lt n m)) [
+      | inl e ↦ (let known : Some n ≡ Some i = rw e at found in (ltb-true n m e, cc))
+      | inr e ↦ (let known : None ≡ Some i = rw e at found in absurd (cc))
+    ]
+
+pub none_of : (n m : ℕ) → cond (nat_lt n m) (Some n) None ≡ None → m ≤ n
+none_of n m found =
+    elim (cases_Bool (nat_lt n m)) [
+      | inl e ↦ (let known : Some n ≡ None = rw e at found in absurd (cc))
+      | inr e ↦ ltb-false n m e
+    ]
+
 -- where no byte is the separator, the text is the one piece
-pieces_whole : (p : ℕ → Bool) (xs : List ℕ) → position_or_len p xs ≡ length xs → slice_split p xs ≡ xs ∷ []
+pub pieces_whole : (p : ℕ → Bool) (xs : List ℕ) → length xs ≤ position_or_len p xs → slice_split p xs ≡ xs ∷ []
 pieces_whole p [] whole = refl
 pieces_whole p (x ∷ xs) whole =
     elim (cases_Bool (p x)) [
-      | inl e ↦ (let none = subst (λ (b : Bool). cond (not b) (1 + position_or_len p xs) 0 ≡ length (x ∷ xs)) e whole in absurd (omega arith))
-      | inr e ↦ (let more = subst (λ (b : Bool). cond (not b) (1 + position_or_len p xs) 0 ≡ length (x ∷ xs)) e whole in
-          let rest = pieces_whole p xs (omega arith) in rw (e, rest) refl)
+      | inl e ↦ (let wrong = rw e at whole in absurd (omega arith))
+      | inr e ↦ (let rest = rw e at whole in rw (e, pieces_whole p xs (omega arith)) refl)
     ]
 
--- what `split_once` gives, in pieces
-pub cut_pieces : (c : ℕ) (bs : List ℕ) (r : Option (Bor (List ℕ) × Bor (List ℕ)))
-    → MatchOption r (position_or_len (λ b. eqb b c) bs ≡ length bs) (λ x. (position_or_len (λ b. eqb b c) bs < length bs) × (x.0.now ≡ before_first (λ b. eqb b c) bs) × (x.1.now ≡ after_first (λ b. eqb b c) bs))
-    → MatchOption r (pieces c bs ≡ bs ∷ []) (λ parts. pieces c bs ≡ parts.0.now ∷ pieces c parts.1.now)
-cut_pieces c bs None whole = pieces_whole (λ b. eqb b c) bs whole
-cut_pieces c bs (Some x) (below, front, back) =
-    slice_split_first (λ b. eqb b c) bs 0 below ∙ ap (λ (l : List ℕ). l ∷ pieces c (after_first (λ b. eqb b c) bs)) (sym front) ∙ ap (λ (l : List ℕ). x.0.now ∷ pieces c l) (sym back)
+-- no separator stands in the bytes
+pub not_cut : (c : ℕ) (bytes : List ℕ) → None ≡ position (λ byte. byte == c) bytes → pieces c bytes ≡ bytes ∷ []
+not_cut c bytes none = pieces_whole (λ byte. byte == c) bytes (none_of (position_or_len (λ byte. byte == c) bytes) (length bytes) (sym none))
+
+-- the first separator stands at this place
+pub cut_at : (c : ℕ) (bytes : List ℕ) (i : ℕ) → Some i ≡ position (λ byte. byte == c) bytes → (i < length bytes) × (pieces c bytes ≡ take i bytes ∷ pieces c (drop (i + 1) bytes))
+cut_at c bytes i found =
+    let place = place_of (position_or_len (λ byte. byte == c) bytes) (length bytes) i (sym found) in (
+      omega (arith, place.0, place.1),
+      slice_split_first (λ byte. byte == c) bytes 0 place.0 ∙ ap (λ n. take n bytes ∷ pieces c (drop (n + 1) bytes)) place.1,
+    )
 
 -- there is at least one piece
 pub length-pieces : (c : ℕ) (bs : List ℕ) → 0 < length (pieces c bs)

@@ -1,17 +1,18 @@
 -- A text is its first line and what follows it, and bytes are UTF-8 or not.
-use Rattle.std.proofs.Common.{ℕ, ◌≡◌, ◌<◌, ◌≤◌, ◌+◌, Bool, true, false, cond, List, [], ◌∷◌, ◌++◌, Option, Some, None, length, take, drop, refl, sym, ap, ◌∙◌, inl, inr, arith}
+use Rattle.std.proofs.Common.{ℕ, ◌≡◌, ◌<◌, ◌+◌, Bool, true, false, cond, List, [], ◌∷◌, ◌++◌, Option, Some, None, length, take, drop, refl, sym, ap, ◌∙◌, arith}
 use Rattle.std.specs.Prelude.{◌==◌, nat_lt}
 use Rattle.std.specs.Option.{option_map_or}
-use Rattle.std.specs.List.{position, position_or_len, list_all}
+use Rattle.std.specs.List.{position, list_all}
 use Rattle.std.specs.Str.{IsUtf8, IsAscii}
 use Rattle.std.specs.Str.Lossy.{utf8_valid_len}
-use Rattle.std.proofs.lemmas.Bool.{cases_Bool, ltb-true, ltb-false, eq-eqb, ne_eqb, and_parts, or_right, or_from, false_from_ne_true}
+use Rattle.std.proofs.lemmas.Bool.{ltb-true, eq-eqb, ne_eqb, and_parts, or_right, or_from, false_from_ne_true}
 use Rattle.std.proofs.lemmas.List.{length-drop}
-use Rattle.std.proofs.lemmas.List.Splits.{slice_split_first, length-slice_split}
+use Rattle.std.proofs.lemmas.List.Splits.{length-slice_split}
 use Rattle.std.proofs.lemmas.Str.{utf8_valid_len-IsUtf8, IsUtf8-from_ascii}
 use Rattle.std.proofs.lemmas.Str.Ascii.{IsAscii-nil, IsAscii-cons}
 use Rattle.room_ace.specs.Pieces.{pieces}
 use Rattle.room_ace.specs.Lists.{after_line, lines_of, lines_of_pieces, without_return, is_utf8}
+use Rattle.room_ace.proofs.Cuts.{cut_at, not_cut}
 
 abbrev is_end : ℕ → Bool
 is_end byte = byte == 10
@@ -23,29 +24,6 @@ lines-cons piece [] some = absurd (omega arith)
 lines-cons [] (next ∷ more) some = refl
 lines-cons (byte ∷ bytes) (next ∷ more) some = refl
 
-place_of : (n m i : ℕ) → cond (nat_lt n m) (Some n) None ≡ Some i → (n < m) × (n ≡ i)
-place_of n m i found =
-    elim (cases_Bool (nat_lt n m)) [
-      | inl e ↦ (let known : Some n ≡ Some i = rw e at found in (ltb-true n m e, cc))
-      | inr e ↦ (let known : None ≡ Some i = rw e at found in absurd (cc))
-    ]
-
-none_of : (n m : ℕ) → cond (nat_lt n m) (Some n) None ≡ None → m ≤ n
-none_of n m found =
-    elim (cases_Bool (nat_lt n m)) [
-      | inl e ↦ (let known : Some n ≡ None = rw e at found in absurd (cc))
-      | inr e ↦ ltb-false n m e
-    ]
-
--- with no line feed, the bytes are one piece
-uncut : (bytes : List ℕ) → length bytes ≤ position_or_len is_end bytes → pieces 10 bytes ≡ bytes ∷ []
-uncut [] past = refl
-uncut (byte ∷ bytes) past =
-    elim (cases_Bool (is_end byte)) [
-      | inl e ↦ (let wrong = rw e at past in absurd (omega arith))
-      | inr e ↦ (let rest = rw e at past in rw (e, uncut bytes (omega arith)) refl)
-    ]
-
 last_line : (bytes : List ℕ) → (bytes ≡ [] → ⊥) → pieces 10 bytes ≡ bytes ∷ [] → lines_of bytes ≡ without_return bytes ∷ []
 last_line [] some whole = absurd (some refl)
 last_line (byte ∷ bytes) some whole = ap lines_of_pieces whole
@@ -53,13 +31,12 @@ last_line (byte ∷ bytes) some whole = ap lines_of_pieces whole
 -- where a line feed stands, the first line ends
 pub lines_of-cut : (bytes line rest : List ℕ) (i : ℕ) → Some i ≡ position is_end bytes → line ≡ without_return (take i bytes) → rest ≡ drop (i + 1) bytes → (lines_of bytes ≡ line ∷ lines_of rest) × (length rest < length bytes) × (rest ≡ after_line bytes)
 lines_of-cut bytes line rest i found front back =
-    let place = place_of (position_or_len is_end bytes) (length bytes) i (sym found) in
     let more = length-slice_split is_end (drop (i + 1) bytes) in
     let cut : lines_of bytes ≡ without_return (take i bytes) ∷ lines_of (drop (i + 1) bytes) =
-    ap lines_of_pieces (slice_split_first is_end bytes 0 place.0 ∙ ap (λ n. take n bytes ∷ pieces 10 (drop (n + 1) bytes)) place.1)
+    ap lines_of_pieces (cut_at 10 bytes i found).1
     ∙ lines-cons (take i bytes) (pieces 10 (drop (i + 1) bytes)) (omega arith) in (
       cut ∙ ap (λ (start : List ℕ). start ∷ lines_of (drop (i + 1) bytes)) (sym front) ∙ ap (λ (after : List ℕ). line ∷ lines_of after) (sym back),
-      omega (arith, ap length back, length-drop (i + 1) bytes),
+      omega (arith, (cut_at 10 bytes i found).0, ap length back, length-drop (i + 1) bytes),
       back ∙ ap (λ (o : Option ℕ). option_map_or (λ end. drop (end + 1) bytes) o []) found,
     )
 
@@ -70,9 +47,8 @@ drop_whole (x ∷ xs) = drop_whole xs
 -- with no line feed, the bytes are one line
 pub lines_of-uncut : (bytes line rest : List ℕ) → (bytes ≡ [] → ⊥) → None ≡ position is_end bytes → line ≡ without_return bytes → rest ≡ drop (length bytes) bytes → (lines_of bytes ≡ line ∷ lines_of rest) × (length rest < length bytes) × (rest ≡ after_line bytes)
 lines_of-uncut bytes line rest some none front back =
-    let past = none_of (position_or_len is_end bytes) (length bytes) (sym none) in
     let nothing : rest ≡ [] = back ∙ drop_whole bytes in (
-      last_line bytes some (uncut bytes past) ∙ ap (λ (start : List ℕ). start ∷ []) (sym front) ∙ ap (λ (after : List ℕ). line ∷ lines_of after) (sym nothing),
+      last_line bytes some (not_cut 10 bytes none) ∙ ap (λ (start : List ℕ). start ∷ []) (sym front) ∙ ap (λ (after : List ℕ). line ∷ lines_of after) (sym nothing),
       omega (arith, ap length nothing, some_length bytes some),
       nothing ∙ ap (λ (o : Option ℕ). option_map_or (λ end. drop (end + 1) bytes) o []) none,
     )

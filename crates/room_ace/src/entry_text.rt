@@ -3,7 +3,7 @@ ghost use Rattle.std.specs.Prelude.{◌≡◌, ◌++◌, ◌∷◌, [], IfOk, On
 ghost use Rattle.std.specs.Prelude.{codes, ◌<◌};
 ghost use Rattle.std.specs.List.{list_all};
 ghost use Rattle.room_ace.specs.Gives.{Gives};
-ghost use Rattle.room_ace.specs.Pieces.{is_among, pieces};
+ghost use Rattle.room_ace.specs.Pieces.{is_among, pieces, same_text};
 ghost use Rattle.room_ace.specs.Text.{entry_of, entry_of_parts, flag_letters, flags_in, flags_of};
 ghost use Rattle.room_ace.specs.Text.{kind_of, kind_text, who_of, flags_text, who_text, entry_text};
 ghost use Rattle.room_ace.specs.Text.{letter_if};
@@ -12,18 +12,19 @@ use crate::entry::{Entry, EntryKind, Who};
 use crate::failure::Failure;
 use crate::fault::TextFault;
 use crate::flags::EntryFlags;
-use crate::mask::read_mask;
-use crate::name::read_name;
+use crate::mask::mask_in;
+use crate::name::name_in;
 use crate::pieces::cut;
 use std::alloc::{AllocError, Global};
 
-// The four parts of the text of an entry.
+// The four parts of the text of an entry, as bytes, which are cut and compared without a look at
+// where a character ends.
 #[derive(Clone, Copy)]
 struct Parts<'a> {
-    kind: &'a str,
-    flags: &'a str,
-    who: &'a str,
-    mask: &'a str,
+    kind: &'a [u8],
+    flags: &'a [u8],
+    who: &'a [u8],
+    mask: &'a [u8],
 }
 
 /// The entry that the text spells, `type:flags:who:mask`, or its first fault: in its parts, its
@@ -31,21 +32,21 @@ struct Parts<'a> {
 pub fn read_entry(alloc: Global, text: &str) -> Result<Entry, Failure<TextFault>>
     ensures { Gives result (entry_of text.now) }
 {
-    match four_parts(text) {
+    match four_parts(text.as_bytes()) {
         None => Err(Failure::Fault(TextFault::NotFourParts)),
         Some(parts) => entry_of(alloc, parts),
     }
 }
 
-fn four_parts(text: &str) -> Option<Parts<'_>>
-    ensures { MatchOption result (entry_of text.now ≡ Err TextFault.NotFourParts) (λ parts.
-        pieces 58 text.now
+fn four_parts(bytes: &[u8]) -> Option<Parts<'_>>
+    ensures { MatchOption result (entry_of bytes.now ≡ Err TextFault.NotFourParts) (λ parts.
+        pieces 58 bytes.now
         ≡ parts.kind.now ∷ parts.flags.now ∷ parts.who.now ∷ parts.mask.now ∷ []) }
 {
-    let (kind, rest) = cut(text, ':')?;
-    let (flags, rest) = cut(rest, ':')?;
-    let (who, mask) = cut(rest, ':')?;
-    match cut(mask, ':') {
+    let (kind, rest) = cut(bytes, &b':')?;
+    let (flags, rest) = cut(rest, &b':')?;
+    let (who, mask) = cut(rest, &b':')?;
+    match cut(mask, &b':') {
         None => Some(Parts {
             kind,
             flags,
@@ -70,32 +71,38 @@ fn entry_of(alloc: Global, parts: Parts<'_>) -> Result<Entry, Failure<TextFault>
         None => return Err(Failure::Fault(TextFault::BadWho)),
         Some(who) => who,
     };
-    match read_mask(parts.mask) {
+    match mask_in(parts.mask) {
         Err(fault) => Err(Failure::Fault(fault)),
         Ok(mask) => Ok(Entry::new(kind, flags, who, mask)),
     }
 }
 
-fn kind_of(text: &str) -> Option<EntryKind>
-    ensures { result ≡ kind_of text.now }
+// Whether the bytes are those of the word.
+fn spells(bytes: &[u8], word: &str) -> bool
+    ensures { result ≡ same_text bytes.now word.now }
 {
-    if text == "A" {
+    bytes == word.as_bytes()
+}
+
+fn kind_of(letters: &[u8]) -> Option<EntryKind>
+    ensures { result ≡ kind_of letters.now }
+{
+    if spells(letters, "A") {
         Some(EntryKind::Allow)
-    } else if text == "D" {
+    } else if spells(letters, "D") {
         Some(EntryKind::Deny)
-    } else if text == "U" {
+    } else if spells(letters, "U") {
         Some(EntryKind::Audit)
-    } else if text == "L" {
+    } else if spells(letters, "L") {
         Some(EntryKind::Alarm)
     } else {
         None
     }
 }
 
-fn flags_of(text: &str) -> Option<EntryFlags>
-    ensures { result ≡ flags_of text.now }
+fn flags_of(letters: &[u8]) -> Option<EntryFlags>
+    ensures { result ≡ flags_of letters.now }
 {
-    let letters = text.as_bytes();
     if are_flag_letters(letters) {
         Some(flags_in(letters))
     } else {
@@ -131,26 +138,26 @@ fn is_flag_letter(letter: u8) -> bool
     b"fdniSFgI".contains(&letter)
 }
 
-// The who of the text, which is a group's name where the group flag is set.
-fn who_of(alloc: Global, group: bool, text: &str) -> Result<Option<Who>, AllocError>
-    ensures { IfOk result (λ who. who ≡ who_of group text.now) }
+// The who of the bytes, which is a group's name where the group flag is set.
+fn who_of(alloc: Global, group: bool, bytes: &[u8]) -> Result<Option<Who>, AllocError>
+    ensures { IfOk result (λ who. who ≡ who_of group bytes.now) }
 {
-    if text == "OWNER@" {
+    if spells(bytes, "OWNER@") {
         return Ok(Some(Who::Owner));
     }
-    if text == "GROUP@" {
+    if spells(bytes, "GROUP@") {
         return Ok(Some(Who::Group));
     }
-    if text == "EVERYONE@" {
+    if spells(bytes, "EVERYONE@") {
         return Ok(Some(Who::Everyone));
     }
-    if text == "ANONYMOUS@" {
+    if spells(bytes, "ANONYMOUS@") {
         return Ok(Some(Who::Anonymous));
     }
-    if text == "AUTHENTICATED@" {
+    if spells(bytes, "AUTHENTICATED@") {
         return Ok(Some(Who::Authenticated));
     }
-    match read_name(alloc, text) {
+    match name_in(alloc, bytes) {
         Ok(name) if group => Ok(Some(Who::Members(name))),
         Ok(name) => Ok(Some(Who::User(name))),
         Err(Failure::Fault(_)) => Ok(None),

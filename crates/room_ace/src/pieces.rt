@@ -1,13 +1,23 @@
-//! A text cut at a separator.
-ghost use Rattle.std.specs.Prelude.{◌≡◌, ◌<◌, [], ◌∷◌, MatchOption};
+//! Bytes cut at a separator.
+ghost use Rattle.std.specs.Prelude.{◌≡◌, ◌==◌, [], ◌∷◌, MatchOption};
+ghost use Rattle.std.specs.List.{position};
 ghost use Rattle.room_ace.specs.Pieces.{pieces};
 
 /// What stands before the first separator and what stands behind it, or nothing where there is
 /// none.
-pub(crate) fn cut(text: &str, separator: char) -> Option<(&str, &str)>
-    requires { separator < 128 }
-    ensures { MatchOption result (pieces separator text.now ≡ text.now ∷ []) (λ parts.
-        pieces separator text.now ≡ parts.0.now ∷ pieces separator parts.1.now) }
+pub(crate) fn cut<'a>(bytes: &'a [u8], separator: &u8) -> Option<(&'a [u8], &'a [u8])>
+    ensures { MatchOption result (pieces separator.now bytes.now ≡ bytes.now ∷ []) (λ parts.
+        pieces separator.now bytes.now ≡ parts.0.now ∷ pieces separator.now parts.1.now) }
 {
-    text.split_once(separator)
+    match place_of(bytes, separator) {
+        None => None,
+        Some(place) => Some((&bytes[..place], &bytes[place + 1..])),
+    }
+}
+
+// Where the separator first stands.
+fn place_of(bytes: &[u8], separator: &u8) -> Option<usize>
+    ensures { result ≡ position (λ byte. byte == separator.now) bytes.now }
+{
+    bytes.iter().position(|byte| byte == separator)
 }

@@ -1,5 +1,5 @@
 //! The lists of an object.
-ghost use Rattle.std.specs.Prelude.{◌≡◌, IfOk};
+ghost use Rattle.std.specs.Prelude.{◌≡◌, [], IfOk};
 ghost use Rattle.room_rows.specs.Held.{full_of};
 
 use room_ace::{Entries, Entry, ListFlags};
@@ -43,6 +43,17 @@ impl Held {
             entries,
             own: count,
         })
+    }
+
+    /// The list of these inherited entries alone, which takes no memory.
+    pub fn inherited(flags: ListFlags, inh: Entries) -> Held
+        ensures { result ≡ record { flags = flags; own = []; inh = inh } }
+    {
+        Held {
+            flags,
+            entries: inh,
+            own: 0,
+        }
     }
 
     /// The list's flags.

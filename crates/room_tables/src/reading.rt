@@ -160,6 +160,10 @@ fn held_of(
     let Some(inh) = entries_at(alloc, inh)? else {
         return Ok(None);
     };
+    // most lists are inherited whole, and need no copy behind own entries
+    if own.as_slice().is_empty() {
+        return Ok(Some(Held::inherited(flags, inh)));
+    }
     Ok(Some(Held::new(flags, own, inh.as_slice())?))
 }
 

@@ -1,11 +1,11 @@
 use Rattle.std.proofs.Common.{ℕ, List, ap, ◌∙◌, filter, ◌||◌, take}
 use Rattle.room_ace.specs.Bits.{all_bits, has}
 use Rattle.room_ace.proofs.MaskLetters.{spelled, spelled_more, letters_more}
-use Rattle.room_ace.proofs.mask.read_mask.Goals as goal
+use Rattle.room_ace.proofs.mask.mask_in.Goals as goal
 
 pub loop-letter-preserved : goal.loop-letter-preserved
 loop-letter-preserved c =
-    let text = c.as_bytes-letter-items.result.now in
+    let text = c.args.letters.now in
     let i = c.loop-letter.letter-index in
     record {
       mask =
