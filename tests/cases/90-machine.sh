@@ -140,9 +140,6 @@ if (ulimit -v 60000) 2>/dev/null && has seq; then
   status=$(cat status)
   if [ "$status" = 0 ]; then
     skip 'want of memory' 'the limit was not met'
-  elif [ "$(cat "$work/err")" = 'fault: database' ]; then
-    # Where the database gets no room for a page, it tells that as a fault of its own.
-    wants 'want of memory' 3 '' 'fault: database\n'
   else
     wants 'want of memory' 3 '' 'fault: memory\n'
   fi

@@ -17,7 +17,7 @@ ghost use Rattle.room_operating.specs.Operating.{
 
 use room_ace::Name;
 use room_rows::KeepFault;
-use room_tables::{name_of, value_at};
+use room_tables::{name_of, value_at, wants_memory};
 use sqlite::{Alter, Error, Row, Transaction, params};
 use std::alloc::{AllocError, Global};
 use std::cmp::Ordering;
@@ -131,6 +131,7 @@ pub fn all_members<S: Alter>(
 {
     let rows = match select_members(tx) {
         Ok(rows) => rows,
+        Err(error) if wants_memory(error) => return Err(KeepFault::Memory),
         Err(_) => return Err(KeepFault::Store),
     };
     let pairs = see_pairs(alloc, rows.as_slice())?;

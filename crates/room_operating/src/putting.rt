@@ -13,6 +13,7 @@ ghost use Rattle.room_operating.specs.Operating.{Gathers, Joins, ReplacesMembers
 use crate::operating::{compare, delete_members, insert_member};
 use room_ace::{Name, names_are_text};
 use room_rows::KeepFault;
+use room_tables::wants_memory;
 use sqlite::{Alter, Error, Transaction};
 use std::alloc::{AllocError, Global};
 
@@ -76,6 +77,7 @@ fn insert_at<S: Alter>(
     is_read_back(pair);
     match insert_pair(tx, pair) {
         Ok(_) => Ok(()),
+        Err(error) if wants_memory(error) => Err(KeepFault::Memory),
         Err(_) => Err(KeepFault::Store),
     }
 }
@@ -108,6 +110,7 @@ pub fn put_members<S: Alter>(
     let order = in_order(alloc, pairs)?;
     match delete_members(tx) {
         Ok(_) => {}
+        Err(error) if wants_memory(error) => return Err(KeepFault::Memory),
         Err(_) => return Err(KeepFault::Store),
     }
     insert_each(tx, order.as_slice())

@@ -17,7 +17,7 @@ ghost use Rattle.room_operating.specs.Operating.{
 
 use room_ace::{Failure, Mask, Name};
 use room_rows::{AuditRow, KeepFault, RecordKind, Text, read_path};
-use room_tables::{name_of, text_at, value_at};
+use room_tables::{name_of, text_at, value_at, wants_memory};
 use sqlite::types::ValueRef;
 use sqlite::{Alter, Error, Row, Transaction, params};
 use std::alloc::{AllocError, Global};
@@ -174,6 +174,7 @@ pub fn all_records<S: Alter>(
 {
     let rows = match select_records(tx) {
         Ok(rows) => rows,
+        Err(error) if wants_memory(error) => return Err(KeepFault::Memory),
         Err(_) => return Err(KeepFault::Store),
     };
     match see_records(alloc, rows.as_slice())? {

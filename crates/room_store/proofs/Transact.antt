@@ -11,12 +11,14 @@ use Rattle.room_rows.specs.Rows.{Rows}
 use Rattle.room_tables.specs.Meaning.{rows_of}
 use Rattle.room_tables.specs.Shown.{HasTables, IsRoom, Stays, room_of, tables_of}
 use Rattle.room_tables.specs.Trust.{IsTrusted}
+use Rattle.room_tables.specs.Seeing.{wants_memory}
+use Rattle.std.proofs.lemmas.Bool.{cases_Bool}
 use Rattle.room_store.specs.declared.fault.StoreFault.{StoreFault}
-use Rattle.room_store.specs.declared.fault.StoreFault.TheVariants.{Db, Damaged}
+use Rattle.room_store.specs.declared.fault.StoreFault.TheVariants.{Memory, Db, Damaged}
 use Rattle.room_store.specs.Premise.{StorePremise}
 use Rattle.room_store.specs.Ran.{LeavesOpen, Looked, Ran}
 use Rattle.room_operating.specs.Carries.{ByRows, Carries, OnRows, Reading}
-use Rattle.room_store.specs.Turn.{Finishes, GivesUp, fault_as}
+use Rattle.room_store.specs.Turn.{Finishes, GivesUp, commit_fault, fault_as}
 
 -- a transaction begins
 pub record Begins (old begun : State) : Type 0 where
@@ -27,6 +29,14 @@ pub record Begins (old begun : State) : Type 0 where
   pub mode : begun.in_transaction ≡ true
   pub settled : IsTrue old.is_open → old.now ≡ old.committed
   pub sound : IsTrue old.is_open → IsDatabase old.now
+
+-- a commit that fails is no damage
+never_damage : (why : Error) → commit_fault why ≡ Damaged → ⊥
+never_damage why is =
+    elim (cases_Bool (wants_memory why)) [
+      | inl e ↦ (let known : Memory ≡ Damaged = rw e at is in absurd (cc))
+      | inr e ↦ (let known : Db ≡ Damaged = rw e at is in absurd (cc))
+    ]
 
 -- the fault of a keeper that a store tells as damage
 damage_of : (why : KeepFault) → fault_as why ≡ Damaged → (id : ℕ) × (why ≡ keep.Damaged id)
@@ -144,8 +154,8 @@ module _ (old begun mid end : State) (begins : Begins old begun) (stays : Stays 
     pub ran : (done : Result X KeepFault) (result : Result X StoreFault) → Carries begun mid done (OnRows Blames) (ByRows Becomes) → (HasCleanDisk end → Finishes mid end done result) → Ran old end result Blames Becomes
     ran (Ok x) (Ok y) carries ends = committed x y (λ now. (ends now).0) (λ trust. carries.becomes trust) (λ now. (ends now).2)
     ran (Ok x) (Err fault) carries ends =
-        given_up fault (λ now open'. was_at open' (ends now).1 (ends now).2) (λ now open' tables. left_at now open' tables (ends now).1 (ends now).2)
-        (λ premise _ is. absurd (let e = sym (ends premise.disk).0 ∙ is in cc))
+        given_up fault (λ now open'. was_at open' (ends now).0 (ends now).2) (λ now open' tables. left_at now open' tables (ends now).0 (ends now).2)
+        (λ premise _ is. absurd (never_damage (ends premise.disk).0 (sym (ends premise.disk).1 ∙ is)))
     ran (Err why) (Ok y) carries ends = record {
       leaves = leaves (λ now _. absurd (ends now));
       answers = λ now. absurd (ends now);

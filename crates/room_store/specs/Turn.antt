@@ -1,10 +1,11 @@
 -- How the transaction round the calls of a keeper begins and ends.
-use Rattle.std.specs.Prelude.{◌≡◌, Result, Ok, Err, IsTrue, false}
+use Rattle.std.specs.Prelude.{◌≡◌, Result, Ok, Err, IsTrue, false, if◌then◌else◌}
 use Rattle.sqlite.specs.declared.error.Error.{Error}
 use Rattle.sqlite.specs.State.{State, IsRolledBack, Shows}
 use Rattle.sqlite.specs.Steps.{FailsToCommit}
 use Rattle.room_rows.specs.declared.keep.KeepFault.{KeepFault}
 use Rattle.room_rows.specs.declared.keep.KeepFault.TheVariants as keep
+use Rattle.room_tables.specs.Seeing.{wants_memory}
 use Rattle.room_store.specs.declared.fault.StoreFault.{StoreFault}
 use Rattle.room_store.specs.declared.fault.StoreFault.TheVariants.{Memory, Db, Damaged}
 
@@ -14,12 +15,17 @@ fault_as keep.Memory = Memory
 fault_as keep.Store = Db
 fault_as (keep.Damaged id) = Damaged
 
+-- the fault of a store whose commit fails so
+abbrev pub commit_fault : Error → StoreFault
+commit_fault why = if wants_memory why then Memory else Db
+
 -- An answer is committed, or the commit fails. After a fault all is undone.
 abbrev pub Finishes : {X : Type 0} → State → State → Result X KeepFault → Result X StoreFault
     → Type 0
 Finishes mid end (Ok x) (Ok y) =
     (y ≡ x) × IsTrue mid.in_transaction × Shows mid end mid.now mid.now false
-Finishes mid end (Ok x) (Err fault) = (fault ≡ Db) × (why : Error) × FailsToCommit mid end why
+Finishes mid end (Ok x) (Err fault) =
+    (why : Error) × (fault ≡ commit_fault why) × FailsToCommit mid end why
 Finishes mid end (Err why) (Ok y) = ⊥
 Finishes mid end (Err why) (Err fault) = (fault ≡ fault_as why) × IsRolledBack mid end
 

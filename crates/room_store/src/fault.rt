@@ -1,8 +1,10 @@
 //! Why a store gives no answer.
 ghost use Rattle.std.specs.Prelude.{◌≡◌};
-ghost use Rattle.room_store.specs.Turn.{fault_as};
+ghost use Rattle.room_store.specs.Turn.{commit_fault, fault_as};
 
 use room_rows::KeepFault;
+use room_tables::wants_memory;
+use sqlite::Error;
 
 /// Why the store gave no answer. The tables then mean what they meant.
 #[derive(Clone, Copy, Debug, PartialEq, Eq)]
@@ -23,5 +25,16 @@ pub(crate) fn fault_of(fault: KeepFault) -> StoreFault
         KeepFault::Memory => StoreFault::Memory,
         KeepFault::Store => StoreFault::Db,
         KeepFault::Damaged { .. } => StoreFault::Damaged,
+    }
+}
+
+/// The fault of a store whose commit fails so.
+pub(crate) fn commit_fault(error: Error) -> StoreFault
+    ensures { result ≡ commit_fault error }
+{
+    if wants_memory(error) {
+        StoreFault::Memory
+    } else {
+        StoreFault::Db
     }
 }

@@ -5,7 +5,7 @@ ghost use Rattle.sqlite.specs.State.{HasCleanDisk};
 ghost use Rattle.sqlite_trees.specs.View.{doubt};
 ghost use Rattle.room_store.specs.Turn.{Finishes};
 
-use crate::fault::{StoreFault, fault_of};
+use crate::fault::{StoreFault, commit_fault, fault_of};
 use room_rows::KeepFault;
 use sqlite::{Alter, Transaction};
 
@@ -23,7 +23,7 @@ pub(crate) fn finish<X: Drop, S: Alter>(
     match done {
         Ok(answer) => match tx.commit() {
             Ok(()) => Ok(answer),
-            Err(_) => Err(StoreFault::Db),
+            Err(error) => Err(commit_fault(error)),
         },
         Err(fault) => {
             tx.rollback();

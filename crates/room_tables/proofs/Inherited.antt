@@ -1,6 +1,6 @@
 -- What the rows mean once a list of an object inherits other entries, by one column of its row.
 use Rattle.std.proofs.Common.{◌≡◌, ℕ, pos, List, [], ◌∷◌, find, None, Some, Option, refl, sym, ap, subst, ◌∙◌}
-use Rattle.std.specs.Prelude.{option_and_then, option_map}
+use Rattle.std.specs.Prelude.{option_and_then}
 use Rattle.sqlite.specs.declared.types.Value.{Value}
 use Rattle.sqlite.specs.declared.types.Value.TheVariants.{Null, Int, Real, Text, Blob}
 use Rattle.sqlite.specs.Kind.TheVariants as kind
@@ -22,7 +22,6 @@ use Rattle.room_rows.proofs.Frames.{node_at-number}
 use Rattle.room_rows.proofs.Lookups.{not_none}
 use Rattle.room_tables.specs.Filed.{node_at_row}
 use Rattle.room_tables.specs.Meaning.{number_in, parent_in, kind_in, flags_in, text_in, name_of_text, name_in, entries_in, given, giving, held_in, owners_in, node_in, rows_of}
-use Rattle.room_tables.specs.RoomRows.{number_in-low}
 use Rattle.room_tables.specs.Shown.{IsRoom, Recasts, inheriting, shown_node, stored_node}
 use Rattle.room_tables.proofs.Changing.{inh_id}
 use Rattle.room_tables.proofs.Recast.{recast}

@@ -7,7 +7,7 @@ use Rattle.sqlite.specs.Program.{overlay}
 use Rattle.sqlite.specs.Cast.{cast_row}
 use Rattle.sqlite.specs.Term.{Term}
 use Rattle.sqlite.specs.Tree.{Trees, rowid, has_rowid, without_rowid, put_row}
-use Rattle.sqlite.specs.Edit.{edit_of, taken_by, edited}
+use Rattle.sqlite.specs.Edit.{taken_by, edited}
 use Rattle.sqlite.specs.Does.{Tally, Does}
 use Rattle.sqlite.specs.Rows.{Edited, Written}
 use Rattle.sqlite.specs.Effect.{Database, IsDatabase}
@@ -23,7 +23,7 @@ use Rattle.sqlite_trees.proofs.TreeLemmas.{IsShaped-filter, IsShaped-put_row}
 use Rattle.room_rows.proofs.Lookups.{same_some}
 use Rattle.room_tables.specs.Tables.{nodes, room_schema}
 use Rattle.room_tables.specs.Shown.{IsRoom, KeepsAll, Recasts, Replaces, stored_node}
-use Rattle.room_tables.proofs.Texts.{query_of, matches_parameter, updates_nodes}
+use Rattle.room_tables.proofs.Texts.{matches_parameter, updates_nodes}
 use Rattle.room_tables.proofs.Answers.{shows, selected}
 use Rattle.room_tables.proofs.Tests.{filter_same, passes_id}
 use Rattle.room_tables.proofs.Writes.{went, same_value, nodes_table}

@@ -1,7 +1,10 @@
 -- What rows are read as, and what a call answers by it.
 use Rattle.std.specs.List.{filter_map}
 use Rattle.std.specs.Prelude.{◌≡◌, ℕ, option_map, List, [], ◌∷◌, ◌++◌, Option, Some, None, Result}
-use Rattle.std.specs.Prelude.{Ok, Err}
+use Rattle.std.specs.Prelude.{Ok, Err, Bool, true, false}
+use Rattle.sqlite.specs.declared.error.Error.{Error}
+use Rattle.sqlite.specs.declared.error.Error.TheVariants.{SqliteFailure}
+use Rattle.sqlite.specs.declared.error.ErrorCode.TheVariants.{OutOfMemory}
 use Rattle.sqlite.specs.declared.types.Value.{Value}
 use Rattle.sqlite.specs.Order.{Row, column}
 use Rattle.room_rows.specs.declared.keep.KeepFault.{KeepFault}
@@ -63,6 +66,11 @@ abbrev pub names_seen : List Row → List (List ℕ)
 names_seen rows = filter_map (λ r. name_in (column r 0)) rows
 
 -- ---- answers
+
+-- there was no memory for the database's own work
+abbrev pub wants_memory : Error → Bool
+wants_memory (SqliteFailure OutOfMemory) = true
+wants_memory other = false
 
 abbrev pub answer_of : {X : Type 0} → Seen X → Result X KeepFault
 answer_of Foreign = Err Store

@@ -14,6 +14,7 @@ ghost use Rattle.room_tables.specs.Trust.{stays_on, trusted_first, trusted_last}
 ghost use Rattle.room_tables.specs.RoomRows.{room_rows};
 
 use crate::columns::{columns_of, record_of};
+use crate::fault::wants_memory;
 use crate::reading::number_of;
 use crate::seen::{
     answer, answer_top, rowid_of, see_all, see_bytes, see_listing, see_names, see_numbers, see_only,
@@ -65,6 +66,7 @@ fn put<S: Alter>(keeper: &mut Keeper<'_, '_, S>, node: &Node) -> Result<(), Keep
     drop(columns);
     match done {
         Ok(count) if count == 1 => {}
+        Err(error) if wants_memory(error) => return Err(KeepFault::Memory),
         _ => return Err(failed(&mut keeper.failures)),
     }
     count_one(&mut keeper.writes);
@@ -94,6 +96,7 @@ fn put_inh<S: Alter>(
     drop(text);
     match done {
         Ok(count) if count == 1 => {}
+        Err(error) if wants_memory(error) => return Err(KeepFault::Memory),
         _ => return Err(failed(&mut keeper.failures)),
     }
     count_one(&mut keeper.writes);
@@ -116,6 +119,7 @@ fn put_new<S: Alter>(keeper: &mut Keeper<'_, '_, S>, node: &Node) -> Result<u64,
     drop(columns);
     match done {
         Ok(_) => {}
+        Err(error) if wants_memory(error) => return Err(KeepFault::Memory),
         Err(_) => return Err(failed(&mut keeper.failures)),
     }
     match number_of(ValueRef::Int(keeper.tx.last_insert_rowid())) {
@@ -146,6 +150,7 @@ fn put_bytes<S: Alter>(
     };
     match insert_bytes(keeper.tx, at, bytes) {
         Ok(_) => Ok(()),
+        Err(error) if wants_memory(error) => Err(KeepFault::Memory),
         Err(_) => Err(failed(&mut keeper.failures)),
     }
 }
@@ -166,6 +171,7 @@ fn put_record<S: Alter>(keeper: &mut Keeper<'_, '_, S>, row: &AuditRow) -> Resul
     drop(record);
     match done {
         Ok(_) => {}
+        Err(error) if wants_memory(error) => return Err(KeepFault::Memory),
         Err(_) => return Err(failed(&mut keeper.failures)),
     }
     count_one(&mut keeper.writes);
@@ -202,6 +208,7 @@ impl<'a, 'conn, S: Alter> Keep for Keeper<'a, 'conn, S> {
     fn root(&mut self) -> Result<Node, KeepFault> {
         let rows = match select_top(self.tx) {
             Ok(rows) => rows,
+            Err(error) if wants_memory(error) => return Err(KeepFault::Memory),
             Err(_) => return Err(failed(&mut self.failures)),
         };
         let seen = see_only(self.alloc, rows.as_slice())?;
@@ -211,6 +218,7 @@ impl<'a, 'conn, S: Alter> Keep for Keeper<'a, 'conn, S> {
     fn ids(&mut self) -> Result<Numbers, KeepFault> {
         let rows = match select_numbers(self.tx) {
             Ok(rows) => rows,
+            Err(error) if wants_memory(error) => return Err(KeepFault::Memory),
             Err(_) => return Err(failed(&mut self.failures)),
         };
         let ids = see_numbers(self.alloc, rows.as_slice())?;
@@ -223,6 +231,7 @@ impl<'a, 'conn, S: Alter> Keep for Keeper<'a, 'conn, S> {
         };
         let rows = match select_node(self.tx, at) {
             Ok(rows) => rows,
+            Err(error) if wants_memory(error) => return Err(KeepFault::Memory),
             Err(_) => return Err(failed(&mut self.failures)),
         };
         let seen = see_only(self.alloc, rows.as_slice())?;
@@ -235,6 +244,7 @@ impl<'a, 'conn, S: Alter> Keep for Keeper<'a, 'conn, S> {
         };
         let rows = match select_child(self.tx, at, name) {
             Ok(rows) => rows,
+            Err(error) if wants_memory(error) => return Err(KeepFault::Memory),
             Err(_) => return Err(failed(&mut self.failures)),
         };
         let seen = see_only(self.alloc, rows.as_slice())?;
@@ -247,6 +257,7 @@ impl<'a, 'conn, S: Alter> Keep for Keeper<'a, 'conn, S> {
         };
         let rows = match select_under(self.tx, at) {
             Ok(rows) => rows,
+            Err(error) if wants_memory(error) => return Err(KeepFault::Memory),
             Err(_) => return Err(failed(&mut self.failures)),
         };
         let seen = see_all(self.alloc, rows.as_slice())?;
@@ -259,6 +270,7 @@ impl<'a, 'conn, S: Alter> Keep for Keeper<'a, 'conn, S> {
         };
         let rows = match select_names(self.tx, at) {
             Ok(rows) => rows,
+            Err(error) if wants_memory(error) => return Err(KeepFault::Memory),
             Err(_) => return Err(failed(&mut self.failures)),
         };
         let seen = see_listing(self.alloc, rows.as_slice())?;
@@ -271,6 +283,7 @@ impl<'a, 'conn, S: Alter> Keep for Keeper<'a, 'conn, S> {
         };
         match select_some(self.tx, at) {
             Ok(rows) => Ok(!rows.as_slice().is_empty()),
+            Err(error) if wants_memory(error) => Err(KeepFault::Memory),
             Err(_) => Err(failed(&mut self.failures)),
         }
     }
@@ -281,6 +294,7 @@ impl<'a, 'conn, S: Alter> Keep for Keeper<'a, 'conn, S> {
         };
         let rows = match select_bytes(self.tx, at) {
             Ok(rows) => rows,
+            Err(error) if wants_memory(error) => return Err(KeepFault::Memory),
             Err(_) => return Err(failed(&mut self.failures)),
         };
         let seen = see_bytes(self.alloc, rows.as_slice())?;
@@ -292,6 +306,7 @@ impl<'a, 'conn, S: Alter> Keep for Keeper<'a, 'conn, S> {
         user.is_known();
         let rows = match select_groups(self.tx, user.as_str()) {
             Ok(rows) => rows,
+            Err(error) if wants_memory(error) => return Err(KeepFault::Memory),
             Err(_) => return Err(failed(&mut self.failures)),
         };
         let names = see_names(self.alloc, rows.as_slice())?;
@@ -349,6 +364,7 @@ impl<'a, 'conn, S: Alter> Keep for Keeper<'a, 'conn, S> {
         };
         match delete_node(self.tx, at) {
             Ok(1) => {}
+            Err(error) if wants_memory(error) => return Err(KeepFault::Memory),
             _ => return Err(failed(&mut self.failures)),
         }
         count_one(&mut self.writes);
@@ -361,6 +377,7 @@ impl<'a, 'conn, S: Alter> Keep for Keeper<'a, 'conn, S> {
         };
         match update_bytes(self.tx, at, bytes) {
             Ok(1) => {}
+            Err(error) if wants_memory(error) => return Err(KeepFault::Memory),
             _ => return Err(failed(&mut self.failures)),
         }
         count_one(&mut self.writes);

@@ -2,10 +2,12 @@
 #![tactic(auto)]
 
 mod columns;
+mod fault;
 mod keeper;
 mod reading;
 mod seen;
 mod statements;
 
+pub use crate::fault::wants_memory;
 pub use crate::keeper::Keeper;
 pub use crate::reading::{name_of, text_at, value_at};
