@@ -1,4 +1,4 @@
-# What the machine can refuse: a closed or full standard output, a full disk, rights, locks and ports.
+# What the machine can refuse: a closed or full standard output, a full disk, rights, locks and ports; and a backup.
 
 open_room F
 printf 'group,user\nsales,alice\n' >in.csv
@@ -31,6 +31,42 @@ if [ -c /dev/full ]; then
   holds 'no file stays' is_missing init-full
 fi
 gives 'sound' 0 'sound\n' '' verify F
+
+# A backup: the file and its log, copied once no process has them. The log holds what was written last.
+open_room B
+run dump B
+cp "$work/out" old
+if start_server B 2; then
+  asks 'a document before the copy' made PUT /doc/f root hello
+  stop_server
+  holds 'a log stays behind a server that was killed' is_there B-wal
+  mkdir both alone
+  cp B B-wal both/
+  cp B alone/
+  gives 'the copy of both is sound' 0 'sound\n' '' verify both/B
+  run dump both/B
+  { cat old; echo 'document root staff 5 /f'; echo dacl; printf '%s\n' list:a "A:I:root:$ALL"; printf '%s\n' sacl list:a; } >new
+  wants_file 'it has what was written last' 0 new
+  run dump alone/B
+  wants_file 'the copy of the file alone lacks it' 0 old
+  # Restored over a room that went on: both are put back, and nothing is left of the log that was there.
+  mkdir back
+  cp B B-wal back/
+  if start_server B 2; then
+    asks 'a document after the copy' made PUT /doc/g root hello
+    stop_server
+  fi
+  rm -f B B-wal
+  cp back/B B
+  if [ -e back/B-wal ]; then cp back/B-wal B-wal; fi
+  run dump B
+  wants_file 'what is restored is the copy' 0 new
+  gives 'and is sound' 0 'sound\n' '' verify B
+  if start_server B 1; then
+    asks 'the document of the copy' "reply '200 OK' application/octet-stream hello" GET /doc/f root
+    server_ends 'it ends' 0 ''
+  fi
+fi
 
 # One process at a time has a room, and one socket a port.
 open_room G
@@ -110,11 +146,24 @@ if mount -t tmpfs -o size=1m none small 2>/dev/null; then
   gives 'groups on a full disk' 3 '' 'fault: database\n' groups small/F many.csv
   run dump small/F
   wants_file 'which changes nothing' 0 before
+  # What is told of a room finds no space beside it.
+  for command in dump groups-out audit; do
+    # Whatever the last command gave back is taken again.
+    head -c 2000000 /dev/zero >>small/more 2>/dev/null
+    "$rooms" "$command" small/F </dev/null 2>"$work/err" >small/told
+    status=$?
+    : >"$work/out"
+    wants "$command onto a full disk" 3 '' 'fault: file\n'
+    holds "$command onto a full disk: nothing is there" [ ! -s small/told ]
+    rm small/told
+  done
+  run dump small/F
+  wants_file 'which changes nothing either' 0 before
   gives 'and stays sound' 0 'sound\n' '' verify small/F
   if start_server small/F 3; then
     asks 'a document on a full disk' "json '500 Internal Server Error' '{\"why\":\"store\"}'" PUT /doc/f root hello
     asks 'a look at a full disk' "json '200 OK' '[]'" GET /folder/ root
-    rm small/filler
+    rm small/filler small/more
     asks 'a document once there is room' made PUT /doc/f root hello
     server_ends 'the server goes on' 0 ''
   fi
@@ -122,7 +171,7 @@ if mount -t tmpfs -o size=1m none small 2>/dev/null; then
   gives 'init on a full disk' 3 '' 'fault: database\n' init small/G root staff
   holds 'no file stays' is_missing small/G
   holds 'no log stays' is_missing small/G-wal
-  rm small/filler small/F small/F-wal
+  rm -f small/filler small/more small/F small/F-wal
   gives 'a second try' 0 'ready\n' '' init small/G root staff
   umount small
 else

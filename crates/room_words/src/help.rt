@@ -4,13 +4,13 @@
 pub(crate) const CHECK: &str = "\
 The input has four lines of headers, and then the list:
 
-  caller: alice
-  groups: staff,sales
-  owners: root:staff
-  ask: r
-  list:
-  D::EVERYONE@:w
-  A:g:staff:r
+caller: alice
+groups: staff,sales
+owners: root:staff
+ask: r
+list:
+D::EVERYONE@:w
+A:g:staff:r
 
 A caller without a name is anonymous, and then has no groups. The letters behind
 ask: are those of a mask, and a line of the list is TYPE:FLAGS:WHO:MASK.
@@ -20,11 +20,19 @@ The answer is one line, and the status tells of it:
   0  granted
   1  denied bits LETTERS entry PLACE ENTRY, or: denied bits LETTERS no entry
   2  refused: why
-  3  a fault, told on standard error";
+  3  a fault, told on standard error
+
+Example: rooms check < input.txt";
 
 pub(crate) const INIT: &str = "\
-The room has its root alone, a folder of these owners, whose owner may do
-everything in it and below it.
+The room has its root alone, a folder of this owner and this group, without
+members and records. The root's dacl is
+
+list:a
+A:fd:OWNER@:rwanNxDtThHdcCoy
+
+so that the owner may do everything with it, and nobody else has a right there.
+Its sacl is list:a without an entry. reset sets other lists.
 
   0  ready
   2  refused: A3 bad who, or: refused: file exists
@@ -89,7 +97,7 @@ below it an entry on each line. PATH is written as it is, without escapes.
   2  refused: line N: why, refused: N1 no-such at PATH, or another refusal
   3  a fault, told on standard error
 
-Example: rooms reset room.db /plans dacl < list.txt";
+Example: rooms reset room.db / dacl < list.txt";
 
 pub(crate) const VERIFY: &str = "\
 It tests lists, the root, parents, names, bytes and what is inherited.
@@ -103,7 +111,12 @@ Example: rooms verify room.db";
 
 pub(crate) const MIGRATE: &str = "\
 Schema 1 becomes schema 2, where the rows are sound. With any other answer than
-migrated the file is as it was.
+migrated the file is as it was. Schema 2 is new: it stores with each object all
+entries that it inherits, where schema 1 left out those that its folder's list
+passes down. What the lists say stays.
+
+A file that the other subcommands refuse with schema 1 is old needs it. One that
+init made has schema 2, and is refused here with schema 2 is new.
 
   0  migrated
   1  fault PATH why

@@ -150,7 +150,8 @@ fn help_and_version_are_told(rt: HostRuntime) -> Result<(), Fail> {
 #[test]
 fn help_tells_statuses_and_an_example(rt: HostRuntime) -> Result<(), Fail> {
     expect_help(&rt, "check", "  2  refused: why")?;
-    expect_help(&rt, "check", "  caller: alice")?;
+    expect_help(&rt, "check", "\ncaller: alice\n")?;
+    expect_help(&rt, "check", "Example: rooms check < input.txt")?;
     expect_help(&rt, "init", "Example: rooms init room.db alice staff")?;
     expect_help(&rt, "serve", "Example: rooms serve room.db --port 8781")?;
     expect_help(&rt, "groups", "  0  groups G, members M")?;
@@ -160,7 +161,7 @@ fn help_tells_statuses_and_an_example(rt: HostRuntime) -> Result<(), Fail> {
     expect_help(
         &rt,
         "reset",
-        "Example: rooms reset room.db /plans dacl < list.txt",
+        "Example: rooms reset room.db / dacl < list.txt",
     )?;
     expect_help(&rt, "verify", "  1  fault PATH why")?;
     expect_help(&rt, "migrate", "  0  migrated")
