@@ -71,7 +71,7 @@ without_return-push (byte ∷ next ∷ front) last =
 
 -- ---- UTF-8
 
-ascii : (bytes : List ℕ) → list_all (λ byte. nat_lt byte 128) bytes ≡ true → IsAscii bytes
+pub ascii : (bytes : List ℕ) → list_all (λ byte. nat_lt byte 128) bytes ≡ true → IsAscii bytes
 ascii [] all = IsAscii-nil
 ascii (byte ∷ bytes) all =
     let parts = and_parts (nat_lt byte 128) (list_all (λ other. nat_lt other 128) bytes) all in

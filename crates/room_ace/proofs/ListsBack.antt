@@ -133,8 +133,14 @@ ascii_byte byte shown =
     let most : byte ≤ 126 = leb-true byte 126 (and_parts (nat_le 33 byte) (nat_le byte 126) shown).1 in
     lt-ltb byte 128 (omega arith)
 
+visible_ascii : (text : List ℕ) → are_visible text ≡ true → list_all (λ byte. nat_lt byte 128) text ≡ true
+visible_ascii text shown = all_imply is_visible (λ byte. nat_lt byte 128) text ascii_byte shown
+
 visible_utf8 : (text : List ℕ) → are_visible text ≡ true → is_utf8 text ≡ true
-visible_utf8 text shown = or_left (list_all (λ byte. nat_lt byte 128) text) _ (all_imply is_visible (λ byte. nat_lt byte 128) text ascii_byte shown)
+visible_utf8 text shown = or_left (list_all (λ byte. nat_lt byte 128) text) _ (visible_ascii text shown)
+
+pub name_ascii : (name : List ℕ) → is_name name ≡ true → list_all (λ byte. nat_lt byte 128) name ≡ true
+name_ascii name holds = visible_ascii name (visible_name name holds)
 
 pub name_text : (name : List ℕ) → is_name name ≡ true → is_utf8 name ≡ true
 name_text name holds = visible_utf8 name (visible_name name holds)

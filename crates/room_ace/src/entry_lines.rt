@@ -5,9 +5,9 @@ ghost use Rattle.room_ace.specs.Laws.{IsEntry};
 ghost use Rattle.room_ace.specs.Lists.{entry_lines};
 
 use crate::entry::{Entries, Entry};
-use crate::entry_text::{read_entry, write_line};
+use crate::entry_text::{entry_from, write_line};
 use crate::failure::Failure;
-use crate::lines::{split_line, text_of};
+use crate::lines::split_line;
 use crate::list_lines::{is_blank, is_comment};
 use std::alloc::{AllocError, Global};
 
@@ -51,15 +51,13 @@ pub fn read_entries(alloc: Global, bytes: &[u8]) -> Result<Option<Entries>, Allo
     Ok(Some(entries))
 }
 
+// What spells an entry is ASCII, so that nothing has to be tested for UTF-8.
 fn entry_of(alloc: Global, line: &[u8]) -> Result<Option<Entry>, AllocError>
     ensures { IfOk result (λ entry. entry ≡ entry_in line.now) }
 {
-    match text_of(line) {
-        None => Ok(None),
-        Some(text) => match read_entry(alloc, text) {
-            Ok(entry) => Ok(Some(entry)),
-            Err(Failure::OutOfMemory) => Err(AllocError),
-            Err(Failure::Fault(_)) => Ok(None),
-        },
+    match entry_from(alloc, line) {
+        Ok(entry) => Ok(Some(entry)),
+        Err(Failure::OutOfMemory) => Err(AllocError),
+        Err(Failure::Fault(_)) => Ok(None),
     }
 }

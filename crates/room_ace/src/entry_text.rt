@@ -32,7 +32,14 @@ struct Parts<'a> {
 pub fn read_entry(alloc: Global, text: &str) -> Result<Entry, Failure<TextFault>>
     ensures { Gives result (entry_of text.now) }
 {
-    match four_parts(text.as_bytes()) {
+    entry_from(alloc, text.as_bytes())
+}
+
+/// The same of bytes.
+pub(crate) fn entry_from(alloc: Global, bytes: &[u8]) -> Result<Entry, Failure<TextFault>>
+    ensures { Gives result (entry_of bytes.now) }
+{
+    match four_parts(bytes) {
         None => Err(Failure::Fault(TextFault::NotFourParts)),
         Some(parts) => entry_of(alloc, parts),
     }

@@ -1,0 +1,94 @@
+-- What spells an entry is ASCII.
+use Rattle.std.proofs.Common.{ℕ, ◌≡◌, Bool, true, false, cond, List, [], ◌∷◌, Option, Some, None, Result, Ok, refl, sym, ap, ◌∙◌, subst, inl, inr, codes, ◌++◌}
+use Rattle.std.specs.Prelude.{nat_lt}
+use Rattle.std.specs.List.{list_all, join_with_byte}
+use Rattle.std.specs.Cmp.Lexicographic.{same_text as text_equal}
+use Rattle.std.proofs.lemmas.Bool.{cases_Bool, cond-true, cond-false, or_left}
+use Rattle.std.proofs.lemmas.List.Splits.{join_with_byte-slice_split}
+use Rattle.room_ace.specs.Pieces.{pieces, is_among, same_text}
+use Rattle.room_ace.specs.Names.{is_name}
+use Rattle.room_ace.specs.Ace.{Ace}
+use Rattle.room_ace.specs.Text.{kind_of, flag_letters, flags_of, mask_letters, mask_of, who_of, part, entry_of, entry_of_parts}
+use Rattle.room_ace.specs.Lists.{is_utf8}
+use Rattle.room_ace.specs.Column.{some_of, entry_in}
+use Rattle.room_ace.specs.declared.entry.EntryKind.{EntryKind}
+use Rattle.room_ace.specs.declared.entry.EntryKind.TheVariants.{Allow, Deny, Audit, Alarm}
+use Rattle.room_ace.specs.declared.entry.Who.{Who}
+use Rattle.room_ace.specs.declared.entry.Who.TheVariants.{Owner, Group, Everyone, Anonymous, Authenticated}
+use Rattle.room_ace.specs.declared.flags.EntryFlags.{EntryFlags}
+use Rattle.room_ace.specs.declared.fault.TextFault.{TextFault}
+use Rattle.room_ace.proofs.RoundTrip.{all-append, all_imply, at_bit}
+use Rattle.room_ace.proofs.ListsBack.{name_ascii}
+
+abbrev is_ascii : ℕ → Bool
+is_ascii byte = nat_lt byte 128
+
+abbrev are_ascii : List ℕ → Bool
+are_ascii text = list_all is_ascii text
+
+-- the text is the word, or the other words decide
+or_word : {A : Type 0} (text word : List ℕ) (value known : A) (others : Option A) → are_ascii word ≡ true → cond (same_text text word) (Some value) others ≡ Some known
+    → (others ≡ Some known → are_ascii text ≡ true) → are_ascii text ≡ true
+or_word text word value known others plain some rest =
+    elim (cases_Bool (same_text text word)) [
+      | inl same ↦ subst (λ t. are_ascii t ≡ true) (sym (text_equal text word (sym same))) plain
+      | inr other ↦ rest (sym (cond-false (same_text text word) (Some value) others other) ∙ some)
+    ]
+
+-- what passes is there
+if_some : {A : Type 0} (b : Bool) (value known : A) → cond b (Some value) None ≡ Some known → b ≡ true
+if_some true value known some = refl
+if_some false value known some = absurd (cc)
+
+kind_ascii : (text : List ℕ) (kind : EntryKind) → kind_of text ≡ Some kind → are_ascii text ≡ true
+kind_ascii text kind known =
+    or_word text (codes "A") Allow kind _ refl known
+    (λ d. or_word text (codes "D") Deny kind _ refl d
+    (λ u. or_word text (codes "U") Audit kind _ refl u
+    (λ l. or_word text (codes "L") Alarm kind _ refl l (λ none. absurd (cc)))))
+
+flags_ascii : (text : List ℕ) (flags : EntryFlags) → flags_of text ≡ Some flags → are_ascii text ≡ true
+flags_ascii text flags known =
+    all_imply (is_among flag_letters) is_ascii text (λ byte. at_bit is_ascii flag_letters byte refl) (if_some (list_all (is_among flag_letters) text) _ flags known)
+
+mask_ascii : (text : List ℕ) (mask : List ℕ) → mask_of text ≡ Some mask → are_ascii text ≡ true
+unfolding mask_letters
+mask_ascii text mask known =
+    all_imply (is_among mask_letters) is_ascii text (λ byte. at_bit is_ascii mask_letters byte refl) (if_some (list_all (is_among mask_letters) text) _ mask known)
+
+who_ascii : (group : Bool) (text : List ℕ) (who : Who) → who_of group text ≡ Some who → are_ascii text ≡ true
+who_ascii group text who known =
+    or_word text (codes "OWNER@") Owner who _ refl known
+    (λ g. or_word text (codes "GROUP@") Group who _ refl g
+    (λ e. or_word text (codes "EVERYONE@") Everyone who _ refl e
+    (λ a. or_word text (codes "ANONYMOUS@") Anonymous who _ refl a
+    (λ u. or_word text (codes "AUTHENTICATED@") Authenticated who _ refl u
+    (λ name. name_ascii text (if_some (is_name text) _ who name))))))
+
+-- a part that is well, and what comes after it
+part_ok : {A B C : Type 0} (read : Option A) (fault : TextFault) (rest : A → Result B TextFault) (all : B) → part read fault rest ≡ Ok all
+    → ((value : A) → read ≡ Some value → rest value ≡ Ok all → C) → C
+part_ok None fault rest all well use_it = absurd (cc)
+part_ok (Some value) fault rest all well use_it = use_it value refl well
+
+parts_ascii : (parts : List (List ℕ)) (entry : Ace) → entry_of_parts parts ≡ Ok entry → are_ascii (join_with_byte 58 parts) ≡ true
+parts_ascii [] entry well = absurd (cc)
+parts_ascii (a ∷ []) entry well = absurd (cc)
+parts_ascii (a ∷ b ∷ []) entry well = absurd (cc)
+parts_ascii (a ∷ b ∷ c ∷ []) entry well = absurd (cc)
+parts_ascii (a ∷ b ∷ c ∷ d ∷ e ∷ more) entry well = absurd (cc)
+parts_ascii (kind ∷ flags ∷ who ∷ mask ∷ []) entry well =
+    part_ok (kind_of kind) _ _ entry well (λ k first after_kind.
+    part_ok (flags_of flags) _ _ entry after_kind (λ f second after_flags.
+    part_ok (who_of f.identifier_group who) _ _ entry after_flags (λ w third after_who.
+    part_ok (mask_of mask) _ _ entry after_who (λ m fourth after_mask.
+    all-append is_ascii kind (58 ∷ (flags ++ (58 ∷ (who ++ (58 ∷ mask))))) (kind_ascii kind k first)
+    (all-append is_ascii flags (58 ∷ (who ++ (58 ∷ mask))) (flags_ascii flags f second)
+    (all-append is_ascii who (58 ∷ mask) (who_ascii f.identifier_group who w third) (mask_ascii mask m fourth)))))))
+
+pub entry_utf8 : (line : List ℕ) (entry : Ace) → entry_of line ≡ Ok entry → is_utf8 line ≡ true
+entry_utf8 line entry well =
+    or_left (are_ascii line) _ (subst (λ (text : List ℕ). are_ascii text ≡ true) (join_with_byte-slice_split 58 line) (parts_ascii (pieces 58 line) entry well))
+
+pub spelled : (line : List ℕ) (entry : Ace) → entry_of line ≡ Ok entry → Some entry ≡ entry_in line
+spelled line entry well = sym (cond-true (is_utf8 line) _ None (entry_utf8 line entry well) ∙ ap some_of well)
