@@ -7,8 +7,6 @@ mod fault;
 mod headers;
 mod judging;
 mod question;
-#[cfg(test)]
-mod tests;
 
 pub use answering::answer;
 pub use fault::{InputFault, InputWhy};

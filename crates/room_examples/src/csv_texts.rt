@@ -165,7 +165,7 @@ fn audit_path_quoted(rt: HostRuntime) -> Result<(), Fail> {
 }
 
 // What hostile or odd bytes are read as.
-const ODD_FILES: [(&[u8], &str); 17] = [
+static ODD_FILES: [(&[u8], &str); 17] = [
     (b"group,user\n\"sales,alice\n", "row 2: C2 not two fields"),
     (b"group,user\nsa\0les,alice\n", "row 2: C3 bad name"),
     (b"\0", "row 1: C1 bad header"),
@@ -193,8 +193,8 @@ const ODD_FILES: [(&[u8], &str); 17] = [
 
 #[test]
 fn odd_group_files(rt: HostRuntime) -> Result<(), Fail> {
-    for (bytes, want) in ODD_FILES {
-        assert_eq!(rt; told(rt.alloc(), bytes)?.as_str(), want, "in {bytes:?}");
+    for (bytes, want) in &ODD_FILES {
+        assert_eq!(rt; told(rt.alloc(), *bytes)?.as_str(), *want, "in {bytes:?}");
     }
     Ok(())
 }

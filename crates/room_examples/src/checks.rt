@@ -1,7 +1,7 @@
 //! What is told of written inputs.
 
-use crate::answering::answer;
 use room_ace::MOST_BYTES;
+use room_check::answer;
 use std::io::{self, ErrorKind, Read, Write};
 use std::process::Abort;
 use std::test::Fail;
