@@ -65,7 +65,7 @@ fn serve_each(alloc: Global, alone: bool, scripts: &[(&str, &str)]) -> Result<()
 }
 
 // The examples, and what comes before them.
-const EXAMPLES: [(&str, &str); 15] = [
+static EXAMPLES: [(&str, &str); 15] = [
     ("", BY_PARENT_RIGHT),
     ("", BY_ADDING_RIGHT),
     ("", DENIED_AT_TARGET),

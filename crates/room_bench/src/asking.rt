@@ -19,7 +19,7 @@ use std::time::Instant;
 const ROUNDS: u32 = 1000;
 
 // A list of 32 entries, of which the last one speaks of the caller.
-const LIST: [&str; 32] = [
+static LIST: [&str; 32] = [
     "A::bob:r",
     "A::bob:r",
     "A::bob:r",

@@ -2,7 +2,7 @@
 
 use crate::Job;
 use crate::asks::{Ask, name_of, request_of};
-use crate::workloads::{CALLER, ROOM, WORKLOADS};
+use crate::workloads::{CALLER, room, workloads};
 use anyhow::{Result, anyhow};
 use room_ace::Name;
 use room_inherit::Report;
@@ -46,10 +46,10 @@ fn work_for<S: Alter>(
     caller: &Name,
     job: &Job<'_>,
 ) -> Result<()> {
-    for ask in ROOM.iter() {
+    for ask in room() {
         time(rt, store, caller, ask)?;
     }
-    for (title, ask, back) in WORKLOADS.iter() {
+    for (title, ask, back) in workloads() {
         if title.starts_with(job.only) {
             repeat(rt, store, caller, title, (ask, back), job.rounds)?;
         }

@@ -15,7 +15,18 @@ const OTHERS: u32 = 31;
 /// Makes what the workloads need beside the objects that are many: documents at depth 1 and 6
 /// behind lists of 32 entries, one whose list grants nothing and asks for a record, and a folder
 /// that passes on an entry of its own.
-pub const ROOM: [Ask; 20] = [
+pub fn room() -> &'static [Ask] {
+    &ROOM
+}
+
+/// The workloads: a title, a request that is timed, and one that takes back what it did. The folder
+/// `/x` has the objects below, and `/o/object 1` has 100 documents.
+pub fn workloads() -> &'static [(&'static str, Ask, Ask)] {
+    &WORKLOADS
+}
+
+// (A constant of many parts would stand whole in the proof of each function that names it.)
+static ROOM: [Ask; 20] = [
     Ask::SetList("/", Which::Dacl, "list:a", OTHERS, ALL),
     Ask::MakeFolder("/f"),
     Ask::MakeFolder("/f/f"),
@@ -38,9 +49,7 @@ pub const ROOM: [Ask; 20] = [
     Ask::SetList("/b", Which::Dacl, "list:a", 0, "A:fd:carol:r"),
 ];
 
-/// The workloads: a title, a request that is timed, and one that takes back what it did. The folder
-/// `/x` has the objects below, and `/o/object 1` has 100 documents.
-pub const WORKLOADS: [(&str, Ask, Ask); 8] = [
+static WORKLOADS: [(&str, Ask, Ask); 8] = [
     ("read 1", Ask::Read("/g"), Ask::Read("/g")),
     ("read 6", Ask::Read("/f/f/f/f/f/g"), Ask::Read("/g")),
     ("list", Ask::List("/o/object 1"), Ask::Read("/g")),

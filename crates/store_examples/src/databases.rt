@@ -21,7 +21,7 @@ store Verify => sound
 ";
 
 // What such tables may hold beside the root.
-const LOOSE_ROWS: [&str; 9] = [
+static LOOSE_ROWS: [&str; 9] = [
     "\
 sql INSERT INTO nodes VALUES (2, 1, 'k', 'folder', 'root', 'staff', 1, 1, '', '', '', '') => done
 store Mark => done
@@ -138,7 +138,7 @@ fn new_room_has_its_root_alone(rt: HostRuntime) -> Result<(), Fail> {
 }
 
 // A table is gone. It is opened all the same, and what needs the table is answered by a fault.
-const LACKING: [&str; 6] = [
+static LACKING: [&str; 6] = [
     "\
 sql DROP TABLE audits => done
 store Mark => done

@@ -110,7 +110,7 @@ fn move_out_and_back(rt: HostRuntime) -> Result<(), Fail> {
 }
 
 // Each of the tree examples, in one script.
-const TREES: [(&str, &str); 9] = [
+static TREES: [(&str, &str); 9] = [
     (BY_PARENT_RIGHT, ""),
     (BY_ADDING_RIGHT, ""),
     (DENIED_AT_TARGET, ""),

@@ -7,7 +7,7 @@ use std::alloc::Global;
 use std::test::Fail;
 
 // All rows of each table, each as one text. Texts that are no UTF-8 may stand in them.
-const ALL_ROWS: [&str; 5] = [
+static ALL_ROWS: [&str; 5] = [
     "SELECT hex(id || ' ' || coalesce(parent, '-') || ' ' || name || ' ' || kind || ' ' || owner \
      || ' ' || grp || ' ' || dacl_flags || ' ' || sacl_flags || ' ' || dacl_own || ' ' || dacl_inh \
      || ' ' || sacl_own || ' ' || sacl_inh) FROM nodes ORDER BY id",

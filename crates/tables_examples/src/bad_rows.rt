@@ -3,7 +3,7 @@ use crate::rooms::{ROOT, plays, refuses, tables_with};
 use std::test::Fail;
 
 // A row, and a script that is played with it beside the root.
-const UNREAD: [(&str, &str); 11] = [
+static UNREAD: [(&str, &str); 11] = [
     (
         "INSERT INTO nodes VALUES (2, 1, 'k', 2, 'root', 'staff', 0, 0, '', '', '', '');
 INSERT INTO bodies VALUES (2, x'6869');",
