@@ -12,3 +12,5 @@ mod entries;
 mod list_texts;
 #[cfg(test)]
 mod rulings;
+#[cfg(test)]
+mod words;

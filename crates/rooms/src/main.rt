@@ -1,4 +1,49 @@
 //! The program `rooms`: a document room behind access lists of RFC 8881, section 6.2.
+//!
+//! # Subcommands
+//!
+//! A room is a file, and each of these but `check` works on one.
+//!
+//! - `check` judges the list on standard input, and needs no room.
+//! - `init FILE OWNER GROUP` makes a new file with an empty room, and tells `ready`.
+//! - `serve FILE --port N --count N` listens on 127.0.0.1, tells `listening 127.0.0.1:N`, serves so
+//!   many connections one after the other, and ends.
+//! - `groups FILE CSV` replaces all members by those of the CSV file, and tells how many.
+//! - `groups-out FILE` tells the members as CSV.
+//! - `audit FILE` tells the records as CSV.
+//! - `dump FILE` tells all objects and all members.
+//! - `reset FILE PATH dacl|sacl` sets the list on standard input, asking no right, and tells
+//!   `done`.
+//! - `verify FILE` tells the first fault of the rows, or `sound`.
+//! - `migrate FILE` raises a file of the older schema, and tells `migrated`.
+//!
+//! # Statuses
+//!
+//! - 0: it is done, granted or sound.
+//! - 1: it is denied, or `verify` or `migrate` told a fault of the rows.
+//! - 2: it is refused, which standard output tells; or the words are no command, or ask for help or
+//!   for the version, which standard error tells.
+//! - 3: something failed, which standard error tells in one line: `fault: memory`,
+//!   `fault: database`, `fault: file` or `fault: net`.
+//!
+//! # Order
+//!
+//! 1. The words are read, by `room_words`.
+//! 2. The list on standard input or the CSV file is read, as far as it may be long and one byte
+//!    more: `input`.
+//! 3. Owner and group, the path and what was read are judged, by `room_tasks`. What is refused so
+//!    far opens no file, and makes none.
+//! 4. The file is opened, or made by `init`: `files`. One that cannot be opened is a fault, and an
+//!    empty one is no room.
+//! 5. The task is done in one transaction and told, by `room_acting`; or connections are served, by
+//!    `room_hosting`.
+//! 6. The log beside the file is copied into it, so that the file alone has the whole room.
+//!
+//! # What is proved
+//!
+//! The calls of the crates below are proved to do what is written here of lists, tasks, connections
+//! and texts. No contract can name what a terminal or a file gave and took, so that the program
+//! hands them the right ones is shown by running it.
 #![tactic(auto)]
 
 mod files;
