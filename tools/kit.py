@@ -1,0 +1,76 @@
+"""The parts of the command rt that these tools stand on: its crates, its checks, its edits."""
+import importlib.machinery
+import importlib.util
+import os
+import shutil
+import sys
+
+TOP = os.path.dirname(os.path.dirname(os.path.realpath(__file__)))
+
+
+def load_rt(tool):
+    """Loads the command rt as a module, or ends where there is none."""
+    sys.dont_write_bytecode = True
+    path = os.path.realpath(shutil.which("rt") or sys.exit(f"{tool}: there is no rt"))
+    sys.path.insert(0, os.path.dirname(path))
+    loader = importlib.machinery.SourceFileLoader("rt_main", path)
+    module = importlib.util.module_from_spec(importlib.util.spec_from_loader("rt_main", loader))
+    loader.exec_module(module)
+    return module
+
+
+def crates_in_order(rt):
+    """Returns the repository's crates, each after those that it stands on."""
+    return sorted(rt.rtlib.crates_below(TOP), key=lambda it: len(it.below()))
+
+
+def lines_of(crate):
+    return crate.count(rb"\n")
+
+
+def lines_above(crates):
+    """Returns for each crate the lines of the longest chain of crates that begins with it."""
+    chain = {it: lines_of(it) for it in crates}
+    for crate in sorted(crates, key=lambda it: -len(it.below())):
+        for below in crate.below():
+            if below in chain:
+                chain[below] = max(chain[below], lines_of(below) + chain[crate])
+    return chain
+
+
+def side_by_side(crates, work, most=None):
+    """Calls work(crate, jobs) for each crate once it was true for those below it, as many at once
+    as there are processors and memory, longest chain first; returns what each call returned."""
+    from concurrent.futures import FIRST_COMPLETED, ThreadPoolExecutor, wait
+
+    lanes = most or len(os.sched_getaffinity(0))
+    chain, given, running = lines_above(crates), {}, {}
+    left = sorted(crates, key=lambda it: -chain[it])
+    memory = free_memory()
+    with ThreadPoolExecutor(lanes) as pool:
+        while left or running:
+            lost = [it for it in left if any(given.get(low) is False for low in it.below())]
+            given.update(dict.fromkeys(lost, False))
+            left = [it for it in left if it not in lost]
+            ready = [it for it in left if all(given.get(low, True) for low in it.below() if low in crates)
+                     and not any(low in left or low in running.values() for low in it.below())]
+            idle = lanes - len(running)
+            for at, crate in enumerate(ready[:idle]):
+                if running and need(crate) * (len(running) + 1) > memory:
+                    break
+                jobs = 2 if len(ready) * 2 <= idle and lines_of(crate) >= 300 else 1
+                left.remove(crate)
+                running[pool.submit(work, crate, jobs)] = crate
+            for done in wait(running, return_when=FIRST_COMPLETED).done if running else ():
+                given[running.pop(done)] = done.result()
+    return given
+
+
+def need(crate):
+    """Returns the memory that a check of the crate is taken to need, in bytes."""
+    return 1_200_000_000 + 1_500_000 * lines_of(crate)
+
+
+def free_memory():
+    with open("/proc/meminfo", encoding="ascii") as lines:
+        return next(1024 * int(it.split()[1]) for it in lines if it.startswith("MemAvailable:")) * 9 // 10
