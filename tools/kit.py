@@ -4,6 +4,7 @@ import importlib.util
 import os
 import shutil
 import sys
+from concurrent.futures import FIRST_COMPLETED, ThreadPoolExecutor, wait
 
 TOP = os.path.dirname(os.path.dirname(os.path.realpath(__file__)))
 
@@ -38,31 +39,30 @@ def lines_above(crates):
     return chain
 
 
-def side_by_side(crates, work, most=None):
+def side_by_side(crates, work):
     """Calls work(crate, jobs) for each crate once it was true for those below it, as many at once
     as there are processors and memory, longest chain first; returns what each call returned."""
-    from concurrent.futures import FIRST_COMPLETED, ThreadPoolExecutor, wait
-
-    lanes = most or len(os.sched_getaffinity(0))
+    lanes, memory = len(os.sched_getaffinity(0)), free_memory()
     chain, given, running = lines_above(crates), {}, {}
     left = sorted(crates, key=lambda it: -chain[it])
-    memory = free_memory()
     with ThreadPoolExecutor(lanes) as pool:
         while left or running:
-            lost = [it for it in left if any(given.get(low) is False for low in it.below())]
-            given.update(dict.fromkeys(lost, False))
-            left = [it for it in left if it not in lost]
-            ready = [it for it in left if all(given.get(low, True) for low in it.below() if low in crates)
-                     and not any(low in left or low in running.values() for low in it.below())]
-            idle = lanes - len(running)
-            for at, crate in enumerate(ready[:idle]):
-                if running and need(crate) * (len(running) + 1) > memory:
+            ready = [it for it in left if all(given.get(low) is True for low in it.below() if low in chain)]
+            idle = lanes - sum(jobs for _, jobs in running.values())
+            for at, crate in enumerate(ready):
+                taken = sum(need(it) for it, _ in running.values())
+                if idle < 1 or running and taken + need(crate) > memory:
                     break
-                jobs = 2 if len(ready) * 2 <= idle and lines_of(crate) >= 300 else 1
+                # What no other crate waits to use goes to a crate that gains from it.
+                jobs = max(1, idle // (len(ready) - at)) if lines_of(crate) >= 300 else 1
                 left.remove(crate)
-                running[pool.submit(work, crate, jobs)] = crate
-            for done in wait(running, return_when=FIRST_COMPLETED).done if running else ():
-                given[running.pop(done)] = done.result()
+                running[pool.submit(work, crate, jobs)] = crate, jobs
+                idle -= jobs
+            if not running:
+                # What is left stands on a crate that failed.
+                return given
+            for done in wait(running, return_when=FIRST_COMPLETED).done:
+                given[running.pop(done)[0]] = done.result()
     return given
 
 
