@@ -1,5 +1,5 @@
 //! What changes leave: lists of new objects, of moved ones, and of what hangs below.
-use room_player::plays;
+use crate::examples::{Example, plays_each};
 use std::test::Fail;
 
 // A new object has its parent's flag and what the parent passes, also where it isn't linked.
@@ -17,11 +17,6 @@ root ReadList /a/b dacl => list: / A:fiI:alice:r / A:fdI:root:ALL
 root ReadList /a/d dacl => list: / A:I:alice:r / A:I:root:ALL
 operator Verify / => sound
 ";
-
-#[test]
-fn new_objects_inherit(rt: HostRuntime) -> Result<(), Fail> {
-    plays(rt.alloc(), &[NEW_OBJECTS])
-}
 
 // A move takes one list from the new parent and keeps the other, and what hangs below follows.
 const MOVED_LISTS: &str = "\
@@ -42,11 +37,6 @@ root ReadList /z/e/c sacl => list:a / U:fdSI:alice:r
 operator Verify / => sound
 ";
 
-#[test]
-fn move_parts_lists(rt: HostRuntime) -> Result<(), Fail> {
-    plays(rt.alloc(), &[MOVED_LISTS])
-}
-
 // The root is linked to nothing: what is sent to it as inherited stays, and is passed on.
 const ROOT_LISTS: &str = "\
 root MakeFolder /a => made
@@ -59,11 +49,6 @@ root ReadList /a/b sacl => list:a / L:fdI:GROUP@:w
 root ReadList /a/b dacl => list:a / A:fdI:root:ALL / A:fdI:carol:r
 operator Verify / => sound
 ";
-
-#[test]
-fn root_lists_pass(rt: HostRuntime) -> Result<(), Fail> {
-    plays(rt.alloc(), &[ROOT_LISTS])
-}
 
 // A protected object takes the sent entries as they are, and its children follow it.
 const PROTECTED: &str = "\
@@ -84,7 +69,15 @@ root ReadList /a/b/c dacl => list: / A:fdI:carol:r / A:fdI:root:ALL
 operator Verify / => sound
 ";
 
+// The examples by their names.
+static EXAMPLES: [Example; 4] = [
+    ("new_objects_inherit", &[NEW_OBJECTS]),
+    ("move_parts_lists", &[MOVED_LISTS]),
+    ("root_lists_pass", &[ROOT_LISTS]),
+    ("protected_keeps_its_own", &[PROTECTED]),
+];
+
 #[test]
-fn protected_keeps_its_own(rt: HostRuntime) -> Result<(), Fail> {
-    plays(rt.alloc(), &[PROTECTED])
+fn examples_of_changes(rt: HostRuntime) -> Result<(), Fail> {
+    plays_each(&rt, EXAMPLES.as_slice())
 }

@@ -1,5 +1,6 @@
 //! How many calls of the keeper requests make. Behind ` # ` stands what is counted of a line; where
 //! nothing stands there, it writes nothing.
+use crate::examples::named;
 use room_player::play_counted;
 use std::test::Fail;
 
@@ -9,18 +10,6 @@ root MakeFolder /a/b => made
 root MakeFolder /a/b/c => made
 root Put /a/d hi => made
 ";
-
-#[test]
-fn read_asks_once(rt: HostRuntime) -> Result<(), Fail> {
-    let line = "root Read /a/d => bytes hi # root 1, child 2, body 1, groups 1, all 5";
-    play_counted(rt.alloc(), &[DEEP], line)
-}
-
-#[test]
-fn nameless_asks_for_no_groups(rt: HostRuntime) -> Result<(), Fail> {
-    let line = "- Read /a/d => denied at /a bits x no-place no-entry # root 1, child 1, all 2";
-    play_counted(rt.alloc(), &[DEEP], line)
-}
 
 // Requests that read, and some that are denied and refused.
 const UNCHANGING: &str = "\
@@ -48,11 +37,6 @@ root SetList /a dacl list: / U::bob:r => refused at /a N8 entry 1 A9 type not of
 operator Reset /a dacl list: / U::bob:r => refused at /a N8 entry 1 A9 type not of this attribute
 ";
 
-#[test]
-fn unchanging_writes_nothing(rt: HostRuntime) -> Result<(), Fail> {
-    play_counted(rt.alloc(), &[DEEP], UNCHANGING)
-}
-
 // A list with kept entries, a protected one, and records of each setting.
 const LISTS: &str = "\
 root MakeFolder /a => made
@@ -69,20 +53,10 @@ root SetList /a/b sacl list:a / U:S:root:C => done # writes 0, records 1
 operator Reset /a/b sacl list:a / U:S:root:C => done
 ";
 
-#[test]
-fn same_lists_write_records(rt: HostRuntime) -> Result<(), Fail> {
-    play_counted(rt.alloc(), &[LISTS], SAME_LISTS)
-}
-
 const TWICE: &str = "\
 root SetList /a dacl list:a / A:fd:alice:r => done # writes 4, records 0
 root SetList /a dacl list:a / A:fd:alice:r => done
 ";
-
-#[test]
-fn same_list_twice(rt: HostRuntime) -> Result<(), Fail> {
-    play_counted(rt.alloc(), &[DEEP], TWICE)
-}
 
 // What the lists that follow each other write: the object's own, and those that become different.
 const FOLLOWING: &str = "\
@@ -93,11 +67,6 @@ root SetList /a dacl list:a / A:d:alice:r / D::bob:r / A:fn:carol:t => done # wr
 root SetList /a dacl list: / A:fd:alice:r => done # writes 1, records 0
 ";
 
-#[test]
-fn set_list_writes(rt: HostRuntime) -> Result<(), Fail> {
-    play_counted(rt.alloc(), &[DEEP], FOLLOWING)
-}
-
 // What stands there already. A document gets its bytes whatever they are; a move writes a place.
 const NO_OTHER: &str = "\
 root SetOwners /a root:staff => done
@@ -106,11 +75,6 @@ root Put /a/d hi => done # writes 1, records 0
 root Move /a/d /a/e => done # writes 1, records 0
 root Move /a /z => done # writes 1, records 0
 ";
-
-#[test]
-fn same_writes_nothing(rt: HostRuntime) -> Result<(), Fail> {
-    play_counted(rt.alloc(), &[DEEP], NO_OTHER)
-}
 
 // What each other served request writes: the object, and the lists that become different below.
 const SERVED: &str = "\
@@ -126,11 +90,6 @@ root Remove /f => done # writes 1, records 0
 root Remove /q/b/c => done # writes 1, records 0
 ";
 
-#[test]
-fn served_requests_write(rt: HostRuntime) -> Result<(), Fail> {
-    play_counted(rt.alloc(), &[DEEP], SERVED)
-}
-
 // A move walks twice, and asks for the root once. What is asked by name: the objects on both ways,
 // and whether the new name is free. One refused for its path alone asks for nothing but groups.
 const MOVES: &str = "\
@@ -139,11 +98,6 @@ root Move /a/c /c => done # root 1, child 3, groups 1
 root Move /q/r /z => refused at /q N1 # root 1, child 1, groups 1
 root Move / /z => refused at / N6 # root 0, child 0, groups 1
 ";
-
-#[test]
-fn move_asks_for_the_root_once(rt: HostRuntime) -> Result<(), Fail> {
-    play_counted(rt.alloc(), &[DEEP], MOVES)
-}
 
 // A list that is set looks at the object above as the way to the target found it. By its number one
 // object is read, from which the list is carried down; where it passes nothing on, none is.
@@ -155,7 +109,32 @@ root SetList / sacl list:p / U:S:root:C => done # root 1, child 0, node 0, group
 operator Reset /a/b sacl list: / U:S:alice:C => done # root 1, child 2, node 0, groups 0
 ";
 
+// The examples by their names, each with what comes before it and the lines that are counted.
+static COUNTED: [(&str, &str, &str); 10] = [
+    (
+        "read_asks_once",
+        DEEP,
+        "root Read /a/d => bytes hi # root 1, child 2, body 1, groups 1, all 5",
+    ),
+    (
+        "nameless_asks_for_no_groups",
+        DEEP,
+        "- Read /a/d => denied at /a bits x no-place no-entry # root 1, child 1, all 2",
+    ),
+    ("unchanging_writes_nothing", DEEP, UNCHANGING),
+    ("same_lists_write_records", LISTS, SAME_LISTS),
+    ("same_list_twice", DEEP, TWICE),
+    ("set_list_writes", DEEP, FOLLOWING),
+    ("same_writes_nothing", DEEP, NO_OTHER),
+    ("served_requests_write", DEEP, SERVED),
+    ("move_asks_for_the_root_once", DEEP, MOVES),
+    ("set_list_asks_once_for_each_object", DEEP, SET_LISTS),
+];
+
 #[test]
-fn set_list_asks_once_for_each_object(rt: HostRuntime) -> Result<(), Fail> {
-    play_counted(rt.alloc(), &[DEEP], SET_LISTS)
+fn examples_of_counts(rt: HostRuntime) -> Result<(), Fail> {
+    for (name, made, lines) in &COUNTED {
+        named(&rt, *name, play_counted(rt.alloc(), &[*made], *lines))?;
+    }
+    Ok(())
 }

@@ -9,6 +9,8 @@ mod counts;
 #[cfg(test)]
 mod desks;
 #[cfg(test)]
+mod examples;
+#[cfg(test)]
 mod faults;
 #[cfg(test)]
 mod records;

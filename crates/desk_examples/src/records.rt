@@ -1,5 +1,6 @@
 //! Examples of records. The room's own steps set the moment and tell the records.
-use room_player::{plays, plays_in_empty};
+use crate::examples::{Example, plays_each};
+use room_player::plays_in_empty;
 use std::test::Fail;
 
 const AT_7: &str = "\
@@ -25,12 +26,6 @@ alice Read /f => denied at /f bits r no-place no-entry
 room Records => none
 ";
 
-#[test]
-fn failed_read_recorded(rt: HostRuntime) -> Result<(), Fail> {
-    plays(rt.alloc(), &[FAILED_READ, FAILED_READ_TOLD])?;
-    plays(rt.alloc(), &[NO_OUTCOME])
-}
-
 const ALARM_AND_AUDIT: &str = "\
 root Put /f hi => made
 root SetList /f dacl list:a / D::ANONYMOUS@:r / A::AUTHENTICATED@:r => done
@@ -45,11 +40,6 @@ room Records => 2000 - /f r no 1 alarm / 2000 - /f r no 2 audit \
     / 2001 alice /f r yes 2 audit
 ";
 
-#[test]
-fn alarm_and_audit_records(rt: HostRuntime) -> Result<(), Fail> {
-    plays(rt.alloc(), &[ALARM_AND_AUDIT])
-}
-
 pub(crate) const TWO_RECORDS: &str = "\
 root Put /f hi => made
 operator Reset / sacl list:a / U:fdS:root:dDw => done
@@ -59,11 +49,6 @@ root Remove /f => done
 const TWO_RECORDS_TOLD: &str = "\
 room Records => 7 root /f d yes 1 audit / 7 root / D yes 1 audit
 ";
-
-#[test]
-fn delete_two_records(rt: HostRuntime) -> Result<(), Fail> {
-    plays(rt.alloc(), &[AT_7, TWO_RECORDS, TWO_RECORDS_TOLD])
-}
 
 // Where neither list rules, the second check of a deletion asks w, and both record a denial.
 pub(crate) const DENIED_DELETION: &str = "\
@@ -78,11 +63,6 @@ room Records => 7 alice /f d no 1 audit / 7 alice / w no 1 audit \
     / 7 alice /f d no 1 audit / 7 alice / w no 1 audit
 ";
 
-#[test]
-fn denied_deletion_recorded(rt: HostRuntime) -> Result<(), Fail> {
-    plays(rt.alloc(), &[AT_7, DENIED_DELETION, DENIED_DELETION_TOLD])
-}
-
 // Each x on the way is a check, and so is the one that ends the way; what comes after isn't.
 const WAY: &str = "\
 root MakeFolder /a => made
@@ -93,11 +73,6 @@ root Read /a/f => bytes hi
 room Records => 7 alice / x yes 1 audit / 7 alice /a x no 1 audit \
     / 7 root / x yes 1 audit / 7 root /a x yes 1 audit / 7 root /a/f r yes 1 audit
 ";
-
-#[test]
-fn way_recorded(rt: HostRuntime) -> Result<(), Fail> {
-    plays(rt.alloc(), &[AT_7, WAY])
-}
 
 // A move is recorded at the path that the object had before, and a refusal ends the checks.
 pub(crate) const MOVED: &str = "\
@@ -115,11 +90,6 @@ room Records => 7 root / x yes 1 audit / 7 root / x yes 1 audit / 7 root / x yes
     / 7 root / x yes 1 audit / 7 root / x yes 1 audit \
     / 7 root /g d yes 1 audit / 7 root / D yes 1 audit / 7 root / w yes 1 audit
 ";
-
-#[test]
-fn move_recorded(rt: HostRuntime) -> Result<(), Fail> {
-    plays(rt.alloc(), &[AT_7, MOVED, MOVED_TOLD])
-}
 
 const OWNERS: &str = "\
 root MakeFolder /a => made
@@ -143,7 +113,22 @@ alice Read /f => bytes hi
 - Read /f => denied at /f bits r no-place no-entry
 ";
 
+// The examples by their names.
+static EXAMPLES: [Example; 8] = [
+    ("failed_read_recorded", &[FAILED_READ, FAILED_READ_TOLD]),
+    ("failed_read_recorded", &[NO_OUTCOME]),
+    ("alarm_and_audit_records", &[ALARM_AND_AUDIT]),
+    ("delete_two_records", &[AT_7, TWO_RECORDS, TWO_RECORDS_TOLD]),
+    (
+        "denied_deletion_recorded",
+        &[AT_7, DENIED_DELETION, DENIED_DELETION_TOLD],
+    ),
+    ("way_recorded", &[AT_7, WAY]),
+    ("move_recorded", &[AT_7, MOVED, MOVED_TOLD]),
+    ("group_entry_after_import", &[JOINING]),
+];
+
 #[test]
-fn group_entry_after_import(rt: HostRuntime) -> Result<(), Fail> {
-    plays(rt.alloc(), &[JOINING])
+fn examples_of_records(rt: HostRuntime) -> Result<(), Fail> {
+    plays_each(&rt, EXAMPLES.as_slice())
 }

@@ -1,5 +1,5 @@
 //! Each refusal at its path, and what comes before it.
-use room_player::plays;
+use crate::examples::{Example, plays_each};
 use std::test::Fail;
 
 // Folders `/a` and `/a/b`, and the document `/f`.
@@ -27,11 +27,6 @@ root Can /q r => refused at /q N1
 operator Reset /q dacl list: => refused at /q N1
 ";
 
-#[test]
-fn refused_no_such(rt: HostRuntime) -> Result<(), Fail> {
-    plays(rt.alloc(), &[MADE, NO_SUCH])
-}
-
 const NOT_FOLDER: &str = "\
 root Read /f/x => refused at /f N2
 root List /f/x/y => refused at /f N2
@@ -44,11 +39,6 @@ root Can /f/x r => refused at /f N2
 operator Reset /f/x dacl list: => refused at /f N2
 ";
 
-#[test]
-fn refused_not_folder(rt: HostRuntime) -> Result<(), Fail> {
-    plays(rt.alloc(), &[MADE, NOT_FOLDER])
-}
-
 const WRONG_KIND: &str = "\
 root Read /a => refused at /a N3
 root Read / => refused at / N3
@@ -59,11 +49,6 @@ root Put / hi => refused at / N3
 root Append /a/b hi => refused at /a/b N3
 alice Append / hi => refused at / N3
 ";
-
-#[test]
-fn refused_wrong_kind(rt: HostRuntime) -> Result<(), Fail> {
-    plays(rt.alloc(), &[MADE, WRONG_KIND])
-}
 
 const EXISTS: &str = "\
 root MakeFolder /a => refused at /a N4
@@ -80,11 +65,6 @@ root Move /a/b / => refused at / N4
 alice Move /f / => denied at / bits w no-place no-entry
 ";
 
-#[test]
-fn refused_exists(rt: HostRuntime) -> Result<(), Fail> {
-    plays(rt.alloc(), &[MADE, EXISTS])
-}
-
 const NOT_EMPTY_OR_ROOT: &str = "\
 alice Remove /a => denied at / bits w no-place no-entry
 root Remove /a => refused at /a N5
@@ -100,11 +80,6 @@ root List / => names
 operator Verify / => sound
 ";
 
-#[test]
-fn remove_not_empty(rt: HostRuntime) -> Result<(), Fail> {
-    plays(rt.alloc(), &[MADE, NOT_EMPTY_OR_ROOT])
-}
-
 const LOOPS: &str = "\
 root Move /a /a/z => refused at /a/z N7
 root Move /a /a/b/z => refused at /a/b/z N7
@@ -116,11 +91,6 @@ root Move /b /b/a/b => refused at /b/a/b N7
 root List /b => names folder:a
 operator Verify / => sound
 ";
-
-#[test]
-fn refused_loop(rt: HostRuntime) -> Result<(), Fail> {
-    plays(rt.alloc(), &[MADE, LOOPS])
-}
 
 const BAD_LISTS: &str = "\
 root SetList /f dacl list: / U:S:bob:r => refused at /f N8 entry 1 A9 type not of this attribute
@@ -137,11 +107,6 @@ root ReadList /f dacl => list:a / A:I:root:ALL
 operator Verify / => sound
 ";
 
-#[test]
-fn refused_bad_list(rt: HostRuntime) -> Result<(), Fail> {
-    plays(rt.alloc(), &[MADE, BAD_LISTS])
-}
-
 const TOO_LARGE: &str = "\
 root PutMany /f 1048577 => refused at /f N9
 root PutMany /g 1048577 => refused at /g N9
@@ -154,11 +119,6 @@ root Append /f => done
 root Append /f x => refused at /f N9
 root Read /g => 1048576 bytes
 ";
-
-#[test]
-fn refused_too_large(rt: HostRuntime) -> Result<(), Fail> {
-    plays(rt.alloc(), &[MADE, TOO_LARGE])
-}
 
 // alice may pass through `/a`, and delete `/f` and `/a/b`, but put nothing in `/a`.
 const MOVES_DENIED: &str = "\
@@ -177,7 +137,20 @@ alice Remove /a/b => denied at /a bits D place 2 D::alice:D
 operator Verify / => sound
 ";
 
+// The examples by their names.
+static EXAMPLES: [Example; 9] = [
+    ("refused_no_such", &[MADE, NO_SUCH]),
+    ("refused_not_folder", &[MADE, NOT_FOLDER]),
+    ("refused_wrong_kind", &[MADE, WRONG_KIND]),
+    ("refused_exists", &[MADE, EXISTS]),
+    ("remove_not_empty", &[MADE, NOT_EMPTY_OR_ROOT]),
+    ("refused_loop", &[MADE, LOOPS]),
+    ("refused_bad_list", &[MADE, BAD_LISTS]),
+    ("refused_too_large", &[MADE, TOO_LARGE]),
+    ("moves_denied", &[MADE, MOVES_DENIED]),
+];
+
 #[test]
-fn moves_denied(rt: HostRuntime) -> Result<(), Fail> {
-    plays(rt.alloc(), &[MADE, MOVES_DENIED])
+fn examples_of_refusals(rt: HostRuntime) -> Result<(), Fail> {
+    plays_each(&rt, EXAMPLES.as_slice())
 }

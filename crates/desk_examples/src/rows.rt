@@ -1,5 +1,5 @@
 //! The desk's first examples, whose rows follow each other on one room, and what shows of it.
-use room_player::plays;
+use crate::examples::{Example, plays_each};
 use std::test::Fail;
 
 const FOLDER_DENIED: &str = "\
@@ -31,47 +31,6 @@ root AppendMany /q/f 1048573 => refused at /q/f N9
 root AppendMany /q/f 1048572 => done
 ";
 
-#[test]
-fn desk_folder_denied(rt: HostRuntime) -> Result<(), Fail> {
-    plays(rt.alloc(), &[FOLDER_DENIED])
-}
-
-#[test]
-fn desk_wrong_kind(rt: HostRuntime) -> Result<(), Fail> {
-    plays(rt.alloc(), &[FOLDER_DENIED, WRONG_KIND])
-}
-
-#[test]
-fn desk_attr_denied(rt: HostRuntime) -> Result<(), Fail> {
-    plays(rt.alloc(), &[FOLDER_DENIED, WRONG_KIND, ATTR_DENIED])
-}
-
-#[test]
-fn desk_put_append_read(rt: HostRuntime) -> Result<(), Fail> {
-    plays(rt.alloc(), &[WRONG_KIND, ATTR_DENIED, PUT_APPEND_READ])
-}
-
-#[test]
-fn desk_put_folder_make_root(rt: HostRuntime) -> Result<(), Fail> {
-    plays(
-        rt.alloc(),
-        &[WRONG_KIND, PUT_APPEND_READ, PUT_FOLDER_MAKE_ROOT],
-    )
-}
-
-#[test]
-fn desk_append_limit(rt: HostRuntime) -> Result<(), Fail> {
-    plays(
-        rt.alloc(),
-        &[
-            WRONG_KIND,
-            PUT_APPEND_READ,
-            PUT_FOLDER_MAKE_ROOT,
-            APPEND_LIMIT,
-        ],
-    )
-}
-
 // What lies behind a folder that lets nobody but root through.
 const HIDDEN: &str = "\
 root MakeFolder /a => made
@@ -83,11 +42,6 @@ alice Put /a/zz hi => denied at /a bits x no-place no-entry
 alice Move /a/x /z => denied at /a bits x no-place no-entry
 ";
 
-#[test]
-fn hidden_behind_folder(rt: HostRuntime) -> Result<(), Fail> {
-    plays(rt.alloc(), &[HIDDEN])
-}
-
 // A caller without a name makes a document, which is the parent's owner's.
 const NAMELESS: &str = "\
 operator Reset / dacl list:a / A::EVERYONE@:xw / A:fd:root:ALL => done
@@ -97,11 +51,6 @@ root ReadAttr /g => document root:staff
 - Read /g => denied at /g bits r no-place no-entry
 operator Verify / => sound
 ";
-
-#[test]
-fn anonymous_creates(rt: HostRuntime) -> Result<(), Fail> {
-    plays(rt.alloc(), &[NAMELESS])
-}
 
 // Names stand in order of their bytes, and one that isn't there is no document.
 const NAMES: &str = "\
@@ -113,7 +62,37 @@ root List / => names folder:B document:b document:é
 root Read /q => refused at /q N1
 ";
 
+// The examples by their names.
+static EXAMPLES: [Example; 9] = [
+    ("desk_folder_denied", &[FOLDER_DENIED]),
+    ("desk_wrong_kind", &[FOLDER_DENIED, WRONG_KIND]),
+    (
+        "desk_attr_denied",
+        &[FOLDER_DENIED, WRONG_KIND, ATTR_DENIED],
+    ),
+    (
+        "desk_put_append_read",
+        &[WRONG_KIND, ATTR_DENIED, PUT_APPEND_READ],
+    ),
+    (
+        "desk_put_folder_make_root",
+        &[WRONG_KIND, PUT_APPEND_READ, PUT_FOLDER_MAKE_ROOT],
+    ),
+    (
+        "desk_append_limit",
+        &[
+            WRONG_KIND,
+            PUT_APPEND_READ,
+            PUT_FOLDER_MAKE_ROOT,
+            APPEND_LIMIT,
+        ],
+    ),
+    ("hidden_behind_folder", &[HIDDEN]),
+    ("anonymous_creates", &[NAMELESS]),
+    ("names_in_byte_order", &[NAMES]),
+];
+
 #[test]
-fn names_in_byte_order(rt: HostRuntime) -> Result<(), Fail> {
-    plays(rt.alloc(), &[NAMES])
+fn examples_of_rows(rt: HostRuntime) -> Result<(), Fail> {
+    plays_each(&rt, EXAMPLES.as_slice())
 }

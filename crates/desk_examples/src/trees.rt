@@ -1,5 +1,5 @@
 //! The tree examples: deletion, lists that pass down, and moves.
-use room_player::plays;
+use crate::examples::{Example, plays_each};
 use std::test::Fail;
 
 pub(crate) const BY_PARENT_RIGHT: &str = "\
@@ -12,11 +12,6 @@ root Read /a/f => refused at /a/f N1
 operator Verify / => sound
 ";
 
-#[test]
-fn delete_by_parent_right(rt: HostRuntime) -> Result<(), Fail> {
-    plays(rt.alloc(), &[BY_PARENT_RIGHT])
-}
-
 pub(crate) const BY_ADDING_RIGHT: &str = "\
 root MakeFolder /a => made
 root Put /a/f hi => made
@@ -25,11 +20,6 @@ alice Remove /a/f => done
 root List /a => names
 operator Verify / => sound
 ";
-
-#[test]
-fn delete_by_adding_right(rt: HostRuntime) -> Result<(), Fail> {
-    plays(rt.alloc(), &[BY_ADDING_RIGHT])
-}
 
 pub(crate) const DENIED_AT_TARGET: &str = "\
 root MakeFolder /a => made
@@ -41,11 +31,6 @@ root Read /a/f => bytes hi
 operator Verify / => sound
 ";
 
-#[test]
-fn delete_denied_at_target(rt: HostRuntime) -> Result<(), Fail> {
-    plays(rt.alloc(), &[DENIED_AT_TARGET])
-}
-
 pub(crate) const WRITE_BACK: &str = "\
 root MakeFolder /a => made
 root ReadList /a dacl => list:a / A:fdI:root:ALL
@@ -55,11 +40,6 @@ operator Stored /a dacl => list:a / A:fdI:root:ALL
 operator Stored /a sacl => list:a
 operator Verify / => sound
 ";
-
-#[test]
-fn write_back(rt: HostRuntime) -> Result<(), Fail> {
-    plays(rt.alloc(), &[WRITE_BACK])
-}
 
 pub(crate) const PROTECTED: &str = "\
 root MakeFolder /a => made
@@ -82,22 +62,12 @@ root ReadList /a/b/c dacl => list:a / A:fdI:bob:r / A:fdI:root:ALL
 operator Verify / => sound
 ";
 
-#[test]
-fn protect_and_rejoin(rt: HostRuntime) -> Result<(), Fail> {
-    plays(rt.alloc(), &[PROTECTED, REJOINED])
-}
-
 const EMPTIED: &str = "\
 operator Empty /a/b/c dacl => done
 operator Verify / => /a/b/c V3 broken-law
 root ReadList /a/b/c dacl => denied at /a/b/c bits c no-place no-entry
 operator Stored /a/b/c dacl => list:a
 ";
-
-#[test]
-fn read_uses_stored_list(rt: HostRuntime) -> Result<(), Fail> {
-    plays(rt.alloc(), &[PROTECTED, REJOINED, EMPTIED])
-}
 
 pub(crate) const CLEARED: &str = "\
 root MakeFolder /a => made
@@ -112,11 +82,6 @@ root ReadList /a/b dacl => list:a / A:fdI:root:ALL
 operator Verify / => sound
 ";
 
-#[test]
-fn clear_auto_inherit(rt: HostRuntime) -> Result<(), Fail> {
-    plays(rt.alloc(), &[CLEARED])
-}
-
 pub(crate) const THREE_BITS: &str = "\
 root Put /f hi => made
 root SetList /f dacl list:a / A::alice:r / D::EVERYONE@:rw => done
@@ -125,11 +90,6 @@ alice Can /f => rulings
 root Can /f wr => rulings r:denied-2 w:denied-2
 operator Verify / => sound
 ";
-
-#[test]
-fn can_three_bits(rt: HostRuntime) -> Result<(), Fail> {
-    plays(rt.alloc(), &[THREE_BITS])
-}
 
 pub(crate) const MOVES_REFUSED: &str = "\
 root MakeFolder /a => made
@@ -140,11 +100,6 @@ root Move /a/b /a/b => refused at /a/b N4
 root Move / /z => refused at / N6
 operator Verify / => sound
 ";
-
-#[test]
-fn move_refusals(rt: HostRuntime) -> Result<(), Fail> {
-    plays(rt.alloc(), &[MOVES_REFUSED])
-}
 
 pub(crate) const OUT_AND_BACK: &str = "\
 root MakeFolder /a => made
@@ -162,7 +117,21 @@ root ReadList /y/b dacl => list:a / A:fdI:root:ALL
 operator Verify / => sound
 ";
 
+// The examples by their names.
+static EXAMPLES: [Example; 10] = [
+    ("delete_by_parent_right", &[BY_PARENT_RIGHT]),
+    ("delete_by_adding_right", &[BY_ADDING_RIGHT]),
+    ("delete_denied_at_target", &[DENIED_AT_TARGET]),
+    ("write_back", &[WRITE_BACK]),
+    ("protect_and_rejoin", &[PROTECTED, REJOINED]),
+    ("read_uses_stored_list", &[PROTECTED, REJOINED, EMPTIED]),
+    ("clear_auto_inherit", &[CLEARED]),
+    ("can_three_bits", &[THREE_BITS]),
+    ("move_refusals", &[MOVES_REFUSED]),
+    ("move_out_and_back", &[OUT_AND_BACK]),
+];
+
 #[test]
-fn move_out_and_back(rt: HostRuntime) -> Result<(), Fail> {
-    plays(rt.alloc(), &[OUT_AND_BACK])
+fn examples_of_trees(rt: HostRuntime) -> Result<(), Fail> {
+    plays_each(&rt, EXAMPLES.as_slice())
 }

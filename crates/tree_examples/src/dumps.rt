@@ -1,4 +1,5 @@
 //! What the text of a room is.
+use crate::examples::named;
 use room_dump::dump;
 use room_player::{Room, agree, empty_keep};
 use room_rows::{Keep, KeepFault};
@@ -76,21 +77,6 @@ sacl
 list:a
 ";
 
-#[test]
-fn dump_empty_room(rt: HostRuntime) -> Result<(), Fail> {
-    tells(rt.alloc(), "", EMPTY)
-}
-
-#[test]
-fn dump_two_objects(rt: HostRuntime) -> Result<(), Fail> {
-    tells(rt.alloc(), TWO, TWO_TOLD)
-}
-
-#[test]
-fn dump_in_order_of_name(rt: HostRuntime) -> Result<(), Fail> {
-    tells(rt.alloc(), OWNED, OWNED_TOLD)
-}
-
 // Whether this is the text of a room as it is made, after a script.
 fn tells(alloc: Global, script: &str, wanted: &str) -> Result<(), Fail> {
     let mut room = Room::new(empty_keep(alloc)?);
@@ -110,4 +96,19 @@ fn agrees(told: Result<String, KeepFault>, wanted: &str) -> Result<(), Fail> {
         Ok(text) => agree("dump", text.as_str(), wanted),
         Err(fault) => Err(Fail::from(fault)),
     }
+}
+
+// The examples by their names, each with a script and the text of its room.
+static EXAMPLES: [(&str, &str, &str); 3] = [
+    ("dump_empty_room", "", EMPTY),
+    ("dump_two_objects", TWO, TWO_TOLD),
+    ("dump_in_order_of_name", OWNED, OWNED_TOLD),
+];
+
+#[test]
+fn examples_of_dumps(rt: HostRuntime) -> Result<(), Fail> {
+    for (name, script, wanted) in &EXAMPLES {
+        named(&rt, *name, tells(rt.alloc(), *script, *wanted))?;
+    }
+    Ok(())
 }

@@ -1,5 +1,6 @@
 //! Keepers in memory: what each call of the trait answers and leaves, and the calls that fail.
-use room_player::{Plan, faults_along, play_failing, plays};
+use crate::examples::{Example, plays_each};
+use room_player::{Plan, faults_along, play_failing};
 use room_rows::KeepFault;
 use std::alloc::Global;
 use std::test::Fail;
@@ -113,11 +114,6 @@ const NOTED: &str = "\
 room Records => 7 alice /a r yes 1 audit
 ";
 
-#[test]
-fn keepers_read_and_write(rt: HostRuntime) -> Result<(), Fail> {
-    plays(rt.alloc(), &[GROUPS, ADDED, FOUR, CHANGES, CHANGED, NOTED])
-}
-
 // A keeper that hands on more calls than are made.
 const HANDING: Plan = Plan {
     passing: 1000,
@@ -149,11 +145,6 @@ keeper Add 1 B document => 5
 keeper Remove 5 => done
 keeper Add 1 B folder => 5
 ";
-
-#[test]
-fn keepers_of_one_content_answer_alike(rt: HostRuntime) -> Result<(), Fail> {
-    plays(rt.alloc(), &[GROUPS, ROUND, FOUR])
-}
 
 // Each call that reads and each that writes.
 const EACH: &str = "\
@@ -254,11 +245,6 @@ keeper Groups sales => groups
 ";
 
 #[test]
-fn members_join_and_leave(rt: HostRuntime) -> Result<(), Fail> {
-    plays(rt.alloc(), &[GROUPS, MEMBERS])
-}
-
-#[test]
 fn keep_fault_texts(rt: HostRuntime) -> Result<(), Fail> {
     for (fault, text) in [
         (KeepFault::Memory, "out of memory"),
@@ -268,4 +254,22 @@ fn keep_fault_texts(rt: HostRuntime) -> Result<(), Fail> {
         assert_eq!(rt; format!(in rt.alloc(); "{fault}")?.as_str(), text);
     }
     Ok(())
+}
+
+// The examples of keepers of which no call fails.
+static EXAMPLES: [Example; 3] = [
+    (
+        "keepers_read_and_write",
+        &[GROUPS, ADDED, FOUR, CHANGES, CHANGED, NOTED],
+    ),
+    (
+        "keepers_of_one_content_answer_alike",
+        &[GROUPS, ROUND, FOUR],
+    ),
+    ("members_join_and_leave", &[GROUPS, MEMBERS]),
+];
+
+#[test]
+fn examples_of_keepers(rt: HostRuntime) -> Result<(), Fail> {
+    plays_each(&rt, EXAMPLES.as_slice())
 }

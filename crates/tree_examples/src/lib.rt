@@ -5,6 +5,8 @@
 #[cfg(test)]
 mod dumps;
 #[cfg(test)]
+mod examples;
+#[cfg(test)]
 mod keepers;
 #[cfg(test)]
 mod passing;

@@ -1,6 +1,7 @@
 //! How many stored lists a change reaches, and by how many calls.
+use crate::examples::{Example, plays_each};
 use crate::rooms::{LOOPING, OPEN};
-use room_player::{play_counted, plays, stop_in_turn};
+use room_player::{play_counted, stop_in_turn};
 use std::test::Fail;
 
 // Two lists of `/a`, one after the other.
@@ -19,11 +20,6 @@ keeper Spread 2 dacl => changed 1
 operator Stored /a/d dacl => list:a / A:I:carol:t / A:I:root:ALL
 ";
 
-#[test]
-fn spread_counts(rt: HostRuntime) -> Result<(), Fail> {
-    plays(rt.alloc(), &[OPEN, TWO_STEPS, NEXT_STEPS])
-}
-
 // The next steps with the calls that are counted.
 const COUNTED: &str = "\
 keeper SetHeld 2 dacl list:a / A:d:alice:r / D::bob:r / A:fdI:root:ALL => done # writes 1
@@ -36,11 +32,6 @@ keeper Spread 2 dacl => changed 1 # children 2, inherited 1, writes 1
 #[test]
 fn spread_writes(rt: HostRuntime) -> Result<(), Fail> {
     play_counted(rt.alloc(), &[OPEN, TWO_STEPS], COUNTED)
-}
-
-#[test]
-fn spread_loop(rt: HostRuntime) -> Result<(), Fail> {
-    plays(rt.alloc(), &[LOOPING, "keeper Spread 3 dacl => loop"])
 }
 
 const CHANGED: &str = "\
@@ -60,7 +51,14 @@ keeper SpreadAll => changed 0
 operator Stored /a/b/c dacl => list:a / A:fdI:alice:r
 ";
 
+// The examples by their names.
+static EXAMPLES: [Example; 3] = [
+    ("spread_counts", &[OPEN, TWO_STEPS, NEXT_STEPS]),
+    ("spread_loop", &[LOOPING, "keeper Spread 3 dacl => loop"]),
+    ("spread_all_from_the_root", &[OPEN, FROM_ROOT]),
+];
+
 #[test]
-fn spread_all_from_the_root(rt: HostRuntime) -> Result<(), Fail> {
-    plays(rt.alloc(), &[OPEN, FROM_ROOT])
+fn examples_of_spreading(rt: HostRuntime) -> Result<(), Fail> {
+    plays_each(&rt, EXAMPLES.as_slice())
 }
