@@ -3,3 +3,4 @@ pub mod Ascii
 pub mod Pieces
 pub mod Below
 pub mod Front
+mod Told

@@ -1,3 +1,4 @@
+pub mod Answering
 pub mod Check
 pub mod Given
 pub mod Reply

@@ -1,68 +1,77 @@
 //! An input read from a reader, and what it is told written to a writer.
-ghost use Rattle.std.specs.Prelude.{◌≡◌, ◌++◌, ◌∷◌, [], IfOk, OnOk, IfSome, string_bytes};
-ghost use Rattle.std.specs.Prelude.{take};
+ghost use Rattle.std.specs.Prelude.{◌≡◌, ◌++◌, ◌∷◌, [], ℕ, List, IfOk, OnErr, OnOk, string_bytes};
 ghost use Rattle.std.specs.Io.KnownBytes.{Appends};
+ghost use Rattle.room_outcome.specs.Reading.{IsInput};
+ghost use Rattle.room_outcome.specs.Written.{WritesSome};
+ghost use Rattle.room_check.specs.Answering.{Answers, TellsCheck, reply_line};
 ghost use Rattle.room_check.specs.Check.{judged};
-ghost use Rattle.room_check.specs.Reply.{reply_status, reply_text};
+ghost use Rattle.room_check.specs.Reply.{reply_status};
 
 use crate::judging::{CheckReply, check};
 use room_ace::MOST_BYTES;
-use std::alloc::Global;
+use room_outcome::{Fault, read_front, send_text, tell_fault, tell_line};
+use std::alloc::{AllocError, Global};
 use std::io::{self, Read, Write};
 
 /// Reads an input to its end, or as far as shows that it is too long, writes the line that it is
 /// told and nothing else, and answers the exit status. An error is the reader's, the writer's, or
-/// want of memory.
+/// want of memory. Nothing of the line is written before all of it is known.
 pub fn answer<R: Read + Drop, W: Write>(alloc: Global, reader: R, writer: &mut W) -> io::Result<u8>
-    ensures text { OnOk result (IfSome (R.remaining reader) (λ input.
-        Appends (W.contents writer.old) (W.contents writer.new)
-        (reply_text (judged input) ++ 10 ∷ []))) }
-    ensures status { IfOk result (λ status. IfSome (R.remaining reader) (λ input.
-        status ≡ reply_status (judged input))) }
+    ensures { Answers (R.remaining reader) (W.contents writer.old) (W.contents writer.new) result }
 {
-    let reply = reply_to(alloc, reader)?;
-    tell(reply, writer)
+    match line_for(alloc, reader) {
+        Ok(reply) => send_reply(writer, &reply),
+        Err(error) => Err(error),
+    }
 }
 
-// What is told of the input.
-fn reply_to<R: Read + Drop>(alloc: Global, reader: R) -> io::Result<CheckReply>
-    ensures { IfOk result (λ reply. IfSome (R.remaining reader) (λ input.
-        (string_bytes reply.text ≡ reply_text (judged input))
-        × (reply.status ≡ reply_status (judged input)))) }
+/// Does the same on standard output, and tells on standard error where that fails: `fault: file`,
+/// or `fault: memory`, and the exit status 3. Of an input that can't be read standard output tells
+/// nothing.
+pub fn tell_check<R: Read + Drop, O: Write, E: Write>(
+    alloc: Global,
+    reader: R,
+    out: &mut O,
+    err: &mut E,
+) -> u8
+    ensures { TellsCheck (R.remaining reader) (O.contents out.old) (O.contents out.new)
+        (E.contents err.old) (E.contents err.new) result }
+{
+    match line_for(alloc, reader) {
+        Ok(reply) => tell_line(reply.text.as_bytes(), reply.status, out, err),
+        Err(error) => tell_fault(Fault::of_stream(&error), err),
+    }
+}
+
+fn send_reply<W: Write>(writer: &mut W, reply: &CheckReply) -> io::Result<u8>
+    ensures text { OnOk result (Appends (W.contents writer.old) (W.contents writer.new)
+        (string_bytes reply.now.text)) }
+    ensures status { IfOk result (λ status. status ≡ reply.now.status) }
+    ensures err { OnErr result (WritesSome (W.contents writer.old) (W.contents writer.new)
+        (string_bytes reply.now.text)) }
+{
+    send_text(writer, reply.text.as_bytes())?;
+    Ok(reply.status)
+}
+
+// What the input is told, with the end of its line.
+fn line_for<R: Read + Drop>(alloc: Global, reader: R) -> io::Result<CheckReply>
+    ensures { IfOk result (λ reply. (input : List ℕ) × IsInput (R.remaining reader) input
+        × (string_bytes reply.text ≡ reply_line input)
+        × (reply.status ≡ reply_status (judged input))) }
 {
     // One byte more than an input may have shows that it is too long.
     let input = read_front(alloc, reader, MOST_BYTES as u64 + 1)?;
-    Ok(check(alloc, &input)?)
+    let CheckReply { text, status } = check(alloc, &input)?;
+    let text = with_end(text)?;
+    Ok(CheckReply { text, status })
 }
 
-// The bytes of a reader to its end, or so many of them.
-fn read_front<R: Read + Drop>(alloc: Global, reader: R, most: u64) -> io::Result<Vec<u8>>
-    ensures { IfOk result (λ bytes. IfSome (R.remaining reader) (λ input.
-        bytes.items ≡ take most input)) }
-{
-    let mut bytes = Vec::new(alloc);
-    let mut front = reader.take(most);
-    front.read_to_end(&mut bytes)?;
-    Ok(bytes)
-}
-
-// Writes the line of the reply, and answers its exit status.
-fn tell<W: Write>(reply: CheckReply, writer: &mut W) -> io::Result<u8>
-    ensures text { OnOk result (Appends (W.contents writer.old) (W.contents writer.new)
-        (string_bytes reply.text ++ 10 ∷ [])) }
-    ensures status { IfOk result (λ status. status ≡ reply.status) }
-{
-    let CheckReply { text, status } = reply;
-    write_line(writer, text)?;
-    Ok(status)
-}
-
-// Writes a line of text.
-fn write_line<W: Write>(writer: &mut W, text: String) -> io::Result<()>
-    ensures { OnOk result
-        (Appends (W.contents writer.old) (W.contents writer.new) (string_bytes text ++ 10 ∷ [])) }
+// The text as a line.
+fn with_end(text: String) -> Result<String, AllocError>
+    ensures { IfOk result (λ line. string_bytes line ≡ string_bytes text ++ 10 ∷ []) }
 {
     let mut line = text;
     line.push('\n')?;
-    writer.write_all(line.as_bytes())
+    Ok(line)
 }

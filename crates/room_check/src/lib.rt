@@ -8,7 +8,7 @@ mod headers;
 mod judging;
 mod question;
 
-pub use answering::answer;
+pub use answering::{answer, tell_check};
 pub use fault::{InputFault, InputWhy};
 pub use judging::{CheckReply, Judged, check};
 pub use question::{Question, read_question};

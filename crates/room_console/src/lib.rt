@@ -1,10 +1,10 @@
-//! What a program reads whole, and how it tells why it ends before a task is done.
+//! How a program reads the task of a command, and how it tells why it ends before that is done.
 #![tactic(auto)]
 
 mod reading;
 mod stop;
 mod telling;
 
-pub use reading::read_front;
+pub use reading::read_task;
 pub use stop::Stop;
 pub use telling::tell_stop;

@@ -1,4 +1,9 @@
 //! Why the program ends before a task is done.
+ghost use Rattle.std.specs.Prelude.{◌≡◌};
+ghost use Rattle.std.specs.IoError.{error_kind};
+ghost use Rattle.room_outcome.specs.declared.fault.Fault.TheVariants.{Memory};
+ghost use Rattle.room_console.specs.declared.stop.Stop.TheVariants.{Failed};
+ghost use Rattle.room_console.specs.Stops.{stop_of_kind, stop_of_refusal, stop_of_words};
 
 use room_ace::Failure;
 use room_outcome::Fault;
@@ -25,18 +30,24 @@ pub enum Stop {
 }
 
 impl From<AllocError> for Stop {
+    ghost from_gives = { λ _ stop. stop ≡ Failed Memory };
+
     fn from(_error: AllocError) -> Stop {
         Stop::Failed(Fault::Memory)
     }
 }
 
 impl From<io::Error> for Stop {
+    ghost from_gives = { λ error stop. stop ≡ stop_of_kind (error_kind error) };
+
     fn from(error: io::Error) -> Stop {
         Stop::Failed(Fault::of_stream(&error))
     }
 }
 
 impl From<Failure<CliFault>> for Stop {
+    ghost from_gives = { λ failure stop. stop ≡ stop_of_words failure };
+
     fn from(failure: Failure<CliFault>) -> Stop {
         match failure {
             Failure::OutOfMemory => Stop::Failed(Fault::Memory),
@@ -46,6 +57,8 @@ impl From<Failure<CliFault>> for Stop {
 }
 
 impl From<Failure<Refusal>> for Stop {
+    ghost from_gives = { λ failure stop. stop ≡ stop_of_refusal failure };
+
     fn from(failure: Failure<Refusal>) -> Stop {
         match failure {
             Failure::OutOfMemory => Stop::Failed(Fault::Memory),

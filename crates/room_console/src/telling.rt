@@ -1,12 +1,12 @@
 //! Why the program ends, told on its two writers.
 ghost use Rattle.std.specs.Prelude.{◌≡◌, ◌++◌, ◌∷◌, [], IfOk, string_bytes};
-ghost use Rattle.room_outcome.specs.Written.{TellsText};
+ghost use Rattle.room_outcome.specs.Written.{TellsText, WritesSome};
 ghost use Rattle.room_outcome.specs.declared.status.Status.TheVariants.{Refused};
 ghost use Rattle.room_tasks.specs.Tasks.{refusal_text};
 ghost use Rattle.room_console.specs.Stops.{TellsStop};
 
 use crate::stop::Stop;
-use room_outcome::{Fault, Status, tell_fault, tell_text};
+use room_outcome::{Fault, Status, tell_fault, tell_if_possible, tell_text};
 use room_tasks::Refusal;
 use std::alloc::{AllocError, Global};
 use std::io::Write;
@@ -47,8 +47,9 @@ fn line_of(alloc: Global, why: &Refusal) -> Result<String, AllocError>
 
 // Where this fails too, the status alone tells of it.
 fn tell_words<E: Write>(text: &str, err: &mut E) -> u8
-    ensures { result ≡ 2 }
+    ensures status { result ≡ 2 }
+    ensures told { WritesSome (E.contents err.old) (E.contents err.new) text.now }
 {
-    let _told = err.write_all(text.as_bytes());
-    2
+    tell_if_possible(text.as_bytes(), err);
+    Status::Refused.code()
 }

@@ -152,16 +152,16 @@ fn help_tells_statuses_and_an_example(rt: HostRuntime) -> Result<(), Fail> {
     expect_help(&rt, "check", "  2  refused: why")?;
     expect_help(&rt, "check", "\ncaller: alice\n")?;
     expect_help(&rt, "check", "Example: rooms check < input.txt")?;
-    expect_help(&rt, "init", "Example: rooms init room.db alice staff")?;
-    expect_help(&rt, "serve", "Example: rooms serve room.db --port 8781")?;
+    expect_help(&rt, "init", "Example: rooms init office.rooms alice staff")?;
+    expect_help(&rt, "serve", "Example: rooms serve office.rooms --port 8781")?;
     expect_help(&rt, "groups", "  0  groups G, members M")?;
-    expect_help(&rt, "groups-out", "Example: rooms groups-out room.db")?;
-    expect_help(&rt, "audit", "Example: rooms audit room.db")?;
-    expect_help(&rt, "dump", "Example: rooms dump room.db")?;
+    expect_help(&rt, "groups-out", "Example: rooms groups-out office.rooms")?;
+    expect_help(&rt, "audit", "Example: rooms audit office.rooms")?;
+    expect_help(&rt, "dump", "Example: rooms dump office.rooms")?;
     expect_help(
         &rt,
         "reset",
-        "Example: rooms reset room.db / dacl < list.txt",
+        "Example: rooms reset office.rooms / dacl < list.txt",
     )?;
     expect_help(&rt, "verify", "  1  fault PATH why")?;
     expect_help(&rt, "migrate", "  0  migrated")

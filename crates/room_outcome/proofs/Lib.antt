@@ -1,1 +1,1 @@
-mod KnownBytes
+pub mod KnownBytes

@@ -26,9 +26,9 @@ abbrev pub fault_of_kind : ErrorKind → Fault
 fault_of_kind ErrorKind.OutOfMemory = fault.Memory
 fault_of_kind _ = fault.File
 
--- what fails where a text is written
-abbrev pub IsOfWriting : Fault → Type 0
-IsOfWriting why = (why ≡ fault.Memory) ⊎ (why ≡ fault.File)
+-- what fails where a stream is read or written
+abbrev pub IsOfStream : Fault → Type 0
+IsOfStream why = (why ≡ fault.Memory) ⊎ (why ≡ fault.File)
 
 abbrev pub no_room_text : NoRoom → List ℕ
 no_room_text no_room.NotRooms = codes "not a rooms file"

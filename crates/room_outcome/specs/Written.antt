@@ -1,7 +1,7 @@
 -- What is told on the two writers, where these tell their bytes.
 use Rattle.std.specs.Prelude.{◌≡◌, ◌⊎◌, ℕ, List, [], ◌++◌, Option}
 use Rattle.std.specs.Io.KnownBytes.{Appends}
-use Rattle.room_outcome.specs.Ending.{IsOfWriting, fault_line, status_code}
+use Rattle.room_outcome.specs.Ending.{IsOfStream, fault_line, status_code}
 use Rattle.room_outcome.specs.declared.fault.Fault.{Fault}
 use Rattle.room_outcome.specs.declared.status.Status.{Status}
 
@@ -17,17 +17,28 @@ pub record IsTold (text due : List ℕ) (code : ℕ) (out out' err err' : Option
   pub told : WritesSome err err' due
   pub ends : status ≡ code
 
--- Standard output failed, and that is told on standard error, or a beginning of it.
+-- A text was due on standard output, which failed in it; that is told on standard error, or a
+-- beginning of it.
 pub record IsCut (text : List ℕ) (out out' err err' : Option (List ℕ))
     (status : ℕ) : Type 0 where
   pub said : WritesSome out out' text
   pub why : Fault
-  pub is : IsOfWriting why
+  pub is : IsOfStream why
   pub told : WritesSome err err' (fault_line why)
   pub ends : status ≡ 3
 
--- The text was written on standard output, or that failed.
+-- The text was written on standard output, and the status is this one, or standard output failed.
+abbrev pub TellsLine : List ℕ → ℕ → Option (List ℕ) → Option (List ℕ) → Option (List ℕ)
+    → Option (List ℕ) → ℕ → Type 0
+TellsLine text code out out' err err' status =
+    IsTold text [] code out out' err err' status ⊎ IsCut text out out' err err' status
+
+-- The same with the status of this ending.
 abbrev pub TellsText : List ℕ → Status → Option (List ℕ) → Option (List ℕ) → Option (List ℕ)
     → Option (List ℕ) → ℕ → Type 0
-TellsText text how out out' err err' status =
-    IsTold text [] (status_code how) out out' err err' status ⊎ IsCut text out out' err err' status
+TellsText text how = TellsLine text (status_code how)
+
+-- Nothing was written on standard output, and on standard error this fault or a beginning of it.
+abbrev pub TellsFault : Fault → Option (List ℕ) → Option (List ℕ) → Option (List ℕ)
+    → Option (List ℕ) → ℕ → Type 0
+TellsFault why = IsTold [] (fault_line why) 3

@@ -1,6 +1,6 @@
 //! What can fail.
 ghost use Rattle.std.specs.Prelude.{◌≡◌};
-ghost use Rattle.room_outcome.specs.Ending.{IsOfWriting, fault_line, fault_of_kind};
+ghost use Rattle.room_outcome.specs.Ending.{IsOfStream, fault_line, fault_of_kind};
 ghost use Rattle.std.specs.IoError.{error_kind};
 
 use std::io::{Error, ErrorKind};
@@ -33,7 +33,7 @@ impl Fault {
 
     /// The fault of a reader or of a writer.
     pub fn of_stream(error: &Error) -> Fault
-        ensures writing { IsOfWriting result }
+        ensures stream { IsOfStream result }
         ensures kind { result ≡ fault_of_kind (error_kind error.now) }
     {
         match error.kind() {

@@ -1,14 +1,16 @@
-//! How a subcommand ends: its exit status, and what it tells on the two writers.
+//! How a subcommand ends, its exit status and what it tells on the two writers, and how it reads.
 #![tactic(auto)]
 
 mod fault;
 mod no_room;
+mod reading;
 mod status;
 mod texts;
 mod write;
 
 pub use fault::Fault;
 pub use no_room::NoRoom;
+pub use reading::read_front;
 pub use status::Status;
-pub use texts::{tell_fault, tell_text};
+pub use texts::{tell_fault, tell_if_possible, tell_line, tell_text};
 pub use write::send_text;

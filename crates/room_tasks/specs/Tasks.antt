@@ -4,7 +4,6 @@ use Rattle.room_ace.specs.Faults.{line_fault_text, text_fault_text}
 use Rattle.room_ace.specs.Lists.{sent_of}
 use Rattle.room_ace.specs.Sent.{Sent}
 use Rattle.room_ace.specs.Text.{name_of}
-use Rattle.room_ace.specs.declared.limits.TheConstants.{MOST_BYTES}
 use Rattle.room_ace.specs.declared.object.Which.{Which}
 use Rattle.room_import.specs.Faults.{csv_fault_text}
 use Rattle.room_import.specs.Groups.{groups_in}
@@ -12,7 +11,6 @@ use Rattle.room_rows.specs.Faults.{path_fault_text}
 use Rattle.room_rows.specs.Paths.{path_of}
 use Rattle.room_tasks.specs.declared.judging.Task.{Task}
 use Rattle.room_tasks.specs.declared.judging.Task.TheVariants as task
-use Rattle.room_tasks.specs.declared.judging.TheConstants.{MOST_GROUP_BYTES}
 use Rattle.room_tasks.specs.declared.refusal.Refusal.{Refusal}
 use Rattle.room_tasks.specs.declared.refusal.Refusal.TheVariants as refusal
 use Rattle.room_words.specs.declared.command.Command.{Command}
@@ -41,14 +39,16 @@ name_in text = refused_by refusal.Name (name_of text)
 abbrev pub path_in : List ℕ → Result (List (List ℕ)) Refusal
 path_in text = refused_by refusal.Path (path_of text)
 
+-- of a list at most 2^20 bytes
 abbrev pub sent_in : List ℕ → Result Sent Refusal
 sent_in input =
-    if nat_lt MOST_BYTES (length input) then Err refusal.TooLong
+    if nat_lt 1048576 (length input) then Err refusal.TooLong
     else refused_by refusal.Line (sent_of input)
 
+-- of a group file at most 2^23 bytes
 abbrev pub pairs_in : List ℕ → Result (List (List ℕ × List ℕ)) Refusal
 pairs_in input =
-    if nat_lt MOST_GROUP_BYTES (length input) then Err refusal.TooLong
+    if nat_lt 8388608 (length input) then Err refusal.TooLong
     else refused_by refusal.Row (groups_in input)
 
 abbrev pub new_room : List ℕ → List ℕ → Result Task Refusal

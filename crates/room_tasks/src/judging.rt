@@ -11,8 +11,8 @@ use room_rows::{Path, read_path};
 use room_words::Command;
 use std::alloc::Global;
 
-// The most bytes of a group file.
-const MOST_GROUP_BYTES: usize = 8_388_608;
+/// The most bytes of a group file. Of a longer one a single byte more is enough to tell that.
+pub const MOST_GROUP_BYTES: usize = 8_388_608;
 
 /// The subcommand and what was read for it, of all that work on an open database for a while.
 #[derive(Drop)]

@@ -1,4 +1,6 @@
 //! What the words of the command line can ask for.
+ghost use Rattle.std.specs.Prelude.{◌≡◌};
+ghost use Rattle.room_words.specs.Asked.{file_of, input_of};
 
 use clap::error::ErrorKind;
 use room_ace::Which;
@@ -14,7 +16,7 @@ pub enum Command<'a> {
         owner: &'a str,
         group: &'a str,
     },
-    /// Serves so many connections on this port of 127.0.0.1, one after the other.
+    /// Serves this number of connections on this port of 127.0.0.1, one after the other.
     Serve {
         file: &'a str,
         port: u16,
@@ -47,10 +49,52 @@ pub enum Command<'a> {
     Verify {
         file: &'a str,
     },
-    /// Raises a file of the older schema.
+    /// Upgrades a file of the older schema.
     Migrate {
         file: &'a str,
     },
+}
+
+/// Where a subcommand's list or group file stands.
+#[derive(Clone, Copy, Debug, PartialEq, Eq)]
+pub enum Input<'a> {
+    /// The subcommand reads nothing.
+    Nothing,
+    /// The standard input.
+    Standard,
+    /// The file of this name.
+    File(&'a str),
+}
+
+impl<'a> Command<'a> {
+    /// The name of the file of the room, which `check` alone has none of.
+    pub fn file(&self) -> Option<&'a str>
+        ensures { result ≡ file_of self.now }
+    {
+        match self {
+            Command::Check => None,
+            Command::Init { file, .. } => Some(file),
+            Command::Serve { file, .. } => Some(file),
+            Command::Groups { file, .. } => Some(file),
+            Command::GroupsOut { file } => Some(file),
+            Command::Audit { file } => Some(file),
+            Command::Dump { file } => Some(file),
+            Command::Reset { file, .. } => Some(file),
+            Command::Verify { file } => Some(file),
+            Command::Migrate { file } => Some(file),
+        }
+    }
+
+    /// What the subcommand reads before it is judged.
+    pub fn input(&self) -> Input<'a>
+        ensures { result ≡ input_of self.now }
+    {
+        match self {
+            Command::Check | Command::Reset { .. } => Input::Standard,
+            Command::Groups { csv, .. } => Input::File(csv),
+            _ => Input::Nothing,
+        }
+    }
 }
 
 /// Why words are no command, or that help is asked: what `clap` says of them.

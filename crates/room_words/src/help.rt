@@ -1,4 +1,4 @@
-//! What `--help` tells of each subcommand: more of what it does, the statuses, and an example.
+//! What `--help` prints of each subcommand: more of what it does, the statuses, and an example.
 
 // Of the input, the answers and the statuses of `check`.
 pub(crate) const CHECK: &str = "\
@@ -12,15 +12,15 @@ list:
 D::EVERYONE@:w
 A:g:staff:r
 
-A caller without a name is anonymous, and then has no groups. The letters behind
+A caller without a name is anonymous, and then has no groups. The letters after
 ask: are those of a mask, and a line of the list is TYPE:FLAGS:WHO:MASK.
 
-The answer is one line, and the status tells of it:
+The answer is one line, with its status:
 
   0  granted
   1  denied bits LETTERS entry PLACE ENTRY, or: denied bits LETTERS no entry
   2  refused: why
-  3  a fault, told on standard error
+  3  a fault, printed on standard error
 
 Example: rooms check < input.txt";
 
@@ -36,19 +36,19 @@ Its sacl is list:a without an entry. reset sets other lists.
 
   0  ready
   2  refused: A3 bad who, or: refused: file exists
-  3  a fault, told on standard error
+  3  a fault, printed on standard error
 
-Example: rooms init room.db alice staff";
+Example: rooms init office.rooms alice staff";
 
 pub(crate) const SERVE: &str = "\
-It tells where it listens, as listening 127.0.0.1:8780, and ends behind the last
+It prints where it listens, as listening 127.0.0.1:8780, and ends after the last
 connection. The users come by HTTP.
 
   0  it served them
   2  refused: why
-  3  a fault, told on standard error
+  3  a fault, printed on standard error
 
-Example: rooms serve room.db --port 8781 --count 100";
+Example: rooms serve office.rooms --port 8781 --count 100";
 
 pub(crate) const GROUPS: &str = "\
 The first row of the CSV file is group,user, and each further row a pair of two
@@ -56,18 +56,18 @@ names. No member is left but these.
 
   0  groups G, members M
   2  refused: row N: why, or another refusal
-  3  a fault, told on standard error
+  3  a fault, printed on standard error
 
-Example: rooms groups room.db members.csv";
+Example: rooms groups office.rooms members.csv";
 
 pub(crate) const GROUPS_OUT: &str = "\
 A row group,user, and then a row for each pair, in order of group and user.
 
   0  the rows
   2  refused: why
-  3  a fault, told on standard error
+  3  a fault, printed on standard error
 
-Example: rooms groups-out room.db";
+Example: rooms groups-out office.rooms";
 
 pub(crate) const AUDIT: &str = "\
 A row at,user,path,bits,granted,entry,kind, and then a row for each record, the
@@ -75,9 +75,9 @@ oldest first.
 
   0  the rows
   2  refused: why
-  3  a fault, told on standard error
+  3  a fault, printed on standard error
 
-Example: rooms audit room.db";
+Example: rooms audit office.rooms";
 
 pub(crate) const DUMP: &str = "\
 Each object with its owners and both lists, the root first and children by name,
@@ -85,9 +85,9 @@ and then the members.
 
   0  the lines
   2  refused: why
-  3  a fault, told on standard error
+  3  a fault, printed on standard error
 
-Example: rooms dump room.db";
+Example: rooms dump office.rooms";
 
 pub(crate) const RESET: &str = "\
 The list stands on the standard input, its first line list: with its flags, and
@@ -95,9 +95,9 @@ below it an entry on each line. PATH is written as it is, without escapes.
 
   0  done
   2  refused: line N: why, refused: N1 no-such at PATH, or another refusal
-  3  a fault, told on standard error
+  3  a fault, printed on standard error
 
-Example: rooms reset room.db / dacl < list.txt";
+Example: rooms reset office.rooms / dacl < list.txt";
 
 pub(crate) const VERIFY: &str = "\
 It tests lists, the root, parents, names, bytes and what is inherited.
@@ -105,9 +105,9 @@ It tests lists, the root, parents, names, bytes and what is inherited.
   0  sound
   1  fault PATH why
   2  refused: why
-  3  a fault, told on standard error
+  3  a fault, printed on standard error
 
-Example: rooms verify room.db";
+Example: rooms verify office.rooms";
 
 pub(crate) const MIGRATE: &str = "\
 Schema 1 becomes schema 2, where the rows are sound. With any other answer than
@@ -121,6 +121,6 @@ init made has schema 2, and is refused here with schema 2 is new.
   0  migrated
   1  fault PATH why
   2  refused: why
-  3  a fault, told on standard error
+  3  a fault, printed on standard error
 
-Example: rooms migrate room.db";
+Example: rooms migrate office.rooms";

@@ -6,5 +6,5 @@ mod help;
 mod line;
 mod reading;
 
-pub use command::{CliFault, Command};
+pub use command::{CliFault, Command, Input};
 pub use reading::read_command;

@@ -8,7 +8,7 @@ use crate::help;
 use clap::{Arg, Command, value_parser};
 use std::alloc::{AllocError, Global};
 
-// What `rooms --version` tells.
+// What `rooms --version` prints.
 const VERSION: &str = "0.1.0";
 
 // Which of an object's two lists.
@@ -167,7 +167,7 @@ pub(crate) fn command_line<'a>(alloc: Global) -> Result<Command<'a>, AllocError>
         .subcommand(over_file(
             alloc,
             "migrate",
-            "Raises a file of the older schema",
+            "Upgrades a file of the older schema",
             help::MIGRATE,
         )?)
 }

@@ -3,7 +3,8 @@ ghost use Rattle.std.specs.Prelude.{◌≡◌, IfOk, false};
 
 use room_console::Stop;
 use room_outcome::Fault;
-use sqlite::{Connection, Error, ErrorCode};
+use room_tables::wants_memory;
+use sqlite::Connection;
 use sqlite_std_file::{FileFrom, Start};
 use sqlite_store::FileStore;
 use std::fs::{self, OpenOptions};
@@ -62,14 +63,8 @@ pub fn connect<S: Start>(rt: &HostRuntime, file: &str, start: S) -> Result<FileC
     let path = fs::canonicalize(rt, file)?;
     match Connection::open_from(rt, path.as_str(), false, start) {
         Ok(conn) => Ok(conn),
-        Err((error, _left)) => Err(Stop::Failed(fault_of(error))),
-    }
-}
-
-fn fault_of(error: Error) -> Fault {
-    match error {
-        Error::SqliteFailure(ErrorCode::OutOfMemory) => Fault::Memory,
-        _ => Fault::Database,
+        Err((error, _left)) if wants_memory(error) => Err(Stop::Failed(Fault::Memory)),
+        Err(_) => Err(Stop::Failed(Fault::Database)),
     }
 }
 

@@ -5,17 +5,17 @@
 //! A room is a file, and each of these but `check` works on one.
 //!
 //! - `check` judges the list on standard input, and needs no room.
-//! - `init FILE OWNER GROUP` makes a new file with an empty room, and tells `ready`.
-//! - `serve FILE --port N --count N` listens on 127.0.0.1, tells `listening 127.0.0.1:N`, serves so
-//!   many connections one after the other, and ends.
-//! - `groups FILE CSV` replaces all members by those of the CSV file, and tells how many.
-//! - `groups-out FILE` tells the members as CSV.
-//! - `audit FILE` tells the records as CSV.
-//! - `dump FILE` tells all objects and all members.
-//! - `reset FILE PATH dacl|sacl` sets the list on standard input, asking no right, and tells
+//! - `init FILE OWNER GROUP` makes a new file with an empty room, and prints `ready`.
+//! - `serve FILE --port N --count N` listens on 127.0.0.1, prints `listening 127.0.0.1:N`, serves
+//!   this number of connections one after the other, and ends.
+//! - `groups FILE CSV` replaces all members by those of the CSV file, and prints how many.
+//! - `groups-out FILE` prints the members as CSV.
+//! - `audit FILE` prints the records as CSV.
+//! - `dump FILE` prints all objects and all members.
+//! - `reset FILE PATH dacl|sacl` sets the list on standard input, asking no right, and prints
 //!   `done`.
-//! - `verify FILE` tells the first fault of the rows, or `sound`.
-//! - `migrate FILE` raises a file of the older schema, and tells `migrated`.
+//! - `verify FILE` prints the first fault of the rows, or `sound`.
+//! - `migrate FILE` upgrades a file of the older schema, and prints `migrated`.
 //!
 //! # Statuses
 //!
@@ -30,9 +30,9 @@
 //!
 //! 1. The words are read, by `room_words`.
 //! 2. The list on standard input or the CSV file is read, as far as it may be long and one byte
-//!    more: `input`.
+//!    more, by `room_console`.
 //! 3. Owner and group, the path and what was read are judged, by `room_tasks`. What is refused so
-//!    far opens no file, and makes none.
+//!    far opens no file of a room, and makes none.
 //! 4. The file is opened, or made by `init`: `files`. One that cannot be opened is a fault, and an
 //!    empty one is no room.
 //! 5. The task is done in one transaction and told, by `room_acting`; or connections are served, by
@@ -42,15 +42,15 @@
 //! # What is proved
 //!
 //! The calls of the crates below are proved to do what is written here of lists, tasks, connections
-//! and texts. No contract can name what a terminal or a file gave and took, so that the program
-//! hands them the right ones is shown by running it.
+//! and texts, and `room_words` says which file and which input a command names. No contract can name
+//! what a terminal or a file gave and took, so that the program hands over those very ones is shown
+//! by running it.
 #![tactic(auto)]
 
 mod files;
-mod input;
 mod work;
 
-use room_check::answer;
+use room_check::tell_check;
 use room_console::{Stop, tell_stop};
 use room_words::{Command, read_command};
 use sqlite_std_file::{Start, Unknown};
@@ -72,7 +72,12 @@ fn run<S: Start>(rt: &HostRuntime, start: S) -> Result<u8, Stop> {
     let words = words_of(rt)?;
     let command = read_command(rt.alloc(), words.as_slice())?;
     match command {
-        Command::Check => Ok(answer(rt.alloc(), rt.reader(), &mut rt.stdout())?),
+        Command::Check => Ok(tell_check(
+            rt.alloc(),
+            rt.reader(),
+            &mut rt.stdout(),
+            &mut rt.stderr(),
+        )),
         Command::Serve { file, port, count } => work::serve(rt, start, file, port, count),
         _ => work::carry_out(rt, start, &command),
     }

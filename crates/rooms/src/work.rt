@@ -3,45 +3,34 @@ ghost use Rattle.std.specs.Prelude.{◌≡◌, ℕ, List, IsSome, false};
 ghost use Rattle.room_tasks.specs.Tasks.{task_of};
 
 use crate::files::{FileConnection, close, connect, make, open, take_away};
-use crate::input::input_of;
 use room_acting::act;
-use room_console::Stop;
+use room_console::{Stop, read_task};
 use room_hosting::host;
-use room_tasks::{Task, judge};
-use room_words::Command;
+use room_tasks::Task;
+use room_words::{Command, Input};
 use sqlite_std_file::Start;
+use std::{fs, io};
 
 /// Reads what the subcommand needs, judges it, and carries it out on its file.
 pub fn carry_out<S: Start>(rt: &HostRuntime, start: S, command: &Command<'_>) -> Result<u8, Stop>
     requires { (input : List ℕ) → IsSome (task_of command.now input) }
 {
     let task = task_for(rt, command)?;
-    let file = file_of(command);
+    let file = command.file().unwrap_or("");
     match task {
         Task::Init(_) => begin(rt, start, file, &task),
         _ => Ok(work_on(rt, open(rt, file, start)?, &task)),
     }
 }
 
+// The task, with what the command names as its input.
 fn task_for(rt: &HostRuntime, command: &Command<'_>) -> Result<Task, Stop>
     requires { (input : List ℕ) → IsSome (task_of command.now input) }
 {
-    let input = input_of(rt, command)?;
-    Ok(judge(rt.alloc(), command, &input)?)
-}
-
-fn file_of<'a>(command: &Command<'a>) -> &'a str {
-    match command {
-        Command::Check => "",
-        Command::Init { file, .. }
-        | Command::Serve { file, .. }
-        | Command::Groups { file, .. }
-        | Command::GroupsOut { file }
-        | Command::Audit { file }
-        | Command::Dump { file }
-        | Command::Reset { file, .. }
-        | Command::Verify { file }
-        | Command::Migrate { file } => file,
+    match command.input() {
+        Input::Nothing => read_task(rt.alloc(), command, io::empty()),
+        Input::Standard => read_task(rt.alloc(), command, rt.reader()),
+        Input::File(name) => read_task(rt.alloc(), command, fs::open(rt, name)?),
     }
 }
 
@@ -69,7 +58,7 @@ fn work_on<S: Start>(rt: &HostRuntime, conn: FileConnection<S>, task: &Task) -> 
     status
 }
 
-/// Serves so many connections on the port.
+/// Serves this number of connections on the port.
 pub fn serve<S: Start>(
     rt: &HostRuntime,
     start: S,
