@@ -1,49 +1,49 @@
-//! Times work of the rooms on input of a given size: `room_bench WORKLOAD SIZE`.
+//! Times work of the rooms: `room_bench SUITE ROUNDS BELOW OBJECTS [WORKLOAD]`.
+//!
+//! A room is made by a script, as the tests make theirs, whatever keeps it: in memory, over a file,
+//! or behind a connection.
 #![tactic(auto)]
 
-mod asking;
-mod check;
-mod groups;
-mod passing;
+mod file;
+mod input;
+mod job;
+mod memory;
+mod messages;
+mod pieces;
+mod requests;
+mod script;
+mod serving;
 mod timing;
-mod tree;
-mod walking;
+mod workloads;
 
-use anyhow::{Context, Result, bail};
+use crate::job::{Job, job_of};
 use std::env;
-use std::rt::Clock;
+use std::test::Fail;
 
-/// Does the workload that the words name. What it does is told on standard output, and the time of
-/// one round on standard error, since it differs from run to run.
-fn main(rt: HostRuntime) -> Result<()> {
-    let mut words = env::args(&rt)?.skip(1);
-    let workload = words.next().context("a workload and a size are wanted")?;
-    let size = words
-        .next()
-        .context("a size is wanted")?
-        .parse::<usize>()
-        .context("reading the size")?;
-    run(&rt, workload.as_str(), size)
+/// Does the workloads of a suite, or of all. What is answered is told on standard output, and times
+/// on standard error, since they differ from run to run.
+fn main(rt: HostRuntime) -> Result<(), Fail> {
+    let words: Vec<String> = env::args(&rt)?.skip(1).collect(rt.alloc())?;
+    run_words(&rt, words.as_slice())
 }
 
-// Does the workload of this name.
-fn run(
-    rt: &(impl Print + Eprint + AllocGlobal + Clock),
-    workload: &str,
-    size: usize,
-) -> Result<()> {
-    match workload {
-        "check" => check::last_decides(rt, size),
-        "caller" => check::many_groups(rt, size),
-        "groups" => groups::run(rt, size),
-        "walk" => walking::run(rt, size),
-        "spread" => passing::spread_all_changed(rt, size),
-        "verify" => passing::verify_all(rt, size),
-        "read" => asking::read(rt, size),
-        "list" => asking::list(rt, size),
-        "denied" => asking::denied(rt, size),
-        "set_list" => asking::set_list(rt, size),
-        "move" => asking::move_there_and_back(rt, size),
-        other => bail!("no workload {other}"),
+fn run_words(rt: &HostRuntime, words: &[String]) -> Result<(), Fail> {
+    let job = job_of(words)?;
+    run(rt, &job)
+}
+
+fn run(rt: &HostRuntime, job: &Job<'_>) -> Result<(), Fail> {
+    match job.suite {
+        "input" => input::run(rt, job),
+        "memory" => memory::run(rt, job),
+        "http" => serving::run(rt, job),
+        "store" => file::run(rt, job),
+        "all" => {
+            input::run(rt, job)?;
+            memory::run(rt, job)?;
+            serving::run(rt, job)?;
+            file::run(rt, job)
+        }
+        _ => Err(Fail::new("the suites are input, memory, http, store and all")),
     }
 }
