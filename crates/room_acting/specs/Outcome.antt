@@ -1,5 +1,5 @@
 -- The text of an outcome for each of the two writers, and its exit status (own).
-use Rattle.std.specs.Prelude.{ℕ, List, [], ◌++◌, codes, decimal}
+use Rattle.std.specs.Prelude.{ℕ, List, ◌++◌, codes, decimal}
 use Rattle.room_ace.specs.Faults.{list_fault_text}
 use Rattle.room_rows.specs.Paths.{path_text}
 use Rattle.room_machine.specs.declared.reply.Reason.{Reason}
@@ -7,7 +7,7 @@ use Rattle.room_machine.specs.declared.reply.Reason.TheVariants as reason
 use Rattle.room_rows.specs.Codes.{unsound_text}
 use Rattle.room_schema.specs.declared.fault.OpenFault.{OpenFault}
 use Rattle.room_schema.specs.declared.fault.OpenFault.TheVariants as opening
-use Rattle.room_outcome.specs.Ending.{fault_line, no_room_text}
+use Rattle.room_outcome.specs.Ending.{no_room_text}
 use Rattle.room_outcome.specs.declared.fault.Fault.TheVariants as fault
 use Rattle.room_outcome.specs.declared.no_room.NoRoom.TheVariants as no_room
 use Rattle.room_acting.specs.declared.outcome.Answer.{Answer}
@@ -33,13 +33,6 @@ abbrev pub status_of : Outcome → Status
 status_of (outcome.Answer answer) = answer_status answer
 status_of (outcome.Bytes bytes) = status.Done
 status_of (outcome.Failed fault) = status.Failed
-
--- ---- standard error
-
-abbrev pub err_text : Outcome → List ℕ
-err_text (outcome.Answer answer) = []
-err_text (outcome.Bytes bytes) = []
-err_text (outcome.Failed fault) = fault_line fault
 
 -- ---- standard output
 
@@ -76,11 +69,6 @@ answer_text (answer.Unsound path why) =
     codes "fault " ++ (path ++ (codes " " ++ (unsound_text why ++ codes "\n")))
 answer_text answer.Raised = codes "migrated\n"
 answer_text (answer.NoRoom why) = codes "refused: " ++ (no_room_text why ++ codes "\n")
-
-abbrev pub out_text : Outcome → List ℕ
-out_text (outcome.Answer answer) = answer_text answer
-out_text (outcome.Bytes bytes) = bytes
-out_text (outcome.Failed fault) = []
 
 -- ---- a database that isn't opened
 

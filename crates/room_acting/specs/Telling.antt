@@ -1,14 +1,16 @@
 -- What is told of an outcome on the two writers, where these tell their bytes.
-use Rattle.std.specs.Prelude.{◌⊎◌, ℕ, List, Option}
-use Rattle.room_outcome.specs.Ending.{status_code}
-use Rattle.room_acting.specs.Outcome.{err_text, out_text, status_of}
-use Rattle.room_outcome.specs.Written.{IsCut, IsTold}
+use Rattle.std.specs.Prelude.{ℕ, List, Option}
+use Rattle.room_acting.specs.Outcome.{answer_status, answer_text}
+use Rattle.room_outcome.specs.Written.{TellsFault, TellsText}
+use Rattle.room_outcome.specs.declared.status.Status.{Status}
+use Rattle.room_outcome.specs.declared.status.Status.TheVariants as status
 use Rattle.room_acting.specs.declared.outcome.Outcome.{Outcome}
+use Rattle.room_acting.specs.declared.outcome.Outcome.TheVariants as outcome
 
--- The texts of the outcome were written, or standard output failed.
+-- The text of an answer or the bytes were written, or standard output failed in them. Of a fault
+-- nothing is due on standard output, so that another fault can't take its place.
 abbrev pub Tells : Outcome → Option (List ℕ) → Option (List ℕ) → Option (List ℕ)
     → Option (List ℕ) → ℕ → Type 0
-Tells outcome out out' err err' status =
-    IsTold (out_text outcome) (err_text outcome) (status_code (status_of outcome)) out out' err err'
-    status
-    ⊎ IsCut (out_text outcome) out out' err err' status
+Tells (outcome.Answer answer) = TellsText (answer_text answer) (answer_status answer)
+Tells (outcome.Bytes bytes) = TellsText bytes status.Done
+Tells (outcome.Failed fault) = TellsFault fault

@@ -1,7 +1,6 @@
--- Texts that are told, or of which nothing is written.
-use Rattle.std.proofs.Common.{◌≡◌, ℕ, List, [], Option, Some, None, Result, Ok, Err, refl, sym, subst}
-use Rattle.std.proofs.lemmas.List.{append-nil}
-use Rattle.std.specs.Io.KnownBytes.{Appends}
+-- Texts that are told, of databases that are not opened.
+use Rattle.std.proofs.Common.{◌≡◌, ℕ, List, Option, Result, Ok, Err, subst}
+use Rattle.room_outcome.proofs.KnownBytes.{Appends-none}
 use Rattle.room_outcome.specs.Ending.{fault_line}
 use Rattle.room_outcome.specs.Written.{TellsText, WritesSome}
 use Rattle.room_outcome.specs.declared.fault.Fault.{Fault}
@@ -9,13 +8,6 @@ use Rattle.room_outcome.specs.declared.no_room.NoRoom.{NoRoom}
 use Rattle.room_outcome.specs.declared.status.Status.{Status}
 use Rattle.room_schema.specs.declared.fault.OpenFault.{OpenFault}
 use Rattle.room_hosting.specs.Hosts.{Refuses, TurnsDown, reason_of}
-
-appends_none : (u : Option (List ℕ)) → Appends u u []
-appends_none None = tt
-appends_none (Some xs) = sym (append-nil xs)
-
-pub writes_none : (u : Option (List ℕ)) (text : List ℕ) → WritesSome u u text
-writes_none u text = ([], text, refl, appends_none u)
 
 pub told_as : (text text' : List ℕ) (how : Status) (u v w x : Option (List ℕ)) (status : ℕ)
     → text ≡ text' → TellsText text how u v w x status → TellsText text' how u v w x status
@@ -33,4 +25,4 @@ pub failed : (fault : OpenFault) (why : Fault) (u w x : Option (List ℕ)) (stat
     → TurnsDown (reason_of fault) u u w x status
 failed fault why u w x status is told ends =
     subst (λ (r : Result NoRoom Fault). TurnsDown r u u w x status) is
-    (record { said = appends_none u; told = told; ends = ends })
+    (record { said = Appends-none u; told = told; ends = ends })

@@ -1,10 +1,10 @@
 -- What the subcommand `serve` does on an open database (own).
-use Rattle.std.specs.Prelude.{◌≡◌, ◌≤◌, ◌⊎◌, ℕ, List, [], ◌++◌, codes, length, Option, Result, Ok, Err}
+use Rattle.std.specs.Prelude.{◌≡◌, ◌≤◌, ◌⊎◌, ℕ, List, ◌++◌, codes, length, Option, Result, Ok, Err}
 use Rattle.std.specs.Io.KnownBytes.{Appends}
 use Rattle.sqlite.specs.Held.{Held}
 use Rattle.sqlite.specs.State.{State}
-use Rattle.room_outcome.specs.Ending.{fault_line, no_room_text}
-use Rattle.room_outcome.specs.Written.{IsTold, TellsText}
+use Rattle.room_outcome.specs.Ending.{no_room_text}
+use Rattle.room_outcome.specs.Written.{TellsFault, TellsText}
 use Rattle.room_outcome.specs.declared.fault.Fault.{Fault}
 use Rattle.room_outcome.specs.declared.no_room.NoRoom.{NoRoom}
 use Rattle.room_outcome.specs.declared.status.Status.{Status}
@@ -35,7 +35,7 @@ Refuses why = TellsText (refusal_line why) Status.Refused
 abbrev pub TurnsDown : Result NoRoom Fault → Option (List ℕ) → Option (List ℕ)
     → Option (List ℕ) → Option (List ℕ) → ℕ → Type 0
 TurnsDown (Ok why) = Refuses why
-TurnsDown (Err why) = IsTold [] (fault_line why) 3
+TurnsDown (Err why) = TellsFault why
 
 -- what is told of a fault where connections were served
 abbrev pub fault_of : ServingFault → Fault

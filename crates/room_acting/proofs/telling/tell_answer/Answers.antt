@@ -1,5 +1,6 @@
 use Rattle.std.proofs.Common.{inl, inr, refl, sym, ◌∙◌}
-use Rattle.room_acting.proofs.Texts.{told_as, writes_none}
+use Rattle.room_acting.proofs.Texts.{told_as}
+use Rattle.room_outcome.proofs.KnownBytes.{writes_none}
 use Rattle.room_acting.proofs.telling.tell_answer.Goals as goal
 use Rattle.room_outcome.specs.declared.fault.Fault.TheVariants.{Memory}
 

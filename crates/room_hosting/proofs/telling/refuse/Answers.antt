@@ -1,7 +1,8 @@
 use Rattle.std.proofs.Common.{inl, inr, refl, ◌∙◌}
 use Rattle.room_outcome.specs.declared.fault.Fault.{Fault}
 use Rattle.room_outcome.specs.declared.status.Status.{Status}
-use Rattle.room_hosting.proofs.Texts.{told_as, writes_none}
+use Rattle.room_outcome.proofs.KnownBytes.{writes_none}
+use Rattle.room_hosting.proofs.Texts.{told_as}
 use Rattle.room_hosting.proofs.telling.refuse.Goals as goal
 
 pub returns-in-Ok : goal.returns-in-Ok
