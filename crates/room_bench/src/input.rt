@@ -11,8 +11,8 @@ use std::fmt::Write;
 use std::test::Fail;
 use std::time::Instant;
 
-/// Judges a list of so many entries of which the last decides, and one of 1,024 entries for a caller
-/// in so many groups; and reads a group file of so many rows.
+/// Judges a list of so many entries of which the last decides, and one of 1,024 entries for a
+/// caller in so many groups; and reads a group file of so many rows.
 pub fn run(rt: &HostRuntime, job: &Job<'_>) -> Result<(), Fail> {
     if job.wants("check") {
         last_decides(rt, job)?;

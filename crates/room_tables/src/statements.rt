@@ -292,21 +292,21 @@ pub(crate) fn insert_bytes<S: Alter>(
 /// Puts in a record behind the others.
 pub(crate) fn insert_record<S: Alter>(
     tx: &mut Transaction<'_, S>,
-    record: &Record,
+    noted: &Record,
 ) -> Result<usize, Error>
     ensures same_reference { tx.new.conn.ghost_name ≡ tx.old.conn.ghost_name }
-    ensures writes { Writes (OfAny (Notes (record_values record.now)))
+    ensures writes { Writes (OfAny (Notes (record_values noted.now)))
         (state S.Store tx.old.conn.now) (state S.Store tx.new.conn.now) result }
 {
     tx.execute(
         "INSERT INTO audits (at, user, path, bits, granted, entry) VALUES (?1, ?2, ?3, ?4, ?5, ?6)",
         params![
-            &record.at,
-            &record.user,
-            &record.path,
-            record.bits,
-            record.granted,
-            &record.entry,
+            &noted.at,
+            &noted.user,
+            &noted.path,
+            noted.bits,
+            noted.granted,
+            &noted.entry,
         ],
     )
 }

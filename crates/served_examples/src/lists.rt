@@ -1,5 +1,6 @@
 //! Lists that are set, read and passed down.
-use crate::rooms::{open_store, plays_on_both};
+use crate::examples::{Example, plays_each_on_both};
+use crate::rooms::open_store;
 use room_player::agree;
 use room_store::Store;
 use room_talk::play;
@@ -79,21 +80,6 @@ const WRITTEN_BACK: &str = "\
 ";
 
 #[test]
-fn protect_and_rejoin(rt: HostRuntime) -> Result<(), Fail> {
-    plays_on_both(rt.alloc(), PROTECT_AND_REJOIN)
-}
-
-#[test]
-fn clear_auto_inherit(rt: HostRuntime) -> Result<(), Fail> {
-    plays_on_both(rt.alloc(), CLEAR_AUTO_INHERIT)
-}
-
-#[test]
-fn can_three_bits(rt: HostRuntime) -> Result<(), Fail> {
-    plays_on_both(rt.alloc(), CAN_THREE_BITS)
-}
-
-#[test]
 fn write_back(rt: HostRuntime) -> Result<(), Fail> {
     let mut store = open_store(rt.alloc())?;
     play(rt.alloc(), &mut store, FOLDER_MADE)?;
@@ -106,4 +92,16 @@ fn changes_nothing(alloc: Global, store: &mut Store<MemStore>, script: &str) -> 
     play(alloc, store, script)?;
     let after = store.dump(alloc)?;
     agree("dump", after.as_str(), before.as_str())
+}
+
+// The examples by their names.
+static EXAMPLES: [Example; 3] = [
+    ("protect_and_rejoin", PROTECT_AND_REJOIN),
+    ("clear_auto_inherit", CLEAR_AUTO_INHERIT),
+    ("can_three_bits", CAN_THREE_BITS),
+];
+
+#[test]
+fn examples_of_lists(rt: HostRuntime) -> Result<(), Fail> {
+    plays_each_on_both(&rt, EXAMPLES.as_slice())
 }

@@ -1,5 +1,5 @@
 //! What shows of a room.
-use crate::rooms::plays_on_both;
+use crate::examples::{Example, plays_each_on_both};
 use std::test::Fail;
 
 pub(crate) const HIDDEN_BEHIND_FOLDER: &str = "\
@@ -40,22 +40,15 @@ pub(crate) const DOCUMENT_ABSENT: &str = "\
 =Clean
 ";
 
-#[test]
-fn hidden_behind_folder(rt: HostRuntime) -> Result<(), Fail> {
-    plays_on_both(rt.alloc(), HIDDEN_BEHIND_FOLDER)
-}
+// The examples by their names.
+static EXAMPLES: [Example; 4] = [
+    ("hidden_behind_folder", HIDDEN_BEHIND_FOLDER),
+    ("names_in_byte_order", NAMES_IN_BYTE_ORDER),
+    ("target_with_dots", TARGET_WITH_DOTS),
+    ("document_absent", DOCUMENT_ABSENT),
+];
 
 #[test]
-fn names_in_byte_order(rt: HostRuntime) -> Result<(), Fail> {
-    plays_on_both(rt.alloc(), NAMES_IN_BYTE_ORDER)
-}
-
-#[test]
-fn target_with_dots(rt: HostRuntime) -> Result<(), Fail> {
-    plays_on_both(rt.alloc(), TARGET_WITH_DOTS)
-}
-
-#[test]
-fn document_absent(rt: HostRuntime) -> Result<(), Fail> {
-    plays_on_both(rt.alloc(), DOCUMENT_ABSENT)
+fn examples_of_showing(rt: HostRuntime) -> Result<(), Fail> {
+    plays_each_on_both(&rt, EXAMPLES.as_slice())
 }

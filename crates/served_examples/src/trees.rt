@@ -1,5 +1,5 @@
 //! Objects that are removed and moved.
-use crate::rooms::plays_on_both;
+use crate::examples::{Example, plays_each_on_both};
 use std::test::Fail;
 
 pub(crate) const DELETE_BY_PARENT_RIGHT: &str = "\
@@ -84,27 +84,16 @@ pub(crate) const MOVE_OUT_AND_BACK: &str = "\
 =Clean
 ";
 
-#[test]
-fn delete_by_parent_right(rt: HostRuntime) -> Result<(), Fail> {
-    plays_on_both(rt.alloc(), DELETE_BY_PARENT_RIGHT)
-}
+// The examples by their names.
+static EXAMPLES: [Example; 5] = [
+    ("delete_by_parent_right", DELETE_BY_PARENT_RIGHT),
+    ("delete_by_adding_right", DELETE_BY_ADDING_RIGHT),
+    ("delete_denied_at_target", DELETE_DENIED_AT_TARGET),
+    ("move_refusals", MOVE_REFUSALS),
+    ("move_out_and_back", MOVE_OUT_AND_BACK),
+];
 
 #[test]
-fn delete_by_adding_right(rt: HostRuntime) -> Result<(), Fail> {
-    plays_on_both(rt.alloc(), DELETE_BY_ADDING_RIGHT)
-}
-
-#[test]
-fn delete_denied_at_target(rt: HostRuntime) -> Result<(), Fail> {
-    plays_on_both(rt.alloc(), DELETE_DENIED_AT_TARGET)
-}
-
-#[test]
-fn move_refusals(rt: HostRuntime) -> Result<(), Fail> {
-    plays_on_both(rt.alloc(), MOVE_REFUSALS)
-}
-
-#[test]
-fn move_out_and_back(rt: HostRuntime) -> Result<(), Fail> {
-    plays_on_both(rt.alloc(), MOVE_OUT_AND_BACK)
+fn examples_of_trees(rt: HostRuntime) -> Result<(), Fail> {
+    plays_each_on_both(&rt, EXAMPLES.as_slice())
 }

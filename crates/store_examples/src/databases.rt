@@ -1,5 +1,6 @@
 //! Databases that hold no room, a new one, and those of another make: with tables of a room that
 //! keep nothing out, or lack one.
+use crate::examples::{Example, plays_each_in_nothing};
 use std::test::Fail;
 use store_player::{plays, plays_in_nothing};
 
@@ -112,11 +113,6 @@ store Adopt => NotRooms
 store Migrate => NotRooms
 ";
 
-#[test]
-fn databases_without_a_room(rt: HostRuntime) -> Result<(), Fail> {
-    plays_in_nothing(rt.alloc(), &[NONE])
-}
-
 // What a new room has in its tables. It isn't made a second time.
 const NEW: &str = "\
 store Create => done
@@ -131,11 +127,6 @@ store Mark => done
 store Create => fault Db
 store Same => yes
 ";
-
-#[test]
-fn new_room_has_its_root_alone(rt: HostRuntime) -> Result<(), Fail> {
-    plays_in_nothing(rt.alloc(), &[NEW])
-}
 
 // A table is gone. It is opened all the same, and what needs the table is answered by a fault.
 static LACKING: [&str; 6] = [
@@ -205,4 +196,15 @@ fn tables_that_are_gone(rt: HostRuntime) -> Result<(), Fail> {
         plays(rt.alloc(), &["root Put /f hi => made", *script])?;
     }
     Ok(())
+}
+
+// The examples by their names, each on an empty database.
+static EXAMPLES: [Example; 2] = [
+    ("databases_without_a_room", &[NONE]),
+    ("new_room_has_its_root_alone", &[NEW]),
+];
+
+#[test]
+fn examples_without_a_room(rt: HostRuntime) -> Result<(), Fail> {
+    plays_each_in_nothing(&rt, EXAMPLES.as_slice())
 }

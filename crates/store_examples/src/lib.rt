@@ -5,6 +5,8 @@
 #[cfg(test)]
 mod databases;
 #[cfg(test)]
+mod examples;
+#[cfg(test)]
 mod records;
 #[cfg(test)]
 mod schemas;

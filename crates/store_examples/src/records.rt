@@ -1,6 +1,6 @@
 //! The examples of records, as the file that is exported.
+use crate::examples::{Example, plays_each};
 use std::test::Fail;
-use store_player::plays;
 
 const FAILED_READ: &str = "\
 root Put /f hi => made
@@ -18,12 +18,6 @@ alice Read /f => denied at /f bits r no-place no-entry
 store Audits => at,user,path,bits,granted,entry,kind|
 ";
 
-#[test]
-fn failed_read_recorded(rt: HostRuntime) -> Result<(), Fail> {
-    plays(rt.alloc(), &[FAILED_READ])?;
-    plays(rt.alloc(), &[NO_OUTCOME])
-}
-
 const COMMA_IN_PATH: &str = "\
 root Put /a,b hi => made
 root SetList /a,b sacl list:a / U:F:EVERYONE@:r => done
@@ -31,11 +25,6 @@ root Read /a,b => bytes hi
 alice Read /a,b => denied at /a,b bits r no-place no-entry
 store Audits => at,user,path,bits,granted,entry,kind|1000,alice,\"/a,b\",r,no,1,audit|
 ";
-
-#[test]
-fn audit_path_quoted(rt: HostRuntime) -> Result<(), Fail> {
-    plays(rt.alloc(), &[COMMA_IN_PATH])
-}
 
 const ALARM_AND_AUDIT: &str = "\
 root Put /f hi => made
@@ -49,11 +38,6 @@ store Audits => at,user,path,bits,granted,entry,kind|\
 2000,,/f,r,no,1,alarm|2000,,/f,r,no,2,audit|2001,alice,/f,r,yes,2,audit|
 ";
 
-#[test]
-fn alarm_and_audit_records(rt: HostRuntime) -> Result<(), Fail> {
-    plays(rt.alloc(), &[ALARM_AND_AUDIT])
-}
-
 const TWO_RECORDS: &str = "\
 root Put /f hi => made
 store Reset / sacl list:a / U:fdS:root:dDw => done
@@ -62,11 +46,6 @@ root Remove /f => done
 store Audits => at,user,path,bits,granted,entry,kind|\
 7,root,/f,d,yes,1,audit|7,root,/,D,yes,1,audit|
 ";
-
-#[test]
-fn delete_two_records(rt: HostRuntime) -> Result<(), Fail> {
-    plays(rt.alloc(), &[TWO_RECORDS])
-}
 
 // Records as they stand in the table, and one of bits that no mask has.
 const WRITTEN: &str = "\
@@ -78,7 +57,17 @@ store Audits => fault Damaged
 store Verify => sound
 ";
 
+// The examples by their names.
+static EXAMPLES: [Example; 6] = [
+    ("failed_read_recorded", &[FAILED_READ]),
+    ("failed_read_recorded", &[NO_OUTCOME]),
+    ("audit_path_quoted", &[COMMA_IN_PATH]),
+    ("alarm_and_audit_records", &[ALARM_AND_AUDIT]),
+    ("delete_two_records", &[TWO_RECORDS]),
+    ("records_of_the_table", &[WRITTEN]),
+];
+
 #[test]
-fn records_of_the_table(rt: HostRuntime) -> Result<(), Fail> {
-    plays(rt.alloc(), &[WRITTEN])
+fn examples_of_records(rt: HostRuntime) -> Result<(), Fail> {
+    plays_each(&rt, EXAMPLES.as_slice())
 }

@@ -1,7 +1,7 @@
 //! What a database is opened as, and rooms that are raised.
+use crate::examples::{Example, plays_each};
 use std::test::Fail;
 use store_player::examples::{MADE_OLD, MOVED_OUT, PROTECTED_AND_REJOINED, THREE_FOLDERS};
-use store_player::plays;
 
 const BY_META: &str = "\
 sql DELETE FROM meta => done
@@ -23,11 +23,6 @@ store Adopt => done
 store Verify => sound
 ";
 
-#[test]
-fn adopt_by_meta(rt: HostRuntime) -> Result<(), Fail> {
-    plays(rt.alloc(), &[BY_META])
-}
-
 const REJOINED_DUMP: &str = "\
 store Dump => folder root staff /|dacl|list:a|A::EVERYONE@:x|A:fd:root:rwanNxDtThHdcCoy|sacl|\
 list:a|folder root staff /a|dacl|list:a|A:fd:bob:r|A:fdI:root:rwanNxDtThHdcCoy|sacl|list:a|\
@@ -44,22 +39,6 @@ store Migrate => NewVersion 2
 store Same => yes
 ";
 
-#[test]
-fn migrate_then_same_dump(rt: HostRuntime) -> Result<(), Fail> {
-    plays(
-        rt.alloc(),
-        &[
-            THREE_FOLDERS,
-            PROTECTED_AND_REJOINED,
-            REJOINED_DUMP,
-            "store Mark => done",
-            MADE_OLD,
-            RAISED,
-            REJOINED_DUMP,
-        ],
-    )
-}
-
 // The folder b isn't linked where it stands.
 const KEPT: &str = "\
 store Mark => done
@@ -71,11 +50,6 @@ store Verify => sound
 store Migrate => NewVersion 2
 ";
 
-#[test]
-fn migrate_keeps_kept_entries(rt: HostRuntime) -> Result<(), Fail> {
-    plays(rt.alloc(), &[MOVED_OUT, KEPT])
-}
-
 const UNSOUND: &str = "\
 sql UPDATE nodes SET dacl_inh = 'A:I:bob:r' || CAST(x'0A' AS TEXT) WHERE name = 'c' => done
 store Mark => done
@@ -83,14 +57,6 @@ store Migrate => /a/b/c V3 broken-law
 store Same => yes
 store Adopt => OldVersion 1
 ";
-
-#[test]
-fn migrate_unsound(rt: HostRuntime) -> Result<(), Fail> {
-    plays(
-        rt.alloc(),
-        &[THREE_FOLDERS, PROTECTED_AND_REJOINED, MADE_OLD, UNSOUND],
-    )
-}
 
 // A room of schema 1 is raised from schema 1 alone.
 const OTHER_VERSIONS: &str = "\
@@ -102,7 +68,30 @@ sql DELETE FROM meta => done
 store Migrate => NotRooms
 ";
 
+// The examples by their names.
+static EXAMPLES: [Example; 5] = [
+    ("adopt_by_meta", &[BY_META]),
+    (
+        "migrate_then_same_dump",
+        &[
+            THREE_FOLDERS,
+            PROTECTED_AND_REJOINED,
+            REJOINED_DUMP,
+            "store Mark => done",
+            MADE_OLD,
+            RAISED,
+            REJOINED_DUMP,
+        ],
+    ),
+    ("migrate_keeps_kept_entries", &[MOVED_OUT, KEPT]),
+    (
+        "migrate_unsound",
+        &[THREE_FOLDERS, PROTECTED_AND_REJOINED, MADE_OLD, UNSOUND],
+    ),
+    ("migrate_by_meta", &[OTHER_VERSIONS]),
+];
+
 #[test]
-fn migrate_by_meta(rt: HostRuntime) -> Result<(), Fail> {
-    plays(rt.alloc(), &[OTHER_VERSIONS])
+fn examples_of_schemas(rt: HostRuntime) -> Result<(), Fail> {
+    plays_each(&rt, EXAMPLES.as_slice())
 }

@@ -1,21 +1,13 @@
 //! The examples of rows that aren't sound.
+use crate::examples::{Example, plays_each};
 use std::test::Fail;
 use store_player::examples::{PROTECTED_AND_REJOINED, THREE_FOLDERS};
-use store_player::plays;
 
 const EMPTIED: &str = "\
 store Verify => sound
 sql UPDATE nodes SET dacl_inh = '' WHERE name = 'c' => done
 store Verify => /a/b/c V3 broken-law
 ";
-
-#[test]
-fn verify_broken_law(rt: HostRuntime) -> Result<(), Fail> {
-    plays(
-        rt.alloc(),
-        &[THREE_FOLDERS, PROTECTED_AND_REJOINED, EMPTIED],
-    )
-}
 
 const STORED: &str = "\
 root ReadList /a/b/c dacl => denied at /a/b/c bits c no-place no-entry
@@ -24,14 +16,6 @@ list:a|folder root staff /a|dacl|list:a|A:fd:bob:r|A:fdI:root:rwanNxDtThHdcCoy|s
 folder root staff /a/b|dacl|list:a|A:fdI:bob:r|A:fdI:root:rwanNxDtThHdcCoy|sacl|list:a|\
 folder root staff /a/b/c|dacl|list:a|sacl|list:a|
 ";
-
-#[test]
-fn read_uses_stored_list(rt: HostRuntime) -> Result<(), Fail> {
-    plays(
-        rt.alloc(),
-        &[THREE_FOLDERS, PROTECTED_AND_REJOINED, EMPTIED, STORED],
-    )
-}
 
 const BAD_LIST_TEXT: &str = "\
 root MakeFolder /a => made
@@ -44,11 +28,6 @@ store Dump => fault Damaged
 store Same => yes
 ";
 
-#[test]
-fn verify_bad_list_text(rt: HostRuntime) -> Result<(), Fail> {
-    plays(rt.alloc(), &[BAD_LIST_TEXT])
-}
-
 const MISSING_BODY: &str = "\
 root Put /f hi => made
 sql DELETE FROM bodies => done
@@ -59,32 +38,17 @@ store Dump => fault Damaged
 store Same => yes
 ";
 
-#[test]
-fn verify_missing_body(rt: HostRuntime) -> Result<(), Fail> {
-    plays(rt.alloc(), &[MISSING_BODY])
-}
-
 const TWO_ROOTS: &str = "\
 root MakeFolder /a => made
 sql UPDATE nodes SET parent = NULL WHERE name = 'a' => done
 store Verify => ?2 V4 bad-root
 ";
 
-#[test]
-fn verify_two_roots(rt: HostRuntime) -> Result<(), Fail> {
-    plays(rt.alloc(), &[TWO_ROOTS])
-}
-
 const BAD_NAME: &str = "\
 root Put /f hi => made
 sql UPDATE nodes SET name = 'x/y' WHERE name = 'f' => done
 store Verify => /x/y V6 bad-name
 ";
-
-#[test]
-fn verify_bad_name(rt: HostRuntime) -> Result<(), Fail> {
-    plays(rt.alloc(), &[BAD_NAME])
-}
 
 // One fault after the other, each of which is found before those that are there.
 const ONE_BY_ONE: &str = "\
@@ -113,7 +77,24 @@ sql UPDATE nodes SET dacl_own = 'A::alice' WHERE name = 'h' => done
 store Verify => ?6 V2 bad-list
 ";
 
+// The examples by their names.
+static EXAMPLES: [Example; 7] = [
+    (
+        "verify_broken_law",
+        &[THREE_FOLDERS, PROTECTED_AND_REJOINED, EMPTIED],
+    ),
+    (
+        "read_uses_stored_list",
+        &[THREE_FOLDERS, PROTECTED_AND_REJOINED, EMPTIED, STORED],
+    ),
+    ("verify_bad_list_text", &[BAD_LIST_TEXT]),
+    ("verify_missing_body", &[MISSING_BODY]),
+    ("verify_two_roots", &[TWO_ROOTS]),
+    ("verify_bad_name", &[BAD_NAME]),
+    ("verify_in_order", &[ONE_BY_ONE]),
+];
+
 #[test]
-fn verify_in_order(rt: HostRuntime) -> Result<(), Fail> {
-    plays(rt.alloc(), &[ONE_BY_ONE])
+fn examples_of_verifying(rt: HostRuntime) -> Result<(), Fail> {
+    plays_each(&rt, EXAMPLES.as_slice())
 }
