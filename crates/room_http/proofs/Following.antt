@@ -1,5 +1,5 @@
 -- The message at the front of the bytes.
-use Rattle.std.proofs.Common.{◌≡◌, ℕ, ◌+◌, ◌-◌, ◌<◌, ◌≤◌, List, ◌++◌, length, map, take, drop, refl, inr, sym, ap, subst, ◌∙◌, arith, append_assoc, Result, Ok, Err, IfOk}
+use Rattle.std.proofs.Common.{◌≡◌, ℕ, ◌+◌, ◌-◌, ◌<◌, ◌≤◌, List, ◌++◌, length, map, take, drop, refl, inr, sym, ap, subst, ◌∙◌, arith, append_assoc, Option, Result, Ok, Err, IfOk}
 use Rattle.std.specs.List.{slice_range}
 use Rattle.std.proofs.lemmas.List.{take-append-drop, length-append, length-take-le}
 use Rattle.std.proofs.Math.Seq.{drop-append_seam, take-append_seam, drop-append-add}
@@ -9,7 +9,8 @@ use Rattle.httparse.specs.Grammar.{RequestHead, print_request}
 use Rattle.room_message.specs.declared.head.Head.{Head}
 use Rattle.room_http.specs.declared.refusal.Refusal.{Refusal}
 use Rattle.room_http.specs.Message.{print_message, BeginsWith, IsPart, IsRefused, head_of, field_of, body_size}
-use Rattle.room_http.specs.Spans.{AreSpansOf, head_at}
+use Rattle.room_http.specs.declared.ended.Cause.{Cause}
+use Rattle.room_http.specs.Spans.{AreSpansOf, head_at, StopsBody, StopsReading}
 use Rattle.room_http.specs.Turn.{WholeNext}
 
 parts-of-spans : (spans : List HeaderSpan) (r : RequestSpans) (h : RequestHead) → AreSpansOf spans r h
@@ -81,6 +82,17 @@ part-next buf after more spans r h head size b s copied sized came short =
     let len : length after ≡ length p + length rest = ap length all ∙ length-append p rest in
     let less : length rest < size = omega (arith, len, short, s.len) in
     inr (h, rest, size, record { head = b.head; whole = all }, ap (λ (q : Head). body_size q.fields) (sym parts) ∙ sym sized, less)
+
+-- a body that a read failed within is part of a message
+pub stopped-next : (buf : List ℕ) (u v : Option (List ℕ)) (spans : List HeaderSpan) (r : RequestSpans) (h : RequestHead) (head : Head)
+    (size : ℕ) (cause : Cause)
+    → BeginsWith buf h (drop r.len buf) → AreSpansOf spans r h → head ≡ head_at (take r.len buf) spans r
+    → Ok size ≡ body_size head.fields
+    → StopsBody u v buf (r.len + size) cause → StopsReading u v buf cause
+stopped-next buf u v spans r h head size Cause.Read b s copied sized stop =
+    (stop.0, stop.1, inr (part-next buf stop.0 stop.1.0 spans r h head size b s copied sized stop.1.2 stop.2))
+stopped-next buf u v spans r h head size Cause.Write b s copied sized stop = absurd stop.2
+stopped-next buf u v spans r h head size Cause.Memory b s copied sized stop = (stop.0, stop.1, tt)
 
 pub refused-next : (buf : List ℕ) (spans : List HeaderSpan) (r : RequestSpans) (h : RequestHead) (head : Head) (refusal : Refusal)
     → BeginsWith buf h (drop r.len buf) → AreSpansOf spans r h → head ≡ head_at (take r.len buf) spans r

@@ -1,10 +1,11 @@
 -- Known bytes that are read or written one text after another.
-use Rattle.std.proofs.Common.{Bool, true, false, Result, Ok, Err, OnOk, OnErr, ◌≡◌, ℕ, ◌+◌, ◌-◌, arith, List, [], ◌++◌, length, take, drop, subst, Option, Some, None, sym, ap, refl, ◌∙◌, append_assoc}
+use Rattle.std.proofs.Common.{Bool, true, false, Result, Ok, Err, OnOk, IfErr, ◌≡◌, ℕ, ◌+◌, ◌-◌, ◌<◌, arith, List, [], ◌++◌, length, take, drop, subst, Option, Some, None, sym, ap, refl, ◌∙◌, append_assoc}
 use Rattle.std.proofs.lemmas.List.{append-nil, take-append-drop, take_all, length-drop}
 use Rattle.std.proofs.Math.Seq.{take-add}
 use Rattle.std.specs.Io.KnownBytes.{Appends, Consumes, Keeps}
-use Rattle.room_http.specs.Spans.{Came}
-use Rattle.room_http.specs.Turn.{WritesSome}
+use Rattle.room_http.specs.declared.ended.Cause.{Cause}
+use Rattle.room_http.specs.Spans.{Came, StopsReading}
+use Rattle.room_http.specs.Turn.{WritesPart}
 
 pub Appends-then : (u v w : Option (List ℕ)) (a b : List ℕ) → Appends u v a → Appends v w b → Appends u w (a ++ b)
 Appends-then None v w a b x y = tt
@@ -45,21 +46,18 @@ pub came-behind : {A E : Type 0} (u v w : Option (List ℕ)) (a b d : List ℕ) 
 came-behind u v w a b d (Ok value) x y = Came-then u v w a b d x y
 came-behind u v w a b d (Err why) x y = tt
 
--- more bytes came and were lost, as a fault says
-pub lost-behind : {A E : Type 0} (u v w : Option (List ℕ)) (a b : List ℕ) (result : Result A E)
-    → Came u v a b → OnErr result ((all : List ℕ) × Came v w b all) → OnErr result ((all : List ℕ) × Came u w a all)
+-- more bytes came, and then a read brought nothing
+pub lost-behind : {A : Type 0} (u v w : Option (List ℕ)) (a b : List ℕ) (result : Result A Cause)
+    → Came u v a b → IfErr result (StopsReading v w b) → IfErr result (StopsReading u w a)
 lost-behind u v w a b (Ok value) x y = tt
-lost-behind u v w a b (Err why) x y = (y.0, Came-then u v w a b y.0 x y.1)
-
--- bytes came, and were lost
-pub Came-lost : (u v w : Option (List ℕ)) (a b : List ℕ) → Came u v a b → (more : List ℕ) × Consumes v w more → (all : List ℕ) × Came u w a all
-Came-lost u v w a b x y = (b ++ y.0, Came-then u v w a b (b ++ y.0) x (y.0, y.1, refl))
+lost-behind u v w a b (Err why) x y = (y.0, Came-then u v w a b y.0 x y.1, y.2)
 
 -- a beginning was written, and nothing more
-pub WritesSome-at : (u v w : Option (List ℕ)) (text : List ℕ) (n : ℕ)
-    → Appends u v (take n text) → Keeps v w → WritesSome u w text
-WritesSome-at u v w text n x y =
-    (take n text, drop n text, sym (take-append-drop n text), Appends-kept u v w (take n text) x y)
+pub WritesPart-at : (u v w : Option (List ℕ)) (text : List ℕ) (n : ℕ)
+    → n < length text → Appends u v (take n text) → Keeps v w → WritesPart u w text
+WritesPart-at u v w text n lt x y =
+    let len : length (drop n text) ≡ length text - n = length-drop n text in
+    ((take n text, drop n text, sym (take-append-drop n text), Appends-kept u v w (take n text) x y), omega (arith, len, lt))
 
 pub Appends-at : (u v w : Option (List ℕ)) (text : List ℕ) (n m : ℕ)
     → Appends u v (take n text) → Appends v w (take m (take (length text - n) (drop n text))) → Appends u w (take (n + m) text)

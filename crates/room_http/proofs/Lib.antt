@@ -3,6 +3,7 @@ pub mod FixedTexts
 pub mod Following
 pub mod Heads
 pub mod KnownBytes
+pub mod Near
 pub mod Runs
 pub mod Serving
 pub mod Telling

@@ -12,7 +12,7 @@ use Rattle.room_http.specs.declared.server.Stop.{Stop}
 use Rattle.room_http.specs.Limits.{max_messages}
 use Rattle.room_http.specs.Message.{print_message}
 use Rattle.room_http.specs.Stream.{Exchange, IsOpen, exchange_text, bytes_of, texts_of, last_text, Last, last_exchange, Leads, Ends}
-use Rattle.room_http.specs.Serve.{Seen, Blames, FaultsRose, Serves, Stops, Connects, Next, next_text, next_exchange, IsNext, NextRose}
+use Rattle.room_http.specs.Serve.{Seen, Blames, FaultsRose, Serves, Stops, Connects, Next, next_text, next_exchange, IsNext, NextRose, NearLast, NearNext}
 use Rattle.room_http.specs.Turn.{Along, TurnsOpen, TurnsLast, TurnsStop}
 use Rattle.room_http.proofs.KnownBytes.{Appends-then, Appends-none, Consumes-then, Consumes-none}
 
@@ -24,6 +24,7 @@ Along-begin holds at old = record {
   opens = record { whole = refl; each = All-nil IsOpen };
   count = refl;
   few = omega arith;
+  near = omega arith;
   writes = Appends-none old.sent;
   run = λ s. Runs-none old.content;
   faults = refl;
@@ -61,6 +62,7 @@ Along-then so_far one all at n old mid new buf after a f s t =
         each = All-append IsOpen xs (x ∷ []) a.opens.each (All-from_recursion IsOpen (x ∷ []) (t.is_open, tt));
       };
       few = t.more;
+      near = t.near;
       count = ap (λ k. k + 1) a.count ∙ sym (length-append xs (x ∷ []));
       writes = subst W (sym one) (Appends-then old.sent mid.sent new.sent (texts_of xs) text a.writes t.writes);
       run = λ q. Leads-then old.content mid.content new.content at xs (x ∷ []) (a.run (f q)) (t.run (s q));
@@ -90,6 +92,7 @@ Serves-from so_far one all at n old mid new buf ended a f s t =
         few = subst (λ k. k < max_messages) a.count a.few;
         ends = subst E a.count t.ends;
       };
+      near = t.near;
       writes = Appends-then old.sent mid.sent new.sent (texts_of a.exchanges) (last_text t.last) a.writes t.writes;
       ended_is = t.is;
       at_end = t.at_end;
@@ -114,11 +117,12 @@ Stops-from so_far one all at n old mid new buf stop fault answered acted cause a
       answered = answered ∙ a.count;
       few = subst (λ k. k < max_messages) a.count a.few;
       is_next = subst N a.count t.is_next;
+      near = t.near;
       begun = t.writes.0;
       beginning = (t.writes.1, t.writes.2);
       writes = Appends-then old.sent mid.sent new.sent (texts_of a.exchanges) t.writes.0 a.writes t.writes.3;
       acted = acted ∙ t.acted;
-      cause = subst (λ (k : Cause). Blames k t.next t.writes.0) (sym cause) t.cause;
+      cause = subst (λ (k : Cause). Blames k t.next t.rest t.writes.0 t.writes.1) (sym cause) t.cause;
       run = λ q. Leads-then old.content mid.content new.content at a.exchanges (next_exchange t.next) (a.run (f q)) (t.run (s q));
       faults = subst F a.faults t.faults;
     }
@@ -139,6 +143,13 @@ is-next-of Last.Cut rest n e = tt
 is-next-of (Last.Refused refusal) rest n e = e
 is-next-of (Last.Closing x) rest n e = e
 is-next-of (Last.Failed m) rest n e = e
+
+near-next-of : (last : Last) (rest : List ℕ) → NearLast last rest → NearNext (next_of last) rest
+near-next-of Last.Clean rest e = tt
+near-next-of Last.Cut rest e = tt
+near-next-of (Last.Refused refusal) rest e = e
+near-next-of (Last.Closing x) rest e = e
+near-next-of (Last.Failed m) rest e = e
 
 next-text-of : (last : Last) → next_text (next_of last) ≡ last_text last
 next-text-of Last.Clean = refl
@@ -174,6 +185,7 @@ served-connects holds at old new ended s =
       opens = s.stream.opens;
       few = s.stream.few;
       is_next = is-next-of s.last s.stream.rest (length s.exchanges) s.stream.ends;
+      near = near-next-of s.last s.stream.rest s.near;
       begun = last_text s.last;
       beginning = ([], next-text-of s.last ∙ sym (append-nil (last_text s.last)));
       writes = s.writes;
@@ -192,6 +204,7 @@ stopped-connects holds at old new fault s = record {
   opens = s.opens;
   few = s.few;
   is_next = s.is_next;
+  near = s.near;
   begun = s.begun;
   beginning = s.beginning;
   writes = s.writes;

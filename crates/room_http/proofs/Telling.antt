@@ -12,9 +12,10 @@ use Rattle.room_http.specs.declared.told.Response.{Response}
 use Rattle.room_http.specs.declared.told.Lost.{Lost}
 use Rattle.room_rows.specs.Content.{Content}
 use Rattle.room_http.specs.Stream.{Agrees, Asks, answer_text, events_from, Runs}
-use Rattle.room_http.specs.Serve.{Seen, BlamesText}
-use Rattle.room_http.specs.Turn.{WritesSome}
-use Rattle.room_http.specs.Tell.{Replies, Begun, IsBegun, StopsWithin}
+use Rattle.room_http.specs.Text.{store_text}
+use Rattle.room_http.specs.Serve.{Seen, BlamesText, BlamesWriter}
+use Rattle.room_http.specs.Turn.{WritesPart}
+use Rattle.room_http.specs.Tell.{Replies, Begun, IsBegun, StopsFault, StopsWithin}
 use Rattle.room_http.specs.declared.ended.Cause.{Cause}
 use Rattle.room_http.proofs.KnownBytes.{Appends-none}
 
@@ -100,15 +101,21 @@ replied-tells holds at close asked old new text a =
     let s = a.0.1 in
     (a.0.0, replies-stepped holds at asked old new a.0.0 s a.1, a.0.2 ∙ text-stepped close asked s.call a.0.0 s.asks)
 
-pub WritesSome-is : (u v : Option (List ℕ)) (a b : List ℕ) → a ≡ b → WritesSome u v a → WritesSome u v b
-WritesSome-is u v a b e w = subst (λ t. WritesSome u v t) e w
-
 pub Appends-is : (u v : Option (List ℕ)) (a b : List ℕ) → a ≡ b → Appends u v a → Appends u v b
 Appends-is u v a b e w = subst (λ t. Appends u v t) e w
 
 -- a write failed within the text
 pub within-write : (u v : Option (List ℕ)) (a b : List ℕ) (cause : Cause) → a ≡ b → cause ≡ Cause.Write
-    → WritesSome u v a → StopsWithin u v b cause
+    → WritesPart u v a → StopsWithin u v b cause
 within-write u v a b cause e f w =
-    let wrote = WritesSome-is u v a b e w in
-    (wrote, subst (λ (k : Cause). BlamesText k wrote.0) (sym f) tt)
+    let part = subst (λ t. WritesPart u v t) e w in
+    let wrote = part.0 in
+    (wrote, subst (λ (k : Cause). BlamesText k wrote.0 wrote.1) (sym f) part.1)
+
+-- the same of the text that tells a fault of the desk
+pub within-fault : (u v : Option (List ℕ)) (a : List ℕ) (cause : Cause) → a ≡ store_text → cause ≡ Cause.Write
+    → WritesPart u v a → StopsFault u v cause
+within-fault u v a cause e f w =
+    let part = subst (λ t. WritesPart u v t) e w in
+    let wrote = part.0 in
+    (wrote, subst (λ (k : Cause). BlamesWriter k wrote.1) (sym f) part.1)

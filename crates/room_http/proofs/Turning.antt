@@ -1,5 +1,5 @@
 -- One turn of the server.
-use Rattle.std.proofs.Common.{◌≡◌, ℕ, ℤ, ◌+◌, ◌<◌, ◌||◌, ◌==◌, Bool, true, false, List, [], ◌∷◌, ◌++◌, drop, refl, sym, ap, subst, ◌∙◌, arith, Option, Some, None, unwrap_or, Result, Ok, Err, IfOk, IfErr}
+use Rattle.std.proofs.Common.{◌≡◌, ℕ, ℤ, ◌+◌, ◌<◌, ◌||◌, ◌==◌, Bool, true, false, List, [], ◌∷◌, ◌++◌, length, drop, refl, sym, ap, subst, ◌∙◌, arith, Option, Some, None, unwrap_or, Result, Ok, Err, IfOk, IfErr}
 use Rattle.std.proofs.Common.{◌≢◌}
 use Rattle.std.proofs.lemmas.Bool.{eq-eqb, true≢false}
 use Rattle.std.proofs.lemmas.List.{append-nil}
@@ -15,14 +15,16 @@ use Rattle.room_http.proofs.Runs.{Runs-none}
 use Rattle.room_http.specs.declared.next.NextMessage.{NextMessage}
 use Rattle.room_http.specs.declared.ended.Ended.{Ended}
 use Rattle.room_http.specs.declared.server.Stop.{Stop}
-use Rattle.room_http.specs.Limits.{max_messages}
+use Rattle.room_http.specs.declared.ended.Cause.{Cause}
+use Rattle.room_http.specs.Limits.{max_messages, read_size}
 use Rattle.room_http.specs.Message.{Message, print_message, IsRefused, IsPart, asked, closes, head_of}
 use Rattle.room_http.specs.Text.{store_text, refusal_text}
 use Rattle.room_http.specs.Stream.{Last, answer_text, events_from, Runs, Leads, says_close}
-use Rattle.room_http.specs.Spans.{Came}
-use Rattle.room_http.specs.Serve.{Seen, Next, BlamesBefore}
+use Rattle.room_http.specs.Spans.{Came, StopsReading}
+use Rattle.room_http.specs.Serve.{Seen, Next, BlamesBefore, IsNearHead}
 use Rattle.room_http.specs.Turn.{TurnsOpen, TurnsLast, TurnsStop, Turns, WholeNext}
 use Rattle.room_http.specs.Tell.{Replies, Fails, Begun, IsBegun, StopsWithin}
+use Rattle.room_http.proofs.Near.{near-message, near-rest}
 use Rattle.room_http.proofs.KnownBytes.{Appends-none, Came-none, Came-then, Consumes-none}
 use Rattle.room_http.specs.declared.refusal.Refusal.{Refusal}
 
@@ -61,10 +63,11 @@ leads-one at old new m reply run =
     (sym (append-nil (events_from at (asked m) reply))) run
 
 pub take-open : (holds : Type 0) (at : ℤ) (n : ℕ) (old new : Seen) (buf after : List ℕ) (next : NextMessage) (w : WholeNext buf next)
-    (reply : Option Reply) → n < max_messages → new.left ≡ old.left → says_close w.message n ≡ false → after ≡ drop next.end buf
+    (reply : Option Reply) → n < max_messages → length buf < next.end + read_size → new.left ≡ old.left → says_close w.message n ≡ false
+    → after ≡ drop next.end buf
     → Replies holds at (asked w.message) old new reply → Appends old.sent new.sent (answer_text false (asked w.message) reply)
     → TurnsOpen holds at n old new buf after
-take-open holds at n old new buf after next w reply few same stays rest r wrote =
+take-open holds at n old new buf after next w reply few near same stays rest r wrote =
     let m = w.message in
     let L : Option (List ℕ) → Type 0 = λ l. Came old.left l buf (print_message m ++ after) in
     let whole : print_message m ++ after ≡ buf = ap (λ t. print_message m ++ t) rest ∙ sym w.whole in
@@ -74,6 +77,7 @@ take-open holds at n old new buf after next w reply few same stays rest r wrote 
       is_open = record { is = record { message = w.is; agrees = r.agrees }; stays = or-first (closes m) ((n + 1) == max_messages) stays };
       more = not-last n few off;
       came = subst L (sym same) ([], Consumes-none old.left, whole ∙ sym (append-nil buf));
+      near = near-rest buf after next.end rest near;
       writes = wrote;
       run = λ s. leads-one at old.content new.content m reply (r.run s);
       faults = r.faults;
@@ -85,10 +89,10 @@ came-same u v buf e =
     subst L (sym e) (Came-none u buf)
 
 pub take-closing : (holds : Type 0) (at : ℤ) (n : ℕ) (old new : Seen) (buf : List ℕ) (next : NextMessage) (w : WholeNext buf next)
-    (reply : Option Reply) → new.left ≡ old.left → says_close w.message n ≡ true
+    (reply : Option Reply) → length buf < next.end + read_size → new.left ≡ old.left → says_close w.message n ≡ true
     → Replies holds at (asked w.message) old new reply → Appends old.sent new.sent (answer_text true (asked w.message) reply)
     → TurnsLast holds at n old new buf Ended.Closed
-take-closing holds at n old new buf next w reply same close r wrote =
+take-closing holds at n old new buf next w reply near same close r wrote =
     let m = w.message in
     record {
       last = Last.Closing (record { message = m; reply = reply });
@@ -96,6 +100,7 @@ take-closing holds at n old new buf next w reply same close r wrote =
       rest = buf;
       came = came-same old.left new.left buf same;
       ends = (record { message = w.is; agrees = r.agrees }, close, (drop next.end buf, w.whole));
+      near = near-message buf next w near;
       writes = wrote;
       at_end = tt;
       run = λ s. leads-one at old.content new.content m reply (r.run s);
@@ -104,28 +109,30 @@ take-closing holds at n old new buf next w reply same close r wrote =
 
 -- a whole reply, whatever it says of the connection
 pub take-answered : (holds : Type 0) (at : ℤ) (n : ℕ) (old new : Seen) (buf after : List ℕ) (next : NextMessage) (w : WholeNext buf next)
-    (reply : Option Reply) (close : Bool) (ended : Option Ended) → n < max_messages → new.left ≡ old.left → says_close w.message n ≡ close
+    (reply : Option Reply) (close : Bool) (ended : Option Ended) → n < max_messages → length buf < next.end + read_size → new.left ≡ old.left
+    → says_close w.message n ≡ close
     → (close ≡ true → ended ≡ Some Ended.Closed) → (close ≡ false → (ended ≡ None) × (after ≡ drop next.end buf))
     → Replies holds at (asked w.message) old new reply → Appends old.sent new.sent (answer_text close (asked w.message) reply)
     → Turns holds at n old new buf after (Ok ended)
-take-answered holds at n old new buf after next w reply true ended few same says closing staying r wrote =
+take-answered holds at n old new buf after next w reply true ended few near same says closing staying r wrote =
     subst (λ (e : Option Ended). Turns holds at n old new buf after (Ok e)) (sym (closing refl))
-    (take-closing holds at n old new buf next w reply same says r wrote)
-take-answered holds at n old new buf after next w reply false ended few same says closing staying r wrote =
+    (take-closing holds at n old new buf next w reply near same says r wrote)
+take-answered holds at n old new buf after next w reply false ended few near same says closing staying r wrote =
     let stays = staying refl in
     subst (λ (e : Option Ended). Turns holds at n old new buf after (Ok e)) (sym stays.0)
-    (take-open holds at n old new buf after next w reply few same says stays.1 r wrote)
+    (take-open holds at n old new buf after next w reply few near same says stays.1 r wrote)
 
 pub take-failed : (holds : Type 0) (at : ℤ) (n : ℕ) (old new : Seen) (buf : List ℕ) (next : NextMessage) (w : WholeNext buf next)
-    → new.left ≡ old.left → Fails holds (asked w.message) old new → Appends old.sent new.sent store_text
+    → length buf < next.end + read_size → new.left ≡ old.left → Fails holds (asked w.message) old new → Appends old.sent new.sent store_text
     → TurnsLast holds at n old new buf Ended.Closed
-take-failed holds at n old new buf next w same f wrote =
+take-failed holds at n old new buf next w near same f wrote =
     record {
       last = Last.Failed w.message;
       is = refl;
       rest = buf;
       came = came-same old.left new.left buf same;
       ends = (w.is, f.0, (drop next.end buf, w.whole));
+      near = near-message buf next w near;
       writes = wrote;
       at_end = tt;
       run = λ s room is. (room, refl, f.1 s room is);
@@ -133,40 +140,43 @@ take-failed holds at n old new buf next w same f wrote =
     }
 
 pub take-stop : (holds : Type 0) (at : ℤ) (n : ℕ) (old new : Seen) (buf : List ℕ) (next : NextMessage) (w : WholeNext buf next)
-    (close : Bool) (stop : Stop) (begun : Begun) → new.left ≡ old.left → says_close w.message n ≡ close
+    (close : Bool) (stop : Stop) (begun : Begun) → length buf < next.end + read_size → new.left ≡ old.left → says_close w.message n ≡ close
     → IsBegun holds at close (asked w.message) old new stop.acted stop.cause begun
     → TurnsStop holds at n old new buf stop
-take-stop holds at n old new buf next w close stop Begun.Nothing same e b =
+take-stop holds at n old new buf next w close stop Begun.Nothing near same e b =
     record {
       next = Next.Unknown;
       rest = buf;
       came = came-same old.left new.left buf same;
       is_next = tt;
+      near = tt;
       writes = ([], [], refl, b.0);
       acted = b.1;
-      cause = subst BlamesBefore (sym b.4) tt;
+      cause = subst (λ (k : Cause). BlamesBefore k buf) (sym b.4) tt;
       run = λ s room is. (room, refl, b.2 room is);
       faults = b.3;
     }
-take-stop holds at n old new buf next w close stop (Begun.Telling reply) same e b =
+take-stop holds at n old new buf next w close stop (Begun.Telling reply) near same e b =
     let m = w.message in
     record {
       next = Next.Exchanging (record { message = m; reply = reply }) close;
       rest = buf;
       came = came-same old.left new.left buf same;
       is_next = (record { message = w.is; agrees = b.0.agrees }, e, (drop next.end buf, w.whole));
+      near = near-message buf next w near;
       writes = b.1.0;
       acted = b.2;
       cause = b.1.1;
       run = λ s. leads-one at old.content new.content m reply (b.0.run s);
       faults = b.0.faults;
     }
-take-stop holds at n old new buf next w close stop Begun.Failing same e b =
+take-stop holds at n old new buf next w close stop Begun.Failing near same e b =
     record {
       next = Next.Failing w.message;
       rest = buf;
       came = came-same old.left new.left buf same;
       is_next = (w.is, b.0.0, (drop next.end buf, w.whole));
+      near = near-message buf next w near;
       writes = b.1.0;
       acted = b.2;
       cause = b.1.1;
@@ -185,6 +195,7 @@ shift holds at n left mid sent content faults new buf came after (Ok None) more 
   is_open = t.is_open;
   more = t.more;
   came = Came-then left mid new.left buf came (print_message t.x.message ++ after) more t.came;
+  near = t.near;
   writes = t.writes;
   run = t.run;
   faults = t.faults;
@@ -195,6 +206,7 @@ shift holds at n left mid sent content faults new buf came after (Ok (Some ended
   rest = t.rest;
   came = Came-then left mid new.left buf came t.rest more t.came;
   ends = t.ends;
+  near = t.near;
   writes = t.writes;
   at_end = t.at_end;
   run = t.run;
@@ -205,6 +217,7 @@ shift holds at n left mid sent content faults new buf came after (Err stop) more
   rest = t.rest;
   came = Came-then left mid new.left buf came t.rest more t.came;
   is_next = t.is_next;
+  near = t.near;
   writes = t.writes;
   acted = t.acted;
   cause = t.cause;
@@ -223,28 +236,30 @@ some-same x y e = ap (λ o. unwrap_or o x) e
 
 pub turn-refused : (holds : Type 0) (at : ℤ) (n : ℕ) (left mid sent wrote : Option (List ℕ)) (content : Content → Type 0) (faults : ℕ)
     (buf came after : List ℕ) (reason : Refusal) (result : Result (Option Ended) Stop)
-    → Came left mid buf came → IsRefused came reason
+    → Came left mid buf came → IsRefused came reason → IsNearHead came
     → IfOk result (λ ended. (ended ≡ Some Ended.Closed) × Appends sent wrote (refusal_text reason))
     → IfErr result (λ stop. (stop.acted ≡ false) × StopsWithin sent wrote (refusal_text reason) stop.cause)
     → Turns holds at n (record { left = left; sent = sent; content = content; faults = faults })
     (record { left = mid; sent = wrote; content = content; faults = faults }) buf after result
-turn-refused holds at n left mid sent wrote content faults buf came after reason (Ok None) more is ok err = absurd (none-is-no-some ok.0)
-turn-refused holds at n left mid sent wrote content faults buf came after reason (Ok (Some ended)) more is ok err = record {
+turn-refused holds at n left mid sent wrote content faults buf came after reason (Ok None) more is near ok err = absurd (none-is-no-some ok.0)
+turn-refused holds at n left mid sent wrote content faults buf came after reason (Ok (Some ended)) more is near ok err = record {
   last = Last.Refused reason;
   is = some-same ended Ended.Closed ok.0;
   rest = came;
   came = more;
   ends = is;
+  near = near;
   writes = ok.1;
   at_end = tt;
   run = λ s. Runs-none content;
   faults = refl;
 }
-turn-refused holds at n left mid sent wrote content faults buf came after reason (Err stop) more is ok err = record {
+turn-refused holds at n left mid sent wrote content faults buf came after reason (Err stop) more is near ok err = record {
   next = Next.Refusing reason;
   rest = came;
   came = more;
   is_next = is;
+  near = near;
   writes = err.1.0;
   acted = err.0;
   cause = err.1.1;
@@ -263,6 +278,7 @@ turn-clean holds at n left mid sent content faults buf came more e = record {
   rest = came;
   came = more;
   ends = e.1;
+  near = tt;
   writes = Appends-none sent;
   at_end = e.0;
   run = λ s. Runs-none content;
@@ -279,8 +295,27 @@ turn-cut holds at n left mid sent content faults buf came more e = record {
   rest = came;
   came = more;
   ends = e.1;
+  near = tt;
   writes = Appends-none sent;
   at_end = e.0;
   run = λ s. Runs-none content;
+  faults = refl;
+}
+
+-- a read brought nothing
+pub turn-stopped : (holds : Type 0) (at : ℤ) (n : ℕ) (left mid sent : Option (List ℕ)) (content : Content → Type 0) (faults : ℕ)
+    (buf : List ℕ) (cause : Cause) → StopsReading left mid buf cause
+    → TurnsStop holds at n (record { left = left; sent = sent; content = content; faults = faults })
+    (record { left = mid; sent = sent; content = content; faults = faults }) buf (record { acted = false; cause = cause })
+turn-stopped holds at n left mid sent content faults buf cause s = record {
+  next = Next.Unknown;
+  rest = s.0;
+  came = s.1;
+  is_next = tt;
+  near = tt;
+  writes = ([], [], refl, Appends-none sent);
+  acted = refl;
+  cause = s.2;
+  run = λ h. Runs-none content;
   faults = refl;
 }

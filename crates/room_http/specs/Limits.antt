@@ -13,6 +13,10 @@ max_fields = 64
 abbrev pub max_body : ℕ
 max_body = 1048576
 
+-- the most bytes that are read at once
+abbrev pub read_size : ℕ
+read_size = 16384
+
 -- the most messages of a connection
 abbrev pub max_messages : ℕ
 max_messages = 10000

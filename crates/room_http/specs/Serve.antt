@@ -1,14 +1,14 @@
 -- What serving a connection gives (own).
-use Rattle.std.specs.Prelude.{◌≡◌, ℕ, ℤ, ◌<◌, Bool, false, List, [], ◌∷◌, ◌++◌, length, Option}
-use Rattle.std.specs.Prelude.{is_some, ⊤}
+use Rattle.std.specs.Prelude.{◌≡◌, ℕ, ℤ, ◌+◌, ◌<◌, ◌⊎◌, Bool, false, List, [], ◌∷◌, ◌++◌}
+use Rattle.std.specs.Prelude.{length, Option, is_some, ⊤}
 use Rattle.std.specs.Io.KnownBytes.{Appends, Consumes, IsAtEnd}
 use Rattle.room_rows.specs.Content.{Content}
 use Rattle.room_http.specs.declared.ended.Cause.{Cause}
 use Rattle.room_http.specs.declared.ended.Ended.{Ended}
 use Rattle.room_http.specs.declared.ended.ServeFault.{ServeFault}
 use Rattle.room_http.specs.declared.refusal.Refusal.{Refusal}
-use Rattle.room_http.specs.Limits.{max_messages}
-use Rattle.room_http.specs.Message.{Message, IsMessage, IsRefused, asked}
+use Rattle.room_http.specs.Limits.{max_head, max_messages, read_size}
+use Rattle.room_http.specs.Message.{Message, print_message, IsMessage, IsRefused, IsPart, asked}
 use Rattle.room_http.specs.Text.{refusal_text, store_text}
 use Rattle.room_http.specs.Answer.{Rose}
 use Rattle.room_http.specs.Stream.{Exchange, IsExchange, exchange_text, Last, Asks, says_close}
@@ -29,6 +29,22 @@ AtEndIf Last.Clean left = IsAtEnd left
 AtEndIf Last.Cut left = IsAtEnd left
 AtEndIf last left = ⊤
 
+-- What was read reaches less than one read beyond the message: none was made once it was whole that
+-- could have brought so much.
+abbrev pub IsNear : Message → List ℕ → Type 0
+IsNear m left = length left < length (print_message m) + read_size
+
+-- the same of what is refused, which is no longer than a head
+abbrev pub IsNearHead : List ℕ → Type 0
+IsNearHead left = length left < max_head + read_size
+
+-- nothing was read ahead of the end, but what one read may bring
+abbrev pub NearLast : Last → List ℕ → Type 0
+NearLast (Last.Refused refusal) left = IsNearHead left
+NearLast (Last.Closing x) left = IsNear x.message left
+NearLast (Last.Failed m) left = IsNear m left
+NearLast last left = ⊤
+
 -- the count of faults rose where the desk failed, and nowhere else
 abbrev pub FaultsRose : Last → ℕ → ℕ → Type 0
 FaultsRose (Last.Failed m) old new = Rose old new
@@ -42,6 +58,7 @@ pub record Serves (holds : Type 0) (at : ℤ) (old new : Seen) (ended : Ended) :
   pub last : Last
   pub reads : Consumes old.left new.left read
   pub stream : Stream read exchanges last
+  pub near : NearLast last stream.rest
   pub writes : Appends old.sent new.sent (texts_of exchanges ++ last_text last)
   pub ended_is : ended ≡ ended_of last
   pub at_end : AtEndIf last new.left
@@ -66,6 +83,13 @@ IsNext left n (Next.Exchanging x close) =
 IsNext left n (Next.Refusing refusal) = IsRefused left refusal
 IsNext left n (Next.Failing m) = IsMessage m × Asks (asked m) × StartsWith left m
 
+-- nothing was read ahead of it, but what one read may bring
+abbrev pub NearNext : Next → List ℕ → Type 0
+NearNext Next.Unknown left = ⊤
+NearNext (Next.Exchanging x close) left = IsNear x.message left
+NearNext (Next.Refusing refusal) left = IsNearHead left
+NearNext (Next.Failing m) left = IsNear m left
+
 abbrev pub next_text : Next → List ℕ
 next_text Next.Unknown = []
 next_text (Next.Exchanging x close) = exchange_text close x
@@ -86,23 +110,31 @@ abbrev pub NextRose : Next → ℕ → ℕ → Type 0
 NextRose (Next.Failing m) old new = Rose old new
 NextRose next old new = new ≡ old
 
--- what failed before the next message was known
-abbrev pub BlamesBefore : Cause → Type 0
-BlamesBefore Cause.Read = ⊤
-BlamesBefore Cause.Write = ⊥
-BlamesBefore Cause.Memory = ⊤
+-- what failed before the next message was known, where these bytes are left: the reader is asked
+-- only while no message is whole
+abbrev pub BlamesBefore : Cause → List ℕ → Type 0
+BlamesBefore Cause.Read left = (left ≡ []) ⊎ IsPart left
+BlamesBefore Cause.Write left = ⊥
+BlamesBefore Cause.Memory left = ⊤
 
--- what failed once a text was due, of which this was written
-abbrev pub BlamesText : Cause → List ℕ → Type 0
-BlamesText Cause.Read begun = ⊥
-BlamesText Cause.Write begun = ⊤
-BlamesText Cause.Memory begun = begun ≡ []
+-- what failed once a text was due, of which this was written, and this was not: a writer fails
+-- only where something is not
+abbrev pub BlamesText : Cause → List ℕ → List ℕ → Type 0
+BlamesText Cause.Read begun back = ⊥
+BlamesText Cause.Write begun back = 0 < length back
+BlamesText Cause.Memory begun back = begun ≡ []
 
-abbrev pub Blames : Cause → Next → List ℕ → Type 0
-Blames cause Next.Unknown begun = BlamesBefore cause
-Blames cause (Next.Exchanging x close) begun = BlamesText cause begun
-Blames cause (Next.Refusing refusal) begun = BlamesText cause begun
-Blames cause (Next.Failing m) begun = BlamesText cause begun
+-- the same of the text that tells a fault of the desk: it takes no memory
+abbrev pub BlamesWriter : Cause → List ℕ → Type 0
+BlamesWriter Cause.Read back = ⊥
+BlamesWriter Cause.Write back = 0 < length back
+BlamesWriter Cause.Memory back = ⊥
+
+abbrev pub Blames : Cause → Next → List ℕ → List ℕ → List ℕ → Type 0
+Blames cause Next.Unknown left begun back = BlamesBefore cause left
+Blames cause (Next.Exchanging x close) left begun back = BlamesText cause begun back
+Blames cause (Next.Refusing refusal) left begun back = BlamesText cause begun back
+Blames cause (Next.Failing m) left begun back = BlamesWriter cause back
 
 -- A connection that a fault ended: so many replies went out whole, and then a beginning of the next
 -- one's text, perhaps nothing of it.
@@ -116,11 +148,12 @@ pub record Stops (holds : Type 0) (at : ℤ) (old new : Seen) (fault : ServeFaul
   pub answered : fault.answered ≡ length exchanges
   pub few : length exchanges < max_messages
   pub is_next : IsNext rest (length exchanges) next
+  pub near : NearNext next rest
   pub begun : List ℕ
   pub beginning : (back : List ℕ) × (next_text next ≡ begun ++ back)
   pub writes : Appends old.sent new.sent (texts_of exchanges ++ begun)
   pub acted : fault.acted ≡ did_act next
-  pub cause : Blames fault.cause next begun
+  pub cause : Blames fault.cause next rest begun beginning.0
   pub run : holds → Leads old.content at (exchanges ++ next_exchange next) new.content
   pub faults : NextRose next old.faults new.faults
 
@@ -138,6 +171,7 @@ pub record Connects (holds : Type 0) (at : ℤ) (old new : Seen) : Type 0 where
   pub opens : Opens read exchanges rest
   pub few : length exchanges < max_messages
   pub is_next : IsNext rest (length exchanges) next
+  pub near : NearNext next rest
   pub begun : List ℕ
   pub beginning : (back : List ℕ) × (next_text next ≡ begun ++ back)
   pub writes : Appends old.sent new.sent (texts_of exchanges ++ begun)

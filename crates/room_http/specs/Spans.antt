@@ -1,6 +1,6 @@
 -- The parts of a head, as spans of its own bytes, and what the look for a head found.
-use Rattle.std.specs.Prelude.{◌≡◌, ℕ, ◌<◌, ◌≤◌, ◌⊎◌, List, ◌++◌, length, take, drop, map, All}
-use Rattle.std.specs.Prelude.{Option}
+use Rattle.std.specs.Prelude.{◌≡◌, ℕ, ◌+◌, ◌<◌, ◌≤◌, ◌⊎◌, List, [], ◌++◌, length, take}
+use Rattle.std.specs.Prelude.{drop, map, All, Option, ⊤}
 use Rattle.std.specs.Io.KnownBytes.{Consumes, IsAtEnd}
 use Rattle.httparse.specs.declared.spans.HeaderSpan.{HeaderSpan}
 use Rattle.httparse.specs.declared.spans.RequestSpans.{RequestSpans}
@@ -11,8 +11,10 @@ use Rattle.room_message.specs.declared.head.Head.{Head}
 use Rattle.room_http.specs.declared.cut.HeadScan.{HeadScan}
 use Rattle.room_http.specs.declared.cut.HeadRead.{HeadRead}
 use Rattle.room_http.specs.declared.refusal.Refusal.{Refusal}
-use Rattle.room_http.specs.Limits.{max_head}
+use Rattle.room_http.specs.declared.ended.Cause.{Cause}
+use Rattle.room_http.specs.Limits.{max_head, read_size}
 use Rattle.room_http.specs.Message.{field_of, IsHead, BeginsWith, HasNoHead, HasTooMany}
+use Rattle.room_http.specs.Serve.{BlamesBefore, IsNearHead}
 
 -- the spans cover the parts of the head
 pub record AreSpansOf (spans : List HeaderSpan) (r : RequestSpans) (h : RequestHead) : Type 0 where
@@ -61,6 +63,33 @@ ScansWindow w spans (HeadScan.Refused refusal) = ⊥
 abbrev pub Came : Option (List ℕ) → Option (List ℕ) → List ℕ → List ℕ → Type 0
 Came old_left new_left old new =
     (more : List ℕ) × Consumes old_left new_left more × (new ≡ old ++ more)
+
+-- what a read that brought nothing took from the reader, by what failed
+abbrev pub Loses : Option (List ℕ) → Option (List ℕ) → Cause → Type 0
+Loses old new Cause.Read = Consumes old new []
+Loses old new Cause.Write = ⊥
+Loses old new Cause.Memory = (more : List ℕ) × Consumes old new more
+
+-- these bytes came, and then a read brought nothing, which this explains
+abbrev pub StopsReading : Option (List ℕ) → Option (List ℕ) → List ℕ → Cause → Type 0
+StopsReading old_left new_left old cause =
+    (all : List ℕ) × Came old_left new_left old all × BlamesBefore cause all
+
+-- the same within a body, of which less than so many bytes came where a read failed
+abbrev pub BlamesBody : Cause → ℕ → List ℕ → Type 0
+BlamesBody Cause.Read total all = length all < total
+BlamesBody Cause.Write total all = ⊥
+BlamesBody Cause.Memory total all = ⊤
+
+abbrev pub StopsBody : Option (List ℕ) → Option (List ℕ) → List ℕ → ℕ → Cause → Type 0
+StopsBody old_left new_left old total cause =
+    (all : List ℕ) × Came old_left new_left old all × BlamesBody cause total all
+
+-- how far the bytes reach beyond the head, or beyond what is none
+abbrev pub HeadNear : List ℕ → HeadRead → Type 0
+HeadNear buf (HeadRead.Found r) = length buf < r.len + read_size
+HeadNear buf HeadRead.Ended = ⊤
+HeadNear buf (HeadRead.NotHead refusal) = IsNearHead buf
 
 -- what was found when the reading of a head ended
 abbrev pub HeadCame : List ℕ → List HeaderSpan → Option (List ℕ) → HeadRead → Type 0

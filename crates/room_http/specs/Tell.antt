@@ -9,7 +9,7 @@ use Rattle.room_http.specs.Message.{Asked}
 use Rattle.room_http.specs.Text.{store_text}
 use Rattle.room_http.specs.Answer.{Keeps, Failed}
 use Rattle.room_http.specs.Stream.{Agrees, answer_text, events_from, Runs}
-use Rattle.room_http.specs.Serve.{Seen, BlamesText}
+use Rattle.room_http.specs.Serve.{Seen, BlamesText, BlamesWriter}
 use Rattle.room_http.specs.Turn.{WritesSome}
 
 -- the desk did what the message asks, and this is its reply, or a test refuses the message
@@ -31,7 +31,13 @@ pub data Begun : Type 0 where
 
 -- a beginning of the text was written, and this failed
 abbrev pub StopsWithin : Option (List ℕ) → Option (List ℕ) → List ℕ → Cause → Type 0
-StopsWithin old new text cause = (wrote : WritesSome old new text) × BlamesText cause wrote.0
+StopsWithin old new text cause =
+    (wrote : WritesSome old new text) × BlamesText cause wrote.0 wrote.1
+
+-- the same of the text that tells a fault of the desk
+abbrev pub StopsFault : Option (List ℕ) → Option (List ℕ) → Cause → Type 0
+StopsFault old new cause =
+    (wrote : WritesSome old new store_text) × BlamesWriter cause wrote.1
 
 abbrev pub IsBegun : Type 0 → ℤ → Bool → Asked → Seen → Seen → Bool → Cause → Begun → Type 0
 IsBegun holds at close asked old new acted cause Begun.Nothing =
@@ -41,7 +47,7 @@ IsBegun holds at close asked old new acted cause (Begun.Telling reply) =
     Replies holds at asked old new reply
     × StopsWithin old.sent new.sent (answer_text close asked reply) cause × (acted ≡ is_some reply)
 IsBegun holds at close asked old new acted cause Begun.Failing =
-    Fails holds asked old new × StopsWithin old.sent new.sent store_text cause × (acted ≡ false)
+    Fails holds asked old new × StopsFault old.sent new.sent cause × (acted ≡ false)
 
 abbrev pub Tells : Type 0 → ℤ → Bool → Asked → Seen → Seen → Result Told Stop → Type 0
 Tells holds at close asked old new (Ok Told.Answered) =

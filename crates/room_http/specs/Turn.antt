@@ -1,23 +1,27 @@
 -- One turn of the server, and a connection so far.
 use Rattle.std.specs.Prelude.{◌≡◌, ℕ, ℤ, ◌+◌, ◌<◌, ◌≤◌, false, List, [], ◌∷◌, ◌++◌, length, drop}
-use Rattle.std.specs.Prelude.{slice_range, Option, Some, None, Result, Ok, Err}
+use Rattle.std.specs.Prelude.{slice_range, Option, Some, None, Result, Ok, Err, ⊤}
 use Rattle.std.specs.Io.KnownBytes.{Appends, Consumes, IsAtEnd}
 use Rattle.room_http.specs.declared.ended.Ended.{Ended}
 use Rattle.room_http.specs.declared.server.Stop.{Stop}
 use Rattle.room_http.specs.declared.next.NextMessage.{NextMessage}
 use Rattle.room_http.specs.declared.next.Upcoming.{Upcoming}
-use Rattle.room_http.specs.Limits.{max_messages}
+use Rattle.room_http.specs.Limits.{max_messages, read_size}
 use Rattle.room_http.specs.Message.{Message, print_message, IsMessage, IsRefused, IsPart, head_of}
 use Rattle.room_http.specs.Stream.{Exchange, IsOpen, exchange_text, Last, Ends, ended_of, last_text}
 use Rattle.room_http.specs.Stream.{last_exchange, Leads, Opens, texts_of}
 use Rattle.room_http.specs.Serve.{Seen, AtEndIf, FaultsRose, Next, IsNext, next_text, next_exchange}
-use Rattle.room_http.specs.Serve.{did_act, Blames, NextRose}
+use Rattle.room_http.specs.Serve.{did_act, Blames, NextRose, IsNearHead, NearLast, NearNext}
 use Rattle.room_http.specs.Spans.{Came}
 
 -- a beginning of the text was written
 abbrev pub WritesSome : Option (List ℕ) → Option (List ℕ) → List ℕ → Type 0
 WritesSome old new text =
     (front : List ℕ) × (back : List ℕ) × (text ≡ front ++ back) × Appends old new front
+
+-- a beginning of the text was written, and not all of it
+abbrev pub WritesPart : Option (List ℕ) → Option (List ℕ) → List ℕ → Type 0
+WritesPart old new text = (wrote : WritesSome old new text) × (0 < length wrote.1)
 
 -- ---- the next message
 
@@ -38,6 +42,13 @@ Coming buf left Upcoming.Cut = IsAtEnd left × IsPart buf
 Coming buf left (Upcoming.Refused refusal) = IsRefused buf refusal
 Coming buf left (Upcoming.Whole next) = WholeNext buf next
 
+-- how far the bytes reach beyond what turned out to be next
+abbrev pub ComesNear : List ℕ → Upcoming → Type 0
+ComesNear buf Upcoming.Clean = ⊤
+ComesNear buf Upcoming.Cut = ⊤
+ComesNear buf (Upcoming.Refused refusal) = IsNearHead buf
+ComesNear buf (Upcoming.Whole next) = length buf < next.end + read_size
+
 -- ---- a turn, after n messages
 
 pub record TurnsOpen (holds : Type 0) (at : ℤ) (n : ℕ) (old new : Seen)
@@ -46,6 +57,7 @@ pub record TurnsOpen (holds : Type 0) (at : ℤ) (n : ℕ) (old new : Seen)
   pub is_open : IsOpen x
   pub more : n + 1 < max_messages
   pub came : Came old.left new.left buf_old (print_message x.message ++ buf_new)
+  pub near : length buf_new < read_size
   pub writes : Appends old.sent new.sent (exchange_text false x)
   pub run : holds → Leads old.content at (x ∷ []) new.content
   pub faults : new.faults ≡ old.faults
@@ -57,6 +69,7 @@ pub record TurnsLast (holds : Type 0) (at : ℤ) (n : ℕ) (old new : Seen) (buf
   pub rest : List ℕ
   pub came : Came old.left new.left buf rest
   pub ends : Ends rest n last
+  pub near : NearLast last rest
   pub writes : Appends old.sent new.sent (last_text last)
   pub at_end : AtEndIf last new.left
   pub run : holds → Leads old.content at (last_exchange last) new.content
@@ -68,9 +81,10 @@ pub record TurnsStop (holds : Type 0) (at : ℤ) (n : ℕ) (old new : Seen) (buf
   pub rest : List ℕ
   pub came : Came old.left new.left buf rest
   pub is_next : IsNext rest n next
+  pub near : NearNext next rest
   pub writes : WritesSome old.sent new.sent (next_text next)
   pub acted : stop.acted ≡ did_act next
-  pub cause : Blames stop.cause next writes.0
+  pub cause : Blames stop.cause next rest writes.0 writes.1
   pub run : holds → Leads old.content at (next_exchange next) new.content
   pub faults : NextRose next old.faults new.faults
 
@@ -90,6 +104,7 @@ pub record Along (holds : Type 0) (at : ℤ) (n : ℕ) (old new : Seen) (buf : L
   pub opens : Opens read exchanges buf
   pub count : n ≡ length exchanges
   pub few : n < max_messages
+  pub near : length buf < read_size
   pub writes : Appends old.sent new.sent (texts_of exchanges)
   pub run : holds → Leads old.content at exchanges new.content
   pub faults : new.faults ≡ old.faults

@@ -1,10 +1,10 @@
 //! The bytes of a reader, read until a head or a body is whole.
-ghost use Rattle.std.specs.Prelude.{◌≡◌, ℕ, ◌<◌, ◌≤◌, List, length, drop, true, false, Ok, IfErr};
+ghost use Rattle.std.specs.Prelude.{◌≡◌, ◌+◌, ◌<◌, ◌≤◌, length, drop, true, false, Ok, IfErr};
 ghost use Rattle.std.specs.Prelude.{IfOk, OnOk, OnErr};
-ghost use Rattle.std.specs.Io.KnownBytes.{Consumes, IsAtEnd};
-ghost use Rattle.room_http.specs.Limits.{max_fields, max_head};
-ghost use Rattle.room_http.specs.Serve.{BlamesBefore};
-ghost use Rattle.room_http.specs.Spans.{Came, HeadCame, Scans, ScansWindow};
+ghost use Rattle.std.specs.Io.KnownBytes.{IsAtEnd};
+ghost use Rattle.room_http.specs.Limits.{max_fields, max_head, read_size};
+ghost use Rattle.room_http.specs.Spans.{Came, HeadCame, HeadNear, Loses, Scans, ScansWindow};
+ghost use Rattle.room_http.specs.Spans.{StopsBody, StopsReading};
 
 use crate::ended::Cause;
 use crate::refusal::Refusal;
@@ -23,10 +23,9 @@ fn fill<R: Read>(r: &mut R, buf: &mut Vec<u8>) -> Result<bool, Cause>
     ensures more { result ≡ Ok true → length buf.old.items < length buf.new.items }
     ensures end { result ≡ Ok false
         → (buf.new.items ≡ buf.old.items) × IsAtEnd (R.remaining r.new) }
-    ensures lost { OnErr result
-        ((more : List ℕ) × Consumes (R.remaining r.old) (R.remaining r.new) more) }
+    ensures size { length buf.new.items ≤ length buf.old.items + read_size }
+    ensures lost { IfErr result (Loses (R.remaining r.old) (R.remaining r.new)) }
     ensures err { OnErr result (buf.new.items ≡ buf.old.items) }
-    ensures cause { IfErr result BlamesBefore }
 {
     let mut chunk = [0u8; READ_SIZE];
     match r.read(&mut chunk) {
@@ -102,10 +101,10 @@ pub(crate) fn read_head<R: Read>(
     requires { length spans.old ≡ max_fields }
     ensures came { OnOk result
         (Came (R.remaining r.old) (R.remaining r.new) buf.old.items buf.new.items) }
-    ensures lost { OnErr result
-        ((all : List ℕ) × Came (R.remaining r.old) (R.remaining r.new) buf.old.items all) }
+    ensures lost { IfErr result
+        (StopsReading (R.remaining r.old) (R.remaining r.new) buf.old.items) }
     ensures head { IfOk result (HeadCame buf.new.items spans.new (R.remaining r.new)) }
-    ensures cause { IfErr result BlamesBefore }
+    ensures near { length buf.old.items < read_size → IfOk result (HeadNear buf.new.items) }
 {
     'reading: loop {
         match scan_head(buf.as_slice(), spans) {
@@ -125,12 +124,13 @@ pub(crate) fn read_head<R: Read>(
 pub(crate) fn read_body<R: Read>(r: &mut R, buf: &mut Vec<u8>, total: usize) -> Result<bool, Cause>
     ensures came { OnOk result
         (Came (R.remaining r.old) (R.remaining r.new) buf.old.items buf.new.items) }
-    ensures lost { OnErr result
-        ((all : List ℕ) × Came (R.remaining r.old) (R.remaining r.new) buf.old.items all) }
+    ensures lost { IfErr result
+        (StopsBody (R.remaining r.old) (R.remaining r.new) buf.old.items total) }
+    ensures near { length buf.old.items < total + read_size
+        → length buf.new.items < total + read_size }
     ensures whole { result ≡ Ok true → total ≤ length buf.new.items }
     ensures cut { result ≡ Ok false
         → (length buf.new.items < total) × IsAtEnd (R.remaining r.new) }
-    ensures cause { IfErr result BlamesBefore }
 {
     'reading: while buf.len() < total {
         match fill(r, buf) {

@@ -1,9 +1,8 @@
 //! The next message of a stream.
-ghost use Rattle.std.specs.Prelude.{◌≡◌, ℕ, List, length, OnOk, OnErr, IfErr, IfOk};
-ghost use Rattle.room_http.specs.Limits.{max_fields};
-ghost use Rattle.room_http.specs.Serve.{BlamesBefore};
-ghost use Rattle.room_http.specs.Spans.{Came, SpansHead};
-ghost use Rattle.room_http.specs.Turn.{Coming};
+ghost use Rattle.std.specs.Prelude.{◌≡◌, ◌+◌, ◌<◌, length, OnOk, IfErr, IfOk};
+ghost use Rattle.room_http.specs.Limits.{max_fields, read_size};
+ghost use Rattle.room_http.specs.Spans.{Came, SpansHead, StopsReading};
+ghost use Rattle.room_http.specs.Turn.{ComesNear, Coming};
 
 use crate::cut::{HeadRead, read_body, read_head};
 use crate::ended::Cause;
@@ -39,12 +38,12 @@ pub(crate) fn next_message<R: Read>(
     spans: &mut [HeaderSpan],
 ) -> Result<Upcoming, Cause>
     requires { length spans.old ≡ max_fields }
+    ensures near { length buf.old.items < read_size → IfOk result (ComesNear buf.new.items) }
     ensures came { OnOk result
         (Came (R.remaining r.old) (R.remaining r.new) buf.old.items buf.new.items) }
-    ensures lost { OnErr result
-        ((all : List ℕ) × Came (R.remaining r.old) (R.remaining r.new) buf.old.items all) }
+    ensures lost { IfErr result
+        (StopsReading (R.remaining r.old) (R.remaining r.new) buf.old.items) }
     ensures next { IfOk result (Coming buf.new.items (R.remaining r.new)) }
-    ensures cause { IfErr result BlamesBefore }
 {
     match read_head(r, buf, spans) {
         Ok(HeadRead::Found(at)) => next_behind(alloc, r, buf, spans, at),
@@ -64,12 +63,13 @@ fn next_behind<R: Read>(
     at: RequestSpans,
 ) -> Result<Upcoming, Cause>
     requires { SpansHead buf.old.items spans.now at }
+    ensures near { length buf.old.items < at.len + read_size
+        → IfOk result (ComesNear buf.new.items) }
     ensures came { OnOk result
         (Came (R.remaining r.old) (R.remaining r.new) buf.old.items buf.new.items) }
-    ensures lost { OnErr result
-        ((all : List ℕ) × Came (R.remaining r.old) (R.remaining r.new) buf.old.items all) }
+    ensures lost { IfErr result
+        (StopsReading (R.remaining r.old) (R.remaining r.new) buf.old.items) }
     ensures next { IfOk result (Coming buf.new.items (R.remaining r.new)) }
-    ensures cause { IfErr result BlamesBefore }
 {
     let Ok(head) = copied_head(alloc, &buf[..at.len], spans, at) else {
         return Err(Cause::Memory);

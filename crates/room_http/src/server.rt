@@ -4,7 +4,7 @@ ghost use Rattle.std.specs.Prelude.{Option, true, false, IfOk, IfErr};
 ghost use Rattle.std.specs.Io.KnownBytes.{Appends};
 ghost use Rattle.room_message.specs.Asked.{request_of};
 ghost use Rattle.room_message.specs.Close.{asks_close};
-ghost use Rattle.room_http.specs.Limits.{max_fields, max_messages};
+ghost use Rattle.room_http.specs.Limits.{max_fields, max_messages, read_size};
 ghost use Rattle.room_http.specs.Text.{refusal_text};
 ghost use Rattle.room_http.specs.Serve.{Connects, Seen, Serves, Stops};
 ghost use Rattle.room_http.specs.Turn.{Turns, WholeNext};
@@ -119,8 +119,8 @@ fn take_message<W: Write, D: Desk>(
 ) -> Result<Option<Ended>, Stop>
     requires few { answered < max_messages }
     requires next { WholeNext buf.old.items next }
-    ensures turn { (left : Option (List ℕ)) → Turns (D.trusted desk.new × D.sound desk.old) at
-        answered
+    ensures turn { (left : Option (List ℕ)) → length buf.old.items < next.end + read_size
+        → Turns (D.trusted desk.new × D.sound desk.old) at answered
         (record {
           left = left;
           sent = W.contents w.old;
@@ -199,7 +199,8 @@ fn turn<R: Read, W: Write, D: Desk>(
 ) -> Result<Option<Ended>, Stop>
     requires few { answered < max_messages }
     requires room { length spans.old ≡ max_fields }
-    ensures turn { Turns (D.trusted desk.new × D.sound desk.old) at answered
+    ensures turn { length buf.old.items < read_size
+        → Turns (D.trusted desk.new × D.sound desk.old) at answered
         (record {
           left = R.remaining r.old;
           sent = W.contents w.old;

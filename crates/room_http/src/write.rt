@@ -1,15 +1,15 @@
 //! Writing a text.
 ghost use Rattle.std.specs.Prelude.{◌≡◌, IfErr, OnOk, OnErr};
 ghost use Rattle.std.specs.Io.KnownBytes.{Appends};
-ghost use Rattle.room_http.specs.Turn.{WritesSome};
+ghost use Rattle.room_http.specs.Turn.{WritesPart};
 
 use crate::ended::Cause;
 use std::io::Write;
 
-// Writes the text, or a beginning of it where a write fails or takes nothing.
+// Writes the text, or a part of it where a write fails or takes nothing.
 pub(crate) fn write_text<W: Write>(w: &mut W, text: &[u8]) -> Result<(), Cause>
     ensures ok { OnOk result (Appends (W.contents w.old) (W.contents w.new) text.now) }
-    ensures err { OnErr result (WritesSome (W.contents w.old) (W.contents w.new) text.now) }
+    ensures err { OnErr result (WritesPart (W.contents w.old) (W.contents w.new) text.now) }
     ensures cause { IfErr result (λ cause. cause ≡ Cause.Write) }
 {
     let mut at = 0;

@@ -20,7 +20,7 @@ returns-in-Some-clause-serves g c =
     let now : all → one = λ h. (h.0, c.loop-answered.invariant.2 (c.turn.ensures.trusted h.0) h.1) in
     let real = to_z-of_z w64 c.args.at c.ranges.at in
     let along = subst (λ (z : ℤ). Along so_far z n old mid c.loop-answered.buf.items) real c.loop-answered.invariant.0 in
-    let given = subst (λ (z : ℤ). Turns one z n mid new c.loop-answered.buf.items c.turn.new.buf.items c.turn.result) real c.turn.ensures.turn in
+    let given = subst (λ (z : ℤ). Turns one z n mid new c.loop-answered.buf.items c.turn.new.buf.items c.turn.result) real (c.turn.ensures.turn c.loop-answered.invariant.0.near) in
     let last = at-value (Turns one c.args.at n mid new c.loop-answered.buf.items c.turn.new.buf.items) _ _ _ c.in-Ok.is c.in-Some.is given in
     Serves-from so_far one all c.args.at n old mid new c.loop-answered.buf.items c.in-Some.ended along before now last
 
@@ -41,7 +41,7 @@ returns-in-Err-clause-stops g c =
     let now : all → one = λ h. (h.0, c.loop-answered.invariant.2 (c.turn.ensures.trusted h.0) h.1) in
     let real = to_z-of_z w64 c.args.at c.ranges.at in
     let along = subst (λ (z : ℤ). Along so_far z n old mid c.loop-answered.buf.items) real c.loop-answered.invariant.0 in
-    let given = subst (λ (z : ℤ). Turns one z n mid new c.loop-answered.buf.items c.turn.new.buf.items c.turn.result) real c.turn.ensures.turn in
+    let given = subst (λ (z : ℤ). Turns one z n mid new c.loop-answered.buf.items c.turn.new.buf.items c.turn.result) real (c.turn.ensures.turn c.loop-answered.invariant.0.near) in
     let stopped = subst (λ r. Turns one c.args.at n mid new c.loop-answered.buf.items c.turn.new.buf.items r) c.in-Err.is given in
     Stops-from so_far one all c.args.at n old mid new c.loop-answered.buf.items c.in-Err.stop _ refl refl refl along before now stopped
 
@@ -61,7 +61,7 @@ loop-answered-preserved g c =
     let before : all → so_far = λ h. (c.turn.ensures.trusted h.0, h.1) in
     let now : all → one = λ h. (h.0, c.loop-answered.invariant.2 (c.turn.ensures.trusted h.0) h.1) in
     let z = to_z w64 (of_z w64 c.args.at) in
-    let more = at-value (Turns one z n mid new c.loop-answered.buf.items c.turn.new.buf.items) _ _ _ c.in-Ok.is c.in-None.is c.turn.ensures.turn in (
+    let more = at-value (Turns one z n mid new c.loop-answered.buf.items c.turn.new.buf.items) _ _ _ c.in-Ok.is c.in-None.is (c.turn.ensures.turn c.loop-answered.invariant.0.near) in (
       Along-then so_far one all z n old mid new c.loop-answered.buf.items c.turn.new.buf.items c.loop-answered.invariant.0 before now more,
       (λ h. c.loop-answered.invariant.1 (c.turn.ensures.trusted h)),
       (λ h s. c.turn.ensures.sound h (c.loop-answered.invariant.2 (c.turn.ensures.trusted h) s)),

@@ -4,7 +4,7 @@ use Rattle.room_message.specs.Asked.{request_of}
 use Rattle.room_http.specs.Answer.{Responds}
 use Rattle.room_http.specs.Serve.{Seen}
 use Rattle.room_http.specs.Tell.{Begun}
-use Rattle.room_http.proofs.Telling.{at-value, refused-tells, replied-tells, begun-lost, within-write, Appends-is}
+use Rattle.room_http.proofs.Telling.{at-value, refused-tells, replied-tells, begun-lost, within-write, within-fault, Appends-is}
 use Rattle.room_http.proofs.server.tell.Goals as goal
 
 pub returns-in-Ok-Refused-clause-tells : goal.returns-in-Ok-Refused-clause-tells
@@ -49,3 +49,15 @@ returns-clause-tells g c left =
     let given = subst (λ (z : ℤ). Responds all z c.args.close asked old.content new.content old.faults new.faults c.respond.result) (to_z-of_z w64 c.args.at c.ranges.at) c.respond.ensures.responds in
     let answers = subst (λ r. Responds all c.args.at c.args.close asked old.content new.content old.faults new.faults r) c.in-Err.is given in
     begun-lost all c.args.at c.args.close asked old new c.in-Err.lost.acted answers.0 refl answers.1
+
+pub returns-in-Ok-Fault-clause-tells : goal.returns-in-Ok-Fault-clause-tells
+returns-in-Ok-Fault-clause-tells g c left =
+    let all = g.D.Desk.trusted c.respond.new.desk × g.D.Desk.sound c.args.desk.now in
+    let asked = request_of c.args.head.now c.args.body.now in
+    let old = g.D.Desk.content c.args.desk.now in
+    let new = g.D.Desk.content c.respond.new.desk in
+    let before = g.D.Desk.faults c.args.desk.now in
+    let after = g.D.Desk.faults c.respond.new.desk in
+    let given = subst (λ (z : ℤ). Responds all z c.args.close asked old new before after c.respond.result) (to_z-of_z w64 c.args.at c.ranges.at) c.respond.ensures.responds in
+    let fails = at-value (Responds all c.args.at c.args.close asked old new before after) _ _ _ c.in-Ok-Fault.is c.in-Ok-Fault.field-0-is given in
+    (Begun.Failing, (fails, within-fault _ _ _ _ c.store_bytes.ensures c.in-Err-write_text-3.ensures.cause c.in-Err-write_text-3.ensures.err, refl))
