@@ -1,5 +1,6 @@
 //! Requests at a desk, and requests carried out in turn.
-use room_desk::{Asked, Desk, DeskFault, MemDesk, Reply, perform_all};
+use room_desk::{Asked, Desk, DeskFault, Reply, perform_all};
+use room_memory::MemDesk;
 use room_player::{Plan, agree, failing, open_keep, play, push_reply, spoken_in};
 use room_tree::{Keep, KeepFault};
 use std::alloc::Global;

@@ -1,11 +1,11 @@
 //! Readers, writers and desks that fail.
 ghost use Rattle.std.specs.Prelude.{◌≡◌, ⊤, refl};
-ghost use Rattle.room_desk.specs.Memory.{content_in};
+ghost use Rattle.room_memory.specs.Memory.{content_in};
 
 use room_ace::Name;
-use room_desk::MemDesk;
 use room_http::Cause;
 use room_machine::{Desk, DeskFault, Reply, Request};
+use room_memory::MemDesk;
 use room_player::open_keep;
 use room_talk::{PUT_TWICE, Sink, Stop, agrees, play, stop_at_read, stop_at_write, stopped, tried};
 use std::alloc::Global;

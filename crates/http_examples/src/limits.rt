@@ -1,6 +1,6 @@
 //! The limits of a connection.
-use room_desk::MemDesk;
 use room_http::Ended;
+use room_memory::MemDesk;
 use room_player::open_keep;
 use room_talk::{Pieces, Sink, Talk, converse, is_short};
 use std::alloc::{AllocError, Global};

@@ -1,6 +1,6 @@
 //! Messages and the bytes of their replies.
-use room_desk::MemDesk;
 use room_http::Ended;
+use room_memory::MemDesk;
 use room_player::open_keep;
 use room_talk::{PUT_TWICE, Pieces, Sink, bytes_at, converse, is_short, play, plays, same_bytes};
 use std::alloc::Global;

@@ -2,7 +2,7 @@
 use crate::meeting::{
     DONE, Full, MADE, PUT, connects, gets, grows_impatient, listens, sends, serves, serves_untold,
 };
-use room_desk::MemDesk;
+use room_memory::MemDesk;
 use room_player::open_keep;
 use room_serving::{ServingFault, serve_on};
 use std::io::Write;

@@ -9,8 +9,8 @@ use Rattle.room_ace.specs.declared.object.Which.{Which}
 use Rattle.room_ace.specs.declared.parties.Owners.{Owners}
 use Rattle.room_import.specs.Exports.{groups_text, records_text}
 use Rattle.room_inherit.specs.Reading.{IsReport}
-use Rattle.room_inherit.specs.declared.report.Report.{Report}
-use Rattle.room_inherit.specs.declared.report.Report.TheVariants as report
+use Rattle.room_rows.specs.declared.report.Report.{Report}
+use Rattle.room_rows.specs.declared.report.Report.TheVariants as report
 use Rattle.room_judge.specs.Judged.{Resets}
 use Rattle.room_machine.specs.Run.{Replaced, WasReset}
 use Rattle.room_machine.specs.declared.reply.Reply.{Reply}

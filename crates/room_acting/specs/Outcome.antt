@@ -4,7 +4,7 @@ use Rattle.room_ace.specs.Faults.{list_fault_text}
 use Rattle.room_rows.specs.Paths.{path_text}
 use Rattle.room_machine.specs.declared.reply.Reason.{Reason}
 use Rattle.room_machine.specs.declared.reply.Reason.TheVariants as reason
-use Rattle.room_inherit.specs.Codes.{unsound_text}
+use Rattle.room_rows.specs.Codes.{unsound_text}
 use Rattle.room_schema.specs.declared.fault.OpenFault.{OpenFault}
 use Rattle.room_schema.specs.declared.fault.OpenFault.TheVariants as opening
 use Rattle.room_outcome.specs.Ending.{fault_line, no_room_text}

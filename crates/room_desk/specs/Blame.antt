@@ -2,7 +2,7 @@
 use Rattle.std.specs.Prelude.{ℕ, List}
 use Rattle.room_rows.specs.Keep.{IsDamaged}
 use Rattle.room_rows.specs.Rows.{Rows}
-use Rattle.room_inherit.specs.Sound.{AreSound}
+use Rattle.room_rows.specs.Sound.{AreSound}
 use Rattle.room_desk.specs.declared.running.Asked.{Asked}
 use Rattle.room_desk.specs.InTurn.{IsDamagedAfter}
 

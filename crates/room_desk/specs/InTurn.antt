@@ -3,7 +3,7 @@ use Rattle.std.specs.Prelude.{◌≡◌, List, [], ◌∷◌, length, take, ℕ,
 use Rattle.room_rows.specs.Keep.{IsDamaged}
 use Rattle.room_rows.specs.Meaning.{meaning}
 use Rattle.room_rows.specs.Rows.{Rows}
-use Rattle.room_inherit.specs.Sound.{AreSound}
+use Rattle.room_rows.specs.Sound.{AreSound}
 use Rattle.room_desk.specs.declared.running.Asked.{Asked}
 use Rattle.room_machine.specs.declared.reply.Reply.{Reply}
 use Rattle.room_machine.specs.Run.{Event, Run, Asked as HasAsked}

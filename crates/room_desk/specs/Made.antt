@@ -23,7 +23,7 @@ use Rattle.room_rows.specs.Held.{full_of}
 use Rattle.room_rows.specs.Keep.{Adds}
 use Rattle.room_rows.specs.Paths.{is_object_name}
 use Rattle.room_rows.specs.Rows.{Rows}
-use Rattle.room_inherit.specs.Pass.{pass}
+use Rattle.room_rows.specs.Pass.{pass}
 use Rattle.room_judge.specs.declared.asker.Asker.{Asker}
 use Rattle.room_machine.specs.declared.reply.Reply.{Reply}
 use Rattle.room_machine.specs.declared.reply.Reply.TheVariants.{Made}

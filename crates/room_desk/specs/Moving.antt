@@ -43,8 +43,8 @@ use Rattle.room_rows.specs.Keep.{Changes, IsDamaged, IsUnreadable, reading, with
 use Rattle.room_rows.specs.Meaning.{meaning}
 use Rattle.room_rows.specs.Paths.{is_object_name}
 use Rattle.room_rows.specs.Rows.{Rows, AreRows}
-use Rattle.room_inherit.specs.Law.{agrees, AllAgree}
-use Rattle.room_inherit.specs.Sound.{AreSound}
+use Rattle.room_rows.specs.Law.{agrees, AllAgree}
+use Rattle.room_rows.specs.Sound.{AreSound}
 use Rattle.room_inherit.specs.Spread.{with_lists}
 use Rattle.room_judge.specs.declared.arrival.Found.{Found}
 use Rattle.room_judge.specs.declared.arrival.Pair.TheVariants.{Both}

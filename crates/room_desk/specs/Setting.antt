@@ -35,8 +35,8 @@ use Rattle.room_rows.specs.Held.{held_of, full_of, with_held}
 use Rattle.room_rows.specs.Keep.{Changes, IsDamaged}
 use Rattle.room_rows.specs.Meaning.{kept_node, meaning}
 use Rattle.room_rows.specs.Rows.{Rows, AreRows}
-use Rattle.room_inherit.specs.Pass.{pass}
-use Rattle.room_inherit.specs.Sound.{AreSound}
+use Rattle.room_rows.specs.Pass.{pass}
+use Rattle.room_rows.specs.Sound.{AreSound}
 use Rattle.room_desk.specs.Carrying.{GoesDown}
 use Rattle.room_judge.specs.declared.arrival.Arrival.TheVariants.{At}
 use Rattle.room_judge.specs.declared.arrival.Found.{Found}

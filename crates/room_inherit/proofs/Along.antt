@@ -10,10 +10,10 @@ use Rattle.room_rows.specs.Held.{held_of, full_of, is_linked}
 use Rattle.room_rows.specs.Content.{Content, node_at, parent_of, child_of, root_of}
 use Rattle.room_rows.specs.Walk.{behind, walk_from}
 use Rattle.room_rows.proofs.Frames.{Rises, rows-rise, root_of-is_there, child_of-is_there, child_of-parent}
-use Rattle.room_inherit.specs.Full.{fulls, fulls_below, full_below}
-use Rattle.room_inherit.specs.Law.{AllAgree, agrees, agrees_with}
+use Rattle.room_rows.specs.Full.{fulls, fulls_below, full_below}
+use Rattle.room_rows.specs.Law.{AllAgree, agrees, agrees_with}
 use Rattle.room_inherit.specs.Laws.{StoredAlongPath}
-use Rattle.room_inherit.specs.Pass.{pass}
+use Rattle.room_rows.specs.Pass.{pass}
 use Rattle.room_inherit.proofs.Stored.{all_found, or_true}
 
 module _ (content : Content) (rises : Rises content) (which : Which) (all : AllAgree content which) where

@@ -16,8 +16,8 @@ use Rattle.room_rows.specs.Keep.{HasNoRoot, capped, reading, KeepLaws}
 use Rattle.room_rows.specs.Rows.{Rows, is_unreadable}
 use Rattle.room_rows.proofs.Lookups.{IsSamePlace}
 use Rattle.room_rows.proofs.Steps.{later_cause}
-use Rattle.room_inherit.specs.Law.{AllAgree, agrees, agrees_with}
-use Rattle.room_inherit.specs.Sound.{reaches}
+use Rattle.room_rows.specs.Law.{AllAgree, agrees, agrees_with}
+use Rattle.room_rows.specs.Sound.{reaches}
 use Rattle.room_inherit.specs.Spread.{ChangedAgree, HasSpreadCause, is_changed, stores_as_before, with_lists}
 use Rattle.room_inherit.specs.SpreadAll.{IsSpreadAll, IsSwept, IsTree, SpreadsAll, Sweeps}
 use Rattle.room_inherit.specs.declared.outcome.Spread.{Spread}

@@ -12,7 +12,7 @@ use Rattle.room_rows.specs.Keep.{IsUnreadable, IsUnreadableAt, IsNodeAt, IsRead,
 use Rattle.room_rows.specs.Rows.{Rows, AreRows, numbers_of, is_unreadable}
 use Rattle.room_rows.proofs.Frames.{numbers_of-reading}
 use Rattle.room_rows.proofs.Steps.{later_cause}
-use Rattle.room_inherit.specs.Law.{AllAgree}
+use Rattle.room_rows.specs.Law.{AllAgree}
 use Rattle.room_inherit.specs.Spread.{ChangedAgree, HasSpreadCause, IsSpread, IsOwnAncestor, Holds, Spreads, SpreadsIf, with_lists, is_changed}
 use Rattle.room_inherit.specs.Turn.{IsVisit, MeetsAgain, renewals, next_of}
 use Rattle.room_inherit.specs.declared.descent.Descent.{Descent}

@@ -16,8 +16,8 @@ use Rattle.room_rows.specs.Finding.{find_id}
 use Rattle.room_rows.specs.Held.{held_of, full_of, is_linked}
 use Rattle.room_rows.specs.HeldList.{Held}
 use Rattle.room_rows.specs.Rows.{Rows, numbers_of, put_number, put_numbers}
-use Rattle.room_inherit.specs.Pass.{pass}
-use Rattle.room_inherit.specs.Law.{AllAgree, AllAgreeBut, agrees, agrees_with}
+use Rattle.room_rows.specs.Pass.{pass}
+use Rattle.room_rows.specs.Law.{AllAgree, AllAgreeBut, agrees, agrees_with}
 use Rattle.room_inherit.specs.Spread.{ChangedAgree, stores_as_before, with_lists, is_changed, is_linked_within, is_within, IsOwnAncestor}
 use Rattle.room_inherit.specs.Turn.{is_linked_to, is_met_again, meets_again}
 use Rattle.room_inherit.proofs.Kinship.{same_parent, same_kind, with_own}

@@ -8,8 +8,8 @@ use Rattle.room_rows.specs.Content.{Content, node_at, has_parent}
 use Rattle.room_rows.specs.Finding.{find_id}
 use Rattle.room_rows.specs.Held.{held_of, is_linked}
 use Rattle.room_rows.specs.Keep.{with_inh}
-use Rattle.room_inherit.specs.Pass.{pass}
-use Rattle.room_inherit.specs.Law.{AllAgreeBut}
+use Rattle.room_rows.specs.Pass.{pass}
+use Rattle.room_rows.specs.Law.{AllAgreeBut}
 use Rattle.room_inherit.specs.Spread.{is_changed, IsLinkedBelow}
 use Rattle.room_inherit.proofs.Kinship.{same_id, same_parent, held_with}
 use Rattle.room_inherit.proofs.Members.{Each}

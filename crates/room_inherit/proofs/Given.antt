@@ -16,7 +16,7 @@ use Rattle.room_rows.specs.declared.node.Node.{Node}
 use Rattle.room_rows.specs.Content.{has_parent, same_parent}
 use Rattle.room_rows.specs.Paths.{is_object_name}
 use Rattle.room_inherit.specs.Objects.{are_rising, only}
-use Rattle.room_inherit.specs.Sound.{has_sound_name, same_place}
+use Rattle.room_rows.specs.Sound.{has_sound_name, same_place}
 use Rattle.room_inherit.proofs.Numbers.{any_before}
 
 -- a parent and a name

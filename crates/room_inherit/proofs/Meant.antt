@@ -20,7 +20,7 @@ use Rattle.room_rows.specs.Rows.{AreRows, Rows, numbers_of, put_numbers}
 use Rattle.room_rows.proofs.Frames.{KeepsPlaces, numbers-with_each, root_of-with_each}
 use Rattle.room_rows.proofs.Lookups.{IsSamePlace, filter-changed}
 use Rattle.room_inherit.specs.Laws.{HasNoFault, SoundIsContent}
-use Rattle.room_inherit.specs.Sound.{bad_root, has_sound_body, has_sound_name, reaches, same_place}
+use Rattle.room_rows.specs.Sound.{bad_root, has_sound_body, has_sound_name, reaches, same_place}
 use Rattle.room_inherit.proofs.Children.{apart_rising, each_above, each_found, each_there, found_id, ids_of}
 use Rattle.room_inherit.proofs.Members.{Each, any_map, any_none, count, count_length, each_fails, one_if}
 use Rattle.room_inherit.proofs.NoFault.{no_fault, none_bad, root_alone}

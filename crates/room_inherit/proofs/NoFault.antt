@@ -5,12 +5,12 @@ use Rattle.std.specs.Option.{option_map}
 use Rattle.room_rows.specs.declared.node.Node.{Node}
 use Rattle.room_rows.specs.Content.{has_folder_above, is_root}
 use Rattle.room_rows.specs.Rows.{Rows, numbers_of}
-use Rattle.room_inherit.specs.declared.report.Report.{Report}
-use Rattle.room_inherit.specs.declared.report.Report.TheVariants.{Sound, Fault}
-use Rattle.room_inherit.specs.declared.report.Unsound.TheVariants.{Loop, BadList, BrokenLaw, BadRoot, BadParent, BadName, BadBody}
+use Rattle.room_rows.specs.declared.report.Report.{Report}
+use Rattle.room_rows.specs.declared.report.Report.TheVariants.{Sound, Fault}
+use Rattle.room_rows.specs.declared.report.Unsound.TheVariants.{Loop, BadList, BrokenLaw, BadRoot, BadParent, BadName, BadBody}
 use Rattle.room_inherit.specs.Kept.{kept_report_of, stores_kept_alone}
 use Rattle.room_inherit.specs.Laws.{CheckedIsTree, HasNoFault, KeptIsNoFault, SoundIsNoFault}
-use Rattle.room_inherit.specs.Sound.{AreSound, AreSoundKept, bad_root, fault_of, first_bad_list, first_failing, first_fault, has_bad_list, has_sound_body, has_sound_name, keeps_law, numbered, or_else, or_sound, reaches, true_path}
+use Rattle.room_rows.specs.Sound.{AreSound, AreSoundKept, bad_root, fault_of, first_bad_list, first_failing, first_fault, has_bad_list, has_sound_body, has_sound_name, keeps_law, numbered, or_else, or_sound, reaches, true_path}
 
 -- ---- a test that finds nothing, passed by all
 

@@ -10,7 +10,7 @@ use Rattle.room_rows.specs.Content.{Content, node_at, parent_of, has_parent, chi
 use Rattle.room_rows.specs.Finding.{find_id}
 use Rattle.room_rows.specs.Held.{held_of, is_linked}
 use Rattle.room_rows.specs.Keep.{with_inh}
-use Rattle.room_inherit.specs.Pass.{pass}
+use Rattle.room_rows.specs.Pass.{pass}
 use Rattle.room_inherit.specs.Spread.{with_lists, is_changed, is_linked_within, IsLinkedBelow}
 use Rattle.room_inherit.specs.Turn.{is_linked_to, is_outdated, passed_to, renewed, renewals, renewed_below, is_met_again, meets_again}
 use Rattle.room_inherit.proofs.Kinship.{same_id}

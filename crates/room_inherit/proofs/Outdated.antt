@@ -16,7 +16,7 @@ use Rattle.room_rows.specs.declared.node.Node.{Node}
 use Rattle.room_rows.specs.Content.{Content, node_at, parent_of, has_parent, children_of, with_each}
 use Rattle.room_rows.specs.Held.{held_of, full_of, is_linked}
 use Rattle.room_rows.specs.Keep.{with_inh}
-use Rattle.room_inherit.specs.Pass.{pass}
+use Rattle.room_rows.specs.Pass.{pass}
 use Rattle.room_inherit.specs.Spread.{with_lists, is_changed}
 use Rattle.room_inherit.specs.Turn.{is_linked_to, is_outdated, renewed, renewals, renewed_below}
 use Rattle.room_inherit.proofs.Kinship.{same_kind, with_last}

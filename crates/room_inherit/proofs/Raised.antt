@@ -23,10 +23,10 @@ use Rattle.room_rows.specs.Paths.{is_object_name}
 use Rattle.room_rows.specs.Rows.{AreRows, Rows, is_unreadable, numbers_of, put_numbers}
 use Rattle.room_rows.proofs.Frames.{KeepsPlaces, node_at-with_each, numbers-with_each}
 use Rattle.room_rows.proofs.Lookups.{IsSamePlace, filter-changed}
-use Rattle.room_inherit.specs.Law.{AllAgree, agrees, agrees_with}
+use Rattle.room_rows.specs.Law.{AllAgree, agrees, agrees_with}
 use Rattle.room_inherit.specs.Laws.{are_valid, RaisedIsSound, RaisedMeansTheSame}
-use Rattle.room_inherit.specs.Pass.{pass, passed_flags, ended, carried, waiting}
-use Rattle.room_inherit.specs.Sound.{AreSound, bad_root, first_fault, has_bad_list, has_sound_body, has_sound_lists, has_sound_name, is_sound_held, reaches, same_place}
+use Rattle.room_rows.specs.Pass.{pass, passed_flags, ended, carried, waiting}
+use Rattle.room_rows.specs.Sound.{AreSound, bad_root, first_fault, has_bad_list, has_sound_body, has_sound_lists, has_sound_name, is_sound_held, reaches, same_place}
 use Rattle.room_inherit.specs.Spread.{is_changed}
 use Rattle.room_inherit.specs.SpreadAll.{IsSpreadAll, with_both}
 use Rattle.room_inherit.proofs.Children.{apart_rising, each_there, found_id}

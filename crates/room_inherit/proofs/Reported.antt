@@ -6,14 +6,14 @@ use Rattle.room_rows.specs.declared.node.Node.{Node}
 use Rattle.room_rows.specs.Content.{Content, has_folder_above, is_root, node_at, parent_of, reaches_root}
 use Rattle.room_rows.specs.Paths.{path_text}
 use Rattle.room_rows.specs.Rows.{Rows}
-use Rattle.room_inherit.specs.declared.report.Report.{Report}
-use Rattle.room_inherit.specs.declared.report.Report.TheVariants.{Sound, Fault}
-use Rattle.room_inherit.specs.declared.report.Unsound.TheVariants.{Loop, BadList, BrokenLaw, BadRoot, BadParent, BadName, BadBody}
+use Rattle.room_rows.specs.declared.report.Report.{Report}
+use Rattle.room_rows.specs.declared.report.Report.TheVariants.{Sound, Fault}
+use Rattle.room_rows.specs.declared.report.Unsound.TheVariants.{Loop, BadList, BrokenLaw, BadRoot, BadParent, BadName, BadBody}
 use Rattle.room_inherit.specs.declared.verifying.Holding.{Holding}
 use Rattle.room_inherit.specs.declared.verifying.Holding.TheVariants.{Finished, Kept}
 use Rattle.room_inherit.specs.Kept.{is_lawful, report_by}
 use Rattle.room_inherit.specs.Objects.{only}
-use Rattle.room_inherit.specs.Sound.{bad_root, fault_of, first_bad_list, first_failing, has_sound_body, has_sound_name, names_up, numbered, or_else, or_sound, tree_fault, true_path}
+use Rattle.room_rows.specs.Sound.{bad_root, fault_of, first_bad_list, first_failing, has_sound_body, has_sound_name, names_up, numbered, or_else, or_sound, tree_fault, true_path}
 
 -- ---- the objects alone decide
 

@@ -12,7 +12,7 @@ use Rattle.room_rows.specs.Keep.{HasNoRoot, IsUnreadable, IsRead, IsRootOf, capp
 use Rattle.room_rows.specs.Rows.{Rows, AreRows, numbers_of, is_unreadable}
 use Rattle.room_rows.proofs.Frames.{numbers_of-reading}
 use Rattle.room_rows.proofs.Steps.{later_cause}
-use Rattle.room_inherit.specs.Law.{AllAgree}
+use Rattle.room_rows.specs.Law.{AllAgree}
 use Rattle.room_inherit.specs.Spread.{ChangedAgree, HasSpreadCause, with_lists, is_changed}
 use Rattle.room_inherit.specs.SpreadAll.{IsRoot, IsSwept, Sweeps, SweepsIf}
 use Rattle.room_inherit.specs.Turn.{IsVisit, MeetsAgain, next_of, is_outdated, renewed, renewals, brought_up}

@@ -11,7 +11,7 @@ use Rattle.room_rows.specs.Content.{Content, node_at, root_of, has_parent, is_li
 use Rattle.room_rows.specs.Held.{held_of, is_linked}
 use Rattle.room_rows.specs.HeldList.{Held}
 use Rattle.room_rows.specs.Finding.{find_id}
-use Rattle.room_inherit.specs.Law.{AllAgree}
+use Rattle.room_rows.specs.Law.{AllAgree}
 use Rattle.room_inherit.specs.Spread.{ChangedAgree, with_lists}
 use Rattle.room_inherit.specs.SpreadAll.{IsTree}
 use Rattle.room_inherit.proofs.Kinship.{with_own}

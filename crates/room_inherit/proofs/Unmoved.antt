@@ -9,7 +9,7 @@ use Rattle.room_rows.specs.declared.node.Node.{Node}
 use Rattle.room_rows.specs.Content.{Content, has_folder_above, is_folder, is_root, node_at, parent_of, reaches_root, with_each}
 use Rattle.room_rows.proofs.Frames.{KeepsPlaces, keeps_places, node_at-with_each, parent_of-with_each}
 use Rattle.room_rows.proofs.Lookups.{IsSamePlace}
-use Rattle.room_inherit.specs.Sound.{reaches}
+use Rattle.room_rows.specs.Sound.{reaches}
 
 pub all_map : (p q : Node → Bool) (g : Node → Node) → ((n : Node) → p (g n) ≡ q n) → (xs : List Node) → list_all p (map g xs) ≡ list_all q xs
 all_map p q g same [] = refl

@@ -7,7 +7,7 @@ use Rattle.std.proofs.lemmas.List.{reverse-append}
 use Rattle.room_rows.specs.declared.node.Node.{Node}
 use Rattle.room_rows.specs.Content.{Content, node_at, parent_of, reaches_root}
 use Rattle.room_inherit.specs.Objects.{AllLead, leads}
-use Rattle.room_inherit.specs.Sound.{names_up}
+use Rattle.room_rows.specs.Sound.{names_up}
 use Rattle.room_inherit.proofs.Enough.{enough_steps}
 use Rattle.room_inherit.proofs.Given.{numbers_equal}
 

@@ -10,7 +10,7 @@ use Rattle.room_rows.specs.declared.node.Node.{Node}
 use Rattle.room_rows.specs.Content.{node_at}
 use Rattle.room_rows.specs.Rows.{Rows, AreRows, is_unreadable, numbers_of, put_number, put_numbers}
 use Rattle.room_inherit.specs.Reading.{IsBadAt, IsFree}
-use Rattle.room_inherit.specs.Sound.{first_bad_list, has_bad_list}
+use Rattle.room_rows.specs.Sound.{first_bad_list, has_bad_list}
 use Rattle.room_inherit.proofs.Numbers.{ids_of, each_found}
 
 -- ---- numbers in use

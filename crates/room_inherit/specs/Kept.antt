@@ -4,10 +4,10 @@ use Rattle.room_ace.specs.declared.object.Which.TheVariants.{Dacl, Sacl}
 use Rattle.room_rows.specs.Content.{Content, keeps_none_linked}
 use Rattle.room_rows.specs.Rows.{Rows}
 use Rattle.room_rows.specs.declared.node.Node.{Node}
-use Rattle.room_inherit.specs.Sound.{fault_of, first_bad_list, first_failing, first_fault}
-use Rattle.room_inherit.specs.Sound.{keeps_law, or_else, or_sound, true_path}
-use Rattle.room_inherit.specs.declared.report.Report.{Report}
-use Rattle.room_inherit.specs.declared.report.Unsound.TheVariants.{BrokenLaw}
+use Rattle.room_rows.specs.Sound.{fault_of, first_bad_list, first_failing, first_fault}
+use Rattle.room_rows.specs.Sound.{keeps_law, or_else, or_sound, true_path}
+use Rattle.room_rows.specs.declared.report.Report.{Report}
+use Rattle.room_rows.specs.declared.report.Unsound.TheVariants.{BrokenLaw}
 use Rattle.room_inherit.specs.declared.verifying.Holding.{Holding}
 use Rattle.room_inherit.specs.declared.verifying.Holding.TheVariants.{Finished, Kept}
 

@@ -10,9 +10,9 @@ use Rattle.room_rows.specs.declared.node.Node.{Node}
 use Rattle.room_rows.specs.Content.{node_at}
 use Rattle.room_rows.specs.Keep.{HasCause, IfSeen}
 use Rattle.room_rows.specs.Rows.{Rows, is_unreadable}
-use Rattle.room_inherit.specs.declared.report.Report.{Report}
-use Rattle.room_inherit.specs.declared.report.Report.TheVariants.{Sound}
-use Rattle.room_inherit.specs.Sound.{first_bad_list, has_bad_list, has_sound_body, report_of}
+use Rattle.room_rows.specs.declared.report.Report.{Report}
+use Rattle.room_rows.specs.declared.report.Report.TheVariants.{Sound}
+use Rattle.room_rows.specs.Sound.{first_bad_list, has_bad_list, has_sound_body, report_of}
 
 -- the number isn't in use
 abbrev pub IsFree : ℕ → Rows → ℕ → Type 0

@@ -13,7 +13,7 @@ use Rattle.room_rows.specs.Content.{with_each}
 use Rattle.room_rows.specs.Held.{held_of}
 use Rattle.room_rows.specs.Keep.{HasCause, IsUnreadable, capped, reading, with_inh}
 use Rattle.room_rows.specs.Rows.{Rows}
-use Rattle.room_inherit.specs.Law.{AllAgree, AllAgreeBut, agrees}
+use Rattle.room_rows.specs.Law.{AllAgree, AllAgreeBut, agrees}
 use Rattle.room_inherit.specs.declared.outcome.Spread.{Spread}
 use Rattle.room_inherit.specs.declared.outcome.SpreadFault.{SpreadFault}
 use Rattle.room_inherit.specs.declared.outcome.SpreadFault.TheVariants.{Keeper, Loop}

@@ -11,8 +11,8 @@ use Rattle.room_rows.specs.Content.{Content, node_at, root_of, is_linked_in, is_
 use Rattle.room_rows.specs.Content.{with_each}
 use Rattle.room_rows.specs.Keep.{HasNoRoot, capped, reading, with_inh}
 use Rattle.room_rows.specs.Rows.{Rows}
-use Rattle.room_inherit.specs.Law.{AllAgree}
-use Rattle.room_inherit.specs.Sound.{first_fault}
+use Rattle.room_rows.specs.Law.{AllAgree}
+use Rattle.room_rows.specs.Sound.{first_fault}
 use Rattle.room_inherit.specs.Spread.{CarriesIf, ChangedAgree, HasSpreadCause, is_changed}
 use Rattle.room_inherit.specs.Spread.{with_lists}
 use Rattle.room_inherit.specs.declared.outcome.Spread.{Spread}

@@ -14,7 +14,7 @@ use Rattle.room_rows.specs.HeldList.{Held}
 use Rattle.room_rows.specs.Held.{held_of, full_of, is_linked}
 use Rattle.room_rows.specs.Keep.{reading, with_inh}
 use Rattle.room_rows.specs.Rows.{Rows}
-use Rattle.room_inherit.specs.Pass.{pass}
+use Rattle.room_rows.specs.Pass.{pass}
 use Rattle.room_inherit.specs.Spread.{Carries, CarriesIf}
 use Rattle.room_inherit.specs.declared.descent.Descent.{Descent}
 use Rattle.room_inherit.specs.declared.descent.Reach.{Reach}

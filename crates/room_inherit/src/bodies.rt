@@ -3,7 +3,7 @@ ghost use Rattle.std.specs.Prelude.{◌≡◌, List, ℕ, Option};
 ghost use Rattle.room_rows.specs.Calls.{Reads};
 ghost use Rattle.room_rows.specs.Keep.{IsNever};
 ghost use Rattle.room_inherit.specs.Reading.{IsBadBody};
-ghost use Rattle.room_inherit.specs.Sound.{fits_kind};
+ghost use Rattle.room_rows.specs.Sound.{fits_kind};
 
 use crate::objects::Objects;
 use room_ace::ObjKind;

@@ -6,7 +6,7 @@ ghost use Rattle.room_rows.specs.Held.{held_of};
 ghost use Rattle.room_inherit.specs.Turn.{is_linked_to};
 ghost use Rattle.room_inherit.specs.Kept.{stores_kept_alone};
 ghost use Rattle.room_inherit.specs.Objects.{only};
-ghost use Rattle.room_inherit.specs.Sound.{first_failing};
+ghost use Rattle.room_rows.specs.Sound.{first_failing};
 
 use crate::inheriting::takes_from;
 use crate::objects::Objects;

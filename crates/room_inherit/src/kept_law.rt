@@ -1,9 +1,9 @@
 //! Whether the stored inherited entries are those that the parents pass.
 ghost use Rattle.std.specs.Prelude.{◌≡◌, IfOk};
 ghost use Rattle.std.specs.Option.{option_copied};
-ghost use Rattle.room_inherit.specs.Law.{agrees_with};
+ghost use Rattle.room_rows.specs.Law.{agrees_with};
 ghost use Rattle.room_inherit.specs.Objects.{only};
-ghost use Rattle.room_inherit.specs.Sound.{first_failing, keeps_law};
+ghost use Rattle.room_rows.specs.Sound.{first_failing, keeps_law};
 
 use crate::inheriting::{stores, takes_from};
 use crate::objects::Objects;

@@ -4,7 +4,7 @@ ghost use Rattle.std.specs.BTreeSet.{contains};
 ghost use Rattle.std.specs.Option.{option_copied};
 ghost use Rattle.std.specs.Ordering.{nat_cmp};
 ghost use Rattle.room_inherit.specs.Objects.{AllLead, only};
-ghost use Rattle.room_inherit.specs.Sound.{first_failing, reaches};
+ghost use Rattle.room_rows.specs.Sound.{first_failing, reaches};
 
 use crate::objects::Objects;
 use room_rows::Node;

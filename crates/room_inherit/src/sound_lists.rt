@@ -2,7 +2,7 @@
 ghost use Rattle.std.specs.Prelude.{◌≡◌, is_none, not};
 ghost use Rattle.std.specs.List.{list_all};
 ghost use Rattle.room_ace.specs.Valid.{entry_fault};
-ghost use Rattle.room_inherit.specs.Sound.{has_sound_lists, is_sound_held};
+ghost use Rattle.room_rows.specs.Sound.{has_sound_lists, is_sound_held};
 
 use room_ace::{Entry, ObjKind, Which, valid};
 use room_rows::{Held, Node};

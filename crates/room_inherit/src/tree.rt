@@ -3,13 +3,13 @@ ghost use Rattle.std.specs.Prelude.{◌≡◌, IfOk, filter};
 ghost use Rattle.std.specs.Option.{option_copied, option_map};
 ghost use Rattle.room_rows.specs.Content.{has_folder_above, is_root};
 ghost use Rattle.room_inherit.specs.Objects.{only};
-ghost use Rattle.room_inherit.specs.Sound.{bad_root, fault_of, first_failing, has_sound_name};
-ghost use Rattle.room_inherit.specs.Sound.{numbered, or_else, tree_fault, true_path};
+ghost use Rattle.room_rows.specs.Sound.{bad_root, fault_of, first_failing, has_sound_name};
+ghost use Rattle.room_rows.specs.Sound.{numbered, or_else, tree_fault, true_path};
 
 use crate::objects::Objects;
-use crate::report::{Report, Unsound, fault_of_number};
+use crate::report::fault_of_number;
 use room_ace::ObjKind;
-use room_rows::{Node, is_object_name};
+use room_rows::{Node, Report, Unsound, is_object_name};
 use std::alloc::{AllocError, Global};
 use std::collections::BTreeSet;
 

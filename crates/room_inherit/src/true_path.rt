@@ -3,11 +3,10 @@ ghost use Rattle.std.specs.Prelude.{◌≡◌, ◌∷◌, ◌++◌, IfOk, OnOk, 
 ghost use Rattle.std.specs.List.{flat_map};
 ghost use Rattle.room_rows.specs.Paths.{path_text};
 ghost use Rattle.room_inherit.specs.Objects.{only};
-ghost use Rattle.room_inherit.specs.Sound.{names_up, true_path};
+ghost use Rattle.room_rows.specs.Sound.{names_up, true_path};
 
 use crate::objects::Objects;
-use crate::report::{Report, Unsound};
-use room_rows::{Node, Text};
+use room_rows::{Node, Report, Text, Unsound};
 use std::alloc::{AllocError, Global};
 
 impl Objects {

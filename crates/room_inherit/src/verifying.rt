@@ -6,13 +6,13 @@ ghost use Rattle.room_rows.specs.Keep.{IsNever};
 ghost use Rattle.room_inherit.specs.Kept.{IsKeptReport, IsReportBy, IsReportOf, is_lawful};
 ghost use Rattle.room_inherit.specs.Objects.{only};
 ghost use Rattle.room_inherit.specs.Reading.{IsReport, Looks};
-ghost use Rattle.room_inherit.specs.Sound.{first_failing};
+ghost use Rattle.room_rows.specs.Sound.{first_failing};
 
 use crate::all_nodes::read_all;
 use crate::bodies::first_bad_body;
 use crate::objects::Objects;
-use crate::report::{Report, Unsound, fault_of_number};
-use room_rows::{Keep, KeepFault, Node};
+use crate::report::fault_of_number;
+use room_rows::{Keep, KeepFault, Node, Report, Unsound};
 use std::alloc::{AllocError, Global};
 
 /// Which inherited entries the rows are to hold.

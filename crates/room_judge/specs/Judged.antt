@@ -21,7 +21,7 @@ use Rattle.room_rows.specs.Content.{child_of, is_folder, root_of, with_records}
 use Rattle.room_rows.specs.Keep.{HasCause, IsUnreadable, reading}
 use Rattle.room_rows.specs.Meaning.{meaning}
 use Rattle.room_rows.specs.Rows.{Rows}
-use Rattle.room_inherit.specs.Sound.{AreSound}
+use Rattle.room_rows.specs.Sound.{AreSound}
 use Rattle.room_judge.specs.declared.arrival.Arrival.{Arrival}
 use Rattle.room_judge.specs.declared.arrival.Arrival.TheVariants.{At, Ended}
 use Rattle.room_judge.specs.declared.arrival.Found.{Found}

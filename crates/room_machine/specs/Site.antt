@@ -7,7 +7,7 @@ use Rattle.room_rows.specs.declared.node.Node.{Node}
 use Rattle.room_rows.specs.Held.{held_of}
 use Rattle.room_rows.specs.Content.{Content}
 use Rattle.room_rows.specs.Walk.{walk_of}
-use Rattle.room_inherit.specs.Full.{inherited_below}
+use Rattle.room_rows.specs.Full.{inherited_below}
 
 -- an object, the path to it, and the inherited entries of its lists
 pub record Site : Type 0 where

@@ -12,3 +12,8 @@ pub mod Counts
 pub mod Finding
 pub mod Calls
 pub mod Laws
+pub mod Pass
+pub mod Full
+pub mod Law
+pub mod Sound
+pub mod Codes

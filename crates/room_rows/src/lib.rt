@@ -1,4 +1,4 @@
-//! Objects of the tree, the paths to them, and the contract of what keeps them.
+//! Objects of the tree, the paths to them, the contract of what keeps them, and what is wrong with it.
 #![tactic(auto)]
 
 mod chain;
@@ -10,6 +10,7 @@ pub mod laws;
 mod listing;
 mod node;
 mod path;
+mod report;
 mod text;
 
 pub use chain::walk;
@@ -20,4 +21,5 @@ pub use keep::{Keep, KeepFault};
 pub use listing::Listing;
 pub use node::{AuditRow, NewNode, Node, Nodes, Numbers, RecordKind, Walk};
 pub use path::{Path, is_object_name, read_path};
+pub use report::{Report, Unsound};
 pub use text::{Bytes, Text};

@@ -5,8 +5,8 @@ use Rattle.sqlite.specs.Effect.{Database}
 use Rattle.sqlite.specs.declared.error.Error.{Error}
 use Rattle.sqlite.specs.State.{State, HasCleanDisk}
 use Rattle.room_rows.specs.declared.keep.KeepFault.{KeepFault}
-use Rattle.room_inherit.specs.declared.report.Report.TheVariants.{Fault, Sound}
-use Rattle.room_inherit.specs.declared.report.Unsound as unsound
+use Rattle.room_rows.specs.declared.report.Report.TheVariants.{Fault, Sound}
+use Rattle.room_rows.specs.declared.report.Unsound as unsound
 use Rattle.room_tables.specs.Meaning.{rows_of}
 use Rattle.room_tables.specs.RoomRows.{room_rows}
 use Rattle.room_tables.specs.Shown.{IsRoom, Stays}

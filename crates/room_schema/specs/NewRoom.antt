@@ -8,7 +8,7 @@ use Rattle.room_ace.specs.declared.entry.EntryKind.TheVariants.{Allow}
 use Rattle.room_ace.specs.declared.entry.Who.TheVariants.{Owner}
 use Rattle.room_ace.specs.declared.object.ObjKind.TheVariants.{Folder}
 use Rattle.room_ace.specs.declared.parties.Owners.{Owners}
-use Rattle.room_inherit.specs.Sound.{AreSound}
+use Rattle.room_rows.specs.Sound.{AreSound}
 use Rattle.room_rows.specs.HeldList.{Held}
 use Rattle.room_rows.specs.declared.node.Node.{Node}
 use Rattle.room_rows.specs.Rows.{Rows}

@@ -17,10 +17,10 @@ use Rattle.room_rows.specs.Rows.{AreRows, Rows}
 use Rattle.room_rows.specs.declared.keep.Keep.{Ghosts}
 use Rattle.room_rows.specs.declared.keep.KeepFault.{KeepFault}
 use Rattle.room_inherit.specs.Kept.{kept_report_of}
-use Rattle.room_inherit.specs.Sound.{AreSound, AreSoundKept}
+use Rattle.room_rows.specs.Sound.{AreSound, AreSoundKept}
 use Rattle.room_inherit.specs.SpreadAll.{IsSpreadAll}
-use Rattle.room_inherit.specs.declared.report.Report.{Report}
-use Rattle.room_inherit.specs.declared.report.Report.TheVariants.{Fault, Sound}
+use Rattle.room_rows.specs.declared.report.Report.{Report}
+use Rattle.room_rows.specs.declared.report.Report.TheVariants.{Fault, Sound}
 
 -- Rows that are sound for schema 1 become rows that are sound for schema 2 and mean the same, by
 -- carrying all lists down.

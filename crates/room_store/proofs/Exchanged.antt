@@ -8,7 +8,7 @@ use Rattle.room_rows.specs.Content.{Content, node_at, reaches_root, with_members
 use Rattle.room_rows.specs.Keep.{reading}
 use Rattle.room_rows.specs.Rows.{Rows}
 use Rattle.room_inherit.specs.Laws.{HasNoFault, SoundIsNoFault}
-use Rattle.room_inherit.specs.Sound.{AreSound, reaches}
+use Rattle.room_rows.specs.Sound.{AreSound, reaches}
 use Rattle.room_machine.specs.Run.{Replaced}
 use Rattle.room_operating.specs.Operating.{ReplacesMembers}
 use Rattle.room_store.proofs.Leading.{IsEvent}

@@ -5,7 +5,7 @@ use Rattle.sqlite.specs.State.{State, HasCleanDisk}
 use Rattle.room_rows.specs.Content.{Content}
 use Rattle.room_rows.specs.Meaning.{meaning}
 use Rattle.room_rows.specs.Rows.{Rows}
-use Rattle.room_inherit.specs.Sound.{AreSound}
+use Rattle.room_rows.specs.Sound.{AreSound}
 use Rattle.sqlite.specs.Effect.{Database}
 use Rattle.room_ace.specs.Sent.{Sent}
 use Rattle.room_ace.specs.declared.object.Which.{Which}

@@ -5,7 +5,7 @@ use Rattle.sqlite.specs.State.{State, HasCleanDisk}
 use Rattle.room_ace.specs.Bits.{all_bits}
 use Rattle.room_ace.specs.declared.parties.Owners.{Owners}
 use Rattle.room_rows.specs.Meaning.{meaning}
-use Rattle.room_inherit.specs.Sound.{AreSound}
+use Rattle.room_rows.specs.Sound.{AreSound}
 use Rattle.room_tables.specs.Meaning.{rows_of}
 use Rattle.room_tables.specs.Shown.{HasTables, tables_of}
 use Rattle.room_schema.specs.Making.{Founds}

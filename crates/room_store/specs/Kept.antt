@@ -3,7 +3,7 @@ use Rattle.std.specs.Prelude.{◌≡◌, IsTrue}
 use Rattle.sqlite.specs.State.{State}
 use Rattle.room_rows.specs.Content.{Content}
 use Rattle.room_rows.specs.Meaning.{meaning}
-use Rattle.room_inherit.specs.Sound.{AreSound}
+use Rattle.room_rows.specs.Sound.{AreSound}
 use Rattle.room_tables.specs.Meaning.{rows_of}
 use Rattle.room_tables.specs.Shown.{HasTables}
 

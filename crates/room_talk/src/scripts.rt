@@ -2,9 +2,9 @@
 //! the connection ends. In each `|` stands for CRLF, and `~` for LF.
 use crate::going_on::play;
 use crate::pieces::Sink;
-use room_desk::MemDesk;
 use room_http::{Ended, ServeFault, serve};
 use room_machine::Desk;
+use room_memory::MemDesk;
 use room_message::Routes;
 use room_player::open_keep;
 use std::alloc::{AllocError, Global};

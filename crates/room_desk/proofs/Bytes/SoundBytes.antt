@@ -13,7 +13,7 @@ use Rattle.room_rows.specs.Keep.{reading}
 use Rattle.room_rows.specs.Rows.{Rows, AreRows}
 use Rattle.room_rows.proofs.Frames.{body_of-with_body, body_of-with_body-other}
 use Rattle.room_rows.proofs.Lookups.{each_found}
-use Rattle.room_inherit.specs.Sound.{AreSound, fits_kind, has_sound_body, reaches}
+use Rattle.room_rows.specs.Sound.{AreSound, fits_kind, has_sound_body, reaches}
 use Rattle.room_desk.proofs.Sound.SoundParts.{sound_parts, parts_sound, find_same}
 
 -- what passes one test passes another

@@ -6,7 +6,7 @@ use Rattle.std.proofs.lemmas.Bool.{cases_Bool, false≢true, true≢false, eqb-t
 use Rattle.room_rows.specs.declared.node.Node.{Node}
 use Rattle.room_rows.specs.Content.{Content, body_in, children_of, has_parent, is_before, is_empty, put_by_name, sorted_by_name}
 use Rattle.room_rows.specs.Finding.{find_id}
-use Rattle.room_inherit.specs.Sound.{has_sound_lists}
+use Rattle.room_rows.specs.Sound.{has_sound_lists}
 
 -- ---- objects without children
 

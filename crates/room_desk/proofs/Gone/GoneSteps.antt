@@ -10,7 +10,7 @@ use Rattle.room_rows.specs.Keep.{CanRemove, Removes, reading}
 use Rattle.room_rows.specs.Meaning.{kept_node, meaning}
 use Rattle.room_rows.specs.Rows.{Rows, AreRows}
 use Rattle.room_rows.proofs.Frames.{children_of-with_each, keeps_places}
-use Rattle.room_inherit.specs.Sound.{AreSound}
+use Rattle.room_rows.specs.Sound.{AreSound}
 use Rattle.room_judge.specs.declared.arrival.Found.{Found}
 use Rattle.room_judge.specs.declared.arrival.Pair.TheVariants.{Both, Halted}
 use Rattle.room_judge.specs.declared.asker.Asker.{Asker}

@@ -17,8 +17,8 @@ use Rattle.room_rows.specs.Meaning.{kept_held, kept_node, meaning}
 use Rattle.room_rows.specs.Rows.{Rows, put_numbers}
 use Rattle.room_rows.proofs.Frames.{Rises, node_at-without_node-other, has_its_parent}
 use Rattle.room_rows.proofs.Lookups.{each-kept, each-weaker, each_found, find-kept, find-kept_none, stands-each, stands-found}
-use Rattle.room_inherit.specs.Law.{agrees_with}
-use Rattle.room_inherit.specs.Sound.{AreSound, bad_root, first_failing, fits_kind, has_sound_lists, has_sound_name, has_sound_body, keeps_law, reaches, same_place}
+use Rattle.room_rows.specs.Law.{agrees_with}
+use Rattle.room_rows.specs.Sound.{AreSound, bad_root, first_failing, fits_kind, has_sound_lists, has_sound_name, has_sound_body, keeps_law, reaches, same_place}
 use Rattle.room_inherit.proofs.Enough.{enough_steps}
 use Rattle.room_inherit.proofs.Members.{none_filter}
 use Rattle.room_desk.proofs.Gone.Childless.{bad_at, body_kept, by_objects, chosen_kept, each_both, map_kept, of_objects, still_pass}

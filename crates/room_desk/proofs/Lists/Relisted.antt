@@ -15,8 +15,8 @@ use Rattle.room_rows.specs.Keep.{reading}
 use Rattle.room_rows.specs.Meaning.{kept_held, kept_node}
 use Rattle.room_rows.specs.Rows.{Rows, is_unreadable, numbers_of}
 use Rattle.room_rows.proofs.Frames.{KeepsPlaces, keeps_places, place-with_held, node_at-with_each, node_at-number, parent_of-with_each, numbers_of-reading, numbers-with_each}
-use Rattle.room_inherit.specs.Law.{AllAgree, agrees, agrees_with}
-use Rattle.room_inherit.specs.Sound.{AreSound, bad_root, has_bad_list, has_sound_body, has_sound_lists, has_sound_name, is_sound_held, keeps_law, reaches}
+use Rattle.room_rows.specs.Law.{AllAgree, agrees, agrees_with}
+use Rattle.room_rows.specs.Sound.{AreSound, bad_root, has_bad_list, has_sound_body, has_sound_lists, has_sound_name, is_sound_held, keeps_law, reaches}
 use Rattle.room_inherit.proofs.NoFault.{no_fault, sound}
 
 -- ---- tests of lists that were changed
@@ -176,7 +176,7 @@ module _ (which : Which) (lists : Node → Held) where
             ∙ ap (λ s. nat_lt x.id node.id && (Rattle.room_rows.specs.Content.same_parent x.parent node.parent && Rattle.room_ace.specs.Pieces.same_text s node.name)) (name_kept x)
 
     body_kept : (node : Node) → has_sound_body relisted (relist node) ≡ has_sound_body rows node
-    body_kept node = ap (λ k. Rattle.room_inherit.specs.Sound.fits_kind k (Rattle.room_rows.specs.Content.body_of rows (relist node).id)) (kind_kept node) ∙ ap (λ n. Rattle.room_inherit.specs.Sound.fits_kind node.kind (Rattle.room_rows.specs.Content.body_of rows n)) (number_kept node)
+    body_kept node = ap (λ k. Rattle.room_rows.specs.Sound.fits_kind k (Rattle.room_rows.specs.Content.body_of rows (relist node).id)) (kind_kept node) ∙ ap (λ n. Rattle.room_rows.specs.Sound.fits_kind node.kind (Rattle.room_rows.specs.Content.body_of rows n)) (number_kept node)
 
     -- each object has a folder above it
     pub folders_kept : list_all (has_folder_above rows) rows.nodes ≡ true → list_all (has_folder_above relisted) relisted.nodes ≡ true
@@ -190,7 +190,7 @@ module _ (which : Which) (lists : Node → Held) where
         ∙ ap (λ k. agreed (held_of (other which) node) (held_of (other which) above) k) (kind_kept node)
       where
         agreed : Held → Held → Rattle.room_ace.specs.declared.object.ObjKind.ObjKind → Bool
-        agreed held up kind = not (is_linked held (Some up)) || Rattle.room_ace.specs.Same.same_entries held.inh (Rattle.room_inherit.specs.Pass.pass kind (Rattle.room_rows.specs.Held.full_of up))
+        agreed held up kind = not (is_linked held (Some up)) || Rattle.room_ace.specs.Same.same_entries held.inh (Rattle.room_rows.specs.Pass.pass kind (Rattle.room_rows.specs.Held.full_of up))
 
     other_agrees : (node : Node) → agrees relisted (other which) (relist node) ≡ agrees rows (other which) node
     other_agrees node = ap (λ o. option_map_or (agrees_with (other which) (relist node)) o true) (parent_relisted node) ∙ on (parent_of rows node)

@@ -16,8 +16,8 @@ use Rattle.room_rows.specs.Keep.{with_inh}
 use Rattle.room_rows.specs.Rows.{Rows, is_unreadable, put_numbers}
 use Rattle.room_rows.proofs.Frames.{Rises, node_at-number, place-with_held, with_each-with_each, with_node-replaces}
 use Rattle.room_rows.proofs.Lookups.{each_found, replaced, same_some}
-use Rattle.room_inherit.specs.Law.{AllAgree}
-use Rattle.room_inherit.specs.Sound.{AreSound, has_bad_list, has_sound_lists, is_sound_held, reaches}
+use Rattle.room_rows.specs.Law.{AllAgree}
+use Rattle.room_rows.specs.Sound.{AreSound, has_bad_list, has_sound_lists, is_sound_held, reaches}
 use Rattle.room_inherit.specs.Spread.{with_lists}
 use Rattle.room_inherit.proofs.NoFault.{no_fault}
 use Rattle.room_desk.proofs.Lists.Relisted.{relist, relisted, found_relisted, held_relisted, kind_kept, number_kept, linked_relisted, folders_kept, reach_kept, one_list, relisted_sound}

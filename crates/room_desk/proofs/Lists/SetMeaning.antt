@@ -15,7 +15,7 @@ use Rattle.room_rows.specs.Held.{held_of, full_of, with_held, is_linked}
 use Rattle.room_rows.specs.Meaning.{kept_held, kept_node, meaning}
 use Rattle.room_rows.proofs.Frames.{Rises, keeps_places, node_at-number, node_at-with_each, parent_is, place-with_held, rises-with_each, with_each-with_each, with_node-replaces}
 use Rattle.room_rows.proofs.Lookups.{IsSamePlace, replaced}
-use Rattle.room_inherit.specs.Pass.{pass}
+use Rattle.room_rows.specs.Pass.{pass}
 use Rattle.room_machine.specs.Effect.{kept_by_child, sent_held, set_list}
 use Rattle.room_desk.specs.Setting.{kept_site, stored_held}
 use Rattle.room_machine.specs.Site.{full_at}

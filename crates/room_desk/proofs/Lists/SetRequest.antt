@@ -16,7 +16,7 @@ use Rattle.room_rows.specs.Meaning.{meaning}
 use Rattle.room_rows.specs.declared.node.AuditRow.{AuditRow}
 use Rattle.room_machine.specs.Judge.{records_of_plan}
 use Rattle.room_rows.specs.Rows.{Rows, AreRows}
-use Rattle.room_inherit.specs.Sound.{AreSound}
+use Rattle.room_rows.specs.Sound.{AreSound}
 use Rattle.room_judge.specs.declared.arrival.Arrival.TheVariants.{At, Ended}
 use Rattle.room_judge.specs.declared.asker.Asker.{Asker}
 use Rattle.room_machine.specs.declared.reply.Reason.TheVariants.{BadList}

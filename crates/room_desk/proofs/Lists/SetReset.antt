@@ -15,7 +15,7 @@ use Rattle.room_rows.specs.Meaning.{meaning}
 use Rattle.room_rows.specs.Rows.{Rows, AreRows}
 use Rattle.room_rows.specs.Walk.{walk_of, walk_from}
 use Rattle.room_rows.proofs.Frames.{child_of-is_there, child_of-parent, root_of-is_there}
-use Rattle.room_inherit.specs.Sound.{AreSound}
+use Rattle.room_rows.specs.Sound.{AreSound}
 use Rattle.room_inherit.proofs.NoFault.{no_fault}
 use Rattle.room_machine.specs.declared.reply.Reply.{Reply}
 use Rattle.room_machine.specs.declared.reply.Reply.TheVariants.{Done, Refused}

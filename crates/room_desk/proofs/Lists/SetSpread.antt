@@ -16,8 +16,8 @@ use Rattle.room_rows.specs.Finding.{find_id}
 use Rattle.room_rows.specs.Held.{held_of, full_of, is_linked}
 use Rattle.room_rows.proofs.Frames.{Rises}
 use Rattle.room_rows.proofs.Lookups.{each_found}
-use Rattle.room_inherit.specs.Law.{AllAgree, AllAgreeBut, agrees, agrees_with}
-use Rattle.room_inherit.specs.Pass.{pass}
+use Rattle.room_rows.specs.Law.{AllAgree, AllAgreeBut, agrees, agrees_with}
+use Rattle.room_rows.specs.Pass.{pass}
 use Rattle.room_inherit.specs.Spread.{IsLinkedBelow, is_changed, is_linked_within, is_within}
 use Rattle.room_inherit.proofs.Rooted.{rooted_no_loop}
 use Rattle.room_desk.specs.Setting.{stored_held}

@@ -18,10 +18,10 @@ use Rattle.room_rows.specs.Content.{Content, node_at, parent_of, has_parent, is_
 use Rattle.room_rows.specs.Held.{held_of, full_of, is_linked}
 use Rattle.room_rows.specs.Keep.{reading}
 use Rattle.room_rows.specs.Rows.{Rows, AreRows}
-use Rattle.room_inherit.specs.Law.{AllAgree, agrees}
+use Rattle.room_rows.specs.Law.{AllAgree, agrees}
 use Rattle.room_inherit.specs.Laws.{are_valid}
-use Rattle.room_inherit.specs.Pass.{pass}
-use Rattle.room_inherit.specs.Sound.{AreSound, keeps_law, reaches}
+use Rattle.room_rows.specs.Pass.{pass}
+use Rattle.room_rows.specs.Sound.{AreSound, keeps_law, reaches}
 use Rattle.room_inherit.specs.Spread.{IsSpread, with_lists}
 use Rattle.room_inherit.proofs.Kinship.{with_own}
 use Rattle.room_inherit.proofs.NoFault.{no_fault}

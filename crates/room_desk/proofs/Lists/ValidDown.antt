@@ -16,10 +16,10 @@ use Rattle.room_rows.specs.declared.node.Node.{Node}
 use Rattle.room_rows.specs.Content.{Content, node_at, parent_of, is_folder, has_folder_above, reaches_root, is_linked_in}
 use Rattle.room_rows.specs.Held.{held_of, full_of, is_linked}
 use Rattle.room_rows.proofs.Frames.{node_at-number}
-use Rattle.room_inherit.specs.Law.{AllAgree, agrees, agrees_with}
+use Rattle.room_rows.specs.Law.{AllAgree, agrees, agrees_with}
 use Rattle.room_inherit.specs.Laws.{are_valid}
-use Rattle.room_inherit.specs.Pass.{pass, passed_flags, ended, carried, waiting}
-use Rattle.room_inherit.specs.Sound.{is_sound_held}
+use Rattle.room_rows.specs.Pass.{pass, passed_flags, ended, carried, waiting}
+use Rattle.room_rows.specs.Sound.{is_sound_held}
 use Rattle.room_inherit.proofs.Valid.{pass_is_valid}
 use Rattle.room_desk.proofs.Sound.SoundParts.{or_true}
 

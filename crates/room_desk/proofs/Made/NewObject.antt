@@ -25,8 +25,8 @@ use Rattle.room_rows.specs.Rows.{Rows, AreRows, numbers_of, put_numbers}
 use Rattle.room_rows.proofs.Frames.{body_of-with_body, body_of-with_body-other}
 use Rattle.room_rows.proofs.Lookups.{not_none}
 use Rattle.room_inherit.specs.Laws.{are_valid}
-use Rattle.room_inherit.specs.Pass.{pass}
-use Rattle.room_inherit.specs.Sound.{AreSound, fits_kind, has_sound_lists, is_sound_held}
+use Rattle.room_rows.specs.Pass.{pass}
+use Rattle.room_rows.specs.Sound.{AreSound, fits_kind, has_sound_lists, is_sound_held}
 use Rattle.room_inherit.proofs.Children.{ids_of, each_there, apart_rising}
 use Rattle.room_inherit.proofs.Renewing.{map_agree}
 use Rattle.room_inherit.proofs.Valid.{pass_is_valid}

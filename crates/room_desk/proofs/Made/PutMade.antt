@@ -13,7 +13,7 @@ use Rattle.room_rows.specs.Content.{node_at, child_of, is_folder, is_root, with_
 use Rattle.room_rows.specs.Keep.{SetsBody, reading}
 use Rattle.room_rows.specs.Meaning.{meaning}
 use Rattle.room_rows.specs.Rows.{Rows, AreRows}
-use Rattle.room_inherit.specs.Sound.{AreSound, bad_root}
+use Rattle.room_rows.specs.Sound.{AreSound, bad_root}
 use Rattle.room_judge.specs.declared.arrival.Found.{Found}
 use Rattle.room_judge.specs.declared.arrival.Spot.TheVariants.{Under, Barred}
 use Rattle.room_judge.specs.declared.asker.Asker.{Asker}

@@ -15,9 +15,9 @@ use Rattle.room_rows.specs.Keep.{reading}
 use Rattle.room_rows.specs.Paths.{is_object_name}
 use Rattle.room_rows.specs.Rows.{Rows, AreRows, put_numbers}
 use Rattle.room_rows.proofs.Frames.{has_its_parent}
-use Rattle.room_inherit.specs.Law.{agrees_with}
+use Rattle.room_rows.specs.Law.{agrees_with}
 use Rattle.room_inherit.specs.Laws.{HasNoFault}
-use Rattle.room_inherit.specs.Sound.{AreSound, bad_root, fits_kind, has_sound_body, has_sound_lists, has_sound_name, keeps_law, reaches, same_place}
+use Rattle.room_rows.specs.Sound.{AreSound, bad_root, fits_kind, has_sound_body, has_sound_lists, has_sound_name, keeps_law, reaches, same_place}
 use Rattle.room_inherit.proofs.Children.{ids_of, each_found}
 use Rattle.room_inherit.proofs.Ends.{each_all}
 use Rattle.room_inherit.proofs.Members.{Each, each_fails, any_none}

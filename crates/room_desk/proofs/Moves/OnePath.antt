@@ -12,7 +12,7 @@ use Rattle.room_ace.proofs.RoundTrip.{same_text-true}
 use Rattle.room_rows.specs.declared.node.Node.{Node}
 use Rattle.room_rows.specs.Content.{Content, child_of, node_at, root_of}
 use Rattle.room_rows.proofs.Frames.{Rises, child_of-is_there, child_of-name, child_of-parent, root_of-is_there, root_of-parent}
-use Rattle.room_inherit.specs.Sound.{names_up}
+use Rattle.room_rows.specs.Sound.{names_up}
 use Rattle.room_machine.specs.Site.{Site, site_at}
 use Rattle.room_judge.specs.Stored.{stored_site, stored_from, stored_along}
 use Rattle.room_desk.specs.Moving.{begins}

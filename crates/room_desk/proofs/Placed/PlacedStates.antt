@@ -14,10 +14,10 @@ use Rattle.room_rows.specs.Keep.{Places, reading, with_inh, with_place}
 use Rattle.room_rows.specs.Rows.{Rows}
 use Rattle.room_rows.proofs.Frames.{with_each-with_each}
 use Rattle.room_rows.proofs.Lookups.{put-replaces, replaced, replaced_here, replaced_elsewhere}
-use Rattle.room_inherit.specs.Law.{agrees, agrees_with, AllAgree}
-use Rattle.room_inherit.specs.Pass.{pass}
+use Rattle.room_rows.specs.Law.{agrees, agrees_with, AllAgree}
+use Rattle.room_rows.specs.Pass.{pass}
 use Rattle.room_ace.specs.Same.{same_entries}
-use Rattle.room_inherit.specs.Sound.{keeps_law}
+use Rattle.room_rows.specs.Sound.{keeps_law}
 use Rattle.room_inherit.specs.Spread.{with_lists}
 use Rattle.room_inherit.proofs.Children.{each_found, each_there}
 use Rattle.room_inherit.proofs.Ends.{each_all}

@@ -19,7 +19,7 @@ use Rattle.room_rows.specs.Keep.{reading}
 use Rattle.room_rows.specs.Paths.{is_object_name}
 use Rattle.room_rows.specs.Rows.{Rows, AreRows, numbers_of, put_numbers}
 use Rattle.room_inherit.specs.Laws.{HasNoFault}
-use Rattle.room_inherit.specs.Sound.{fits_kind, has_bad_list, has_sound_body, has_sound_lists, has_sound_name, is_sound_held, reaches, same_place}
+use Rattle.room_rows.specs.Sound.{fits_kind, has_bad_list, has_sound_body, has_sound_lists, has_sound_name, is_sound_held, reaches, same_place}
 use Rattle.room_inherit.proofs.Children.{each_found, each_there}
 use Rattle.room_inherit.proofs.Enough.{enough_steps}
 use Rattle.room_inherit.proofs.Members.{Each, any_map, any_none, each_fails}

@@ -9,7 +9,7 @@ use Rattle.room_rows.specs.Held.{held_of, full_of, is_linked}
 use Rattle.room_rows.specs.Keep.{Changes, IsUnreadable, Places, reading, with_inh, with_place}
 use Rattle.room_rows.specs.Rows.{Rows}
 use Rattle.room_rows.proofs.Frames.{place-with_inh}
-use Rattle.room_inherit.specs.Pass.{pass}
+use Rattle.room_rows.specs.Pass.{pass}
 use Rattle.room_machine.specs.declared.reply.Reply.TheVariants.{Done}
 use Rattle.room_desk.specs.Carrying.{HasLoop, IsCarriedDown, IsRooted}
 use Rattle.room_desk.specs.Moving.{CanGo, CanPlace, CanRenew, FailsToPlace, FailsToRenew, IsRenewed, KeepsRoot, PlacesAt, Renews, TakesPassed}

@@ -16,8 +16,8 @@ use Rattle.room_rows.specs.Keep.{Changes, reading, with_inh}
 use Rattle.room_rows.specs.Rows.{Rows}
 use Rattle.room_rows.proofs.Frames.{node_at-number, held_of-with_inh, place-with_inh, with_node-replaces}
 use Rattle.room_rows.proofs.Lookups.{replaced, replaced_here, replaced_elsewhere}
-use Rattle.room_inherit.specs.Law.{agrees, agrees_with, AllAgreeBut}
-use Rattle.room_inherit.specs.Pass.{pass}
+use Rattle.room_rows.specs.Law.{agrees, agrees_with, AllAgreeBut}
+use Rattle.room_rows.specs.Pass.{pass}
 use Rattle.room_inherit.specs.Spread.{IsLinkedBelow, IsSpread, is_changed, is_linked_within}
 use Rattle.room_inherit.proofs.Children.{each_there}
 use Rattle.room_inherit.proofs.Ends.{own_lists, with_own_lists}

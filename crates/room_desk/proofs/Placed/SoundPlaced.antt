@@ -15,8 +15,8 @@ use Rattle.room_rows.specs.Held.{held_of, is_linked}
 use Rattle.room_rows.specs.Keep.{with_place}
 use Rattle.room_rows.specs.Rows.{Rows}
 use Rattle.room_rows.proofs.Frames.{node_at-number}
-use Rattle.room_inherit.specs.Law.{agrees, AllAgree}
-use Rattle.room_inherit.specs.Sound.{AreSound, bad_root, has_sound_lists, is_sound_held, keeps_law, reaches}
+use Rattle.room_rows.specs.Law.{agrees, AllAgree}
+use Rattle.room_rows.specs.Sound.{AreSound, bad_root, has_sound_lists, is_sound_held, keeps_law, reaches}
 use Rattle.room_inherit.proofs.Children.{each_found, each_there}
 use Rattle.room_inherit.proofs.Ends.{each_all}
 use Rattle.room_inherit.proofs.Members.{all_each, each_weaker}

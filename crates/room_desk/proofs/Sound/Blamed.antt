@@ -9,7 +9,7 @@ use Rattle.room_rows.specs.declared.node.AuditRow.{AuditRow}
 use Rattle.room_rows.specs.Content.{body_of, node_at}
 use Rattle.room_rows.specs.Keep.{HasNoRoot, IsDamaged, IsUnreadable}
 use Rattle.room_rows.specs.Rows.{Rows}
-use Rattle.room_inherit.specs.Sound.{AreSound, has_sound_body}
+use Rattle.room_rows.specs.Sound.{AreSound, has_sound_body}
 use Rattle.room_judge.specs.Judged.{noted}
 use Rattle.room_desk.proofs.Sound.SoundParts.{passes_test, rootless_unsound, sound_parts}
 

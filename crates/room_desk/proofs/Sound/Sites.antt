@@ -16,9 +16,9 @@ use Rattle.room_rows.specs.Meaning.{kept_held, kept_node, meaning}
 use Rattle.room_rows.specs.Rows.{Rows, AreRows}
 use Rattle.room_rows.specs.Walk.{walk_from, behind}
 use Rattle.room_rows.proofs.Frames.{Rises, KeepsPlaces, keeps_places, root_of-with_each, child_of-with_each, root_of-is_there, root_of-parent, child_of-is_there, child_of-parent, child_of-name}
-use Rattle.room_inherit.specs.Pass.{pass}
-use Rattle.room_inherit.specs.Law.{agrees_with, agrees}
-use Rattle.room_inherit.specs.Sound.{keeps_law}
+use Rattle.room_rows.specs.Pass.{pass}
+use Rattle.room_rows.specs.Law.{agrees_with, agrees}
+use Rattle.room_rows.specs.Sound.{keeps_law}
 use Rattle.room_machine.specs.Site.{Site, full_at, root_site, site_below, sites_below, sites_of, sites_along}
 use Rattle.room_judge.specs.Stored.{stored_site, stored_from, stored_along}
 use Rattle.room_desk.proofs.Sound.SoundParts.{SoundParts, or_true, passes_test}

@@ -10,10 +10,10 @@ use Rattle.room_rows.specs.declared.node.Node.{Node}
 use Rattle.room_rows.specs.Content.{Content, node_at, is_root, has_folder_above, reaches_root, with_records}
 use Rattle.room_rows.specs.Keep.{HasNoRoot, IsUnreadable}
 use Rattle.room_rows.specs.Rows.{Rows, is_unreadable, numbers_of, put_number, put_numbers}
-use Rattle.room_inherit.specs.declared.report.Report.{Report}
-use Rattle.room_inherit.specs.declared.report.Report.TheVariants.{Sound, Fault}
-use Rattle.room_inherit.specs.declared.report.Unsound.TheVariants.{BadList, BadRoot, BadParent, Loop, BadName, BadBody, BrokenLaw}
-use Rattle.room_inherit.specs.Sound.{AreSound, or_else, or_sound, numbered, true_path, fault_of, first_bad_list, has_bad_list, bad_root, first_failing, reaches, has_sound_name, has_sound_body, keeps_law}
+use Rattle.room_rows.specs.declared.report.Report.{Report}
+use Rattle.room_rows.specs.declared.report.Report.TheVariants.{Sound, Fault}
+use Rattle.room_rows.specs.declared.report.Unsound.TheVariants.{BadList, BadRoot, BadParent, Loop, BadName, BadBody, BrokenLaw}
+use Rattle.room_rows.specs.Sound.{AreSound, or_else, or_sound, numbered, true_path, fault_of, first_bad_list, has_bad_list, bad_root, first_failing, reaches, has_sound_name, has_sound_body, keeps_law}
 use Rattle.room_judge.specs.Judged.{NotSound, noted}
 
 -- No test finds a fault.
@@ -40,11 +40,11 @@ flat None None (Some r) d e f g = refl
 flat None (Some r) c d e f g = refl
 flat (Some r) b c d e f g = refl
 
-passed : {X : Type 0} (path : X → List ℕ) (why : Rattle.room_inherit.specs.declared.report.Unsound.Unsound) (o : Option X) (rest : Option Report) → or_sound (or_else (option_map (λ x. Fault (path x) why) o) rest) ≡ Sound → (o ≡ None) × (or_sound rest ≡ Sound)
+passed : {X : Type 0} (path : X → List ℕ) (why : Rattle.room_rows.specs.declared.report.Unsound.Unsound) (o : Option X) (rest : Option Report) → or_sound (or_else (option_map (λ x. Fault (path x) why) o) rest) ≡ Sound → (o ≡ None) × (or_sound rest ≡ Sound)
 passed path why None rest is = (refl, is)
 passed path why (Some x) rest is = absurd (let wrong : ⊥ = cc in wrong)
 
-last_passed : {X : Type 0} (path : X → List ℕ) (why : Rattle.room_inherit.specs.declared.report.Unsound.Unsound) (o : Option X) → or_sound (option_map (λ x. Fault (path x) why) o) ≡ Sound → o ≡ None
+last_passed : {X : Type 0} (path : X → List ℕ) (why : Rattle.room_rows.specs.declared.report.Unsound.Unsound) (o : Option X) → or_sound (option_map (λ x. Fault (path x) why) o) ≡ Sound → o ≡ None
 last_passed path why None is = refl
 last_passed path why (Some x) is = absurd (let wrong : ⊥ = cc in wrong)
 
@@ -55,10 +55,10 @@ module _ (rows : Rows) where
   abbrev root_fault : Option ℕ → Option Report
   root_fault o = option_map (λ id. Fault (numbered id) BadRoot) o
 
-  abbrev by_number : Rattle.room_inherit.specs.declared.report.Unsound.Unsound → Option Node → Option Report
+  abbrev by_number : Rattle.room_rows.specs.declared.report.Unsound.Unsound → Option Node → Option Report
   by_number why o = fault_of (λ node. numbered node.id) why o
 
-  abbrev by_path : Rattle.room_inherit.specs.declared.report.Unsound.Unsound → Option Node → Option Report
+  abbrev by_path : Rattle.room_rows.specs.declared.report.Unsound.Unsound → Option Node → Option Report
   by_path why o = fault_of (true_path rows.read) why o
 
   pub sound_parts : AreSound rows → SoundParts rows

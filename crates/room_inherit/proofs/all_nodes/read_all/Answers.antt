@@ -8,7 +8,7 @@ use Rattle.room_rows.specs.Content.{node_at}
 use Rattle.room_rows.specs.Keep.{IsRead}
 use Rattle.room_rows.proofs.Steps.{handed_on, seen, read_on, answered, no_memory}
 use Rattle.room_inherit.specs.Reading.{AreAll, IsFirstBad}
-use Rattle.room_inherit.specs.Sound.{has_bad_list}
+use Rattle.room_rows.specs.Sound.{has_bad_list}
 use Rattle.room_inherit.proofs.Blaming.{blames_less}
 use Rattle.room_inherit.proofs.Whole.{bad_at, one_more_node, sound_here, whole}
 use Rattle.room_inherit.proofs.all_nodes.read_all.Goals as goal

@@ -4,7 +4,7 @@ use Rattle.std.specs.BTreeSet.{contains}
 use Rattle.std.proofs.lemmas.Bool.{and_left, and_right, and_from}
 use Rattle.room_rows.specs.Paths.{is_object_name}
 use Rattle.room_inherit.specs.Objects.{only}
-use Rattle.room_inherit.specs.Sound.{has_sound_name}
+use Rattle.room_rows.specs.Sound.{has_sound_name}
 use Rattle.room_inherit.proofs.Given.{key_order, holds, one_more, name_test}
 use Rattle.room_inherit.proofs.Looking.{fails_here, passes_here}
 use Rattle.room_inherit.proofs.objects.Objects.first_bad_name.Goals as goal

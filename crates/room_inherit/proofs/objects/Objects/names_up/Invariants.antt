@@ -1,6 +1,6 @@
 use Rattle.std.proofs.Common.{◌≡◌, ◌-◌, ◌++◌, length, reverse}
 use Rattle.room_inherit.specs.Objects.{only}
-use Rattle.room_inherit.specs.Sound.{names_up}
+use Rattle.room_rows.specs.Sound.{names_up}
 use Rattle.room_inherit.proofs.objects.Objects.names_up.Given as goal
 
 -- the names that are left, and then those so far

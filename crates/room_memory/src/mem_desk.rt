@@ -2,10 +2,10 @@
 ghost use Rattle.std.specs.Prelude.{◌≡◌, IfOk, ⊤, refl};
 ghost use Rattle.std.specs.Option.{option_copied};
 ghost use Rattle.room_rows.specs.Keep.{one_more};
-ghost use Rattle.room_desk.specs.Memory.{content_in, IsSoundKeep, Tries};
+ghost use Rattle.room_memory.specs.Memory.{content_in, IsSoundKeep, Tries};
 
-use crate::performing::perform;
 use room_ace::Name;
+use room_desk::perform;
 use room_machine::{Desk, DeskFault, Reply, Request};
 use room_rows::KeepFault;
 use room_tree::MemKeep;

@@ -1,9 +1,9 @@
 -- The codes of what is wrong with rows (own).
 use Rattle.std.specs.Prelude.{ℕ, List, codes}
-use Rattle.room_inherit.specs.declared.report.Unsound.{Unsound}
-use Rattle.room_inherit.specs.declared.report.Unsound.TheVariants.{Loop, BadList, BrokenLaw}
-use Rattle.room_inherit.specs.declared.report.Unsound.TheVariants.{BadRoot, BadParent, BadName}
-use Rattle.room_inherit.specs.declared.report.Unsound.TheVariants.{BadBody}
+use Rattle.room_rows.specs.declared.report.Unsound.{Unsound}
+use Rattle.room_rows.specs.declared.report.Unsound.TheVariants.{Loop, BadList, BrokenLaw}
+use Rattle.room_rows.specs.declared.report.Unsound.TheVariants.{BadRoot, BadParent, BadName}
+use Rattle.room_rows.specs.declared.report.Unsound.TheVariants.{BadBody}
 
 abbrev pub unsound_text : Unsound → List ℕ
 unsound_text Loop = codes "V1 loop"

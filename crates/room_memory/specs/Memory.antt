@@ -5,7 +5,7 @@ use Rattle.room_rows.specs.Meaning.{meaning}
 use Rattle.room_tree.specs.Memory.{rows_in}
 use Rattle.room_rows.specs.Rows.{AreRows}
 use Rattle.room_tree.specs.declared.memory.MemKeep.{MemKeep}
-use Rattle.room_inherit.specs.Sound.{AreSound}
+use Rattle.room_rows.specs.Sound.{AreSound}
 use Rattle.room_machine.specs.declared.reply.Reply.{Reply}
 use Rattle.room_machine.specs.declared.request.Request.{Request}
 use Rattle.room_machine.specs.Step.{Step}
