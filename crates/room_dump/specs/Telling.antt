@@ -1,6 +1,5 @@
 -- What the functions behind a dump promise one another.
 use Rattle.std.specs.Prelude.{◌≡◌, ℕ, ◌⊎◌, List, [], ◌∷◌, ◌++◌, length, Some, None, IsTrue}
-use Rattle.std.specs.Option.{option_map_or}
 use Rattle.room_ace.specs.Valid.{is_document}
 use Rattle.room_rows.specs.declared.node.Node.{Node}
 use Rattle.room_rows.specs.Content.{body_of, children_of, root_of}
@@ -15,9 +14,10 @@ use Rattle.room_dump.specs.Waiting.{waiting_children, waiting_root}
 abbrev pub LacksBytesAt : ℕ → Rows → ℕ → Type 0
 LacksBytesAt id rows at = (at ≡ id) × (body_of rows.read id ≡ None)
 
--- the number of the bytes
+-- there are bytes, and so many
 abbrev pub IsLength : ℕ → Rows → ℕ → Type 0
-IsLength id rows size = size ≡ option_map_or length (body_of rows.read id) 0
+IsLength id rows size =
+    (bytes : List ℕ) × (body_of rows.read id ≡ Some bytes) × (size ≡ length bytes)
 
 -- a row that can't be read, or the object is a document without bytes
 abbrev pub IsUntellable : Node → Rows → ℕ → Type 0

@@ -1,12 +1,12 @@
 -- A look at the schema's number, in a transaction that is given up.
-use Rattle.std.proofs.Common.{◌≡◌, ◌≤◌, pos, Result, IsTrue, IsErrAnd, sym, ap, subst, ◌∙◌, false, arith}
+use Rattle.std.proofs.Common.{◌≡◌, ◌≤◌, pos, Result, IsTrue, IsErrAnd, OnOk, sym, ap, subst, ◌∙◌, false, arith}
 use Rattle.sqlite_trees.specs.View.{doubt}
 use Rattle.sqlite.specs.Effect.{Database}
 use Rattle.sqlite.specs.State.{State, HasCleanDisk, IsRolledBack}
 use Rattle.sqlite.specs.Schema.{Schema}
 use Rattle.room_tables.specs.Tables.{no_schema, room_schema}
 use Rattle.room_schema.specs.NewRoom.{meta_of}
-use Rattle.room_schema.specs.Opening.{Adopts, Expects, IsRefusal, Says}
+use Rattle.room_schema.specs.Opening.{Adopts, Expects, IsRefusal, Says, Tells}
 use Rattle.room_schema.specs.Within.{IsWithin}
 use Rattle.room_schema.specs.declared.fault.OpenFault.{OpenFault}
 use Rattle.room_schema.proofs.Founded.{Begins}
@@ -19,8 +19,8 @@ module _ (old begun mid end : State) (begins : Begins old begun) (ended : end.in
     open_first : HasCleanDisk end → IsTrue end.is_open → IsTrue old.is_open
     open_first now open' = sym begins.same_open ∙ within.was_open (clean_mid now) ((back now).was_open open')
 
-    adopts : (r : Result (Unit {0}) OpenFault) → (HasCleanDisk end → old.now.schema ≡ room_schema → Says (pos 2) (meta_of old.now) r) → (HasCleanDisk end → old.now.schema ≡ no_schema → IsErrAnd r IsRefusal) → Adopts old end r
-    adopts r told empty = record {
+    adopts : (r : Result (Unit {0}) OpenFault) → (HasCleanDisk end → old.now.schema ≡ room_schema → Says (pos 2) (meta_of old.now) r) → (HasCleanDisk end → old.now.schema ≡ no_schema → IsErrAnd r IsRefusal) → (HasCleanDisk end → Tells (pos 2) begun.now r × OnOk r (IsTrue begun.is_open)) → Adopts old end r
+    adopts r told empty shown = record {
       ended = ended;
       clean = let same : doubt begun.is_clean ≡ doubt old.is_clean = ap doubt begins.same_clean in omega (arith, same, within.clean, clean);
       was_open = open_first;
@@ -28,6 +28,8 @@ module _ (old begun mid end : State) (begins : Begins old begun) (ended : end.in
           let undone = (back now).undone open' in
           let same = within.committed (clean_mid now) ((back now).was_open open') ∙ begins.committed in
           (undone.0 ∙ same ∙ sym (begins.settled (open_first now open')), undone.1 ∙ same);
+      answers = λ now. subst (λ b. OnOk r (IsTrue b)) begins.same_open (shown now).1;
+      shown = λ now. subst (λ d. Tells (pos 2) d r) begins.now (shown now).0;
       told = told;
       empty = empty;
     }
@@ -39,4 +41,4 @@ module _ (old begun mid end : State) (begins : Begins old begun) (ended : end.in
   adopted r expects =
       let within = expects.within begins.mode in
       adopts within r (λ now has. subst (λ v. Says (pos 2) v r) (ap meta_of begins.now) (expects.told (clean_mid within now) (schema_begun has)).0)
-      (λ now has. expects.empty (clean_mid within now) (schema_begun has))
+      (λ now has. expects.empty (clean_mid within now) (schema_begun has)) (λ now. expects.shown (clean_mid within now))

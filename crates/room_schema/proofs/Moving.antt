@@ -1,5 +1,5 @@
 -- The steps of raising a room, one after the other.
-use Rattle.std.proofs.Common.{◌≡◌, ◌≤◌, ℕ, pos, Some, Result, Ok, Err, IfOk, IsTrue, refl, sym, ap, subst, subst₂, ◌∙◌, false, arith}
+use Rattle.std.proofs.Common.{◌≡◌, ◌≤◌, ℕ, pos, Some, Result, Ok, Err, IfOk, IsErrAnd, IsTrue, inl, inr, ◌⊎◌, refl, sym, ap, subst, subst₂, ◌∙◌, false, arith}
 use Rattle.sqlite_trees.specs.View.{doubt}
 use Rattle.sqlite.specs.Effect.{Database}
 use Rattle.sqlite.specs.declared.error.Error.{Error}
@@ -8,13 +8,14 @@ use Rattle.room_rows.specs.declared.keep.KeepFault.{KeepFault}
 use Rattle.room_rows.specs.declared.report.Report.TheVariants.{Fault, Sound}
 use Rattle.room_rows.specs.declared.report.Unsound as unsound
 use Rattle.room_tables.specs.Meaning.{rows_of}
+use Rattle.room_tables.specs.Tables.{no_schema}
 use Rattle.room_tables.specs.RoomRows.{room_rows}
 use Rattle.room_tables.specs.Shown.{IsRoom, Stays}
 use Rattle.room_tables.specs.Trust.{IsTrusted}
 use Rattle.room_schema.specs.NewRoom.{meta_of}
-use Rattle.room_schema.specs.Opening.{Expects, IsFailure, Says}
+use Rattle.room_schema.specs.Opening.{Expects, IsFailure, Says, ShowsVersion}
 use Rattle.room_inherit.specs.Kept.{kept_report_of}
-use Rattle.room_schema.specs.Raising.{AreRaised, IsInside, IsRaised, Leads, SpreadIsRaised, Stamps}
+use Rattle.room_schema.specs.Raising.{AreRaised, IsInside, IsNoRoom, IsRaised, Leads, SpreadIsRaised, Stamps}
 use Rattle.room_schema.specs.Within.{IsWithin}
 use Rattle.room_schema.specs.declared.fault.MigrateFault.{MigrateFault}
 use Rattle.room_schema.specs.declared.fault.MigrateFault.TheVariants.{Opening, Unsound}
@@ -69,16 +70,29 @@ by_failure db (NewVersion n) it = absurd it
 by_failure db Db it = tt
 by_failure db Memory it = tt
 
-inside_by : (a b : State) (r : Result (Unit {0}) MigrateFault) → Moves a b → (HasCleanDisk b → IsTrue b.is_open → IsRoom a.committed → IsRoom a.now → Leads a.now b.now r) → IsInside a b r
-inside_by a b r moves leads = record { clean = moves.clean; was_open = moves.was_open; committed = moves.committed; settled = moves.settled; leads = leads }
+inside_by : (a b : State) (r : Result (Unit {0}) MigrateFault) → Moves a b → (HasCleanDisk b → IsTrue b.is_open → IsRoom a.committed → IsRoom a.now → Leads a.now b.now r)
+    → (HasCleanDisk b → ShowsVersion (Some (pos 1)) a.now ⊎ (IsWithin a b × IsErrAnd r (λ _. Unit {0}))) → (HasCleanDisk b → a.now.schema ≡ no_schema → IsErrAnd r IsNoRoom) → IsInside a b r
+inside_by a b r moves leads foreign empty = record { clean = moves.clean; was_open = moves.was_open; committed = moves.committed; settled = moves.settled; leads = leads; foreign = foreign; empty = empty }
 
 module _ (begun : State) (inside : IsTrue begun.in_transaction) where
   -- the schema's number is another
   pub other_number : (mid : State) (fault : OpenFault) → Expects (pos 1) begun mid (Err fault) → IsInside begun mid (Err (Opening fault))
   other_number mid fault expects =
       inside_by begun mid (Err (Opening fault)) (by_within begun mid (expects.within inside)) (λ now open' one two. (expects.told now two.schema).0)
+      (λ _. inr (expects.within inside, tt)) (λ now has. expects.empty now has)
 
   module _ (asked : State) (expects : Expects (pos 1) begun asked (Ok tt)) where
+    -- the database answered 1
+    known : (mid : State) (r : Result (Unit {0}) MigrateFault) → doubt asked.is_clean ≤ doubt mid.is_clean → HasCleanDisk mid → ShowsVersion (Some (pos 1)) begun.now ⊎ (IsWithin begun mid × IsErrAnd r (λ _. Unit {0}))
+    known mid r up now = inl (expects.shown (clean_before asked mid up now)).0
+
+    not_empty : (mid : State) (r : Result (Unit {0}) MigrateFault) → doubt asked.is_clean ≤ doubt mid.is_clean → HasCleanDisk mid → begun.now.schema ≡ no_schema → IsErrAnd r IsNoRoom
+    not_empty mid r up now has = absurd (expects.empty (clean_before asked mid up now) has)
+
+    by_steps : (mid : State) (r : Result (Unit {0}) MigrateFault) → doubt asked.is_clean ≤ doubt mid.is_clean → Moves begun mid
+        → (HasCleanDisk mid → IsTrue mid.is_open → IsRoom begun.committed → IsRoom begun.now → Leads begun.now mid.now r) → IsInside begun mid r
+    by_steps mid r up moves leads = inside_by begun mid r moves leads (known mid r up) (not_empty mid r up)
+
     first : Moves begun asked
     first = by_within begun asked (expects.within inside)
 
@@ -107,13 +121,13 @@ module _ (begun : State) (inside : IsTrue begun.in_transaction) where
 
       -- the keeper fails
       pub not_raised : (fault : OpenFault) → IsFailure fault → IsInside begun raised (Err (Opening fault))
-      not_raised fault failure = inside_by begun raised (Err (Opening fault)) second (λ now open' one two. by_failure begun.now fault failure)
+      not_raised fault failure = by_steps raised (Err (Opening fault)) stays.clean second (λ now open' one two. by_failure begun.now fault failure)
 
       -- the rows aren't sound
       pub not_sound : (path : _) (why : unsound.Unsound)
           → (IsTrusted asked raised → IfOk {E = KeepFault} (Ok (Fault path why)) (λ report. IsRaised (rows_of asked.now) report (rows_of raised.now)))
           → IsInside begun raised (Err (Unsound path why))
-      not_sound path why becomes = inside_by begun raised (Err (Unsound path why)) second (λ now open' one two.
+      not_sound path why becomes = by_steps raised (Err (Unsound path why)) stays.clean second (λ now open' one two.
           let told = expects.told (back now) two.schema in
           (told.0, sym (subst (λ d. Fault path why ≡ kept_report_of (rows_of d)) told.1 (becomes (trusted now open' one two)).0)))
 
@@ -121,7 +135,7 @@ module _ (begun : State) (inside : IsTrue begun.in_transaction) where
         -- the number can't be written
         pub not_stamped : (e : Error) (fault : OpenFault) → Stamps raised stamped (Err e) → IsFailure fault → IsInside begun stamped (Err (Opening fault))
         not_stamped e fault stamps failure =
-            inside_by begun stamped (Err (Opening fault)) (moves_on begun raised stamped second second_room (by_within raised stamped stamps.within)) (λ now open' one two. by_failure begun.now fault failure)
+            by_steps stamped (Err (Opening fault)) (omega (arith, stays.clean, stamps.within.clean)) (moves_on begun raised stamped second second_room (by_within raised stamped stamps.within)) (λ now open' one two. by_failure begun.now fault failure)
 
         module _ (count : ℕ) (stamps : Stamps raised stamped (Ok count)) where
           third : Moves begun stamped
@@ -149,10 +163,10 @@ module _ (begun : State) (inside : IsTrue begun.in_transaction) where
 
             -- another number is read
             pub not_read : IsInside begun end (Err (Opening Db))
-            not_read = inside_by begun end (Err (Opening Db)) all (λ _ _ _ _. tt)
+            not_read = by_steps end (Err (Opening Db)) (omega (arith, stays.clean, stamps.within.clean, again.clean)) all (λ _ _ _ _. tt)
 
           pub all_done : SpreadIsRaised → (end : State) → Expects (pos 2) stamped end (Ok tt) → IsInside begun end (Ok tt)
-          all_done raised_so end again = inside_by begun end (Ok tt) (all end (Ok tt) again) leads
+          all_done raised_so end again = by_steps end (Ok tt) (omega (arith, stays.clean, stamps.within.clean, again.clean)) (all end (Ok tt) again) leads
             where
               leads : HasCleanDisk end → IsTrue end.is_open → IsRoom begun.committed → IsRoom begun.now → Leads begun.now end.now (Ok tt)
               leads now open' one two =

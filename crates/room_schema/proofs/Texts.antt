@@ -19,6 +19,7 @@ use Rattle.sqlite.specs.Schema.{Schema}
 use Rattle.sqlite.specs.Table.{Table}
 use Rattle.sqlite.proofs.Callers.{IsPlain, command_of, statement_of}
 use Rattle.room_tables.specs.Tables.{nodes, bodies, members, meta, audits, counters, no_schema, after_nodes, after_bodies, after_members, after_meta, after_audits, room_schema}
+use Rattle.room_schema.specs.Opening.{number_text}
 
 abbrev pub nodes_text : List ℕ
 nodes_text = codes "CREATE TABLE nodes (id INTEGER PRIMARY KEY NOT NULL, parent INTEGER REFERENCES nodes ON DELETE RESTRICT ON UPDATE RESTRICT, name TEXT NOT NULL, kind INTEGER NOT NULL, owner TEXT NOT NULL, grp TEXT NOT NULL, dacl_flags INTEGER NOT NULL, sacl_flags INTEGER NOT NULL, dacl_own TEXT NOT NULL, dacl_inh TEXT NOT NULL, sacl_own TEXT NOT NULL, sacl_inh TEXT NOT NULL, UNIQUE (parent, name)) STRICT"
@@ -103,9 +104,6 @@ folder_plain = (refl, refl)
 
 -- ---- the schema's number
 
-abbrev pub asked_text : List ℕ
-asked_text = codes "SELECT value FROM meta WHERE key = 'rooms'"
-
 abbrev pub query_of : ℕ → List Term → List Term → List (Term × Key) → Query
 query_of tree filter project order = record {
   from = inner tree end;
@@ -125,16 +123,16 @@ is_rooms = op2 (Compare Eq Binary) (col 1 1) (lit (Text (codes "rooms")))
 abbrev pub asks_value : Command
 asks_value = Select (record { lets = []; body = query_of 5 (is_rooms ∷ []) (col 1 2 ∷ []) [] }) (codes "value" ∷ [])
 
-pub asked_is : (command_of (understood room_schema asked_text) ≡ asks_value) × (reads_listing room_schema asked_text ≡ false)
+pub asked_is : (command_of (understood room_schema number_text) ≡ asks_value) × (reads_listing room_schema number_text ≡ false)
 unfolding understood everything
 asked_is = (refl, refl)
 
-pub asked_plain : IsPlain (understood room_schema asked_text)
+pub asked_plain : IsPlain (understood room_schema number_text)
 unfolding understood everything
 asked_plain = (refl, refl)
 
 -- there is no such table in an empty database
-pub asked_nowhere : understood no_schema asked_text ≡ Err NoSuchTable
+pub asked_nowhere : understood no_schema number_text ≡ Err NoSuchTable
 unfolding understood everything listing_schema
 asked_nowhere = refl
 

@@ -1,16 +1,18 @@
 -- What the statements that make a room leave of a database.
 use Rattle.std.specs.Prelude.{◌≡◌, ◌≤◌, ℕ, List, [], ◌∷◌, Result, Err, OnOk, OnErr, IsTrue, false}
-use Rattle.std.specs.Prelude.{Some, pos}
+use Rattle.std.specs.Prelude.{Some, pos, if◌then◌else◌}
 use Rattle.std.specs.List.{AllByRecursion}
 use Rattle.sqlite.specs.Schema.{Schema}
 use Rattle.sqlite.specs.Effect.{Database}
 use Rattle.sqlite.specs.State.{State, HasCleanDisk}
+use Rattle.sqlite.specs.declared.error.Error.{Error}
 use Rattle.sqlite_trees.specs.View.{doubt}
 use Rattle.room_schema.specs.Within.{IsWithin}
+use Rattle.room_tables.specs.Seeing.{wants_memory}
 use Rattle.room_tables.specs.Tables.{no_schema, room_schema}
 use Rattle.room_schema.specs.NewRoom.{IsNewRoom, meta_of}
 use Rattle.room_schema.specs.declared.fault.CreateFault.{CreateFault}
-use Rattle.room_schema.specs.declared.fault.CreateFault.TheVariants.{Db}
+use Rattle.room_schema.specs.declared.fault.CreateFault.TheVariants.{Memory, Db}
 use Rattle.room_ace.specs.declared.parties.Owners.{Owners}
 
 -- the tables are these, and those of these trees have no row
@@ -29,6 +31,10 @@ pub record IsBare (db : Database) : Type 0 where
   pub has : db.schema ≡ room_schema
   pub empty : AllByRecursion (λ tree. db.trees tree ≡ []) (0 ∷ 2 ∷ 3 ∷ 7 ∷ [])
   pub version : meta_of db ≡ Some (pos 2)
+
+-- what a failing statement or commit is called
+abbrev pub create_fault_of : Error → CreateFault
+create_fault_of why = if wants_memory why then Memory else Db
 
 -- What making a room is.
 pub record Founds (owners : Owners) (old new : State)

@@ -1,14 +1,15 @@
 -- What raising the rows of schema 1 is.
 use Rattle.std.specs.Prelude.{◌≡◌, ◌≤◌, ℕ, pos, true, false, Some, Result, Ok, Err}
-use Rattle.std.specs.Prelude.{IfOk, OnOk, OnErr, IsTrue}
+use Rattle.std.specs.Prelude.{IfOk, IsErrAnd, OnOk, OnErr, IsTrue, ◌⊎◌}
 use Rattle.sqlite_trees.specs.View.{doubt}
 use Rattle.sqlite.specs.Effect.{Database}
 use Rattle.sqlite.specs.State.{State, HasCleanDisk}
 use Rattle.sqlite.specs.declared.error.Error.{Error}
 use Rattle.room_tables.specs.Meaning.{rows_of}
 use Rattle.room_tables.specs.Shown.{HasTables, IsRoom}
+use Rattle.room_tables.specs.Tables.{no_schema}
 use Rattle.room_schema.specs.NewRoom.{meta_of}
-use Rattle.room_schema.specs.Opening.{Says}
+use Rattle.room_schema.specs.Opening.{IsRefusal, Says, ShowsVersion}
 use Rattle.room_schema.specs.Within.{IsWithin}
 use Rattle.room_schema.specs.declared.fault.MigrateFault.{MigrateFault}
 use Rattle.room_schema.specs.declared.fault.MigrateFault.TheVariants.{Opening, Unsound}
@@ -73,7 +74,12 @@ Leads old new (Err (Opening fault)) = Says (pos 1) (meta_of old) (Err fault)
 Leads old new (Err (Unsound path why)) =
     (meta_of old ≡ Some (pos 1)) × (kept_report_of (rows_of old) ≡ Fault path why)
 
--- The steps of raising a room, inside a transaction over a room's tables.
+-- there is no room, or the database failed, or memory
+abbrev pub IsNoRoom : MigrateFault → Type 0
+IsNoRoom (Opening fault) = IsRefusal fault
+IsNoRoom (Unsound path why) = ⊥
+
+-- The steps of raising a room, inside a transaction.
 pub record IsInside (old new : State) (result : Result (Unit {0}) MigrateFault) : Type 0 where
   pub clean : doubt old.is_clean ≤ doubt new.is_clean
   pub was_open : HasCleanDisk new → IsTrue new.is_open → IsTrue old.is_open
@@ -84,6 +90,10 @@ pub record IsInside (old new : State) (result : Result (Unit {0}) MigrateFault) 
       → new.now ≡ new.committed
   pub leads : HasCleanDisk new → IsTrue new.is_open → IsRoom old.committed → IsRoom old.now
       → Leads old.now new.now result
+  -- where the database doesn't answer 1, it is a fault, and nothing is committed
+  pub foreign : HasCleanDisk new
+      → ShowsVersion (Some (pos 1)) old.now ⊎ (IsWithin old new × IsErrAnd result (λ _. Unit {0}))
+  pub empty : HasCleanDisk new → old.now.schema ≡ no_schema → IsErrAnd result IsNoRoom
 
 -- What raising a room is.
 pub record Migrates (old new : State) (result : Result (Unit {0}) MigrateFault) : Type 0 where
@@ -93,6 +103,13 @@ pub record Migrates (old new : State) (result : Result (Unit {0}) MigrateFault) 
   pub leads : HasCleanDisk new → IsTrue new.is_open → HasTables old.now
       → Leads old.now new.now result
   pub committed : HasCleanDisk new → OnOk result (new.committed ≡ new.now)
+  -- a connection that is shut gives no answer
+  pub answers : HasCleanDisk new → OnOk result (IsTrue old.is_open × IsTrue new.is_open)
+  -- a file over which the database itself doesn't answer 1 is not changed
+  pub foreign : HasCleanDisk new → IsTrue new.is_open → ¬ (ShowsVersion (Some (pos 1)) old.now)
+      → (new.now ≡ old.now) × (new.committed ≡ old.committed)
+  -- an empty database is no room
+  pub empty : HasCleanDisk new → old.now.schema ≡ no_schema → IsErrAnd result IsNoRoom
   -- after a fault the tables are as they were
   pub kept : HasCleanDisk new → IsTrue new.is_open → HasTables old.now
       → OnErr result ((new.now ≡ old.now) × (new.committed ≡ old.committed))

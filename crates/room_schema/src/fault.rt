@@ -1,4 +1,6 @@
 //! Why a room was not made, opened or raised.
+ghost use Rattle.std.specs.Prelude.{◌≡◌};
+ghost use Rattle.room_schema.specs.Making.{create_fault_of};
 ghost use Rattle.room_schema.specs.Opening.{IsCalled, IsFailure};
 
 use room_inherit::Unsound;
@@ -14,7 +16,9 @@ pub enum CreateFault {
     Db,
 }
 
-pub(crate) fn create_fault(error: &Error) -> CreateFault {
+pub(crate) fn create_fault(error: &Error) -> CreateFault
+    ensures { result ≡ create_fault_of error.now }
+{
     match error {
         Error::SqliteFailure(ErrorCode::OutOfMemory) => CreateFault::Memory,
         _ => CreateFault::Db,
