@@ -1,6 +1,6 @@
 # A room behind nginx, by contrib/nginx.conf: passwords, the caller's name, slow callers and large ones.
 
-nginx=$(command -v nginx || ls /usr/sbin/nginx 2>/dev/null)
+. "$here/front.sh"
 if [ -z "$nginx" ] || ! has curl; then
   skip 'behind nginx' 'nginx or curl is missing'
   return
@@ -9,30 +9,8 @@ fi
 open_room F
 set_list F / dacl list:a "A:fd:root:$ALL" A:fd:alice:rwxa A:fd:bob:rx
 start_server F 1000 || return
-front=$((port + 1))
-
-# The configuration as it stands, with other ports and another place for the passwords.
 printf 'root:{PLAIN}r\nalice:{PLAIN}a\nbob:{PLAIN}b\n' >passwords
-chmod 755 "$work" .
-chmod 644 passwords
-{
-  echo "daemon off; pid $PWD/nginx.pid; error_log $PWD/error.log; worker_processes 1;"
-  [ "$(id -u)" != 0 ] || echo 'user root;'
-  echo 'events { worker_connections 256; }'
-  echo "http { access_log off; client_body_temp_path $PWD/t1; proxy_temp_path $PWD/t2;"
-  echo "fastcgi_temp_path $PWD/t3; uwsgi_temp_path $PWD/t4; scgi_temp_path $PWD/t5;"
-  sed -e "s/listen 80;/listen 127.0.0.1:$front;/" -e "s/127.0.0.1:8780/127.0.0.1:$port/" \
-    -e "s|/etc/nginx/rooms.htpasswd|$PWD/passwords|" "$here/../contrib/nginx.conf"
-  echo '}'
-} >nginx.conf
-"$nginx" -p "$PWD" -c "$PWD/nginx.conf" >nginx.out 2>&1 &
-proxy=$!
-began=$SECONDS
-until [ -s nginx.pid ] || ! kill -0 "$proxy" 2>/dev/null || [ $((SECONDS - began)) -ge "$patience" ]; do sleep 0.02; done
-if ! kill -0 "$proxy" 2>/dev/null || ! [ -s nginx.pid ]; then
-  skip 'behind nginx' "it does not start: $(head -c 300 nginx.out error.log 2>/dev/null)"
-  return
-fi
+start_front 'behind nginx' || return
 
 # The status and the body of a request by a user with a password.
 ask() { # NAME STATUS BODY USER:PASSWORD TARGET ARGUMENT ..
