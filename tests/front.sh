@@ -3,7 +3,7 @@
 nginx=$(command -v nginx || ls /usr/sbin/nginx 2>/dev/null)
 
 # Starts nginx at the port $front, which is free if $port is. It asks for the passwords of ./passwords, serves the page
-# of contrib, and writes of each request its status, method, target and origin into ./access.log.
+# of contrib, and writes of each request its status, method, target, user and origin into ./access.log.
 start_front() { # NAME
   local began=$SECONDS
   front=$((port + 1))
@@ -13,7 +13,7 @@ start_front() { # NAME
     echo "daemon off; pid $PWD/nginx.pid; error_log $PWD/error.log; worker_processes 1;"
     [ "$(id -u)" != 0 ] || echo 'user root;'
     echo 'events { worker_connections 256; }'
-    echo "http { log_format short '\$status \$request_method \$request_uri \$http_origin';"
+    echo "http { log_format short '\$status \$request_method \$request_uri \$remote_user \$http_origin';"
     echo "access_log $PWD/access.log short; client_body_temp_path $PWD/t1; proxy_temp_path $PWD/t2;"
     echo "fastcgi_temp_path $PWD/t3; uwsgi_temp_path $PWD/t4; scgi_temp_path $PWD/t5;"
     sed -e "s/listen 80;/listen 127.0.0.1:$front;/" -e "s/127.0.0.1:8780/127.0.0.1:$port/" \
