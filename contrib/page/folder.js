@@ -63,11 +63,11 @@ async function doing(act, refresh) {
   }
 }
 
-function mainOf(child, path) {
+function mainOf(child, path, refresh) {
   const label = [icon(child.kind), nameText(child.name)];
   if (child.kind === 'folder') return element('a', { class: 'object', href: linkTo(path) }, label);
   return element('button', {
-    type: 'button', class: 'object', title: 'Download', onclick: () => doing(() => download(path)),
+    type: 'button', class: 'object', title: 'Download', onclick: () => doing(() => download(path), refresh),
   }, label);
 }
 
@@ -76,7 +76,7 @@ function row(child, folder, refresh) {
   const act = (words, does, look) => button(words,
     () => doing(does, refresh), { class: `small ${look}`, 'aria-label': `${words}: ${child.name}` });
   return element('tr', {},
-    element('td', { class: 'what' }, mainOf(child, path)),
+    element('td', { class: 'what' }, mainOf(child, path, refresh)),
     element('td', { class: 'kind' }, child.kind === 'folder' ? 'Folder' : 'Document'),
     element('td', { class: 'acts' },
       child.kind === 'document' ? act('Download', () => download(path), 'plain') : null,

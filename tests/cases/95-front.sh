@@ -1,4 +1,4 @@
-# A room behind nginx, by contrib/nginx.conf: passwords, the caller's name, slow callers and large ones.
+# A room behind nginx, by contrib/nginx.conf: passwords, the caller's name, other sites, slow callers and large ones.
 
 . "$here/front.sh"
 if [ -z "$nginx" ] || ! has curl; then
@@ -44,6 +44,41 @@ ask 'one byte more' 413 - alice:a /doc/big -X PUT --data-binary @big -H 'Expect:
 ask 'an upload in chunks' 204 '' alice:a /doc/f -X PUT --data-binary @passwords -H 'Transfer-Encoding: chunked'
 curl -s -u bob:b "http://127.0.0.1:$front/doc/f" >"$work/body"
 same 'which came in whole' "$work/body" passwords
+
+# What every answer says, and who may ask for changes: a browser sends passwords whichever site asks it to.
+answer() { # USER:PASSWORD TARGET ARGUMENT ..; the head of the answer is in $work/head
+  curl -s -o "$work/body" -D "$work/head" -u "$1" "${@:3}" "http://127.0.0.1:$front$2"
+}
+policy="Content-Security-Policy: default-src 'none'; script-src 'self'; style-src 'self'; img-src 'self' blob:; connect-src 'self'; base-uri 'none'; form-action 'none'; frame-ancestors 'none'"
+for target in / /app.js /none /me /doc/f /doc/none /folder/ /dacl/f '/can/f?r'; do
+  for who in bob:b bob:x; do
+    answer $who "$target"
+    for line in "$policy" 'X-Content-Type-Options: nosniff' 'Referrer-Policy: no-referrer'; do
+      holds "$who $target says ${line%%:*}" grep -qxF "$line"$'\r' "$work/head"
+    done
+  done
+done
+answer bob:b /doc/f
+holds 'a document is a file' grep -qx $'Content-Disposition: attachment\r' "$work/head"
+answer bob:b /folder/
+holds 'a listing is none' [ "$(grep -c Content-Disposition "$work/head")" = 0 ]
+answer bob:b /me
+holds 'the page is told who asks' grep -qx $'Room-User: bob\r' "$work/head"
+answer bob:x /me
+holds 'but not without the password' [ "$(grep -c Room-User "$work/head")" = 0 ]
+ask 'the page' 200 - bob:b /
+ask 'not without a password' 401 - '' /
+ask 'what is neither the page nor a route' 404 - bob:b /nope
+ask 'a route that the room judges' 404 '{"why":"no-route"}' bob:b /doc
+for field in 'Sec-Fetch-Site: cross-site' 'Sec-Fetch-Site: same-site' 'Sec-Fetch-Site: other' 'Origin: http://elsewhere.example' \
+  'Origin: null' "Origin: http://127.0.0.1:$port" "Origin: https://127.0.0.1:$front" "Origin: http://127.0.0.1:$front.x"; do
+  for method in POST PUT DELETE OPTIONS; do ask "$method, $field" 403 - alice:a /doc/f -X $method -H "$field"; done
+  ask "GET, $field" 200 - alice:a /doc/f -H "$field"
+done
+for field in 'Sec-Fetch-Site: same-origin' 'Sec-Fetch-Site: none' "Origin: http://127.0.0.1:$front"; do
+  ask "PUT, $field" 204 - alice:a /doc/f -X PUT --data-binary @passwords -H "$field"
+done
+ask 'one of both is foreign' 403 - alice:a /doc/f -X PUT -H 'Sec-Fetch-Site: same-origin' -H 'Origin: http://elsewhere.example'
 
 # A caller who sends slowly, and one who reads slowly: the others don't wait for them. Both take five seconds.
 truncate -s 1048576 big

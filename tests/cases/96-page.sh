@@ -25,7 +25,7 @@ play() { # NAME SCRIPT ARGUMENT ..
       fail) fail "$check" "$why" ;;
       end) ended=yes ;;
     esac
-  done < <(PYTHONDONTWRITEBYTECODE=1 timeout -k 10 600 "$python" "$here/page/$1" "${@:2}" 2>play.err)
+  done < <(LC_ALL=C.UTF-8 PYTHONDONTWRITEBYTECODE=1 timeout -k 10 600 "$python" "$here/page/$1" "${@:2}" 2>play.err)
   [ -n "$ended" ] || fail "$name" "it broke off: $(tail -c 600 play.err)"
 }
 
@@ -53,3 +53,13 @@ stop_proxy
 gives 'sound after another site' 0 'sound\n' '' verify F
 run dump F
 same 'another site changed nothing' "$work/out" before
+
+# The office. PAGE_PICTURES is a folder for the pictures of docs/page.md.
+start_server F 10000 || return
+start_front 'the page' || return
+# It kills the server at its end, which is no news.
+disown "$server"
+play 'the office' office.py "$PWD" "$front" "$PWD/access.log" "$server" "$proxy" "$here/../docs" ${PAGE_PICTURES:+"$PAGE_PICTURES"}
+stop_server
+stop_proxy
+gives 'sound after the office' 0 'sound\n' '' verify F

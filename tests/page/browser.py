@@ -8,7 +8,6 @@ from selenium import webdriver
 from selenium.common.exceptions import StaleElementReferenceException
 from selenium.webdriver.chrome.options import Options
 from selenium.webdriver.chrome.service import Service
-from selenium.webdriver.common.by import By
 from selenium.webdriver.support.ui import WebDriverWait
 
 PATIENCE = float(os.environ.get('PAGE_PATIENCE', '30'))
@@ -36,6 +35,7 @@ class Browser:
         self.base = base
         self.downloads = f'{folder}/downloads'
         self.driver = webdriver.Chrome(service=Service(found('chromedriver')), options=options_for(folder, rules))
+        self.debugger = self.driver.capabilities['goog:chromeOptions']['debuggerAddress']
         self.driver.set_page_load_timeout(PATIENCE)
         self.driver.set_script_timeout(PATIENCE)
         # The browser keeps the password for this origin, as if it had been typed.
@@ -74,19 +74,22 @@ class Browser:
         return WebDriverWait(self.driver, PATIENCE, poll_frequency=0.05).until(tried, f'never came: {what}')
 
     def all(self, css):
-        return [one for one in self.driver.find_elements(By.CSS_SELECTOR, css) if one.is_displayed()]
+        return self.script('return [...document.querySelectorAll(arguments[0])].filter((one) => one.checkVisibility())', css)
 
     def one(self, css):
         return self.until(lambda: next(iter(self.all(css)), None), css)
 
+    def texts(self, css):
+        """Without the marks that set a name apart in a sentence."""
+        return self.script("""return [...document.querySelectorAll(arguments[0])].filter((one) => one.checkVisibility())
+            .map((one) => one.innerText.replace(/[\\u2068\\u2069]/g, ''))""", css)
+
     def button(self, words, within='body'):
         """The button or link of these words, or with this label."""
-        def find():
-            for each in self.all(f'{within} button, {within} a, {within} label, {within} summary'):
-                if words in (each.text.strip(), each.get_attribute('aria-label')):
-                    return each
-            return None
-        return self.until(find, f'button {words}')
+        return self.until(lambda: self.script("""return [...document.querySelectorAll(`${arguments[1]} :is(button, a, label)`)]
+            .find((one) => one.checkVisibility()
+              && (one.innerText.trim() === arguments[0] || one.getAttribute('aria-label') === arguments[0]))""",
+                                              words, within), f'button {words}')
 
     def press(self, words, within='body'):
         # A list may be drawn anew between the look and the click.
@@ -98,34 +101,28 @@ class Browser:
         field.send_keys(text)
 
     def names(self):
-        return [each.text for each in self.all('table.folder .name')]
+        return self.texts('table.folder .name')
 
     def lists(self, *names):
-        self.until(lambda: self.names() == list(names), f'the listing {names}, not {self.names()}')
+        try:
+            self.until(lambda: self.names() == list(names), 'a listing')
+        except Exception:
+            raise AssertionError(f'{self.names()} are listed, not {names}') from None
 
     def says(self, *words, css='.notice'):
-        """Waits for a message with all of these words, and puts it aside."""
-        def find():
-            for each in self.all(css):
-                text = each.text.replace('\u2068', '').replace('\u2069', '')
-                if all(word in text for word in words):
-                    return text
-            return None
+        """Waits for a message with all of these words, and puts messages aside."""
         try:
-            told = self.until(find, f'{css} with {words}')
+            self.until(lambda: any(all(word in text for word in words) for text in self.texts(css)), 'a message')
         except Exception:
-            shown = [each.text for each in self.all(css)]
-            raise AssertionError(f'no {css} with {words}, but {shown}') from None
-        for close in self.all('.notice [aria-label="Close this message"]'):
-            try:
-                close.click()
-            except StaleElementReferenceException:
-                pass
-        return told
+            raise AssertionError(f'{css} says {self.texts(css)}, not {words}') from None
+        self.script("""document.querySelectorAll('.notice [aria-label="Close this message"]').forEach((one) => one.click())""")
 
     def downloaded(self, name):
         path = f'{self.downloads}/{name}'
-        self.until(lambda: os.path.exists(path), f'the download {name}, but {os.listdir(self.downloads)}')
+        try:
+            self.until(lambda: os.path.exists(path), 'a download')
+        except Exception:
+            raise AssertionError(f'{os.listdir(self.downloads)} were downloaded, not {name}') from None
         with open(path, 'rb') as file:
             text = file.read()
         os.remove(path)
@@ -138,7 +135,8 @@ class Browser:
 
     def unnamed(self):
         """What can be reached by keyboard and has no name that a screen reader tells."""
-        seen = self.all('a, button, input, select, textarea, summary')
+        seen = self.script("""return [...document.querySelectorAll('a, button, input, select, textarea, summary')]
+            .filter((each) => each.checkVisibility())""")
         return [each.get_attribute('outerHTML') for each in seen if not each.accessible_name.strip()]
 
     def is_wider(self):
