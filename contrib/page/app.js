@@ -8,6 +8,7 @@ import { linkTo, pathLinks, whereIs } from './links.js';
 import { showList } from './listview.js';
 import { clearNotices, tellFault, waitFor } from './notice.js';
 import { kindOf, showRights } from './rights.js';
+import { isUploading } from './upload.js';
 
 const TABS = [['rights', 'My rights'], ['dacl', 'Who may do what'], ['sacl', 'What is recorded']];
 const main = document.querySelector('main');
@@ -69,8 +70,12 @@ window.addEventListener('hashchange', () => {
   show();
 });
 window.addEventListener('beforeunload', (event) => {
-  if (hasUnsent()) event.preventDefault();
+  if (hasUnsent() || isUploading()) event.preventDefault();
 });
+// A file that is dropped beside the folder doesn't take the page's place.
+for (const kind of ['dragover', 'drop']) {
+  window.addEventListener(kind, (event) => event.preventDefault());
+}
 document.getElementById('skip').addEventListener('click', (event) => {
   // Behind the '#' stands the place.
   event.preventDefault();

@@ -79,7 +79,7 @@ function row(child, folder, refresh) {
     element('td', { class: 'what' }, mainOf(child, path, refresh)),
     element('td', { class: 'kind' }, child.kind === 'folder' ? 'Folder' : 'Document'),
     element('td', { class: 'acts' },
-      child.kind === 'document' ? act('Download', () => download(path), 'plain') : null,
+      child.kind === 'document' ? act('Download', () => download(path), 'plain download') : null,
       act('Rename or move', () => move(path, child.kind), 'plain'),
       act('Remove', () => remove(path, child.kind), 'plain remove'),
       element('a', { class: 'small button', href: linkTo(path, 'rights'), 'aria-label': `Access: ${child.name}` }, 'Access')));
@@ -114,11 +114,13 @@ function bar(path, refresh, send) {
 // Shows the folder in 'box', as long as 'isCurrent()'.
 export async function showFolder(path, box, isCurrent) {
   const body = element('div', { class: 'sheet' });
-  const uploads = element('div', { 'aria-live': 'polite' });
   const refresh = async () => {
     try {
       const children = await waitFor(api.list(path));
-      if (isCurrent()) body.replaceChildren(table(children, path, refresh));
+      if (!isCurrent()) return;
+      body.replaceChildren(table(children, path, refresh));
+      // The button that had the focus may be gone.
+      if (document.activeElement === document.body) box.focus();
     } catch (fault) {
       if (!isCurrent()) return;
       if (fault.body?.why === 'wrong-kind') location.replace(linkTo(path, 'rights'));
@@ -127,11 +129,11 @@ export async function showFolder(path, box, isCurrent) {
     }
   };
   const send = async (files) => {
-    await uploadAll(files, path, uploads);
+    await uploadAll(files, path);
     if (isCurrent()) await refresh();
   };
   const area = element('section', { class: 'folder-view', 'aria-label': 'Folder' },
-    bar(path, refresh, send), uploads, body);
+    bar(path, refresh, send), body);
   acceptDrops(area, send);
   box.replaceChildren(area);
   await refresh();

@@ -3,7 +3,7 @@
 import * as api from './api.js';
 import { button, element, icon, nameText } from './dom.js';
 import { question, tellFault } from './notice.js';
-import { isolated, nameFault, sentenceOf, tooLarge } from './words.js';
+import { isolated, nameFault, placeWords, sentenceOf, tooLarge } from './words.js';
 
 // The room answers one request after the other, so more at once would not be quicker.
 const AT_ONCE = 3;
@@ -57,12 +57,15 @@ async function sendInTurn(queue, folder) {
   }
 }
 
-// Sends the files into the folder and shows it in 'box'. Answers when all have ended.
-export async function uploadAll(files, folder, box) {
+let running = 0;
+export const isUploading = () => running > 0;
+
+// Sends the files into the folder, and shows it above whatever is looked at meanwhile. Answers when all have ended.
+export async function uploadAll(files, folder) {
   const rows = element('ul', {});
   const close = button('Close', () => sheet.remove(), { class: 'small' });
-  const sheet = element('section', { class: 'uploads', 'aria-label': 'Uploads' }, rows);
-  box.append(sheet);
+  const sheet = element('section', { class: 'uploads' }, element('h2', {}, `Upload to ${placeWords(folder)}`), rows);
+  document.getElementById('uploads').append(sheet);
   const queue = [];
   for (const file of files) {
     // Some systems cut umlauts into letter and dots. Together they are what people type.
@@ -72,7 +75,9 @@ export async function uploadAll(files, folder, box) {
     if (fault) end(upload, fault, 'bad');
     else queue.push({ file, upload });
   }
+  running += 1;
   await Promise.all(Array.from({ length: AT_ONCE }, () => sendInTurn(queue, folder)));
+  running -= 1;
   sheet.append(element('div', { class: 'actions' }, close));
 }
 
