@@ -1,6 +1,6 @@
-# A room behind nginx, by contrib/nginx.conf: passwords, the caller's name, slow callers and large ones.
+# A room behind nginx, by contrib/nginx.conf: passwords, the caller's name, other sites, slow callers and large ones.
 
-nginx=$(command -v nginx || ls /usr/sbin/nginx 2>/dev/null)
+. "$here/front.sh"
 if [ -z "$nginx" ] || ! has curl; then
   skip 'behind nginx' 'nginx or curl is missing'
   return
@@ -9,30 +9,8 @@ fi
 open_room F
 set_list F / dacl list:a "A:fd:root:$ALL" A:fd:alice:rwxa A:fd:bob:rx
 start_server F 1000 || return
-front=$((port + 1))
-
-# The configuration as it stands, with other ports and another place for the passwords.
 printf 'root:{PLAIN}r\nalice:{PLAIN}a\nbob:{PLAIN}b\n' >passwords
-chmod 755 "$work" .
-chmod 644 passwords
-{
-  echo "daemon off; pid $PWD/nginx.pid; error_log $PWD/error.log; worker_processes 1;"
-  [ "$(id -u)" != 0 ] || echo 'user root;'
-  echo 'events { worker_connections 256; }'
-  echo "http { access_log off; client_body_temp_path $PWD/t1; proxy_temp_path $PWD/t2;"
-  echo "fastcgi_temp_path $PWD/t3; uwsgi_temp_path $PWD/t4; scgi_temp_path $PWD/t5;"
-  sed -e "s/listen 80;/listen 127.0.0.1:$front;/" -e "s/127.0.0.1:8780/127.0.0.1:$port/" \
-    -e "s|/etc/nginx/rooms.htpasswd|$PWD/passwords|" "$here/../contrib/nginx.conf"
-  echo '}'
-} >nginx.conf
-"$nginx" -p "$PWD" -c "$PWD/nginx.conf" >nginx.out 2>&1 &
-proxy=$!
-began=$SECONDS
-until [ -s nginx.pid ] || ! kill -0 "$proxy" 2>/dev/null || [ $((SECONDS - began)) -ge "$patience" ]; do sleep 0.02; done
-if ! kill -0 "$proxy" 2>/dev/null || ! [ -s nginx.pid ]; then
-  skip 'behind nginx' "it does not start: $(head -c 300 nginx.out error.log 2>/dev/null)"
-  return
-fi
+start_front 'behind nginx' || return
 
 # The status and the body of a request by a user with a password.
 ask() { # NAME STATUS BODY USER:PASSWORD TARGET ARGUMENT ..
@@ -66,6 +44,41 @@ ask 'one byte more' 413 - alice:a /doc/big -X PUT --data-binary @big -H 'Expect:
 ask 'an upload in chunks' 204 '' alice:a /doc/f -X PUT --data-binary @passwords -H 'Transfer-Encoding: chunked'
 curl -s -u bob:b "http://127.0.0.1:$front/doc/f" >"$work/body"
 same 'which came in whole' "$work/body" passwords
+
+# What every answer says, and who may ask for changes: a browser sends passwords whichever site asks it to.
+answer() { # USER:PASSWORD TARGET ARGUMENT ..; the head of the answer is in $work/head
+  curl -s -o "$work/body" -D "$work/head" -u "$1" "${@:3}" "http://127.0.0.1:$front$2"
+}
+policy="Content-Security-Policy: default-src 'none'; script-src 'self'; style-src 'self'; img-src 'self' blob:; connect-src 'self'; base-uri 'none'; form-action 'none'; frame-ancestors 'none'"
+for target in / /app.js /none /me /doc/f /doc/none /folder/ /dacl/f '/can/f?r'; do
+  for who in bob:b bob:x; do
+    answer $who "$target"
+    for line in "$policy" 'X-Content-Type-Options: nosniff' 'Referrer-Policy: no-referrer'; do
+      holds "$who $target says ${line%%:*}" grep -qxF "$line"$'\r' "$work/head"
+    done
+  done
+done
+answer bob:b /doc/f
+holds 'a document is a file' grep -qx $'Content-Disposition: attachment\r' "$work/head"
+answer bob:b /folder/
+holds 'a listing is none' [ "$(grep -c Content-Disposition "$work/head")" = 0 ]
+answer bob:b /me
+holds 'the page is told who asks' grep -qx $'Room-User: bob\r' "$work/head"
+answer bob:x /me
+holds 'but not without the password' [ "$(grep -c Room-User "$work/head")" = 0 ]
+ask 'the page' 200 - bob:b /
+ask 'not without a password' 401 - '' /
+ask 'what is neither the page nor a route' 404 - bob:b /nope
+ask 'a route that the room judges' 404 '{"why":"no-route"}' bob:b /doc
+for field in 'Sec-Fetch-Site: cross-site' 'Sec-Fetch-Site: same-site' 'Sec-Fetch-Site: other' 'Origin: http://elsewhere.example' \
+  'Origin: null' "Origin: http://127.0.0.1:$port" "Origin: https://127.0.0.1:$front" "Origin: http://127.0.0.1:$front.x"; do
+  for method in POST PUT DELETE OPTIONS; do ask "$method, $field" 403 - alice:a /doc/f -X $method -H "$field"; done
+  ask "GET, $field" 200 - alice:a /doc/f -H "$field"
+done
+for field in 'Sec-Fetch-Site: same-origin' 'Sec-Fetch-Site: none' "Origin: http://127.0.0.1:$front"; do
+  ask "PUT, $field" 204 - alice:a /doc/f -X PUT --data-binary @passwords -H "$field"
+done
+ask 'one of both is foreign' 403 - alice:a /doc/f -X PUT -H 'Sec-Fetch-Site: same-origin' -H 'Origin: http://elsewhere.example'
 
 # A caller who sends slowly, and one who reads slowly: the others don't wait for them. Both take five seconds.
 truncate -s 1048576 big

@@ -1,0 +1,116 @@
+// The requests of docs/http.md and their replies, as promises. Nothing of the page stands here.
+
+export const GREATEST_DOCUMENT = 1048576;
+export const ALL_RIGHTS = 'rwanNxDtThHdcCoy';
+
+// A reply that isn't 2xx. Status 0 is no reply at all. 'body' is the reply's JSON, or null.
+export class Refusal extends Error {
+  constructor(status, body) {
+    super(`status ${status}`);
+    this.status = status;
+    this.body = body;
+  }
+}
+
+// A path is '/' or a '/' before each name. In a target each name has its escapes.
+export function target(word, path) {
+  return `/${word}/${path.split('/').slice(1).map(encodeURIComponent).join('/')}`;
+}
+
+export function namesOf(path) {
+  return path === '/' ? [] : path.split('/').slice(1);
+}
+
+export function join(folder, name) {
+  return folder === '/' ? `/${name}` : `${folder}/${name}`;
+}
+
+export function parentOf(path) {
+  return path.slice(0, path.lastIndexOf('/')) || '/';
+}
+
+export function nameOf(path) {
+  return path.slice(path.lastIndexOf('/') + 1);
+}
+
+function jsonOrNull(text) {
+  try {
+    return JSON.parse(text);
+  } catch {
+    return null;
+  }
+}
+
+async function ask(method, where, body) {
+  let reply;
+  try {
+    reply = await fetch(where, { method, body, cache: 'no-store' });
+  } catch {
+    throw new Refusal(0, null);
+  }
+  if (!reply.ok) {
+    throw new Refusal(reply.status, jsonOrNull(await reply.text().catch(() => '')));
+  }
+  return reply;
+}
+
+async function take(reply, form) {
+  try {
+    return await (await reply)[form]();
+  } catch (fault) {
+    throw fault instanceof Refusal ? fault : new Refusal(0, null);
+  }
+}
+
+export async function whoAmI() {
+  const reply = await ask('GET', '/me');
+  return reply.headers.get('Room-User') ?? '';
+}
+
+export const read = (path) => take(ask('GET', target('doc', path)), 'blob');
+export const append = (path, bytes) => ask('POST', target('doc', path), bytes);
+export const list = (path) => take(ask('GET', target('folder', path)), 'json');
+export const makeFolder = (path) => ask('POST', target('folder', path));
+export const remove = (path) => ask('DELETE', target('object', path));
+export const move = (path, to) => ask('POST', target('move', path), JSON.stringify({ to }));
+export const readList = (which, path) => take(ask('GET', target(which, path)), 'text');
+export const setList = (which, path, text) => ask('PUT', target(which, path), text);
+export const readAttributes = (path) => take(ask('GET', target('attr', path)), 'json');
+export const setOwners = (path, owner, group) =>
+  ask('PUT', target('attr', path), JSON.stringify({ group, owner }));
+
+// The ruling of each letter: {r: {ruling: 'allowed', place: 2}, w: {ruling: 'silent', place: null}}.
+export async function can(path, letters) {
+  const rulings = await take(ask('GET', `${target('can', path)}?${letters}`), 'json');
+  return Object.fromEntries(Object.entries(rulings).map(([letter, text]) => {
+    const [ruling, place] = text.split(' ');
+    return [letter, { ruling, place: place === undefined ? null : Number(place) }];
+  }));
+}
+
+// Asking for no right tells whether something is there, to whoever may pass through the folders above.
+export async function isThere(path) {
+  try {
+    await can(path, '');
+    return true;
+  } catch (fault) {
+    if (fault.status === 404) return false;
+    throw fault;
+  }
+}
+
+// A document gets these bytes. XMLHttpRequest, since fetch doesn't tell how far an upload is.
+export function put(path, bytes, onProgress = () => {}) {
+  return new Promise((resolve, reject) => {
+    const asking = new XMLHttpRequest();
+    asking.open('PUT', target('doc', path));
+    asking.upload.onprogress = (event) => onProgress(event.loaded, event.total);
+    asking.onerror = () => reject(new Refusal(0, null));
+    asking.onabort = asking.onerror;
+    asking.onload = () => {
+      if (asking.status >= 200 && asking.status < 300) resolve(asking.status === 201);
+      else reject(new Refusal(asking.status, jsonOrNull(asking.responseText)));
+    };
+    asking.send(bytes);
+  });
+}

@@ -1,0 +1,85 @@
+// The page: who asks, where one stands, and what is shown there.
+
+import * as api from './api.js';
+import { element, icon, nameText } from './dom.js';
+import { hasUnsent } from './draft.js';
+import { showFolder } from './folder.js';
+import { linkTo, pathLinks, whereIs } from './links.js';
+import { showList } from './listview.js';
+import { clearNotices, tellFault, waitFor } from './notice.js';
+import { kindOf, showRights } from './rights.js';
+import { isUploading } from './upload.js';
+
+const TABS = [['rights', 'My rights'], ['dacl', 'Who may do what'], ['sacl', 'What is recorded']];
+const main = document.querySelector('main');
+
+// Each look at a place has a number, so that a slow reply isn't shown at a later place.
+let looks = 0;
+
+function objectHead(path, view, kind) {
+  const name = path === '/' ? 'All documents' : nameText(api.nameOf(path));
+  const links = TABS.map(([word, words]) => element('a', {
+    href: linkTo(path, word), 'aria-current': word === view ? 'page' : null,
+  }, words));
+  const back = linkTo(kind === 'folder' ? path : api.parentOf(path));
+  return [
+    element('div', { class: 'bar' }, element('h1', {}, icon(kind), name),
+      element('div', { class: 'actions' }, element('a', { class: 'button', href: back },
+        kind === 'folder' ? 'Open the folder' : 'Back to the folder'))),
+    element('nav', { class: 'views', 'aria-label': 'Access' }, links),
+  ];
+}
+
+async function showObject(path, view, isCurrent) {
+  const kind = await waitFor(kindOf(path));
+  if (!isCurrent()) return;
+  const box = element('div', { class: 'sheet padded' });
+  main.replaceChildren(element('section', { 'aria-label': 'Access' }, objectHead(path, view, kind), box));
+  if (view === 'rights') await showRights(path, kind, box, isCurrent);
+  else await showList(path, view, kind, box, isCurrent);
+}
+
+async function show() {
+  looks += 1;
+  const look = looks;
+  const isCurrent = () => look === looks;
+  const { path, view } = whereIs(location.hash);
+  document.title = `${path === '/' ? 'All documents' : api.nameOf(path)} – rooms`;
+  document.getElementById('path').replaceChildren(pathLinks(path));
+  clearNotices();
+  try {
+    if (view) await showObject(path, view, isCurrent);
+    else await showFolder(path, main, isCurrent);
+  } catch (fault) {
+    if (!isCurrent()) return;
+    main.replaceChildren(element('p', { class: 'empty' }, 'This place can’t be shown.'));
+    tellFault(fault);
+  }
+}
+
+async function showMe() {
+  try {
+    document.getElementById('me').replaceChildren(icon('person'), nameText(await api.whoAmI()));
+  } catch (fault) {
+    tellFault(fault);
+  }
+}
+
+window.addEventListener('hashchange', () => {
+  main.focus();
+  show();
+});
+window.addEventListener('beforeunload', (event) => {
+  if (hasUnsent() || isUploading()) event.preventDefault();
+});
+// A file that is dropped beside the folder doesn't take the page's place.
+for (const kind of ['dragover', 'drop']) {
+  window.addEventListener(kind, (event) => event.preventDefault());
+}
+document.getElementById('skip').addEventListener('click', (event) => {
+  // Behind the '#' stands the place.
+  event.preventDefault();
+  main.focus();
+});
+showMe();
+show();

@@ -1,0 +1,61 @@
+// Elements. Whatever comes from the room is set as text or as an attribute's value, never as HTML.
+
+const SVG = 'http://www.w3.org/2000/svg';
+
+// element('a', {href, onclick, class}, 'text', other, ..). A property of null or false is left out.
+export function element(tag, properties = {}, ...children) {
+  const made = document.createElement(tag);
+  for (const [name, value] of Object.entries(properties)) {
+    if (value === null || value === false || value === undefined) continue;
+    if (name.startsWith('on')) made.addEventListener(name.slice(2), value);
+    else made.setAttribute(name, value === true ? '' : value);
+  }
+  made.append(...children.flat().filter((child) => child !== null && child !== undefined));
+  return made;
+}
+
+// A name stands in its own direction, so that right-to-left text doesn't turn what is round it.
+export const nameText = (name) => element('bdi', { class: 'name' }, name);
+
+const SHAPES = {
+  folder: 'M2.5 5.5a1 1 0 0 1 1-1h4l2 2h7a1 1 0 0 1 1 1v8a1 1 0 0 1-1 1h-13a1 1 0 0 1-1-1z',
+  document: 'M5 2.5h6.5l3.5 3.5v11a.5.5 0 0 1-.5.5h-9.5a.5.5 0 0 1-.5-.5v-14a.5.5 0 0 1 .5-.5zM11.5 2.5v3.5h3.5',
+  key: 'M12.5 3a4 4 0 1 1-3.7 5.5l-5.800 5.800v2.2h2.5v-1.800h1.800v-1.800l2.2-2.2a4 4 0 0 1 3-7.7zM13.800 6.2v.01',
+  upload: 'M10 13.5v-10m-4 4 4-4 4 4M3 14v2.5h14V14',
+  plus: 'M10 4v12M4 10h12',
+  up: 'M10 16V4.5M5 9l5-5 5 5',
+  down: 'M10 4v11.5M5 11l5 5 5-5',
+  check: 'M4 10.5l4 4 8-9',
+  cross: 'M5 5l10 10M15 5L5 15',
+  dash: 'M5 10h10',
+  person: 'M10 10a3.2 3.2 0 1 0 0-6.400 3.2 3.2 0 0 0 0 6.400zM4 17c.5-3.5 3-5 6-5s5.5 1.5 6 5',
+};
+
+export function icon(name) {
+  const picture = document.createElementNS(SVG, 'svg');
+  picture.setAttribute('viewBox', '0 0 20 20');
+  picture.setAttribute('class', `icon ${name}`);
+  picture.setAttribute('aria-hidden', 'true');
+  const shape = document.createElementNS(SVG, 'path');
+  shape.setAttribute('d', SHAPES[name]);
+  picture.append(shape);
+  return picture;
+}
+
+export function button(text, onclick, properties = {}) {
+  return element('button', { type: 'button', onclick, ...properties }, text);
+}
+
+let lastId = 0;
+export function freshId(word) {
+  lastId += 1;
+  return `${word}-${lastId}`;
+}
+
+// An input with its label above, and a line for what is wrong with it.
+export function field(label, input, hint = null) {
+  input.id = freshId('field');
+  const help = element('p', { class: 'hint', id: `${input.id}-help` }, hint ?? '');
+  input.setAttribute('aria-describedby', help.id);
+  return element('div', { class: 'field' }, element('label', { for: input.id }, label), input, help);
+}

@@ -1,0 +1,102 @@
+// A list as it is being changed. Its text and its entries are kept equal, whichever of both is edited.
+
+import { isInherited, lineOfEntry, printList, readListText } from './list.js';
+
+// What was changed and not sent stays here while other places are looked at.
+const unsent = new Map();
+export const hasUnsent = () => unsent.size > 0;
+
+export class Draft {
+  // 'base' is the text that the room gave.
+  constructor(path, which, kind, base) {
+    Object.assign(this, { path, which, kind, base, mayChange: true, onChange: () => {} });
+    this.setText(base);
+  }
+
+  static of(path, which, kind, base) {
+    return unsent.get(`${which} ${path}`) ?? new Draft(path, which, kind, base);
+  }
+
+  get isChanged() {
+    return this.text !== this.base;
+  }
+
+  // 'list' is null where the text can't be read, and 'fault' says why: {line, code}.
+  setText(text) {
+    this.text = text;
+    const { list = null, fault = null } = readListText(text);
+    this.list = list;
+    this.fault = fault;
+    this.keep();
+  }
+
+  // To be called after 'list' was changed.
+  listChanged() {
+    this.text = printList(this.list);
+    this.fault = null;
+    this.keep();
+  }
+
+  keep() {
+    const key = `${this.which} ${this.path}`;
+    if (this.isChanged) unsent.set(key, this);
+    else unsent.delete(key);
+    this.onChange();
+  }
+
+  // The room has this text now.
+  settle(base, text = base) {
+    this.base = base;
+    this.setText(text);
+  }
+
+  ownPlaces() {
+    return this.list.entries.flatMap((entry, index) => (isInherited(entry) ? [] : [index]));
+  }
+
+  inherited() {
+    return this.list.entries.filter(isInherited);
+  }
+
+  // A new entry comes behind the last own one. Answers its place, from 0.
+  add(entry) {
+    const place = (this.ownPlaces().at(-1) ?? -1) + 1;
+    this.list.entries.splice(place, 0, entry);
+    this.listChanged();
+    return place;
+  }
+
+  drop(place) {
+    this.list.entries.splice(place, 1);
+    this.listChanged();
+  }
+
+  // Exchanges an own entry with the next one before (-1) or behind (1). Answers its new place.
+  shift(place, step) {
+    const own = this.ownPlaces();
+    const other = own[own.indexOf(place) + step];
+    if (other === undefined) return place;
+    const { entries } = this.list;
+    [entries[place], entries[other]] = [entries[other], entries[place]];
+    this.listChanged();
+    return other;
+  }
+
+  dropInherited() {
+    this.list.entries = this.list.entries.filter((entry) => !isInherited(entry));
+    this.listChanged();
+  }
+
+  // A fault that the room told, at a line or at an entry of what was sent.
+  setRoomFault(body) {
+    const line = body.line ?? lineOfEntry(this.text, body.entry);
+    this.fault = { line, code: body.why.split(' ')[1] };
+    this.onChange();
+  }
+
+  // The place, from 0, of the entry at which the fault stands, or -1.
+  faultPlace() {
+    if (!this.fault || !this.list) return -1;
+    return this.list.entries.findIndex((entry, index) => lineOfEntry(this.text, index + 1) === this.fault.line);
+  }
+}

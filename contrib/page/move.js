@@ -1,0 +1,38 @@
+// The question where an object shall lie, and under which name.
+
+import * as api from './api.js';
+import { button, element, icon, nameText } from './dom.js';
+import { form, waitFor } from './notice.js';
+import { sorted } from './folder.js';
+import { nameFault, sentenceOf } from './words.js';
+
+// Goes from folder to folder. 'chosen.path' is the one that is looked at.
+function chooser(chosen, moved) {
+  const where = element('p', { class: 'where', 'aria-live': 'polite' });
+  const folders = element('ul', { class: 'chooser', 'aria-label': 'Folders' });
+  const line = (mark, name, path) => element('li', {},
+    button([icon(mark), name], () => goTo(path), { class: 'object' }));
+  const goTo = async (path) => {
+    chosen.path = path;
+    where.replaceChildren('In ', path === '/' ? 'the top of the room' : nameText(path));
+    const above = path === '/' ? [] : [line('up', 'The folder above', api.parentOf(path))];
+    try {
+      const children = sorted(await waitFor(api.list(path))).filter((child) => child.kind === 'folder');
+      if (chosen.path !== path) return;
+      const inside = children.map((child) => api.join(path, child.name)).filter((one) => one !== moved);
+      folders.replaceChildren(...above, ...inside.map((one) => line('folder', nameText(api.nameOf(one)), one)));
+    } catch (fault) {
+      folders.replaceChildren(...above, element('li', { class: 'hint' }, sentenceOf(fault)));
+    }
+  };
+  goTo(chosen.path);
+  return element('fieldset', {}, element('legend', {}, 'Folder'), where, folders);
+}
+
+// Answers the new path, or null.
+export async function askMove(path, kind) {
+  const chosen = { path: api.parentOf(path) };
+  const names = await form(`Rename or move the ${kind}`,
+    [{ label: 'Name', value: api.nameOf(path), fault: nameFault }], 'Move it', chooser(chosen, path));
+  return names && api.join(chosen.path, names[0]);
+}

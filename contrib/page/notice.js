@@ -1,0 +1,99 @@
+// What the page tells at its top, and questions in a dialog.
+
+import { button, element, field, icon } from './dom.js';
+import { sentenceOf } from './words.js';
+
+const place = () => document.getElementById('notices');
+
+// 'kind' is 'good' or 'bad'. Good news goes by itself, bad news stays until it is put aside.
+export function tell(kind, text, ...actions) {
+  const close = button(icon('cross'), () => notice.remove(), { class: 'plain', 'aria-label': 'Close this message' });
+  const notice = element('div', { class: `notice ${kind}`, role: kind === 'bad' ? 'alert' : 'status' },
+    icon(kind === 'bad' ? 'cross' : 'check'), element('p', {}, text), actions, close);
+  place().append(notice);
+  if (kind === 'good') setTimeout(() => notice.remove(), 6000);
+}
+
+export function tellFault(fault) {
+  if (fault.status === undefined) console.error(fault);
+  const again = fault.status === 401
+    ? [button('Sign in again', () => location.reload(), { class: 'small' })] : [];
+  const text = sentenceOf(fault);
+  for (const old of place().querySelectorAll('.notice.bad')) {
+    if (old.querySelector('p').textContent === text) old.remove();
+  }
+  tell('bad', text, ...again);
+}
+
+export function clearNotices() {
+  for (const notice of place().querySelectorAll('.notice.bad')) notice.remove();
+}
+
+// Shows a dialog and answers what 'finish' was called with, or null where it was put aside.
+export function showDialog(title, build) {
+  return new Promise((resolve) => {
+    let answer = null;
+    const heading = element('h2', { id: 'dialog-title' }, title);
+    const dialog = element('dialog', { 'aria-labelledby': 'dialog-title' });
+    const finish = (value) => {
+      answer = value;
+      dialog.close();
+    };
+    dialog.append(heading, ...build(finish));
+    dialog.addEventListener('close', () => {
+      dialog.remove();
+      resolve(answer);
+    });
+    document.body.append(dialog);
+    dialog.showModal();
+  });
+}
+
+// A question with one button for each answer: [['replace', 'Replace it', 'danger'], ..].
+export function question(title, text, answers) {
+  return showDialog(title, (finish) => [
+    element('p', {}, text),
+    element('div', { class: 'actions' },
+      button('Cancel', () => finish(null), { autofocus: true }),
+      answers.map(([value, words, look]) => button(words, () => finish(value), { class: look }))),
+  ]);
+}
+
+// A form of text fields: [{label, value, hint, fault: text => sentence or null}]. Answers the values, or null.
+export function form(title, fields, submit, ...more) {
+  return showDialog(title, (finish) => {
+    const inputs = fields.map((one) => element('input', {
+      type: 'text', value: one.value ?? '', autocomplete: 'off', spellcheck: 'false', dir: 'auto',
+    }));
+    const boxes = fields.map((one, index) => field(one.label, inputs[index], one.hint));
+    const send = (event) => {
+      event.preventDefault();
+      const faults = fields.map((one, index) => one.fault(inputs[index].value));
+      faults.forEach((fault, index) => showFault(inputs[index], boxes[index], fault, fields[index].hint));
+      const wrong = faults.findIndex((fault) => fault !== null);
+      if (wrong >= 0) inputs[wrong].focus();
+      else finish(inputs.map((input) => input.value));
+    };
+    return [element('form', { onsubmit: send }, boxes, more, element('div', { class: 'actions' },
+      button('Cancel', () => finish(null)), element('button', { type: 'submit', class: 'primary' }, submit)))];
+  });
+}
+
+function showFault(input, box, fault, hint) {
+  box.classList.toggle('wrong', fault !== null);
+  input.setAttribute('aria-invalid', String(fault !== null));
+  box.querySelector('.hint').textContent = fault ?? hint ?? '';
+}
+
+// A thin line at the top while something is asked; the page stays usable.
+let waiting = 0;
+export async function waitFor(promise) {
+  waiting += 1;
+  document.body.classList.add('waiting');
+  try {
+    return await promise;
+  } finally {
+    waiting -= 1;
+    document.body.classList.toggle('waiting', waiting > 0);
+  }
+}

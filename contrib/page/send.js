@@ -1,0 +1,57 @@
+// A changed list on its way to the room: what is changed is shown first, and nothing is overwritten unseen.
+
+import * as api from './api.js';
+import { changedLines } from './diff.js';
+import { button, element } from './dom.js';
+import { linesOf, readEntry } from './list.js';
+import { showDialog, waitFor } from './notice.js';
+import { entryWords } from './words.js';
+
+const SIGNS = { '+': ['ins', 'New: '], '-': ['del', 'Gone: '] };
+
+function changedLine({ sign, line }) {
+  const [tag, words] = SIGNS[sign];
+  const meaning = readEntry(line).entry ? element('span', { class: 'hint' }, entryWords(line)) : null;
+  return element('li', { class: tag },
+    element(tag, {}, element('span', { class: 'unseen' }, words), element('code', {}, line)), meaning);
+}
+
+export function difference(before, after) {
+  const changes = changedLines(linesOf(before), linesOf(after)).filter(({ sign }) => sign !== ' ');
+  return element('ul', { class: 'difference' }, changes.map(changedLine));
+}
+
+const review = (before, after) => showDialog('Send these changes?', (finish) => [
+  difference(before, after),
+  element('div', { class: 'actions' },
+    button('Cancel', () => finish(null)),
+    button('Send', () => finish('send'), { class: 'primary', autofocus: true }))]);
+
+const changedElsewhere = (before, now) => showDialog('The list was changed elsewhere', (finish) => [
+  element('p', {}, 'Since you opened it, somebody changed this list or one that it follows:'),
+  difference(before, now),
+  element('p', {}, 'Take the list as it is now and drop your changes, or go on with yours. Then you are shown what they would undo.'),
+  element('div', { class: 'actions' },
+    button('Cancel', () => finish(null), { autofocus: true }),
+    button('Take the list as it is', () => finish('theirs')),
+    button('Go on with mine', () => finish('mine')))]);
+
+// 'sent', 'dropped' where the list of the room was taken, or null where nothing was done.
+export async function sendList(draft) {
+  for (;;) {
+    const now = await waitFor(api.readList(draft.which, draft.path));
+    if (now !== draft.base) {
+      const answer = await changedElsewhere(draft.base, now);
+      if (!answer) return null;
+      draft.settle(now, answer === 'theirs' ? now : draft.text);
+      if (answer === 'theirs') return 'dropped';
+    }
+    if (!draft.isChanged) return 'dropped';
+    if (!(await review(now, draft.text))) return null;
+    // Whoever thinks about the changes may take a while.
+    if (await waitFor(api.readList(draft.which, draft.path)) === now) break;
+  }
+  await waitFor(api.setList(draft.which, draft.path, draft.text));
+  draft.settle(await waitFor(api.readList(draft.which, draft.path)).catch(() => draft.text));
+  return 'sent';
+}

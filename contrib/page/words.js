@@ -1,0 +1,195 @@
+// What letters, entries and faults are called in the language of an office.
+
+import { isGroup, isInherited, readEntry } from './list.js';
+import { GREATEST_DOCUMENT, namesOf } from './api.js';
+
+// The rights in the groups in which the page shows them. 'idle' ones are kept, but no request asks for them.
+export const GROUPS = [
+  { name: 'Read', letters: 'rxtc', idle: 'n' },
+  { name: 'Write', letters: 'waDd', idle: 'NT' },
+  { name: 'Manage', letters: 'Co', idle: 'hHy' },
+];
+
+const ASKED_RIGHTS = GROUPS.map((group) => group.letters).join('').length;
+
+const RIGHTS = {
+  r: { document: 'read it', folder: 'see what is in it', both: 'read documents, see what is in folders' },
+  x: { both: 'pass through to what is in it' },
+  t: { both: 'see its kind, owner and group' },
+  c: { both: 'see its access lists' },
+  n: { both: 'read named attributes' },
+  w: { document: 'replace its contents', folder: 'put new documents into it', both: 'replace documents, put new ones into folders' },
+  a: { document: 'add to its end', folder: 'make folders in it', both: 'add to documents, make folders' },
+  D: { both: 'remove or move away what is in it' },
+  d: { both: 'remove it or move it away' },
+  N: { both: 'write named attributes' },
+  T: { both: 'write attributes' },
+  C: { both: 'change its access lists' },
+  o: { both: 'change its owner and group' },
+  h: { both: 'write retention' },
+  H: { both: 'write retention hold' },
+  y: { both: 'synchronize' },
+};
+
+export const rightWords = (letter, kind = 'both') => RIGHTS[letter][kind] ?? RIGHTS[letter].both;
+
+export function listed(words) {
+  if (words.length < 2) return words.join('');
+  return `${words.slice(0, -1).join(', ')} and ${words.at(-1)}`;
+}
+
+// What nothing asks for is told only where there is nothing else.
+export function maskWords(mask, kind) {
+  const asked = [...mask].filter((letter) => GROUPS.some((group) => group.letters.includes(letter)));
+  if (asked.length === ASKED_RIGHTS) return 'do everything';
+  return listed((asked.length > 0 ? asked : [...mask]).map((letter) => rightWords(letter, kind)));
+}
+
+// 'all', 'some' or 'none' of a group's letters.
+export function extentOf(group, mask) {
+  const held = [...group.letters].filter((letter) => mask.includes(letter));
+  if (held.length === group.letters.length) return 'all';
+  return held.length > 0 || [...group.idle].some((letter) => mask.includes(letter)) ? 'some' : 'none';
+}
+
+const SPECIAL_WORDS = {
+  'OWNER@': 'the owner',
+  'GROUP@': 'the owning group',
+  'EVERYONE@': 'everyone',
+  'ANONYMOUS@': 'callers without a name',
+  'AUTHENTICATED@': 'everyone with a name',
+};
+
+export function whoWords(entry) {
+  return SPECIAL_WORDS[entry.who] ?? `${isGroup(entry) ? 'the group' : 'the user'} ${entry.who}`;
+}
+
+// Where an entry counts, by its flags f, d, n, i, in the order in which they are offered.
+export const REACHES = [
+  ['', 'only here'],
+  ['fd', 'here and all below'],
+  ['f', 'here and documents below'],
+  ['d', 'here and folders below'],
+  ['fdi', 'all below, not here'],
+  ['fi', 'documents below, not here'],
+  ['di', 'folders below, not here'],
+  ['fdn', 'here and one level below'],
+];
+
+export function reachWords(entry) {
+  const reach = [...'fdni'].filter((flag) => entry.flags.includes(flag)).join('');
+  const known = REACHES.find(([flags]) => flags === reach);
+  if (known) return known[1];
+  const wider = REACHES.find(([flags]) => flags === reach.replace('n', ''));
+  return wider ? `${wider[1]}, one level deep` : 'nowhere';
+}
+
+export const TYPE_WORDS = { A: 'Allow', D: 'Deny', U: 'Audit', L: 'Alarm' };
+
+// An entry's text as half a sentence: 'denies the group interns to write ..'.
+export function entryWords(text, kind = 'both') {
+  const { entry } = readEntry(text);
+  if (!entry) return text;
+  const verb = { A: 'allows', D: 'denies', U: 'records of', L: 'gives alarm of' }[entry.type];
+  const rights = entry.mask === '' ? 'nothing' : `to ${maskWords(entry.mask, kind)}`;
+  const from = isInherited(entry) ? ' (it comes from a folder above)' : '';
+  return `${verb} ${whoWords(entry)} ${rights}${from}`;
+}
+
+export const placeWords = (path) => {
+  const names = namesOf(path);
+  return names.length === 0 ? 'the top of the room' : `“${isolated(`/${names.join('/')}`)}”`;
+};
+
+// A name in its own direction, inside a sentence.
+export const isolated = (name) => `\u2068${name}\u2069`;
+
+const FAULTS = {
+  A1: 'The type has to be A (allow) or D (deny), for records U (audit) or L (alarm).',
+  A2: 'The flags may be the letters f d n i S F g I and no others.',
+  A3: 'This is no name of a user or a group. Names have letters, digits and . _ - + $ \\, no spaces and no umlauts; the special names are OWNER@, GROUP@, EVERYONE@, ANONYMOUS@ and AUTHENTICATED@.',
+  A4: 'The rights may be the letters rwanNxDtThHdcCoy and no others, and no spaces.',
+  A5: 'An entry has four parts with three colons between them: type:flags:who:rights.',
+  A6: 'The first line has to be “list:”, with a, p or both behind it where they are wanted, and nothing else.',
+  A7: 'A list that is sent may have 4,096 entries at most.',
+  A8: 'A list may have 64 entries of its own at most. Put people into a group and name that instead.',
+  A9: 'An entry of this type belongs into the other list: allow and deny decide access, audit and alarm ask for records.',
+  A10: 'S and F are for audit and alarm alone: an entry that allows or denies has neither.',
+  A11: '“Not here” needs something below to which the entry is passed on (f or d).',
+  A12: 'Nothing lies below a document, so its entries can’t be passed on (no f, d, n, i).',
+  A13: 'This line has characters that can’t be sent.',
+};
+
+export const faultWords = (code) => FAULTS[code] ?? `The room doesn’t take this (${code}).`;
+
+const CONFLICTS = {
+  'not-folder': (at) => `${at} is a document, so nothing lies below it. Load the folder again.`,
+  'wrong-kind': (at) => `${at} is of another kind, a folder where a document is wanted or the other way round. Take another name.`,
+  exists: (at) => `There is something at ${at} already. Take another name, or remove what is there first.`,
+  'not-empty': (at) => `${at} isn’t empty. Remove or move what is in it first.`,
+  root: () => 'The top of the room can’t be removed or moved.',
+  loop: () => 'A folder can’t be moved into itself or into a folder below it. Choose another place.',
+};
+
+const BAD_TARGETS = {
+  P1: 'A name may not be empty, “.” or “..”, nor longer than 255 bytes, nor have characters that don’t show. Take another name.',
+  P2: 'The path is longer than 4,096 bytes. Take shorter names, or a place further up.',
+  P3: 'The name has characters that can’t be sent. Take another name.',
+};
+
+function badRequest(body) {
+  const [why, code] = (body?.why ?? '').split(' ');
+  if (why === 'bad-target' && BAD_TARGETS[code]) return BAD_TARGETS[code];
+  if (why === 'bad-user') return 'The room doesn’t take your user name. Tell the administrator: names have letters, digits and . _ - + $ \\ alone.';
+  if (why === 'bad-body') return 'A name of a user, a group or an object wasn’t taken. Users and groups have letters, digits and . _ - + $ \\, no spaces.';
+  return `The room couldn’t read the request${why ? ` (${why})` : ''}. Load the page again.`;
+}
+
+// Which right is missing, where, and what says so.
+export function denialSentence(denial) {
+  if (!denial?.bits) return 'The front end refused this, as if another site had asked for it. Load the page again.';
+  const where = placeWords(denial.at);
+  const right = [...denial.bits].length > 1 ? 'rights' : 'right';
+  const said = denial.entry === null
+    ? 'No entry of its access list grants that.'
+    : `Entry ${denial.entry} of its access list denies it: it ${entryWords(denial.text)} (${isolated(denial.text)}).`;
+  return `At ${where} you lack the ${right} to ${maskWords(denial.bits)}. ${said} Ask whoever manages it.`;
+}
+
+const SENTENCES = {
+  0: 'The connection was lost. Whether the request was carried out isn’t known: look, and do it again where it wasn’t.',
+  401: 'Your password isn’t taken any more; it may have been changed. Load the page again and sign in with the new one.',
+  405: 'The room doesn’t know this request. Load the page again.',
+  431: 'The request was too long. Take a shorter name.',
+  500: 'The room couldn’t keep or read this, and nothing was changed. Try again; if that doesn’t help, tell the administrator.',
+  502: 'The room doesn’t answer at the moment. Try again in a minute; if it still doesn’t, tell the administrator.',
+  503: 'The room is busy. Try again in a minute.',
+  504: 'The room took too long to answer. Whether the request was carried out isn’t known: look before you do it again.',
+};
+
+export const tooLarge = (name) =>
+  `${name} has more than ${GREATEST_DOCUMENT.toLocaleString('en')} bytes (1 MiB), which is the most a document may have. Make it smaller, or cut it into parts.`;
+
+// Any refusal as a sentence with what to do.
+export function sentenceOf(fault) {
+  const { status, body } = fault;
+  if (status === undefined) return `The page itself failed: ${fault.message}. Load it again.`;
+  const at = body?.at ? placeWords(body.at) : 'that place';
+  if (status === 400) return badRequest(body);
+  if (status === 403) return denialSentence(body);
+  if (status === 404) return `There is nothing at ${at}. It may have been removed, renamed or moved: load its folder again.`;
+  if (status === 409) return CONFLICTS[body?.why]?.(at) ?? 'What is there doesn’t fit. Load the folder again.';
+  if (status === 413) return tooLarge(body?.at ? at : 'This');
+  if (status === 422) return faultWords(body?.why?.split(' ')[1]);
+  return SENTENCES[status] ?? `The room answered with status ${status}. Try again; if that doesn’t help, tell the administrator.`;
+}
+
+// Why a name can't be an object's, or null.
+export function nameFault(name) {
+  if (name === '') return 'Type a name.';
+  if (name === '.' || name === '..') return 'This name has a meaning of its own. Take another one.';
+  if (name.includes('/')) return 'A name can’t have a slash in it.';
+  if (/[\u0000-\u001f\u007f]/.test(name) || /\p{Surrogate}/u.test(name)) return 'The name has characters that can’t be used.';
+  if (new TextEncoder().encode(name).length > 255) return 'The name is too long: 255 bytes at most.';
+  return null;
+}

@@ -1,0 +1,65 @@
+# The page of contrib/page behind nginx, in Chromium: an office of two users, and another site.
+
+. "$here/front.sh"
+for python in python3 /usr/bin/python3 ''; do
+  [ -z "$python" ] || ! "$python" -c 'import selenium' 2>/dev/null || break
+done
+lacking=
+[ -n "$nginx" ] || lacking='nginx'
+has curl || lacking="$lacking curl"
+has chromium || has chromium-browser || has google-chrome || lacking="$lacking chromium"
+has chromedriver || lacking="$lacking chromedriver"
+[ -n "$python" ] || lacking="$lacking python3-selenium"
+if [ -n "$lacking" ]; then
+  skip 'the page' "missing: $lacking"
+  return
+fi
+
+# Runs a play, and counts each check that it tells. A play that ends before its last line has failed.
+play() { # NAME SCRIPT ARGUMENT ..
+  local name=$1 word check why ended=
+  shift
+  while IFS=$'\t' read -r word check why; do
+    case $word in
+      pass) pass ;;
+      fail) fail "$check" "$why" ;;
+      end) ended=yes ;;
+    esac
+  done < <(LC_ALL=C.UTF-8 PYTHONDONTWRITEBYTECODE=1 timeout -k 10 600 "$python" "$here/page/$1" "${@:2}" 2>play.err)
+  [ -n "$ended" ] || fail "$name" "it broke off: $(tail -c 600 play.err)"
+}
+
+printf 'group,user\nstaff,bob\n' >groups.csv
+printf 'alice:{PLAIN}a\nbob:{PLAIN}b\n' >passwords
+open_room F
+gives 'groups' 0 'groups 1, members 1\n' '' groups F groups.csv
+set_list F / dacl list:a "A:fd:alice:$ALL" A::AUTHENTICATED@:xt
+
+# Another site. The room is the same before and after.
+start_server F 1000 || return
+start_front 'the page' || return
+api() { curl -s -o "$work/body" -w '%{http_code}' -u alice:a "$@"; }
+holds 'a folder' [ "$(api -X POST "http://127.0.0.1:$front/folder/letters")" = 201 ]
+holds 'a document' [ "$(api -X PUT --data-binary Dear "http://127.0.0.1:$front/doc/letters/reply")" = 201 ]
+stop_server
+stop_proxy
+run dump F
+cp "$work/out" before
+start_server F 1000 || return
+start_front 'the page' || return
+play 'another site' foreign.py "$PWD" "$front" "$PWD/access.log"
+stop_server
+stop_proxy
+gives 'sound after another site' 0 'sound\n' '' verify F
+run dump F
+same 'another site changed nothing' "$work/out" before
+
+# The office. PAGE_PICTURES is a folder for the pictures of docs/page.md.
+start_server F 10000 || return
+start_front 'the page' || return
+# It kills the server at its end, which is no news.
+disown "$server"
+play 'the office' office.py "$PWD" "$front" "$PWD/access.log" "$server" "$proxy" "$here/../docs" ${PAGE_PICTURES:+"$PAGE_PICTURES"}
+stop_server
+stop_proxy
+gives 'sound after the office' 0 'sound\n' '' verify F

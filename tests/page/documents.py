@@ -1,0 +1,128 @@
+"""The play of folders and documents, by the owner alice."""
+
+import urllib.request
+
+from selenium.webdriver.common.keys import Keys
+
+STRANGE = 'a b%2F?#<img src=x onerror=1>'
+HEBREW = '\u05e9\u05dc\u05d5\u05dd "x".txt'
+LIMIT = 1048576
+
+DROP = """
+const transfer = new DataTransfer();
+transfer.items.add(new File(['dropped'], arguments[0]));
+document.querySelector('.folder-view').dispatchEvent(
+  new DragEvent('drop', { dataTransfer: transfer, bubbles: true, cancelable: true }));
+"""
+
+
+class Documents:
+    def make_folder(self):
+        alice = self.alice
+        alice.open('')
+        assert alice.one('#me').text == 'alice'
+        alice.press('New folder')
+        alice.press('Make it', 'dialog')
+        assert 'Type a name' in alice.one('dialog .hint').text
+        alice.write('dialog input', 'letters')
+        alice.press('Make it', 'dialog')
+        alice.says('letters', 'was made')
+        alice.lists('letters')
+
+    def upload(self):
+        alice = self.alice
+        alice.press('letters')
+        alice.until(lambda: 'Nothing is in this folder' in alice.one('.sheet').text, 'an empty folder')
+        paths = [self.file('Report 10.txt', b'ten'), self.file('Report 2.txt', b'two'),
+                 self.file('Größe 100%25.html', b'<script>document.title = "evil"</script>')]
+        alice.script("document.querySelector('input[type=file]').hidden = false")
+        alice.one('input[type=file]').send_keys('\n'.join(paths))
+        alice.until(lambda: len(alice.all('.uploads .good')) == 3, 'three uploads')
+        alice.lists('Größe 100%25.html', 'Report 2.txt', 'Report 10.txt')
+
+    def drop(self):
+        self.alice.script(DROP, HEBREW)
+        self.alice.lists('Größe 100%25.html', 'Report 2.txt', 'Report 10.txt', HEBREW)
+        assert self.ask('GET', '/doc/letters/' + urllib.request.quote(HEBREW)) == 'dropped'
+
+    def replace(self):
+        alice = self.alice
+        for answer, content in (('Cancel', 'dropped'), ('Replace it', 'anew')):
+            alice.script(DROP.replace("'dropped'", "'anew'"), HEBREW)
+            alice.says(HEBREW, css='dialog')
+            alice.press(answer, 'dialog')
+            alice.until(lambda: self.ask('GET', '/doc/letters/' + urllib.request.quote(HEBREW)) == content, content)
+
+    def too_large(self):
+        alice = self.alice
+        alice.reload()
+        path = self.file('large', b'x' * (LIMIT + 1))
+        alice.script("document.querySelector('input[type=file]').hidden = false")
+        alice.one('input[type=file]').send_keys(path)
+        alice.says('1,048,576', css='.uploads .bad')
+        with open(self.log, encoding='utf-8') as log:
+            assert 'letters/large' not in log.read()
+
+    def strange_name(self):
+        alice = self.alice
+        alice.press('New folder')
+        alice.write('dialog input', STRANGE)
+        alice.press('Make it', 'dialog')
+        alice.says(STRANGE, 'was made')
+        alice.until(lambda: STRANGE in alice.names(), STRANGE)
+        alice.press(STRANGE)
+        alice.until(lambda: alice.one('h1').text == STRANGE, 'its heading')
+        assert STRANGE in alice.one('#path').text
+        assert not alice.script("return document.querySelector('main img, #path img, .notice img')")
+
+    def strange_list(self):
+        """The name is shown in the views of access too, and in sentences of the room."""
+        alice = self.alice
+        alice.press('Access')
+        alice.until(lambda: 'By entry' in alice.one('.sheet').text, 'rights')
+        assert alice.one('h1').text == STRANGE
+        alice.press('All documents', '#path')
+        alice.press('letters')
+        alice.press('New folder')
+        alice.write('dialog input', STRANGE)
+        alice.press('Make it', 'dialog')
+        alice.says(STRANGE, 'already')
+
+    def move_strange(self):
+        alice = self.alice
+        alice.press(f'Rename or move: {STRANGE}')
+        alice.write('dialog input', STRANGE + '2')
+        alice.press('The folder above', 'dialog')
+        alice.until(lambda: 'the top of the room' in alice.one('dialog .where').text, 'the top')
+        alice.press('Move it', 'dialog')
+        alice.says(STRANGE + '2', 'is now')
+        alice.until(lambda: STRANGE not in alice.names(), 'that it is gone')
+        alice.press('All documents', '#path')
+        alice.lists(STRANGE + '2', 'letters')
+
+    def remove_strange(self):
+        alice = self.alice
+        alice.press(f'Remove: {STRANGE}2')
+        alice.press('Cancel', 'dialog')
+        assert STRANGE + '2' in alice.names()
+        alice.press(f'Remove: {STRANGE}2')
+        alice.press('Remove it', 'dialog')
+        alice.says(STRANGE + '2', 'was removed')
+        alice.lists('letters')
+
+    def not_empty(self):
+        alice = self.alice
+        alice.press('Remove: letters')
+        alice.press('Remove it', 'dialog')
+        alice.says('letters', 'isn’t empty', 'Remove or move')
+
+    def keyboard(self):
+        alice = self.alice
+        alice.button('New folder').send_keys(Keys.ENTER)
+        alice.one('dialog input').send_keys('keys', Keys.ENTER)
+        alice.says('keys', 'was made')
+        alice.button('Remove: keys').send_keys(Keys.ENTER)
+        alice.until(lambda: alice.script('return document.activeElement.textContent') == 'Cancel', 'the question')
+        alice.driver.switch_to.active_element.send_keys(Keys.TAB)
+        alice.driver.switch_to.active_element.send_keys(Keys.ENTER)
+        alice.says('keys', 'was removed')

@@ -1,0 +1,132 @@
+#!/usr/bin/env python3
+"""Another site in the browser of a user who is signed in: it may not act in the user's name.
+
+    foreign.py FOLDER FRONT-PORT ACCESS-LOG
+"""
+
+import http.server
+import signal
+import sys
+import threading
+
+from browser import Browser, Checks
+
+ROOM = 'rooms.example'
+FOREIGN = 'elsewhere.example'
+
+# What a page can make a browser send. 'no-cors' needs no leave of the other side.
+ATTACKS = [
+    ('fetch', 'POST', '/folder/evil', "{method: 'POST', mode: 'no-cors', credentials: 'include'}"),
+    ('fetch', 'POST', '/move/letters', "{method: 'POST', mode: 'no-cors', credentials: 'include', body: '{\"to\":\"/x\"}'}"),
+    ('fetch', 'POST', '/doc/letters/reply', "{method: 'POST', mode: 'no-cors', credentials: 'include', body: 'evil'}"),
+    ('fetch', 'PUT', '/doc/letters/reply', "{method: 'PUT', credentials: 'include', body: 'evil'}"),
+    ('fetch', 'PUT', '/dacl/letters', "{method: 'PUT', credentials: 'include', body: 'list:a'}"),
+    ('fetch', 'DELETE', '/object/letters/reply', "{method: 'DELETE', credentials: 'include'}"),
+]
+
+FORM = """
+const form = document.createElement('form');
+form.method = 'POST';
+form.enctype = 'text/plain';
+form.action = arguments[0];
+const input = document.createElement('input');
+input.name = '{"x":"';
+input.value = '","to":"/evil"}';
+form.append(input);
+document.body.append(form);
+form.submit();
+"""
+
+
+class Page(http.server.BaseHTTPRequestHandler):
+    def do_GET(self):
+        self.send_response(200)
+        self.send_header('Content-Type', 'text/html')
+        self.end_headers()
+        self.wfile.write(b'<!doctype html><link rel=icon href="data:,"><title>elsewhere</title>')
+
+    def log_message(self, *words):
+        pass
+
+
+def lines(log):
+    with open(log, encoding='utf-8') as file:
+        return [line.split() for line in file]
+
+
+def refused(browser, log, before, path):
+    """The lines for this path since then. Each has to be a 403; a preflight counts for what it asks."""
+    def seen():
+        return [line for line in lines(log)[before:] if line[2] == path]
+    told = browser.until(seen, f'a request for {path}')
+    assert all(line[0] == '403' for line in told), f'{told}'
+    return told
+
+
+def attack(browser, base, log, path, how):
+    before = len(lines(log))
+    browser.driver.execute_async_script(
+        f"const done = arguments[1]; fetch(arguments[0], {how}).then(() => done(), () => done());", base + path)
+    refused(browser, log, before, path)
+
+
+def submit(browser, base, log, path, there):
+    before = len(lines(log))
+    browser.script(FORM, base + path)
+    told = refused(browser, log, before, path)
+    assert told[0][3] == 'alice', f'sent without her password: {told}'
+    browser.driver.get(there)
+
+
+def sends_password(browser, base, log):
+    """Else the checks would show little: reading goes through in the user's name, and can't be looked at."""
+    before = len(lines(log))
+    seen = browser.driver.execute_async_script(
+        "const done = arguments[1]; fetch(arguments[0], {mode: 'no-cors', credentials: 'include'})"
+        ".then((reply) => done(reply.type), (fault) => done(String(fault)));", f'{base}/folder/letters')
+    assert seen == 'opaque', seen
+    told = [line[:4] for line in lines(log)[before:] if line[2] == '/folder/letters']
+    assert told == [['200', 'GET', '/folder/letters', 'alice']], f'{told}'
+
+
+def framed(browser, base):
+    browser.script("const frame = document.createElement('iframe'); frame.src = arguments[0]; document.body.append(frame);", base)
+    # A frame that was refused is another origin's, and so can't be looked into.
+    browser.until(lambda: any('frame-ancestors' in entry['message'] for entry in browser.driver.get_log('browser')),
+                  'a refused frame')
+
+
+def play(browser, checks, base, there, log, is_near):
+    browser.driver.get(there)
+    name = f'{there.split("//")[1].split(":")[0]} asks {base.split("//")[1].split(":")[0]}:'
+    # This browser keeps the passwords of fetch apart for each site. Others don't.
+    if is_near:
+        checks.step(f'{name} the password is sent', lambda: sends_password(browser, base, log))
+    for kind, method, path, how in ATTACKS:
+        checks.step(f'{name} {kind} {method} {path}', lambda: attack(browser, base, log, path, how))
+    for path in ('/move/letters', '/folder/evil'):
+        checks.step(f'{name} a form, {path}', lambda: submit(browser, base, log, path, there))
+    checks.step(f'{name} a frame', lambda: framed(browser, base))
+
+
+def main():
+    folder, front, log = sys.argv[1:4]
+    signal.signal(signal.SIGTERM, lambda *_: sys.exit(1))
+    server = http.server.ThreadingHTTPServer(('127.0.0.1', 0), Page)
+    threading.Thread(target=server.serve_forever, daemon=True).start()
+    # A browser says 'Sec-Fetch-Site' to 127.0.0.1 and to TLS; to a plain name it says 'Origin' alone.
+    named, plain = f'http://{ROOM}:{front}', f'http://127.0.0.1:{front}'
+    plays = [(named, FOREIGN, False), (named, f'other.{ROOM}', True), (plain, FOREIGN, False), (plain, '127.0.0.1', True)]
+    rules = ','.join(f'MAP {host} 127.0.0.1' for host in (ROOM, f'*.{ROOM}', FOREIGN))
+    checks = Checks()
+    browser = Browser(f'{folder}/foreign', named, 'alice', 'a', rules)
+    try:
+        browser.driver.get(plain.replace('//', '//alice:a@') + '/me')
+        for base, host, is_near in plays:
+            play(browser, checks, base, f'http://{host}:{server.server_port}/', log, is_near)
+    finally:
+        browser.quit()
+    print('end', flush=True)
+
+
+main()

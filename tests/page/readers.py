@@ -1,0 +1,85 @@
+"""The play of what the reader bob may do, and of what he is told."""
+
+import urllib.request
+
+from documents import DROP, HEBREW
+
+
+class Readers:
+    def denied(self):
+        bob = self.bob
+        bob.open('#/letters')
+        assert bob.one('#me').text == 'bob'
+        bob.says('“/letters”', 'the right to read documents', 'No entry')
+        bob.open('#/letters?rights')
+        assert 'No entry grants it.' in bob.one('.may-not .why').text
+        bob.open('#/letters?dacl')
+        assert 'the right to see its access lists' in bob.one('.empty').text
+
+    def give_access(self):
+        alice = self.alice
+        alice.open('#/letters?dacl')
+        alice.press('Add an entry')
+        alice.one('.who select').send_keys('Group')
+        alice.write('.who input', 'staff')
+        alice.press('Review and send')
+        shown = alice.one('dialog .difference')
+        assert 'A:fdg:staff:rxtc' in shown.text and 'allows the group staff to' in shown.text, shown.text
+        alice.press('Send', 'dialog')
+        alice.says('counts from now on')
+        assert self.ask('GET', '/dacl/letters').split('\n')[1] == 'A:fdg:staff:rxtc'
+
+    def reads(self):
+        bob = self.bob
+        bob.open('#/letters')
+        bob.lists('Größe 100%25.html', 'Report 2.txt', 'Report 10.txt', HEBREW)
+        bob.press('Report 2.txt')
+        assert bob.downloaded('Report 2.txt') == b'two'
+        bob.press('Download: Report 10.txt')
+        assert bob.downloaded('Report 10.txt') == b'ten'
+
+    def page_as_document(self):
+        """A document of HTML is kept as a file, whichever way it is asked for."""
+        bob = self.bob
+        name = 'Größe 100%25.html'
+        bob.press(name)
+        assert b'<script>' in bob.downloaded(name)
+        bob.driver.get(self.base + '/doc/letters/' + urllib.request.quote(name))
+        assert b'<script>' in bob.downloaded(name)
+        assert bob.driver.title == 'letters – rooms' and bob.driver.current_url.endswith('#/letters')
+
+    def may_not(self):
+        bob = self.bob
+        bob.press('Remove: Report 2.txt')
+        bob.press('Remove it', 'dialog')
+        bob.says('“/letters”', 'the right to replace documents, put new ones', 'No entry')
+        bob.script(DROP, 'new.txt')
+        bob.says('“/letters”', 'No entry', css='.uploads .bad')
+
+    def deny(self):
+        """An entry that denies is added, and moved above the one that allows."""
+        alice = self.alice
+        alice.open('#/letters?dacl')
+        alice.press('Add an entry')
+        alice.one('[data-place="1"] td[data-heading=Type] select').send_keys('Deny')
+        alice.write('[data-place="1"] .who input', 'bob')
+        read, write = alice.all('[data-place="1"] .groups input')[:2]
+        read.click()
+        write.click()
+        alice.press('Move entry 2 up')
+        assert alice.one('[data-place="0"] .letters').text == 'waDd'
+        alice.press('Review and send')
+        alice.press('Send', 'dialog')
+        alice.says('counts from now on')
+
+    def denied_by_entry(self):
+        bob = self.bob
+        bob.press('Remove: Report 2.txt')
+        bob.press('Remove it', 'dialog')
+        bob.says('Entry 1 of its access list denies it', 'denies the user bob', 'D:I:bob:waDd', '“/letters/Report 2.txt”')
+        bob.open('#/letters/Report%202.txt?rights')
+        told = bob.one('.rights').text
+        assert 'By entry 1, from a folder above, which denies it to the user bob.' in told, told
+        assert 'By entry 2, from a folder above, which allows it to the group staff.' in told, told
+        bob.open('#/letters?dacl')
+        assert 'You may look at this list' in bob.one('.sheet').text and not bob.all('.entries select')
