@@ -65,12 +65,12 @@ write_tool() {
 . "$STAND/step"
 name=${0##*/}
 step "$name $*"
-if [ "$name" = "$(command -p cat "$STAND/no-tool" 2>/dev/null)" ]; then exit 1; fi
+if [ -e "$STAND/no-tool" ] && [ "$name" = "$(<"$STAND/no-tool")" ]; then exit 1; fi
 case $name in
   sleep) ;;
-  mail | logger) { echo "$name $*"; [ "$name" = logger ] || command -p cat; } >>"$STAND/messages" ;;
+  mail | logger) { echo "$name $*"; [ "$name" = logger ] || PATH=${PATH#*:} cat; } >>"$STAND/messages" ;;
   rooms) exec "$STAND_ROOMS" "$@" ;;
-  *) command -p "$name" "$@" ;;
+  *) exec "$(PATH=${PATH#*:} command -v "$name")" "$@" ;;
 esac
 TOOL
 }
@@ -80,6 +80,7 @@ write_systemctl() {
 #!/usr/bin/env bash
 . "$STAND/step"
 step "systemctl $*"
+PATH=${PATH#*:}
 read -r pid <"$STAND/pid"
 alive() {
   [ -n "$pid" ] && kill -0 "$pid" 2>/dev/null && ! grep -q ') Z ' "/proc/$pid/stat" 2>/dev/null
@@ -93,7 +94,7 @@ serve() {
   setsid "${user[@]}" "$STAND_ROOMS" serve "$STAND_FILE" --port "$port" --count 1000000 </dev/null >"$STAND/out" 2>"$STAND/err" &
   pid=$!
   echo "$pid" >"$STAND/pid"
-  while alive && [ ! -s "$STAND/out" ]; do command -p sleep 0.02; done
+  until grep -q '^listening ' "$STAND/out" || ! alive; do sleep 0.02; done
 }
 case $1 in
   is-active)
@@ -103,9 +104,9 @@ case $1 in
     exit 3
     ;;
   stop)
-    command -p rm -f "$STAND/started"
+    rm -f "$STAND/started"
     if alive; then kill -KILL "$pid"; fi
-    while alive; do command -p sleep 0.02; done
+    while alive; do sleep 0.02; done
     ;;
   start)
     [ ! -e "$STAND/no-start" ] || exit 1

@@ -60,7 +60,6 @@ cp office/F backups/2019-01-02.030000/F
 : >backups/2019-01-02.030000/mine
 cp office/F backups/2019-01-02.030000.unsound/F
 setting KEEP 3
-echo dump >"$stand/no-tool"
 setting PROGRAM /bin/false
 night
 says 'a night in which all fails' 1 'verify of'
