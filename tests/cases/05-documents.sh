@@ -1,0 +1,83 @@
+# The documents: each link leads to a file or a heading that is there, and lines are no longer than 100 columns.
+
+top=$here/..
+
+# What a page says outside of fenced code, with a number before each line.
+prose() { awk '/^ *(```|~~~)/ { fenced = !fenced; next } !fenced { print NR ":" $0 }' "$1"; }
+
+# The anchors of a page's headings: small letters, no punctuation, a '-' for each space, and a number from the second on.
+anchors() { # PAGE
+  prose "$1" | sed -n 's/^[0-9]*:##*  *//p' | sed -e 's/\xe2\x80.//g' -e 's/\[\([^]]*\)\]([^)]*)/\1/g' -e 's/ *#* *$//' |
+    tr 'A-Z' 'a-z' | tr -d '!-,./:-@[-^`{-~' | tr ' ' '-' | awk '{ n = seen[$0]++; print n ? $0 "-" n : $0 }'
+}
+
+# Where the links of a page lead, as LINE:TARGET; code between backquotes has none.
+links() { # PAGE
+  prose "$1" | sed -e 's/`[^`]*`//g' | awk '{
+    line = $0; sub(/:.*/, "", line); rest = substr($0, length(line) + 2)
+    if (match(rest, /^ *\[[^]]*\]: */)) print line ":" substr(rest, RLENGTH + 1)
+    while ((at = index(rest, "](")) > 0) {
+      rest = substr(rest, at + 2); end = index(rest, ")")
+      if (end > 0) { target = substr(rest, 1, end - 1); sub(/ +".*/, "", target); print line ":" target }
+    }
+  }'
+}
+
+# What is wrong with the links of a page, a line each.
+lost_links() { # PAGE
+  local line target file anchor
+  while IFS=: read -r line target; do
+    case $target in http://* | https://* | mailto:*) continue ;; esac
+    file=${target%%#*}
+    anchor=${target#"$file"}
+    file=${file:+$(dirname "$1")/$file}
+    file=${file:-$1}
+    if [ ! -e "$file" ]; then
+      echo "line $line: no file at $target"
+    elif [ -n "$anchor" ] && ! anchors "$file" | grep -qxF -e "${anchor#\#}"; then
+      echo "line $line: no heading for $target"
+    fi
+  done < <(links "$1")
+}
+
+# Lines over 100 columns, of which a byte that goes on with a letter is none. Tables, and links that stand alone, may be wider.
+long_lines() { # PAGE
+  prose "$1" | awk '{
+    line = $0; sub(/:.*/, "", line); text = substr($0, length(line) + 2); wide = text; gsub(/[\200-\277]/, "", wide)
+    if (length(wide) <= 100 || text ~ /^ *\|/) next
+    if (text ~ /^ *([-*] )?(<?https?:[^ ]*>?|\[[^]]*\](\([^ )]*\)|: *[^ ]*))[.,;]?$/) next
+    print "line " line ": " length(wide) " columns"
+  }'
+}
+
+none() { # NAME FILE: nothing was found
+  if [ -s "$2" ]; then
+    fail "$1" "$(wc -l <"$2") found"
+    head -n 20 "$2" | sed 's/^/  /'
+  else
+    pass
+  fi
+}
+
+for page in "$top"/README.md "$top"/CONTRIBUTING.md "$top"/docs/*.md; do
+  name=${page#"$top"/}
+  lost_links "$page" >found
+  none "links of $name" found
+  long_lines "$page" >found
+  none "lines of $name" found
+done
+
+# The case itself finds what it is for.
+printf '%s\n' '# One `two`, three' '# A' '# A' '[x](#one-two-three) [x](#a-1) [x](page.md) [x](page.md#a "T")' '```' '[x](none.md)' '```' \
+  '`[x](none.md)` <http://none>' >page.md
+lost_links page.md >found
+holds 'links that lead somewhere' [ ! -s found ]
+printf '%s\n' '[x](#b) and [y](none.md)' '[z]: gone.md' '[w](page.md#a-2)' >bad.md
+lost_links bad.md >found
+printf '%s\n' 'line 1: no heading for #b' 'line 1: no file at none.md' 'line 2: no file at gone.md' 'line 3: no heading for page.md#a-2' >wanted
+same 'links that lead nowhere' found wanted
+long=$(printf 'x%.0s' {1..99})
+printf '%s\n' "| $long |" "[$long](y.md)" "https://$long" "$long ." "$longé" '```' "$long$long" '```' >wide.md
+long_lines wide.md >found
+printf '%s\n' 'line 4: 101 columns' >wanted
+same 'lines that are too long' found wanted

@@ -1,0 +1,204 @@
+# contrib/rooms-nightly: what a good night leaves, each thing that may go wrong in it, and an interruption at each of its calls.
+
+if [ "$loopback" = no ] || ! has flock || ! has setpriv || ! has setsid; then
+  skip 'the nightly run' 'no loopback, or no flock, setpriv, setsid'
+  return
+fi
+make_stand
+night() { script rooms-nightly "$PWD/conf"; }
+setting() { # NAME VALUE
+  sed "s|^$1=.*|$1=$2|" conf >conf.new
+  mv conf.new conf
+}
+new_office() {
+  unit stop
+  rm -f office/F office/F-wal run/*
+  as_user "$rooms" init "$PWD/office/F" root staff >/dev/null
+  printf '%s\n' 'list:a' "A:fd:root:$ALL" | as_user "$rooms" reset "$PWD/office/F" / dacl >/dev/null
+  unit start
+}
+backups() { (cd backups && ls); }
+answers() { # NAME TARGET REPLY
+  read -r port <"$stand/port"
+  asks "$1" "$3" "${4:-GET}" "$2" root "${5-}"
+}
+
+# A good night: the copy has what was answered last, which is in the log.
+new_office
+answers 'a document before the night' /doc/f made PUT hello
+night
+holds 'a good night' [ "$status" = 0 ]
+holds 'no message' [ ! -s "$stand/messages" ]
+unit_runs 'the server runs after it'
+answers 'and has the document' /doc/f "reply '200 OK' application/octet-stream hello"
+good=$(backups)
+holds 'one folder, of this night' [ "$(grep -cE '^[0-9]{4}-[0-9]{2}-[0-9]{2}\.[0-9]{6}$' <<<"$good")" = 1 ]
+gives 'the copy is sound' 0 'sound\n' '' verify "backups/$good/F"
+run dump "backups/$good/F"
+holds 'the copy has the document' grep -q '^document root staff 5 /f$' "$work/out"
+holds 'the lists have it' grep -q '^document root staff 5 /f$' "backups/$good/lists.txt"
+holds 'the records are there' grep -q '^at,user,path' "backups/$good/records.csv"
+holds 'nobody else may read it' [ -z "$(find backups/* -perm /077)" ]
+holds 'the room is still its users' [ -z "$(find office -not -user "$STAND_USER")" ]
+holds 'nothing is owed' [ -z "$(ls run)" ]
+
+# A server that somebody stopped stays stopped.
+unit stop
+night
+says 'a night without a server' 0 "isn't running, and is not started"
+unit_rests 'it is not started'
+unit start
+
+# KEEP: older ones go after a good night, and nothing else does.
+rm -rf backups/*
+for day in 1 2 3 4; do
+  mkdir "backups/2020-01-0$day.030000"
+  cp office/F "backups/2020-01-0$day.030000/F"
+done
+mkdir backups/2019-01-01.030000 backups/2019-01-02.030000 backups/2019-01-02.030000.unsound
+cp office/F backups/2019-01-02.030000/F
+: >backups/2019-01-02.030000/mine
+cp office/F backups/2019-01-02.030000.unsound/F
+setting KEEP 3
+setting PROGRAM /bin/false
+night
+says 'a night in which all fails' 1 'verify of'
+holds 'removes nothing' [ "$(backups | grep -cE '^20(19|20)')" = 7 ]
+setting PROGRAM "$stand/bin/rooms"
+night
+says 'a folder with more in it' 1 "can't be removed"
+rm backups/2019-01-02.030000/mine
+rmdir backups/2019-01-02.030000
+holds 'the others went' [ "$(backups | grep -c '^2020-01-0[34]')" = 2 ]
+night
+holds 'a good night with KEEP' [ "$status" = 0 ]
+holds 'three good ones stay' [ "$(find backups -name F | grep -vc unsound)" = 3 ]
+holds 'what is no backup stays' [ -d backups/2019-01-01.030000 ]
+holds 'what is unsound stays' [ -e backups/2019-01-02.030000.unsound/F ]
+setting KEEP 0
+rm -rf backups/*
+
+# Each failure is said to somebody, and the server runs.
+failing() { # NAME TEXT
+  says "$1" 1 "$2"
+  unit_runs "$1: the server runs"
+  holds "$1: mail" grep -q '^mail -s .* root$' "$stand/messages"
+  holds "$1: the mail says it" grep -qF "$2" "$stand/messages"
+  holds "$1: nothing is taken for a backup" [ -z "$(backups | grep -vE 'unsound$')" ]
+}
+echo cat >"$stand/no-tool"
+night
+failing 'a copy that fails' 'copy of'
+echo sync >"$stand/no-tool"
+night
+failing 'a disk that does not take it' 'copy of'
+echo mkdir >"$stand/no-tool"
+night
+failing 'no folder' 'was not stopped'
+rm "$stand/no-tool"
+if mkdir small && mount -t tmpfs -o size=1m,mode=700 none small 2>/dev/null; then
+  setting BACKUPS "$PWD/small"
+  head -c 2000000 /dev/zero >small/filler 2>/dev/null
+  night
+  failing 'a full disk' 'failed'
+  holds 'a full disk is left as it was' [ "$(ls small)" = filler ]
+  umount small
+  setting BACKUPS "$PWD/backups"
+else
+  skip 'a night on a full disk' 'no leave to mount'
+fi
+echo mail >"$stand/no-tool"
+setting PROGRAM /bin/false
+night
+says 'mail that fails' 1 'mail to root failed'
+holds 'goes to the log' grep -q '^logger .*verify of' "$stand/messages"
+setting MAIL ''
+night
+holds 'nobody named: the log' grep -q '^logger .*verify of' "$stand/messages"
+setting MAIL root
+setting PROGRAM "$stand/bin/rooms"
+rm -f "$stand/no-tool"
+: >"$stand/no-start"
+night
+says 'a server that does not start' 1 "doesn't start"
+rm "$stand/no-start"
+script rooms-nightly --after "$PWD/conf"
+says 'is started after it' 1 'interrupted'
+unit_runs 'a second start'
+rm -rf backups/*
+if has_sqlite; then
+  unit stop
+  as_user sqlite3 office/F "UPDATE nodes SET dacl_inh = 'A:I:bob:r' || char(10)" >/dev/null
+  unit start
+  night
+  failing 'an unsound room' 'V3 broken-law'
+  holds 'its copy is named so' [ "$(backups | grep -c '\.unsound$')" = 1 ]
+else
+  skip 'an unsound room at night' 'no sqlite3, or one that is too old'
+fi
+unit stop
+rm -rf backups/* office/F office/F-wal
+take unsound.1.db office/F
+[ "$STAND_USER" = "$(id -u)" ] || chown "$STAND_USER" office/F
+unit start
+night
+says 'a room of the old schema' 1 'schema 1 is old'
+says 'has no server that stays' 1 "doesn't stay"
+rm -f office/F
+night
+says 'a room that is not there' 1 "isn't there"
+
+# What is refused before anything is stopped.
+new_office
+refused() { # NAME TEXT
+  says "$1" 2 "$2"
+  unit_runs "$1: the server runs"
+  holds "$1: a message" [ -s "$stand/messages" ]
+}
+cp conf kept
+for line in 'KEEP=many' 'KEEP=-1' 'FILE=F' 'UNIT=a b' 'UNIT=-a' 'MAIL=-s' 'PROGRAM=/nowhere' 'FILE=/nowhere/F' 'rm -rf /' 'OTHER=x'; do
+  { cat kept; echo "$line"; } >conf
+  night
+  refused "settings with $line" "$([[ $line = *nowhere* ]] && echo 'no ' || echo 'bad settings: ')"
+done
+cp kept conf
+setting BACKUPS "$PWD/not-mounted"
+night
+refused 'no folder of backups' 'no folder'
+cp kept conf
+script rooms-nightly "$PWD/nothing"
+refused 'no settings' 'no settings'
+script rooms-nightly --other
+refused 'an unknown word' 'bad words'
+exec 8<conf
+flock 8
+night
+refused 'another run at work' 'busy'
+exec 8<&-
+
+# An interruption at each call, alone and followed by what the unit does after each run.
+for how in TERM KILL; do
+  for number in {1..60}; do
+    rm -rf backups/* "$stand/hit"
+    export KILL_AT=$number KILL_HOW=$how
+    night
+    unset KILL_AT
+    [ -e "$stand/hit" ] || break
+    name="$how at $(cat "$stand/hit")"
+    name=${name//$PWD\//}
+    [ "$how" = KILL ] || unit_runs "$name"
+    script rooms-nightly --after "$PWD/conf"
+    unit_runs "$name, and after"
+    for copy in backups/*; do
+      case $copy in
+        *'*' | *.part) ;;
+        *) [ "$("$rooms" verify "$copy/F" 2>&1)" = sound ] || fail "$name" "$copy is no backup" ;;
+      esac
+    done
+    holds "$name: nothing is owed" [ -z "$(ls run)" ]
+  done
+  holds "$how: the calls came to an end" [ "$number" -gt 10 -a "$number" -lt 60 ]
+  night
+  holds "$how: a good night after all" [ "$status" = 0 ]
+done
+answers 'the room answers' '/can/?' "json '200 OK' '{}'"

@@ -1,0 +1,228 @@
+# contrib/rooms-restore, its bad input, and an interruption at each of its calls; then contrib/install, and the units.
+
+if [ "$loopback" = no ] || ! has flock || ! has setpriv || ! has setsid; then
+  skip 'restoring' 'no loopback, or no flock, setpriv, setsid'
+else
+
+make_stand
+restores() { script rooms-restore --conf "$PWD/conf" "$@"; }
+made_by_user() { as_user "$rooms" "$@" >/dev/null; }
+# The old room has carol as its root's owner and the backup has dave; the backup's last words are in its log.
+made_by_user init "$PWD/office/F" carol staff
+made_by_user init "$PWD/office/other" dave staff
+cp office/F old.F
+cp office/F-wal old.F-wal
+mkdir backups/good
+cp office/other backups/good/F
+cp office/other-wal backups/good/F-wal
+rm office/other office/other-wal
+if start_server backups/good/F 2; then
+  asks 'a document in the backup' made PUT /doc/f dave hello
+  stop_server
+fi
+holds 'which is in the log' [ "$(wc -c <backups/good/F-wal)" -gt 1000 ]
+cksum backups/good/* >backup.sums
+cp -R backups/good backups/torn
+head -c 5000 backups/good/F >backups/torn/F
+mkdir backups/old-schema backups/empty
+take unsound.1.db backups/old-schema/F
+old_office() {
+  rm -rf office/*
+  cp old.F office/F
+  cp old.F-wal office/F-wal
+  chmod 600 office/*
+  [ "$STAND_USER" = "$(id -u)" ] || chown "$STAND_USER:$STAND_USER" office/*
+}
+owner() { as_user "$rooms" dump "$PWD/office/F" 2>&1 | sed -n '1s/folder \([a-z]*\) staff .*/\1/p'; }
+aside() { find office -name 'before-restore.*' | grep -q .; }
+unchanged() { # NAME
+  holds "$1: the room is the old one" [ "$(cat office/F office/F-wal | cksum)" = "$(cat old.F old.F-wal | cksum)" ]
+  holds "$1: nothing else lies there" [ "$(cd office && echo *)" = 'F F-wal' ]
+}
+
+# Bad input.
+old_office
+unit start
+restores good
+says 'while the server runs' 2 'the server runs'
+unit_runs 'which goes on'
+unit stop
+old_office
+sleep 100 7<office/F &
+holder=$!
+restores good
+says 'while a process has the file open' 2 "process $holder has $PWD/office/F open"
+kill "$holder"
+wait "$holder" 2>/dev/null
+unchanged 'refused'
+for bad in torn old-schema; do
+  restores "$bad"
+  says "a backup that is $bad" 1 'no backup: verify of'
+  unchanged "$bad"
+done
+for bad in nowhere empty "$PWD/conf"; do
+  restores "$bad"
+  says "a backup that isn't there: ${bad##*/}" 2 'no backup'
+  unchanged "${bad##*/}"
+done
+script rooms-restore --conf "$PWD/nothing" good
+says 'no settings' 2 'no settings'
+restores
+says 'no words' 2 'bad words'
+restores --other
+says 'an unknown word' 2 'bad words'
+restores good more
+says 'two backups' 2 'bad words'
+exec 8<conf
+flock 8
+restores good
+says 'beside another run' 2 'busy'
+exec 8<&-
+restores --undo
+holds 'nothing to undo' [ "$status" = 0 ]
+unchanged 'nothing to undo'
+for tool in cat sync mkdir; do
+  echo "$tool" >"$stand/no-tool"
+  restores good
+  holds "a $tool that fails" [ "$status" = 1 ]
+  rm "$stand/no-tool"
+  unchanged "a $tool that fails"
+done
+echo mv >"$stand/no-tool"
+restores good
+says 'a file that can not be moved' 1 'could not be exchanged'
+rm "$stand/no-tool"
+restores --undo
+unchanged 'a file that can not be moved'
+
+# A good one, and back again.
+restores good
+says 'a restore' 0 "restored $PWD/office/F"
+holds 'the room is the backup' [ "$(owner)" = dave ]
+holds 'with its last document' [ "$(as_user "$rooms" dump "$PWD/office/F" | grep -c '^document dave staff 5 /f$')" = 1 ]
+holds 'the owner and the rights' [ -z "$(find office -not -user "$STAND_USER" -o -perm /077 -not -path office)" ]
+holds 'the backup is as it was' [ "$(cksum backups/good/*)" = "$(cat backup.sums)" ]
+kept=$(echo office/before-restore.*)
+holds 'the old files are aside' cmp -s "$kept/F" old.F
+unit start
+unit_runs 'a server of what was restored'
+unit stop
+sleep 1
+restores "$PWD/$kept"
+holds 'the old files are put back' [ "$status" = 0 -a "$(owner)" = carol ]
+rm -rf office/*
+restores good
+holds 'a restore where no room is' [ "$status" = 0 -a "$(owner)" = dave ]
+holds 'leaves the room alone' [ "$(cd office && echo *)" = 'F F-wal' ]
+
+# An interruption at each call: the room is the old or the new one, or there is none; --undo or the same once more mend that.
+for how in TERM KILL; do
+  for number in {1..80}; do
+    old_office
+    rm -f "$stand/hit"
+    export KILL_AT=$number KILL_HOW=$how
+    restores good
+    unset KILL_AT
+    [ -e "$stand/hit" ] || break
+    name="$how at $number, $(cat "$stand/hit")"
+    name=${name//$PWD\//}
+    cp -Rp office interrupted
+    # No file is beside another one's log.
+    if [ -e office/F ]; then
+      case $(owner) in
+        carol | dave) pass ;;
+        *) fail "$name" "no room: $(ls -lR office)" ;;
+      esac
+    else
+      [ "$how" = KILL ] || fail "$name" 'no room is left'
+    fi
+    rm -rf office
+    cp -Rp interrupted office
+    restores --undo
+    holds "$name: undone" [ "$status" = 0 -a ! -e office/restoring ]
+    aside || unchanged "$name"
+    rm -rf office
+    mv interrupted office
+    rm -rf office/before-restore.*
+    restores good
+    holds "$name: once more" [ "$status" = 0 -a "$(owner)" = dave -a ! -e office/restoring ]
+    holds "$name: the old one is aside" aside
+  done
+  holds "$how: the calls came to an end" [ "$number" -gt 10 -a "$number" -lt 80 ]
+done
+
+fi
+
+# Installing, below a folder; a machine as a whole is tried by hand.
+installs() { "$contrib/install" --destdir "$PWD/machine" --program "$rooms" "$@" </dev/null >"$work/out" 2>"$work/err"; status=$?; }
+tree() { (cd machine && find . -exec ls -ld --time-style=full-iso {} + && find . -type f -exec cksum {} +) 2>/dev/null; }
+installs --dry-run
+says 'what would be done' 0 'would: file /usr/local/bin/rooms'
+holds 'is not done' is_missing machine
+installs
+says 'an install' 0 'file /etc/systemd/system/rooms-nightly.timer'
+for file in /usr/local/bin/rooms /usr/local/sbin/rooms-nightly /usr/local/sbin/rooms-restore /usr/local/lib/rooms/upkeep.sh \
+  /etc/rooms/rooms.conf /etc/systemd/system/rooms.service /usr/share/doc/rooms/operating.md /etc/nginx/sites-enabled/rooms; do
+  holds "$file is there" [ -s "machine$file" ]
+done
+holds 'the room has a folder of its own' [ -n "$(find machine/var/lib/rooms -perm 700)" ]
+holds 'the page is there if there is one' [ ! -d "$contrib/page" -o -n "$(find machine/usr -path '*rooms/page/index.html')" ]
+holds 'the program runs' cmp -s machine/usr/local/bin/rooms "$rooms"
+tree >before
+installs
+says 'a second install' 0 'nothing to change'
+tree >after
+same 'changes nothing' after before
+echo '# mine' >>machine/etc/rooms/rooms.conf
+echo '# mine' >>machine/usr/local/sbin/rooms-restore
+rm machine/etc/nginx/sites-enabled/rooms
+echo '# mine' >machine/etc/nginx/sites-enabled/rooms
+installs --dry-run
+says 'a changed file would be' 0 'would: new /usr/local/sbin/rooms-restore'
+installs
+says 'settings that were changed' 0 'kept /etc/rooms/rooms.conf, which differs'
+says 'a site that was changed' 0 'kept /etc/nginx/sites-enabled/rooms'
+says 'a script that was changed' 0 'new /usr/local/sbin/rooms-restore, the old one is /usr/local/sbin/rooms-restore.old'
+holds 'settings stay' grep -q '^# mine' machine/etc/rooms/rooms.conf
+holds 'the old script is beside' grep -q '^# mine' machine/usr/local/sbin/rooms-restore.old
+same 'the script is new' machine/usr/local/sbin/rooms-restore "$contrib/rooms-restore"
+installs --replace
+same 'settings are replaced if that is asked' machine/etc/rooms/rooms.conf "$contrib/rooms.conf"
+holds 'and stay beside' grep -q '^# mine' machine/etc/rooms/rooms.conf.old
+installs --program "$PWD/nowhere"
+says 'no program' 2 'no program'
+installs --program /bin/true
+says 'another program' 2 'is not rooms'
+installs --destdir here
+says 'a folder that is no path' 2 'bad folder'
+installs --other
+says 'an unknown word' 2 'bad words'
+: >a-file
+installs --destdir "$PWD/a-file"
+says 'a folder that can not be made' 1 "can't be made"
+if [ "$(id -u)" != 0 ] || has setpriv; then
+  chmod 755 "$work" .
+  as_nobody() { if [ "$(id -u)" = 0 ]; then setpriv --reuid=65534 --regid=65534 --clear-groups "$@"; else "$@"; fi; }
+  if as_nobody test -r "$contrib/install" && as_nobody "$rooms" --version 2>&1 | grep -q .; then
+    as_nobody "$contrib/install" --program "$rooms" </dev/null >"$work/out" 2>"$work/err"
+    status=$?
+    says 'without root' 2 'not root'
+  else
+    skip 'an install without root' 'no other user can read the files here'
+  fi
+fi
+
+# The units, as systemd reads them; with the programs that they name in their places.
+if has systemd-analyze; then
+  for unit in rooms.service rooms-nightly.service rooms-nightly.timer; do
+    mkdir -p units
+    sed "s|=/usr/local/|=$PWD/machine/usr/local/|" "$contrib/$unit" >"units/$unit"
+  done
+  # It says what it doesn't know of all units that it meets; only these three are of this project.
+  systemd-analyze verify units/rooms.service units/rooms-nightly.service units/rooms-nightly.timer >"$work/out" 2>&1
+  grep -E '^(/.*/)?rooms[a-z-]*\.(service|timer)' "$work/out" >said
+  : >nothing
+  same 'the units are understood' said nothing
+else
+  skip 'the units' 'systemd-analyze is missing'
+fi

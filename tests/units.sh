@@ -1,0 +1,158 @@
+# What contrib/ is tried with: a systemctl that starts and stops a server of the program as a process, and tools whose calls
+# are counted, so that a script can be killed at each of them.
+
+contrib=$here/../contrib
+stand=
+
+# In the current folder: office/F is the room, and its user another one where the machine allows that.
+make_stand() {
+  stand=$PWD/stand
+  mkdir "$stand" "$stand/bin" run office backups
+  echo 0 >"$stand/count"
+  : >"$stand/pid"
+  echo "$port" >"$stand/port"
+  printf '%s\n' "FILE=$PWD/office/F" "BACKUPS=$PWD/backups" KEEP=0 MAIL=root UNIT=rooms "PROGRAM=$stand/bin/rooms" >conf
+  write_step >"$stand/step"
+  write_systemctl >"$stand/bin/systemctl"
+  write_tool >"$stand/bin/tool"
+  chmod 755 "$stand/bin/systemctl" "$stand/bin/tool"
+  local tool
+  for tool in rooms setpriv cat sync mkdir mv rm rmdir touch chmod mail logger sleep; do ln -s tool "$stand/bin/$tool"; done
+  export STAND=$stand STAND_ROOMS=$rooms STAND_FILE=$PWD/office/F ROOMS_RUN=$PWD/run
+  give_office
+}
+
+# Another user has the folder if it can run the program here.
+give_office() {
+  STAND_USER=$(id -u)
+  export STAND_USER
+  [ "$(id -u)" = 0 ] || return
+  chmod 755 "$work" . "$stand"
+  chmod -R a+rX "$stand"
+  setpriv --reuid=65534 --regid=65534 --clear-groups "$rooms" --version </dev/null >/dev/null 2>&1
+  [ $? = 2 ] || return
+  STAND_USER=65534
+  chown 65534:65534 office
+  chmod 700 office
+}
+
+as_user() { if [ "$STAND_USER" = "$(id -u)" ]; then "$@"; else setpriv --reuid=65534 --regid=65534 --clear-groups "$@"; fi; }
+
+# At the call that is named the script under test gets a signal, and this tool too, as all processes of a unit do.
+write_step() {
+  cat <<'STEP'
+step() {
+  local number target
+  # What runs as another user was counted as setpriv.
+  [ -O "$STAND/count" ] || return 0
+  read -r number <"$STAND/count"
+  number=$((number + 1))
+  echo "$number" >"$STAND/count"
+  echo "$number $1" >>"$STAND/steps"
+  [ "$number" = "${KILL_AT:-0}" ] || return 0
+  echo "$1" >"$STAND/hit"
+  read -r target <"$STAND/script"
+  kill -s "$KILL_HOW" "$target"
+  kill -s "$KILL_HOW" $$
+}
+STEP
+}
+
+# STAND/no-start has a start fail, and STAND/no-tool a tool of that name.
+write_tool() {
+  cat <<'TOOL'
+#!/usr/bin/env bash
+. "$STAND/step"
+name=${0##*/}
+step "$name $*"
+if [ -e "$STAND/no-tool" ] && [ "$name" = "$(<"$STAND/no-tool")" ]; then exit 1; fi
+case $name in
+  sleep) ;;
+  mail | logger) { echo "$name $*"; [ "$name" = logger ] || PATH=${PATH#*:} cat; } >>"$STAND/messages" ;;
+  rooms) exec "$STAND_ROOMS" "$@" ;;
+  *) exec "$(PATH=${PATH#*:} command -v "$name")" "$@" ;;
+esac
+TOOL
+}
+
+write_systemctl() {
+  cat <<'SYSTEMCTL'
+#!/usr/bin/env bash
+. "$STAND/step"
+step "systemctl $*"
+PATH=${PATH#*:}
+read -r pid <"$STAND/pid"
+alive() {
+  [ -n "$pid" ] && kill -0 "$pid" 2>/dev/null && ! grep -q ') Z ' "/proc/$pid/stat" 2>/dev/null
+}
+serve() {
+  read -r port <"$STAND/port"
+  echo "$((port += 1))" >"$STAND/port"
+  : >"$STAND/out"
+  user=(setpriv "--reuid=$STAND_USER" "--regid=$STAND_USER" --clear-groups)
+  [ "$STAND_USER" != "$(id -u)" ] || user=()
+  setsid "${user[@]}" "$STAND_ROOMS" serve "$STAND_FILE" --port "$port" --count 1000000 </dev/null >"$STAND/out" 2>"$STAND/err" &
+  pid=$!
+  echo "$pid" >"$STAND/pid"
+  until grep -q '^listening ' "$STAND/out" || ! alive; do sleep 0.02; done
+}
+case $1 in
+  is-active)
+    if alive; then echo active; exit 0; fi
+    # What was started and has ended is started over and over.
+    if [ -e "$STAND/started" ]; then echo activating; else echo inactive; fi
+    exit 3
+    ;;
+  stop)
+    rm -f "$STAND/started"
+    if alive; then kill -KILL "$pid"; fi
+    while alive; do sleep 0.02; done
+    ;;
+  start)
+    [ ! -e "$STAND/no-start" ] || exit 1
+    : >"$STAND/started"
+    for turn in {1..50}; do
+      alive || serve
+      # The port may be another program's.
+      grep -q '^fault: net$' "$STAND/err" || break
+    done
+    ;;
+esac
+SYSTEMCTL
+}
+
+unit() { PATH=$stand/bin:$PATH KILL_AT=0 systemctl "$@" rooms; }
+
+stop_unit() { if [ -n "$stand" ] && [ -s "$stand/pid" ]; then unit stop; fi; }
+
+# A script of contrib/ with the stand-ins; $status, and what it said in $work/out and $work/err. KILL_AT and KILL_HOW name
+# the call at which it is interrupted.
+script() { # SCRIPT WORD ..
+  echo 0 >"$stand/count"
+  : >"$stand/steps"
+  : >"$stand/messages"
+  local name=$contrib/$1
+  shift
+  # shellcheck disable=SC2016
+  { PATH=$stand/bin:$PATH bash -c 'echo $$ >"$STAND/script"; exec "$@"' script "$name" "$@" \
+    </dev/null >"$work/out" 2>"$work/err"; } 2>/dev/null
+  status=$?
+}
+
+# The status of the last script, and a text that is in what it said.
+says() { # NAME STATUS TEXT
+  if [ "$status" != "$2" ]; then
+    fail "$1" "status $status, wanted $2: $(head -c 400 "$work/out" "$work/err")"
+  elif ! cat "$work/out" "$work/err" | grep -qF -e "$3"; then
+    fail "$1" "no '$3' in: $(head -c 400 "$work/out" "$work/err")"
+  else
+    pass
+  fi
+}
+
+unit_runs() { # NAME
+  if [ "$(unit is-active)" = active ]; then pass; else fail "$1" "no server runs: $(cat "$stand/err")"; fi
+}
+unit_rests() { # NAME
+  if [ "$(unit is-active)" = inactive ]; then pass; else fail "$1" 'a server runs'; fi
+}
