@@ -1,11 +1,12 @@
 // A list of an object: as a table and as text, and what is done with it.
 
 import * as api from './api.js';
-import { button, element, freshId } from './dom.js';
+import { button, element } from './dom.js';
 import { Draft } from './draft.js';
 import { sendList } from './send.js';
 import { tell, tellFault, waitFor } from './notice.js';
 import { drawTable } from './table.js';
+import { tabs } from './tabs.js';
 import { drawText } from './text.js';
 import { sentenceOf } from './words.js';
 
@@ -16,79 +17,65 @@ const INTRODUCTIONS = {
 
 const UNSENT = 'Your changes don’t count before you send them.';
 
-// Two tabs with arrow keys between them. 'draw' fills the panel of the tab that is shown.
-function tabs(names, draw) {
-  const panel = element('div', { role: 'tabpanel', id: freshId('panel') });
-  const made = names.map((name) => element('button', {
-    type: 'button', role: 'tab', id: freshId('tab'), 'aria-controls': panel.id, onclick: () => show(name),
-  }, name));
-  const show = (name) => {
-    made.forEach((tab) => {
-      const isShown = tab.textContent === name;
-      tab.setAttribute('aria-selected', String(isShown));
-      tab.tabIndex = isShown ? 0 : -1;
-      if (isShown) panel.setAttribute('aria-labelledby', tab.id);
-    });
-    draw(name, panel);
-  };
-  const strip = element('div', { role: 'tablist', 'aria-label': 'Ways to look at the list' }, made);
-  strip.addEventListener('keydown', (event) => {
-    if (event.key !== 'ArrowLeft' && event.key !== 'ArrowRight') return;
-    const other = made.find((tab) => tab.tabIndex < 0);
-    show(other.textContent);
-    other.focus();
-  });
-  return { strip, panel, show };
-}
-
 async function mayChange(path) {
   const rulings = await api.can(path, 'C').catch(() => null);
   return rulings?.C.ruling === 'allowed';
 }
 
-// The state of the view: which tab is shown, and what 'Review and send' and 'Drop changes' do.
-function view(draft) {
-  let showTextFault = null;
+// The table and the text in their tabs.
+function panes(draft) {
   let shown = 'Table';
-  const parts = tabs(['Table', 'Text'], (name, panel) => {
+  let showTextFault = null;
+  const { strip, panel, show } = tabs(['Table', 'Text'], 'Ways to look at the list', (name, body) => {
     shown = name;
-    showTextFault = name === 'Text' ? drawText(draft, panel) : null;
-    if (name === 'Table') drawTable(draft, panel);
+    if (name === 'Text') showTextFault = drawText(draft, body);
+    else drawTable(draft, body);
   });
-  const state = element('p', { class: 'unseen', role: 'status' });
-  const send = button('Review and send', () => deliver(), { class: 'primary' });
+  const showFault = () => {
+    if (shown === 'Table' && draft.faultPlace() >= 0) drawTable(draft, panel);
+    else {
+      show('Text');
+      showTextFault(true);
+    }
+  };
+  show(shown);
+  return { strip, panel, showFault, redraw: () => show(shown) };
+}
+
+// Sends the list, and shows at its place what the room finds wrong with it.
+async function deliver(draft, both) {
+  try {
+    const done = await sendList(draft);
+    if (done === 'sent') tell('good', 'The list was sent and counts from now on.');
+    if (done) both.redraw();
+  } catch (fault) {
+    if (fault.status !== 422) tellFault(fault);
+    else {
+      draft.setRoomFault(fault.body);
+      both.showFault();
+    }
+  }
+}
+
+// What can be done with changes, as long as there are some.
+function changesBar(draft, both) {
+  const told = element('p', { class: 'unseen', role: 'status' });
+  const send = button('Review and send', async () => {
+    send.disabled = true;
+    await deliver(draft, both);
+    send.disabled = false;
+  }, { class: 'primary' });
   const drop = button('Drop changes', () => {
     draft.setText(draft.base);
-    parts.show(shown);
+    both.redraw();
   });
   const bar = element('div', { class: 'send' }, element('span', { class: 'hint' }, UNSENT), drop, send);
   draft.onChange = () => {
     bar.hidden = !draft.isChanged;
-    if (draft.isChanged !== (state.textContent !== '')) state.textContent = draft.isChanged ? UNSENT : '';
+    if (draft.isChanged !== (told.textContent !== '')) told.textContent = draft.isChanged ? UNSENT : '';
   };
-  const showFault = () => {
-    if (draft.list && draft.faultPlace() >= 0 && shown === 'Table') drawTable(draft, parts.panel);
-    else {
-      parts.show('Text');
-      showTextFault(true);
-    }
-  };
-  const deliver = async () => {
-    try {
-      const done = await sendList(draft);
-      if (done === 'sent') tell('good', 'The list was sent and counts from now on.');
-      if (done) parts.show(shown);
-    } catch (fault) {
-      if (fault.status !== 422) tellFault(fault);
-      else {
-        draft.setRoomFault(fault.body);
-        showFault();
-      }
-    }
-  };
-  parts.show('Table');
   draft.onChange();
-  return [parts.strip, parts.panel, state, bar];
+  return [told, bar];
 }
 
 export async function showList(path, which, kind, box, isCurrent) {
@@ -97,9 +84,11 @@ export async function showList(path, which, kind, box, isCurrent) {
     if (!isCurrent()) return;
     const draft = Draft.of(path, which, kind, base);
     draft.mayChange = may;
+    const both = panes(draft);
     const note = may ? null
       : element('p', { class: 'hint' }, 'You may look at this list and not change it: you lack the right C (change its access lists).');
-    box.replaceChildren(element('p', { class: 'lead' }, INTRODUCTIONS[which]), ...[note].filter(Boolean), ...view(draft));
+    box.replaceChildren(element('p', { class: 'lead' }, INTRODUCTIONS[which]), ...[note].filter(Boolean),
+      both.strip, both.panel, ...changesBar(draft, both));
   } catch (fault) {
     if (!isCurrent()) return;
     box.replaceChildren(element('p', { class: 'empty' }, sentenceOf(fault)));

@@ -16,11 +16,16 @@ function moves(draft, place, redraw) {
   };
   const drop = () => {
     draft.drop(place);
-    redraw((body, add) => body.querySelector(`[data-place="${Math.min(place, draft.ownPlaces().at(-1) ?? -1)}"] .drop`) ?? add);
+    const next = Math.min(place, draft.ownPlaces().at(-1) ?? -1);
+    redraw((body, add) => body.querySelector(`[data-place="${next}"] .drop`) ?? add);
   };
   return element('td', { class: 'moves', 'data-heading': 'Order' }, element('div', {},
-    button(icon('up'), () => shift(-1, 'up'), { class: 'plain up', 'aria-label': `Move entry ${number} up`, 'aria-disabled': String(place === own[0]) }),
-    button(icon('down'), () => shift(1, 'down'), { class: 'plain down', 'aria-label': `Move entry ${number} down`, 'aria-disabled': String(place === own.at(-1)) }),
+    button(icon('up'), () => shift(-1, 'up'), {
+      class: 'plain up', 'aria-label': `Move entry ${number} up`, 'aria-disabled': String(place === own[0]),
+    }),
+    button(icon('down'), () => shift(1, 'down'), {
+      class: 'plain down', 'aria-label': `Move entry ${number} down`, 'aria-disabled': String(place === own.at(-1)),
+    }),
     button(icon('cross'), drop, { class: 'plain drop', 'aria-label': `Remove entry ${number}` })));
 }
 
@@ -58,7 +63,8 @@ function flagBox(draft, name, label, hint, redraw) {
 function flags(draft, redraw) {
   const kept = draft.list.protect && draft.mayChange && draft.inherited().length > 0;
   return element('div', { class: 'flags' },
-    draft.kind === 'folder' ? flagBox(draft, 'auto', 'Pass on', 'What lies in this folder follows this list, also when it changes.', redraw) : null,
+    draft.kind === 'folder' ? flagBox(draft, 'auto', 'Pass on',
+      'What lies in this folder follows this list, also when it changes.', redraw) : null,
     draft.path === '/' ? null : flagBox(draft, 'protect', 'Protect',
       'Nothing comes here from the folder above any more. The grey entries stay as they are now, unless they are dropped.', redraw),
     kept ? button('Drop the grey entries', () => {
@@ -70,7 +76,8 @@ function flags(draft, redraw) {
 function headings(draft) {
   const names = ['No.', 'Type', 'Who', draft.which === 'sacl' ? 'Records' : null, 'Rights',
     draft.kind === 'folder' ? 'Where it counts' : null].filter((name) => name !== null);
-  const order = draft.mayChange ? [element('th', { scope: 'col' }, element('span', { class: 'unseen' }, 'Order and removal'))] : [];
+  const order = draft.mayChange
+    ? [element('th', { scope: 'col' }, element('span', { class: 'unseen' }, 'Order and removal'))] : [];
   return [...names.map((name) => element('th', { scope: 'col' }, name)), ...order];
 }
 
