@@ -66,7 +66,8 @@ async function showMe() {
 }
 
 window.addEventListener('hashchange', () => {
-  main.focus();
+  window.scrollTo(0, 0);
+  main.focus({ preventScroll: true });
   show();
 });
 window.addEventListener('beforeunload', (event) => {

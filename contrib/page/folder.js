@@ -120,7 +120,7 @@ export async function showFolder(path, box, isCurrent) {
       if (!isCurrent()) return;
       body.replaceChildren(table(children, path, refresh));
       // The button that had the focus may be gone.
-      if (document.activeElement === document.body) box.focus();
+      if (document.activeElement === document.body) box.focus({ preventScroll: true });
     } catch (fault) {
       if (!isCurrent()) return;
       if (fault.body?.why === 'wrong-kind') location.replace(linkTo(path, 'rights'));

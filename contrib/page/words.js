@@ -13,13 +13,13 @@ export const GROUPS = [
 const ASKED_RIGHTS = GROUPS.map((group) => group.letters).join('').length;
 
 const RIGHTS = {
-  r: { document: 'read it', folder: 'see what is in it', both: 'read documents, see what is in folders' },
+  r: { document: 'read it', folder: 'see what is in it', both: 'read documents or see what is in folders' },
   x: { both: 'pass through to what is in it' },
   t: { both: 'see its kind, owner and group' },
   c: { both: 'see its access lists' },
   n: { both: 'read named attributes' },
-  w: { document: 'replace its contents', folder: 'put new documents into it', both: 'replace documents, put new ones into folders' },
-  a: { document: 'add to its end', folder: 'make folders in it', both: 'add to documents, make folders' },
+  w: { document: 'replace its contents', folder: 'put new documents into it', both: 'replace documents or put new ones into folders' },
+  a: { document: 'add to its end', folder: 'make folders in it', both: 'add to documents or make folders' },
   D: { both: 'remove or move away what is in it' },
   d: { both: 'remove it or move it away' },
   N: { both: 'write named attributes' },

@@ -29,13 +29,11 @@ play() { # NAME SCRIPT ARGUMENT ..
   [ -n "$ended" ] || fail "$name" "it broke off: $(tail -c 600 play.err)"
 }
 
-printf 'group,user\nstaff,bob\n' >groups.csv
 printf 'alice:{PLAIN}a\nbob:{PLAIN}b\n' >passwords
-open_room F
-gives 'groups' 0 'groups 1, members 1\n' '' groups F groups.csv
-set_list F / dacl list:a "A:fd:alice:$ALL" A::AUTHENTICATED@:xt
 
 # Another site. The room is the same before and after.
+open_room F
+set_list F / dacl list:a "A:fd:alice:$ALL"
 start_server F 1000 || return
 start_front 'the page' || return
 api() { curl -s -o "$work/body" -w '%{http_code}' -u alice:a "$@"; }
@@ -55,11 +53,15 @@ run dump F
 same 'another site changed nothing' "$work/out" before
 
 # The office. PAGE_PICTURES is a folder for the pictures of docs/page.md.
-start_server F 10000 || return
+open_room G
+printf 'group,user\nstaff,bob\n' >groups.csv
+gives 'groups' 0 'groups 1, members 1\n' '' groups G groups.csv
+set_list G / dacl list:a "A:fd:alice:$ALL" A::AUTHENTICATED@:xt
+start_server G 10000 || return
 start_front 'the page' || return
 # It kills the server at its end, which is no news.
 disown "$server"
 play 'the office' office.py "$PWD" "$front" "$PWD/access.log" "$server" "$proxy" "$here/../docs" ${PAGE_PICTURES:+"$PAGE_PICTURES"}
 stop_server
 stop_proxy
-gives 'sound after the office' 0 'sound\n' '' verify F
+gives 'sound after the office' 0 'sound\n' '' verify G

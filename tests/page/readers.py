@@ -52,7 +52,7 @@ class Readers:
         bob = self.bob
         bob.press('Remove: Report 2.txt')
         bob.press('Remove it', 'dialog')
-        bob.says('“/letters”', 'the right to replace documents, put new ones', 'No entry')
+        bob.says('“/letters”', 'the right to replace documents or put new ones', 'No entry')
         bob.script(DROP, 'new.txt')
         bob.says('“/letters”', 'No entry', css='.uploads .bad')
 
