@@ -32,7 +32,9 @@ function removal(own, above, entries, folder) {
   if (own.ruling === 'allowed') return { may: true, why: reason(own, entries) };
   if (above.D.ruling === 'allowed') return { may: true, why: reason(above.D, [], there) };
   if (own.ruling === 'denied') return { may: false, why: reason(own, entries) };
-  if (above.D.ruling === 'denied') return { may: false, why: reason(above.D, [], there) };
+  // Where neither list speaks of removing, w at the folder decides.
+  const denied = [above.D, above.w].find((one) => one.ruling === 'denied');
+  if (denied) return { may: false, why: reason(denied, [], there) };
   if (above.w.ruling === 'allowed') {
     return { may: true, why: `Nothing says otherwise, and you may put documents into the folder ${placeWords(folder)}.` };
   }

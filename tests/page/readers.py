@@ -46,6 +46,10 @@ class Readers:
         assert b'<script>' in bob.downloaded(name)
         bob.driver.get(self.base + '/doc/letters/' + urllib.request.quote(name))
         assert b'<script>' in bob.downloaded(name)
+        told = bob.driver.execute_async_script(
+            "fetch(arguments[0]).then((reply) => arguments[1](reply.headers.get('Content-Disposition')))",
+            '/doc/letters/' + urllib.request.quote(name))
+        assert told == 'attachment', told
         assert bob.driver.title == 'letters – rooms' and bob.driver.current_url.endswith('#/letters')
 
     def may_not(self):
@@ -79,6 +83,7 @@ class Readers:
         bob.says('Entry 1 of its access list denies it', 'denies the user bob', 'D:I:bob:waDd', '“/letters/Report 2.txt”')
         bob.open('#/letters/Report%202.txt?rights')
         told = bob.one('.rights').text
+        assert 'remove it or move it away' in told.lower(), told
         assert 'By entry 1, from a folder above, which denies it to the user bob.' in told, told
         assert 'By entry 2, from a folder above, which allows it to the group staff.' in told, told
         bob.open('#/letters?dacl')
