@@ -126,6 +126,7 @@ for how in TERM KILL; do
     [ -e "$stand/hit" ] || break
     name="$how at $number, $(cat "$stand/hit")"
     name=${name//$PWD\//}
+    rm -rf interrupted
     cp -Rp office interrupted
     # No file is beside another one's log.
     if [ -e office/F ]; then
@@ -135,6 +136,11 @@ for how in TERM KILL; do
       esac
     else
       [ "$how" = KILL ] || fail "$name" 'no room is left'
+    fi
+    # A signal that can be heard leaves nothing to mend.
+    if [ "$how" = TERM ]; then
+      holds "$name: nothing is left of it" [ ! -e office/restoring ]
+      continue
     fi
     rm -rf office
     cp -Rp interrupted office
