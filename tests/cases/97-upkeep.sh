@@ -27,8 +27,7 @@ answers() { # NAME TARGET REPLY
 new_office
 answers 'a document before the night' /doc/f made PUT hello
 night
-holds 'a good night' [ "$status" = 0 ]
-holds 'no message' [ ! -s "$stand/messages" ]
+holds 'a good night, without a message' [ "$status" = 0 -a ! -s "$stand/messages" ]
 unit_runs 'the server runs after it'
 answers 'and has the document' /doc/f "reply '200 OK' application/octet-stream hello"
 good=$(backups)
@@ -56,9 +55,7 @@ for day in 1 2 3 4; do
   cp office/F "backups/2020-01-0$day.030000/F"
 done
 mkdir backups/2019-01-01.030000 backups/2019-01-02.030000 backups/2019-01-02.030000.unsound
-cp office/F backups/2019-01-02.030000/F
-: >backups/2019-01-02.030000/mine
-cp office/F backups/2019-01-02.030000.unsound/F
+tee backups/2019-01-02.030000/F backups/2019-01-02.030000/mine backups/2019-01-02.030000.unsound/F <office/F >/dev/null
 setting KEEP 3
 setting PROGRAM /bin/false
 night
@@ -86,12 +83,11 @@ failing() { # NAME TEXT
   holds "$1: the mail says it" grep -qF "$2" "$stand/messages"
   holds "$1: nothing is taken for a backup" [ -z "$(backups | grep -vE 'unsound$')" ]
 }
-echo cat >"$stand/no-tool"
-night
-failing 'a copy that fails' 'copy of'
-echo sync >"$stand/no-tool"
-night
-failing 'a disk that does not take it' 'copy of'
+for tool in cat sync; do
+  echo "$tool" >"$stand/no-tool"
+  night
+  failing "a $tool that fails" 'copy of'
+done
 echo mkdir >"$stand/no-tool"
 night
 failing 'no folder' 'was not stopped'
