@@ -153,7 +153,11 @@ fn help_tells_statuses_and_an_example(rt: HostRuntime) -> Result<(), Fail> {
     expect_help(&rt, "check", "\ncaller: alice\n")?;
     expect_help(&rt, "check", "Example: rooms check < input.txt")?;
     expect_help(&rt, "init", "Example: rooms init office.rooms alice staff")?;
-    expect_help(&rt, "serve", "Example: rooms serve office.rooms --port 8781")?;
+    expect_help(
+        &rt,
+        "serve",
+        "Example: rooms serve office.rooms --port 8781",
+    )?;
     expect_help(&rt, "groups", "  0  groups G, members M")?;
     expect_help(&rt, "groups-out", "Example: rooms groups-out office.rooms")?;
     expect_help(&rt, "audit", "Example: rooms audit office.rooms")?;
