@@ -51,6 +51,16 @@ fn first_write(alloc: Global, desk: &mut MemDesk) -> Result<(), Fail> {
     play(alloc, desk, READ_BACK)
 }
 
+// A writer that takes less than it was given has not failed.
+#[test]
+fn a_writer_takes_a_byte_at_a_time(rt: HostRuntime) -> Result<(), Fail> {
+    let alloc = rt.alloc();
+    let mut desk = MemDesk::new(open_keep(alloc)?);
+    let sink = Sink::of(alloc, 1, ALL, true);
+    let talk = tried(alloc, &mut desk, PUT_TWICE, ALL, sink)?;
+    agrees(alloc, PUT_TWICE, &talk)
+}
+
 #[test]
 fn second_reply_write_fails(rt: HostRuntime) -> Result<(), Fail> {
     let alloc = rt.alloc();

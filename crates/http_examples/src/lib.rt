@@ -8,3 +8,5 @@ mod failing;
 mod limits;
 #[cfg(test)]
 mod messages;
+#[cfg(test)]
+mod waiting;

@@ -101,6 +101,31 @@ fn lengths(rt: HostRuntime) -> Result<(), Fail> {
     Ok(())
 }
 
+// A body that is too large isn't read: the reply comes while it is still being sent.
+#[test]
+fn too_large_a_body_is_still_being_sent(rt: HostRuntime) -> Result<(), Fail> {
+    let alloc = rt.alloc();
+    let mut input = Vec::from_slice(
+        alloc,
+        b"PUT /doc/f HTTP/1.1\r\nRoom-User: root\r\nContent-Length: 1048577\r\n\r\n",
+    )?;
+    'bytes: for _ in 0..100_000 {
+        input.push(b'x')?;
+    }
+    begins(
+        &read_once(alloc, input.as_slice())?,
+        b"HTTP/1.1 413 ",
+        Ended::Closed,
+    )
+}
+
+// What an open room answers to these bytes over a reader that gives some of them, and then fails.
+fn read_once(alloc: Global, input: &[u8]) -> Result<Talk, Fail> {
+    let mut desk = MemDesk::new(open_keep(alloc)?);
+    let mut reader = Pieces::failing(input, 1_000, 1);
+    converse(alloc, &mut desk, 1000, &mut reader, Sink::new(alloc))
+}
+
 // So many messages without a route.
 fn many(alloc: Global, count: usize) -> Result<Vec<u8>, AllocError> {
     let mut bytes = Vec::new(alloc);

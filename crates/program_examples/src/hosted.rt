@@ -1,7 +1,8 @@
 //! The subcommand `serve` on a database in memory.
 use crate::meeting::{DONE, Full, MADE, PUT, gets, listens, same_bytes, sends};
 use room_ace::{Owners, read_name};
-use room_hosting::host;
+use room_hosting::{NetPorts, host};
+use room_serving::Seconds;
 use room_store::Store;
 use sqlite::{Connection, MemStore};
 use std::alloc::Global;
@@ -94,7 +95,12 @@ fn hosts(
     }
     let mut out = Vec::new(alloc);
     let mut err = Vec::new(alloc);
-    let (conn, status) = host(alloc, conn, net, &Still, 8780, 2, &mut out, &mut err);
+    let mut ports = NetPorts::of(net);
+    let still = Still;
+    let mut clock = Seconds::of(&still);
+    let (conn, status) = host(
+        alloc, conn, &mut ports, &mut clock, 8780, 2, &mut out, &mut err,
+    );
     same_bytes(out.as_slice(), wanted.out.as_bytes())?;
     same_bytes(err.as_slice(), wanted.err.as_bytes())?;
     if status == wanted.status {
@@ -109,7 +115,12 @@ fn hosts_untold(alloc: Global, conn: Connection<MemStore>, net: &OnePort<'_>) ->
         return Err(Fail::from("in a transaction"));
     }
     let mut err = Vec::new(alloc);
-    let (_, status) = host(alloc, conn, net, &Still, 8780, 2, &mut Full, &mut err);
+    let mut ports = NetPorts::of(net);
+    let still = Still;
+    let mut clock = Seconds::of(&still);
+    let (_, status) = host(
+        alloc, conn, &mut ports, &mut clock, 8780, 2, &mut Full, &mut err,
+    );
     same_bytes(err.as_slice(), b"fault: file\n")?;
     if status == 3 {
         return Ok(());

@@ -1,12 +1,11 @@
 //! Clients that have said all before a connection is accepted, and writers that fail.
 use room_machine::Desk;
-use room_serving::{ServingFault, serve_on};
+use room_serving::{Moments, ServingFault, serve_on};
 use std::alloc::Global;
 use std::io;
 use std::io::{Read, Write};
 use std::net::{Net, Shutdown, TcpListener, TcpStream};
 use std::os::fd::OwnedFd;
-use std::rt::Clock;
 use std::test::Fail;
 use std::time::Duration;
 
@@ -79,10 +78,10 @@ impl Write for Full {
 }
 
 /// Serves so many connections. What it tells of them has to be this.
-pub fn serves<D: Desk, C: Clock>(
+pub fn serves<D: Desk, M: Moments>(
     alloc: Global,
     desk: &mut D,
-    clock: &C,
+    clock: &mut M,
     listener: &TcpListener,
     count: u32,
     faults: &str,
@@ -99,10 +98,10 @@ pub fn serves<D: Desk, C: Clock>(
 }
 
 /// Serves so many connections with a writer for faults that takes nothing.
-pub fn serves_untold<D: Desk, C: Clock>(
+pub fn serves_untold<D: Desk, M: Moments>(
     alloc: Global,
     desk: &mut D,
-    clock: &C,
+    clock: &mut M,
     listener: &TcpListener,
     count: u32,
 ) -> Result<(), ServingFault> {

@@ -1,8 +1,11 @@
 -- What the subcommand `serve` does on an open database (own).
-use Rattle.std.specs.Prelude.{◌≡◌, ◌≤◌, ◌⊎◌, ℕ, List, ◌++◌, codes, length, Option, Result, Ok, Err}
+use Rattle.std.specs.Prelude.{◌≡◌, ◌≤◌, ◌⊎◌, ℕ, ℤ, All, List, [], ◌∷◌, ◌++◌, codes, length, map}
+use Rattle.std.specs.Prelude.{Option, Result, Ok, Err}
 use Rattle.std.specs.Io.KnownBytes.{Appends}
 use Rattle.sqlite.specs.Held.{Held}
 use Rattle.sqlite.specs.State.{State}
+use Rattle.room_machine.specs.declared.desk.Desk.{Ghosts}
+use Rattle.room_http.specs.Stream.{Runs}
 use Rattle.room_outcome.specs.Ending.{no_room_text}
 use Rattle.room_outcome.specs.Written.{TellsFault, TellsText}
 use Rattle.room_outcome.specs.declared.fault.Fault.{Fault}
@@ -12,8 +15,9 @@ use Rattle.room_schema.specs.declared.fault.OpenFault.{OpenFault}
 use Rattle.room_store.specs.Leads.{Leads}
 use Rattle.room_store.specs.Opens.{Opens}
 use Rattle.room_serving.specs.Lines.{listening_line}
-use Rattle.room_serving.specs.Visits.{Visit, requests_of}
+use Rattle.room_serving.specs.Visits.{IsEnd, IsVisit, Visit, moment_of, requests_of}
 use Rattle.room_serving.specs.declared.fault.ServingFault.{ServingFault}
+use Rattle.room_hosting.specs.Places.{AsksFor, Place, local_place}
 
 -- what is told where the database holds no room of this version
 abbrev pub refusal_line : NoRoom → List ℕ
@@ -52,31 +56,49 @@ end_status (Err fault) = 3
 abbrev pub TellsPort : Option (List ℕ) → Option (List ℕ) → Type 0
 TellsPort out out' = (port : ℕ) × Appends out out' (listening_line port)
 
--- The database was not opened as a room, and nothing was served.
-pub record IsTurnedDown (old new : State) (out out' err err' : Option (List ℕ))
-    (status : ℕ) : Type 0 where
+-- The database was not opened as a room: no port was asked for, and nothing was served.
+pub record IsTurnedDown (asked asked' : List Place → Type 0) (old new : State)
+    (out out' err err' : Option (List ℕ)) (status : ℕ) : Type 0 where
   pub why : OpenFault
   pub opens : Opens old new (Err why)
   pub told : TurnsDown (reason_of why) out out' err err' status
+  pub asked_none : AsksFor asked asked' []
 
--- The requests of so many connections at most were served. All is done, or there was a fault.
-pub record IsServed (count : ℕ) (old new : State) (out out' : Option (List ℕ))
-    (status : ℕ) : Type 0 where
+-- nothing was done at a desk
+pub record Rests {D : Type 0} (d : Ghosts D) (old new : D) : Type 0 where
+  pub trusted : d.trusted new → d.trusted old
+  pub sound : d.trusted new → d.sound old → d.sound new
+  pub run : d.trusted new → d.sound old → Runs (d.content old) [] (d.content new)
+
+-- The requests of so many connections at most were served, each at the moment that the clock told
+-- for it. All is done, or there was a fault, and what this says of the connections holds. The port
+-- was told before the first of them.
+pub record IsServed (count : ℕ) (told told' : List ℤ → Type 0) (old new : State)
+    (out out' : Option (List ℕ)) (status : ℕ) : Type 0 where
   pub visits : List Visit
   pub few : length visits ≤ count
+  pub each : All IsVisit visits
+  pub moments : (before : List ℤ) → told before → told' (before ++ map moment_of visits)
   pub leads : Leads old (requests_of visits) new
   pub ends : ((status ≡ 0) × TellsPort out out') ⊎ (status ≡ 3)
+  pub first : Leads old [] new ⊎ TellsPort out out'
+  pub end : Result (Unit {0}) ServingFault
+  pub end_is : status ≡ end_status end
+  pub end_says : IsEnd count end (length visits)
 
 module _ {S : Type 0} (shown : Held S → State) where
-  -- The room was opened, and served.
-  pub record IsHosted (count : ℕ) (old new : Held S) (out out' : Option (List ℕ))
+  -- The room was opened, this port of this machine alone was asked for, and it served.
+  pub record IsHosted (port count : ℕ) (asked asked' : List Place → Type 0)
+      (told told' : List ℤ → Type 0) (old new : Held S) (out out' : Option (List ℕ))
       (status : ℕ) : Type 0 where
     pub mid : Held S
     pub opens : Opens (shown old) (shown mid) (Ok tt)
-    pub served : IsServed count (shown mid) (shown new) out out' status
+    pub asked_one : AsksFor asked asked' (local_place port ∷ [])
+    pub served : IsServed count told told' (shown mid) (shown new) out out' status
 
-  abbrev pub Hosts : ℕ → Held S → Held S → Option (List ℕ) → Option (List ℕ)
-      → Option (List ℕ) → Option (List ℕ) → ℕ → Type 0
-  Hosts count old new out out' err err' status =
-      IsTurnedDown (shown old) (shown new) out out' err err' status
-      ⊎ IsHosted count old new out out' status
+  abbrev pub Hosts : ℕ → ℕ → (List Place → Type 0) → (List Place → Type 0)
+      → (List ℤ → Type 0) → (List ℤ → Type 0) → Held S → Held S → Option (List ℕ)
+      → Option (List ℕ) → Option (List ℕ) → Option (List ℕ) → ℕ → Type 0
+  Hosts port count asked asked' told told' old new out out' err err' status =
+      IsTurnedDown asked asked' (shown old) (shown new) out out' err err' status
+      ⊎ IsHosted port count asked asked' told told' old new out out' status

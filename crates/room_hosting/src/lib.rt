@@ -2,6 +2,8 @@
 #![tactic(auto)]
 
 mod hosting;
+mod ports;
 mod telling;
 
 pub use hosting::host;
+pub use ports::{NetPorts, Ports};

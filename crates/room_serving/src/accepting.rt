@@ -1,5 +1,5 @@
 //! The next connection of a listener.
-ghost use Rattle.std.specs.Prelude.{◌≡◌};
+ghost use Rattle.std.specs.Prelude.{◌≡◌, IfErr};
 ghost use Rattle.room_serving.specs.Accepting.{concerns_one};
 
 use crate::fault::ServingFault;
@@ -7,7 +7,9 @@ use std::io::ErrorKind;
 use std::net::{TcpListener, TcpStream};
 
 /// The next connection, or none where it was lost before it could be accepted.
-pub(crate) fn accepted(listener: &TcpListener) -> Result<Option<TcpStream>, ServingFault> {
+pub(crate) fn accepted(listener: &TcpListener) -> Result<Option<TcpStream>, ServingFault>
+    ensures { IfErr result (λ fault. fault ≡ ServingFault.Net) }
+{
     match listener.accept() {
         Ok((stream, _)) => {
             // It only makes replies faster.

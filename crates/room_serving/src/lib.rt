@@ -8,4 +8,5 @@ mod serving;
 mod telling;
 
 pub use fault::ServingFault;
+pub use moment::{Moments, Seconds};
 pub use serving::serve_on;

@@ -1,11 +1,43 @@
 //! The moment of a connection.
-ghost use Rattle.std.specs.Prelude.{pos, ◌≤ℤ◌};
+ghost use Rattle.std.specs.Prelude.{ℤ, List, [], ◌∷◌, ◌++◌, pos, ◌≤ℤ◌, ⊤};
 
 use std::time::{Clock, SystemTime, UNIX_EPOCH};
 
-/// The seconds since 1970-01-01 00:00 UTC. A clock that stands before that, or can't be read, says
-/// 0.
-pub(crate) fn moment<C: Clock>(clock: &C) -> i64
+/// What tells the moments of connections.
+pub trait Moments {
+    // It may have told these moments, one after the other.
+    ghost told: { Self → List ℤ → Type 0 };
+
+    /// The moment, in seconds from 1970-01-01 00:00 UTC.
+    fn next(&mut self) -> i64
+        ensures { (before : List ℤ) → told self.old before
+            → told self.new (before ++ result ∷ []) };
+}
+
+/// The moments of a clock. Where it stands before 1970, or can't be read, they are 0.
+#[derive(Drop)]
+pub struct Seconds<'a, C> {
+    clock: &'a C,
+}
+
+impl<'a, C: Clock> Seconds<'a, C> {
+    /// Those of this clock.
+    pub fn of(clock: &'a C) -> Seconds<'a, C> {
+        Seconds { clock }
+    }
+}
+
+impl<C: Clock> Moments for Seconds<'_, C> {
+    // A clock doesn't say what it told.
+    ghost told = { λ _ _. ⊤ };
+
+    fn next(&mut self) -> i64 {
+        moment(self.clock)
+    }
+}
+
+// The seconds since 1970-01-01 00:00 UTC.
+fn moment<C: Clock>(clock: &C) -> i64
     ensures { pos 0 ≤ℤ result }
 {
     match SystemTime::now(clock) {

@@ -1,12 +1,12 @@
 //! Connections one after another.
-ghost use Rattle.std.specs.Prelude.{ℕ, OnOk};
+ghost use Rattle.std.specs.Prelude.{◌≡◌, ◌⊎◌, ℕ, Err, IfErr, OnOk};
 ghost use Rattle.std.specs.Io.KnownBytes.{Appends};
 ghost use Rattle.room_serving.specs.Lines.{listening_line};
-ghost use Rattle.room_serving.specs.Visits.{Receives};
+ghost use Rattle.room_serving.specs.Visits.{Attends, IsEnd, Receives, Served};
 
 use crate::accepting::accepted;
 use crate::fault::ServingFault;
-use crate::moment::moment;
+use crate::moment::Moments;
 use crate::telling::{tell_fault, tell_port};
 use room_http::{Cause, serve};
 use room_machine::Desk;
@@ -14,23 +14,25 @@ use room_message::Routes;
 use std::alloc::Global;
 use std::io::Write;
 use std::net::{TcpListener, TcpStream};
-use std::time::Clock;
 
 /// Serves so many connections of the listener, one after another. It tells first on `out` on which
 /// port it listens. The clock is read once for each connection, when it is accepted: this is the
 /// moment of its requests. A fault of a connection is told on `err`, and the next one is served;
 /// one that is lost before it is accepted counts as one whose reading failed.
-pub fn serve_on<D: Desk, C: Clock, O: Write, E: Write>(
+pub fn serve_on<D: Desk, M: Moments, O: Write, E: Write>(
     alloc: Global,
     desk: &mut D,
-    clock: &C,
+    clock: &mut M,
     listener: &TcpListener,
     count: u32,
     out: &mut O,
     err: &mut E,
 ) -> Result<(), ServingFault>
-    ensures received { Receives D.Desk count desk.old desk.new }
+    ensures received { Served D.Desk count (M.told clock.old) (M.told clock.new)
+        desk.old desk.new result }
     ensures told { OnOk result ((port : ℕ)
+        × Appends (O.contents out.old) (O.contents out.new) (listening_line port)) }
+    ensures first { (desk.new ≡ desk.old) ⊎ ((port : ℕ)
         × Appends (O.contents out.old) (O.contents out.new) (listening_line port)) }
 {
     let Ok(routes) = Routes::new(alloc) else {
@@ -44,8 +46,9 @@ pub fn serve_on<D: Desk, C: Clock, O: Write, E: Write>(
 
 // Tells where it listens.
 fn announce<O: Write>(listener: &TcpListener, out: &mut O) -> Result<(), ServingFault>
-    ensures { OnOk result ((port : ℕ)
+    ensures told { OnOk result ((port : ℕ)
         × Appends (O.contents out.old) (O.contents out.new) (listening_line port)) }
+    ensures fault { IfErr result (λ fault. IsEnd 0 (Err fault) 0) }
 {
     let Ok(address) = listener.local_addr() else {
         return Err(ServingFault::Net);
@@ -58,16 +61,16 @@ fn announce<O: Write>(listener: &TcpListener, out: &mut O) -> Result<(), Serving
 
 // Serves so many connections, and tells the fault of each that has one. A fault that can't be told
 // is answered once all are served.
-fn serve_each<D: Desk, C: Clock, E: Write>(
+fn serve_each<D: Desk, M: Moments, E: Write>(
     alloc: Global,
     routes: &Routes,
     desk: &mut D,
-    clock: &C,
+    clock: &mut M,
     listener: &TcpListener,
     count: u32,
     err: &mut E,
 ) -> Result<(), ServingFault>
-    ensures { Receives D.Desk count desk.old desk.new }
+    ensures { Served D.Desk count (M.told clock.old) (M.told clock.new) desk.old desk.new result }
 {
     let mut told = true;
     'connections: for number in 0..count {
@@ -95,17 +98,20 @@ fn is_told<E: Write>(err: &mut E, before: u32, lost: Option<Cause>) -> bool {
 }
 
 // Accepts and serves one connection, and answers what fault ended it, if one did.
-fn serve_next<D: Desk, C: Clock>(
+fn serve_next<D: Desk, M: Moments>(
     alloc: Global,
     routes: &Routes,
     desk: &mut D,
-    clock: &C,
+    clock: &mut M,
     listener: &TcpListener,
 ) -> Result<Option<Cause>, ServingFault>
-    ensures { Receives D.Desk 1 desk.old desk.new }
+    ensures received { Receives D.Desk 1 (M.told clock.old) (M.told clock.new)
+        desk.old desk.new }
+    ensures fault { IfErr result (λ fault. (fault ≡ ServingFault.Net)
+        × Receives D.Desk 0 (M.told clock.old) (M.told clock.new) desk.old desk.new) }
 {
     match accepted(listener) {
-        Ok(Some(stream)) => Ok(serve_stream(alloc, routes, desk, moment(clock), &stream)),
+        Ok(Some(stream)) => Ok(serve_stream(alloc, routes, desk, clock.next(), &stream)),
         Ok(None) => Ok(Some(Cause::Read)),
         Err(fault) => Err(fault),
     }
@@ -119,7 +125,7 @@ fn serve_stream<D: Desk>(
     at: i64,
     stream: &TcpStream,
 ) -> Option<Cause>
-    ensures { Receives D.Desk 1 desk.old desk.new }
+    ensures { Attends D.Desk at desk.old desk.new }
 {
     let mut reader = stream;
     let mut writer = stream;

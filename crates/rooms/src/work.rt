@@ -5,7 +5,8 @@ ghost use Rattle.room_tasks.specs.Tasks.{task_of};
 use crate::files::{FileConnection, close, connect, make, open, take_away};
 use room_acting::act;
 use room_console::{Stop, read_task};
-use room_hosting::host;
+use room_hosting::{NetPorts, host};
+use room_serving::Seconds;
 use room_tasks::Task;
 use room_words::{Command, Input};
 use sqlite_std_file::Start;
@@ -69,7 +70,18 @@ pub fn serve<S: Start>(
     let conn = open(rt, file, start)?;
     let mut out = rt.stdout();
     let mut err = rt.stderr();
-    let (conn, status) = host(rt.alloc(), conn, rt, rt, port, count, &mut out, &mut err);
+    let mut ports = NetPorts::of(rt);
+    let mut clock = Seconds::of(rt);
+    let (conn, status) = host(
+        rt.alloc(),
+        conn,
+        &mut ports,
+        &mut clock,
+        port,
+        count,
+        &mut out,
+        &mut err,
+    );
     close(conn);
     Ok(status)
 }

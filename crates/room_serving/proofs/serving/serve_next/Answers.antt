@@ -1,11 +1,14 @@
-use Rattle.room_serving.proofs.Receiving.{nobody}
+use Rattle.std.proofs.Common.{subst, rules, w64, ℤ, SFits}
+use Rattle.std.proofs.lemmas.Int.{to_z-of_z}
+use Rattle.room_serving.specs.Visits.{Attends}
+use Rattle.room_serving.proofs.Receiving.{one}
 use Rattle.room_serving.proofs.serving.serve_next.Goals as goal
 
-pub returns-in-Ok-Some : goal.returns-in-Ok-Some
-returns-in-Ok-Some g c = c.serve_stream.ensures
-
-pub returns-in-Ok-None : goal.returns-in-Ok-None
-returns-in-Ok-None g c = nobody g.D.Desk 1 c.args.desk.now
-
-pub returns-in-Err : goal.returns-in-Err
-returns-in-Err g c = nobody g.D.Desk 1 c.args.desk.now
+pub returns-in-Ok-Some-clause-received : goal.returns-in-Ok-Some-clause-received
+returns-in-Ok-Some-clause-received g c =
+    let at = c.next.result in
+    let old = c.args.desk.now in
+    let new = c.serve_stream.new.desk in
+    let fits : SFits w64 at = search rules in
+    let attends = subst (λ (z : ℤ). Attends g.D.Desk z old new) (to_z-of_z w64 at fits) c.serve_stream.ensures in
+    one g.D.Desk at _ _ old new c.next.ensures attends

@@ -1,10 +1,14 @@
-use Rattle.room_serving.proofs.Receiving.{one}
+use Rattle.std.proofs.Common.{w64}
+use Rattle.std.proofs.lemmas.Int.{to_z-of_z}
+use Rattle.room_serving.proofs.Receiving.{attends}
 use Rattle.room_serving.proofs.serving.serve_stream.Goals as goal
 
 pub returns-in-Ok : goal.returns-in-Ok
 returns-in-Ok g c =
-    one g.D.Desk c.args.desk.now c.serve.new.desk c.serve.ensures.trusted c.serve.ensures.sound c.serve.ensures.connects
+    attends g.D.Desk c.args.at c.args.desk.now c.serve.new.desk (to_z-of_z w64 c.args.at c.ranges.at)
+    c.serve.ensures.trusted c.serve.ensures.sound c.serve.ensures.connects
 
 pub returns-in-Err : goal.returns-in-Err
 returns-in-Err g c =
-    one g.D.Desk c.args.desk.now c.serve.new.desk c.serve.ensures.trusted c.serve.ensures.sound c.serve.ensures.connects
+    attends g.D.Desk c.args.at c.args.desk.now c.serve.new.desk (to_z-of_z w64 c.args.at c.ranges.at)
+    c.serve.ensures.trusted c.serve.ensures.sound c.serve.ensures.connects
