@@ -67,6 +67,13 @@ for page in "$top"/README.md "$top"/CONTRIBUTING.md "$top"/docs/*.md; do
   none "lines of $name" found
 done
 
+if has python3; then
+  "$top/tools/crates" --check >found
+  none 'the tables of crates' found
+else
+  skip 'the tables of crates' 'python3 is missing'
+fi
+
 # The case itself finds what it is for.
 printf '%s\n' '# One `two`, three' '# A' '# A' '[x](#one-two-three) [x](#a-1) [x](page.md) [x](page.md#a "T")' '```' '[x](none.md)' '```' \
   '`[x](none.md)` <http://none>' >page.md

@@ -85,3 +85,28 @@ lists 'a line without what goes before it' 1 "wrong: low/headless: BAD EDIT: a '
 house/tools/wrong high --list >said 2>&1
 holds 'no such crate (status)' [ $? = 1 ]
 holds 'no such crate' grep -qF 'neither an option nor a crate with mutants: high' said
+
+# Which crates have changed is decided by what their files say, and not by their comments.
+digest() {
+  (cd house && python3 - <<'END'
+import importlib.machinery, importlib.util, sys
+sys.path.insert(0, "tools")
+loader = importlib.machinery.SourceFileLoader("wrong", "tools/wrong")
+wrong = importlib.util.module_from_spec(importlib.util.spec_from_loader("wrong", loader))
+loader.exec_module(wrong)
+rt = wrong.load_rt("test")
+print(*(wrong.digest_of(rt, it) for it in wrong.crates_in_order(rt)))
+END
+  )
+}
+before=$(digest)
+holds 'a sum of a crate' [ -n "$before" ]
+printf '    // A comment.\n/// And another.\n' >>house/crates/low/src/lib.rt
+holds 'comments change no sum' [ "$(digest)" = "$before" ]
+printf 'pub fn third() {}\n' >>house/crates/low/src/lib.rt
+holds 'a function changes it' [ "$(digest)" != "$before" ]
+mkdir -p house/crates/low/specs
+printf '%s\n' '-- A comment.' >house/crates/low/specs/Lib.antt
+before=$(digest)
+printf '%s\n' '-- Another one.' '  -- And one more.' >house/crates/low/specs/Lib.antt
+holds 'nor do those of definitions' [ "$(digest)" = "$before" ]
