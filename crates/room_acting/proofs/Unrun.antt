@@ -19,6 +19,7 @@ pub unrun : {X : Type 0} (old : State) (Blames : Rows → Type 0) (Becomes : Row
 unrun old Blames Becomes = record {
   leaves = record { ended = λ h. h; clean = λ h. h; was_open = λ _ h. h };
   answers = λ _. tt;
+  committed = λ _. tt;
   step = λ _. tt;
   kept = λ _ _. refl;
   tables = λ premise _. premise.tables;

@@ -6,8 +6,8 @@ use Rattle.room_tables.specs.Meaning.{pairs_of}
 use Rattle.room_tables.specs.Paired.{Pair}
 use Rattle.room_tables.specs.Statements.{OfAny, Writes}
 use Rattle.room_tables.specs.Trust.{stays_on, trusted_first, trusted_last}
-use Rattle.room_operating.specs.Carries.{ByRows, Carries, NoTables}
-use Rattle.room_operating.specs.Operating.{Exchanges, Gathers, ReplacesMembers}
+use Rattle.room_operating.specs.Carries.{Carries, NoTables}
+use Rattle.room_operating.specs.Operating.{Exchanges, ExchangesMembers, Gathers}
 use Rattle.room_operating.proofs.Gathering.{replaced}
 
 pub gathered : (a b c : State) (before mid after : List Pair) (r : Result (Unit {0}) KeepFault)
@@ -22,6 +22,7 @@ gathered a b c before mid after (Ok done) p q = record {
         nodes = two.nodes ∙ one.nodes;
         bodies = two.bodies ∙ one.bodies;
         members = two.members;
+        only = λ all. two.only (one.only all);
         audits = two.audits ∙ one.audits;
       };
   blames = λ trust id is. absurd (let e = is in cc);
@@ -35,7 +36,7 @@ gathered a b c before mid after (Err fault) p q = record {
 pub exchanged : (pairs order : List Pair) (a b c : State) (count : ℕ)
     (r : Result (Unit {0}) KeepFault) → IsPermutation pairs order
     → Writes (OfAny (Exchanges [])) a b (Ok count) → Carries b c r NoTables (Gathers [] order)
-    → Carries a c r NoTables (ByRows (ReplacesMembers pairs))
+    → Carries a c r NoTables (ExchangesMembers pairs)
 exchanged pairs order a b c count (Ok done) moved w q = record {
   stays = stays_on a b c w.stays q.stays;
   becomes = λ trust.

@@ -1,5 +1,5 @@
 -- What one more pair makes of the pairs that are there.
-use Rattle.std.proofs.Common.{◌≡◌, ◌||◌, ◌<◌, ◌+◌, ◌-◌, ℕ, ℤ, suc, List, [], ◌∷◌, ◌++◌, get_or, length}
+use Rattle.std.proofs.Common.{◌≡◌, ◌||◌, ◌&&◌, is_some, ◌<◌, ◌+◌, ◌-◌, ℕ, ℤ, suc, List, [], ◌∷◌, ◌++◌, get_or, length}
 use Rattle.std.proofs.Common.{take, map, Bor, arith}
 use Rattle.std.proofs.Common.{Some, None, Option, refl, sym, ap, subst, ◌∙◌, true, false, Bool}
 use Rattle.std.proofs.Common.{Ordering, Less, Equal, Greater, is_eq, IsPermutation}
@@ -21,7 +21,7 @@ use Rattle.room_tables.specs.Paired.{Pair, pair_cmp}
 use Rattle.room_tables.specs.RoomRows.{set_sorted}
 use Rattle.room_tables.proofs.Removed.{same_rows}
 use Rattle.room_tables.proofs.Rowids.{is_equal}
-use Rattle.room_operating.specs.Operating.{Exchanges, Holds, ReplacesMembers, stored_pair}
+use Rattle.room_operating.specs.Operating.{Exchanges, ExchangesMembers, Holds, are_pairs, stored_pair}
 use Rattle.room_operating.proofs.Members.{reads}
 use Rattle.room_operating.proofs.Sets.{has, has_first, has_set, is_at, or_swap, same_pair, same_sets}
 use Rattle.room_operating.proofs.Sets.{set_moved}
@@ -55,6 +55,28 @@ has_put x new (r ∷ rows) free = step (value_cmp (rowid r) (rowid new)) (has_pu
         ∙ ap (λ b. reads x (pair_in new) || b) (sym (has_cons x (pair_in r) (filter_map pair_in rows)))
     step Equal more free' = absurd (let e = free' in cc)
     step Greater more free' = has_cons x (pair_in new) (filter_map pair_in (r ∷ rows))
+
+parts : (a b : Bool) → a && b ≡ true → (a ≡ true) × (b ≡ true)
+parts true b is = (refl, is)
+parts false b is = absurd (let e = is in cc)
+
+both : (a b : Bool) → a ≡ true → b ≡ true → a && b ≡ true
+both a b one two = ap (λ c. c && b) one ∙ two
+
+-- one more row that is a pair
+pub pairs_put : (new : Row) (rows : List Row) → is_some (pair_in new) ≡ true
+    → are_pairs rows ≡ true → are_pairs (put_row new rows) ≡ true
+pairs_put new [] is all = both (is_some (pair_in new)) true is refl
+pairs_put new (r ∷ rows) is all =
+    let known = parts (is_some (pair_in r)) (are_pairs rows) all in
+    step known (value_cmp (rowid r) (rowid new)) (pairs_put new rows is known.1)
+  where
+    step : (is_some (pair_in r) ≡ true) × (are_pairs rows ≡ true) → (o : Ordering)
+        → are_pairs (put_row new rows) ≡ true
+        → are_pairs (match_ordering o (r ∷ put_row new rows) (new ∷ rows) (new ∷ r ∷ rows)) ≡ true
+    step known' Less more = both (is_some (pair_in r)) (are_pairs (put_row new rows)) known'.0 more
+    step known' Equal more = both (is_some (pair_in new)) (are_pairs rows) is known'.1
+    step known' Greater more = both (is_some (pair_in new)) (are_pairs (r ∷ rows)) is all
 
 or_last : (a h : Bool) → a || h ≡ h || (a || false)
 or_last true true = refl
@@ -163,8 +185,10 @@ read_pair id group user a b = rw (a, b) refl
 -- all pairs are taken out, and then these are put in, in any order
 pub replaced : (pairs order : List Pair) (old mid new : Database) → IsPermutation pairs order
     → Exchanges [] old.trees mid.trees → Holds order mid.trees new.trees
-    → ReplacesMembers pairs (rows_of old) tt (rows_of new)
-replaced pairs order old mid new moved gone held =
-    same_rows (ap nodes_of (held.nodes ∙ gone.nodes)) (ap unread_of (held.nodes ∙ gone.nodes))
-    (ap bodies_of (held.bodies ∙ gone.bodies)) (held.members ∙ sym (set_moved pairs order moved))
-    (ap (filter_map audit_in) (held.audits ∙ gone.audits))
+    → ExchangesMembers pairs old tt new
+replaced pairs order old mid new moved gone held = (
+  same_rows (ap nodes_of (held.nodes ∙ gone.nodes)) (ap unread_of (held.nodes ∙ gone.nodes))
+      (ap bodies_of (held.bodies ∙ gone.bodies)) (held.members ∙ sym (set_moved pairs order moved))
+      (ap (filter_map audit_in) (held.audits ∙ gone.audits)),
+  held.only (subst (λ rows. are_pairs rows ≡ true) (sym gone.members) refl),
+)

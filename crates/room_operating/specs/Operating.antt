@@ -12,7 +12,7 @@ use Rattle.room_rows.specs.declared.node.AuditRow.{AuditRow}
 use Rattle.room_rows.specs.Content.{is_pair_before, set_of, with_members}
 use Rattle.room_rows.specs.Keep.{reading}
 use Rattle.room_rows.specs.Rows.{Rows}
-use Rattle.room_tables.specs.Meaning.{audit_in, name_in, pairs_of, rows_of}
+use Rattle.room_tables.specs.Meaning.{audit_in, name_in, pair_in, pairs_of, rows_of}
 
 abbrev pub AreMembers : Database → List (List ℕ × List ℕ) → Type 0
 AreMembers db pairs = pairs ≡ (rows_of db).read.members
@@ -28,6 +28,19 @@ pub record AreRecords (db : Database) (records : List AuditRow) : Type 0 where
 
 abbrev pub ReplacesMembers : List (List ℕ × List ℕ) → Rows → Unit {0} → Rows → Type 0
 ReplacesMembers pairs old answer new = new ≡ reading old (with_members old.read pairs)
+
+-- each of these rows of members is read as a pair
+abbrev pub are_pairs : List Row → Bool
+are_pairs rows = list_all (λ r. is_some (pair_in r)) rows
+
+-- no row of members is none
+abbrev pub HasPairsAlone : Database → Type 0
+HasPairsAlone db = are_pairs (db.trees 3) ≡ true
+
+-- The pairs become these, and no row is left that is none.
+abbrev pub ExchangesMembers : List (List ℕ × List ℕ) → Database → Unit {0} → Database → Type 0
+ExchangesMembers pairs old answer new =
+    ReplacesMembers pairs (rows_of old) answer (rows_of new) × HasPairsAlone new
 
 -- ---- how they are read
 
@@ -88,6 +101,8 @@ pub record Holds (pairs : List (List ℕ × List ℕ)) (db next : Trees) : Type 
   pub bodies : next 2 ≡ db 2
   pub members : pairs_of (next 3) ≡ set_of pairs
   pub audits : next 7 ≡ db 7
+  -- where each row was a pair, each still is
+  pub only : are_pairs (db 3) ≡ true → are_pairs (next 3) ≡ true
 
 -- From the set of some pairs to that of others.
 abbrev pub Gathers : List (List ℕ × List ℕ) → List (List ℕ × List ℕ)

@@ -7,8 +7,8 @@ ghost use Rattle.sqlite.specs.declared.types.Value.TheVariants.{Text as SqlText}
 ghost use Rattle.room_tables.specs.Meaning.{name_in};
 ghost use Rattle.room_tables.specs.Paired.{pair_cmp};
 ghost use Rattle.room_tables.specs.Statements.{OfAny, Writes};
-ghost use Rattle.room_operating.specs.Carries.{ByRows, Carries, NoTables};
-ghost use Rattle.room_operating.specs.Operating.{Gathers, Joins, ReplacesMembers};
+ghost use Rattle.room_operating.specs.Carries.{Carries, NoTables};
+ghost use Rattle.room_operating.specs.Operating.{ExchangesMembers, Gathers, Joins};
 
 use crate::operating::{compare, delete_members, insert_member};
 use room_ace::{Name, names_are_text};
@@ -105,7 +105,7 @@ pub fn put_members<S: Alter>(
 ) -> Result<(), KeepFault>
     ensures same_reference { tx.new.conn.ghost_name ≡ tx.old.conn.ghost_name }
     ensures carries { Carries (state S.Store tx.old.conn.now) (state S.Store tx.new.conn.now)
-        result NoTables (ByRows (ReplacesMembers pairs.now)) }
+        result NoTables (ExchangesMembers pairs.now) }
 {
     let order = in_order(alloc, pairs)?;
     match delete_members(tx) {

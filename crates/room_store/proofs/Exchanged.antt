@@ -1,5 +1,5 @@
 -- The pairs are exchanged: what rows mean changes as the operator's step says, and sound rows stay sound.
-use Rattle.std.proofs.Common.{◌≡◌, ℕ, zero, suc, List, [], ◌∷◌, None, Some, Option, Bool, false, refl, sym, ap, subst, ◌∙◌, length}
+use Rattle.std.proofs.Common.{◌≡◌, Result, Ok, Err, OnOk, ℕ, zero, suc, List, [], ◌∷◌, None, Some, Option, Bool, false, refl, sym, ap, subst, ◌∙◌, length}
 use Rattle.std.specs.Prelude.{◌&&◌}
 use Rattle.std.specs.List.{list_all}
 use Rattle.std.specs.Option.{option_map_or}
@@ -10,8 +10,22 @@ use Rattle.room_rows.specs.Rows.{Rows}
 use Rattle.room_inherit.specs.Laws.{HasNoFault, SoundIsNoFault}
 use Rattle.room_rows.specs.Sound.{AreSound, reaches}
 use Rattle.room_machine.specs.Run.{Replaced}
-use Rattle.room_operating.specs.Operating.{ReplacesMembers}
+use Rattle.sqlite.specs.State.{State}
+use Rattle.room_rows.specs.declared.keep.KeepFault.{KeepFault}
+use Rattle.room_tables.specs.Trust.{IsTrusted}
+use Rattle.room_operating.specs.Carries.{ByRows, Carries, NoTables, OnRows}
+use Rattle.room_operating.specs.Operating.{ExchangesMembers, HasPairsAlone, ReplacesMembers}
 use Rattle.room_store.proofs.Leading.{IsEvent}
+
+-- what is told of the rows, and of those that are no pairs
+pub of_rows : (pairs : List (List ℕ × List ℕ)) (begun mid : State) (done : Result (Unit {0}) KeepFault) → Carries begun mid done NoTables (ExchangesMembers pairs)
+    → Carries begun mid done (OnRows (λ _. ⊥)) (ByRows (ReplacesMembers pairs))
+of_rows pairs begun mid (Ok _) carries = record { stays = carries.stays; becomes = λ trust. (carries.becomes trust).0; blames = carries.blames }
+of_rows pairs begun mid (Err why) carries = record { stays = carries.stays; becomes = λ _. tt; blames = carries.blames }
+
+pub pairs_alone : (pairs : List (List ℕ × List ℕ)) (begun mid : State) (done : Result (Unit {0}) KeepFault) → Carries begun mid done NoTables (ExchangesMembers pairs) → IsTrusted begun mid → OnOk done (HasPairsAlone mid.now)
+pairs_alone pairs begun mid (Ok _) carries trust = (carries.becomes trust).1
+pairs_alone pairs begun mid (Err why) carries trust = tt
 
 module _ (content : Content) (pairs : List (List ℕ × List ℕ)) where
   same_reach : (n : ℕ) (parent : Option ℕ) → reaches_root n (with_members content pairs) parent ≡ reaches_root n content parent

@@ -1,5 +1,5 @@
 -- Calls in a transaction that is committed, or given up.
-use Rattle.std.proofs.Common.{◌≡◌, ◌≤◌, ℕ, Result, Ok, Err, IsTrue, IfOk, inl, inr, refl, sym, ap, subst, subst₂, ◌∙◌, true, false, arith}
+use Rattle.std.proofs.Common.{◌≡◌, ◌≤◌, ℕ, Result, Ok, Err, IsTrue, IfOk, OnOk, inl, inr, refl, sym, ap, subst, subst₂, ◌∙◌, true, false, arith}
 use Rattle.sqlite_trees.specs.View.{doubt}
 use Rattle.sqlite.specs.Effect.{Database, IsDatabase}
 use Rattle.sqlite.specs.declared.error.Error.{Error}
@@ -57,6 +57,7 @@ pub refused : {X : Type 0} (old : State) (Blames : Rows → Type 0) (Becomes : R
 refused old Blames Becomes = record {
   leaves = record { ended = λ h. h; clean = λ h. h; was_open = λ _ h. h };
   answers = λ _. tt;
+  committed = λ _. tt;
   step = λ _. tt;
   kept = λ _ _. refl;
   tables = λ premise _. premise.tables;
@@ -118,11 +119,22 @@ module _ (old begun mid end : State) (begins : Begins old begun) (stays : Stays 
       let settled = stays.settled (clean_mid now) same.0.was_open m.trusted.committed m.trusted.now (λ off. absurd (let e' = sym off ∙ begins.mode in cc)) mode in
       same.0.now_is ∙ settled ∙ m.committed
 
+  -- what is so of the tables after the calls is so once they are committed
+  pub after : {X : Type 0} (P : Database → Type 0) (done : Result X KeepFault) (result : Result X StoreFault) → (IsTrusted begun mid → OnOk done (P mid.now))
+      → (HasCleanDisk end → Finishes mid end done result) → StorePremise old end → OnOk result (P end.now)
+  after P (Ok x) (Ok y) holds ends premise =
+      let s = (ends premise.disk).2 in
+      subst P (sym s.now_is) (holds (made premise.disk s.was_open premise.tables).trusted)
+  after P (Ok x) (Err fault) holds ends premise = tt
+  after P (Err why) (Ok y) holds ends premise = absurd (ends premise.disk)
+  after P (Err why) (Err fault) holds ends premise = tt
+
   module _ {X : Type 0} (Blames : Rows → Type 0) (Becomes : Rows → X → Rows → Type 0) where
     committed : (x y : X) → (HasCleanDisk end → y ≡ x) → (IsTrusted begun mid → Becomes (rows_of begun.now) x (rows_of mid.now)) → (HasCleanDisk end → Shows mid end mid.now mid.now false) → Ran old end (Ok y) Blames Becomes
     committed x y same becomes shows = record {
       leaves = leaves (λ now _. (shows now).was_open);
       answers = λ now. (old_open now (shows now).was_open, (shows now).is_open);
+      committed = λ now. (shows now).committed_is ∙ sym (shows now).now_is;
       step = λ premise.
           let s = shows premise.disk in
           let m = made premise.disk s.was_open premise.tables in
@@ -139,6 +151,7 @@ module _ (old begun mid end : State) (begins : Begins old begun) (stays : Stays 
     given_up fault was left damaged = record {
       leaves = leaves was;
       answers = λ _. tt;
+      committed = λ _. tt;
       step = λ _. tt;
       kept = λ premise open'. left premise.disk open' premise.tables;
       tables = λ premise open'. subst HasTables (sym (left premise.disk open' premise.tables)) premise.tables;
@@ -159,6 +172,7 @@ module _ (old begun mid end : State) (begins : Begins old begun) (stays : Stays 
     ran (Err why) (Ok y) carries ends = record {
       leaves = leaves (λ now _. absurd (ends now));
       answers = λ now. absurd (ends now);
+      committed = λ now. absurd (ends now);
       step = λ premise. absurd (ends premise.disk);
       kept = λ _ _. tt;
       tables = λ premise _. absurd (ends premise.disk);

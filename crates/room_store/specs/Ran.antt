@@ -25,6 +25,8 @@ pub record Ran {X : Type 0} (old new : State) (result : Result X StoreFault)
   pub leaves : LeavesOpen old new
   -- A connection that is shut gives no answer.
   pub answers : HasCleanDisk new → OnOk result (IsTrue old.is_open × IsTrue new.is_open)
+  -- What was answered is committed.
+  pub committed : HasCleanDisk new → OnOk result (new.committed ≡ new.now)
   -- An answer tells what became of the rows.
   pub step : StorePremise old new
       → IfOk result (λ answer. Becomes (rows_of old.now) answer (rows_of new.now))

@@ -1,11 +1,14 @@
 //! What an operator asks of a whole room, of all pairs and of all records, each in one transaction.
+ghost use Rattle.std.specs.Prelude.{OnOk};
 ghost use Rattle.sqlite.specs.Held.{state};
+ghost use Rattle.room_store.specs.Premise.{StorePremise};
 ghost use Rattle.room_store.specs.Ran.{Looked, Ran};
 ghost use Rattle.room_operating.specs.Carries.{NoTables};
 ghost use Rattle.room_operating.specs.Dump.{HasDamagedRow, IsDump};
 ghost use Rattle.room_operating.specs.Operating.{
   AreMembers,
   AreRecords,
+  HasPairsAlone,
   HasUnreadRecord,
   ReplacesMembers,
 };
@@ -61,6 +64,8 @@ pub(crate) fn replace_on<S: Alter>(
 ) -> Result<(), StoreFault>
     ensures ran { Ran (state S.Store conn.old) (state S.Store conn.new) result (λ _. ⊥)
         (ReplacesMembers pairs.now) }
+    ensures alone { StorePremise (state S.Store conn.old) (state S.Store conn.new)
+        → OnOk result (HasPairsAlone (state S.Store conn.new).now) }
 {
     if !conn.is_autocommit() {
         return Err(StoreFault::Db);

@@ -1,11 +1,12 @@
 //! The store.
-ghost use Rattle.std.specs.Prelude.{◌≡◌, []};
+ghost use Rattle.std.specs.Prelude.{◌≡◌, [], OnOk};
 ghost use Rattle.std.specs.Option.{option_copied};
 ghost use Rattle.sqlite.specs.Held.{state};
 ghost use Rattle.room_inherit.specs.Reading.{IsReport};
 ghost use Rattle.room_judge.specs.Judged.{Performs, Resets};
 ghost use Rattle.room_machine.specs.Run.{Event};
 ghost use Rattle.room_store.specs.Leads.{Leads, event_of};
+ghost use Rattle.room_store.specs.Premise.{StorePremise};
 ghost use Rattle.room_store.specs.Ran.{HasDamage, Looked, Ran};
 ghost use Rattle.room_operating.specs.Carries.{NoTables};
 ghost use Rattle.room_operating.specs.Dump.{HasDamagedRow, IsDump};
@@ -13,6 +14,7 @@ ghost use Rattle.room_tables.specs.Meaning.{rows_of};
 ghost use Rattle.room_operating.specs.Operating.{
   AreMembers,
   AreRecords,
+  HasPairsAlone,
   HasUnreadRecord,
   ReplacesMembers,
 };
@@ -105,7 +107,7 @@ impl<S: Alter> Store<S> {
     }
 
     /// The pairs of group and user become these, each once. It is the operator's step of the room
-    /// machine. `Damaged` never comes.
+    /// machine. Rows that were no pairs go too. `Damaged` never comes.
     pub fn replace_members(
         &mut self,
         alloc: Global,
@@ -113,6 +115,8 @@ impl<S: Alter> Store<S> {
     ) -> Result<(), StoreFault>
         ensures ran { Ran (state S.Store self.old.conn) (state S.Store self.new.conn) result
             (λ _. ⊥) (ReplacesMembers pairs.now) }
+        ensures alone { StorePremise (state S.Store self.old.conn) (state S.Store self.new.conn)
+            → OnOk result (HasPairsAlone (state S.Store self.new.conn).now) }
         ensures leads { Leads (state S.Store self.old.conn) (event_of result
             (λ _. Event.Replaced pairs.now)) (state S.Store self.new.conn) }
         ensures faults { self.new.faults ≡ self.old.faults }

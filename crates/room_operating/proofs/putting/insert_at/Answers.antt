@@ -1,9 +1,10 @@
-use Rattle.std.proofs.Common.{refl, sym, ap, ◌∙◌, take, map}
+use Rattle.std.proofs.Common.{◌≡◌, refl, sym, ap, subst, ◌∙◌, take, map, is_some, true}
 use Rattle.sqlite.specs.Held.{state}
 use Rattle.room_rows.specs.Content.{set_of}
 use Rattle.room_tables.specs.Meaning.{pairs_of}
 use Rattle.room_tables.specs.Trust.{stays_itself}
-use Rattle.room_operating.proofs.Gathering.{again, one_more, read_pair, so_far}
+use Rattle.room_operating.specs.Operating.{are_pairs, stored_pair}
+use Rattle.room_operating.proofs.Gathering.{again, one_more, pairs_put, read_pair, so_far}
 use Rattle.room_operating.proofs.putting.insert_at.Goals as goal
 
 pub returns-then-is_same-clause-carries : goal.returns-then-is_same-clause-carries
@@ -18,6 +19,7 @@ returns-then-is_same-clause-carries g c =
         bodies = refl;
         members = held ∙ again c.args.order.now c.args.at p q c.if-at-gt0.true c.requires c.index-order-at.is c.index-order-at-then-at-gt0.is same;
         audits = refl;
+        only = λ all. all;
       };
       blames = λ trust id is. absurd (let e = is in cc);
     }
@@ -39,6 +41,9 @@ returns-in-Ok-clause-carries g c =
                 ∙ one_more p.now done _ _ (read_pair join.id p.now.0 p.now.1 names.group names.user) join.fresh held
                 ∙ ap set_of (sym (so_far c.args.order.now c.args.at p c.requires c.index-order-at.is));
             audits = join.puts.audits;
+            only = λ all. subst (λ rows. are_pairs rows ≡ true) (sym join.puts.members)
+                (pairs_put (stored_pair join.id p.now.0 p.now.1)
+                ((state g.S.Store c.args.tx.now.conn.now).now.trees 3) (ap is_some (read_pair join.id p.now.0 p.now.1 names.group names.user)) all);
           };
       blames = λ trust id is. absurd (let e = is in cc);
     }

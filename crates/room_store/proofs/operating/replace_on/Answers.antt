@@ -1,8 +1,10 @@
-use Rattle.std.proofs.Common.{rules, ◌≡◌, refl, subst, IsTrue}
+use Rattle.std.proofs.Common.{rules, ◌≡◌, refl, subst, IsTrue, OnOk}
 use Rattle.sqlite.specs.Held.{state}
-use Rattle.room_operating.specs.Operating.{ReplacesMembers}
+use Rattle.room_operating.specs.Operating.{HasPairsAlone, ReplacesMembers}
+use Rattle.room_store.proofs.Exchanged.{of_rows, pairs_alone}
+use Rattle.room_store.specs.Premise.{StorePremise}
 use Rattle.room_store.specs.Ran.{Ran}
-use Rattle.room_store.proofs.Transact.{Begins, ran}
+use Rattle.room_store.proofs.Transact.{Begins, after, ran}
 use Rattle.room_store.proofs.operating.replace_on.Goals as goal
 
 pub returns : goal.returns
@@ -15,5 +17,12 @@ returns g c =
     let alone : IsTrue c.is_autocommit.result = search rules in
     let begins : Begins old begun = rw c.transaction-tx.ensures.begun (record { now = refl; committed = refl; same_open = refl; same_clean = refl; mode = refl; settled = c.is_autocommit.ensures.settled alone; sound = λ open'. (c.schema-schema.ensures.live open').0 }) in
     let Step = ReplacesMembers c.args.pairs.now in
-    let done = ran old begun mid (state g.S.Store end) begins c.put_members-done.ensures.carries.stays c.finish.ensures.ended c.finish.ensures.clean (λ _. ⊥) Step c.put_members-done.result c.finish.result c.put_members-done.ensures.carries c.finish.ensures.finishes in
-    record { ran = subst (λ h. Ran old (state g.S.Store h) c.finish.result (λ _. ⊥) Step) same done }
+    let carries = c.put_members-done.ensures.carries in
+    let whole = of_rows c.args.pairs.now begun mid c.put_members-done.result carries in
+    let done = ran old begun mid (state g.S.Store end) begins carries.stays c.finish.ensures.ended c.finish.ensures.clean (λ _. ⊥) Step c.put_members-done.result c.finish.result whole c.finish.ensures.finishes in
+    let alone = after old begun mid (state g.S.Store end) begins carries.stays c.finish.ensures.ended c.finish.ensures.clean HasPairsAlone c.put_members-done.result c.finish.result
+    (pairs_alone c.args.pairs.now begun mid c.put_members-done.result carries) c.finish.ensures.finishes in
+    record {
+      ran = subst (λ h. Ran old (state g.S.Store h) c.finish.result (λ _. ⊥) Step) same done;
+      alone = subst (λ h. StorePremise old (state g.S.Store h) → OnOk c.finish.result (HasPairsAlone (state g.S.Store h).now)) same alone;
+    }
