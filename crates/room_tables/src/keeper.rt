@@ -333,11 +333,7 @@ impl<'a, 'conn, S: Alter> Keep for Keeper<'a, 'conn, S> {
     }
 
     fn set_inh(&mut self, id: u64, which: Which, entries: &[Entry]) -> Result<(), KeepFault> {
-        // a row that can't be read is blamed, as by all calls that change a part
-        match self.node(id)? {
-            Some(node) => drop(node),
-            None => return Err(failed(&mut self.failures)),
-        }
+        // Whoever carries a list down has just read the row, so it isn't read again.
         put_inh(self, id, which, entries)
     }
 
