@@ -52,7 +52,7 @@ abbrev pub end_status : Result (Unit {0}) ServingFault → ℕ
 end_status (Ok done) = 0
 end_status (Err fault) = 3
 
--- It was told that a port listens.
+-- The line of a port that listens was printed.
 abbrev pub TellsPort : Option (List ℕ) → Option (List ℕ) → Type 0
 TellsPort out out' = (port : ℕ) × Appends out out' (listening_line port)
 
@@ -70,9 +70,9 @@ pub record Rests {D : Type 0} (d : Ghosts D) (old new : D) : Type 0 where
   pub sound : d.trusted new → d.sound old → d.sound new
   pub run : d.trusted new → d.sound old → Runs (d.content old) [] (d.content new)
 
--- The requests of so many connections at most were served, each at the moment that the clock told
+-- The requests of at most `count` connections were served, each at the moment that the clock gave
 -- for it. All is done, or there was a fault, and what this says of the connections holds. The port
--- was told before the first of them.
+-- was printed before the first of them.
 pub record IsServed (count : ℕ) (told told' : List ℤ → Type 0) (old new : State)
     (out out' : Option (List ℕ)) (status : ℕ) : Type 0 where
   pub visits : List Visit

@@ -8,7 +8,7 @@ use std::net::{Ipv4Addr, Net, TcpListener, TcpStream};
 
 /// Where ports are bound.
 pub trait Ports {
-    // It may have been asked for these places, one after the other.
+    // Whether these may be the places that it was asked for, in order.
     ghost asked: { Self → List Place → Type 0 };
 
     /// A listener at a port of an address.
@@ -37,7 +37,7 @@ impl<N> Ports for NetPorts<'_, N>
 where
     N: Net<Listener = TcpListener, Stream = TcpStream>,
 {
-    // A network doesn't say what it was asked for.
+    // A network's own contract says nothing of what it is asked for.
     ghost asked = { λ _ _. ⊤ };
 
     fn bind(&mut self, address: Ipv4Addr, port: u16) -> io::Result<TcpListener> {

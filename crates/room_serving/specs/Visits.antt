@@ -39,10 +39,10 @@ pub record Attends {D : Type 0} (d : Ghosts D) (at : ℤ) (old new : D) : Type 0
   pub run : d.trusted new → d.sound old
       → Runs (d.content old) (visit_events visit) (d.content new)
 
--- From one moment of a desk to a later one, what it did is a run over the requests of so many
--- connections at most, one after another. It is said of a desk that was sound before, and is
--- trusted then. The moments of the connections are what a clock told meanwhile, one reading for
--- each, in order: what it had told before, `told`, and what it has told then, `told'`.
+-- From one moment of a desk to a later one, what it did is a run over the requests of at most
+-- `count` connections, one after another. It is said of a desk that was sound before, and is
+-- trusted then. The moments of the connections are what a clock gave meanwhile, one reading for
+-- each, in order: what it may have given before is `told`, and what it may have given then `told'`.
 pub record Receives {D : Type 0} (d : Ghosts D) (count : ℕ) (told told' : List ℤ → Type 0)
     (old new : D) : Type 0 where
   pub trusted : d.trusted new → d.trusted old
@@ -54,15 +54,15 @@ pub record Receives {D : Type 0} (d : Ghosts D) (count : ℕ) (told told' : List
   pub run : d.trusted new → d.sound old
       → Runs (d.content old) (requests_of visits) (d.content new)
 
--- what an end says of so many visits: without memory there was none, and where the listener failed
--- a connection is missing
+-- what an end says of the number of visits: out of memory there was none, and where the listener
+-- failed a connection is missing
 abbrev pub IsEnd : ℕ → Result (Unit {0}) ServingFault → ℕ → Type 0
 IsEnd count (Ok done) visits = ⊤
 IsEnd count (Err ServingFault.Memory) visits = visits ≡ 0
 IsEnd count (Err ServingFault.File) visits = ⊤
 IsEnd count (Err ServingFault.Net) visits = (visits < count) ⊎ (visits ≡ 0)
 
--- so many connections were received, and the service ended so
+-- at most `count` connections were received, and what the end says of them holds
 abbrev pub Served : {D : Type 0} → Ghosts D → ℕ → (List ℤ → Type 0) → (List ℤ → Type 0) → D → D
     → Result (Unit {0}) ServingFault → Type 0
 Served d count told told' old new end =

@@ -3,9 +3,9 @@ ghost use Rattle.std.specs.Prelude.{ℤ, List, [], ◌∷◌, ◌++◌, pos, ◌
 
 use std::time::{Clock, SystemTime, UNIX_EPOCH};
 
-/// What tells the moments of connections.
+/// Where the moments of connections come from.
 pub trait Moments {
-    // It may have told these moments, one after the other.
+    // Whether these may be the moments that it gave, in order.
     ghost told: { Self → List ℤ → Type 0 };
 
     /// The moment, in seconds from 1970-01-01 00:00 UTC.
@@ -28,7 +28,7 @@ impl<'a, C: Clock> Seconds<'a, C> {
 }
 
 impl<C: Clock> Moments for Seconds<'_, C> {
-    // A clock doesn't say what it told.
+    // A clock's own contract says nothing of what it gives.
     ghost told = { λ _ _. ⊤ };
 
     fn next(&mut self) -> i64 {

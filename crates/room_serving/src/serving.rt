@@ -15,9 +15,9 @@ use std::alloc::Global;
 use std::io::Write;
 use std::net::{TcpListener, TcpStream};
 
-/// Serves so many connections of the listener, one after another. It tells first on `out` on which
+/// Serves `count` connections of the listener, one after another. First it prints on `out` on which
 /// port it listens. The clock is read once for each connection, when it is accepted: this is the
-/// moment of its requests. A fault of a connection is told on `err`, and the next one is served;
+/// moment of its requests. A fault of a connection is printed on `err`, and the next one is served;
 /// one that is lost before it is accepted counts as one whose reading failed.
 pub fn serve_on<D: Desk, M: Moments, O: Write, E: Write>(
     alloc: Global,
@@ -44,7 +44,7 @@ pub fn serve_on<D: Desk, M: Moments, O: Write, E: Write>(
     }
 }
 
-// Tells where it listens.
+// Prints where it listens.
 fn announce<O: Write>(listener: &TcpListener, out: &mut O) -> Result<(), ServingFault>
     ensures told { OnOk result ((port : ℕ)
         × Appends (O.contents out.old) (O.contents out.new) (listening_line port)) }
@@ -59,8 +59,8 @@ fn announce<O: Write>(listener: &TcpListener, out: &mut O) -> Result<(), Serving
     }
 }
 
-// Serves so many connections, and tells the fault of each that has one. A fault that can't be told
-// is answered once all are served.
+// Serves `count` connections, and prints the fault of each that has one. That one couldn't be
+// printed is answered once all are served.
 fn serve_each<D: Desk, M: Moments, E: Write>(
     alloc: Global,
     routes: &Routes,
@@ -89,7 +89,7 @@ fn serve_each<D: Desk, M: Moments, E: Write>(
     }
 }
 
-// Whether what ended the connection after so many others was told, if there is anything to tell.
+// Whether the fault of the connection after `before` others was printed, if it had one.
 fn is_told<E: Write>(err: &mut E, before: u32, lost: Option<Cause>) -> bool {
     match lost {
         Some(cause) => tell_fault(err, u64::from(before) + 1, cause).is_ok(),
