@@ -10,7 +10,7 @@ use Rattle.room_ace.specs.Text.{kind_text, flags_text}
 pub text_itself : (xs : List ℕ) → same_text xs xs ≡ true
 text_itself xs = (bytes_decides xs xs).1 refl
 
--- a test that says yes exactly where two values are equal is the test of their texts, if these tell the values apart
+-- a test of equality is one of texts, where no two values have the same text
 pub by_texts : {A : Type 0} (text : A → List ℕ) → ((a b : A) → text a ≡ text b → a ≡ b) → (a b : A) (r : Bool) → (r ≡ true → a ≡ b) → (a ≡ b → r ≡ true) → r ≡ same_text (text a) (text b)
 by_texts {A} text apart a b r says said = on r (same_text (text a) (text b)) refl says said
   where
@@ -44,7 +44,7 @@ not_as_long (x ∷ xs) (y ∷ ys) apart = on (same_entry x y) (not_as_long xs ys
     on true rest = rest
     on false rest = refl
 
--- the entries at one place, and those behind it
+-- the entries at one place, and those after it
 pub same_from : (xs ys : List Ace) (i : ℕ) (x y : Ace) → i < length xs → i < length ys → x ≡ get_or xs i x → y ≡ get_or ys i y
     → same_entries (drop i xs) (drop i ys) ≡ (same_entry x y && same_entries (drop (i + 1) xs) (drop (i + 1) ys))
 same_from xs ys i x y below below' is is' =

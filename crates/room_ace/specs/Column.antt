@@ -12,7 +12,7 @@ some_of (Err fault) = None
 abbrev pub entry_in : List ℕ → Option Ace
 entry_in line = if is_utf8 line then some_of (entry_of line) else None
 
--- the entries before, and those of the lines, where each line that says something spells one
+-- the entries before, and those of the lines, where each but blanks and comments spells one
 abbrev pub entries_behind : List Ace → List (List ℕ) → Option (List Ace)
 entries_behind before [] = Some before
 entries_behind before (line ∷ lines) =

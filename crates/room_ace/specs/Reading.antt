@@ -16,13 +16,13 @@ use Rattle.room_ace.specs.declared.fault.LineFault.{LineFault}
 use Rattle.room_ace.specs.declared.fault.Why.{Why}
 use Rattle.room_ace.specs.declared.fault.Why.TheVariants.{NotUtf8}
 
--- the lines of a text that say something, each with its number, where this many lines stand before
+-- the lines that are neither blank nor comments, numbered, with this many lines before them
 abbrev pub lines_after : ℕ → List ℕ → List (ℕ × List ℕ)
 lines_after passed text =
     filter (λ line. not (is_blank line.1 || is_comment line.1))
     (enumerate_from (passed + 1) (lines_of text))
 
--- the flags of the letters behind `list:`
+-- the flags of the letters after `list:`
 abbrev pub list_flags : List ℕ → Option ListFlags
 list_flags letters =
     if list_all (is_among (codes "ap")) letters
@@ -49,7 +49,7 @@ sent_after flags before lines =
     and_then (entries_after before lines)
     (λ entries. Ok (record { flags = flags; entries = entries }))
 
--- the failure, told of a line
+-- the failure, with the number of its line
 abbrev pub failure_at : {F : Type 0} → ℕ → (F → Why) → Failure F → Failure LineFault
 failure_at line why OutOfMemory = OutOfMemory
 failure_at line why (Fault fault) = Fault (record { line = line; why = why fault })

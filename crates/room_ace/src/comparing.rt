@@ -59,7 +59,7 @@ fn is_same_who(who: &Who, other: &Who) -> bool
     rank == other_rank && name == other_name
 }
 
-// A number that tells who this is, and the name, if it has one.
+// A number for the kind of who, and the name, if it has one.
 fn key_parts(who: &Who) -> (u8, &str)
     ensures { result.0 ∷ result.1.now ≡ who_key who.now }
 {

@@ -11,7 +11,7 @@ use crate::lines::split_line;
 use crate::list_lines::{is_blank, is_comment};
 use std::alloc::{AllocError, Global};
 
-/// The printed form of the entries, each with LF behind it. It reads back as these entries.
+/// The printed form of the entries, each with LF after it. It reads back as these entries.
 pub fn print_entries(alloc: Global, entries: &[Entry]) -> Result<String, AllocError>
     ensures text { IfOk result (λ text. string_bytes text ≡ entry_lines entries.now) }
     ensures back { IfOk result (λ text. entries_of (string_bytes text) ≡ Some entries.now) }
@@ -24,7 +24,7 @@ pub fn print_entries(alloc: Global, entries: &[Entry]) -> Result<String, AllocEr
     Ok(text)
 }
 
-// Tells a proof that the entries are entries.
+// States for a proof that the entries are entries.
 fn are_known(entries: &[Entry])
     ensures { All IsEntry entries.now }
 {
@@ -33,7 +33,7 @@ fn are_known(entries: &[Entry])
     }
 }
 
-/// The entries that the bytes spell, if each line that says something spells one.
+/// The entries that the bytes spell, if each line but blanks and comments spells one.
 pub fn read_entries(alloc: Global, bytes: &[u8]) -> Result<Option<Entries>, AllocError>
     ensures { IfOk result (λ entries. entries ≡ entries_of bytes.now) }
 {

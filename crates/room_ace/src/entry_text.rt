@@ -35,7 +35,7 @@ pub fn read_entry(alloc: Global, text: &str) -> Result<Entry, Failure<TextFault>
     entry_from(alloc, text.as_bytes())
 }
 
-/// The same of bytes.
+/// The entry that these bytes spell, or its first fault.
 pub(crate) fn entry_from(alloc: Global, bytes: &[u8]) -> Result<Entry, Failure<TextFault>>
     ensures { Gives result (entry_of bytes.now) }
 {

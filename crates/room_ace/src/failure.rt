@@ -4,7 +4,7 @@ ghost use Rattle.room_ace.specs.declared.failure.Failure.TheVariants.{OutOfMemor
 
 use std::alloc::AllocError;
 
-/// Why a call that takes memory has no answer: want of memory, or a fault of what it was given.
+/// Why a call that takes memory has no answer: out of memory, or a fault of what it was given.
 #[derive(Clone, Copy, Debug, PartialEq, Eq, Drop)]
 pub enum Failure<F> {
     /// Memory ran out.

@@ -1,4 +1,4 @@
-//! Access control entries after RFC 8881, section 6.2.1: their masks, flags and subjects, and the
+//! Access control entries of RFC 8881, section 6.2.1: their masks, flags and subjects, and the
 //! text of entries and lists.
 #![tactic(auto)]
 

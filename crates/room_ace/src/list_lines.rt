@@ -1,4 +1,4 @@
-//! The lines of a list's text that say something.
+//! The lines of a list's text that are neither blank nor comments.
 ghost use Rattle.std.specs.Prelude.{◌≡◌, ◌∷◌, ◌+◌, ◌<◌, ◌≤◌, ◌^◌, [], codes, length, MatchOption};
 ghost use Rattle.std.specs.List.{list_all};
 ghost use Rattle.room_ace.specs.Lists.{flags_of_list, is_blank, is_comment, lines_of};

@@ -3,7 +3,7 @@ ghost use Rattle.std.specs.Prelude.{◌≡◌, ◌==◌, [], ◌∷◌, MatchOpt
 ghost use Rattle.std.specs.List.{position};
 ghost use Rattle.room_ace.specs.Pieces.{pieces};
 
-/// What stands before the first separator and what stands behind it, or nothing where there is
+/// What stands before the first separator and what stands after it, or nothing where there is
 /// none.
 pub(crate) fn cut<'a>(bytes: &'a [u8], separator: &u8) -> Option<(&'a [u8], &'a [u8])>
     ensures { MatchOption result (pieces separator.now bytes.now ≡ bytes.now ∷ []) (λ parts.

@@ -1,4 +1,4 @@
--- A list text that stands below other lines says the same, with the lines of its faults counted on from them.
+-- A list text below other lines says what it says alone, its faults' lines counted from the top.
 use Rattle.std.proofs.Common.{ℕ, ◌≡◌, ◌≤◌, ◌+◌, Bool, true, not, List, [], ◌∷◌, ◌++◌, map, Option, Some, None, length, refl, ap, ◌∙◌, ◌⊎◌, inl, inr, arith}
 use Rattle.std.specs.Prelude.{◌||◌, ◌==◌, nat_le, filter, Result, Ok, Err}
 use Rattle.std.specs.List.{enumerate_from, list_all}
@@ -18,7 +18,7 @@ use Rattle.room_check.specs.Check.{in_list, list_below}
 abbrev says : ℕ × List ℕ → Bool
 says line = not (is_blank line.1 || is_comment line.1)
 
--- the same line, four further on
+-- a line, with its number four higher
 abbrev on : ℕ × List ℕ → ℕ × List ℕ
 on line = (4 + line.0, line.1)
 
@@ -89,7 +89,7 @@ list_below-read bytes sent read = list_below-is bytes ∙ ap (λ (r : Result Sen
 pub list_below-fault : (bytes : List ℕ) (fault : LineFault) → sent_of bytes ≡ Err fault → list_below (lines_of bytes) ≡ in_list (Err (record { line = 4 + fault.line; why = fault.why }))
 list_below-fault bytes fault read = list_below-is bytes ∙ ap (λ (r : Result Sent LineFault). in_list (raised r)) read
 
--- ---- a fault stands at most one line behind the last
+-- ---- a fault stands at most one line after the last
 
 abbrev within : ℕ → ℕ × List ℕ → Bool
 within most line = nat_le line.0 most

@@ -1,4 +1,4 @@
--- Worked rows: what is told of one list.
+-- Worked rows: what is printed for one list.
 use Rattle.std.proofs.Common.{ℕ, ◌≡◌, List, [], ◌∷◌, ◌++◌, refl, ap, arith, codes}
 use Rattle.std.specs.List.{flat_map}
 use Rattle.std.proofs.lemmas.Fmt.{decimal_digit}
@@ -8,7 +8,7 @@ use Rattle.room_ace.specs.Text.{mask_letters}
 use Rattle.room_check.specs.Check.{judged}
 use Rattle.room_check.specs.Reply.{reply_text}
 
--- the text that is told of lines
+-- the text that is printed for lines
 abbrev told : List (List ℕ) → List ℕ
 told lines = reply_text (judged (flat_map (λ line. line ++ 10 ∷ []) lines))
 

@@ -1,4 +1,4 @@
--- What the input of a reader is told on a writer, or on two (own).
+-- What is written of the answer to an input, on one writer or on two (own).
 use Rattle.std.specs.Prelude.{◌≡◌, ◌⊎◌, ℕ, List, [], ◌∷◌, ◌++◌, Option, Result, Ok, Err}
 use Rattle.std.specs.Io.KnownBytes.{Appends}
 use Rattle.room_outcome.specs.Ending.{IsOfStream}
@@ -8,7 +8,7 @@ use Rattle.room_outcome.specs.declared.fault.Fault.{Fault}
 use Rattle.room_check.specs.Check.{judged}
 use Rattle.room_check.specs.Reply.{reply_status, reply_text}
 
--- the line that an input is told
+-- the line that answers an input
 abbrev pub reply_line : List ℕ → List ℕ
 reply_line input = reply_text (judged input) ++ 10 ∷ []
 
@@ -21,8 +21,8 @@ Answers known old new (Ok status) = (input : List ℕ) × IsInput known input
 Answers known old new (Err error) =
     (input : List ℕ) × IsInput known input × WritesSome old new (reply_line input)
 
--- The input is told its line. Or it can't be read, or there is no memory for that: then nothing is
--- told but the fault.
+-- The input's line is printed. Or it can't be read, or memory runs out on the way: then only the
+-- fault is printed.
 abbrev pub TellsCheck : Option (List ℕ) → Option (List ℕ) → Option (List ℕ)
     → Option (List ℕ) → Option (List ℕ) → ℕ → Type 0
 TellsCheck known out out' err err' status =

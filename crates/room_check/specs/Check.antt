@@ -31,7 +31,7 @@ abbrev pub without_spaces : List ℕ → List ℕ
 without_spaces [] = []
 without_spaces (byte ∷ bytes) = if byte == 32 then without_spaces bytes else byte ∷ bytes
 
--- what stands behind the word that the line begins with
+-- what stands after the word that the line begins with
 abbrev pub value_of : List ℕ → List ℕ → Result (List ℕ) InputWhy
 value_of word line =
     if starts_with nat_eq line word then Ok (without_spaces (drop (length word) line))
@@ -143,8 +143,8 @@ abbrev pub judged_question : Result Question InputFault → Judged
 judged_question (Err fault) = AtLine fault
 judged_question (Ok question) = answer_of question
 
--- What the bytes are told: the first fault of their length, their lines and their entries, or what
--- the list says.
+-- What is judged of the bytes: the first fault of their length, their lines and their entries, or
+-- what the list says.
 abbrev pub judged : List ℕ → Judged
 judged bytes =
     if nat_lt MOST_BYTES (length bytes) then TooLong

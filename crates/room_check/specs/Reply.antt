@@ -1,4 +1,4 @@
--- The text and the exit status of what an input is told (own).
+-- The text and the exit status that answer an input (own).
 use Rattle.std.specs.Prelude.{ℕ, ◌-◌, List, [], ◌++◌, Option, Some, None, codes, decimal, slice_get}
 use Rattle.std.specs.Option.{option_map_or}
 use Rattle.room_ace.specs.Ace.{Ace}

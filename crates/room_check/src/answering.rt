@@ -1,4 +1,4 @@
-//! An input read from a reader, and what it is told written to a writer.
+//! An input read from a reader, and its answer written to a writer.
 ghost use Rattle.std.specs.Prelude.{◌≡◌, ◌++◌, ◌∷◌, [], ℕ, List, IfOk, OnErr, OnOk, string_bytes};
 ghost use Rattle.std.specs.Io.KnownBytes.{Appends};
 ghost use Rattle.room_outcome.specs.Reading.{IsInput};
@@ -13,9 +13,9 @@ use room_outcome::{Fault, read_front, send_text, tell_fault, tell_line};
 use std::alloc::{AllocError, Global};
 use std::io::{self, Read, Write};
 
-/// Reads an input to its end, or as far as shows that it is too long, writes the line that it is
-/// told and nothing else, and answers the exit status. An error is the reader's, the writer's, or
-/// want of memory. Nothing of the line is written before all of it is known.
+/// Reads an input to its end, or as far as shows that it is too long, writes the line that answers
+/// it and nothing else, and returns the exit status. An error is the reader's, the writer's, or
+/// out of memory. Nothing of the line is written before all of it is known.
 pub fn answer<R: Read + Drop, W: Write>(alloc: Global, reader: R, writer: &mut W) -> io::Result<u8>
     ensures { Answers (R.remaining reader) (W.contents writer.old) (W.contents writer.new) result }
 {
@@ -25,8 +25,8 @@ pub fn answer<R: Read + Drop, W: Write>(alloc: Global, reader: R, writer: &mut W
     }
 }
 
-/// Does the same on standard output, and tells on standard error where that fails: `fault: file`,
-/// or `fault: memory`, and the exit status 3. Of an input that can't be read standard output tells
+/// Answers on standard output, and reports on standard error where that fails: `fault: file`, or
+/// `fault: memory`, and the exit status 3. For an input that can't be read, standard output gets
 /// nothing.
 pub fn tell_check<R: Read + Drop, O: Write, E: Write>(
     alloc: Global,
@@ -54,7 +54,7 @@ fn send_reply<W: Write>(writer: &mut W, reply: &CheckReply) -> io::Result<u8>
     Ok(reply.status)
 }
 
-// What the input is told, with the end of its line.
+// The answer to the input, with the end of its line.
 fn line_for<R: Read + Drop>(alloc: Global, reader: R) -> io::Result<CheckReply>
     ensures { IfOk result (λ reply. (input : List ℕ) × IsInput (R.remaining reader) input
         × (string_bytes reply.text ≡ reply_line input)

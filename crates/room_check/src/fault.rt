@@ -26,7 +26,7 @@ pub struct InputFault {
 }
 
 impl InputWhy {
-    /// The code and the words of the fault, as they are told.
+    /// The code and the words of the fault, as they are printed.
     pub fn as_str(self) -> &'static str
         ensures { result.now ≡ input_why_text self }
     {

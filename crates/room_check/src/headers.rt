@@ -101,7 +101,7 @@ fn cut_header<'a>(
     }
 }
 
-// What stands behind the word, if the line begins with it.
+// What stands after the word, if the line begins with it.
 fn value_of<'a>(word: &[u8], line: &'a [u8]) -> Option<&'a [u8]>
     ensures { MatchOption result (value_of word.now line.now ≡ Err BadHeader)
         (λ value. value_of word.now line.now ≡ Ok value.now) }
@@ -212,7 +212,7 @@ fn asked_in(value: &[u8]) -> Result<Mask, Failure<InputWhy>>
     }
 }
 
-// The bytes before the first separator, and those behind it.
+// The bytes before the first separator, and those after it.
 fn cut_at(separator: u8, bytes: &[u8]) -> Option<(&[u8], &[u8])>
     ensures { MatchOption result (pieces separator bytes.now ≡ bytes.now ∷ []) (λ cut.
         (pieces separator bytes.now ≡ cut.0.now ∷ pieces separator cut.1.now)

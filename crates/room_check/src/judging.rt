@@ -11,7 +11,7 @@ use room_ace::{Entry, EntryFault, Failure, MOST_BYTES, Mask, SentList, print_ent
 use room_eval::Verdict;
 use std::alloc::{AllocError, Global};
 
-/// What an input is told.
+/// The answer to an input.
 #[derive(Drop)]
 pub enum Judged {
     /// What the list says.
@@ -33,8 +33,8 @@ pub struct CheckReply {
     pub status: u8,
 }
 
-/// What `rooms check` tells of an input: four header lines, then the text of a list. The status is
-/// 0 where all is granted, 1 where the list denies, and 2 where the input is refused.
+/// What `rooms check` prints for an input: four header lines, then the text of a list. The status
+/// is 0 where all is granted, 1 where the list denies, and 2 where the input is refused.
 pub fn check(alloc: Global, input: &[u8]) -> Result<CheckReply, AllocError>
     ensures { IfOk result (λ reply.
         (string_bytes reply.text ≡ reply_text (judged input.now))
@@ -65,7 +65,7 @@ fn is_too_long(input: &[u8]) -> bool
 }
 
 impl Judged {
-    // The line that is told, and the exit status.
+    // The line that is printed, and the exit status.
     fn reply(&self, alloc: Global) -> Result<CheckReply, AllocError>
         ensures { IfOk result (λ reply.
             (string_bytes reply.text ≡ reply_text self.now)
@@ -77,7 +77,7 @@ impl Judged {
         })
     }
 
-    // The text that is told, without the end of its line.
+    // The text that is printed, without the end of its line.
     fn text(&self, alloc: Global) -> Result<String, AllocError>
         ensures { IfOk result (λ text. string_bytes text ≡ reply_text self.now) }
     {
