@@ -6,7 +6,7 @@ use Rattle.std.proofs.Math.Seq.{drop-append_seam, take-append_seam, drop-append-
 use Rattle.httparse.specs.declared.spans.HeaderSpan.{HeaderSpan}
 use Rattle.httparse.specs.declared.spans.RequestSpans.{RequestSpans}
 use Rattle.httparse.specs.Grammar.{RequestHead, print_request}
-use Rattle.room_message.specs.declared.head.Head.{Head}
+use Rattle.http_message.specs.declared.head.Head.{Head}
 use Rattle.room_http.specs.declared.refusal.Refusal.{Refusal}
 use Rattle.room_http.specs.Message.{print_message, BeginsWith, IsPart, IsRefused, head_of, field_of, body_size}
 use Rattle.room_http.specs.declared.ended.Cause.{Cause}

@@ -3,9 +3,9 @@ use Rattle.std.proofs.Common.{◌≡◌, ℕ, ℤ, ◌+◌, ◌-◌, ◌^◌, �
 use Rattle.std.specs.Io.KnownBytes.{Appends}
 use Rattle.std.proofs.lemmas.Bool.{cases_lt}
 use Rattle.room_machine.specs.declared.reply.Reply.{Reply}
-use Rattle.room_message.specs.declared.fault.HttpFault.{HttpFault}
-use Rattle.room_message.specs.Asked as message
-use Rattle.room_message.specs.Reply.{reply_text, fault_text}
+use Rattle.http_message.specs.declared.fault.HttpFault.{HttpFault}
+use Rattle.http_message.specs.Asked as message
+use Rattle.http_message.specs.Reply.{reply_text, fault_text}
 use Rattle.room_http.specs.Message.{Asked}
 use Rattle.room_http.specs.Answer.{Stepped, ActedIf, Delivers, Keeps, Responds, TellsFault, TellsReply, Rose}
 use Rattle.room_http.specs.declared.told.Response.{Response}

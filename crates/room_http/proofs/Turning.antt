@@ -8,9 +8,9 @@ use Rattle.std.specs.Io.KnownBytes.{Appends, IsAtEnd}
 use Rattle.room_rows.specs.Content.{Content}
 use Rattle.room_machine.specs.declared.reply.Reply.{Reply}
 use Rattle.room_machine.specs.Run.{Event}
-use Rattle.room_message.specs.declared.head.Head.{Head}
-use Rattle.room_message.specs.Asked.{request_of}
-use Rattle.room_message.specs.Close.{asks_close}
+use Rattle.http_message.specs.declared.head.Head.{Head}
+use Rattle.http_message.specs.Asked.{request_of}
+use Rattle.http_message.specs.Close.{asks_close}
 use Rattle.room_http.proofs.Runs.{Runs-none}
 use Rattle.room_http.specs.declared.next.NextMessage.{NextMessage}
 use Rattle.room_http.specs.declared.ended.Ended.{Ended}

@@ -5,9 +5,9 @@ use Rattle.room_rows.specs.Content.{Content}
 use Rattle.room_machine.specs.declared.desk.DeskFault.{DeskFault}
 use Rattle.room_machine.specs.declared.reply.Reply.{Reply}
 use Rattle.room_machine.specs.Desk.{Steps}
-use Rattle.room_message.specs.Asked as message
-use Rattle.room_message.specs.Reply.{reply_text, fault_text}
-use Rattle.room_message.specs.declared.fault.HttpFault.{HttpFault}
+use Rattle.http_message.specs.Asked as message
+use Rattle.http_message.specs.Reply.{reply_text, fault_text}
+use Rattle.http_message.specs.declared.fault.HttpFault.{HttpFault}
 use Rattle.room_http.specs.declared.told.Answer.{Answer}
 use Rattle.room_http.specs.declared.told.Response.{Response}
 use Rattle.room_http.specs.declared.told.Lost.{Lost}

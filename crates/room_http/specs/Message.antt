@@ -8,12 +8,12 @@ use Rattle.std.specs.Str.Parse.{digits_value}
 use Rattle.httparse.specs.Grammar.{RequestHead, IsRequestHead, print_request, HasNoRequest}
 use Rattle.httparse.specs.Grammar.{NeverHasRequest, MayBecomeRequest, ReadsRequest}
 use Rattle.httparse.specs.Spans.{name_and_value, RequestExceeds, RequestOverflows}
-use Rattle.room_message.specs.declared.head.Head.{Head}
-use Rattle.room_message.specs.declared.head.Field.{Field}
-use Rattle.room_message.specs.Fields.{values_of, trimmed}
-use Rattle.room_message.specs.Asked as message
-use Rattle.room_message.specs.Close.{asks_close}
-use Rattle.room_message.specs.declared.fault.HttpFault.{HttpFault}
+use Rattle.http_message.specs.declared.head.Head.{Head}
+use Rattle.http_message.specs.declared.head.Field.{Field}
+use Rattle.http_message.specs.Fields.{values_of, trimmed}
+use Rattle.http_message.specs.Asked as message
+use Rattle.http_message.specs.Close.{asks_close}
+use Rattle.http_message.specs.declared.fault.HttpFault.{HttpFault}
 use Rattle.room_http.specs.declared.refusal.Refusal.{Refusal}
 use Rattle.room_http.specs.Limits.{max_head, max_fields, max_body}
 

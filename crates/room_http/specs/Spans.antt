@@ -7,7 +7,7 @@ use Rattle.httparse.specs.declared.spans.RequestSpans.{RequestSpans}
 use Rattle.httparse.specs.Grammar.{RequestHead, print_request, HasNoRequest, NeverHasRequest}
 use Rattle.httparse.specs.Grammar.{MayBecomeRequest}
 use Rattle.httparse.specs.Spans.{span_bytes, header_bytes, IsWithin, IsHeaderWithin, AreFieldsAt}
-use Rattle.room_message.specs.declared.head.Head.{Head}
+use Rattle.http_message.specs.declared.head.Head.{Head}
 use Rattle.room_http.specs.declared.cut.HeadScan.{HeadScan}
 use Rattle.room_http.specs.declared.cut.HeadRead.{HeadRead}
 use Rattle.room_http.specs.declared.refusal.Refusal.{Refusal}

@@ -5,7 +5,7 @@ use Rattle.std.specs.List.{flat_map}
 use Rattle.room_rows.specs.Content.{Content}
 use Rattle.room_machine.specs.declared.reply.Reply.{Reply}
 use Rattle.room_machine.specs.Run.{Event, Run}
-use Rattle.room_message.specs.Reply.{reply_text, fault_text}
+use Rattle.http_message.specs.Reply.{reply_text, fault_text}
 use Rattle.room_http.specs.declared.refusal.Refusal.{Refusal}
 use Rattle.room_http.specs.declared.ended.Ended.{Ended}
 use Rattle.room_http.specs.Limits.{max_messages}

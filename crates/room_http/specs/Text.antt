@@ -1,7 +1,7 @@
 -- The replies of fixed text, each of which ends its connection (own).
 use Rattle.std.specs.Prelude.{ℕ, List, codes, true}
-use Rattle.room_message.specs.Form.{json_form}
-use Rattle.room_message.specs.Bodies.{why_data}
+use Rattle.http_message.specs.Form.{json_form}
+use Rattle.http_message.specs.Bodies.{why_data}
 use Rattle.room_http.specs.declared.refusal.Refusal.{Refusal}
 
 abbrev pub last_reply : ℕ → List ℕ → List ℕ

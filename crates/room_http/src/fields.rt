@@ -6,8 +6,8 @@ ghost use Rattle.room_http.specs.Message.{body_size, field_of, is_number, length
 ghost use Rattle.room_http.specs.Spans.{head_at};
 
 use crate::refusal::Refusal;
+use http_message::{Field, Fields, Head, Values, trimmed, values_under};
 use httparse::spans::{HeaderSpan, RequestSpans};
-use room_message::{Field, Fields, Head, Values, trimmed, values_under};
 use room_rows::Bytes;
 use std::alloc::{AllocError, Global};
 

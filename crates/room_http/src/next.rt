@@ -8,8 +8,8 @@ use crate::cut::{HeadRead, read_body, read_head};
 use crate::ended::Cause;
 use crate::fields::{copied_head, declared_size};
 use crate::refusal::Refusal;
+use http_message::Head;
 use httparse::spans::{HeaderSpan, RequestSpans};
-use room_message::Head;
 use std::alloc::Global;
 use std::io::Read;
 

@@ -3,7 +3,7 @@ ghost use Rattle.std.specs.Prelude.{◌≡◌, IfOk};
 ghost use Rattle.room_http.specs.Text.{refusal_text, store_text};
 
 use http::StatusCode;
-use room_message::print_why;
+use http_message::print_why;
 use std::alloc::{AllocError, Global};
 
 /// Why what stands at the front of a stream is refused before its body is read.

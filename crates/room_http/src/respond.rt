@@ -1,13 +1,13 @@
 //! The answer to one whole message.
 ghost use Rattle.std.specs.Option.{option_copied};
 ghost use Rattle.std.specs.Prelude.{Ok};
-ghost use Rattle.room_message.specs.Asked.{request_of};
+ghost use Rattle.http_message.specs.Asked.{request_of};
 ghost use Rattle.room_http.specs.Answer.{Answers, Delivers, Refuses, Responds};
 
 use crate::told::{Answer, Lost, Response};
+use http_message::{Head, HttpFault, Routes, fault_bytes, reply_bytes, request_of};
 use room_ace::{Failure, Name};
 use room_machine::{Desk, Reply, Request};
-use room_message::{Head, HttpFault, Routes, fault_bytes, reply_bytes, request_of};
 use std::alloc::Global;
 
 /// Answers a whole message at a moment, in seconds from 1970-01-01 00:00 UTC, from the test of its

@@ -2,8 +2,8 @@
 ghost use Rattle.std.specs.Prelude.{◌≡◌, ◌<◌, ◌≤◌, ◌+◌, ◌||◌, ◌==◌, ℕ, List, length, drop};
 ghost use Rattle.std.specs.Prelude.{Option, true, false, IfOk, IfErr};
 ghost use Rattle.std.specs.Io.KnownBytes.{Appends};
-ghost use Rattle.room_message.specs.Asked.{request_of};
-ghost use Rattle.room_message.specs.Close.{asks_close};
+ghost use Rattle.http_message.specs.Asked.{request_of};
+ghost use Rattle.http_message.specs.Close.{asks_close};
 ghost use Rattle.room_http.specs.Limits.{max_fields, max_messages, read_size};
 ghost use Rattle.room_http.specs.Text.{refusal_text};
 ghost use Rattle.room_http.specs.Serve.{Connects, Seen, Serves, Stops};
@@ -17,9 +17,9 @@ use crate::refusal::{Refusal, refusal_bytes, store_bytes};
 use crate::respond::respond;
 use crate::told::Response;
 use crate::write::write_text;
+use http_message::{Head, Routes, asks_close};
 use httparse::spans::{EMPTY_HEADER_SPAN, HeaderSpan};
 use room_machine::Desk;
-use room_message::{Head, Routes, asks_close};
 use std::alloc::Global;
 use std::io::{Read, Write};
 

@@ -12,9 +12,9 @@ use Rattle.room_rows.specs.Sound.{AreSound, reaches}
 use Rattle.room_machine.specs.Run.{Replaced}
 use Rattle.sqlite.specs.State.{State}
 use Rattle.room_rows.specs.declared.keep.KeepFault.{KeepFault}
-use Rattle.room_tables.specs.Trust.{IsTrusted}
-use Rattle.room_operating.specs.Carries.{ByRows, Carries, NoTables, OnRows}
-use Rattle.room_operating.specs.Operating.{ExchangesMembers, HasPairsAlone, ReplacesMembers}
+use Rattle.store_tables.specs.Trust.{IsTrusted}
+use Rattle.store_admin.specs.Carries.{ByRows, Carries, NoTables, OnRows}
+use Rattle.store_admin.specs.Operating.{ExchangesMembers, HasPairsAlone, ReplacesMembers}
 use Rattle.room_store.proofs.Leading.{IsEvent}
 
 -- what is told of the rows, and of those that are no pairs

@@ -9,12 +9,12 @@ use Rattle.room_rows.specs.Sound.{AreSound}
 use Rattle.sqlite.specs.Effect.{Database}
 use Rattle.room_ace.specs.Sent.{Sent}
 use Rattle.room_ace.specs.declared.object.Which.{Which}
-use Rattle.room_tables.specs.Shown.{HasTables}
+use Rattle.store_tables.specs.Shown.{HasTables}
 use Rattle.room_judge.specs.Judged.{Performs, Resets}
 use Rattle.room_machine.specs.declared.reply.Reply.{Reply}
 use Rattle.room_machine.specs.declared.request.Request.{Request}
 use Rattle.room_machine.specs.Run.{Event, Asked, WasReset, Happens, RunsMeet}
-use Rattle.room_tables.specs.Meaning.{rows_of}
+use Rattle.store_tables.specs.Meaning.{rows_of}
 use Rattle.room_store.specs.declared.fault.StoreFault.{StoreFault}
 use Rattle.room_store.specs.Kept.{IsSound, Keeps}
 use Rattle.room_store.specs.Leads.{Call, FollowsOn, Leads, all_events, event_of, last_of}

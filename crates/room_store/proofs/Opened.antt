@@ -6,13 +6,13 @@ use Rattle.room_ace.specs.Bits.{all_bits}
 use Rattle.room_ace.specs.declared.parties.Owners.{Owners}
 use Rattle.room_rows.specs.Meaning.{meaning}
 use Rattle.room_rows.specs.Sound.{AreSound}
-use Rattle.room_tables.specs.Meaning.{rows_of}
-use Rattle.room_tables.specs.Shown.{HasTables, tables_of}
-use Rattle.room_schema.specs.Making.{Founds}
-use Rattle.room_schema.specs.NewRoom.{new_room}
-use Rattle.room_schema.specs.Opening.{Adopts}
-use Rattle.room_schema.specs.declared.fault.CreateFault.{CreateFault}
-use Rattle.room_schema.specs.declared.fault.OpenFault.{OpenFault}
+use Rattle.store_tables.specs.Meaning.{rows_of}
+use Rattle.store_tables.specs.Shown.{HasTables, tables_of}
+use Rattle.store_schema.specs.Making.{Founds}
+use Rattle.store_schema.specs.NewRoom.{new_room}
+use Rattle.store_schema.specs.Opening.{Adopts}
+use Rattle.store_schema.specs.declared.fault.CreateFault.{CreateFault}
+use Rattle.store_schema.specs.declared.fault.OpenFault.{OpenFault}
 use Rattle.room_store.specs.Kept.{IsSound, Keeps}
 use Rattle.room_store.specs.Leads.{Leads}
 use Rattle.room_store.specs.Opens.{Creates, Opens}

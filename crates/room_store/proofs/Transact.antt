@@ -8,16 +8,16 @@ use Rattle.sqlite.specs.Steps.{FailsToCommit}
 use Rattle.room_rows.specs.declared.keep.KeepFault.{KeepFault}
 use Rattle.room_rows.specs.declared.keep.KeepFault.TheVariants as keep
 use Rattle.room_rows.specs.Rows.{Rows}
-use Rattle.room_tables.specs.Meaning.{rows_of}
-use Rattle.room_tables.specs.Shown.{HasTables, IsRoom, Stays, room_of, tables_of}
-use Rattle.room_tables.specs.Trust.{IsTrusted}
-use Rattle.room_tables.specs.Seeing.{wants_memory}
+use Rattle.store_tables.specs.Meaning.{rows_of}
+use Rattle.store_tables.specs.Shown.{HasTables, IsRoom, Stays, room_of, tables_of}
+use Rattle.store_tables.specs.Trust.{IsTrusted}
+use Rattle.store_tables.specs.Seeing.{wants_memory}
 use Rattle.std.proofs.lemmas.Bool.{cases_Bool}
 use Rattle.room_store.specs.declared.fault.StoreFault.{StoreFault}
 use Rattle.room_store.specs.declared.fault.StoreFault.TheVariants.{Memory, Db, Damaged}
 use Rattle.room_store.specs.Premise.{StorePremise}
 use Rattle.room_store.specs.Ran.{LeavesOpen, Looked, Ran}
-use Rattle.room_operating.specs.Carries.{ByRows, Carries, OnRows, Reading}
+use Rattle.store_admin.specs.Carries.{ByRows, Carries, OnRows, Reading}
 use Rattle.room_store.specs.Turn.{Finishes, GivesUp, commit_fault, fault_as}
 
 -- a transaction begins

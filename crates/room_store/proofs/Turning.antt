@@ -4,11 +4,11 @@ use Rattle.sqlite.specs.State.{State}
 use Rattle.room_rows.specs.declared.keep.KeepFault.{KeepFault}
 use Rattle.room_rows.specs.Keep.{HasCause, IsDamaged}
 use Rattle.room_rows.specs.Rows.{Rows}
-use Rattle.room_tables.specs.Meaning.{rows_of}
-use Rattle.room_tables.specs.Shown.{Stays}
-use Rattle.room_tables.specs.Trust.{IsTrusted}
+use Rattle.store_tables.specs.Meaning.{rows_of}
+use Rattle.store_tables.specs.Shown.{Stays}
+use Rattle.store_tables.specs.Trust.{IsTrusted}
 use Rattle.room_store.specs.Ran.{HasDamage}
-use Rattle.room_operating.specs.Carries.{ByRows, Carries, NoTables, OnRows, Reading}
+use Rattle.store_admin.specs.Carries.{ByRows, Carries, NoTables, OnRows, Reading}
 
 pub carried : {X : Type 0} (begun mid : State) (result : Result X KeepFault)
     (Becomes : Rows → X → Rows → Type 0) (before after : ℕ) → Stays begun mid

@@ -4,8 +4,8 @@ use Rattle.sqlite.specs.State.{State}
 use Rattle.room_rows.specs.Content.{Content}
 use Rattle.room_rows.specs.Meaning.{meaning}
 use Rattle.room_rows.specs.Sound.{AreSound}
-use Rattle.room_tables.specs.Meaning.{rows_of}
-use Rattle.room_tables.specs.Shown.{HasTables}
+use Rattle.store_tables.specs.Meaning.{rows_of}
+use Rattle.store_tables.specs.Shown.{HasTables}
 
 -- As long as the connection is open, the rows mean this content. A fault of the disk may shut the
 -- connection, and then no state tells what the file holds.

@@ -3,11 +3,11 @@ use Rattle.std.specs.Prelude.{[], Result, OnOk}
 use Rattle.sqlite.specs.State.{State, HasCleanDisk}
 use Rattle.room_ace.specs.declared.parties.Owners.{Owners}
 use Rattle.room_rows.specs.Meaning.{meaning}
-use Rattle.room_schema.specs.Making.{Founds}
-use Rattle.room_schema.specs.NewRoom.{new_room}
-use Rattle.room_schema.specs.Opening.{Adopts}
-use Rattle.room_schema.specs.declared.fault.CreateFault.{CreateFault}
-use Rattle.room_schema.specs.declared.fault.OpenFault.{OpenFault}
+use Rattle.store_schema.specs.Making.{Founds}
+use Rattle.store_schema.specs.NewRoom.{new_room}
+use Rattle.store_schema.specs.Opening.{Adopts}
+use Rattle.store_schema.specs.declared.fault.CreateFault.{CreateFault}
+use Rattle.store_schema.specs.declared.fault.OpenFault.{OpenFault}
 use Rattle.room_store.specs.Kept.{IsSound, Keeps}
 use Rattle.room_store.specs.Leads.{Leads}
 

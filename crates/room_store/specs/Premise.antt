@@ -1,6 +1,6 @@
 -- The premise on a database under which a store keeps its promises.
 use Rattle.sqlite.specs.State.{State, HasCleanDisk}
-use Rattle.room_tables.specs.Shown.{HasTables}
+use Rattle.store_tables.specs.Shown.{HasTables}
 
 -- What is supposed of a database from one state to a later one.
 pub record StorePremise (old new : State) : Type 0 where

@@ -6,8 +6,8 @@ use Rattle.room_rows.specs.Keep.{IsDamaged}
 use Rattle.room_rows.specs.Rows.{Rows}
 use Rattle.room_store.specs.declared.fault.StoreFault.{StoreFault}
 use Rattle.room_store.specs.declared.fault.StoreFault.TheVariants.{Damaged}
-use Rattle.room_tables.specs.Meaning.{rows_of}
-use Rattle.room_tables.specs.Shown.{HasTables}
+use Rattle.store_tables.specs.Meaning.{rows_of}
+use Rattle.store_tables.specs.Shown.{HasTables}
 use Rattle.room_store.specs.Premise.{StorePremise}
 
 -- what any call leaves of the connection

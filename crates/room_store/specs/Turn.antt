@@ -5,7 +5,7 @@ use Rattle.sqlite.specs.State.{State, IsRolledBack, Shows}
 use Rattle.sqlite.specs.Steps.{FailsToCommit}
 use Rattle.room_rows.specs.declared.keep.KeepFault.{KeepFault}
 use Rattle.room_rows.specs.declared.keep.KeepFault.TheVariants as keep
-use Rattle.room_tables.specs.Seeing.{wants_memory}
+use Rattle.store_tables.specs.Seeing.{wants_memory}
 use Rattle.room_store.specs.declared.fault.StoreFault.{StoreFault}
 use Rattle.room_store.specs.declared.fault.StoreFault.TheVariants.{Memory, Db, Damaged}
 

@@ -3,8 +3,8 @@ ghost use Rattle.std.specs.Prelude.{◌≡◌};
 ghost use Rattle.room_store.specs.Turn.{commit_fault, fault_as};
 
 use room_rows::KeepFault;
-use room_tables::wants_memory;
 use sqlite::Error;
+use store_tables::wants_memory;
 
 /// Why the store gave no answer. The tables then mean what they meant.
 #[derive(Clone, Copy, Debug, PartialEq, Eq)]

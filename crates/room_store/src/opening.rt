@@ -1,14 +1,14 @@
 //! How a store comes to its tables.
 ghost use Rattle.std.specs.Prelude.{◌≡◌, IfErr, IfOk, Err, Ok, false};
 ghost use Rattle.sqlite.specs.Held.{state};
-ghost use Rattle.room_schema.specs.Raising.{Migrates};
+ghost use Rattle.store_schema.specs.Raising.{Migrates};
 ghost use Rattle.room_store.specs.Opens.{Creates, Opens};
 
 use crate::store::Store;
 use room_ace::Owners;
-use room_schema::{CreateFault, MigrateFault, OpenFault, adopt, create, migrate};
 use sqlite::{Alter, Connection};
 use std::alloc::Global;
+use store_schema::{CreateFault, MigrateFault, OpenFault, adopt, create, migrate};
 
 impl<S: Alter> Store<S> {
     /// A new room in an empty database: a root folder of these owners, with the dacl `list:a` and

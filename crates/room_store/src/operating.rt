@@ -3,9 +3,9 @@ ghost use Rattle.std.specs.Prelude.{OnOk};
 ghost use Rattle.sqlite.specs.Held.{state};
 ghost use Rattle.room_store.specs.Premise.{StorePremise};
 ghost use Rattle.room_store.specs.Ran.{Looked, Ran};
-ghost use Rattle.room_operating.specs.Carries.{NoTables};
-ghost use Rattle.room_operating.specs.Dump.{HasDamagedRow, IsDump};
-ghost use Rattle.room_operating.specs.Operating.{
+ghost use Rattle.store_admin.specs.Carries.{NoTables};
+ghost use Rattle.store_admin.specs.Dump.{HasDamagedRow, IsDump};
+ghost use Rattle.store_admin.specs.Operating.{
   AreMembers,
   AreRecords,
   HasPairsAlone,
@@ -17,10 +17,10 @@ use crate::fault::StoreFault;
 use crate::look::give_up;
 use crate::turn::finish;
 use room_ace::Name;
-use room_operating::{all_members, all_records, dump_all, put_members};
 use room_rows::AuditRow;
 use sqlite::{Alter, Connection};
 use std::alloc::Global;
+use store_admin::{all_members, all_records, dump_all, put_members};
 
 /// The pairs. Nothing changes, and within another transaction it answers `Db` at once.
 pub(crate) fn members_on<S: Alter>(

@@ -3,7 +3,7 @@ ghost use Rattle.std.specs.Prelude.{◌≡◌};
 ghost use Rattle.sqlite.specs.Held.{state};
 ghost use Rattle.room_judge.specs.Judged.{Resets};
 ghost use Rattle.room_store.specs.Ran.{HasDamage, Ran};
-ghost use Rattle.room_operating.specs.Carries.{ByRows, Carries, OnRows};
+ghost use Rattle.store_admin.specs.Carries.{ByRows, Carries, OnRows};
 
 use crate::fault::StoreFault;
 use crate::turn::finish;
@@ -11,9 +11,9 @@ use room_ace::{SentList, Which};
 use room_desk::reset;
 use room_machine::Reply;
 use room_rows::{KeepFault, Path};
-use room_tables::Keeper;
 use sqlite::{Alter, Connection, Transaction};
 use std::alloc::Global;
+use store_tables::Keeper;
 
 // The reset, by the keeper.
 fn reset_by<S: Alter>(

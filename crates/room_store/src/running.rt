@@ -4,7 +4,7 @@ ghost use Rattle.std.specs.Option.{option_copied};
 ghost use Rattle.sqlite.specs.Held.{state};
 ghost use Rattle.room_judge.specs.Judged.{Performs};
 ghost use Rattle.room_store.specs.Ran.{HasDamage, Ran};
-ghost use Rattle.room_operating.specs.Carries.{ByRows, Carries, OnRows};
+ghost use Rattle.store_admin.specs.Carries.{ByRows, Carries, OnRows};
 
 use crate::fault::StoreFault;
 use crate::turn::finish;
@@ -12,9 +12,9 @@ use room_ace::Name;
 use room_desk::perform;
 use room_machine::{Reply, Request};
 use room_rows::KeepFault;
-use room_tables::Keeper;
 use sqlite::{Alter, Connection, Transaction};
 use std::alloc::Global;
+use store_tables::Keeper;
 
 // The request, by the keeper.
 fn perform_by<S: Alter>(

@@ -8,10 +8,10 @@ ghost use Rattle.room_machine.specs.Run.{Event};
 ghost use Rattle.room_store.specs.Leads.{Leads, event_of};
 ghost use Rattle.room_store.specs.Premise.{StorePremise};
 ghost use Rattle.room_store.specs.Ran.{HasDamage, Looked, Ran};
-ghost use Rattle.room_operating.specs.Carries.{NoTables};
-ghost use Rattle.room_operating.specs.Dump.{HasDamagedRow, IsDump};
-ghost use Rattle.room_tables.specs.Meaning.{rows_of};
-ghost use Rattle.room_operating.specs.Operating.{
+ghost use Rattle.store_admin.specs.Carries.{NoTables};
+ghost use Rattle.store_admin.specs.Dump.{HasDamagedRow, IsDump};
+ghost use Rattle.store_tables.specs.Meaning.{rows_of};
+ghost use Rattle.store_admin.specs.Operating.{
   AreMembers,
   AreRecords,
   HasPairsAlone,

@@ -3,16 +3,16 @@ ghost use Rattle.std.specs.Prelude.{◌≡◌};
 ghost use Rattle.sqlite.specs.Held.{state};
 ghost use Rattle.room_inherit.specs.Reading.{IsReport};
 ghost use Rattle.room_store.specs.Ran.{Looked};
-ghost use Rattle.room_operating.specs.Carries.{Carries, NoTables, Reading};
-ghost use Rattle.room_tables.specs.Meaning.{rows_of};
+ghost use Rattle.store_admin.specs.Carries.{Carries, NoTables, Reading};
+ghost use Rattle.store_tables.specs.Meaning.{rows_of};
 
 use crate::fault::StoreFault;
 use crate::look::give_up;
 use room_inherit::{Report, verify};
 use room_rows::KeepFault;
-use room_tables::Keeper;
 use sqlite::{Alter, Connection, Transaction};
 use std::alloc::Global;
+use store_tables::Keeper;
 
 // The report, by the keeper.
 fn verify_by<S: Alter>(alloc: Global, keeper: &mut Keeper<'_, '_, S>) -> Result<Report, KeepFault>

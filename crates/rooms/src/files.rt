@@ -1,15 +1,15 @@
 //! The file of a room: made, found, opened, taken away.
 ghost use Rattle.std.specs.Prelude.{◌≡◌, IfOk, false};
 
-use room_console::Stop;
-use room_outcome::Fault;
-use room_tables::wants_memory;
+use cli_console::Stop;
+use cli_outcome::Fault;
 use sqlite::Connection;
 use sqlite_std_file::{FileFrom, Start};
 use sqlite_store::FileStore;
 use std::fs::{self, OpenOptions};
 use std::io::{self, ErrorKind};
 use std::os::unix::fs::OpenOptionsExt;
+use store_tables::wants_memory;
 
 /// A connection to the file and to its log.
 pub type FileConnection<S> = Connection<FileStore<FileFrom<S>>>;

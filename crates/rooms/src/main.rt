@@ -28,21 +28,21 @@
 //!
 //! # Order
 //!
-//! 1. The words are read, by `room_words`.
+//! 1. The words are read, by `cli_words`.
 //! 2. The list on standard input or the CSV file is read, as far as it may be long and one byte
-//!    more, by `room_console`.
-//! 3. Owner and group, the path and what was read are judged, by `room_tasks`. What is refused so
+//!    more, by `cli_console`.
+//! 3. Owner and group, the path and what was read are judged, by `cli_tasks`. What is refused so
 //!    far opens no file of a room, and makes none.
 //! 4. The file is opened, or made by `init`: `files`. One that cannot be opened is a fault, and an
 //!    empty one is no room.
-//! 5. The task is done in one transaction and told, by `room_acting`; or connections are served, by
-//!    `room_hosting`.
+//! 5. The task is done in one transaction and told, by `cli_act`; or connections are served, by
+//!    `cli_serve`.
 //! 6. The log beside the file is copied into it, so that the file alone has the whole room.
 //!
 //! # What is proved
 //!
 //! The calls of the crates below are proved to do what is written here of lists, tasks, connections
-//! and texts, and `room_words` says which file and which input a command names. No contract can name
+//! and texts, and `cli_words` says which file and which input a command names. No contract can name
 //! what a terminal or a file gave and took, so that the program hands over those very ones is shown
 //! by running it.
 #![tactic(auto)]
@@ -50,9 +50,9 @@
 mod files;
 mod work;
 
-use room_check::tell_check;
-use room_console::{Stop, tell_stop};
-use room_words::{Command, read_command};
+use cli_check::tell_check;
+use cli_console::{Stop, tell_stop};
+use cli_words::{Command, read_command};
 use sqlite_std_file::{Start, Unknown};
 use std::env;
 use std::io::ErrorKind;

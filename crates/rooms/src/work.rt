@@ -1,14 +1,14 @@
 //! The subcommands that need the file of a room.
 ghost use Rattle.std.specs.Prelude.{◌≡◌, ℕ, List, IsSome, false};
-ghost use Rattle.room_tasks.specs.Tasks.{task_of};
+ghost use Rattle.cli_tasks.specs.Tasks.{task_of};
 
 use crate::files::{FileConnection, close, connect, make, open, take_away};
-use room_acting::act;
-use room_console::{Stop, read_task};
-use room_hosting::{NetPorts, host};
-use room_serving::Seconds;
-use room_tasks::Task;
-use room_words::{Command, Input};
+use cli_act::act;
+use cli_console::{Stop, read_task};
+use cli_serve::{NetPorts, host};
+use cli_tasks::Task;
+use cli_words::{Command, Input};
+use http_serve::Seconds;
 use sqlite_std_file::Start;
 use std::{fs, io};
 

@@ -1,7 +1,7 @@
 use Rattle.std.proofs.Common.{◌≡◌, ◌∙◌, sym, ap, subst, w64, ℤ, Ok}
 use Rattle.std.proofs.lemmas.Int.{to_z-of_z}
 use Rattle.std.specs.Option.{option_copied}
-use Rattle.room_message.specs.Asked.{request_of}
+use Rattle.http_message.specs.Asked.{request_of}
 use Rattle.room_http.specs.Message.{Asked}
 use Rattle.room_http.specs.Answer.{Responds}
 use Rattle.room_http.proofs.respond.respond.Goals as goal

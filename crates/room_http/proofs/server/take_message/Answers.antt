@@ -1,7 +1,7 @@
 use Rattle.std.proofs.Common.{◌≡◌, ◌∙◌, refl, ap, subst, ℤ, ℕ, List, w64}
 use Rattle.std.specs.List.{slice_range}
 use Rattle.std.proofs.lemmas.Int.{to_z-of_z}
-use Rattle.room_message.specs.Asked.{request_of}
+use Rattle.http_message.specs.Asked.{request_of}
 use Rattle.room_http.specs.declared.server.Told.{Told}
 use Rattle.room_http.specs.Message.{Asked, asked}
 use Rattle.room_http.specs.Serve.{Seen}

@@ -1,6 +1,6 @@
 use Rattle.std.proofs.Common.{◌∙◌, refl, subst, ℤ, w64, Some, None}
 use Rattle.std.proofs.lemmas.Int.{to_z-of_z}
-use Rattle.room_message.specs.Asked.{request_of}
+use Rattle.http_message.specs.Asked.{request_of}
 use Rattle.room_http.specs.Answer.{Responds}
 use Rattle.room_http.specs.Serve.{Seen}
 use Rattle.room_http.specs.Tell.{Begun}

@@ -1,6 +1,6 @@
 use Rattle.std.proofs.Common.{rules, ◌≡◌, refl, subst, IsTrue}
 use Rattle.sqlite.specs.Held.{state}
-use Rattle.room_operating.specs.Operating.{AreRecords, HasUnreadRecord}
+use Rattle.store_admin.specs.Operating.{AreRecords, HasUnreadRecord}
 use Rattle.room_store.specs.Ran.{Looked}
 use Rattle.room_store.proofs.Transact.{Begins, looked}
 use Rattle.room_store.proofs.operating.audits_on.Goals as goal

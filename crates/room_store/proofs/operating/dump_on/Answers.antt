@@ -1,6 +1,6 @@
 use Rattle.std.proofs.Common.{rules, ◌≡◌, refl, subst, IsTrue}
 use Rattle.sqlite.specs.Held.{state}
-use Rattle.room_operating.specs.Dump.{HasDamagedRow, IsDump}
+use Rattle.store_admin.specs.Dump.{HasDamagedRow, IsDump}
 use Rattle.room_store.specs.Ran.{Looked}
 use Rattle.room_store.proofs.Transact.{Begins, looked}
 use Rattle.room_store.proofs.operating.dump_on.Goals as goal

@@ -1,7 +1,7 @@
 use Rattle.std.proofs.Common.{rules, ◌≡◌, refl, subst, IsTrue}
 use Rattle.sqlite.specs.Held.{state}
-use Rattle.room_operating.specs.Carries.{NoTables}
-use Rattle.room_operating.specs.Operating.{AreMembers}
+use Rattle.store_admin.specs.Carries.{NoTables}
+use Rattle.store_admin.specs.Operating.{AreMembers}
 use Rattle.room_store.specs.Ran.{Looked}
 use Rattle.room_store.proofs.Transact.{Begins, looked}
 use Rattle.room_store.proofs.operating.members_on.Goals as goal

@@ -1,6 +1,6 @@
 use Rattle.std.proofs.Common.{rules, ◌≡◌, refl, subst, IsTrue, OnOk}
 use Rattle.sqlite.specs.Held.{state}
-use Rattle.room_operating.specs.Operating.{HasPairsAlone, ReplacesMembers}
+use Rattle.store_admin.specs.Operating.{HasPairsAlone, ReplacesMembers}
 use Rattle.room_store.proofs.Exchanged.{of_rows, pairs_alone}
 use Rattle.room_store.specs.Premise.{StorePremise}
 use Rattle.room_store.specs.Ran.{Ran}

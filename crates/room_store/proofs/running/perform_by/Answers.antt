@@ -4,7 +4,7 @@ use Rattle.std.specs.Option.{option_copied}
 use Rattle.sqlite.specs.Held.{state}
 use Rattle.room_judge.specs.Judged.{Performs}
 use Rattle.room_store.specs.Ran.{HasDamage}
-use Rattle.room_operating.specs.Carries.{ByRows, Carries, OnRows}
+use Rattle.store_admin.specs.Carries.{ByRows, Carries, OnRows}
 use Rattle.room_store.proofs.Turning.{carried}
 use Rattle.room_store.proofs.running.perform_by.Goals as goal
 

@@ -1,8 +1,8 @@
 use Rattle.std.proofs.Common.{rules, ◌≡◌, refl, subst, IsTrue}
 use Rattle.sqlite.specs.Held.{state}
 use Rattle.room_inherit.specs.Reading.{IsReport}
-use Rattle.room_operating.specs.Carries.{NoTables}
-use Rattle.room_tables.specs.Meaning.{rows_of}
+use Rattle.store_admin.specs.Carries.{NoTables}
+use Rattle.store_tables.specs.Meaning.{rows_of}
 use Rattle.room_store.specs.Ran.{Looked}
 use Rattle.room_store.proofs.Transact.{Begins, looked}
 use Rattle.room_store.proofs.verifying.verify_on.Goals as goal

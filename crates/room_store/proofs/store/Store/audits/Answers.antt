@@ -1,5 +1,5 @@
 use Rattle.sqlite.specs.Held.{state}
-use Rattle.room_operating.specs.Operating.{AreRecords, HasUnreadRecord}
+use Rattle.store_admin.specs.Operating.{AreRecords, HasUnreadRecord}
 use Rattle.room_store.proofs.Leading.{nothing}
 use Rattle.room_store.proofs.store.Store.audits.Goals as goal
 

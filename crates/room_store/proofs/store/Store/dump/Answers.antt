@@ -1,5 +1,5 @@
 use Rattle.sqlite.specs.Held.{state}
-use Rattle.room_operating.specs.Dump.{HasDamagedRow, IsDump}
+use Rattle.store_admin.specs.Dump.{HasDamagedRow, IsDump}
 use Rattle.room_store.proofs.Leading.{nothing}
 use Rattle.room_store.proofs.store.Store.dump.Goals as goal
 

@@ -1,6 +1,6 @@
 use Rattle.sqlite.specs.Held.{state}
-use Rattle.room_operating.specs.Carries.{NoTables}
-use Rattle.room_operating.specs.Operating.{AreMembers}
+use Rattle.store_admin.specs.Carries.{NoTables}
+use Rattle.store_admin.specs.Operating.{AreMembers}
 use Rattle.room_store.proofs.Leading.{nothing}
 use Rattle.room_store.proofs.store.Store.members.Goals as goal
 

@@ -1,6 +1,6 @@
 use Rattle.std.proofs.Common.{Ok, subst, sym}
 use Rattle.sqlite.specs.Held.{state}
-use Rattle.room_schema.specs.Raising.{Migrates}
+use Rattle.store_schema.specs.Raising.{Migrates}
 use Rattle.room_store.proofs.store.Store.migrate.Goals as goal
 
 pub returns-in-Ok-clause-raised : goal.returns-in-Ok-clause-raised

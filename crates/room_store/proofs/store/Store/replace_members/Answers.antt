@@ -1,6 +1,6 @@
 use Rattle.sqlite.specs.Held.{state}
 use Rattle.room_machine.specs.Run.{Replaced}
-use Rattle.room_operating.specs.Operating.{ReplacesMembers}
+use Rattle.store_admin.specs.Operating.{ReplacesMembers}
 use Rattle.room_store.proofs.Exchanged.{was_replaced}
 use Rattle.room_store.proofs.Leading.{leading}
 use Rattle.room_store.proofs.store.Store.replace_members.Goals as goal

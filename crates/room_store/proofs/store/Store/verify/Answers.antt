@@ -1,7 +1,7 @@
 use Rattle.sqlite.specs.Held.{state}
 use Rattle.room_inherit.specs.Reading.{IsReport}
-use Rattle.room_operating.specs.Carries.{NoTables}
-use Rattle.room_tables.specs.Meaning.{rows_of}
+use Rattle.store_admin.specs.Carries.{NoTables}
+use Rattle.store_tables.specs.Meaning.{rows_of}
 use Rattle.room_store.proofs.Leading.{nothing}
 use Rattle.room_store.proofs.store.Store.verify.Goals as goal
 

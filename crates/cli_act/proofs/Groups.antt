@@ -1,0 +1,98 @@
+-- The set of groups that came before, as pairs are looked at.
+use Rattle.std.proofs.Common.{ℕ, ◌≡◌, ◌+◌, ◌∷◌, ◌++◌, Bool, true, false, cond, length, List, [], String, string_bytes, string_cmp, refl, sym, ap, subst, ◌∙◌, ◌<◌, ◌≤◌, get_or, drop, drop-cons, add-one}
+use Rattle.std.specs.Prelude.{◌||◌, not, if◌then◌else◌}
+use Rattle.std.specs.Bool.{OnFalse}
+use Rattle.std.specs.List.{list_any}
+use Rattle.std.specs.Ordering.{is_eq}
+use Rattle.std.specs.Cmp.Lexicographic.{bytes_decides}
+use Rattle.std.specs.BTreeSet.{BTreeSet, contains}
+use Rattle.std.proofs.lemmas.Bool.{cond-true, cond-false}
+use Rattle.std.proofs.lemmas.List.Folds.{list_any-append}
+use Rattle.std.proofs.lemmas.List.{drop_all, length-append}
+use Rattle.std.proofs.lemmas.Map.Text.{is_eq-slice_cmp}
+use Rattle.room_ace.specs.Pieces.{same_text}
+use Rattle.cli_act.specs.Counting.{groups_after, groups_of, with_group}
+
+-- the set has these texts, and no others, and so many
+pub record HasSeen {A : Type 0} (seen : BTreeSet (String A)) (groups : List (List ℕ)) : Type 0 where
+  pub has : (key : String A) → contains string_cmp seen key ≡ list_any (same_text (string_bytes key)) groups
+  pub len : length seen.keys ≡ length groups
+
+agree : (a b : Bool) → (a ≡ true → b ≡ true) → (b ≡ true → a ≡ true) → a ≡ b
+agree true b to from = sym (to refl)
+agree false true to from = from refl
+agree false false to from = refl
+
+same_text-sym : (a b : List ℕ) → same_text a b ≡ same_text b a
+same_text-sym a b = agree _ _ (λ e. (bytes_decides b a).1 (sym ((bytes_decides a b).0 e))) (λ e. (bytes_decides a b).1 (sym ((bytes_decides b a).0 e)))
+
+-- two keys compare as equal where their texts are the same
+key_equal : {A : Type 0} (x y : String A) → is_eq (string_cmp x y) ≡ same_text (string_bytes y) (string_bytes x)
+key_equal x y = is_eq-slice_cmp (string_bytes x) (string_bytes y) ∙ same_text-sym (string_bytes x) (string_bytes y)
+
+one_more : (is : Bool) (before : Bool) → cond is true before ≡ (before || (is || false))
+one_more true true = refl
+one_more true false = refl
+one_more false true = refl
+one_more false false = refl
+
+seen_more : {A : Type 0} (seen more : BTreeSet (String A)) (groups : List (List ℕ)) (key : String A)
+    → ((other : String A) → contains string_cmp seen other ≡ list_any (same_text (string_bytes other)) groups)
+    → ((other : String A) → contains string_cmp more other ≡ cond (is_eq (string_cmp key other)) true (contains string_cmp seen other))
+    → (other : String A) → contains string_cmp more other ≡ list_any (same_text (string_bytes other)) (groups ++ string_bytes key ∷ [])
+seen_more seen more groups key has adds other =
+    adds other
+    ∙ ap (λ b. cond b true (contains string_cmp seen other)) (key_equal key other)
+    ∙ ap (λ b. cond (same_text (string_bytes other) (string_bytes key)) true b) (has other)
+    ∙ one_more (same_text (string_bytes other) (string_bytes key)) (list_any (same_text (string_bytes other)) groups)
+    ∙ sym (list_any-append (same_text (string_bytes other)) groups (string_bytes key ∷ []))
+
+seen_by : {A : Type 0} (seen more : BTreeSet (String A)) (groups : List (List ℕ)) (key : String A) (is added : Bool)
+    → HasSeen seen groups → list_any (same_text (string_bytes key)) groups ≡ is → added ≡ not is
+    → ((other : String A) → contains string_cmp more other ≡ cond (is_eq (string_cmp key other)) true (contains string_cmp seen other))
+    → OnFalse added (more.keys ≡ seen.keys) → length more.keys ≡ length seen.keys + (if added then 1 else 0)
+    → HasSeen more (with_group groups (string_bytes key))
+seen_by {A} seen more groups key true added seen_so e was adds same len =
+    let Q : Bool → Type 0 = λ b. OnFalse b (more.keys ≡ seen.keys) in
+    let keys : more.keys ≡ seen.keys = subst Q was same in
+    let P : List (List ℕ) → Type 0 = λ all. HasSeen {A = A} more all in
+    subst P (sym (cond-true _ _ _ e)) (record {
+      has = λ other. ap (λ (ks : List (String A)). list_any (λ k. is_eq (string_cmp other k)) ks) keys ∙ seen_so.has other;
+      len = ap (λ (ks : List (String A)). length ks) keys ∙ seen_so.len;
+    })
+seen_by {A} seen more groups key false added seen_so e was adds same len =
+    let P : List (List ℕ) → Type 0 = λ all. HasSeen {A = A} more all in
+    let one : (if added then 1 else 0) ≡ 1 = ap (λ (b : Bool). if b then 1 else 0) was in
+    subst P (sym (cond-false _ _ _ e)) (record {
+      has = seen_more seen more groups key seen_so.has adds;
+      len = len ∙ ap (λ n. length seen.keys + n) one ∙ ap (λ n. n + 1) seen_so.len ∙ sym (length-append groups (string_bytes key ∷ []));
+    })
+
+-- a group is looked at, and is new or not
+pub seen_next : {A : Type 0} (seen more : BTreeSet (String A)) (groups : List (List ℕ)) (key : String A) (name : List ℕ) (added : Bool)
+    → HasSeen seen groups → string_bytes key ≡ name → added ≡ not (contains string_cmp seen key)
+    → ((other : String A) → contains string_cmp more other ≡ cond (is_eq (string_cmp key other)) true (contains string_cmp seen other))
+    → OnFalse added (more.keys ≡ seen.keys) → length more.keys ≡ length seen.keys + (if added then 1 else 0)
+    → HasSeen more (with_group groups name)
+seen_next {A} seen more groups key name added seen_so bytes was adds same len =
+    let P : List ℕ → Type 0 = λ text. HasSeen {A = A} more (with_group groups text) in
+    subst P bytes (seen_by seen more groups key (list_any (same_text (string_bytes key)) groups) added seen_so refl (was ∙ ap not (seen_so.has key)) adds same len)
+
+-- of an empty set
+pub seen_none : {A : Type 0} (seen : BTreeSet (String A)) → seen.keys ≡ [] → HasSeen seen []
+seen_none {A} seen e = record {
+  has = λ key. ap (λ (ks : List (String A)). list_any (λ k. is_eq (string_cmp key k)) ks) e;
+  len = ap (λ (ks : List (String A)). length ks) e;
+}
+
+-- the groups so far and those of the pairs that are left are all
+pub after_next : (groups : List (List ℕ)) (pairs : List (List ℕ × List ℕ)) (i : ℕ) (pair default : List ℕ × List ℕ)
+    → i < length pairs → pair ≡ get_or pairs i default → groups_after groups (drop i pairs) ≡ groups_of pairs
+    → groups_after (with_group groups pair.0) (drop (i + 1) pairs) ≡ groups_of pairs
+after_next groups pairs i pair default h is e =
+    rw (is, add-one) (sym (ap (λ (xs : List (List ℕ × List ℕ)). groups_after groups xs) (drop-cons pairs i default h)) ∙ e)
+
+pub after_all : (groups : List (List ℕ)) (pairs : List (List ℕ × List ℕ)) (i : ℕ) → length pairs ≤ i
+    → groups_after groups (drop i pairs) ≡ groups_of pairs → groups ≡ groups_of pairs
+after_all groups pairs i h e =
+    sym (ap (λ (xs : List (List ℕ × List ℕ)). groups_after groups xs) (drop_all i pairs h)) ∙ e

@@ -1,0 +1,9 @@
+use Rattle.sqlite.specs.Held.{state}
+use Rattle.cli_act.proofs.Ended.{does_ended}
+use Rattle.cli_act.proofs.acting.act.Goals as goal
+
+pub returns-clause-acts : goal.returns-clause-acts
+returns-clause-acts g c = record { outcome = c.carry_out-conn.result.1; does = c.carry_out-conn.ensures; tells = c.tell-status.ensures }
+
+pub returns-clause-ended : goal.returns-clause-ended
+returns-clause-ended g c = does_ended (state g.S.Store) c.args.task.now c.args.conn c.carry_out-conn.result.0 c.carry_out-conn.result.1 c.carry_out-conn.ensures

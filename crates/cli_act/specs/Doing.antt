@@ -1,0 +1,187 @@
+-- What a task does to a database, and what comes of it.
+use Rattle.std.specs.Prelude.{◌≡◌, ◌⊎◌, ℕ, List, [], String, length, string_bytes, Result, Ok, Err}
+use Rattle.std.specs.Global.{Global}
+use Rattle.std.specs.Prelude.{Vec}
+use Rattle.sqlite.specs.Held.{Held}
+use Rattle.sqlite.specs.State.{State}
+use Rattle.room_ace.specs.Sent.{Sent}
+use Rattle.room_ace.specs.declared.object.Which.{Which}
+use Rattle.room_ace.specs.declared.parties.Owners.{Owners}
+use Rattle.room_import.specs.Exports.{groups_text, records_text}
+use Rattle.room_inherit.specs.Reading.{IsReport}
+use Rattle.room_rows.specs.declared.report.Report.{Report}
+use Rattle.room_rows.specs.declared.report.Report.TheVariants as report
+use Rattle.room_judge.specs.Judged.{Resets}
+use Rattle.room_machine.specs.Run.{Replaced, WasReset}
+use Rattle.room_machine.specs.declared.reply.Reply.{Reply}
+use Rattle.room_machine.specs.declared.reply.Reply.TheVariants as reply
+use Rattle.store_admin.specs.Carries.{NoTables}
+use Rattle.store_admin.specs.Dump.{HasDamagedRow, IsDump}
+use Rattle.store_admin.specs.Operating.{AreMembers, AreRecords, HasUnreadRecord, ReplacesMembers}
+use Rattle.room_rows.specs.declared.node.AuditRow.{AuditRow}
+use Rattle.store_schema.specs.Raising.{Migrates}
+use Rattle.store_schema.specs.declared.fault.CreateFault.{CreateFault}
+use Rattle.store_schema.specs.declared.fault.CreateFault.TheVariants as creating
+use Rattle.store_schema.specs.declared.fault.MigrateFault.{MigrateFault}
+use Rattle.store_schema.specs.declared.fault.MigrateFault.TheVariants as raising
+use Rattle.store_schema.specs.declared.fault.OpenFault.{OpenFault}
+use Rattle.room_store.specs.Leads.{Leads, event_of}
+use Rattle.room_store.specs.Opens.{Creates, Opens}
+use Rattle.room_store.specs.Ran.{HasDamage, Looked, Ran}
+use Rattle.room_store.specs.declared.fault.StoreFault.{StoreFault}
+use Rattle.room_store.specs.declared.fault.StoreFault.TheVariants as store
+use Rattle.store_tables.specs.Meaning.{rows_of}
+use Rattle.cli_act.specs.Outcome.{not_opened}
+use Rattle.cli_outcome.specs.declared.fault.Fault.TheVariants.{Database, Memory}
+use Rattle.cli_act.specs.declared.outcome.Answer.TheVariants as answer
+use Rattle.cli_act.specs.declared.outcome.Outcome.{Outcome}
+use Rattle.cli_act.specs.declared.outcome.Outcome.TheVariants.{Answer, Bytes, Failed}
+use Rattle.cli_tasks.specs.declared.judging.Task.{Task}
+use Rattle.cli_tasks.specs.declared.judging.Task.TheVariants as task
+use Rattle.cli_act.specs.Counting.{groups_of}
+
+-- ---- what comes of an answer
+
+abbrev pub after_fault : StoreFault → Outcome
+after_fault store.Memory = Failed Memory
+after_fault store.Db = Failed Database
+after_fault store.Damaged = Failed Database
+
+abbrev pub after_create : Result (Unit {0}) CreateFault → Outcome
+after_create (Ok done) = Answer answer.Made
+after_create (Err creating.Memory) = Failed Memory
+after_create (Err creating.Db) = Failed Database
+
+abbrev pub after_migrate : Result (Unit {0}) MigrateFault → Outcome
+after_migrate (Ok done) = Answer answer.Raised
+after_migrate (Err (raising.Opening fault)) = not_opened fault
+after_migrate (Err (raising.Unsound path why)) = Answer (answer.Unsound path why)
+
+abbrev pub after_replacing : List (List ℕ × List ℕ) → Result (Unit {0}) StoreFault → Outcome
+after_replacing pairs (Ok done) =
+    Answer (answer.Replaced (length (groups_of pairs)) (length pairs))
+after_replacing pairs (Err fault) = after_fault fault
+
+abbrev pub after_dump : Result (String Global) StoreFault → Outcome
+after_dump (Ok text) = Bytes (string_bytes text)
+after_dump (Err fault) = after_fault fault
+
+-- A reset is done or refused; no other reply comes of it.
+abbrev pub after_reply : Reply → Outcome
+after_reply reply.Done = Answer answer.ListSet
+after_reply (reply.Refused at why) = Answer (answer.ListRefused at why)
+after_reply other = Failed Database
+
+abbrev pub after_reset : Result Reply StoreFault → Outcome
+after_reset (Ok reply) = after_reply reply
+after_reset (Err fault) = after_fault fault
+
+abbrev pub after_report : Report → Outcome
+after_report report.Sound = Answer answer.Sound
+after_report (report.Fault path why) = Answer (answer.Unsound path why)
+
+abbrev pub after_verify : Result Report StoreFault → Outcome
+after_verify (Ok report) = after_report report
+after_verify (Err fault) = after_fault fault
+
+-- the text, unless memory for it is missing
+abbrev pub IsText : List ℕ → Outcome → Type 0
+IsText text outcome = (outcome ≡ Bytes text) ⊎ (outcome ≡ Failed Memory)
+
+abbrev pub IsTextOf : {X : Type 0} → (X → List ℕ) → Result X StoreFault → Outcome → Type 0
+IsTextOf text (Ok answer) outcome = IsText (text answer) outcome
+IsTextOf text (Err fault) outcome = outcome ≡ after_fault fault
+
+-- ---- each by one call of the store
+
+pub record MakesRoom (owners : Owners) (old : State) (outcome : Outcome) (new : State)
+    : Type 0 where
+  pub result : Result (Unit {0}) CreateFault
+  pub creates : Creates owners old new result
+  pub told : outcome ≡ after_create result
+
+pub record RaisesRoom (old : State) (outcome : Outcome) (new : State) : Type 0 where
+  pub result : Result (Unit {0}) MigrateFault
+  pub migrates : Migrates old new result
+  pub told : outcome ≡ after_migrate result
+
+pub record PutsMembers (pairs : List (List ℕ × List ℕ)) (old : State) (outcome : Outcome)
+    (new : State) : Type 0 where
+  pub result : Result (Unit {0}) StoreFault
+  pub ran : Ran old new result (λ _. ⊥) (ReplacesMembers pairs)
+  pub leads : Leads old (event_of result (λ _. Replaced pairs)) new
+  pub told : outcome ≡ after_replacing pairs result
+
+pub record GivesMembers (old : State) (outcome : Outcome) (new : State) : Type 0 where
+  pub result : Result (Vec (List ℕ × List ℕ) Global) StoreFault
+  pub looked : Looked old new result NoTables (λ db pairs. AreMembers db pairs.items)
+  pub leads : Leads old [] new
+  pub told : IsTextOf (λ pairs. groups_text pairs.items) result outcome
+
+pub record GivesRecords (old : State) (outcome : Outcome) (new : State) : Type 0 where
+  pub result : Result (Vec AuditRow Global) StoreFault
+  pub looked : Looked old new result HasUnreadRecord (λ db records. AreRecords db records.items)
+  pub leads : Leads old [] new
+  pub told : IsTextOf (λ records. records_text records.items) result outcome
+
+pub record GivesDump (old : State) (outcome : Outcome) (new : State) : Type 0 where
+  pub result : Result (String Global) StoreFault
+  pub looked : Looked old new result HasDamagedRow IsDump
+  pub leads : Leads old [] new
+  pub told : outcome ≡ after_dump result
+
+pub record SetsList (path : List (List ℕ)) (which : Which) (sent : Sent) (old : State)
+    (outcome : Outcome) (new : State) : Type 0 where
+  pub result : Result Reply StoreFault
+  pub ran : Ran old new result HasDamage (Resets path which sent)
+  pub leads : Leads old (event_of result (WasReset path which sent)) new
+  pub told : outcome ≡ after_reset result
+
+pub record TestsRows (old : State) (outcome : Outcome) (new : State) : Type 0 where
+  pub result : Result Report StoreFault
+  pub looked : Looked old new result NoTables (λ db report. IsReport (rows_of db) report)
+  pub leads : Leads old [] new
+  pub told : outcome ≡ after_verify result
+
+-- ---- a task
+
+-- the task works on a room that is there
+abbrev pub IsWork : Task → Type 0
+IsWork (task.Init owners) = ⊥
+IsWork task.Migrate = ⊥
+IsWork work = Unit {0}
+
+-- What a task does to a room that is open.
+abbrev pub Works : Task → State → Outcome → State → Type 0
+Works (task.Init owners) old outcome new = ⊥
+Works (task.Groups pairs) old outcome new = PutsMembers pairs old outcome new
+Works task.GroupsOut old outcome new = GivesMembers old outcome new
+Works task.Audit old outcome new = GivesRecords old outcome new
+Works task.Dump old outcome new = GivesDump old outcome new
+Works (task.Reset path which sent) old outcome new = SetsList path which sent old outcome new
+Works task.Verify old outcome new = TestsRows old outcome new
+Works task.Migrate old outcome new = ⊥
+
+module _ {S : Type 0} (shown : Held S → State) where
+  -- The database is opened as a room, and the task then works on it.
+  pub record OpensAndWorks (work : Task) (old : Held S) (outcome : Outcome) (new : Held S)
+      : Type 0 where
+    pub mid : Held S
+    pub opens : Opens (shown old) (shown mid) (Ok tt)
+    pub works : Works work (shown mid) outcome (shown new)
+
+  -- The database isn't opened as a room.
+  pub record OpensNot (old : Held S) (outcome : Outcome) (new : Held S) : Type 0 where
+    pub fault : OpenFault
+    pub opens : Opens (shown old) (shown new) (Err fault)
+    pub told : outcome ≡ not_opened fault
+
+  abbrev pub WorksOnRoom : Task → Held S → Outcome → Held S → Type 0
+  WorksOnRoom work old outcome new =
+      OpensAndWorks work old outcome new ⊎ OpensNot old outcome new
+
+  -- What a task does to a database: every one but those that make and raise a room opens it first.
+  abbrev pub Does : Task → Held S → Outcome → Held S → Type 0
+  Does (task.Init owners) old outcome new = MakesRoom owners (shown old) outcome (shown new)
+  Does task.Migrate old outcome new = RaisesRoom (shown old) outcome (shown new)
+  Does work old outcome new = WorksOnRoom work old outcome new

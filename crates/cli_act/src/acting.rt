@@ -1,0 +1,33 @@
+//! A task done and told.
+ghost use Rattle.std.specs.Prelude.{◌≡◌, false};
+ghost use Rattle.sqlite.specs.Held.{state};
+ghost use Rattle.cli_act.specs.Acting.{Acts};
+
+use crate::doing::carry_out;
+use crate::telling::tell;
+use cli_tasks::Task;
+use sqlite::{Alter, Connection};
+use std::alloc::Global;
+use std::io::Write;
+
+/// Does a task on a database, and tells what came of it on standard output and standard error.
+///
+/// Gives the connection back, outside of any transaction, and the exit status: 0 done, 1 a fault of
+/// the rows was found, 2 refused, 3 failed.
+pub fn act<S: Alter + Drop, O: Write, E: Write>(
+    alloc: Global,
+    conn: Connection<S>,
+    task: &Task,
+    out: &mut O,
+    err: &mut E,
+) -> (Connection<S>, u8)
+    requires { conn.in_transaction ≡ false }
+    ensures acts { Acts (state S.Store) task.now conn result.0
+        (O.contents out.old) (O.contents out.new) (E.contents err.old) (E.contents err.new)
+        result.1 }
+    ensures ended { result.0.in_transaction ≡ false }
+{
+    let (conn, outcome) = carry_out(alloc, conn, task);
+    let status = tell(alloc, &outcome, out, err);
+    (conn, status)
+}

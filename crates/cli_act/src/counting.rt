@@ -1,0 +1,19 @@
+//! How many groups there are.
+ghost use Rattle.std.specs.Prelude.{◌≡◌, IfOk, length};
+ghost use Rattle.cli_act.specs.Counting.{groups_of};
+
+use room_ace::Name;
+use std::alloc::{AllocError, Global};
+use std::collections::BTreeSet;
+
+/// The number of different groups of the pairs.
+pub(crate) fn count_groups(alloc: Global, pairs: &[(Name, Name)]) -> Result<usize, AllocError>
+    ensures { IfOk result (λ count. count ≡ length (groups_of pairs.now)) }
+{
+    let mut seen = BTreeSet::new(alloc);
+    'pairs: for pair in pairs {
+        let group = String::from_str(alloc, pair.0.as_str())?;
+        seen.insert(group)?;
+    }
+    Ok(seen.len())
+}

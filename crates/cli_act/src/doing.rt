@@ -1,0 +1,96 @@
+//! A task done on a database.
+ghost use Rattle.std.specs.Prelude.{◌≡◌, Err, false};
+ghost use Rattle.sqlite.specs.Held.{state};
+ghost use Rattle.cli_act.specs.Doing.{Does, IsWork, MakesRoom, RaisesRoom, after_create, after_migrate};
+
+use crate::opened::work;
+use crate::outcome::{Answer, Outcome};
+use cli_outcome::Fault;
+use cli_tasks::Task;
+use room_ace::Owners;
+use room_store::Store;
+use sqlite::{Alter, Connection};
+use std::alloc::Global;
+use store_schema::{CreateFault, MigrateFault};
+
+// What comes of a room that isn't made.
+fn not_made(fault: CreateFault) -> Outcome
+    ensures { result ≡ after_create (Err fault) }
+{
+    match fault {
+        CreateFault::Memory => Outcome::Failed(Fault::Memory),
+        CreateFault::Db => Outcome::Failed(Fault::Database),
+    }
+}
+
+fn make<S: Alter>(conn: Connection<S>, owners: &Owners) -> (Connection<S>, Outcome)
+    requires { conn.in_transaction ≡ false }
+    ensures { MakesRoom owners.now (state S.Store conn) result.1 (state S.Store result.0) }
+{
+    match Store::create(conn, owners) {
+        Ok(store) => (store.into_conn(), Outcome::Answer(Answer::Made)),
+        Err((conn, fault)) => (conn, not_made(fault)),
+    }
+}
+
+// What comes of a room that isn't raised.
+fn not_raised(fault: MigrateFault) -> Outcome
+    ensures { result ≡ after_migrate (Err fault) }
+{
+    match fault {
+        MigrateFault::Opening(fault) => Outcome::not_opened(fault),
+        MigrateFault::Unsound { path, why } => Outcome::Answer(Answer::Unsound { path, why }),
+    }
+}
+
+fn raise<S: Alter>(alloc: Global, conn: Connection<S>) -> (Connection<S>, Outcome)
+    requires { conn.in_transaction ≡ false }
+    ensures { RaisesRoom (state S.Store conn) result.1 (state S.Store result.0) }
+{
+    match Store::migrate(alloc, conn) {
+        Ok(store) => (store.into_conn(), Outcome::Answer(Answer::Raised)),
+        Err((conn, fault)) => (conn, not_raised(fault)),
+    }
+}
+
+// A task on the room that the database holds.
+fn open_and_work<S: Alter>(
+    alloc: Global,
+    conn: Connection<S>,
+    task: &Task,
+) -> (Connection<S>, Outcome)
+    requires ended { conn.in_transaction ≡ false }
+    requires work { IsWork task.now }
+    ensures { Does (state S.Store) task.now conn result.1 result.0 }
+{
+    match Store::adopt(conn) {
+        Ok(store) => {
+            let mut store = store;
+            let outcome = work(alloc, &mut store, task);
+            (store.into_conn(), outcome)
+        }
+        Err((conn, fault)) => (conn, Outcome::not_opened(fault)),
+    }
+}
+
+/// Does a task on a database, and answers what came of it. The connection is given back, outside of
+/// any transaction.
+pub(crate) fn carry_out<S: Alter>(
+    alloc: Global,
+    conn: Connection<S>,
+    task: &Task,
+) -> (Connection<S>, Outcome)
+    requires { conn.in_transaction ≡ false }
+    ensures { Does (state S.Store) task.now conn result.1 result.0 }
+{
+    match task {
+        Task::Init(owners) => make(conn, owners),
+        Task::Migrate => raise(alloc, conn),
+        Task::Groups(_)
+        | Task::GroupsOut
+        | Task::Audit
+        | Task::Dump
+        | Task::Reset(..)
+        | Task::Verify => open_and_work(alloc, conn, task),
+    }
+}

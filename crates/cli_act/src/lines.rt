@@ -1,0 +1,77 @@
+//! The line of an answer.
+ghost use Rattle.std.specs.Prelude.{◌≡◌, IfOk, string_bytes};
+ghost use Rattle.cli_act.specs.Outcome.{answer_text, reason_text, refusal_at, refusal_text};
+
+use crate::outcome::Answer;
+use room_machine::Reason;
+use room_rows::Path;
+use std::alloc::{AllocError, Global};
+
+// The code and the words of a reason.
+fn reason_str(why: &Reason) -> &'static str
+    ensures { result.now ≡ reason_text why.now }
+{
+    match why {
+        Reason::NoSuch => "N1 no-such",
+        Reason::NotFolder => "N2 not-folder",
+        Reason::WrongKind => "N3 wrong-kind",
+        Reason::Exists => "N4 exists",
+        Reason::NotEmpty => "N5 not-empty",
+        Reason::Root => "N6 root",
+        Reason::Loop => "N7 loop",
+        Reason::BadList { .. } => "N8 bad-list",
+        Reason::TooLarge => "N9 too-large",
+    }
+}
+
+// What was found at a path.
+fn reason_at(alloc: Global, at: &Path, why: &Reason) -> Result<String, AllocError>
+    ensures { IfOk result (λ text. string_bytes text ≡ refusal_at at.now why.now) }
+{
+    let path = at.to_text(alloc)?;
+    let why = reason_str(why);
+    format!(in alloc; "refused: {why} at {path}\n")
+}
+
+// The line of a list that isn't set.
+fn refusal_line(alloc: Global, at: &Path, why: &Reason) -> Result<String, AllocError>
+    ensures { IfOk result (λ text. string_bytes text ≡ refusal_text at.now why.now) }
+{
+    match why {
+        Reason::BadList { place, fault } => {
+            let place = *place;
+            let fault = fault.as_str();
+            format!(in alloc; "refused: entry {place}: {fault}\n")
+        }
+        _ => reason_at(alloc, at, why),
+    }
+}
+
+impl Answer {
+    /// The line of the answer, with its end.
+    pub fn line(&self, alloc: Global) -> Result<String, AllocError>
+        ensures { IfOk result (λ text. string_bytes text ≡ answer_text self.now) }
+    {
+        match self {
+            Answer::Made => String::from_str(alloc, "ready\n"),
+            Answer::Replaced { groups, members } => {
+                let groups = *groups;
+                let members = *members;
+                format!(in alloc; "groups {groups}, members {members}\n")
+            }
+            Answer::ListSet => String::from_str(alloc, "done\n"),
+            Answer::ListRefused { at, why } => refusal_line(alloc, at, why),
+            Answer::Sound => String::from_str(alloc, "sound\n"),
+            Answer::Unsound { path, why } => {
+                let path = path.as_str();
+                let why = why.as_str();
+                format!(in alloc; "fault {path} {why}\n")
+            }
+            Answer::Raised => String::from_str(alloc, "migrated\n"),
+            Answer::NoRoom(why) => {
+                let why = *why;
+                format!(in alloc; "refused: {why}\n")
+            }
+        }
+    }
+}

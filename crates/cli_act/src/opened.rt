@@ -1,0 +1,188 @@
+//! A task on a room that is open, each by one call of the store.
+ghost use Rattle.std.specs.Prelude.{◌≡◌, length};
+ghost use Rattle.cli_act.specs.Counting.{groups_of};
+ghost use Rattle.sqlite.specs.Held.{state};
+ghost use Rattle.cli_act.specs.Doing.{
+  GivesDump,
+  GivesMembers,
+  GivesRecords,
+  IsText,
+  IsWork,
+  PutsMembers,
+  SetsList,
+  TestsRows,
+  Works,
+  after_fault,
+  after_reply,
+  after_report,
+};
+ghost use Rattle.room_import.specs.Exports.{groups_text, records_text};
+
+use crate::counting::count_groups;
+use crate::outcome::{Answer, Outcome};
+use cli_outcome::Fault;
+use cli_tasks::Task;
+use room_ace::{Name, SentList, Which};
+use room_import::{write_audits, write_groups};
+use room_inherit::Report;
+use room_machine::Reply;
+use room_rows::{AuditRow, Bytes, Path};
+use room_store::{Store, StoreFault};
+use sqlite::Alter;
+use std::alloc::Global;
+
+// What comes of a store that gave no answer.
+fn after_fault(fault: StoreFault) -> Outcome
+    ensures { result ≡ after_fault fault }
+{
+    match fault {
+        StoreFault::Memory => Outcome::Failed(Fault::Memory),
+        StoreFault::Db => Outcome::Failed(Fault::Database),
+        StoreFault::Damaged => Outcome::Failed(Fault::Database),
+    }
+}
+
+// The members become these pairs, of so many groups.
+fn put<S: Alter>(
+    alloc: Global,
+    store: &mut Store<S>,
+    pairs: &[(Name, Name)],
+    groups: usize,
+) -> Outcome
+    requires { groups ≡ length (groups_of pairs.now) }
+    ensures { PutsMembers pairs.now (state S.Store store.old.conn) result
+        (state S.Store store.new.conn) }
+{
+    match store.replace_members(alloc, pairs) {
+        Ok(()) => Outcome::Answer(Answer::Replaced {
+            groups,
+            members: pairs.len(),
+        }),
+        Err(fault) => after_fault(fault),
+    }
+}
+
+// The groups are counted before, so that nothing is changed where memory for that is missing.
+fn replace<S: Alter>(alloc: Global, store: &mut Store<S>, pairs: &[(Name, Name)]) -> Outcome
+    ensures { PutsMembers pairs.now (state S.Store store.old.conn) result
+        (state S.Store store.new.conn) }
+{
+    match count_groups(alloc, pairs) {
+        Ok(groups) => put(alloc, store, pairs, groups),
+        Err(_) => Outcome::Failed(Fault::Memory),
+    }
+}
+
+fn tell_members<S: Alter>(alloc: Global, store: &mut Store<S>) -> Outcome
+    ensures { GivesMembers (state S.Store store.old.conn) result (state S.Store store.new.conn) }
+{
+    match store.members(alloc) {
+        Ok(pairs) => members_text(alloc, pairs.as_slice()),
+        Err(fault) => after_fault(fault),
+    }
+}
+
+fn members_text(alloc: Global, pairs: &[(Name, Name)]) -> Outcome
+    ensures { IsText (groups_text pairs.now) result }
+{
+    match write_groups(alloc, pairs) {
+        Ok(bytes) => Outcome::Bytes(bytes),
+        Err(_) => Outcome::Failed(Fault::Memory),
+    }
+}
+
+fn tell_records<S: Alter>(alloc: Global, store: &mut Store<S>) -> Outcome
+    ensures { GivesRecords (state S.Store store.old.conn) result (state S.Store store.new.conn) }
+{
+    match store.audits(alloc) {
+        Ok(records) => records_text(alloc, records.as_slice()),
+        Err(fault) => after_fault(fault),
+    }
+}
+
+fn records_text(alloc: Global, records: &[AuditRow]) -> Outcome
+    ensures { IsText (records_text records.now) result }
+{
+    match write_audits(alloc, records) {
+        Ok(bytes) => Outcome::Bytes(bytes),
+        Err(_) => Outcome::Failed(Fault::Memory),
+    }
+}
+
+fn tell_all<S: Alter>(alloc: Global, store: &mut Store<S>) -> Outcome
+    ensures { GivesDump (state S.Store store.old.conn) result (state S.Store store.new.conn) }
+{
+    match store.dump(alloc) {
+        Ok(text) => Outcome::Bytes(Bytes::from_vec(text.into_bytes())),
+        Err(fault) => after_fault(fault),
+    }
+}
+
+fn set_list<S: Alter>(
+    alloc: Global,
+    store: &mut Store<S>,
+    path: &Path,
+    which: Which,
+    sent: &SentList,
+) -> Outcome
+    ensures { SetsList path.now which sent.now (state S.Store store.old.conn) result
+        (state S.Store store.new.conn) }
+{
+    match store.reset(alloc, path, which, sent) {
+        Ok(reply) => after_reply(reply),
+        Err(fault) => after_fault(fault),
+    }
+}
+
+// What comes of a reset, whose reply is that it was done or refused.
+fn after_reply(reply: Reply) -> Outcome
+    ensures { result ≡ after_reply reply }
+{
+    match reply {
+        Reply::Done => Outcome::Answer(Answer::ListSet),
+        Reply::Refused { at, why } => Outcome::Answer(Answer::ListRefused { at, why }),
+        Reply::Bytes(_)
+        | Reply::Names(_)
+        | Reply::Lists(..)
+        | Reply::Attr(..)
+        | Reply::Rulings(_)
+        | Reply::Made
+        | Reply::Denied { .. } => Outcome::Failed(Fault::Database),
+    }
+}
+
+// What comes of a look through all rows.
+fn after_report(report: Report) -> Outcome
+    ensures { result ≡ after_report report }
+{
+    match report {
+        Report::Sound => Outcome::Answer(Answer::Sound),
+        Report::Fault { path, why } => Outcome::Answer(Answer::Unsound { path, why }),
+    }
+}
+
+fn test<S: Alter>(alloc: Global, store: &mut Store<S>) -> Outcome
+    ensures { TestsRows (state S.Store store.old.conn) result (state S.Store store.new.conn) }
+{
+    match store.verify(alloc) {
+        Ok(report) => after_report(report),
+        Err(fault) => after_fault(fault),
+    }
+}
+
+/// Does a task on the room of a store.
+pub(crate) fn work<S: Alter>(alloc: Global, store: &mut Store<S>, task: &Task) -> Outcome
+    requires { IsWork task.now }
+    ensures { Works task.now (state S.Store store.old.conn) result (state S.Store store.new.conn) }
+{
+    match task {
+        Task::Groups(pairs) => replace(alloc, store, pairs.as_slice()),
+        Task::GroupsOut => tell_members(alloc, store),
+        Task::Audit => tell_records(alloc, store),
+        Task::Reset(path, which, sent) => set_list(alloc, store, path, *which, sent),
+        Task::Verify => test(alloc, store),
+        Task::Init(_) => unreachable!(),
+        Task::Dump => tell_all(alloc, store),
+        Task::Migrate => unreachable!(),
+    }
+}

@@ -1,0 +1,85 @@
+//! What comes of a subcommand.
+ghost use Rattle.std.specs.Prelude.{◌≡◌};
+ghost use Rattle.cli_act.specs.Outcome.{answer_status, not_opened, status_of};
+
+use cli_outcome::{Fault, NoRoom, Status};
+use room_inherit::Unsound;
+use room_machine::Reason;
+use room_rows::{Bytes, Path, Text};
+use store_schema::OpenFault;
+
+/// What is answered in one line.
+#[derive(Drop)]
+pub enum Answer {
+    /// A room was made.
+    Made,
+    /// The members are now these, so many pairs of so many groups.
+    Replaced { groups: usize, members: usize },
+    /// A list was set.
+    ListSet,
+    /// A list was not set, for what was found at the path.
+    ListRefused { at: Path, why: Reason },
+    /// No test finds a fault in the rows.
+    Sound,
+    /// The first fault of the rows, and where it is.
+    Unsound { path: Text, why: Unsound },
+    /// The older schema was raised.
+    Raised,
+    /// The database holds no room of the schema that is wanted.
+    NoRoom(NoRoom),
+}
+
+/// What came of a subcommand that works on a database.
+#[derive(Drop)]
+pub enum Outcome {
+    /// It is answered in one line.
+    Answer(Answer),
+    /// These bytes were asked for, and are told as they stand.
+    Bytes(Bytes),
+    /// It failed.
+    Failed(Fault),
+}
+
+impl Answer {
+    /// How the subcommand ended that is answered so.
+    pub fn status(&self) -> Status
+        ensures { result ≡ answer_status self.now }
+    {
+        match self {
+            Answer::Made => Status::Done,
+            Answer::Replaced { .. } => Status::Done,
+            Answer::ListSet => Status::Done,
+            Answer::ListRefused { .. } => Status::Refused,
+            Answer::Sound => Status::Done,
+            Answer::Unsound { .. } => Status::Found,
+            Answer::Raised => Status::Done,
+            Answer::NoRoom(_) => Status::Refused,
+        }
+    }
+}
+
+impl Outcome {
+    /// How the subcommand ended.
+    pub fn status(&self) -> Status
+        ensures { result ≡ status_of self.now }
+    {
+        match self {
+            Outcome::Answer(answer) => answer.status(),
+            Outcome::Bytes(_) => Status::Done,
+            Outcome::Failed(_) => Status::Failed,
+        }
+    }
+
+    /// What comes of a database that isn't opened as a room.
+    pub fn not_opened(fault: OpenFault) -> Outcome
+        ensures { result ≡ not_opened fault }
+    {
+        match fault {
+            OpenFault::NotRooms => Outcome::Answer(Answer::NoRoom(NoRoom::NotRooms)),
+            OpenFault::OldVersion(number) => Outcome::Answer(Answer::NoRoom(NoRoom::Old(number))),
+            OpenFault::NewVersion(number) => Outcome::Answer(Answer::NoRoom(NoRoom::New(number))),
+            OpenFault::Db => Outcome::Failed(Fault::Database),
+            OpenFault::Memory => Outcome::Failed(Fault::Memory),
+        }
+    }
+}

@@ -1,0 +1,14 @@
+use Rattle.std.proofs.Common.{◌-◌, ◌+◌, length, arith, drop}
+use Rattle.std.proofs.lemmas.List.{take_all, length-drop}
+use Rattle.cli_check.proofs.Pieces.{pieces-cut, pieces-uncut}
+use Rattle.cli_check.proofs.headers.cut_at.Goals as goal
+
+pub returns-in-None : goal.returns-in-None
+returns-in-None c = pieces-uncut c.args.separator c.args.bytes.now c.in-None.ensures
+
+pub returns-in-Some : goal.returns-in-Some
+returns-in-Some c =
+    let bytes = c.args.bytes.now in
+    let i = c.in-Some.index in
+    let n = length-drop (i + 1) bytes in
+    pieces-cut c.args.separator bytes _ i c.in-Some.ensures (take_all (length bytes - (i + 1)) (drop (i + 1) bytes) (omega arith))

@@ -1,0 +1,56 @@
+-- The text and the exit status that answer an input (own).
+use Rattle.std.specs.Prelude.{ℕ, ◌-◌, List, [], ◌++◌, Option, Some, None, codes, decimal, slice_get}
+use Rattle.std.specs.Option.{option_map_or}
+use Rattle.room_ace.specs.Ace.{Ace}
+use Rattle.room_ace.specs.Text.{entry_text, mask_text}
+use Rattle.room_ace.specs.Faults.{list_fault_text, why_text}
+use Rattle.room_eval.specs.declared.outcome.Verdict.{Verdict}
+use Rattle.room_eval.specs.declared.outcome.Verdict.TheVariants.{Granted, Denied}
+use Rattle.cli_check.specs.declared.fault.InputFault.{InputFault}
+use Rattle.cli_check.specs.declared.fault.InputWhy.{InputWhy}
+use Rattle.cli_check.specs.declared.fault.InputWhy.TheVariants.{BadHeader, BadName, Text}
+use Rattle.cli_check.specs.declared.judging.Judged.{Judged}
+use Rattle.cli_check.specs.declared.judging.Judged.TheVariants.{Says, TooLong, AtLine, AtEntry}
+
+abbrev pub input_why_text : InputWhy → List ℕ
+input_why_text BadHeader = codes "K1 bad header"
+input_why_text BadName = codes "K2 bad name"
+input_why_text (Text why) = why_text why
+
+-- the first line that has a fault, and the fault
+abbrev pub input_fault_text : InputFault → List ℕ
+input_fault_text fault =
+    codes "line " ++ (decimal fault.line ++ (codes ": " ++ input_why_text fault.why))
+
+-- the printed entry at a place, which counts from 1
+abbrev pub text_at : List Ace → ℕ → List ℕ
+text_at entries place = option_map_or entry_text (slice_get entries (place - 1)) []
+
+-- where the list denies, and the entry there
+abbrev pub place_text : List Ace → Option ℕ → List ℕ
+place_text entries None = codes " no entry"
+place_text entries (Some place) =
+    codes " entry " ++ (decimal place ++ (codes " " ++ text_at entries place))
+
+abbrev pub verdict_text : List Ace → Verdict → List ℕ
+verdict_text entries Granted = codes "granted"
+verdict_text entries (Denied bits place) =
+    codes "denied bits " ++ (mask_text bits ++ place_text entries place)
+
+abbrev pub reply_text : Judged → List ℕ
+reply_text (Says list verdict) = verdict_text list.entries verdict
+reply_text TooLong = codes "refused: input too long"
+reply_text (AtLine fault) =
+    codes "refused: line " ++ (decimal fault.line ++ (codes ": " ++ input_why_text fault.why))
+reply_text (AtEntry fault) =
+    codes "refused: entry " ++ (decimal fault.place ++ (codes ": " ++ list_fault_text fault.why))
+
+abbrev pub verdict_status : Verdict → ℕ
+verdict_status Granted = 0
+verdict_status (Denied bits place) = 1
+
+abbrev pub reply_status : Judged → ℕ
+reply_status (Says list verdict) = verdict_status verdict
+reply_status TooLong = 2
+reply_status (AtLine fault) = 2
+reply_status (AtEntry fault) = 2

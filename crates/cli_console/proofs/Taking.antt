@@ -1,0 +1,88 @@
+-- As much of an input as shows that it is too long has the task of all of it.
+use Rattle.std.proofs.Common.{ℕ, ◌≡◌, ◌+◌, ◌<◌, ◌≤◌, ◌∙◌, List, [], length, Option, Some, None, Result, Ok, Err, refl, sym, ap, subst, inl, inr, arith}
+use Rattle.std.specs.Prelude.{take, nat_lt, IfSome, IsSome, if◌then◌else◌}
+use Rattle.std.proofs.lemmas.List.{length-take-le, take_all}
+use Rattle.std.proofs.lemmas.Bool.{cases_Bool, cond-true, false≢true, lt-ltb, ltb-true, ltb-false}
+use Rattle.room_ace.specs.Gives.{Gives}
+use Rattle.room_ace.specs.Lists.{sent_of}
+use Rattle.room_ace.specs.Sent.{Sent}
+use Rattle.room_ace.specs.declared.failure.Failure.{Failure}
+use Rattle.room_ace.specs.declared.failure.Failure.TheVariants.{OutOfMemory, Fault}
+use Rattle.room_import.specs.Groups.{groups_in}
+use Rattle.cli_outcome.specs.Ending.{IsOfStream}
+use Rattle.cli_outcome.specs.Reading.{IsInput}
+use Rattle.cli_outcome.specs.declared.fault.Fault.{Fault as StreamFault}
+use Rattle.cli_tasks.specs.Tasks.{goes_on, pairs_in, path_in, refused_by, reset_of, sent_in, task_of}
+use Rattle.cli_tasks.specs.declared.judging.Task.{Task}
+use Rattle.cli_tasks.specs.declared.judging.Task.TheVariants as task
+use Rattle.cli_tasks.specs.declared.refusal.Refusal.{Refusal}
+use Rattle.cli_tasks.specs.declared.refusal.Refusal.TheVariants as refusal
+use Rattle.cli_words.specs.Asked.{input_of}
+use Rattle.cli_words.specs.declared.command.Command.{Command}
+use Rattle.cli_words.specs.declared.command.Command.TheVariants as command
+use Rattle.cli_console.specs.Reads.{IsTask, ReadsTask, most_of}
+use Rattle.cli_console.specs.Stops.{stop_of_refusal}
+use Rattle.cli_console.specs.declared.stop.Stop.{Stop}
+use Rattle.cli_console.specs.declared.stop.Stop.TheVariants as stop
+
+-- a test of the length, and then of the bytes
+limited : {A : Type 0} (most : ℕ) (long : A) (read : List ℕ → A) (input : List ℕ)
+    → (if nat_lt most (length (take (most + 1) input)) then long else read (take (most + 1) input)) ≡ (if nat_lt most (length input) then long else read input)
+limited most long read input =
+    elim (cases_Bool (nat_lt most (length input))) [
+      | inl over ↦ (
+          let more = ltb-true most (length input) over in
+          let least : most + 1 ≤ length input = omega arith in
+          let cut : length (take (most + 1) input) ≡ most + 1 = length-take-le (most + 1) input least in
+          let above : most < length (take (most + 1) input) = omega (arith, cut) in
+          cond-true _ _ _ (lt-ltb most (length (take (most + 1) input)) above) ∙ sym (cond-true _ _ _ over))
+      | inr under ↦ (
+          let below = ltb-false most (length input) under in
+          let all : length input ≤ most + 1 = omega arith in
+          rw (take_all (most + 1) input all) refl)
+    ]
+
+pairs-take : (input : List ℕ) → pairs_in (take 8388609 input) ≡ pairs_in input
+pairs-take input = limited 8388608 (Err refusal.TooLong) (λ bytes. refused_by refusal.Row (groups_in bytes)) input
+
+sent-take : (input : List ℕ) → sent_in (take 1048577 input) ≡ sent_in input
+sent-take input = limited 1048576 (Err refusal.TooLong) (λ bytes. refused_by refusal.Line (sent_of bytes)) input
+
+task-take : (asked : Command) (input : List ℕ) → task_of asked (take (most_of (input_of asked)) input) ≡ task_of asked input
+task-take command.Check input = refl
+task-take (command.Init file owner group) input = refl
+task-take (command.Serve file port count) input = refl
+task-take (command.Groups file csv) input =
+    ap (λ (read : Result (List (List ℕ × List ℕ)) Refusal). Some (goes_on read (λ pairs. Ok (task.Groups pairs)))) (pairs-take input)
+task-take (command.GroupsOut file) input = refl
+task-take (command.Audit file) input = refl
+task-take (command.Dump file) input = refl
+task-take (command.Reset file path which) input =
+    ap (λ (read : Result Sent Refusal). Some (goes_on (path_in path.now) (λ path. goes_on read (λ list. Ok (task.Reset path which list))))) (sent-take input)
+task-take (command.Verify file) input = refl
+task-take (command.Migrate file) input = refl
+
+-- the task of what was read
+pub whole : (asked : Command) (known : Option (List ℕ)) (bytes : List ℕ) (most : ℕ) (result : Result Task Stop)
+    → most ≡ most_of (input_of asked) → IfSome known (λ input. bytes ≡ take most input) → IsTask (task_of asked bytes) result → ReadsTask asked known result
+whole asked None bytes most result is front told = (bytes, tt, told)
+whole asked (Some input) bytes most result is front told =
+    let due : task_of asked bytes ≡ task_of asked input = rw (front, is) (task-take asked input) in
+    let P : Option (Result Task Refusal) → Type 0 = λ due. IsTask due result in
+    (input, refl, subst P due told)
+
+-- nothing could be read
+pub unread : (asked : Command) (known : Option (List ℕ)) (why : StreamFault) → IsOfStream why → ReadsTask asked known (Err (stop.Failed why))
+unread asked None why is = ([], tt, is)
+unread asked (Some input) why is = (input, refl, is)
+
+-- the task that is due
+pub taken : (due : Option (Result Task Refusal)) (task : Task) → IsSome due → IfSome due (Gives {F = Refusal} (Ok task)) → IsTask due (Ok task)
+taken None task is gives = absurd (false≢true is)
+taken (Some told) task is gives = ap Some gives
+
+-- or why there is none
+pub refused : (due : Option (Result Task Refusal)) (failure : Failure Refusal) → IsSome due → IfSome due (Gives {A = Task} (Err failure)) → IsTask due (Err (stop_of_refusal failure))
+refused None failure is gives = absurd (false≢true is)
+refused (Some told) OutOfMemory is gives = inl refl
+refused (Some told) (Fault why) is gives = ap Some gives

@@ -1,0 +1,33 @@
+-- The task that is read for a command (own).
+use Rattle.std.specs.Prelude.{◌≡◌, ℕ, List, Option, Some, Result, Ok, Err}
+use Rattle.cli_outcome.specs.Ending.{IsOfStream}
+use Rattle.cli_outcome.specs.Reading.{IsInput}
+use Rattle.cli_tasks.specs.Tasks.{task_of}
+use Rattle.cli_tasks.specs.declared.judging.Task.{Task}
+use Rattle.cli_tasks.specs.declared.refusal.Refusal.{Refusal}
+use Rattle.cli_words.specs.declared.command.Command.{Command}
+use Rattle.cli_words.specs.declared.command.Input.{Input}
+use Rattle.cli_words.specs.declared.command.Input.TheVariants as input
+use Rattle.cli_console.specs.declared.stop.Stop.{Stop}
+use Rattle.cli_console.specs.declared.stop.Stop.TheVariants as stop
+
+-- One byte more than a list and a group file may have.
+abbrev pub most_of : Input → ℕ
+most_of input.Nothing = 0
+most_of input.Standard = 1048577
+most_of (input.File name) = 8388609
+
+-- The task that is due, or the refusal that is, or a stream or memory fails.
+abbrev pub IsTask : Option (Result Task Refusal) → Result Task Stop → Type 0
+IsTask due (Ok task) = due ≡ Some (Ok task)
+IsTask due (Err (stop.Refused why)) = due ≡ Some (Err why)
+IsTask due (Err (stop.Failed why)) = IsOfStream why
+IsTask due (Err stop.Exists) = ⊥
+IsTask due (Err stop.NotRooms) = ⊥
+IsTask due (Err (stop.Words fault)) = ⊥
+IsTask due (Err stop.NotText) = ⊥
+
+-- It is due for the whole input of the reader.
+abbrev pub ReadsTask : Command → Option (List ℕ) → Result Task Stop → Type 0
+ReadsTask command known result =
+    (input : List ℕ) × IsInput known input × IsTask (task_of command input) result

@@ -1,0 +1,49 @@
+-- What is told of the reasons why the program ends before a task is done (own).
+use Rattle.std.specs.Prelude.{◌≡◌, ℕ, List, [], ◌∷◌, ◌++◌, Option, codes, string_bytes}
+use Rattle.std.specs.Io.KnownBytes.{Keeps}
+use Rattle.std.specs.declared.io.ErrorKind.{ErrorKind}
+use Rattle.room_ace.specs.declared.failure.Failure.{Failure}
+use Rattle.room_ace.specs.declared.failure.Failure.TheVariants.{OutOfMemory, Fault}
+use Rattle.cli_outcome.specs.Ending.{fault_line, fault_of_kind}
+use Rattle.cli_outcome.specs.declared.fault.Fault.TheVariants as fault
+use Rattle.cli_outcome.specs.Written.{TellsText, WritesSome}
+use Rattle.cli_outcome.specs.declared.status.Status.TheVariants as status
+use Rattle.cli_console.specs.declared.stop.Stop.{Stop}
+use Rattle.cli_console.specs.declared.stop.Stop.TheVariants as stop
+use Rattle.cli_tasks.specs.Tasks.{refusal_text}
+use Rattle.cli_tasks.specs.declared.refusal.Refusal.{Refusal}
+use Rattle.cli_words.specs.declared.command.CliFault.{CliFault}
+
+-- ---- why it ends
+
+-- a reader or a writer fails
+abbrev pub stop_of_kind : ErrorKind → Stop
+stop_of_kind kind = stop.Failed (fault_of_kind kind)
+
+-- the words are no command, or there is no memory for them
+abbrev pub stop_of_words : Failure CliFault → Stop
+stop_of_words OutOfMemory = stop.Failed fault.Memory
+stop_of_words (Fault why) = stop.Words why
+
+-- the words or the input are refused, or there is no memory for them
+abbrev pub stop_of_refusal : Failure Refusal → Stop
+stop_of_refusal OutOfMemory = stop.Failed fault.Memory
+stop_of_refusal (Fault why) = stop.Refused why
+
+-- ---- what is told of it
+
+-- Refusals are told on standard output, and on standard error faults, and what there is to say of words.
+abbrev pub TellsStop : Stop → Option (List ℕ) → Option (List ℕ) → Option (List ℕ)
+    → Option (List ℕ) → ℕ → Type 0
+TellsStop (stop.Failed fault) out out' err err' code =
+    Keeps out out' × WritesSome err err' (fault_line fault) × (code ≡ 3)
+TellsStop (stop.Refused why) out out' err err' code =
+    TellsText (refusal_text why ++ 10 ∷ []) status.Refused out out' err err' code
+TellsStop stop.Exists out out' err err' code =
+    TellsText (codes "refused: file exists\n") status.Refused out out' err err' code
+TellsStop stop.NotRooms out out' err err' code =
+    TellsText (codes "refused: not a rooms file\n") status.Refused out out' err err' code
+TellsStop (stop.Words fault) out out' err err' code =
+    Keeps out out' × WritesSome err err' (string_bytes fault.text) × (code ≡ 2)
+TellsStop stop.NotText out out' err err' code =
+    Keeps out out' × WritesSome err err' (codes "error: an argument is not UTF-8\n") × (code ≡ 2)

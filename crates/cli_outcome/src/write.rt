@@ -1,0 +1,34 @@
+//! Writing a text.
+ghost use Rattle.std.specs.Prelude.{◌≡◌, OnOk, OnErr};
+ghost use Rattle.std.specs.Io.KnownBytes.{Appends};
+ghost use Rattle.cli_outcome.specs.Written.{WritesSome};
+
+use std::io::{self, ErrorKind, Write};
+
+// Writes the text, or a beginning of it where a write fails or takes nothing.
+fn write_text<W: Write>(w: &mut W, text: &[u8]) -> io::Result<()>
+    ensures ok { OnOk result (Appends (W.contents w.old) (W.contents w.new) text.now) }
+    ensures err { OnErr result (WritesSome (W.contents w.old) (W.contents w.new) text.now) }
+{
+    let mut at = 0;
+    'writing: while at < text.len() {
+        let count = match w.write(&text[at..]) {
+            Ok(count) => count,
+            Err(error) => return Err(error),
+        };
+        if count == 0 {
+            return Err(io::Error::from(ErrorKind::WriteZero));
+        }
+        at += count;
+    }
+    Ok(())
+}
+
+/// Writes the text and has it go out. Where that fails, a beginning of the text was written.
+pub fn send_text<W: Write>(w: &mut W, text: &[u8]) -> io::Result<()>
+    ensures ok { OnOk result (Appends (W.contents w.old) (W.contents w.new) text.now) }
+    ensures err { OnErr result (WritesSome (W.contents w.old) (W.contents w.new) text.now) }
+{
+    write_text(w, text)?;
+    w.flush()
+}

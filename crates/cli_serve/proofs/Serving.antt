@@ -1,0 +1,98 @@
+-- A store that is opened, and then serves.
+use Rattle.std.proofs.Common.{◌≡◌, ◌≤◌, ◌⊎◌, ℕ, ℤ, All, List, [], ◌++◌, length, map, Option, Result, Ok, Err, OnOk, inl, inr, subst, sym, refl, arith}
+use Rattle.std.proofs.lemmas.List.{append-nil}
+use Rattle.std.proofs.lemmas.List.Elements.{All-nil}
+use Rattle.sqlite.specs.State.{State, HasCleanDisk}
+use Rattle.room_rows.specs.Content.{Content}
+use Rattle.room_machine.specs.declared.desk.Desk.{Ghosts}
+use Rattle.room_machine.specs.Run.{Event, Run}
+use Rattle.room_http.specs.Stream.{Runs}
+use Rattle.room_store.specs.Kept.{IsSound, Keeps}
+use Rattle.room_store.specs.Leads.{Leads}
+use Rattle.http_serve.specs.Visits.{IsEnd, IsVisit, Served, Visit, moment_of, requests_of}
+use Rattle.http_serve.specs.declared.fault.ServingFault.{ServingFault}
+use Rattle.cli_serve.specs.Hosts.{IsServed, Rests, TellsPort, end_status}
+use Rattle.cli_serve.specs.Places.{AsksFor, Place}
+
+pub ends : (end : Result (Unit {0}) ServingFault) (status : ℕ) (out out' : Option (List ℕ))
+    → status ≡ end_status end → OnOk end (TellsPort out out')
+    → ((status ≡ 0) × TellsPort out out') ⊎ (status ≡ 3)
+ends (Ok done) status out out' is told = inl (is, told)
+ends (Err fault) status out out' is told = inr is
+
+-- nobody came
+pub unserved : {D : Type 0} (d : Ghosts D) (count : ℕ) (told : List ℤ → Type 0) (desk : D)
+    → Served d count told told desk desk (Err ServingFault.Net)
+unserved d count told desk = (
+  record {
+    trusted = λ t. t;
+    sound = λ t s. s;
+    visits = [];
+    few = omega arith;
+    each = All-nil IsVisit;
+    moments = λ before is. subst told (sym (append-nil before)) is;
+    run = λ t s room is. (room, refl, is);
+  },
+  inr refl,
+)
+
+-- a desk that is as it was
+pub rests : {D : Type 0} (d : Ghosts D) (old new : D) → new ≡ old → Rests d old new
+rests {D} d old new same =
+    subst (λ (desk : D). Rests d old desk) (sym same)
+    (record {
+      trusted = λ t. t;
+      sound = λ t s. s;
+      run = λ t s room is. (room, refl, is);
+    })
+
+-- the same, where the port may have been told
+pub rests_or : {D : Type 0} (d : Ghosts D) (old new : D) (out out' : Option (List ℕ)) → (new ≡ old) ⊎ TellsPort out out'
+    → Rests d old new ⊎ TellsPort out out'
+rests_or d old new out out' (inl same) = inl (rests d old new same)
+rests_or d old new out out' (inr tells) = inr tells
+
+-- what a store rested, in its own words
+pub rested : (old new : State) → (HasCleanDisk new → HasCleanDisk old)
+    → (HasCleanDisk new → IsSound old → IsSound new)
+    → (HasCleanDisk new → IsSound old → Runs (Keeps old) [] (Keeps new)) → Leads old [] new
+rested old new trusted sound run = record { trusted = trusted; sound = sound; run = run }
+
+-- what a store received, in its own words
+pub served : (count : ℕ) (told told' : List ℤ → Type 0) (old new : State) (out out' : Option (List ℕ)) (status : ℕ)
+    (visits : List Visit) (end : Result (Unit {0}) ServingFault)
+    → length visits ≤ count → All IsVisit visits
+    → ((before : List ℤ) → told before → told' (before ++ map moment_of visits))
+    → (HasCleanDisk new → HasCleanDisk old)
+    → (HasCleanDisk new → IsSound old → IsSound new)
+    → (HasCleanDisk new → IsSound old → Runs (Keeps old) (requests_of visits) (Keeps new))
+    → IsEnd count end (length visits) → status ≡ end_status end → OnOk end (TellsPort out out')
+    → Leads old [] new ⊎ TellsPort out out' → IsServed count told told' old new out out' status
+served count told told' old new out out' status visits end few each moments trusted sound run says is tells first = record {
+  visits = visits;
+  few = few;
+  each = each;
+  moments = moments;
+  leads = record { trusted = trusted; sound = sound; run = run };
+  ends = ends end status out out' is tells;
+  first = first;
+  end = end;
+  end_is = is;
+  end_says = says;
+}
+
+-- what happens after nothing did
+pub after : (old mid new : State) (events : List Event) → Leads old [] mid → Leads mid events new
+    → Leads old events new
+after old mid new events first then = record {
+  trusted = λ now. first.trusted (then.trusted now);
+  sound = λ now sound. then.sound now (first.sound (then.trusted now) sound);
+  run = λ now sound room keeps.
+      let one = first.run (then.trusted now) sound room keeps in
+      let two = then.run now (first.sound (then.trusted now) sound) one.0 one.2 in
+      (two.0, subst (λ (start : Content). Run start events two.0) one.1 two.1, two.2);
+}
+
+-- nothing was asked for
+pub asks_none : (asked : List Place → Type 0) → AsksFor asked asked []
+asks_none asked before is = subst asked (sym (append-nil before)) is

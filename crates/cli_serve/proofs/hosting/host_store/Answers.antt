@@ -1,0 +1,25 @@
+use Rattle.std.proofs.Common.{◌⊎◌, [], inl, inr, subst, sym}
+use Rattle.sqlite.specs.Held.{Held, state}
+use Rattle.room_store.specs.Leads.{Leads}
+use Rattle.cli_serve.specs.Hosts.{IsServed, TellsPort}
+use Rattle.cli_serve.proofs.Serving.{rested, served}
+use Rattle.cli_serve.proofs.hosting.host_store.Goals as goal
+
+pub returns-clause-served : goal.returns-clause-served
+returns-clause-served g c =
+    let old = state g.S.Store c.args.store.conn in
+    let new = state g.S.Store c.serve_at-end.new.desk.conn in
+    let told = g.M.Moments.told c.args.clock.now in
+    let told' = g.M.Moments.told c.serve_at-end.new.clock in
+    let out = g.O.Write.contents c.args.out.now in
+    let out' = g.O.Write.contents c.serve_at-end.new.out in
+    let status = c.tell_end-status.result in
+    let received = c.serve_at-end.ensures.received in
+    let r = received.0 in
+    let first : Leads old [] new ⊎ TellsPort out out' = elim (c.serve_at-end.ensures.first) [
+      | inl r ↦ inl (rested old new r.trusted r.sound r.run)
+      | inr tells ↦ inr tells
+    ] in
+    subst (λ (conn : Held g.row.S.Denot). IsServed c.args.count told told' old (state g.S.Store conn) out out' status) (sym c.into_conn.ensures)
+    (served c.args.count told told' old new out out' status r.visits c.serve_at-end.result r.few r.each r.moments r.trusted r.sound r.run
+    received.1 c.tell_end-status.ensures.status c.serve_at-end.ensures.told first)

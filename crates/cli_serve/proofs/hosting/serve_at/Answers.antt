@@ -1,0 +1,14 @@
+use Rattle.std.proofs.Common.{inl, refl}
+use Rattle.cli_serve.proofs.Serving.{rests, rests_or, unserved}
+use Rattle.cli_serve.proofs.hosting.serve_at.Goals as goal
+
+pub returns-in-Ok-clause-first : goal.returns-in-Ok-clause-first
+returns-in-Ok-clause-first g c =
+    rests_or g.D.Desk c.args.desk.now c.serve_on.new.desk (g.O.Write.contents c.args.out.now) (g.O.Write.contents c.serve_on.new.out)
+    c.serve_on.ensures.first
+
+pub returns-in-Err-clause-received : goal.returns-in-Err-clause-received
+returns-in-Err-clause-received g c = unserved g.D.Desk c.args.count _ c.args.desk.now
+
+pub returns-in-Err-clause-first : goal.returns-in-Err-clause-first
+returns-in-Err-clause-first g c = inl (rests g.D.Desk c.args.desk.now c.args.desk.now refl)

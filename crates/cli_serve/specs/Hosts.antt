@@ -1,0 +1,104 @@
+-- What the subcommand `serve` does on an open database (own).
+use Rattle.std.specs.Prelude.{◌≡◌, ◌≤◌, ◌⊎◌, ℕ, ℤ, All, List, [], ◌∷◌, ◌++◌, codes, length, map}
+use Rattle.std.specs.Prelude.{Option, Result, Ok, Err}
+use Rattle.std.specs.Io.KnownBytes.{Appends}
+use Rattle.sqlite.specs.Held.{Held}
+use Rattle.sqlite.specs.State.{State}
+use Rattle.room_machine.specs.declared.desk.Desk.{Ghosts}
+use Rattle.room_http.specs.Stream.{Runs}
+use Rattle.cli_outcome.specs.Ending.{no_room_text}
+use Rattle.cli_outcome.specs.Written.{TellsFault, TellsText}
+use Rattle.cli_outcome.specs.declared.fault.Fault.{Fault}
+use Rattle.cli_outcome.specs.declared.no_room.NoRoom.{NoRoom}
+use Rattle.cli_outcome.specs.declared.status.Status.{Status}
+use Rattle.store_schema.specs.declared.fault.OpenFault.{OpenFault}
+use Rattle.room_store.specs.Leads.{Leads}
+use Rattle.room_store.specs.Opens.{Opens}
+use Rattle.http_serve.specs.Lines.{listening_line}
+use Rattle.http_serve.specs.Visits.{IsEnd, IsVisit, Visit, moment_of, requests_of}
+use Rattle.http_serve.specs.declared.fault.ServingFault.{ServingFault}
+use Rattle.cli_serve.specs.Places.{AsksFor, Place, local_place}
+
+-- what is told where the database holds no room of this version
+abbrev pub refusal_line : NoRoom → List ℕ
+refusal_line why = codes "refused: " ++ (no_room_text why ++ codes "\n")
+
+-- why a database is not opened as a room: for what it holds, or by a fault
+abbrev pub reason_of : OpenFault → Result NoRoom Fault
+reason_of OpenFault.NotRooms = Ok NoRoom.NotRooms
+reason_of (OpenFault.OldVersion number) = Ok (NoRoom.Old number)
+reason_of (OpenFault.NewVersion number) = Ok (NoRoom.New number)
+reason_of OpenFault.Db = Err Fault.Database
+reason_of OpenFault.Memory = Err Fault.Memory
+
+-- what is told on the two writers, where these tell their bytes, and the status
+abbrev pub Refuses : NoRoom → Option (List ℕ) → Option (List ℕ) → Option (List ℕ)
+    → Option (List ℕ) → ℕ → Type 0
+Refuses why = TellsText (refusal_line why) Status.Refused
+
+abbrev pub TurnsDown : Result NoRoom Fault → Option (List ℕ) → Option (List ℕ)
+    → Option (List ℕ) → Option (List ℕ) → ℕ → Type 0
+TurnsDown (Ok why) = Refuses why
+TurnsDown (Err why) = TellsFault why
+
+-- what is told of a fault where connections were served
+abbrev pub fault_of : ServingFault → Fault
+fault_of ServingFault.Memory = Fault.Memory
+fault_of ServingFault.File = Fault.File
+fault_of ServingFault.Net = Fault.Net
+
+-- the status where connections were served
+abbrev pub end_status : Result (Unit {0}) ServingFault → ℕ
+end_status (Ok done) = 0
+end_status (Err fault) = 3
+
+-- The line of a port that listens was printed.
+abbrev pub TellsPort : Option (List ℕ) → Option (List ℕ) → Type 0
+TellsPort out out' = (port : ℕ) × Appends out out' (listening_line port)
+
+-- The database was not opened as a room: no port was asked for, and nothing was served.
+pub record IsTurnedDown (asked asked' : List Place → Type 0) (old new : State)
+    (out out' err err' : Option (List ℕ)) (status : ℕ) : Type 0 where
+  pub why : OpenFault
+  pub opens : Opens old new (Err why)
+  pub told : TurnsDown (reason_of why) out out' err err' status
+  pub asked_none : AsksFor asked asked' []
+
+-- nothing was done at a desk
+pub record Rests {D : Type 0} (d : Ghosts D) (old new : D) : Type 0 where
+  pub trusted : d.trusted new → d.trusted old
+  pub sound : d.trusted new → d.sound old → d.sound new
+  pub run : d.trusted new → d.sound old → Runs (d.content old) [] (d.content new)
+
+-- The requests of at most `count` connections were served, each at the moment that the clock gave
+-- for it. All is done, or there was a fault, and what this says of the connections holds. The port
+-- was printed before the first of them.
+pub record IsServed (count : ℕ) (told told' : List ℤ → Type 0) (old new : State)
+    (out out' : Option (List ℕ)) (status : ℕ) : Type 0 where
+  pub visits : List Visit
+  pub few : length visits ≤ count
+  pub each : All IsVisit visits
+  pub moments : (before : List ℤ) → told before → told' (before ++ map moment_of visits)
+  pub leads : Leads old (requests_of visits) new
+  pub ends : ((status ≡ 0) × TellsPort out out') ⊎ (status ≡ 3)
+  pub first : Leads old [] new ⊎ TellsPort out out'
+  pub end : Result (Unit {0}) ServingFault
+  pub end_is : status ≡ end_status end
+  pub end_says : IsEnd count end (length visits)
+
+module _ {S : Type 0} (shown : Held S → State) where
+  -- The room was opened, this port of this machine alone was asked for, and it served.
+  pub record IsHosted (port count : ℕ) (asked asked' : List Place → Type 0)
+      (told told' : List ℤ → Type 0) (old new : Held S) (out out' : Option (List ℕ))
+      (status : ℕ) : Type 0 where
+    pub mid : Held S
+    pub opens : Opens (shown old) (shown mid) (Ok tt)
+    pub asked_one : AsksFor asked asked' (local_place port ∷ [])
+    pub served : IsServed count told told' (shown mid) (shown new) out out' status
+
+  abbrev pub Hosts : ℕ → ℕ → (List Place → Type 0) → (List Place → Type 0)
+      → (List ℤ → Type 0) → (List ℤ → Type 0) → Held S → Held S → Option (List ℕ)
+      → Option (List ℕ) → Option (List ℕ) → Option (List ℕ) → ℕ → Type 0
+  Hosts port count asked asked' told told' old new out out' err err' status =
+      IsTurnedDown asked asked' (shown old) (shown new) out out' err err' status
+      ⊎ IsHosted port count asked asked' told told' old new out out' status

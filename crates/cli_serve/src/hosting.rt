@@ -1,0 +1,91 @@
+//! The room of a database behind a port.
+ghost use Rattle.std.specs.Prelude.{◌≡◌, ◌⊎◌, List, [], ◌∷◌, OnOk, false};
+ghost use Rattle.sqlite.specs.Held.{state};
+ghost use Rattle.room_store.specs.Leads.{Leads};
+ghost use Rattle.http_serve.specs.Visits.{Served, Visit, requests_of};
+ghost use Rattle.cli_serve.specs.Hosts.{Hosts, IsServed, Rests, TellsPort};
+ghost use Rattle.cli_serve.specs.Places.{AsksFor, local_place};
+
+use crate::ports::Ports;
+use crate::telling::{tell_end, tell_opening};
+use http_serve::{Moments, ServingFault, serve_on};
+use room_machine::Desk;
+use room_store::Store;
+use sqlite::{Alter, Connection};
+use std::alloc::Global;
+use std::io::Write;
+use std::net::Ipv4Addr;
+
+/// Serves so many connections to the room of the database, on this port of 127.0.0.1, one after the
+/// other. It hands the connection back, with the status: 0 where all is done, 2 where the database
+/// holds no room of this version, which `out` tells, and 3 at a fault, which `err` tells.
+pub fn host<S: Alter, P: Ports, M: Moments, O: Write, E: Write>(
+    alloc: Global,
+    conn: Connection<S>,
+    ports: &mut P,
+    clock: &mut M,
+    port: u16,
+    count: u32,
+    out: &mut O,
+    err: &mut E,
+) -> (Connection<S>, u8)
+    requires { conn.in_transaction ≡ false }
+    ensures leads { (visits : List Visit)
+        × Leads (state S.Store conn) (requests_of visits) (state S.Store result.0) }
+    ensures hosts { Hosts (state S.Store) port count (P.asked ports.old) (P.asked ports.new)
+        (M.told clock.old) (M.told clock.new) conn result.0 (O.contents out.old)
+        (O.contents out.new) (E.contents err.old) (E.contents err.new) result.1 }
+{
+    match Store::adopt(conn) {
+        Ok(store) => host_store(alloc, store, ports, clock, port, count, out, err),
+        Err((conn, fault)) => {
+            let status = tell_opening(alloc, fault, out, err);
+            (conn, status)
+        }
+    }
+}
+
+// The same with the room that was opened.
+fn host_store<S: Alter, P: Ports, M: Moments, O: Write, E: Write>(
+    alloc: Global,
+    mut store: Store<S>,
+    ports: &mut P,
+    clock: &mut M,
+    port: u16,
+    count: u32,
+    out: &mut O,
+    err: &mut E,
+) -> (Connection<S>, u8)
+    ensures served { IsServed count (M.told clock.old) (M.told clock.new)
+        (state S.Store store.conn) (state S.Store result.0)
+        (O.contents out.old) (O.contents out.new) result.1 }
+    ensures asked { AsksFor (P.asked ports.old) (P.asked ports.new) (local_place port ∷ []) }
+{
+    let end = serve_at(alloc, &mut store, ports, clock, port, count, out, err);
+    let status = tell_end(end, err);
+    (store.into_conn(), status)
+}
+
+// Binds the port, and serves at the desk.
+fn serve_at<D: Desk, P: Ports, M: Moments, O: Write, E: Write>(
+    alloc: Global,
+    desk: &mut D,
+    ports: &mut P,
+    clock: &mut M,
+    port: u16,
+    count: u32,
+    out: &mut O,
+    err: &mut E,
+) -> Result<(), ServingFault>
+    ensures received { Served D.Desk count (M.told clock.old) (M.told clock.new)
+        desk.old desk.new result }
+    ensures told { OnOk result (TellsPort (O.contents out.old) (O.contents out.new)) }
+    ensures first { Rests D.Desk desk.old desk.new
+        ⊎ TellsPort (O.contents out.old) (O.contents out.new) }
+    ensures asked { AsksFor (P.asked ports.old) (P.asked ports.new) (local_place port ∷ []) }
+{
+    match ports.bind(Ipv4Addr::LOCALHOST, port) {
+        Ok(listener) => serve_on(alloc, desk, clock, &listener, count, out, err),
+        Err(_) => Err(ServingFault::Net),
+    }
+}

@@ -1,0 +1,74 @@
+//! What is told where not all is done, and the status.
+ghost use Rattle.std.specs.Prelude.{◌≡◌, IfErr};
+ghost use Rattle.cli_outcome.specs.Ending.{fault_line};
+ghost use Rattle.cli_outcome.specs.Written.{WritesSome};
+ghost use Rattle.cli_serve.specs.Hosts.{Refuses, TurnsDown, end_status, fault_of, reason_of};
+
+use cli_outcome::{Fault, NoRoom, Status, tell_fault, tell_text};
+use http_serve::ServingFault;
+use std::alloc::Global;
+use std::io::Write;
+use store_schema::OpenFault;
+
+/// Tells why the database was not opened as a room, and answers the status.
+pub(crate) fn tell_opening<O: Write, E: Write>(
+    alloc: Global,
+    fault: OpenFault,
+    out: &mut O,
+    err: &mut E,
+) -> u8
+    ensures { TurnsDown (reason_of fault) (O.contents out.old) (O.contents out.new)
+        (E.contents err.old) (E.contents err.new) result }
+{
+    match reason_of(fault) {
+        Ok(why) => refuse(alloc, why, out, err),
+        Err(why) => tell_fault(why, err),
+    }
+}
+
+// Why the database was not opened: for what it holds, or by a fault.
+fn reason_of(fault: OpenFault) -> Result<NoRoom, Fault>
+    ensures { result ≡ reason_of fault }
+{
+    match fault {
+        OpenFault::NotRooms => Ok(NoRoom::NotRooms),
+        OpenFault::OldVersion(number) => Ok(NoRoom::Old(number)),
+        OpenFault::NewVersion(number) => Ok(NoRoom::New(number)),
+        OpenFault::Db => Err(Fault::Database),
+        OpenFault::Memory => Err(Fault::Memory),
+    }
+}
+
+/// Tells why not all connections were served, or not all was told, if that is so, and answers the
+/// status.
+pub(crate) fn tell_end<E: Write>(end: Result<(), ServingFault>, err: &mut E) -> u8
+    ensures status { result ≡ end_status end }
+    ensures told { IfErr end (λ why. WritesSome (E.contents err.old) (E.contents err.new)
+        (fault_line (fault_of why))) }
+{
+    match end {
+        Ok(()) => Status::Done.code(),
+        Err(fault) => tell_fault(fault_of(fault), err),
+    }
+}
+
+fn fault_of(fault: ServingFault) -> Fault
+    ensures { result ≡ fault_of fault }
+{
+    match fault {
+        ServingFault::Memory => Fault::Memory,
+        ServingFault::File => Fault::File,
+        ServingFault::Net => Fault::Net,
+    }
+}
+
+// Tells a refusal. Where that fails, this is a fault.
+fn refuse<O: Write, E: Write>(alloc: Global, why: NoRoom, out: &mut O, err: &mut E) -> u8
+    ensures { Refuses why (O.contents out.old) (O.contents out.new)
+        (E.contents err.old) (E.contents err.new) result }
+{
+    match format!(in alloc; "refused: {why}\n") {
+        Ok(line) => tell_text(line.as_bytes(), Status::Refused, out, err),
+        Err(_) => tell_fault(Fault::Memory, err),
+    }
+}

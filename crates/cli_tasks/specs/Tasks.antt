@@ -1,0 +1,74 @@
+-- The task of a subcommand and its input, or the first reason to refuse it (own).
+use Rattle.std.specs.Prelude.{ℕ, List, ◌++◌, Option, Some, None, Result, Ok, Err, codes, if◌then◌else◌, length, nat_lt}
+use Rattle.room_ace.specs.Faults.{line_fault_text, text_fault_text}
+use Rattle.room_ace.specs.Lists.{sent_of}
+use Rattle.room_ace.specs.Sent.{Sent}
+use Rattle.room_ace.specs.Text.{name_of}
+use Rattle.room_ace.specs.declared.object.Which.{Which}
+use Rattle.room_import.specs.Faults.{csv_fault_text}
+use Rattle.room_import.specs.Groups.{groups_in}
+use Rattle.room_rows.specs.Faults.{path_fault_text}
+use Rattle.room_rows.specs.Paths.{path_of}
+use Rattle.cli_tasks.specs.declared.judging.Task.{Task}
+use Rattle.cli_tasks.specs.declared.judging.Task.TheVariants as task
+use Rattle.cli_tasks.specs.declared.refusal.Refusal.{Refusal}
+use Rattle.cli_tasks.specs.declared.refusal.Refusal.TheVariants as refusal
+use Rattle.cli_words.specs.declared.command.Command.{Command}
+use Rattle.cli_words.specs.declared.command.Command.TheVariants as command
+
+-- the line that is told of a refusal
+abbrev pub refusal_text : Refusal → List ℕ
+refusal_text (refusal.Name why) = codes "refused: " ++ text_fault_text why
+refusal_text (refusal.Path why) = codes "refused: " ++ path_fault_text why
+refusal_text refusal.TooLong = codes "refused: input too long"
+refusal_text (refusal.Line fault) = codes "refused: " ++ line_fault_text fault
+refusal_text (refusal.Row fault) = codes "refused: " ++ csv_fault_text fault
+
+-- an answer, or why it is refused
+abbrev pub refused_by : {A F : Type 0} → (F → Refusal) → Result A F → Result A Refusal
+refused_by why (Ok answer) = Ok answer
+refused_by why (Err fault) = Err (why fault)
+
+abbrev pub goes_on : {A B : Type 0} → Result A Refusal → (A → Result B Refusal) → Result B Refusal
+goes_on (Ok answer) next = next answer
+goes_on (Err why) next = Err why
+
+abbrev pub name_in : List ℕ → Result (List ℕ) Refusal
+name_in text = refused_by refusal.Name (name_of text)
+
+abbrev pub path_in : List ℕ → Result (List (List ℕ)) Refusal
+path_in text = refused_by refusal.Path (path_of text)
+
+-- of a list at most 2^20 bytes
+abbrev pub sent_in : List ℕ → Result Sent Refusal
+sent_in input =
+    if nat_lt 1048576 (length input) then Err refusal.TooLong
+    else refused_by refusal.Line (sent_of input)
+
+-- of a group file at most 2^23 bytes
+abbrev pub pairs_in : List ℕ → Result (List (List ℕ × List ℕ)) Refusal
+pairs_in input =
+    if nat_lt 8388608 (length input) then Err refusal.TooLong
+    else refused_by refusal.Row (groups_in input)
+
+abbrev pub new_room : List ℕ → List ℕ → Result Task Refusal
+new_room owner group = goes_on (name_in owner) (λ owner. goes_on (name_in group) (λ group.
+    Ok (task.Init (record { owner = owner; group = group }))))
+
+abbrev pub reset_of : List ℕ → Which → List ℕ → Result Task Refusal
+reset_of path which input = goes_on (path_in path) (λ path. goes_on (sent_in input) (λ list.
+    Ok (task.Reset path which list)))
+
+-- `check` and `serve` are none of these tasks.
+abbrev pub task_of : Command → List ℕ → Option (Result Task Refusal)
+task_of command.Check input = None
+task_of (command.Init file owner group) input = Some (new_room owner.now group.now)
+task_of (command.Serve file port count) input = None
+task_of (command.Groups file csv) input =
+    Some (goes_on (pairs_in input) (λ pairs. Ok (task.Groups pairs)))
+task_of (command.GroupsOut file) input = Some (Ok task.GroupsOut)
+task_of (command.Audit file) input = Some (Ok task.Audit)
+task_of (command.Dump file) input = Some (Ok task.Dump)
+task_of (command.Reset file path which) input = Some (reset_of path.now which input)
+task_of (command.Verify file) input = Some (Ok task.Verify)
+task_of (command.Migrate file) input = Some (Ok task.Migrate)

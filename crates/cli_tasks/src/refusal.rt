@@ -1,0 +1,42 @@
+//! Why words or an input are refused.
+ghost use Rattle.cli_tasks.specs.Tasks.{refusal_text};
+
+use room_ace::{LineFault, TextFault};
+use room_import::CsvFault;
+use room_rows::PathFault;
+use std::error::Error;
+use std::fmt;
+
+/// Why words or an input are refused. It is displayed as the line that is told, as
+/// `refused: P1 bad object name`.
+#[derive(Clone, Copy, Debug, PartialEq, Eq)]
+pub enum Refusal {
+    /// An owner or an owning group is no name.
+    Name(TextFault),
+    /// A path is none.
+    Path(PathFault),
+    /// The input is too long.
+    TooLong,
+    /// A line of the list has a fault.
+    Line(LineFault),
+    /// A row of the group file has a fault.
+    Row(CsvFault),
+}
+
+impl fmt::Display for Refusal {
+    ghost use Rattle.std.specs.Prelude.{Some};
+
+    ghost output = { λ refusal. Some (refusal_text refusal) };
+
+    fn fmt<W: fmt::Write>(&self, f: &mut fmt::Formatter<W>) -> fmt::Result {
+        match self {
+            Refusal::Name(why) => write!(f, "refused: {why}"),
+            Refusal::Path(why) => write!(f, "refused: {why}"),
+            Refusal::TooLong => f.write_str("refused: input too long"),
+            Refusal::Line(fault) => write!(f, "refused: {fault}"),
+            Refusal::Row(fault) => write!(f, "refused: {fault}"),
+        }
+    }
+}
+
+impl Error for Refusal {}

@@ -1,0 +1,89 @@
+-- Which command the words are (own).
+use Rattle.std.specs.Prelude.{◌≡◌, ◌≢◌, ◌⊎◌, ◌<◌, false, ◌^◌, ℕ, List, [], Option, Some, None, codes, unwrap_or, if◌then◌else◌}
+use Rattle.std.specs.Str.{bytes_eq}
+use Rattle.std.specs.Str.Parse.{IsNumeral, digits_value, without_leading_plus}
+use Rattle.std.specs.Borrow.{Bor}
+use Rattle.clap.specs.Words.{IsAmong, Row, Text, fault_of, first_of, one_of, subcommand_of, takes}
+use Rattle.clap.specs.declared.error.kind.ErrorKind.{ErrorKind}
+use Rattle.clap.specs.declared.error.kind.ErrorKind.TheVariants as kinds
+use Rattle.room_ace.specs.declared.failure.Failure.{Failure}
+use Rattle.room_ace.specs.declared.failure.Failure.TheVariants.{OutOfMemory, Fault}
+use Rattle.cli_words.specs.declared.command.CliFault.{CliFault}
+use Rattle.room_ace.specs.declared.object.Which.TheVariants.{Dacl, Sacl}
+use Rattle.room_ace.specs.declared.object.Which.{Which}
+use Rattle.cli_words.specs.Line.{AreAttributes, command_line}
+use Rattle.cli_words.specs.declared.command.Command.{Command}
+use Rattle.cli_words.specs.declared.command.Command.TheVariants as command
+
+-- the word that was given for an argument
+abbrev pub word : Text → List Row → Text
+word id rows = unwrap_or (first_of id rows) []
+
+-- The number that was given for an option, as far as it fits these bits, or what it is without.
+abbrev pub IsNumber : ℕ → ℕ → Option Text → ℕ → Type 0
+IsNumber bits default None number = number ≡ default
+IsNumber bits default (Some text) number =
+    let digits = without_leading_plus text in
+    IsNumeral 10 digits → digits_value 10 digits < 2 ^ bits → number ≡ digits_value 10 digits
+
+abbrev pub which_in : List Row → Which
+which_in rows = if bytes_eq (word (codes "LIST") rows) (codes "dacl") then Dacl else Sacl
+
+-- A subcommand of this name, with its words.
+abbrev pub IsMet : Text → List Row → Command → Type 0
+IsMet name rows command.Check = name ≡ codes "check"
+IsMet name rows (command.Init file owner group) = (name ≡ codes "init")
+    × (file.now ≡ word (codes "FILE") rows) × (owner.now ≡ word (codes "OWNER") rows)
+    × (group.now ≡ word (codes "GROUP") rows)
+IsMet name rows (command.Serve file port count) = (name ≡ codes "serve")
+    × (file.now ≡ word (codes "FILE") rows) × IsNumber 16 8780 (one_of (codes "port") rows) port
+    × IsNumber 32 1 (one_of (codes "count") rows) count
+IsMet name rows (command.Groups file csv) = (name ≡ codes "groups")
+    × (file.now ≡ word (codes "FILE") rows) × (csv.now ≡ word (codes "CSV") rows)
+IsMet name rows (command.GroupsOut file) =
+    (name ≡ codes "groups-out") × (file.now ≡ word (codes "FILE") rows)
+IsMet name rows (command.Audit file) =
+    (name ≡ codes "audit") × (file.now ≡ word (codes "FILE") rows)
+IsMet name rows (command.Dump file) =
+    (name ≡ codes "dump") × (file.now ≡ word (codes "FILE") rows)
+IsMet name rows (command.Reset file path which) = (name ≡ codes "reset")
+    × (file.now ≡ word (codes "FILE") rows) × (path.now ≡ word (codes "PATH") rows)
+    × (which ≡ which_in rows)
+IsMet name rows (command.Verify file) =
+    (name ≡ codes "verify") × (file.now ≡ word (codes "FILE") rows)
+IsMet name rows (command.Migrate file) =
+    (name ≡ codes "migrate") × (file.now ≡ word (codes "FILE") rows)
+
+-- One of the ten subcommands.
+abbrev pub IsName : Text → Type 0
+IsName name = (name ≡ codes "check") ⊎ ((name ≡ codes "init") ⊎ ((name ≡ codes "serve")
+    ⊎ ((name ≡ codes "groups") ⊎ ((name ≡ codes "groups-out") ⊎ ((name ≡ codes "audit")
+    ⊎ ((name ≡ codes "dump") ⊎ ((name ≡ codes "reset") ⊎ ((name ≡ codes "verify")
+    ⊎ (name ≡ codes "migrate")))))))))
+
+abbrev pub HasName : Option (Text × List Row) → Type 0
+HasName None = ⊥
+HasName (Some found) = IsName found.0
+
+-- The subcommand that was met.
+abbrev pub IsCommand : Option (Text × List Row) → Command → Type 0
+IsCommand None command = ⊥
+IsCommand (Some found) command = IsMet found.0 found.1 command
+
+-- The words are without fault, and this is the command that `clap` finds in them.
+abbrev pub IsRead : List Text → Command → Type 0
+IsRead words command = (names : Bor (List (Bor Text))) × AreAttributes names
+    × (fault_of (command_line names) words ≡ [])
+    × IsCommand (subcommand_of (command_line names) words) command
+
+-- Memory ran out, or `clap` doesn't take the words, for a reason of this kind.
+abbrev pub IsRefused : List Text → Failure CliFault → Type 0
+IsRefused words OutOfMemory = Unit {0}
+IsRefused words (Fault fault) = (names : Bor (List (Bor Text))) × AreAttributes names
+    × (takes (command_line names) words ≡ false)
+    × IsAmong fault.kind (fault_of (command_line names) words)
+
+-- Memory ran out, or the kind of `clap`'s error is told.
+abbrev pub IsTold : ErrorKind → Failure CliFault → Type 0
+IsTold kind OutOfMemory = Unit {0}
+IsTold kind (Fault fault) = (fault.kind ≡ kind) × (kind ≢ kinds.OutOfMemory)

@@ -1,0 +1,155 @@
+//! Words read as a command.
+ghost use Rattle.std.specs.Prelude.{◌≡◌, IfErr, IfOk, IfSome, IsSome, map};
+ghost use Rattle.std.specs.Prelude.{codes};
+ghost use Rattle.clap.specs.Words.{found_of, kind_of, one_of, rows_of, subcommand_rows_of};
+ghost use Rattle.cli_words.specs.Command.{HasName, IsCommand, IsMet, IsName, IsNumber, IsRead};
+ghost use Rattle.cli_words.specs.Command.{IsRefused, IsTold, which_in, word};
+
+use crate::command::{CliFault, Command};
+use crate::line::command_line;
+use clap::ArgMatches;
+use clap::error::{Error, ErrorKind};
+use room_ace::{Failure, Which};
+use std::alloc::Global;
+use std::convert::AsStr;
+
+// The word that was given for an argument.
+fn word<'a>(words: &ArgMatches<'a>, id: &str) -> &'a str
+    ensures { result.now ≡ word id.now (rows_of (found_of words.now)) }
+{
+    match words.get_str(id) {
+        Some(text) => text,
+        None => "",
+    }
+}
+
+fn which(words: &ArgMatches<'_>) -> Which
+    ensures { result ≡ which_in (rows_of (found_of words.now)) }
+{
+    match word(words, "LIST") {
+        "dacl" => Which::Dacl,
+        _ => Which::Sacl,
+    }
+}
+
+fn port(words: &ArgMatches<'_>) -> u16
+    ensures { IsNumber 16 8780 (one_of (codes "port") (rows_of (found_of words.now))) result }
+{
+    match words.get_one::<u16>("port") {
+        Some(port) => port,
+        None => 8780,
+    }
+}
+
+fn count(words: &ArgMatches<'_>) -> u32
+    ensures { IsNumber 32 1 (one_of (codes "count") (rows_of (found_of words.now))) result }
+{
+    match words.get_one::<u32>("count") {
+        Some(count) => count,
+        None => 1,
+    }
+}
+
+fn init<'a>(words: &ArgMatches<'a>) -> Command<'a>
+    ensures { IsMet (codes "init") (rows_of (found_of words.now)) result }
+{
+    Command::Init {
+        file: word(words, "FILE"),
+        owner: word(words, "OWNER"),
+        group: word(words, "GROUP"),
+    }
+}
+
+fn serve<'a>(words: &ArgMatches<'a>) -> Command<'a>
+    ensures { IsMet (codes "serve") (rows_of (found_of words.now)) result }
+{
+    Command::Serve {
+        file: word(words, "FILE"),
+        port: port(words),
+        count: count(words),
+    }
+}
+
+fn groups<'a>(words: &ArgMatches<'a>) -> Command<'a>
+    ensures { IsMet (codes "groups") (rows_of (found_of words.now)) result }
+{
+    Command::Groups {
+        file: word(words, "FILE"),
+        csv: word(words, "CSV"),
+    }
+}
+
+fn reset<'a>(words: &ArgMatches<'a>) -> Command<'a>
+    ensures { IsMet (codes "reset") (rows_of (found_of words.now)) result }
+{
+    Command::Reset {
+        file: word(words, "FILE"),
+        path: word(words, "PATH"),
+        which: which(words),
+    }
+}
+
+// The subcommand of this name, with its words.
+fn met<'a>(name: &str, words: &ArgMatches<'a>) -> Option<Command<'a>>
+    ensures met { IfSome result (IsMet name.now (rows_of (found_of words.now))) }
+    ensures some { IsName name.now → IsSome result }
+{
+    let file = word(words, "FILE");
+    match name {
+        "check" => Some(Command::Check),
+        "init" => Some(init(words)),
+        "serve" => Some(serve(words)),
+        "groups" => Some(groups(words)),
+        "reset" => Some(reset(words)),
+        "groups-out" => Some(Command::GroupsOut { file }),
+        "audit" => Some(Command::Audit { file }),
+        "dump" => Some(Command::Dump { file }),
+        "verify" => Some(Command::Verify { file }),
+        "migrate" => Some(Command::Migrate { file }),
+        _ => None,
+    }
+}
+
+// The command that the matches name.
+fn command_met<'a>(matches: &ArgMatches<'a>) -> Command<'a>
+    requires { HasName (subcommand_rows_of matches.now) }
+    ensures { IsCommand (subcommand_rows_of matches.now) result }
+{
+    let found = match matches.subcommand() {
+        Some((name, words)) => met(name, words),
+        None => None,
+    };
+    match found {
+        Some(command) => command,
+        None => unreachable!(),
+    }
+}
+
+/// The command of the words, of which the first is the program's name, or what `clap` says.
+pub fn read_command<'a, S: AsStr>(
+    alloc: Global,
+    words: &'a [S],
+) -> Result<Command<'a>, Failure<CliFault>>
+    ensures ok { IfOk result (IsRead (map S.text words.now)) }
+    ensures err { IfErr result (IsRefused (map S.text words.now)) }
+{
+    let line = command_line(alloc)?;
+    match line.try_get_matches_from(words) {
+        Ok(matches) => Ok(command_met(&matches)),
+        Err(error) => Err(refusal(alloc, &error)),
+    }
+}
+
+// What `clap` says of words that it refuses.
+fn refusal(alloc: Global, error: &Error) -> Failure<CliFault>
+    ensures { IsTold (kind_of error.now) result }
+{
+    let kind = error.kind();
+    if kind == ErrorKind::OutOfMemory {
+        return Failure::OutOfMemory;
+    }
+    match error.to_string(alloc) {
+        Ok(text) => Failure::Fault(CliFault { kind, text }),
+        Err(_) => Failure::OutOfMemory,
+    }
+}

@@ -1,0 +1,212 @@
+//! What a message asks: the tests of a whole message, in their order.
+ghost use Rattle.std.specs.Prelude.{◌≡◌, [], IfOk};
+ghost use Rattle.room_ace.specs.Gives.{Gives};
+ghost use Rattle.http_message.specs.Asked.{asked_by, asked_mask, asked_of, asked_on, list_in};
+ghost use Rattle.http_message.specs.Asked.{mask_in, method_of, request_in, request_of, target_path};
+ghost use Rattle.http_message.specs.declared.word.Action.{Action};
+
+use crate::body::{owners_in, path_under};
+use crate::fault::HttpFault;
+use crate::fields::caller_of;
+use crate::head::{Field, Head};
+use crate::routes::Routes;
+use crate::target::{named_path, parts_of};
+use crate::word::{Action, Verb, Word, verb_of};
+use room_ace::{Failure, Mask, Name, SentList, Which, read_list, read_mask};
+use room_machine::Request;
+use room_rows::{Bytes, Path, read_path};
+use std::alloc::{AllocError, Global};
+
+/// Who asks, who is anonymous without a name, and what; or the first test of a whole message that
+/// fails.
+#[tactic(auto, unfolding(crate::specs::Asked::request_of))]
+pub fn request_of(
+    alloc: Global,
+    routes: &Routes,
+    head: &Head,
+    body: &[u8],
+) -> Result<(Option<Name>, Request), Failure<HttpFault>>
+    ensures { Gives result (request_of head.now body.now) }
+{
+    let verb = method_of(head.method.as_slice())?;
+    match parts_of(head.target.as_slice()) {
+        None => Err(Failure::Fault(HttpFault::BadTarget)),
+        Some(parts) => asked_by(alloc, routes, verb, parts, head.fields.as_slice(), body),
+    }
+}
+
+// The method, if some word has it.
+fn method_of(method: &[u8]) -> Result<Verb, Failure<HttpFault>>
+    ensures { Gives result (method_of method.now) }
+{
+    match verb_of(method) {
+        None => Err(Failure::Fault(HttpFault::UnknownMethod)),
+        Some(verb) => Ok(verb),
+    }
+}
+
+// The caller and the request, for a method, and a target's path and query.
+fn asked_by(
+    alloc: Global,
+    routes: &Routes,
+    verb: Verb,
+    parts: (&str, &str),
+    fields: &[Field],
+    body: &[u8],
+) -> Result<(Option<Name>, Request), Failure<HttpFault>>
+    ensures { Gives result
+        (asked_by verb parts.entry.0.now parts.entry.1.now fields.now body.now) }
+{
+    let (word, action) = asked_of(routes, verb, parts.0)?;
+    let names = target_path(alloc, word, parts.0)?;
+    let mask = asked_mask(action, parts.1)?;
+    asked_on(alloc, action, names, mask, fields, body)
+}
+
+// The word of the route, and what it asks by the method.
+fn asked_of(routes: &Routes, verb: Verb, path: &str) -> Result<(Word, Action), Failure<HttpFault>>
+    ensures { Gives result (asked_of verb path.now) }
+{
+    match routes.word_of(path) {
+        None => Err(Failure::Fault(HttpFault::NoRoute)),
+        Some(word) => match word.action(verb) {
+            None => Err(Failure::Fault(HttpFault::OtherMethod(word))),
+            Some(action) => Ok((word, action)),
+        },
+    }
+}
+
+// The path that the target names.
+fn target_path(alloc: Global, word: Word, path: &str) -> Result<Path, Failure<HttpFault>>
+    ensures { Gives result (target_path word path.now) }
+{
+    let bytes = named_path(alloc, word, path)?;
+    match read_path(alloc, bytes.as_slice()) {
+        Ok(path) => Ok(path),
+        Err(Failure::OutOfMemory) => Err(Failure::OutOfMemory),
+        Err(Failure::Fault(fault)) => Err(Failure::Fault(HttpFault::BadPath(fault))),
+    }
+}
+
+// The mask of the query, where one is asked.
+fn asked_mask(action: Action, query: &str) -> Result<Mask, Failure<HttpFault>>
+    ensures { Gives result (asked_mask action query.now) }
+{
+    match action {
+        Action::Can => mask_in(query),
+        Action::Read | Action::List | Action::Write | Action::Append => Ok(Mask::empty()),
+        Action::MakeFolder | Action::Remove | Action::Move => Ok(Mask::empty()),
+        Action::ReadList(_) | Action::SetList(_) => Ok(Mask::empty()),
+        Action::ReadAttr | Action::SetOwners => Ok(Mask::empty()),
+    }
+}
+
+// The mask of these letters.
+fn mask_in(query: &str) -> Result<Mask, Failure<HttpFault>>
+    ensures { Gives result (mask_in query.now) }
+{
+    match read_mask(query) {
+        Ok(mask) => Ok(mask),
+        Err(_) => Err(Failure::Fault(HttpFault::BadMask)),
+    }
+}
+
+// The caller and the request, on a path and with a mask.
+fn asked_on(
+    alloc: Global,
+    action: Action,
+    path: Path,
+    mask: Mask,
+    fields: &[Field],
+    body: &[u8],
+) -> Result<(Option<Name>, Request), Failure<HttpFault>>
+    ensures { Gives result (asked_on action path mask fields.now body.now) }
+{
+    let caller = caller_of(alloc, fields)?;
+    let request = request_in(alloc, action, path, mask, body)?;
+    Ok((caller, request))
+}
+
+// The request of an action, on a path, with a mask and a body.
+fn request_in(
+    alloc: Global,
+    action: Action,
+    path: Path,
+    mask: Mask,
+    body: &[u8],
+) -> Result<Request, Failure<HttpFault>>
+    ensures { Gives result (request_in action path mask body.now) }
+{
+    match action {
+        Action::Read => Ok(Request::Read(path)),
+        Action::List => Ok(Request::List(path)),
+        Action::Write => put_in(alloc, path, body),
+        Action::Append => append_in(alloc, path, body),
+        Action::MakeFolder => Ok(Request::MakeFolder(path)),
+        Action::Remove => Ok(Request::Remove(path)),
+        Action::Move => move_in(alloc, path, body),
+        Action::ReadList(which) => Ok(Request::ReadList(path, which)),
+        Action::SetList(which) => set_list_in(alloc, path, which, body),
+        Action::ReadAttr => Ok(Request::ReadAttr(path)),
+        Action::SetOwners => set_owners_in(alloc, path, body),
+        Action::Can => Ok(Request::Can(path, mask)),
+    }
+}
+
+fn put_in(alloc: Global, path: Path, body: &[u8]) -> Result<Request, Failure<HttpFault>>
+    ensures { Gives result (request_in Action.Write path [] body.now) }
+{
+    let bytes = copied(alloc, body)?;
+    Ok(Request::Put(path, bytes))
+}
+
+fn append_in(alloc: Global, path: Path, body: &[u8]) -> Result<Request, Failure<HttpFault>>
+    ensures { Gives result (request_in Action.Append path [] body.now) }
+{
+    let bytes = copied(alloc, body)?;
+    Ok(Request::Append(path, bytes))
+}
+
+fn move_in(alloc: Global, path: Path, body: &[u8]) -> Result<Request, Failure<HttpFault>>
+    ensures { Gives result (request_in Action.Move path [] body.now) }
+{
+    let to = path_under(alloc, "to", body)?;
+    Ok(Request::Move(path, to))
+}
+
+fn set_list_in(
+    alloc: Global,
+    path: Path,
+    which: Which,
+    body: &[u8],
+) -> Result<Request, Failure<HttpFault>>
+    ensures { Gives result (request_in (Action.SetList which) path [] body.now) }
+{
+    let list = list_in(alloc, body)?;
+    Ok(Request::SetList(path, which, list))
+}
+
+fn set_owners_in(alloc: Global, path: Path, body: &[u8]) -> Result<Request, Failure<HttpFault>>
+    ensures { Gives result (request_in Action.SetOwners path [] body.now) }
+{
+    let owners = owners_in(alloc, body)?;
+    Ok(Request::SetOwners(path, owners))
+}
+
+// The bytes of a body.
+fn copied(alloc: Global, body: &[u8]) -> Result<Bytes, AllocError>
+    ensures { IfOk result (λ bytes. bytes ≡ body.now) }
+{
+    Ok(Bytes::from_vec(Vec::from_slice(alloc, body)?))
+}
+
+// The list of a list text.
+fn list_in(alloc: Global, body: &[u8]) -> Result<SentList, Failure<HttpFault>>
+    ensures { Gives result (list_in body.now) }
+{
+    match read_list(alloc, body) {
+        Ok(list) => Ok(list),
+        Err(Failure::OutOfMemory) => Err(Failure::OutOfMemory),
+        Err(Failure::Fault(fault)) => Err(Failure::Fault(HttpFault::BadList(fault))),
+    }
+}

@@ -1,0 +1,168 @@
+-- Connections one after another, as what a desk did.
+use Rattle.std.proofs.Common.{◌≡◌, ℕ, ℤ, ◌+◌, ◌≤◌, ◌<◌, All, List, [], ◌∷◌, ◌++◌, length, map, Option, Result, Err, Ok, subst, sym, ap, refl, inl, inr, ◌∙◌, arith, append_assoc}
+use Rattle.std.proofs.lemmas.Grind.{flat_map-append}
+use Rattle.std.proofs.lemmas.List.{append-nil, length-append, map-append}
+use Rattle.std.proofs.lemmas.List.Elements.{All-append, All-nil, All-from_recursion, All-weaker}
+use Rattle.room_rows.specs.Content.{Content}
+use Rattle.room_machine.specs.declared.desk.Desk.{Ghosts}
+use Rattle.room_machine.specs.Run.{Event, Run}
+use Rattle.room_http.specs.Serve.{Connects, IsNext, Next, next_exchange}
+use Rattle.room_http.specs.Stream.{Exchange, IsExchange, IsOpen, Runs}
+use Rattle.http_serve.specs.Visits.{Attends, IsEnd, IsVisit, Receives, Served, Visit, moment_of, requests_of, visit_events}
+use Rattle.http_serve.specs.declared.fault.ServingFault.{ServingFault}
+
+-- two runs that meet are one run
+run_then : (old mid new : Content) (events others : List Event)
+    → Run old events mid → Run mid others new → Run old (events ++ others) new
+run_then old mid new [] others first then =
+    subst (λ (start : Content). Run start others new) first then
+run_then old mid new (event ∷ events) others first then =
+    (first.0, first.1, run_then first.0 mid new events others first.2 then)
+
+runs_then : (old mid new : Content → Type 0) (events others : List Event)
+    → Runs old events mid → Runs mid others new → Runs old (events ++ others) new
+runs_then old mid new events others first then room is =
+    let a = first room is in
+    let b = then a.0 a.2 in
+    (b.0, run_then room a.0 b.0 events others a.1 b.1, b.2)
+
+-- what comes next is an exchange at most, and is one
+next_each : (left : List ℕ) (n : ℕ) (next : Next) → IsNext left n next → All IsExchange (next_exchange next)
+next_each left n Next.Unknown is = All-nil IsExchange
+next_each left n (Next.Exchanging x close) is = All-from_recursion IsExchange (x ∷ []) (is.0, tt)
+next_each left n (Next.Refusing refusal) is = All-nil IsExchange
+next_each left n (Next.Failing m) is = All-nil IsExchange
+
+next_few : (next : Next) → length (next_exchange next) ≤ 1
+next_few Next.Unknown = omega arith
+next_few (Next.Exchanging x close) = omega arith
+next_few (Next.Refusing refusal) = omega arith
+next_few (Next.Failing m) = omega arith
+
+exchange_is : (x : Exchange) → IsOpen x → IsExchange x
+exchange_is x given = given.is
+
+-- an end before anything came
+ends_fewer : (count less : ℕ) (end : Result (Unit {0}) ServingFault) → IsEnd less end 0 → IsEnd count end 0
+ends_fewer count less (Ok done) is = tt
+ends_fewer count less (Err ServingFault.Memory) is = refl
+ends_fewer count less (Err ServingFault.File) is = tt
+ends_fewer count less (Err ServingFault.Net) is = inr refl
+
+-- the listener failed before the last was received
+ends_missing : (count visits : ℕ) (fault : ServingFault) → fault ≡ ServingFault.Net → visits < count
+    → IsEnd count (Err fault) visits
+ends_missing count visits fault is lt =
+    subst (λ (f : ServingFault). IsEnd count (Err f) visits) (sym is) (inl lt)
+
+module _ {D : Type 0} (d : Ghosts D) where
+  -- nobody came
+  pub nobody : (count : ℕ) (told : List ℤ → Type 0) (desk : D) → Receives d count told told desk desk
+  nobody count told desk = record {
+    trusted = λ t. t;
+    sound = λ t s. s;
+    visits = [];
+    few = omega arith;
+    each = All-nil IsVisit;
+    moments = λ before is. subst told (sym (append-nil before)) is;
+    run = λ t s room is. (room, refl, is);
+  }
+
+  -- more might have come
+  pub fewer : (less count : ℕ) (told told' : List ℤ → Type 0) (old new : D) → less ≤ count
+      → Receives d less told told' old new → Receives d count told told' old new
+  fewer less count told told' old new h given = record {
+    trusted = given.trusted;
+    sound = given.sound;
+    visits = given.visits;
+    few = let few = given.few in omega arith;
+    each = given.each;
+    moments = given.moments;
+    run = given.run;
+  }
+
+  -- some came, and then others
+  pub others : (some more : ℕ) (told told' told'' : List ℤ → Type 0) (old mid new : D)
+      → Receives d some told told' old mid → Receives d more told' told'' mid new
+      → Receives d (some + more) told told'' old new
+  others some more told told' told'' old mid new first then = record {
+    trusted = λ t. first.trusted (then.trusted t);
+    sound = λ t s. then.sound t (first.sound (then.trusted t) s);
+    visits = first.visits ++ then.visits;
+    few = let a = first.few in let b = then.few in
+        omega (arith, length-append first.visits then.visits);
+    each = All-append IsVisit first.visits then.visits first.each then.each;
+    moments = λ before is.
+        let one = map moment_of first.visits in
+        let two = map moment_of then.visits in
+        let all : (before ++ one) ++ two ≡ before ++ map moment_of (first.visits ++ then.visits) =
+        append_assoc before one two ∙ ap (λ t. before ++ t) (sym (map-append moment_of first.visits then.visits)) in
+        subst told'' all (then.moments (before ++ one) (first.moments before is));
+    run = λ t s.
+        subst (λ (events : List Event). Runs (d.content old) events (d.content new))
+        (sym (flat_map-append visit_events first.visits then.visits))
+        (runs_then (d.content old) (d.content mid) (d.content new) (requests_of first.visits)
+        (requests_of then.visits) (first.run (then.trusted t) s)
+        (then.run t (first.sound (then.trusted t) s)));
+  }
+
+  -- nobody came, and the service ended so
+  pub unserved : (count : ℕ) (told : List ℤ → Type 0) (desk : D) (fault : ServingFault) → IsEnd 0 (Err fault) 0
+      → Served d count told told desk desk (Err fault)
+  unfolding nobody
+  unserved count told desk fault is = (nobody count told desk, ends_fewer count 0 (Err fault) is)
+
+  -- the listener failed before all came
+  pub missing : (number count : ℕ) (told told' told'' : List ℤ → Type 0) (old mid new : D) (fault : ServingFault) → number < count
+      → Receives d number told told' old mid → (fault ≡ ServingFault.Net) × Receives d 0 told' told'' mid new
+      → Served d count told told'' old new (Err fault)
+  unfolding fewer
+  missing number count told told' told'' old mid new fault more first end =
+      let all = others number 0 told told' told'' old mid new first end.1 in
+      let few = all.few in (
+        fewer (number + 0) count told told'' old new (omega (arith, more)) all,
+        ends_missing count (length all.visits) fault end.0 (omega (arith, few, more)),
+      )
+
+  -- one connection was served
+  pub attends : {z : ℤ} {left sent left_then sent_then : Option (List ℕ)} (at : ℤ) (old new : D)
+      → z ≡ at → (d.trusted new → d.trusted old) → (d.trusted new → d.sound old → d.sound new)
+      → Connects (d.trusted new × d.sound old) z
+      (record { left = left; sent = sent; content = d.content old; faults = d.faults old })
+      (record { left = left_then; sent = sent_then; content = d.content new; faults = d.faults new })
+      → Attends d at old new
+  attends {z} at old new same trusted sound connects =
+      let next = next_exchange connects.next in
+      let all = connects.exchanges ++ next in
+      let visit : Visit = record { at = z; exchanges = all } in
+      record {
+        trusted = trusted;
+        sound = sound;
+        visit = visit;
+        moment = same;
+        is = record {
+          each = All-append IsExchange connects.exchanges next
+              (All-weaker IsOpen IsExchange exchange_is connects.exchanges connects.opens.each)
+              (next_each connects.rest (length connects.exchanges) connects.next connects.is_next);
+          few = let few = connects.few in let one = next_few connects.next in
+              omega (arith, length-append connects.exchanges next, few, one);
+        };
+        run = λ t s. connects.run (t, s);
+      }
+
+  -- and the clock told its moment
+  pub one : (at : ℤ) (told told' : List ℤ → Type 0) (old new : D)
+      → ((before : List ℤ) → told before → told' (before ++ at ∷ []))
+      → Attends d at old new → Receives d 1 told told' old new
+  one at told told' old new tells a = record {
+    trusted = a.trusted;
+    sound = a.sound;
+    visits = a.visit ∷ [];
+    few = omega arith;
+    each = All-from_recursion IsVisit (a.visit ∷ []) (a.is, tt);
+    moments = λ before is.
+        subst (λ (z : ℤ). told' (before ++ z ∷ [])) (sym a.moment) (tells before is);
+    run = λ t s.
+        subst (λ (events : List Event). Runs (d.content old) events (d.content new))
+        (sym (append-nil (visit_events a.visit))) (a.run t s);
+  }

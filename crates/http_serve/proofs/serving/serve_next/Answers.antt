@@ -1,0 +1,14 @@
+use Rattle.std.proofs.Common.{subst, rules, w64, ℤ, SFits}
+use Rattle.std.proofs.lemmas.Int.{to_z-of_z}
+use Rattle.http_serve.specs.Visits.{Attends}
+use Rattle.http_serve.proofs.Receiving.{one}
+use Rattle.http_serve.proofs.serving.serve_next.Goals as goal
+
+pub returns-in-Ok-Some-clause-received : goal.returns-in-Ok-Some-clause-received
+returns-in-Ok-Some-clause-received g c =
+    let at = c.next.result in
+    let old = c.args.desk.now in
+    let new = c.serve_stream.new.desk in
+    let fits : SFits w64 at = search rules in
+    let attends = subst (λ (z : ℤ). Attends g.D.Desk z old new) (to_z-of_z w64 at fits) c.serve_stream.ensures in
+    one g.D.Desk at _ _ old new c.next.ensures attends

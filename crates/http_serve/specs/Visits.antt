@@ -1,0 +1,69 @@
+-- What the connections of a listener do at a desk (own).
+use Rattle.std.specs.Prelude.{◌≡◌, ℕ, ℤ, ◌≤◌, ◌<◌, ◌⊎◌, All, List, ◌++◌, length, map, Result, Ok}
+use Rattle.std.specs.Prelude.{Err, ⊤}
+use Rattle.std.specs.List.{flat_map}
+use Rattle.room_machine.specs.declared.desk.Desk.{Ghosts}
+use Rattle.room_machine.specs.Run.{Event}
+use Rattle.room_http.specs.Limits.{max_messages}
+use Rattle.room_http.specs.Stream.{Exchange, IsExchange, event_of, Runs}
+use Rattle.http_serve.specs.declared.fault.ServingFault.{ServingFault}
+
+-- a connection, as far as the desk is asked: its moment, and its messages with their replies
+pub record Visit : Type 0 where
+  pub at : ℤ
+  pub exchanges : List Exchange
+
+-- these are messages, and the desk is asked exactly where no test refuses one
+pub record IsVisit (visit : Visit) : Type 0 where
+  pub each : All IsExchange visit.exchanges
+  pub few : length visit.exchanges ≤ max_messages
+
+-- its requests, each of its caller at that moment
+abbrev pub visit_events : Visit → List Event
+visit_events visit = flat_map (event_of visit.at) visit.exchanges
+
+-- those of one connection after another
+abbrev pub requests_of : List Visit → List Event
+requests_of visits = flat_map visit_events visits
+
+abbrev pub moment_of : Visit → ℤ
+moment_of visit = visit.at
+
+-- At this moment a desk was visited once.
+pub record Attends {D : Type 0} (d : Ghosts D) (at : ℤ) (old new : D) : Type 0 where
+  pub trusted : d.trusted new → d.trusted old
+  pub sound : d.trusted new → d.sound old → d.sound new
+  pub visit : Visit
+  pub moment : visit.at ≡ at
+  pub is : IsVisit visit
+  pub run : d.trusted new → d.sound old
+      → Runs (d.content old) (visit_events visit) (d.content new)
+
+-- From one moment of a desk to a later one, what it did is a run over the requests of at most
+-- `count` connections, one after another. It is said of a desk that was sound before, and is
+-- trusted then. The moments of the connections are what a clock gave meanwhile, one reading for
+-- each, in order: what it may have given before is `told`, and what it may have given then `told'`.
+pub record Receives {D : Type 0} (d : Ghosts D) (count : ℕ) (told told' : List ℤ → Type 0)
+    (old new : D) : Type 0 where
+  pub trusted : d.trusted new → d.trusted old
+  pub sound : d.trusted new → d.sound old → d.sound new
+  pub visits : List Visit
+  pub few : length visits ≤ count
+  pub each : All IsVisit visits
+  pub moments : (before : List ℤ) → told before → told' (before ++ map moment_of visits)
+  pub run : d.trusted new → d.sound old
+      → Runs (d.content old) (requests_of visits) (d.content new)
+
+-- what an end says of the number of visits: out of memory there was none, and where the listener
+-- failed a connection is missing
+abbrev pub IsEnd : ℕ → Result (Unit {0}) ServingFault → ℕ → Type 0
+IsEnd count (Ok done) visits = ⊤
+IsEnd count (Err ServingFault.Memory) visits = visits ≡ 0
+IsEnd count (Err ServingFault.File) visits = ⊤
+IsEnd count (Err ServingFault.Net) visits = (visits < count) ⊎ (visits ≡ 0)
+
+-- at most `count` connections were received, and what the end says of them holds
+abbrev pub Served : {D : Type 0} → Ghosts D → ℕ → (List ℤ → Type 0) → (List ℤ → Type 0) → D → D
+    → Result (Unit {0}) ServingFault → Type 0
+Served d count told told' old new end =
+    (r : Receives d count told told' old new) × IsEnd count end (length r.visits)

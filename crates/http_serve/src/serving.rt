@@ -1,0 +1,136 @@
+//! Connections one after another.
+ghost use Rattle.std.specs.Prelude.{◌≡◌, ◌⊎◌, ℕ, Err, IfErr, OnOk};
+ghost use Rattle.std.specs.Io.KnownBytes.{Appends};
+ghost use Rattle.http_serve.specs.Lines.{listening_line};
+ghost use Rattle.http_serve.specs.Visits.{Attends, IsEnd, Receives, Served};
+
+use crate::accepting::accepted;
+use crate::fault::ServingFault;
+use crate::moment::Moments;
+use crate::telling::{tell_fault, tell_port};
+use http_message::Routes;
+use room_http::{Cause, serve};
+use room_machine::Desk;
+use std::alloc::Global;
+use std::io::Write;
+use std::net::{TcpListener, TcpStream};
+
+/// Serves `count` connections of the listener, one after another. First it prints on `out` on which
+/// port it listens. The clock is read once for each connection, when it is accepted: this is the
+/// moment of its requests. A fault of a connection is printed on `err`, and the next one is served;
+/// one that is lost before it is accepted counts as one whose reading failed.
+pub fn serve_on<D: Desk, M: Moments, O: Write, E: Write>(
+    alloc: Global,
+    desk: &mut D,
+    clock: &mut M,
+    listener: &TcpListener,
+    count: u32,
+    out: &mut O,
+    err: &mut E,
+) -> Result<(), ServingFault>
+    ensures received { Served D.Desk count (M.told clock.old) (M.told clock.new)
+        desk.old desk.new result }
+    ensures told { OnOk result ((port : ℕ)
+        × Appends (O.contents out.old) (O.contents out.new) (listening_line port)) }
+    ensures first { (desk.new ≡ desk.old) ⊎ ((port : ℕ)
+        × Appends (O.contents out.old) (O.contents out.new) (listening_line port)) }
+{
+    let Ok(routes) = Routes::new(alloc) else {
+        return Err(ServingFault::Memory);
+    };
+    match announce(listener, out) {
+        Ok(()) => serve_each(alloc, &routes, desk, clock, listener, count, err),
+        Err(fault) => Err(fault),
+    }
+}
+
+// Prints where it listens.
+fn announce<O: Write>(listener: &TcpListener, out: &mut O) -> Result<(), ServingFault>
+    ensures told { OnOk result ((port : ℕ)
+        × Appends (O.contents out.old) (O.contents out.new) (listening_line port)) }
+    ensures fault { IfErr result (λ fault. IsEnd 0 (Err fault) 0) }
+{
+    let Ok(address) = listener.local_addr() else {
+        return Err(ServingFault::Net);
+    };
+    match tell_port(out, address.port()) {
+        Ok(()) => Ok(()),
+        Err(_) => Err(ServingFault::File),
+    }
+}
+
+// Serves `count` connections, and prints the fault of each that has one. That one couldn't be
+// printed is answered once all are served.
+fn serve_each<D: Desk, M: Moments, E: Write>(
+    alloc: Global,
+    routes: &Routes,
+    desk: &mut D,
+    clock: &mut M,
+    listener: &TcpListener,
+    count: u32,
+    err: &mut E,
+) -> Result<(), ServingFault>
+    ensures { Served D.Desk count (M.told clock.old) (M.told clock.new) desk.old desk.new result }
+{
+    let mut told = true;
+    'connections: for number in 0..count {
+        let lost = match serve_next(alloc, routes, desk, clock, listener) {
+            Ok(lost) => lost,
+            Err(fault) => return Err(fault),
+        };
+        if !is_told(err, number, lost) {
+            told = false;
+        }
+    }
+    if told {
+        Ok(())
+    } else {
+        Err(ServingFault::File)
+    }
+}
+
+// Whether the fault of the connection after `before` others was printed, if it had one.
+fn is_told<E: Write>(err: &mut E, before: u32, lost: Option<Cause>) -> bool {
+    match lost {
+        Some(cause) => tell_fault(err, u64::from(before) + 1, cause).is_ok(),
+        None => true,
+    }
+}
+
+// Accepts and serves one connection, and answers what fault ended it, if one did.
+fn serve_next<D: Desk, M: Moments>(
+    alloc: Global,
+    routes: &Routes,
+    desk: &mut D,
+    clock: &mut M,
+    listener: &TcpListener,
+) -> Result<Option<Cause>, ServingFault>
+    ensures received { Receives D.Desk 1 (M.told clock.old) (M.told clock.new)
+        desk.old desk.new }
+    ensures fault { IfErr result (λ fault. (fault ≡ ServingFault.Net)
+        × Receives D.Desk 0 (M.told clock.old) (M.told clock.new) desk.old desk.new) }
+{
+    match accepted(listener) {
+        Ok(Some(stream)) => Ok(serve_stream(alloc, routes, desk, clock.next(), &stream)),
+        Ok(None) => Ok(Some(Cause::Read)),
+        Err(fault) => Err(fault),
+    }
+}
+
+// Serves one connection, and answers what fault ended it, if one did.
+fn serve_stream<D: Desk>(
+    alloc: Global,
+    routes: &Routes,
+    desk: &mut D,
+    at: i64,
+    stream: &TcpStream,
+) -> Option<Cause>
+    ensures { Attends D.Desk at desk.old desk.new }
+{
+    let mut reader = stream;
+    let mut writer = stream;
+    match serve(alloc, routes, desk, at, &mut reader, &mut writer) {
+        Ok(_) => None,
+        Err(fault) => Some(fault.cause),
+    }
+}

@@ -1,8 +1,0 @@
-use Rattle.std.proofs.Common.{Ok, Err, refl, sym}
-use Rattle.room_acting.proofs.doing.raise.Goals as goal
-
-pub returns-in-Ok : goal.returns-in-Ok
-returns-in-Ok g c = record { result = Ok tt; migrates = rw c.into_conn.ensures c.in-Ok.ensures.raised; told = refl }
-
-pub returns-in-Err : goal.returns-in-Err
-returns-in-Err g c = record { result = Err c.in-Err.fault; migrates = c.in-Err.ensures.back; told = c.not_raised.ensures }

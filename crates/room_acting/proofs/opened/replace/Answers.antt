@@ -1,7 +1,0 @@
-use Rattle.std.proofs.Common.{Err, refl}
-use Rattle.room_store.specs.declared.fault.StoreFault.TheVariants.{Memory}
-use Rattle.room_acting.proofs.Unrun.{still, unrun}
-use Rattle.room_acting.proofs.opened.replace.Goals as goal
-
-pub returns-in-Err : goal.returns-in-Err
-returns-in-Err g c = record { result = Err Memory; ran = unrun _ _ _; leads = still _; told = refl }

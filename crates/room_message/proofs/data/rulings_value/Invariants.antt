@@ -1,9 +1,0 @@
-use Rattle.std.proofs.Common.{◌≡◌, drop}
-use Rattle.serde_json.specs.Data.{no_members}
-use Rattle.serde_json.specs.View.{members_view}
-use Rattle.room_message.specs.Bodies.{with_rulings}
-use Rattle.room_message.proofs.data.rulings_value.Given as goal
-
-abbrev pub invariant-loop-mask : goal.invariant-loop-mask
-invariant-loop-mask l =
-    with_rulings (members_view l.members.entries) (drop l.mask-index l.rulings) ≡ with_rulings no_members l.rulings

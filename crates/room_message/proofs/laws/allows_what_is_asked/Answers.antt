@@ -1,5 +1,0 @@
-use Rattle.room_message.proofs.Tables.{allows}
-use Rattle.room_message.proofs.laws.allows_what_is_asked.Goals as goal
-
-pub returns : goal.returns
-returns c = allows

@@ -1,6 +1,0 @@
-use Rattle.std.proofs.Common.{◌≡◌, drop}
-use Rattle.room_message.specs.Routes.{with_words}
-use Rattle.room_message.proofs.routes.add_words.Given as goal
-
-abbrev pub invariant-words : goal.invariant-words
-invariant-words l = with_words l.initial.router l.words ≡ with_words l.router (drop l.word-index l.words)

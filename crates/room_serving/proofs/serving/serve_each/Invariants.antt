@@ -1,6 +1,0 @@
-use Rattle.room_serving.specs.Visits.{Receives}
-use Rattle.room_serving.proofs.serving.serve_each.Given as goal
-
-abbrev pub invariant-connections : goal.invariant-connections
-invariant-connections g l =
-    Receives g.D.Desk l.number (g.M.Moments.told l.fn.clock) (g.M.Moments.told l.clock) l.fn.desk l.desk

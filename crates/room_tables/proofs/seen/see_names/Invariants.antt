@@ -1,7 +1,0 @@
-use Rattle.std.proofs.Common.{◌≡◌, ◌++◌, drop}
-use Rattle.room_tables.specs.Seeing.{names_seen}
-use Rattle.room_tables.proofs.seen.see_names.Given as goal
-
--- the names so far and those of the rows that are left are all
-abbrev pub invariant-loop-row : goal.invariant-loop-row
-invariant-loop-row l = l.names ++ names_seen (drop l.row-index l.rows) ≡ names_seen l.fn.rows

@@ -1,0 +1,29 @@
+-- What a look over any keeper at all objects is in the words of a transaction.
+use Rattle.std.proofs.Common.{◌≡◌, ℕ, Result, Ok, Err, IfOk, IfErr, String, string_bytes, subst}
+use Rattle.std.specs.Global.{Global}
+use Rattle.sqlite.specs.State.{State}
+use Rattle.room_rows.specs.declared.keep.KeepFault.{KeepFault}
+use Rattle.room_rows.specs.Keep.{HasCause, IfSeen, IsDamaged}
+use Rattle.room_dump.specs.Dump.{objects_text}
+use Rattle.store_tables.specs.Meaning.{rows_of}
+use Rattle.store_tables.specs.Shown.{Stays}
+use Rattle.store_tables.specs.Trust.{IsTrusted}
+use Rattle.store_admin.specs.Carries.{Carries}
+use Rattle.store_admin.specs.Dump.{HasDamagedRow, TellsObjects}
+
+-- the text of all objects, by the keeper
+pub told_objects : (begun mid : State) (result : Result (String Global) KeepFault) (before after : ℕ) → Stays begun mid
+    → (IsTrusted begun mid → IfSeen result (rows_of mid.now ≡ rows_of begun.now))
+    → (IsTrusted begun mid → IfOk result (λ text. string_bytes text ≡ objects_text (rows_of begun.now)))
+    → IfErr result (HasCause before after (λ at. IsTrusted begun mid → IsDamaged (rows_of begun.now) at))
+    → Carries begun mid result HasDamagedRow TellsObjects
+told_objects begun mid (Ok text) before after stays same answers fault = record {
+  stays = stays;
+  becomes = λ trust. (answers trust, same trust);
+  blames = λ trust id is. absurd (let e = is in cc);
+}
+told_objects begun mid (Err why) before after stays same answers fault = record {
+  stays = stays;
+  becomes = λ trust. tt;
+  blames = λ trust id is. (id, subst (λ (r : Result (String Global) KeepFault). IfErr r (HasCause before after (λ at. IsTrusted begun mid → IsDamaged (rows_of begun.now) at))) is fault trust);
+}

@@ -1,0 +1,53 @@
+-- One part of the exchange of pairs after another.
+use Rattle.std.proofs.Common.{ℕ, List, [], Result, Ok, Err, ap, ◌∙◌, IsPermutation}
+use Rattle.sqlite.specs.State.{State}
+use Rattle.room_rows.specs.declared.keep.KeepFault.{KeepFault}
+use Rattle.store_tables.specs.Meaning.{pairs_of}
+use Rattle.store_tables.specs.Paired.{Pair}
+use Rattle.store_tables.specs.Statements.{OfAny, Writes}
+use Rattle.store_tables.specs.Trust.{stays_on, trusted_first, trusted_last}
+use Rattle.store_admin.specs.Carries.{Carries, NoTables}
+use Rattle.store_admin.specs.Operating.{Exchanges, ExchangesMembers, Gathers}
+use Rattle.store_admin.proofs.Gathering.{replaced}
+
+pub gathered : (a b c : State) (before mid after : List Pair) (r : Result (Unit {0}) KeepFault)
+    → Carries {X = Unit {0}} a b (Ok tt) NoTables (Gathers before mid)
+    → Carries b c r NoTables (Gathers mid after) → Carries a c r NoTables (Gathers before after)
+gathered a b c before mid after (Ok done) p q = record {
+  stays = stays_on a b c p.stays q.stays;
+  becomes = λ trust held.
+      let one = p.becomes (trusted_first a b c p.stays q.stays trust) held in
+      let two = q.becomes (trusted_last a b c p.stays q.stays trust) one.members in
+      record {
+        nodes = two.nodes ∙ one.nodes;
+        bodies = two.bodies ∙ one.bodies;
+        members = two.members;
+        only = λ all. two.only (one.only all);
+        audits = two.audits ∙ one.audits;
+      };
+  blames = λ trust id is. absurd (let e = is in cc);
+}
+gathered a b c before mid after (Err fault) p q = record {
+  stays = stays_on a b c p.stays q.stays;
+  becomes = λ _. tt;
+  blames = λ trust id is. q.blames (trusted_last a b c p.stays q.stays trust) id is;
+}
+
+pub exchanged : (pairs order : List Pair) (a b c : State) (count : ℕ)
+    (r : Result (Unit {0}) KeepFault) → IsPermutation pairs order
+    → Writes (OfAny (Exchanges [])) a b (Ok count) → Carries b c r NoTables (Gathers [] order)
+    → Carries a c r NoTables (ExchangesMembers pairs)
+exchanged pairs order a b c count (Ok done) moved w q = record {
+  stays = stays_on a b c w.stays q.stays;
+  becomes = λ trust.
+      let first = trusted_first a b c w.stays q.stays trust in
+      let gone = w.leaves first.clean first.now in
+      let held = q.becomes (trusted_last a b c w.stays q.stays trust) (ap pairs_of gone.members) in
+      replaced pairs order a.now b.now c.now moved gone held;
+  blames = λ trust id is. absurd (let e = is in cc);
+}
+exchanged pairs order a b c count (Err fault) moved w q = record {
+  stays = stays_on a b c w.stays q.stays;
+  becomes = λ _. tt;
+  blames = λ trust id is. q.blames (trusted_last a b c w.stays q.stays trust) id is;
+}

@@ -1,0 +1,102 @@
+-- What the query of all records shows, and what it is read as.
+use Rattle.std.proofs.Common.{◌≡◌, ◌&&◌, ℕ, negsuc, List, [], ◌∷◌, map, filter, codes, Bool, Option}
+use Rattle.std.proofs.Common.{Some, None, Vec, Global, refl, sym, ap, subst, ◌∙◌, true, false, Less}
+use Rattle.std.specs.Prelude.{MatchOption, is_some}
+use Rattle.std.specs.List.{cons_option, filter_map, list_all}
+use Rattle.sqlite.specs.declared.types.Value.TheVariants.{Null, Int}
+use Rattle.sqlite.specs.Effect.{Database}
+use Rattle.sqlite.specs.Listing.{understood, reads_listing}
+use Rattle.sqlite.specs.Order.{Row, value_cmp}
+use Rattle.sqlite.specs.Program.{overlay}
+use Rattle.sqlite.specs.Query.{Query}
+use Rattle.sqlite.specs.State.{State, Shown}
+use Rattle.sqlite.specs.Term.{Term, col, lit}
+use Rattle.sqlite.specs.Tree.{rowid}
+use Rattle.sqlite.proofs.Callers.{IsPlain, command_of, reads_as}
+use Rattle.sqlite_tied.specs.Compute.{everything}
+use Rattle.sqlite_keyed.proofs.ListLemmas.{ascending-filter}
+use Rattle.room_rows.specs.declared.node.AuditRow.{AuditRow}
+use Rattle.store_tables.specs.Meaning.{audit_in}
+use Rattle.store_tables.specs.Shown.{IsRoom}
+use Rattle.store_tables.specs.Tables.{room_schema}
+use Rattle.store_tables.proofs.Answers.{passes}
+use Rattle.store_tables.proofs.Ordered.{as_stored}
+use Rattle.store_tables.proofs.Texts.{ascending_by, query_of, selects}
+use Rattle.store_admin.specs.Operating.{AreRecords, HasRecords, HasUnreadRecord, record_seen}
+use Rattle.store_admin.specs.Operating.{shown_record}
+
+abbrev pub records_text : List ℕ
+records_text = codes "SELECT at, user, path, bits, granted, entry FROM audits ORDER BY seq"
+
+abbrev columns : List Term
+columns = col 1 2 ∷ col 1 3 ∷ col 1 4 ∷ col 1 5 ∷ col 1 6 ∷ col 1 7 ∷ []
+
+abbrev names : List (List ℕ)
+names = codes "at" ∷ codes "user" ∷ codes "path" ∷ codes "bits" ∷ codes "granted" ∷ codes "entry"
+    ∷ []
+
+abbrev asked : Query
+asked = query_of 7 [] columns (ascending_by 0 ∷ [])
+
+records_are : (command_of (understood room_schema records_text) ≡ selects asked names)
+    × (reads_listing room_schema records_text ≡ false)
+unfolding understood everything
+records_are = (refl, refl)
+
+pub plain_records : IsPlain (understood room_schema records_text)
+unfolding understood everything
+plain_records = (refl, refl)
+
+all_kept : {X : Type 0} (l : List X) → filter (λ r. true) l ≡ l
+all_kept [] = refl
+all_kept (x ∷ l) = ap (λ m. x ∷ m) (all_kept l)
+
+pub shows_records : (old new : State) (rows : List Row) → IsRoom old.now
+    → Shown records_text [] old new rows → HasRecords old.now.trees rows
+shows_records old new rows room h =
+    let read = reads_as records_text [] old new room_schema room.schema (selects asked names)
+    records_are.0 plain_records records_are.1 rows h in
+    let up = ascending-filter (λ a b. value_cmp (rowid a) (rowid b) ≡ Less) (passes [] [])
+    (old.now.trees 7) room.audits.0 in
+    as_stored 7 0 [] columns (lit (Int (negsuc 0))) (overlay old.now.trees []) [] rows
+    (read.answer Null) up ∙ ap (λ l. map shown_record l) (all_kept (old.now.trees 7))
+
+-- ---- as records
+
+pub all_seen : (table : List Row)
+    → list_all (λ r. is_some (record_seen r)) (map shown_record table)
+    ≡ list_all (λ r. is_some (audit_in r)) table
+all_seen [] = refl
+all_seen (r ∷ table) = ap (λ b. is_some (audit_in r) && b) (all_seen table)
+
+pub records_shown : (table : List Row)
+    → filter_map record_seen (map shown_record table) ≡ filter_map audit_in table
+records_shown [] = refl
+records_shown (r ∷ table) = ap (cons_option (audit_in r)) (records_shown table)
+
+-- ---- what is told of the shown rows is told of the table
+
+abbrev is_read : Row → Bool
+is_read r = is_some (record_seen r)
+
+abbrev Told : List Row → Option (Vec AuditRow Global) → Type 0
+Told shown o =
+    MatchOption o (list_all is_read shown ≡ false)
+    (λ records. (list_all is_read shown ≡ true) × (records.items ≡ filter_map record_seen shown))
+
+pub tells_records : (db : Database) (rows shown : List Row) → shown ≡ rows
+    → HasRecords db.trees rows → (o : Option (Vec AuditRow Global)) (records : Vec AuditRow Global)
+    → o ≡ Some records → Told shown o → AreRecords db records.items
+tells_records db rows shown same has o records is told =
+    let it = subst (Told shown) is told in
+    let all : shown ≡ map shown_record (db.trees 7) = same ∙ has in
+    record {
+      all_read = sym (all_seen (db.trees 7)) ∙ ap (list_all is_read) (sym all) ∙ it.0;
+      are = it.1 ∙ ap (filter_map record_seen) all ∙ records_shown (db.trees 7);
+    }
+
+pub tells_unread : (db : Database) (rows shown : List Row) → shown ≡ rows
+    → HasRecords db.trees rows → (o : Option (Vec AuditRow Global)) → o ≡ None → Told shown o
+    → HasUnreadRecord db
+tells_unread db rows shown same has o is told =
+    sym (all_seen (db.trees 7)) ∙ ap (list_all is_read) (sym (same ∙ has)) ∙ subst (Told shown) is told

@@ -1,0 +1,20 @@
+use Rattle.std.proofs.Common.{subst, sym, ◌∷◌, []}
+use Rattle.sqlite.specs.declared.types.Value.TheVariants.{Text}
+use Rattle.sqlite.specs.Held.{state}
+use Rattle.store_tables.specs.Shown.{Stays}
+use Rattle.store_tables.specs.Trust.{stays_itself}
+use Rattle.store_tables.proofs.Asked.{writes}
+use Rattle.store_admin.proofs.Exchanging.{join_room, join_text, joined}
+use Rattle.store_admin.proofs.operating.insert_member.Goals as goal
+
+pub returns-clause-writes : goal.returns-clause-writes
+returns-clause-writes g c =
+    let old = state g.S.Store c.args.tx.now.conn.now in
+    let new = state g.S.Store c.execute.new.self.conn.now in
+    let group = c.args.group.now in
+    let user = c.args.user.now in
+    let given = c.params-to_sql.ensures in
+    let given-2 = c.params-to_sql-2.ensures in
+    writes join_text (Text group ∷ Text user ∷ []) old new c.execute.result _ _ c.execute.ensures.survives.clean (λ inside. join_room group user old new inside)
+    (λ count room h. let d = joined group user old new count room.schema h in record { id = _; fresh = d.fresh; puts = d.exchanged.puts })
+    (λ off. ((c.execute.ensures.ended off).0, subst (λ h. Stays old (state g.S.Store h)) (sym (c.execute.ensures.ended off).1) (stays_itself old))) (rw (given, given-2) at c.execute.ensures.runs)

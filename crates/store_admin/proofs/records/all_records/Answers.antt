@@ -1,0 +1,27 @@
+use Rattle.sqlite.specs.Held.{state}
+use Rattle.store_admin.proofs.Recorded.{tells_records, tells_unread}
+use Rattle.store_admin.proofs.records.all_records.Goals as goal
+
+pub returns-in-Some-clause-carries : goal.returns-in-Some-clause-carries
+returns-in-Some-clause-carries g c =
+    let old = state g.S.Store c.args.tx.now.conn.now in
+    let asks = c.in-Ok.ensures.asks in
+    record {
+      stays = asks.stays;
+      becomes = λ trust.
+          tells_records old.now c.in-Ok.rows.items c.as_slice.result.now c.as_slice.ensures.value
+          (asks.rows trust.clean trust.now) c.in_ok-records.field-0 c.in-Some.records c.in-Some.is c.in_ok-records.ensures;
+      blames = λ trust id is. absurd (let e = is in cc);
+    }
+
+pub returns-clause-carries : goal.returns-clause-carries
+returns-clause-carries g c =
+    let old = state g.S.Store c.args.tx.now.conn.now in
+    let asks = c.in-Ok.ensures.asks in
+    record {
+      stays = asks.stays;
+      becomes = λ _. tt;
+      blames = λ trust id is.
+          tells_unread old.now c.in-Ok.rows.items c.as_slice.result.now c.as_slice.ensures.value
+          (asks.rows trust.clean trust.now) c.in_ok-records.field-0 c.in-None.is c.in_ok-records.ensures;
+    }

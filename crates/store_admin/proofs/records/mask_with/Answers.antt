@@ -1,0 +1,24 @@
+use Rattle.std.proofs.Common.{◌≡◌, ◌<◌, ◌^◌, ℕ, ℤ, pos, negsuc, None, refl, sym, subst, ◌∙◌, arith, w64, nat_eq}
+use Rattle.std.specs.Int.{FitsUnsignedBits}
+use Rattle.std.proofs.lemmas.Bool.{cond-false, ne_eqb}
+use Rattle.std.proofs.lemmas.Int.{to_z-of_z}
+use Rattle.sqlite.specs.declared.types.Value.TheVariants.{Int}
+use Rattle.room_ace.specs.Bits.{bits_of, number_of}
+use Rattle.room_ace.specs.BitLaws.{known_le, number_of-known}
+use Rattle.store_tables.specs.Meaning.{mask_in}
+use Rattle.store_admin.proofs.records.mask_with.Goals as goal
+
+low : (n : ℕ) → number_of (bits_of n) ≡ n → n < 2 ^ 32
+low n known =
+    let le = known_le n (sym (number_of-known n) ∙ known) in
+    omega arith
+
+over : (z : ℤ) → (FitsUnsignedBits 32 z → ⊥) → None ≡ mask_in (Int z)
+over (negsuc n) high = refl
+over (pos n) high =
+    sym (cond-false (nat_eq (number_of (bits_of n)) n) _ _
+    (ne_eqb (number_of (bits_of n)) n (λ e. high (low n e))))
+
+pub returns-in-Err : goal.returns-in-Err
+returns-in-Err c =
+    over c.args.number (subst (λ z. FitsUnsignedBits 32 z → ⊥) (to_z-of_z w64 c.args.number c.ranges.number) c.in-Err.ensures)

@@ -1,0 +1,32 @@
+-- What calls inside one transaction answer and leave.
+use Rattle.std.specs.Prelude.{◌≡◌, ℕ, Result, Err, IfOk}
+use Rattle.sqlite.specs.Effect.{Database}
+use Rattle.sqlite.specs.State.{State}
+use Rattle.room_rows.specs.declared.keep.KeepFault.{KeepFault}
+use Rattle.room_rows.specs.declared.keep.KeepFault.TheVariants.{Damaged}
+use Rattle.room_rows.specs.Rows.{Rows}
+use Rattle.store_tables.specs.Meaning.{rows_of}
+use Rattle.store_tables.specs.Shown.{Stays}
+use Rattle.store_tables.specs.Trust.{IsTrusted}
+
+-- Over a room's tables an answer tells what became of them, and `Damaged` comes for such tables.
+pub record Carries {X : Type 0} (begun mid : State) (result : Result X KeepFault)
+    (Blames : Database → Type 0) (Becomes : Database → X → Database → Type 0) : Type 0 where
+  pub stays : Stays begun mid
+  pub becomes : IsTrusted begun mid → IfOk result (λ answer. Becomes begun.now answer mid.now)
+  pub blames : IsTrusted begun mid → (id : ℕ) → result ≡ Err (Damaged id) → Blames begun.now
+
+-- what is said of rows, said of the tables
+abbrev pub OnRows : (Rows → Type 0) → Database → Type 0
+OnRows Blames db = Blames (rows_of db)
+
+abbrev pub ByRows : {X : Type 0} → (Rows → X → Rows → Type 0) → Database → X → Database → Type 0
+ByRows Becomes old answer new = Becomes (rows_of old) answer (rows_of new)
+
+-- what a call answers by the tables that it reads
+abbrev pub Reading : {X : Type 0} → (Database → X → Type 0) → Database → X → Database → Type 0
+Reading Answers old answer new = Answers old answer
+
+-- no table
+abbrev pub NoTables : Database → Type 0
+NoTables db = ⊥

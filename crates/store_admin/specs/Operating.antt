@@ -1,0 +1,111 @@
+-- What an operator learns of all pairs and all records, and how the pairs are exchanged.
+use Rattle.std.specs.Prelude.{◌≡◌, ◌&&◌, ℕ, ℤ, Bool, List, [], ◌∷◌, map, Option, Some, None, true}
+use Rattle.std.specs.Prelude.{false, is_some, option_and_then, option_map}
+use Rattle.std.specs.List.{filter_map, list_all}
+use Rattle.std.specs.List.Sorted.{IsPermutation}
+use Rattle.sqlite.specs.Effect.{Database}
+use Rattle.sqlite.specs.Order.{Row, column}
+use Rattle.sqlite.specs.Tree.{Trees, put_row}
+use Rattle.sqlite.specs.Edit.{is_taken}
+use Rattle.sqlite.specs.declared.types.Value.TheVariants.{Null, Int, Text}
+use Rattle.room_rows.specs.declared.node.AuditRow.{AuditRow}
+use Rattle.room_rows.specs.Content.{is_pair_before, set_of, with_members}
+use Rattle.room_rows.specs.Keep.{reading}
+use Rattle.room_rows.specs.Rows.{Rows}
+use Rattle.store_tables.specs.Meaning.{audit_in, name_in, pair_in, pairs_of, rows_of}
+
+abbrev pub AreMembers : Database → List (List ℕ × List ℕ) → Type 0
+AreMembers db pairs = pairs ≡ (rows_of db).read.members
+
+-- some row of audits can't be read as a record
+abbrev pub HasUnreadRecord : Database → Type 0
+HasUnreadRecord db = list_all (λ r. is_some (audit_in r)) (db.trees 7) ≡ false
+
+-- each row of audits, read as a record
+pub record AreRecords (db : Database) (records : List AuditRow) : Type 0 where
+  pub all_read : list_all (λ r. is_some (audit_in r)) (db.trees 7) ≡ true
+  pub are : records ≡ (rows_of db).read.audits
+
+abbrev pub ReplacesMembers : List (List ℕ × List ℕ) → Rows → Unit {0} → Rows → Type 0
+ReplacesMembers pairs old answer new = new ≡ reading old (with_members old.read pairs)
+
+-- each of these rows of members is read as a pair
+abbrev pub are_pairs : List Row → Bool
+are_pairs rows = list_all (λ r. is_some (pair_in r)) rows
+
+-- no row of members is none
+abbrev pub HasPairsAlone : Database → Type 0
+HasPairsAlone db = are_pairs (db.trees 3) ≡ true
+
+-- The pairs become these, and no row is left that is none.
+abbrev pub ExchangesMembers : List (List ℕ × List ℕ) → Database → Unit {0} → Database → Type 0
+ExchangesMembers pairs old answer new =
+    ReplacesMembers pairs (rows_of old) answer (rows_of new) × HasPairsAlone new
+
+-- ---- how they are read
+
+-- a row of members as it is shown
+abbrev pub shown_pair : Row → Row
+shown_pair r = column r 1 ∷ column r 2 ∷ []
+
+abbrev pub HasMembers : Trees → List Row → Type 0
+HasMembers db rows = IsPermutation (map shown_pair (db 3)) rows
+
+abbrev pub pair_seen : Row → Option (List ℕ × List ℕ)
+pair_seen r = option_and_then (λ group. option_map (λ user. (group, user)) (name_in (column r 1)))
+    (name_in (column r 0))
+
+-- the pairs in these rows, but for what is none
+abbrev pub pairs_seen : List Row → List (List ℕ × List ℕ)
+pairs_seen rows = filter_map pair_seen rows
+
+-- each pair comes before the next one, the first behind this one
+abbrev pub rises_from : Option (List ℕ × List ℕ) → List (List ℕ × List ℕ) → Bool
+rises_from last [] = true
+rises_from None (pair ∷ pairs) = rises_from (Some pair) pairs
+rises_from (Some last) (pair ∷ pairs) = is_pair_before last pair && rises_from (Some pair) pairs
+
+-- a row of audits as it is shown
+abbrev pub shown_record : Row → Row
+shown_record r = column r 2 ∷ column r 3 ∷ column r 4 ∷ column r 5 ∷ column r 6 ∷ column r 7 ∷ []
+
+abbrev pub HasRecords : Trees → List Row → Type 0
+HasRecords db rows = rows ≡ map shown_record (db 7)
+
+-- a shown row lacks the two columns before the moment
+abbrev pub record_seen : Row → Option AuditRow
+record_seen r = audit_in (Null ∷ Null ∷ r)
+
+-- ---- how they are exchanged
+
+-- The rows of members become these, and the other tables of rows are as they were.
+pub record Exchanges (rows : List Row) (db next : Trees) : Type 0 where
+  pub nodes : next 0 ≡ db 0
+  pub bodies : next 2 ≡ db 2
+  pub members : next 3 ≡ rows
+  pub audits : next 7 ≡ db 7
+
+-- a row of members as it is stored
+abbrev pub stored_pair : ℤ → List ℕ → List ℕ → Row
+stored_pair id group user = Int id ∷ Text group ∷ Text user ∷ []
+
+-- A row with this pair, of a number that none had, is put in.
+pub record Joins (group user : List ℕ) (db next : Trees) : Type 0 where
+  pub id : ℤ
+  pub fresh : is_taken (db 3) (stored_pair id group user) ≡ false
+  pub puts : Exchanges (put_row (stored_pair id group user) (db 3)) db next
+
+-- The rows of members mean the set of these pairs, and the other tables of rows are as they were.
+pub record Holds (pairs : List (List ℕ × List ℕ)) (db next : Trees) : Type 0 where
+  pub nodes : next 0 ≡ db 0
+  pub bodies : next 2 ≡ db 2
+  pub members : pairs_of (next 3) ≡ set_of pairs
+  pub audits : next 7 ≡ db 7
+  -- where each row was a pair, each still is
+  pub only : are_pairs (db 3) ≡ true → are_pairs (next 3) ≡ true
+
+-- From the set of some pairs to that of others.
+abbrev pub Gathers : List (List ℕ × List ℕ) → List (List ℕ × List ℕ)
+    → Database → Unit {0} → Database → Type 0
+Gathers before after old answer new =
+    pairs_of (old.trees 3) ≡ set_of before → Holds after old.trees new.trees

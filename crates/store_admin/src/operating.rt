@@ -1,0 +1,144 @@
+//! All pairs, and how their rows are written.
+ghost use Rattle.std.specs.Prelude.{◌≡◌, [], None, IfOk};
+ghost use Rattle.sqlite.specs.Held.{state};
+ghost use Rattle.room_rows.specs.Content.{is_pair_before};
+ghost use Rattle.store_tables.specs.Paired.{pair_cmp};
+ghost use Rattle.store_tables.specs.Statements.{Asks, OfAny, Writes};
+ghost use Rattle.store_admin.specs.Carries.{Carries, NoTables, Reading};
+ghost use Rattle.store_admin.specs.Operating.{
+  AreMembers,
+  Exchanges,
+  HasMembers,
+  Joins,
+  pair_seen,
+  pairs_seen,
+  rises_from,
+};
+
+use room_ace::Name;
+use room_rows::KeepFault;
+use sqlite::{Alter, Error, Row, Transaction, params};
+use std::alloc::{AllocError, Global};
+use std::cmp::Ordering;
+use store_tables::{name_of, value_at, wants_memory};
+
+// All pairs, in order.
+fn select_members<S: Alter>(tx: &mut Transaction<'_, S>) -> Result<Vec<Row>, Error>
+    ensures same_reference { tx.new.conn.ghost_name ≡ tx.old.conn.ghost_name }
+    ensures asks { Asks HasMembers
+        (state S.Store tx.old.conn.now) (state S.Store tx.new.conn.now) result }
+{
+    tx.query_all(
+        "SELECT grp, user FROM members ORDER BY grp, user",
+        params![],
+    )
+}
+
+/// Takes all rows of members out.
+pub(crate) fn delete_members<S: Alter>(tx: &mut Transaction<'_, S>) -> Result<usize, Error>
+    ensures same_reference { tx.new.conn.ghost_name ≡ tx.old.conn.ghost_name }
+    ensures writes { Writes (OfAny (Exchanges []))
+        (state S.Store tx.old.conn.now) (state S.Store tx.new.conn.now) result }
+{
+    tx.execute("DELETE FROM members", params![])
+}
+
+/// Puts in a row with the pair.
+pub(crate) fn insert_member<S: Alter>(
+    tx: &mut Transaction<'_, S>,
+    group: &str,
+    user: &str,
+) -> Result<usize, Error>
+    ensures same_reference { tx.new.conn.ghost_name ≡ tx.old.conn.ghost_name }
+    ensures writes { Writes (OfAny (Joins group.now user.now))
+        (state S.Store tx.old.conn.now) (state S.Store tx.new.conn.now) result }
+{
+    tx.execute(
+        "INSERT INTO members (grp, user) VALUES (?1, ?2)",
+        params![group, user],
+    )
+}
+
+// The pair in a row, if both of its names are names.
+fn pair_of(alloc: Global, row: &Row) -> Result<Option<(Name, Name)>, AllocError>
+    ensures { IfOk result (λ pair. pair ≡ pair_seen row.now) }
+{
+    let Some(group) = name_of(alloc, value_at(row, 0))? else {
+        return Ok(None);
+    };
+    match name_of(alloc, value_at(row, 1))? {
+        Some(user) => Ok(Some((group, user))),
+        None => Ok(None),
+    }
+}
+
+// The pairs in the rows, but for what is none.
+fn see_pairs(alloc: Global, rows: &[Row]) -> Result<Vec<(Name, Name)>, AllocError>
+    ensures { IfOk result (λ pairs. pairs.items ≡ pairs_seen rows.now) }
+{
+    let mut pairs = Vec::new(alloc);
+    for row in rows {
+        match pair_of(alloc, row)? {
+            Some(pair) => pairs.push(pair)?,
+            None => {}
+        }
+    }
+    Ok(pairs)
+}
+
+/// Pairs by group, then by user.
+pub(crate) fn compare(pair: &(Name, Name), other: &(Name, Name)) -> Ordering
+    ensures { result ≡ pair_cmp pair.now other.now }
+{
+    match pair.0.as_str().cmp(other.0.as_str()) {
+        Ordering::Less => Ordering::Less,
+        Ordering::Equal => pair.1.as_str().cmp(other.1.as_str()),
+        Ordering::Greater => Ordering::Greater,
+    }
+}
+
+// Whether the pair comes before the other one.
+fn is_before(pair: &(Name, Name), other: &(Name, Name)) -> bool
+    ensures { result ≡ is_pair_before pair.now other.now }
+{
+    compare(pair, other).is_lt()
+}
+
+// Whether each pair comes before the next one.
+fn are_rising(pairs: &[(Name, Name)]) -> bool
+    ensures { result ≡ rises_from None pairs.now }
+{
+    let mut last: Option<&(Name, Name)> = None;
+    for pair in pairs {
+        match last {
+            Some(last) if !is_before(last, pair) => return false,
+            _ => {}
+        }
+        last = Some(pair);
+    }
+    true
+}
+
+/// The pairs of group and user, in order of group and then of user, each once. A row whose group or
+/// user is no name is left out.
+pub fn all_members<S: Alter>(
+    alloc: Global,
+    tx: &mut Transaction<'_, S>,
+) -> Result<Vec<(Name, Name)>, KeepFault>
+    ensures same_reference { tx.new.conn.ghost_name ≡ tx.old.conn.ghost_name }
+    ensures carries { Carries (state S.Store tx.old.conn.now) (state S.Store tx.new.conn.now)
+        result NoTables (Reading (λ db pairs. AreMembers db pairs.items)) }
+{
+    let rows = match select_members(tx) {
+        Ok(rows) => rows,
+        Err(error) if wants_memory(error) => return Err(KeepFault::Memory),
+        Err(_) => return Err(KeepFault::Store),
+    };
+    let pairs = see_pairs(alloc, rows.as_slice())?;
+    // the database gives them in order, each once
+    if are_rising(pairs.as_slice()) {
+        Ok(pairs)
+    } else {
+        Err(KeepFault::Store)
+    }
+}

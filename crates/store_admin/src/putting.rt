@@ -1,0 +1,117 @@
+//! How the pairs are exchanged.
+ghost use Rattle.std.specs.Prelude.{◌≡◌, ◌+◌, ◌<◌, [], Some, IfOk, length, map, take};
+ghost use Rattle.std.specs.List.Sorted.{IsPermutation};
+ghost use Rattle.std.specs.Ordering.{is_eq};
+ghost use Rattle.sqlite.specs.Held.{state};
+ghost use Rattle.sqlite.specs.declared.types.Value.TheVariants.{Text as SqlText};
+ghost use Rattle.store_tables.specs.Meaning.{name_in};
+ghost use Rattle.store_tables.specs.Paired.{pair_cmp};
+ghost use Rattle.store_tables.specs.Statements.{OfAny, Writes};
+ghost use Rattle.store_admin.specs.Carries.{Carries, NoTables};
+ghost use Rattle.store_admin.specs.Operating.{ExchangesMembers, Gathers, Joins};
+
+use crate::operating::{compare, delete_members, insert_member};
+use room_ace::{Name, names_are_text};
+use room_rows::KeepFault;
+use sqlite::{Alter, Error, Transaction};
+use std::alloc::{AllocError, Global};
+use store_tables::wants_memory;
+
+// The pairs in order, so that those which are the same stand side by side.
+fn in_order<'a>(
+    alloc: Global,
+    pairs: &'a [(Name, Name)],
+) -> Result<Vec<&'a (Name, Name)>, AllocError>
+    ensures { IfOk result (λ order. IsPermutation pairs.now (map (λ pair. pair.now) order.items)) }
+{
+    let mut order = Vec::new(alloc);
+    for pair in pairs {
+        order.push(pair)?;
+    }
+    order.sort_unstable_by(|a, b| compare(a, b));
+    Ok(order)
+}
+
+// Tells a proof that the names of a pair are read back.
+fn is_read_back(pair: &(Name, Name))
+    ensures group { name_in (SqlText pair.now.0) ≡ Some pair.now.0 }
+    ensures user { name_in (SqlText pair.now.1) ≡ Some pair.now.1 }
+{
+    names_are_text();
+    pair.0.is_known();
+    pair.1.is_known();
+}
+
+// Puts in a row with the pair.
+fn insert_pair<S: Alter>(tx: &mut Transaction<'_, S>, pair: &(Name, Name)) -> Result<usize, Error>
+    ensures same_reference { tx.new.conn.ghost_name ≡ tx.old.conn.ghost_name }
+    ensures writes { Writes (OfAny (Joins pair.now.0 pair.now.1))
+        (state S.Store tx.old.conn.now) (state S.Store tx.new.conn.now) result }
+{
+    insert_member(tx, pair.0.as_str(), pair.1.as_str())
+}
+
+// Whether the pairs are the same.
+fn is_same(pair: &(Name, Name), other: &(Name, Name)) -> bool
+    ensures { result ≡ is_eq (pair_cmp pair.now other.now) }
+{
+    compare(pair, other).is_eq()
+}
+
+// Puts in the pair at this place, unless it is the one before.
+fn insert_at<S: Alter>(
+    tx: &mut Transaction<'_, S>,
+    order: &[&(Name, Name)],
+    at: usize,
+) -> Result<(), KeepFault>
+    requires { at < length order.now }
+    ensures same_reference { tx.new.conn.ghost_name ≡ tx.old.conn.ghost_name }
+    ensures carries { Carries (state S.Store tx.old.conn.now) (state S.Store tx.new.conn.now)
+        result NoTables (Gathers (take at (map (λ pair. pair.now) order.now))
+        (take (at + 1) (map (λ pair. pair.now) order.now))) }
+{
+    let pair = order[at];
+    if at > 0 && is_same(order[at - 1], pair) {
+        return Ok(());
+    }
+    is_read_back(pair);
+    match insert_pair(tx, pair) {
+        Ok(_) => Ok(()),
+        Err(error) if wants_memory(error) => Err(KeepFault::Memory),
+        Err(_) => Err(KeepFault::Store),
+    }
+}
+
+// Puts in each pair once.
+fn insert_each<S: Alter>(
+    tx: &mut Transaction<'_, S>,
+    order: &[&(Name, Name)],
+) -> Result<(), KeepFault>
+    ensures same_reference { tx.new.conn.ghost_name ≡ tx.old.conn.ghost_name }
+    ensures carries { Carries (state S.Store tx.old.conn.now) (state S.Store tx.new.conn.now)
+        result NoTables (Gathers [] (map (λ pair. pair.now) order.now)) }
+{
+    for at in 0..order.len() {
+        insert_at(tx, order, at)?;
+    }
+    Ok(())
+}
+
+/// The pairs of group and user become these, each once. Rows that were no pairs go too.
+pub fn put_members<S: Alter>(
+    alloc: Global,
+    tx: &mut Transaction<'_, S>,
+    pairs: &[(Name, Name)],
+) -> Result<(), KeepFault>
+    ensures same_reference { tx.new.conn.ghost_name ≡ tx.old.conn.ghost_name }
+    ensures carries { Carries (state S.Store tx.old.conn.now) (state S.Store tx.new.conn.now)
+        result NoTables (ExchangesMembers pairs.now) }
+{
+    let order = in_order(alloc, pairs)?;
+    match delete_members(tx) {
+        Ok(_) => {}
+        Err(error) if wants_memory(error) => return Err(KeepFault::Memory),
+        Err(_) => return Err(KeepFault::Store),
+    }
+    insert_each(tx, order.as_slice())
+}

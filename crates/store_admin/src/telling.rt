@@ -1,0 +1,64 @@
+//! The text of a room.
+ghost use Rattle.std.specs.Prelude.{◌≡◌, string_bytes};
+ghost use Rattle.sqlite.specs.Held.{state};
+ghost use Rattle.store_admin.specs.Carries.{Carries, NoTables, Reading};
+ghost use Rattle.store_admin.specs.Dump.{AddsMembers, HasDamagedRow, IsDump, TellsObjects};
+
+use crate::operating::all_members;
+use room_dump::{dump, push_members};
+use room_rows::KeepFault;
+use sqlite::{Alter, Transaction};
+use std::alloc::Global;
+use store_tables::Keeper;
+
+// The text of all objects, by the keeper.
+fn objects_by<S: Alter>(alloc: Global, keeper: &mut Keeper<'_, '_, S>) -> Result<String, KeepFault>
+    ensures same_reference { keeper.new.tx.ghost_name ≡ keeper.old.tx.ghost_name }
+    ensures same_lender { keeper.new.tx.now.conn.ghost_name ≡ keeper.old.tx.now.conn.ghost_name }
+    ensures carries { Carries (state S.Store keeper.old.tx.now.conn.now)
+        (state S.Store keeper.new.tx.now.conn.now) result HasDamagedRow TellsObjects }
+{
+    dump(alloc, keeper)
+}
+
+// The text of all objects, by a keeper inside the transaction.
+fn objects_inside<S: Alter>(alloc: Global, tx: &mut Transaction<'_, S>) -> Result<String, KeepFault>
+    ensures same_reference { tx.new.conn.ghost_name ≡ tx.old.conn.ghost_name }
+    ensures carries { Carries (state S.Store tx.old.conn.now) (state S.Store tx.new.conn.now)
+        result HasDamagedRow TellsObjects }
+{
+    let mut keeper = Keeper {
+        alloc,
+        tx,
+        failures: 0,
+        writes: 0,
+    };
+    objects_by(alloc, &mut keeper)
+}
+
+// Adds the lines of all pairs.
+fn add_members<S: Alter>(
+    alloc: Global,
+    tx: &mut Transaction<'_, S>,
+    text: &mut String,
+) -> Result<(), KeepFault>
+    ensures same_reference { tx.new.conn.ghost_name ≡ tx.old.conn.ghost_name }
+    ensures carries { Carries (state S.Store tx.old.conn.now) (state S.Store tx.new.conn.now)
+        result NoTables
+        (Reading (AddsMembers (string_bytes text.old) (string_bytes text.new))) }
+{
+    let pairs = all_members(alloc, tx)?;
+    Ok(push_members(text, pairs.as_slice())?)
+}
+
+/// The text of the room: the lines of all objects, and behind them those of all pairs. `Damaged`
+/// comes only for a damaged row.
+pub fn dump_all<S: Alter>(alloc: Global, tx: &mut Transaction<'_, S>) -> Result<String, KeepFault>
+    ensures same_reference { tx.new.conn.ghost_name ≡ tx.old.conn.ghost_name }
+    ensures carries { Carries (state S.Store tx.old.conn.now) (state S.Store tx.new.conn.now)
+        result HasDamagedRow (Reading IsDump) }
+{
+    let mut text = objects_inside(alloc, tx)?;
+    add_members(alloc, tx, &mut text)?;
+    Ok(text)
+}

@@ -1,0 +1,128 @@
+-- What opening a room is.
+use Rattle.std.specs.Prelude.{◌≡◌, ◌≤◌, ◌<ℤ◌, ℕ, ℤ, pos, List, [], Option, Some, None, Result, Ok, Err}
+use Rattle.std.specs.Prelude.{MatchResult, IsErrAnd, OnOk, IsTrue, false, codes}
+use Rattle.sqlite_trees.specs.View.{doubt}
+use Rattle.sqlite_resolve.specs.declared.error.CompileError.{CompileError}
+use Rattle.sqlite.specs.Effect.{Database, Reads}
+use Rattle.sqlite.specs.Order.{Row}
+use Rattle.sqlite.specs.Clock.{timed}
+use Rattle.sqlite.specs.Listing.{IsSourceOf, reads_listing, understood}
+use Rattle.sqlite_resolve.specs.declared.compiled.Compiled.{Compiled}
+use Rattle.sqlite_schema.specs.declared.command.Returning.{Returning}
+use Rattle.sqlite.specs.State.{State, HasCleanDisk}
+use Rattle.sqlite.specs.declared.error.Error.{Error}
+use Rattle.sqlite.specs.declared.error.Error.TheVariants.{SqlInputError}
+use Rattle.store_tables.specs.Tables.{no_schema, room_schema}
+use Rattle.store_schema.specs.Within.{IsWithin}
+use Rattle.store_schema.specs.NewRoom.{meta_of, number_shown}
+use Rattle.store_schema.specs.declared.fault.OpenFault.{OpenFault}
+use Rattle.store_schema.specs.declared.fault.OpenFault.TheVariants.{NotRooms, OldVersion, NewVersion}
+use Rattle.store_schema.specs.declared.fault.OpenFault.TheVariants.{Db, Memory}
+
+abbrev pub IsNotUnderstood : Error → Type 0
+IsNotUnderstood e = (fault : CompileError) × (e ≡ SqlInputError fault)
+
+-- what a query that failed is called
+abbrev pub IsCalled : Error → OpenFault → Type 0
+IsCalled e NotRooms = IsNotUnderstood e
+IsCalled e (OldVersion n) = ⊥
+IsCalled e (NewVersion n) = ⊥
+IsCalled e Db = ¬ IsNotUnderstood e
+IsCalled e Memory = ¬ IsNotUnderstood e
+
+-- the database failed, or memory
+abbrev pub IsFailure : OpenFault → Type 0
+IsFailure NotRooms = ⊥
+IsFailure (OldVersion n) = ⊥
+IsFailure (NewVersion n) = ⊥
+IsFailure Db = Unit {0}
+IsFailure Memory = Unit {0}
+
+-- There is no room, or the database failed, or memory.
+abbrev pub IsRefusal : OpenFault → Type 0
+IsRefusal NotRooms = Unit {0}
+IsRefusal (OldVersion n) = ⊥
+IsRefusal (NewVersion n) = ⊥
+IsRefusal Db = Unit {0}
+IsRefusal Memory = Unit {0}
+
+-- What is said where a schema of this number is wanted, and there is that number or none. The
+-- database may fail, and memory too.
+abbrev pub Says : ℤ → Option ℤ → Result (Unit {0}) OpenFault → Type 0
+Says wanted version (Ok _) = version ≡ Some wanted
+Says wanted version (Err NotRooms) = version ≡ None
+Says wanted version (Err (OldVersion n)) = (version ≡ Some n) × (n <ℤ wanted)
+Says wanted version (Err (NewVersion n)) = (version ≡ Some n) × (wanted <ℤ n)
+Says wanted version (Err Db) = Unit {0}
+Says wanted version (Err Memory) = Unit {0}
+
+-- ---- whatever the tables are
+
+-- how the number of the schema is asked for
+abbrev pub number_text : List ℕ
+number_text = codes "SELECT value FROM meta WHERE key = 'rooms'"
+
+-- What a query reads. What a write would show is left open.
+abbrev pub ReadsAs : Database → Compiled → ℕ → List Row → Option Returning → Type 0
+ReadsAs db command clock rows None =
+    (from : Database) × IsSourceOf (reads_listing db.schema number_text) db from
+    × Reads command.command from (timed [] command.formats clock) rows
+ReadsAs db command clock rows (Some what) = Unit {0}
+
+-- Over these tables the text is understood, and answered with rows in which this number stands.
+pub record ShowsVersion (version : Option ℤ) (db : Database) : Type 0 where
+  pub command : Compiled
+  pub clock : ℕ
+  pub rows : List Row
+  pub is : understood db.schema number_text ≡ Ok command
+  pub read : ReadsAs db command clock rows command.returning
+  pub number : number_shown rows ≡ version
+
+-- A number is told only where the database answered with it.
+abbrev pub Tells : ℤ → Database → Result (Unit {0}) OpenFault → Type 0
+Tells wanted db (Ok _) = ShowsVersion (Some wanted) db
+Tells wanted db (Err NotRooms) = Unit {0}
+Tells wanted db (Err (OldVersion n)) = ShowsVersion (Some n) db × (n <ℤ wanted)
+Tells wanted db (Err (NewVersion n)) = ShowsVersion (Some n) db × (wanted <ℤ n)
+Tells wanted db (Err Db) = Unit {0}
+Tells wanted db (Err Memory) = Unit {0}
+
+-- ---- calls
+
+-- The number of the schema is asked, inside a transaction.
+pub record AsksVersion (old new : State) (result : Result (Option ℤ) OpenFault) : Type 0 where
+  pub clean : doubt old.is_clean ≤ doubt new.is_clean
+  pub within : IsTrue old.in_transaction → IsWithin old new
+  pub told : HasCleanDisk new → old.now.schema ≡ room_schema
+      → MatchResult result (λ version. (version ≡ meta_of old.now) × (new.now ≡ old.now)) IsFailure
+  pub empty : HasCleanDisk new → old.now.schema ≡ no_schema → IsErrAnd result IsRefusal
+  pub shown : HasCleanDisk new
+      → MatchResult result (λ version. ShowsVersion version old.now × IsTrue old.is_open) IsRefusal
+
+-- The schema is expected to have this number.
+pub record Expects (wanted : ℤ) (old new : State)
+    (result : Result (Unit {0}) OpenFault) : Type 0 where
+  pub clean : doubt old.is_clean ≤ doubt new.is_clean
+  pub within : IsTrue old.in_transaction → IsWithin old new
+  pub told : HasCleanDisk new → old.now.schema ≡ room_schema
+      → Says wanted (meta_of old.now) result × OnOk result (new.now ≡ old.now)
+  pub empty : HasCleanDisk new → old.now.schema ≡ no_schema → IsErrAnd result IsRefusal
+  pub shown : HasCleanDisk new
+      → Tells wanted old.now result × OnOk result (IsTrue old.is_open)
+
+-- What opening a room is.
+pub record Adopts (old new : State) (result : Result (Unit {0}) OpenFault) : Type 0 where
+  pub ended : new.in_transaction ≡ false
+  pub clean : doubt old.is_clean ≤ doubt new.is_clean
+  pub was_open : HasCleanDisk new → IsTrue new.is_open → IsTrue old.is_open
+  -- nothing is changed
+  pub kept : HasCleanDisk new → IsTrue new.is_open
+      → (new.now ≡ old.now) × (new.committed ≡ old.committed)
+  -- a connection that is shut gives no answer
+  pub answers : HasCleanDisk new → OnOk result (IsTrue old.is_open)
+  -- any file is opened only where the database itself answered 2
+  pub shown : HasCleanDisk new → Tells (pos 2) old.now result
+  -- over a room's tables the answer is what the row of `meta` says
+  pub told : HasCleanDisk new → old.now.schema ≡ room_schema → Says (pos 2) (meta_of old.now) result
+  -- an empty database is no room
+  pub empty : HasCleanDisk new → old.now.schema ≡ no_schema → IsErrAnd result IsRefusal

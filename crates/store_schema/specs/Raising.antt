@@ -1,0 +1,115 @@
+-- What raising the rows of schema 1 is.
+use Rattle.std.specs.Prelude.{◌≡◌, ◌≤◌, ℕ, pos, true, false, Some, Result, Ok, Err}
+use Rattle.std.specs.Prelude.{IfOk, IsErrAnd, OnOk, OnErr, IsTrue, ◌⊎◌}
+use Rattle.sqlite_trees.specs.View.{doubt}
+use Rattle.sqlite.specs.Effect.{Database}
+use Rattle.sqlite.specs.State.{State, HasCleanDisk}
+use Rattle.sqlite.specs.declared.error.Error.{Error}
+use Rattle.store_tables.specs.Meaning.{rows_of}
+use Rattle.store_tables.specs.Shown.{HasTables, IsRoom}
+use Rattle.store_tables.specs.Tables.{no_schema}
+use Rattle.store_schema.specs.NewRoom.{meta_of}
+use Rattle.store_schema.specs.Opening.{IsRefusal, Says, ShowsVersion}
+use Rattle.store_schema.specs.Within.{IsWithin}
+use Rattle.store_schema.specs.declared.fault.MigrateFault.{MigrateFault}
+use Rattle.store_schema.specs.declared.fault.MigrateFault.TheVariants.{Opening, Unsound}
+use Rattle.room_rows.specs.Meaning.{meaning}
+use Rattle.room_rows.specs.Rows.{AreRows, Rows}
+use Rattle.room_rows.specs.declared.keep.Keep.{Ghosts}
+use Rattle.room_rows.specs.declared.keep.KeepFault.{KeepFault}
+use Rattle.room_inherit.specs.Kept.{kept_report_of}
+use Rattle.room_rows.specs.Sound.{AreSound, AreSoundKept}
+use Rattle.room_inherit.specs.SpreadAll.{IsSpreadAll}
+use Rattle.room_rows.specs.declared.report.Report.{Report}
+use Rattle.room_rows.specs.declared.report.Report.TheVariants.{Fault, Sound}
+
+-- Rows that are sound for schema 1 become rows that are sound for schema 2 and mean the same, by
+-- carrying all lists down.
+pub record AreRaised (old new : Rows) : Type 0 where
+  pub before : AreSoundKept old
+  pub after : AreSound new
+  pub same : meaning new.read ≡ meaning old.read
+  pub spread : (changed : ℕ) × IsSpreadAll old new changed
+
+-- Where nothing is found in rows of schema 1, carrying all lists down raises them.
+abbrev pub SpreadIsRaised : Type 0
+SpreadIsRaised =
+    (old new : Rows) → AreRows old → kept_report_of old ≡ Sound
+    → (changed : ℕ) × IsSpreadAll old new changed → AreRaised old new
+
+-- what is found, and if that is nothing, all lists are carried down
+abbrev pub IsRaised : Rows → Report → Rows → Type 0
+IsRaised old report new =
+    (report ≡ kept_report_of old)
+    × (report ≡ Sound → (changed : ℕ) × IsSpreadAll old new changed)
+
+-- The rows of a keeper are raised.
+pub record Raises {S : Type 0} (k : Ghosts S) (old new : S)
+    (result : Result Report KeepFault) : Type 0 where
+  pub follows : k.Follows old new
+  pub becomes : k.IsTrusted old new
+      → IfOk result (λ report. IsRaised (k.rows old) report (k.rows new))
+
+-- All lists are carried down.
+pub record Carries {S : Type 0} (k : Ghosts S) (old new : S)
+    (result : Result (Unit {0}) KeepFault) : Type 0 where
+  pub follows : k.Follows old new
+  pub becomes : k.IsTrusted old new → IfOk result (λ _. (changed : ℕ)
+      × IsSpreadAll (k.rows old) (k.rows new) changed)
+
+-- The number of the schema is written anew, and nothing else.
+pub record Stamps (old new : State) (result : Result ℕ Error) : Type 0 where
+  pub within : IsWithin old new
+  pub inside : HasCleanDisk new → OnOk result (new.in_transaction ≡ true)
+  pub keeps : HasCleanDisk new → IsRoom old.now → OnOk result (IsRoom new.now
+      × (rows_of new.now ≡ rows_of old.now))
+
+-- What raising a room leaves of a database. `Opening` is told by the number of the schema, and
+-- `Unsound` tells the first fault.
+abbrev pub Leads : Database → Database → Result (Unit {0}) MigrateFault → Type 0
+Leads old new (Ok _) =
+    (meta_of old ≡ Some (pos 1)) × (meta_of new ≡ Some (pos 2)) × IsRoom new
+    × AreRaised (rows_of old) (rows_of new)
+Leads old new (Err (Opening fault)) = Says (pos 1) (meta_of old) (Err fault)
+Leads old new (Err (Unsound path why)) =
+    (meta_of old ≡ Some (pos 1)) × (kept_report_of (rows_of old) ≡ Fault path why)
+
+-- there is no room, or the database failed, or memory
+abbrev pub IsNoRoom : MigrateFault → Type 0
+IsNoRoom (Opening fault) = IsRefusal fault
+IsNoRoom (Unsound path why) = ⊥
+
+-- The steps of raising a room, inside a transaction.
+pub record IsInside (old new : State) (result : Result (Unit {0}) MigrateFault) : Type 0 where
+  pub clean : doubt old.is_clean ≤ doubt new.is_clean
+  pub was_open : HasCleanDisk new → IsTrue new.is_open → IsTrue old.is_open
+  pub committed : HasCleanDisk new → IsTrue new.is_open → IsRoom old.committed → IsRoom old.now
+      → new.committed ≡ old.committed
+  pub settled : HasCleanDisk new → IsTrue new.is_open → IsRoom old.committed → IsRoom old.now
+      → (old.in_transaction ≡ false → old.now ≡ old.committed) → new.in_transaction ≡ false
+      → new.now ≡ new.committed
+  pub leads : HasCleanDisk new → IsTrue new.is_open → IsRoom old.committed → IsRoom old.now
+      → Leads old.now new.now result
+  -- where the database doesn't answer 1, it is a fault, and nothing is committed
+  pub foreign : HasCleanDisk new
+      → ShowsVersion (Some (pos 1)) old.now ⊎ (IsWithin old new × IsErrAnd result (λ _. Unit {0}))
+  pub empty : HasCleanDisk new → old.now.schema ≡ no_schema → IsErrAnd result IsNoRoom
+
+-- What raising a room is.
+pub record Migrates (old new : State) (result : Result (Unit {0}) MigrateFault) : Type 0 where
+  pub ended : new.in_transaction ≡ false
+  pub clean : doubt old.is_clean ≤ doubt new.is_clean
+  pub was_open : HasCleanDisk new → IsTrue new.is_open → IsTrue old.is_open
+  pub leads : HasCleanDisk new → IsTrue new.is_open → HasTables old.now
+      → Leads old.now new.now result
+  pub committed : HasCleanDisk new → OnOk result (new.committed ≡ new.now)
+  -- a connection that is shut gives no answer
+  pub answers : HasCleanDisk new → OnOk result (IsTrue old.is_open × IsTrue new.is_open)
+  -- a file over which the database itself doesn't answer 1 is not changed
+  pub foreign : HasCleanDisk new → IsTrue new.is_open → ¬ (ShowsVersion (Some (pos 1)) old.now)
+      → (new.now ≡ old.now) × (new.committed ≡ old.committed)
+  -- an empty database is no room
+  pub empty : HasCleanDisk new → old.now.schema ≡ no_schema → IsErrAnd result IsNoRoom
+  -- after a fault the tables are as they were
+  pub kept : HasCleanDisk new → IsTrue new.is_open → HasTables old.now
+      → OnErr result ((new.now ≡ old.now) × (new.committed ≡ old.committed))

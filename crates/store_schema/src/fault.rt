@@ -1,0 +1,86 @@
+//! Why a room was not made, opened or raised.
+ghost use Rattle.std.specs.Prelude.{◌≡◌};
+ghost use Rattle.store_schema.specs.Making.{create_fault_of};
+ghost use Rattle.store_schema.specs.Opening.{IsCalled, IsFailure};
+
+use room_inherit::Unsound;
+use room_rows::{KeepFault, Text};
+use sqlite::{Error, ErrorCode};
+
+/// Why no room was made. The tables are then as they were.
+#[derive(Clone, Copy, Debug, PartialEq, Eq)]
+pub enum CreateFault {
+    /// Want of memory.
+    Memory,
+    /// The database failed, or isn't empty.
+    Db,
+}
+
+pub(crate) fn create_fault(error: &Error) -> CreateFault
+    ensures { result ≡ create_fault_of error.now }
+{
+    match error {
+        Error::SqliteFailure(ErrorCode::OutOfMemory) => CreateFault::Memory,
+        _ => CreateFault::Db,
+    }
+}
+
+/// Why a database was not opened as a room. Nothing in it is then changed.
+#[derive(Clone, Copy, Debug, PartialEq, Eq)]
+pub enum OpenFault {
+    /// `meta` can't be asked for the row `rooms`, has none, or holds no whole number there.
+    NotRooms,
+    /// The schema's number is below that of this version.
+    OldVersion(i64),
+    /// The schema's number is above that of this version.
+    NewVersion(i64),
+    /// The database failed.
+    Db,
+    /// Want of memory.
+    Memory,
+}
+
+/// Why a room of schema 1 was not raised to schema 2. The tables are then as they were.
+#[derive(Drop)]
+pub enum MigrateFault {
+    /// The database holds no room of schema 1, or it failed, or memory.
+    Opening(OpenFault),
+    /// The rows aren't sound.
+    Unsound {
+        /// Where the first fault is.
+        path: Text,
+        /// Which test finds it.
+        why: Unsound,
+    },
+}
+
+/// A text that isn't understood asks for a table or a column that isn't there.
+pub(crate) fn open_fault(error: &Error) -> OpenFault
+    ensures { IsCalled error.now result }
+{
+    match error {
+        Error::SqlInputError(_) => OpenFault::NotRooms,
+        Error::SqliteFailure(ErrorCode::OutOfMemory) => OpenFault::Memory,
+        _ => OpenFault::Db,
+    }
+}
+
+/// A database that holds a room, and fails.
+pub(crate) fn failure_of(error: &Error) -> OpenFault
+    ensures { IsFailure result }
+{
+    match error {
+        Error::SqliteFailure(ErrorCode::OutOfMemory) => OpenFault::Memory,
+        _ => OpenFault::Db,
+    }
+}
+
+/// A keeper that fails.
+pub(crate) fn keeper_failure(fault: KeepFault) -> OpenFault
+    ensures { IsFailure result }
+{
+    match fault {
+        KeepFault::Memory => OpenFault::Memory,
+        _ => OpenFault::Db,
+    }
+}

@@ -1,0 +1,20 @@
+//! Laws of rooms that are made and raised.
+ghost use Rattle.store_schema.specs.NewRoom.{NewRoomIsSound};
+ghost use Rattle.store_schema.specs.Raising.{SpreadIsRaised};
+
+use room_inherit::laws::{kept_is_no_fault, raised_is_sound, raised_means_the_same};
+
+/// The rows of a new room are sound.
+pub fn new_room_is_sound()
+    ensures { NewRoomIsSound }
+{}
+
+/// Sound rows of schema 1, of which all lists are carried down, are sound rows of schema 2 and mean
+/// the same.
+pub fn spread_is_raised()
+    ensures { SpreadIsRaised }
+{
+    kept_is_no_fault();
+    raised_is_sound();
+    raised_means_the_same();
+}

@@ -1,0 +1,70 @@
+//! Rows of schema 1, which hold the kept entries alone, become rows of schema 2.
+ghost use Rattle.std.specs.Prelude.{◌≡◌, IfOk};
+ghost use Rattle.sqlite.specs.Held.{state};
+ghost use Rattle.store_tables.specs.Meaning.{rows_of};
+ghost use Rattle.store_tables.specs.Shown.{Stays};
+ghost use Rattle.store_tables.specs.Trust.{IsTrusted};
+ghost use Rattle.store_schema.specs.Raising.{Carries, IsRaised, Raises};
+
+use room_inherit::{Report, SpreadFault, spread_all, verify_kept};
+use room_rows::{Keep, KeepFault};
+use sqlite::{Alter, Transaction};
+use std::alloc::Global;
+use store_tables::Keeper;
+
+// Carries all lists down.
+fn carry_down<K: Keep>(alloc: Global, keep: &mut K) -> Result<(), KeepFault>
+    ensures carries { Carries K.Keep keep.old keep.new result }
+{
+    match spread_all(alloc, keep) {
+        Ok(_) => Ok(()),
+        Err(SpreadFault::Keeper(fault)) => Err(fault),
+        Err(SpreadFault::Loop) => Err(KeepFault::Damaged { id: 0 }),
+    }
+}
+
+// Looks through the rows, and where nothing is found, carries all lists down.
+fn raise_rows<K: Keep>(alloc: Global, keep: &mut K) -> Result<Report, KeepFault>
+    ensures raises { Raises K.Keep keep.old keep.new result }
+{
+    match verify_kept(alloc, keep) {
+        Ok(Report::Sound) => match carry_down(alloc, keep) {
+            Ok(()) => Ok(Report::Sound),
+            Err(fault) => Err(fault),
+        },
+        other => other,
+    }
+}
+
+fn raise_by<S: Alter>(alloc: Global, keeper: &mut Keeper<'_, '_, S>) -> Result<Report, KeepFault>
+    ensures same_reference { keeper.new.tx.ghost_name ≡ keeper.old.tx.ghost_name }
+    ensures same_lender { keeper.new.tx.now.conn.ghost_name ≡ keeper.old.tx.now.conn.ghost_name }
+    ensures stays { Stays (state S.Store keeper.old.tx.now.conn.now)
+        (state S.Store keeper.new.tx.now.conn.now) }
+    ensures becomes { IsTrusted (state S.Store keeper.old.tx.now.conn.now)
+        (state S.Store keeper.new.tx.now.conn.now)
+        → IfOk result (λ report. IsRaised (rows_of (state S.Store keeper.old.tx.now.conn.now).now)
+        report (rows_of (state S.Store keeper.new.tx.now.conn.now).now)) }
+{
+    raise_rows(alloc, keeper)
+}
+
+/// Raises the rows inside a transaction, or tells the first fault in them.
+pub(crate) fn raise_inside<S: Alter>(
+    alloc: Global,
+    tx: &mut Transaction<'_, S>,
+) -> Result<Report, KeepFault>
+    ensures same_reference { tx.new.conn.ghost_name ≡ tx.old.conn.ghost_name }
+    ensures stays { Stays (state S.Store tx.old.conn.now) (state S.Store tx.new.conn.now) }
+    ensures becomes { IsTrusted (state S.Store tx.old.conn.now) (state S.Store tx.new.conn.now)
+        → IfOk result (λ report. IsRaised (rows_of (state S.Store tx.old.conn.now).now)
+        report (rows_of (state S.Store tx.new.conn.now).now)) }
+{
+    let mut keeper = Keeper {
+        alloc,
+        tx,
+        failures: 0,
+        writes: 0,
+    };
+    raise_by(alloc, &mut keeper)
+}

@@ -1,0 +1,201 @@
+-- What the rows mean once a list of an object inherits other entries, by one column of its row.
+use Rattle.std.proofs.Common.{◌≡◌, ℕ, pos, List, [], ◌∷◌, find, None, Some, Option, refl, sym, ap, subst, ◌∙◌}
+use Rattle.std.specs.Prelude.{option_and_then}
+use Rattle.sqlite.specs.declared.types.Value.{Value}
+use Rattle.sqlite.specs.declared.types.Value.TheVariants.{Null, Int, Real, Text, Blob}
+use Rattle.sqlite.specs.Kind.TheVariants as kind
+use Rattle.sqlite.specs.Cast.{cast}
+use Rattle.sqlite.specs.Order.{Row, column}
+use Rattle.sqlite.specs.Tree.{has_rowid}
+use Rattle.sqlite.specs.Effect.{Database}
+use Rattle.room_ace.specs.Ace.{Ace}
+use Rattle.room_ace.specs.declared.flags.ListFlags.{ListFlags}
+use Rattle.room_ace.specs.declared.object.ObjKind.{ObjKind}
+use Rattle.room_ace.specs.declared.object.Which.{Which}
+use Rattle.room_ace.specs.declared.object.Which.TheVariants.{Dacl, Sacl}
+use Rattle.room_ace.specs.declared.parties.Owners.{Owners}
+use Rattle.room_rows.specs.HeldList.{Held}
+use Rattle.room_rows.specs.declared.node.Node.{Node}
+use Rattle.room_rows.specs.Content.{node_at, with_node}
+use Rattle.room_rows.specs.Keep.{reading, with_inh}
+use Rattle.room_rows.proofs.Frames.{node_at-number}
+use Rattle.room_rows.proofs.Lookups.{not_none}
+use Rattle.store_tables.specs.Filed.{node_at_row}
+use Rattle.store_tables.specs.Meaning.{number_in, parent_in, kind_in, flags_in, text_in, name_of_text, name_in, entries_in, given, giving, held_in, owners_in, node_in, rows_of}
+use Rattle.store_tables.specs.Shown.{IsRoom, Recasts, inheriting, shown_node, stored_node}
+use Rattle.store_tables.proofs.Changing.{inh_id}
+use Rattle.store_tables.proofs.Recast.{recast}
+use Rattle.store_tables.proofs.Replaced.{replaced_rows}
+use Rattle.store_tables.proofs.Updates.{cast_int, cast_null}
+
+-- ---- what is read goes on
+
+given_some : {A B : Type 0} (o : Option A) (f : A → Option B) (b : B) → given o f ≡ Some b → (a : A) × (o ≡ Some a) × (f a ≡ Some b)
+given_some None f b e = absurd (not_none b e)
+given_some (Some a) f b e = (a, refl, e)
+
+giving_some : {A B : Type 0} (o : Option A) (f : A → B) (b : B) → giving o f ≡ Some b → (a : A) × (o ≡ Some a) × (f a ≡ b)
+giving_some None f b e = absurd (not_none b e)
+giving_some (Some a) f b e = (a, refl, let e' = e in cc)
+
+-- ---- a value that is read has its column's type
+
+abbrev IsInteger : Value → Type 0
+IsInteger v = cast kind.Integer v ≡ v
+
+abbrev IsText : Value → Type 0
+IsText v = cast kind.Text v ≡ v
+
+parent_typed : (v : Value) (p : Option ℕ) → parent_in v ≡ Some p → IsInteger v
+parent_typed Null p e = cast_null
+parent_typed (Int n) p e = cast_int n
+parent_typed (Real x) p e = absurd (not_none p e)
+parent_typed (Text t) p e = absurd (not_none p e)
+parent_typed (Blob b) p e = absurd (not_none p e)
+
+kind_typed : (v : Value) (k : ObjKind) → kind_in v ≡ Some k → IsInteger v
+kind_typed Null k e = absurd (not_none k e)
+kind_typed (Int n) k e = cast_int n
+kind_typed (Real x) k e = absurd (not_none k e)
+kind_typed (Text t) k e = absurd (not_none k e)
+kind_typed (Blob b) k e = absurd (not_none k e)
+
+flags_typed : (v : Value) (f : ListFlags) → flags_in v ≡ Some f → IsInteger v
+flags_typed Null f e = absurd (not_none f e)
+flags_typed (Int n) f e = cast_int n
+flags_typed (Real x) f e = absurd (not_none f e)
+flags_typed (Text t) f e = absurd (not_none f e)
+flags_typed (Blob b) f e = absurd (not_none f e)
+
+text_typed : (v : Value) (t : List ℕ) → text_in v ≡ Some t → IsText v
+text_typed Null t e = absurd (not_none t e)
+text_typed (Int n) t e = absurd (not_none t e)
+text_typed (Real x) t e = absurd (not_none t e)
+text_typed (Text s) t e = refl
+text_typed (Blob b) t e = absurd (not_none t e)
+
+name_typed : (v : Value) (t : List ℕ) → name_in v ≡ Some t → IsText v
+name_typed v t e = let p = given_some (text_in v) name_of_text t e in text_typed v p.0 p.1
+
+entries_typed : (v : Value) (l : List Ace) → entries_in v ≡ Some l → IsText v
+entries_typed Null l e = absurd (not_none l e)
+entries_typed (Int n) l e = absurd (not_none l e)
+entries_typed (Real x) l e = absurd (not_none l e)
+entries_typed (Text s) l e = refl
+entries_typed (Blob b) l e = absurd (not_none l e)
+
+-- ---- a row that is read, value by value
+
+record ReadsHeld (f o i : Value) (h : Held) : Type 0 where
+  flags : flags_in f ≡ Some h.flags
+  own : entries_in o ≡ Some h.own
+  inh : entries_in i ≡ Some h.inh
+
+reads_held : (flags own inh : Value) (h : Held) → held_in flags own inh ≡ Some h → ReadsHeld flags own inh h
+reads_held flags own inh h e =
+    let p = given_some (flags_in flags) _ h e in
+    let q = given_some (entries_in own) _ h p.2 in
+    let s = giving_some (entries_in inh) _ h q.2 in
+    record {
+      flags = p.1 ∙ ap (λ (x : Held). Some x.flags) s.2;
+      own = q.1 ∙ ap (λ (x : Held). Some x.own) s.2;
+      inh = s.1 ∙ ap (λ (x : Held). Some x.inh) s.2;
+    }
+
+-- what the cells behind the number are read as
+record ReadsCells (v2 v3 v4 v5 v6 v7 v8 v9 v10 v11 v12 : Value) (n : Node) : Type 0 where
+  parent : parent_in v2 ≡ Some n.parent
+  name : text_in v3 ≡ Some n.name
+  kind : kind_in v4 ≡ Some n.kind
+  owner : name_in v5 ≡ Some n.owners.owner
+  group : name_in v6 ≡ Some n.owners.group
+  dacl : ReadsHeld v7 v9 v10 n.dacl
+  sacl : ReadsHeld v8 v11 v12 n.sacl
+
+module _ (v2 v3 v4 v5 v6 v7 v8 v9 v10 v11 v12 : Value) (n : Node) where
+  reads_cells : (v0 : Value) → node_in (v0 ∷ v2 ∷ v3 ∷ v4 ∷ v5 ∷ v6 ∷ v7 ∷ v8 ∷ v9 ∷ v10 ∷ v11 ∷ v12 ∷ []) ≡ Some n → ReadsCells v2 v3 v4 v5 v6 v7 v8 v9 v10 v11 v12 n
+  reads_cells v0 e =
+      let a = given_some (number_in v0) _ n e in
+      let b = given_some (parent_in v2) _ n a.2 in
+      let c = given_some (text_in v3) _ n b.2 in
+      let d = given_some (kind_in v4) _ n c.2 in
+      let o = given_some (owners_in v5 v6) _ n d.2 in
+      let x = given_some (held_in v7 v9 v10) _ n o.2 in
+      let y = giving_some (held_in v8 v11 v12) _ n x.2 in
+      let first = given_some (name_in v5) _ o.0 o.1 in
+      let second = giving_some (name_in v6) _ o.0 first.2 in
+      let owners : o.0 ≡ n.owners = ap (λ (m : Node). m.owners) y.2 in
+      record {
+        parent = b.1 ∙ ap (λ (m : Node). Some m.parent) y.2;
+        name = c.1 ∙ ap (λ (m : Node). Some m.name) y.2;
+        kind = d.1 ∙ ap (λ (m : Node). Some m.kind) y.2;
+        owner = first.1 ∙ ap (λ (w : Owners). Some w.owner) (second.2 ∙ owners);
+        group = second.1 ∙ ap (λ (w : Owners). Some w.group) (second.2 ∙ owners);
+        dacl = subst (ReadsHeld v7 v9 v10) (ap (λ (m : Node). m.dacl) y.2) (reads_held v7 v9 v10 x.0 x.1);
+        sacl = subst (ReadsHeld v8 v11 v12) (ap (λ (m : Node). m.sacl) y.2) (reads_held v8 v11 v12 y.0 y.1);
+      }
+
+  -- the columns leave cells that are read
+  recast_same : ReadsCells v2 v3 v4 v5 v6 v7 v8 v9 v10 v11 v12 n → recast (v2 ∷ v3 ∷ v4 ∷ v5 ∷ v6 ∷ v7 ∷ v8 ∷ v9 ∷ v10 ∷ v11 ∷ v12 ∷ []) ≡ v2 ∷ v3 ∷ v4 ∷ v5 ∷ v6 ∷ v7 ∷ v8 ∷ v9 ∷ v10 ∷ v11 ∷ v12 ∷ []
+  recast_same s = rw (
+    parent_typed v2 _ s.parent,
+    text_typed v3 _ s.name,
+    kind_typed v4 _ s.kind,
+    name_typed v5 _ s.owner,
+    name_typed v6 _ s.group,
+    flags_typed v7 _ s.dacl.flags,
+    flags_typed v8 _ s.sacl.flags,
+    entries_typed v9 _ s.dacl.own,
+    entries_typed v10 _ s.dacl.inh,
+    entries_typed v11 _ s.sacl.own,
+    entries_typed v12 _ s.sacl.inh,
+  ) refl
+
+  -- and they are read back
+  read_back : (id : ℕ) → number_in (Int (pos id)) ≡ Some n.id → ReadsCells v2 v3 v4 v5 v6 v7 v8 v9 v10 v11 v12 n → node_in (shown_node (stored_node (pos id) (v2 ∷ v3 ∷ v4 ∷ v5 ∷ v6 ∷ v7 ∷ v8 ∷ v9 ∷ v10 ∷ v11 ∷ v12 ∷ []))) ≡ Some n
+  read_back id number s =
+      let owners : owners_in v5 v6 ≡ Some n.owners = rw (s.owner, s.group) refl in
+      let dacl : held_in v7 v9 v10 ≡ Some n.dacl = rw (s.dacl.flags, s.dacl.own, s.dacl.inh) refl in
+      let sacl : held_in v8 v11 v12 ≡ Some n.sacl = rw (s.sacl.flags, s.sacl.own, s.sacl.inh) refl in
+      rw (number, s.parent, s.name, s.kind, owners, dacl, sacl) refl
+
+  stored_again : (id : ℕ) → number_in (Int (pos id)) ≡ Some n.id → ReadsCells v2 v3 v4 v5 v6 v7 v8 v9 v10 v11 v12 n → node_in (shown_node (stored_node (pos id) (recast (v2 ∷ v3 ∷ v4 ∷ v5 ∷ v6 ∷ v7 ∷ v8 ∷ v9 ∷ v10 ∷ v11 ∷ v12 ∷ [])))) ≡ Some n
+  stored_again id number s = ap (λ l. node_in (shown_node (stored_node (pos id) l))) (recast_same s) ∙ read_back id number s
+
+-- ---- one column written
+
+module _ (id : ℕ) (r : Row) (before : Node) (text : List ℕ) (entries : List Ace) (number : number_in (Int (pos id)) ≡ Some before.id) (back : entries_in (Text text) ≡ Some entries) where
+  inherits_back : (which : Which) → node_in (shown_node r) ≡ Some before → node_in (shown_node (stored_node (pos id) (recast (inheriting which text r)))) ≡ Some (with_inh which entries before)
+  inherits_back Dacl e =
+      let s = reads_cells (column r 2) (column r 3) (column r 4) (column r 5) (column r 6) (column r 7) (column r 8) (column r 9) (column r 10) (column r 11) (column r 12) before (column r 0) e in
+      stored_again (column r 2) (column r 3) (column r 4) (column r 5) (column r 6) (column r 7) (column r 8) (column r 9) (Text text) (column r 11) (column r 12) (with_inh Dacl entries before) id number (record {
+        parent = s.parent;
+        name = s.name;
+        kind = s.kind;
+        owner = s.owner;
+        group = s.group;
+        dacl = record { flags = s.dacl.flags; own = s.dacl.own; inh = back };
+        sacl = s.sacl;
+      })
+  inherits_back Sacl e =
+      let s = reads_cells (column r 2) (column r 3) (column r 4) (column r 5) (column r 6) (column r 7) (column r 8) (column r 9) (column r 10) (column r 11) (column r 12) before (column r 0) e in
+      stored_again (column r 2) (column r 3) (column r 4) (column r 5) (column r 6) (column r 7) (column r 8) (column r 9) (column r 10) (column r 11) (Text text) (with_inh Sacl entries before) id number (record {
+        parent = s.parent;
+        name = s.name;
+        kind = s.kind;
+        owner = s.owner;
+        group = s.group;
+        dacl = s.dacl;
+        sacl = record { flags = s.sacl.flags; own = s.sacl.own; inh = back };
+      })
+
+-- the row is written with the entries, and so the object inherits them
+pub inherited_rows : (db next : Database) (id : ℕ) (which : Which) (text : List ℕ) (entries : List Ace) → IsRoom db → number_in (Int (pos id)) ≡ Some id → entries_in (Text text) ≡ Some entries → Recasts (inheriting which text) (pos id) db.trees next.trees → (before : Node) → node_at (rows_of db).read id ≡ Some before → rows_of next ≡ reading (rows_of db) (with_node (rows_of db).read (with_inh which entries before))
+inherited_rows db next id which text entries room number back put before there = by (find (has_rowid (pos id)) (db.trees 0)) refl
+  where
+    by : (o : Option Row) → find (has_rowid (pos id)) (db.trees 0) ≡ o → rows_of next ≡ reading (rows_of db) (with_node (rows_of db).read (with_inh which entries before))
+    by None found = absurd (not_none before (sym (ap (option_and_then (λ r. node_in (shown_node r))) found) ∙ sym (node_at_row db id room.nodes.0) ∙ there))
+    by (Some r) found =
+        let seen : node_in (shown_node r) ≡ Some before = sym (ap (option_and_then (λ r. node_in (shown_node r))) found) ∙ sym (node_at_row db id room.nodes.0) ∙ there in
+        let is = node_at-number (rows_of db).read id before there in
+        replaced_rows db next id (recast (inheriting which text r)) before (with_inh which entries before) room there (inherits_back id r before text entries (number ∙ ap Some (sym is)) back which seen) (inh_id which entries before ∙ is) (put r found)

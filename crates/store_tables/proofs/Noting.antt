@@ -1,0 +1,40 @@
+-- What the rows mean once a record is put in.
+use Rattle.std.proofs.Common.{◌≡◌, ℕ, ℤ, pos, List, [], ◌∷◌, ◌++◌, Some, None, refl, ap, ◌∙◌, Bool, true, false, eq-eqb}
+use Rattle.std.specs.Prelude.{option_map, if◌then◌else◌, nat_eq}
+use Rattle.std.specs.List.{cons_option, filter_map}
+use Rattle.std.proofs.lemmas.Bool.{cond-true}
+use Rattle.std.proofs.lemmas.List.Elements.{filter_map-append}
+use Rattle.sqlite.specs.declared.types.Value.TheVariants.{Int, Text}
+use Rattle.sqlite.specs.Effect.{Database}
+use Rattle.room_ace.specs.Bits.{bits_of, number_of}
+use Rattle.room_ace.specs.Names.{is_name}
+use Rattle.room_rows.specs.declared.node.AuditRow.{AuditRow}
+use Rattle.store_tables.specs.declared.columns.Record.{Record}
+use Rattle.store_tables.specs.Columns.{Recalls, record_values}
+use Rattle.store_tables.specs.Meaning.{audit_in, bodies_of, granted_in, mask_in, name_in, nodes_of, pairs_of, unread_of, user_in}
+use Rattle.store_tables.specs.Shown.{Notes, stored_record}
+use Rattle.store_tables.specs.Trust.{HasNoted}
+use Rattle.store_tables.proofs.Removed.{same_rows}
+
+-- ---- a record that is stored is read back
+
+pub mask_back : (n : ℕ) (mask : List ℕ) → bits_of n ≡ mask → number_of mask ≡ n → mask_in (Int (pos n)) ≡ Some mask
+mask_back n mask bits number = cond-true (nat_eq (number_of (bits_of n)) n) (Some (bits_of n)) None (eq-eqb (number_of (bits_of n)) n (ap number_of bits ∙ number)) ∙ ap Some bits
+
+pub user_named : (text name : List ℕ) → name_in (Text text) ≡ Some name → user_in (Text text) ≡ Some (Some name)
+unfolding is_name
+user_named [] name is = absurd (let e = is in cc)
+user_named (b ∷ text) name is = ap (option_map Some) is
+
+granted_back : (b : Bool) → granted_in (Int (if b then pos 1 else pos 0)) ≡ Some b
+granted_back true = refl
+granted_back false = refl
+
+recalled : (seq : ℤ) (a : AuditRow) (r : Record) → Recalls a r → audit_in (stored_record seq (record_values r)) ≡ Some a
+recalled seq a r s = rw (granted_back r.granted, s.user, s.path, s.bits, s.entry, s.at, s.granted) refl
+
+pub noted_rows : (db now : Database) (a : AuditRow) (r : Record) → Recalls a r → Notes (record_values r) db.trees now.trees → HasNoted a db now
+noted_rows db now a r recalls put =
+    let row = stored_record put.seq (record_values r) in
+    same_rows (ap nodes_of put.nodes) (ap unread_of put.nodes) (ap bodies_of put.bodies) (ap pairs_of put.members)
+    (ap (filter_map audit_in) put.audits ∙ filter_map-append audit_in (db.trees 7) (row ∷ []) ∙ ap (λ o. filter_map audit_in (db.trees 7) ++ cons_option o []) (recalled put.seq a r recalls))

@@ -1,0 +1,89 @@
+-- What the tests of WHERE mean.
+use Rattle.std.proofs.Common.{◌≡◌, ℕ, ℤ, pos, List, [], ◌∷◌, filter, Bool, true, false, not, ◌&&◌, cond, refl, sym, ap, subst, ◌∙◌, nat_cmp, Result, Ok, Err, IfOk}
+use Rattle.std.specs.declared.cmp.Ordering.{Ordering}
+use Rattle.std.specs.declared.cmp.Ordering.TheVariants.{Less, Equal, Greater}
+use Rattle.std.specs.Ordering.{is_eq, is_lt, is_ge}
+use Rattle.sqlite.specs.declared.types.Value.{Value}
+use Rattle.sqlite.specs.declared.types.Value.TheVariants.{Null, Int, Real, Text, Blob}
+use Rattle.sqlite.specs.Order.{Row, column, value_cmp}
+use Rattle.sqlite.specs.Tree.{rowid, has_rowid}
+use Rattle.sqlite.specs.Ops.{is_true, from_truth, binary}
+use Rattle.sqlite_sql.specs.declared.ops.BinaryOp.TheVariants.{Compare, Is}
+use Rattle.sqlite_sql.specs.declared.ops.CompareOp.TheVariants.{Eq, Ge}
+use Rattle.sqlite_value.specs.declared.keys.Collation.TheVariants.{Binary}
+use Rattle.sqlite_value.proofs.OrderLemmas.{value_cmp-Null}
+use Rattle.store_tables.specs.Shown.{is_numbered, is_child, is_child_named, is_top, is_user}
+use Rattle.store_tables.proofs.Texts.{matches_parameter, is_kept, top_tests}
+use Rattle.store_tables.proofs.Answers.{passes}
+
+pub and_true : (b : Bool) → b && true ≡ b
+and_true true = refl
+and_true false = refl
+
+pub filter_same : {A : Type 0} (p q : A → Bool) → ((x : A) → p x ≡ q x) → (xs : List A) → filter p xs ≡ filter q xs
+filter_same p q same [] = refl
+filter_same p q same (x ∷ xs) = ap (λ b. cond b (x ∷ filter p xs) (filter p xs)) (same x) ∙ ap (λ l. cond (q x) (x ∷ l) l) (filter_same p q same xs)
+
+pub if_ok : {A E : Type 0} (r : Result A E) (P Q : A → Type 0) → ((a : A) → P a → Q a) → IfOk r P → IfOk r Q
+if_ok (Ok a) P Q f p = f a p
+if_ok (Err e) P Q f p = tt
+
+pub told : (b : Bool) → is_true (from_truth (Rattle.std.proofs.Common.Some b)) ≡ b
+told true = refl
+told false = refl
+
+-- as SQL's = and >=, of a value that is not NULL
+pub equals_int : (a : Value) (n : ℤ) → is_true (binary (Compare Eq Binary) a (Int n)) ≡ is_eq (value_cmp a (Int n))
+unfolding binary
+equals_int Null n = sym (ap is_eq (value_cmp-Null (Int n)))
+equals_int (Int m) n = told _
+equals_int (Real x) n = told _
+equals_int (Text t) n = told _
+equals_int (Blob b) n = told _
+
+pub equals_text : (a : Value) (t : List ℕ) → is_true (binary (Compare Eq Binary) a (Text t)) ≡ is_eq (value_cmp a (Text t))
+unfolding binary
+equals_text Null t = sym (ap is_eq (value_cmp-Null (Text t)))
+equals_text (Int m) t = told _
+equals_text (Real x) t = told _
+equals_text (Text s) t = told _
+equals_text (Blob b) t = told _
+
+is_null_is : (a : Value) → is_true (binary (Is Binary) a Null) ≡ is_eq (value_cmp a Null)
+unfolding binary
+is_null_is a = told _
+
+at_least_is : (o : Ordering) → is_ge o ≡ not (is_lt o)
+at_least_is Less = refl
+at_least_is Equal = refl
+at_least_is Greater = refl
+
+pub at_least_int : (a : Value) (n : ℤ) → is_true (binary (Compare Ge Binary) a (Int n)) ≡ not (is_lt (value_cmp a (Int n)))
+unfolding binary
+at_least_int Null n = sym (ap (λ o. not (is_lt o)) (value_cmp-Null (Int n)))
+at_least_int (Int m) n = told _ ∙ at_least_is _
+at_least_int (Real x) n = told _ ∙ at_least_is _
+at_least_int (Text t) n = told _ ∙ at_least_is _
+at_least_int (Blob b) n = told _ ∙ at_least_is _
+
+pub passes_id : (id : ℤ) (r : Row) → passes (matches_parameter 0 0 ∷ []) (Int id ∷ []) r ≡ has_rowid id r
+passes_id id r = and_true _ ∙ equals_int (rowid r) id
+
+pub passes_child : (parent : ℤ) (r : Row) → passes (matches_parameter 2 0 ∷ is_kept ∷ []) (Int parent ∷ []) r ≡ is_child parent r
+passes_child parent r = ap (λ b. b && (is_true (binary (Compare Ge Binary) (rowid r) (Int (pos 1))) && true)) (equals_int (column r 2) parent)
+    ∙ ap (λ b. is_eq (value_cmp (column r 2) (Int parent)) && b) (and_true _ ∙ at_least_int (rowid r) (pos 1))
+
+pub passes_child_named : (parent : ℤ) (name : List ℕ) (r : Row) → passes (matches_parameter 2 0 ∷ matches_parameter 3 1 ∷ is_kept ∷ []) (Int parent ∷ Text name ∷ []) r ≡ is_child_named parent name r
+passes_child_named parent name r = ap (λ b. b && (is_true (binary (Compare Eq Binary) (column r 3) (Text name)) && (is_true (binary (Compare Ge Binary) (rowid r) (Int (pos 1))) && true))) (equals_int (column r 2) parent)
+    ∙ ap (λ b. is_eq (value_cmp (column r 2) (Int parent)) && (b && (is_true (binary (Compare Ge Binary) (rowid r) (Int (pos 1))) && true))) (equals_text (column r 3) name)
+    ∙ ap (λ b. is_eq (value_cmp (column r 2) (Int parent)) && (is_eq (value_cmp (column r 3) (Text name)) && b)) (and_true _ ∙ at_least_int (rowid r) (pos 1))
+
+pub passes_numbered : (r : Row) → passes (is_kept ∷ []) [] r ≡ is_numbered r
+passes_numbered r = and_true _ ∙ at_least_int (rowid r) (pos 1)
+
+pub passes_top : (r : Row) → passes top_tests [] r ≡ is_top r
+passes_top r = ap (λ b. b && (is_true (binary (Compare Ge Binary) (rowid r) (Int (pos 1))) && true)) (is_null_is (column r 2))
+    ∙ ap (λ b. is_eq (value_cmp (column r 2) Null) && b) (and_true _ ∙ at_least_int (rowid r) (pos 1))
+
+pub passes_user : (user : List ℕ) (r : Row) → passes (matches_parameter 2 0 ∷ []) (Text user ∷ []) r ≡ is_user user r
+passes_user user r = and_true _ ∙ equals_text (column r 2) user

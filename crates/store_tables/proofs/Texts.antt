@@ -1,0 +1,249 @@
+use Rattle.std.proofs.Common.{◌≡◌, ℕ, List, [], ◌∷◌, codes, refl, false, None, pos, negsuc}
+use Rattle.sqlite.specs.declared.types.Value.TheVariants.{Null, Int}
+use Rattle.sqlite.specs.Command.{Command}
+use Rattle.sqlite.specs.Command.TheVariants.{Insert, Update, Delete, Select}
+use Rattle.sqlite.specs.Source.TheVariants.{Values}
+use Rattle.sqlite_value.specs.declared.keys.Key.{Key}
+use Rattle.sqlite_value.specs.Keys.{ascending}
+use Rattle.sqlite_tied.specs.Compute.{everything}
+use Rattle.sqlite.specs.Listing.{understood, reads_listing}
+use Rattle.sqlite.specs.Query.{Query, inner, end}
+use Rattle.sqlite.specs.Term.{Term, lit, col, op2}
+use Rattle.sqlite_sql.specs.declared.ops.BinaryOp.TheVariants.{Compare, Is}
+use Rattle.sqlite_sql.specs.declared.ops.CompareOp.TheVariants.{Eq, Ge}
+use Rattle.sqlite_value.specs.declared.keys.Collation.TheVariants.{Binary}
+use Rattle.sqlite.proofs.Callers.{IsPlain, command_of}
+use Rattle.store_tables.specs.Tables.{room_schema}
+
+-- ---- the statements
+
+abbrev pub node_text : List ℕ
+node_text = codes "SELECT id, parent, name, kind, owner, grp, dacl_flags, sacl_flags, dacl_own, dacl_inh, sacl_own, sacl_inh FROM nodes WHERE id = ?1"
+
+abbrev pub child_text : List ℕ
+child_text = codes "SELECT id, parent, name, kind, owner, grp, dacl_flags, sacl_flags, dacl_own, dacl_inh, sacl_own, sacl_inh FROM nodes WHERE parent = ?1 AND name = ?2 AND id >= 1"
+
+abbrev pub children_text : List ℕ
+children_text = codes "SELECT id, parent, name, kind, owner, grp, dacl_flags, sacl_flags, dacl_own, dacl_inh, sacl_own, sacl_inh FROM nodes WHERE parent = ?1 AND id >= 1 ORDER BY name"
+
+abbrev pub root_text : List ℕ
+root_text = codes "SELECT id, parent, name, kind, owner, grp, dacl_flags, sacl_flags, dacl_own, dacl_inh, sacl_own, sacl_inh FROM nodes WHERE parent IS NULL AND id >= 1 ORDER BY id LIMIT 1"
+
+abbrev pub all_columns : List Term
+all_columns = col 1 0 ∷ col 1 2 ∷ col 1 3 ∷ col 1 4 ∷ col 1 5 ∷ col 1 6 ∷ col 1 7 ∷ col 1 8 ∷ col 1 9 ∷ col 1 10 ∷ col 1 11 ∷ col 1 12 ∷ []
+
+abbrev pub names : List (List ℕ)
+names = codes "id" ∷ codes "parent" ∷ codes "name" ∷ codes "kind" ∷ codes "owner" ∷ codes "grp" ∷ codes "dacl_flags" ∷ codes "sacl_flags" ∷ codes "dacl_own" ∷ codes "dacl_inh" ∷ codes "sacl_own" ∷ codes "sacl_inh" ∷ []
+
+-- this value of the row equals the parameter
+abbrev pub matches_parameter : ℕ → ℕ → Term
+matches_parameter place parameter = op2 (Compare Eq Binary) (col 1 place) (col 0 parameter)
+
+abbrev pub is_kept : Term
+is_kept = op2 (Compare Ge Binary) (col 1 0) (lit (Int (pos 1)))
+
+abbrev pub ascending_by : ℕ → Term × Key
+ascending_by place = (col 1 place, ascending Binary)
+
+abbrev pub query_of : ℕ → List Term → List Term → List (Term × Key) → Query
+query_of tree filter project order = record {
+  from = inner tree end;
+  filter = filter;
+  group = None;
+  project = project;
+  distinct = false;
+  collations = [];
+  order = order;
+  limit = lit (Int (negsuc 0));
+  offset = lit (Int (pos 0));
+}
+
+abbrev pub selects : Query → List (List ℕ) → Command
+selects q names = Select (record { lets = []; body = q }) names
+
+abbrev pub node_query : Query
+node_query = query_of 0 (matches_parameter 0 0 ∷ []) all_columns []
+
+abbrev pub child_query : Query
+child_query = query_of 0 (matches_parameter 2 0 ∷ matches_parameter 3 1 ∷ is_kept ∷ []) all_columns []
+
+abbrev pub children_query : Query
+children_query = query_of 0 (matches_parameter 2 0 ∷ is_kept ∷ []) all_columns (ascending_by 3 ∷ [])
+
+abbrev pub top_tests : List Term
+top_tests = op2 (Is Binary) (col 1 2) (lit Null) ∷ is_kept ∷ []
+
+abbrev pub root_query : Query
+root_query = record (query_of 0 top_tests all_columns (ascending_by 0 ∷ [])) { limit = lit (Int (pos 1)) }
+
+abbrev pub some_text : List ℕ
+some_text = codes "SELECT id FROM nodes WHERE parent = ?1 AND id >= 1 LIMIT 1"
+
+abbrev pub some_query : Query
+some_query = record (query_of 0 (matches_parameter 2 0 ∷ is_kept ∷ []) (col 1 0 ∷ []) []) { limit = lit (Int (pos 1)) }
+
+abbrev pub names_text : List ℕ
+names_text = codes "SELECT id, name, kind FROM nodes WHERE parent = ?1 AND id >= 1 ORDER BY name"
+
+abbrev pub name_columns : List Term
+name_columns = col 1 0 ∷ col 1 3 ∷ col 1 4 ∷ []
+
+abbrev pub name_query : Query
+name_query = query_of 0 (matches_parameter 2 0 ∷ is_kept ∷ []) name_columns (ascending_by 3 ∷ [])
+
+pub names_are : (command_of (understood room_schema names_text) ≡ selects name_query (codes "id" ∷ codes "name" ∷ codes "kind" ∷ [])) × (reads_listing room_schema names_text ≡ false)
+unfolding understood everything
+names_are = (refl, refl)
+
+pub plain_names : IsPlain (understood room_schema names_text)
+unfolding understood everything
+plain_names = (refl, refl)
+
+pub node_is : (command_of (understood room_schema node_text) ≡ selects node_query names) × (reads_listing room_schema node_text ≡ false)
+unfolding understood everything
+node_is = (refl, refl)
+
+pub child_is : (command_of (understood room_schema child_text) ≡ selects child_query names) × (reads_listing room_schema child_text ≡ false)
+unfolding understood everything
+child_is = (refl, refl)
+
+pub children_is : (command_of (understood room_schema children_text) ≡ selects children_query names) × (reads_listing room_schema children_text ≡ false)
+unfolding understood everything
+children_is = (refl, refl)
+
+pub root_is : (command_of (understood room_schema root_text) ≡ selects root_query names) × (reads_listing room_schema root_text ≡ false)
+unfolding understood everything
+root_is = (refl, refl)
+
+pub some_is : (command_of (understood room_schema some_text) ≡ selects some_query (codes "id" ∷ [])) × (reads_listing room_schema some_text ≡ false)
+unfolding understood everything
+some_is = (refl, refl)
+
+pub plain_some : IsPlain (understood room_schema some_text)
+unfolding understood everything
+plain_some = (refl, refl)
+
+abbrev pub ids_query : Query
+ids_query = query_of 0 (is_kept ∷ []) (col 1 0 ∷ []) (ascending_by 0 ∷ [])
+
+abbrev pub ids_text : List ℕ
+ids_text = codes "SELECT id FROM nodes WHERE id >= 1 ORDER BY id"
+
+pub ids_is : (command_of (understood room_schema ids_text) ≡ selects ids_query (codes "id" ∷ [])) × (reads_listing room_schema ids_text ≡ false)
+unfolding understood everything
+ids_is = (refl, refl)
+
+abbrev pub body_text : List ℕ
+body_text = codes "SELECT bytes FROM bodies WHERE node = ?1"
+
+pub body_is : (command_of (understood room_schema body_text) ≡ selects (query_of 2 (matches_parameter 0 0 ∷ []) (col 1 2 ∷ []) []) (codes "bytes" ∷ [])) × (reads_listing room_schema body_text ≡ false)
+unfolding understood everything
+body_is = (refl, refl)
+
+abbrev pub groups_text : List ℕ
+groups_text = codes "SELECT grp FROM members WHERE user = ?1 ORDER BY grp"
+
+abbrev pub groups_query : Query
+groups_query = query_of 3 (matches_parameter 2 0 ∷ []) (col 1 1 ∷ []) (ascending_by 1 ∷ [])
+
+pub groups_is : (command_of (understood room_schema groups_text) ≡ selects groups_query (codes "grp" ∷ [])) × (reads_listing room_schema groups_text ≡ false)
+unfolding understood everything
+groups_is = (refl, refl)
+
+abbrev pub insert_text : List ℕ
+insert_text = codes "INSERT INTO nodes (parent, name, kind, owner, grp, dacl_flags, sacl_flags, dacl_own, dacl_inh, sacl_own, sacl_inh) VALUES (?1, ?2, ?3, ?4, ?5, ?6, ?7, ?8, ?9, ?10, ?11)"
+
+abbrev pub insert_terms : List Term
+insert_terms = lit Null ∷ lit Null ∷ col 0 0 ∷ col 0 1 ∷ col 0 2 ∷ col 0 3 ∷ col 0 4 ∷ col 0 5 ∷ col 0 6 ∷ col 0 7 ∷ col 0 8 ∷ col 0 9 ∷ col 0 10 ∷ []
+
+pub insert_is : command_of (understood room_schema insert_text) ≡ Insert 0 (Values insert_terms 13)
+unfolding understood everything
+insert_is = refl
+
+abbrev pub update_text : List ℕ
+update_text = codes "UPDATE nodes SET parent = ?2, name = ?3, kind = ?4, owner = ?5, grp = ?6, dacl_flags = ?7, sacl_flags = ?8, dacl_own = ?9, dacl_inh = ?10, sacl_own = ?11, sacl_inh = ?12 WHERE id = ?1"
+
+abbrev pub update_terms : List Term
+update_terms = col 1 0 ∷ col 1 0 ∷ lit Null ∷ col 0 1 ∷ col 0 2 ∷ col 0 3 ∷ col 0 4 ∷ col 0 5 ∷ col 0 6 ∷ col 0 7 ∷ col 0 8 ∷ col 0 9 ∷ col 0 10 ∷ col 0 11 ∷ []
+
+pub update_is : command_of (understood room_schema update_text) ≡ Update 0 (record { lets = []; body = query_of 0 (matches_parameter 0 0 ∷ []) update_terms [] })
+unfolding understood everything
+update_is = refl
+
+abbrev pub dacl_inh_text : List ℕ
+dacl_inh_text = codes "UPDATE nodes SET dacl_inh = ?2 WHERE id = ?1"
+
+abbrev pub dacl_inh_terms : List Term
+dacl_inh_terms = col 1 0 ∷ col 1 0 ∷ lit Null ∷ col 1 2 ∷ col 1 3 ∷ col 1 4 ∷ col 1 5 ∷ col 1 6 ∷ col 1 7 ∷ col 1 8 ∷ col 1 9 ∷ col 0 1 ∷ col 1 11 ∷ col 1 12 ∷ []
+
+abbrev pub sacl_inh_text : List ℕ
+sacl_inh_text = codes "UPDATE nodes SET sacl_inh = ?2 WHERE id = ?1"
+
+abbrev pub sacl_inh_terms : List Term
+sacl_inh_terms = col 1 0 ∷ col 1 0 ∷ lit Null ∷ col 1 2 ∷ col 1 3 ∷ col 1 4 ∷ col 1 5 ∷ col 1 6 ∷ col 1 7 ∷ col 1 8 ∷ col 1 9 ∷ col 1 10 ∷ col 1 11 ∷ col 0 1 ∷ []
+
+-- rows of nodes that are found by their number are written with these terms
+abbrev pub updates_nodes : List Term → Command
+updates_nodes terms = Update 0 (record { lets = []; body = query_of 0 (matches_parameter 0 0 ∷ []) terms [] })
+
+pub dacl_inh_is : command_of (understood room_schema dacl_inh_text) ≡ updates_nodes dacl_inh_terms
+unfolding understood everything
+dacl_inh_is = refl
+
+pub sacl_inh_is : command_of (understood room_schema sacl_inh_text) ≡ updates_nodes sacl_inh_terms
+unfolding understood everything
+sacl_inh_is = refl
+
+pub plain_dacl_inh : IsPlain (understood room_schema dacl_inh_text)
+unfolding understood everything
+plain_dacl_inh = (refl, refl)
+
+pub plain_sacl_inh : IsPlain (understood room_schema sacl_inh_text)
+unfolding understood everything
+plain_sacl_inh = (refl, refl)
+
+abbrev pub delete_text : List ℕ
+delete_text = codes "DELETE FROM nodes WHERE id = ?1"
+
+pub delete_is : command_of (understood room_schema delete_text) ≡ Delete 0 (record { lets = []; body = query_of 0 (matches_parameter 0 0 ∷ []) (col 1 0 ∷ []) [] })
+unfolding understood everything
+delete_is = refl
+
+abbrev pub fill_text : List ℕ
+fill_text = codes "UPDATE bodies SET bytes = ?2 WHERE node = ?1"
+
+abbrev pub fill_terms : List Term
+fill_terms = col 1 0 ∷ col 1 0 ∷ lit Null ∷ col 0 1 ∷ []
+
+pub fill_is : command_of (understood room_schema fill_text) ≡ Update 1 (record { lets = []; body = query_of 2 (matches_parameter 0 0 ∷ []) fill_terms [] })
+unfolding understood everything
+fill_is = refl
+
+pub plain_fill : IsPlain (understood room_schema fill_text)
+unfolding understood everything
+plain_fill = (refl, refl)
+
+abbrev pub put_text : List ℕ
+put_text = codes "INSERT INTO bodies (node, bytes) VALUES (?1, ?2)"
+
+pub put_is : command_of (understood room_schema put_text) ≡ Insert 1 (Values (col 0 0 ∷ lit Null ∷ col 0 1 ∷ []) 3)
+unfolding understood everything
+put_is = refl
+
+pub plain_put : IsPlain (understood room_schema put_text)
+unfolding understood everything
+plain_put = (refl, refl)
+
+abbrev pub note_text : List ℕ
+note_text = codes "INSERT INTO audits (at, user, path, bits, granted, entry) VALUES (?1, ?2, ?3, ?4, ?5, ?6)"
+
+pub note_is : command_of (understood room_schema note_text) ≡ Insert 4 (Values (lit Null ∷ lit Null ∷ col 0 0 ∷ col 0 1 ∷ col 0 2 ∷ col 0 3 ∷ col 0 4 ∷ col 0 5 ∷ []) 8)
+unfolding understood everything
+note_is = refl
+
+-- each is one statement with no RETURNING, which reads no time
+pub plain_texts : IsPlain (understood room_schema node_text) × IsPlain (understood room_schema child_text) × IsPlain (understood room_schema children_text) × IsPlain (understood room_schema root_text)
+    × IsPlain (understood room_schema ids_text) × IsPlain (understood room_schema body_text) × IsPlain (understood room_schema groups_text) × IsPlain (understood room_schema insert_text)
+    × IsPlain (understood room_schema update_text) × IsPlain (understood room_schema delete_text) × IsPlain (understood room_schema note_text)
+unfolding understood everything
+plain_texts = ((refl, refl), (refl, refl), (refl, refl), (refl, refl), (refl, refl), (refl, refl), (refl, refl), (refl, refl), (refl, refl), (refl, refl), (refl, refl))

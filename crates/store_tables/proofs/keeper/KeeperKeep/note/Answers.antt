@@ -1,0 +1,19 @@
+use Rattle.std.proofs.Common.{ap, arith}
+use Rattle.room_rows.specs.Counts.{capped_rises}
+use Rattle.room_rows.specs.Keep.{capped}
+use Rattle.store_tables.proofs.Changing.{cause_later}
+use Rattle.store_tables.proofs.Tests.{if_ok}
+use Rattle.store_tables.proofs.keeper.KeeperKeep.note.Goals as goal
+
+pub returns : goal.returns
+returns g c =
+    let put = c.put_record.ensures in
+    record {
+      written = record {
+        follows = (put.same_reference, put.same_lender, put.puts.stays, put.puts.no_less);
+        written = put.written;
+        becomes = λ trust. if_ok c.put_record.result _ _ (λ done noted from_one. noted) (put.puts.becomes trust);
+        unfailed = if_ok c.put_record.result _ _ (λ done same. ap capped same) put.puts.unfailed;
+        fault = cause_later c.put_record.result _ _ _ _ (capped_rises _ _ (omega arith)) (capped_rises _ _ put.puts.no_less) put.puts.fault;
+      };
+    }

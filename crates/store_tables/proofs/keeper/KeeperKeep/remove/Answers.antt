@@ -1,0 +1,22 @@
+use Rattle.std.proofs.Common.{◌≡◌, refl, ap, subst, ◌∙◌, pos, arith}
+use Rattle.std.proofs.Common.{to_z, of_z, w64}
+use Rattle.std.proofs.Math.Facts.{to_z-of_z}
+use Rattle.sqlite.specs.Held.{state}
+use Rattle.store_tables.specs.Shown.{Removes}
+use Rattle.store_tables.proofs.Removed.{removed_rows}
+use Rattle.store_tables.proofs.keeper.KeeperKeep.remove.Goals as goal
+
+pub returns : goal.returns
+returns g c =
+    let old = state g.S.Store c.args.self.now.tx.now.conn.now in
+    let new = state g.S.Store c.delete_node.new.tx.conn.now in
+    let at : to_z w64 (of_z w64 c.in-Some.at) ≡ pos c.args.id = ap (λ z. to_z w64 (of_z w64 z)) c.in-Some.ensures.1 ∙ to_z-of_z c.in-Some.ensures.0 in
+    record {
+      written = record {
+        follows = (refl, c.in-Ok-eq1.ensures.same_reference, c.in-Ok-eq1.ensures.writes.stays, omega arith);
+        written = c.count_one.ensures.capped;
+        becomes = λ trust can. let gone = c.in-Ok-eq1.ensures.writes.leaves trust.clean trust.now c.in-Ok-eq1.field-0-test in removed_rows old.now new.now c.args.id trust.now (subst (λ z. Removes z old.now.trees new.now.trees) at gone) can;
+        unfailed = refl;
+        fault = tt;
+      };
+    }

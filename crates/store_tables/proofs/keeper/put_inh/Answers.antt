@@ -1,0 +1,26 @@
+use Rattle.std.proofs.Common.{◌≡◌, Some, refl, sym, ap, subst, ◌∙◌, pos, arith, to_z, of_z, w64}
+use Rattle.std.proofs.Math.Facts.{to_z-of_z}
+use Rattle.sqlite.specs.declared.types.Value.TheVariants.{Text}
+use Rattle.sqlite.specs.Held.{state}
+use Rattle.store_tables.specs.Meaning.{entries_in}
+use Rattle.store_tables.specs.RoomRows.{number_in-low}
+use Rattle.store_tables.specs.Shown.{Recasts, inheriting}
+use Rattle.store_tables.proofs.Inherited.{inherited_rows}
+use Rattle.store_tables.proofs.keeper.put_inh.Goals as goal
+
+pub returns-clause-puts : goal.returns-clause-puts
+returns-clause-puts g c =
+    let old = state g.S.Store c.args.keeper.now.tx.now.conn.now in
+    let new = state g.S.Store c.update_inh-done.new.tx.conn.now in
+    let text = c.as_str.result.now in
+    let back : entries_in (Text text) ≡ Some c.args.entries.now = subst (λ t. entries_in (Text t) ≡ Some c.args.entries.now) (sym c.as_str.ensures.value) c.in_ok-text.ensures.back in
+    let at : to_z w64 (of_z w64 c.in-Some.at) ≡ pos c.args.id = ap (λ z. to_z w64 (of_z w64 z)) c.in-Some.ensures.1 ∙ to_z-of_z c.in-Some.ensures.0 in
+    record {
+      stays = c.update_inh-done.ensures.writes.stays;
+      no_less = omega arith;
+      unfailed = refl;
+      fault = tt;
+      becomes = λ trust.
+          let put = c.in-Ok.ensures.writes.leaves trust.clean trust.now c.if-count-eq1.true in
+          inherited_rows old.now new.now c.args.id c.args.which text c.args.entries.now trust.now (number_in-low c.args.id c.in-Some.ensures.2) back (subst (λ z. Recasts (inheriting c.args.which text) z old.now.trees new.now.trees) at put);
+    }

@@ -1,0 +1,20 @@
+use Rattle.std.proofs.Common.{arith, refl}
+use Rattle.sqlite.specs.Held.{state}
+use Rattle.store_tables.specs.Columns.{Recalls}
+use Rattle.store_tables.proofs.Noting.{noted_rows}
+use Rattle.store_tables.proofs.keeper.put_record.Goals as goal
+
+pub returns-clause-puts : goal.returns-clause-puts
+returns-clause-puts g c =
+    let old = state g.S.Store c.args.keeper.now.tx.now.conn.now in
+    let new = state g.S.Store c.insert_record-done.new.tx.conn.now in
+    let row = c.args.row.now in
+    let record' = c.in-Some.record in
+    let recalls : Recalls row record' = rw c.in-Some.is at c.in_ok-record.ensures in
+    record {
+      stays = c.insert_record-done.ensures.writes.stays;
+      no_less = omega arith;
+      unfailed = refl;
+      fault = tt;
+      becomes = λ trust. noted_rows old.now new.now row record' recalls (c.in-Ok.ensures.writes.leaves trust.clean trust.now);
+    }

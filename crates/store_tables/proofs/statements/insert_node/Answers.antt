@@ -1,0 +1,19 @@
+use Rattle.std.proofs.Common.{subst, sym}
+use Rattle.sqlite.specs.Held.{state}
+use Rattle.store_tables.specs.Shown.{Stays}
+use Rattle.store_tables.specs.Trust.{stays_itself}
+use Rattle.store_tables.proofs.Asked.{writes}
+use Rattle.store_tables.proofs.Inserts.{insert_room, inserted}
+use Rattle.store_tables.proofs.Texts.{insert_text}
+use Rattle.store_tables.proofs.Updates.{bound_parent, columns_in, values}
+use Rattle.store_tables.proofs.statements.insert_node.Goals as goal
+
+pub returns-clause-writes : goal.returns-clause-writes
+returns-clause-writes g c =
+    let old = state g.S.Store c.args.tx.now.conn.now in
+    let new = state g.S.Store c.execute.new.self.conn.now in
+    let cols = columns_in c.args.columns.now c.requires in
+    let runs = rw (bound_parent c.args.columns.now.parent c.requires) at (simp (c.params-to_sql.ensures, c.params-to_sql-2.ensures, c.params-to_sql-3.ensures, c.params-to_sql-4.ensures, c.params-to_sql-5.ensures, c.params-to_sql-6.ensures, c.params-to_sql-7.ensures, c.params-to_sql-8.ensures, c.params-to_sql-9.ensures, c.params-to_sql-10.ensures, c.params-to_sql-11.ensures) at c.execute.ensures.runs) in
+    writes insert_text (values cols) old new c.execute.result _ _ c.execute.ensures.survives.clean (λ inside. insert_room cols old new inside)
+    (λ count room h. let d = inserted cols old new count room.schema h in (d.adds, d.last))
+    (λ off. ((c.execute.ensures.ended off).0, subst (λ h. Stays old (state g.S.Store h)) (sym (c.execute.ensures.ended off).1) (stays_itself old))) runs

@@ -1,0 +1,19 @@
+use Rattle.std.proofs.Common.{subst, sym}
+use Rattle.sqlite.specs.Held.{state}
+use Rattle.store_tables.specs.Columns.{record_values}
+use Rattle.store_tables.specs.Shown.{Stays}
+use Rattle.store_tables.specs.Trust.{stays_itself}
+use Rattle.store_tables.proofs.Asked.{writes}
+use Rattle.store_tables.proofs.Noted.{note_room, notes}
+use Rattle.store_tables.proofs.Texts.{note_text}
+use Rattle.store_tables.proofs.statements.insert_record.Goals as goal
+
+pub returns-clause-writes : goal.returns-clause-writes
+returns-clause-writes g c =
+    let old = state g.S.Store c.args.tx.now.conn.now in
+    let new = state g.S.Store c.execute.new.self.conn.now in
+    let record' = c.args.noted.now in
+    let runs = simp (c.params-to_sql.ensures, c.params-to_sql-2.ensures, c.params-to_sql-3.ensures, c.params-to_sql-4.ensures, c.params-to_sql-5.ensures, c.params-to_sql-6.ensures) at c.execute.ensures.runs in
+    writes note_text (record_values record') old new c.execute.result _ _ c.execute.ensures.survives.clean (λ inside. note_room record' old new inside)
+    (λ count room h. notes record' old new count room h)
+    (λ off. ((c.execute.ensures.ended off).0, subst (λ h. Stays old (state g.S.Store h)) (sym (c.execute.ensures.ended off).1) (stays_itself old))) runs

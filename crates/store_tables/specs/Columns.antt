@@ -1,0 +1,58 @@
+-- What is stored of the columns of an object.
+use Rattle.std.specs.Prelude.{◌≡◌, ◌⊎◌, ◌<◌, ℕ, pos, Some, ℤ, [], ◌∷◌, if◌then◌else◌, string_bytes}
+use Rattle.sqlite.specs.declared.types.Value.{Value}
+use Rattle.sqlite.specs.declared.types.Value.TheVariants.{Null, Int, Text}
+use Rattle.sqlite.specs.Order.{Row}
+use Rattle.room_rows.specs.declared.node.AuditRow.{AuditRow}
+use Rattle.room_rows.specs.declared.node.Node.{Node}
+use Rattle.store_tables.specs.declared.columns.Columns.{Columns}
+use Rattle.store_tables.specs.declared.columns.Record.{Record}
+use Rattle.sqlite.specs.Effect.{Database}
+use Rattle.store_tables.specs.Shown.{Adds}
+use Rattle.store_tables.specs.Meaning.{parent_in, text_in, kind_in, name_in, flags_in, entries_in}
+use Rattle.store_tables.specs.Meaning.{mask_in, path_in, place_in, user_in}
+
+abbrev pub values_of : Columns → Row
+values_of c = c.parent ∷ Text (string_bytes c.name) ∷ Int c.kind ∷ Text (string_bytes c.owner)
+    ∷ Text (string_bytes c.group) ∷ Int c.dacl_flags ∷ Int c.sacl_flags
+    ∷ Text (string_bytes c.dacl_own) ∷ Text (string_bytes c.dacl_inh)
+    ∷ Text (string_bytes c.sacl_own) ∷ Text (string_bytes c.sacl_inh) ∷ []
+
+-- NULL or an integer
+abbrev pub IsParent : Value → Type 0
+IsParent v = (v ≡ Null) ⊎ ((n : ℤ) × (v ≡ Int n))
+
+-- what is read of the columns is the object
+pub record Stores (n : Node) (c : Columns) : Type 0 where
+  pub is_parent : IsParent c.parent
+  pub parent : parent_in c.parent ≡ Some n.parent
+  pub name : text_in (Text (string_bytes c.name)) ≡ Some n.name
+  pub kind : kind_in (Int c.kind) ≡ Some n.kind
+  pub owner : name_in (Text (string_bytes c.owner)) ≡ Some n.owners.owner
+  pub group : name_in (Text (string_bytes c.group)) ≡ Some n.owners.group
+  pub dacl_flags : flags_in (Int c.dacl_flags) ≡ Some n.dacl.flags
+  pub sacl_flags : flags_in (Int c.sacl_flags) ≡ Some n.sacl.flags
+  pub dacl_own : entries_in (Text (string_bytes c.dacl_own)) ≡ Some n.dacl.own
+  pub dacl_inh : entries_in (Text (string_bytes c.dacl_inh)) ≡ Some n.dacl.inh
+  pub sacl_own : entries_in (Text (string_bytes c.sacl_own)) ≡ Some n.sacl.own
+  pub sacl_inh : entries_in (Text (string_bytes c.sacl_inh)) ≡ Some n.sacl.inh
+
+-- an object is stored in columns that are put in with the number that is told
+pub record IsStored (node : Node) (id : ℕ) (old new : Database) : Type 0 where
+  pub columns : Columns
+  pub stores : Stores node columns
+  pub adds : Adds (pos id) (values_of columns) old.trees new.trees
+  pub from_one : 0 < id
+
+abbrev pub record_values : Record → Row
+record_values r = Int r.at ∷ Text (string_bytes r.user) ∷ Text (string_bytes r.path)
+    ∷ Int (pos r.bits) ∷ Int (if r.granted then pos 1 else pos 0) ∷ Int r.entry ∷ []
+
+-- what is read of the columns is the record
+pub record Recalls (a : AuditRow) (r : Record) : Type 0 where
+  pub at : r.at ≡ a.at
+  pub user : user_in (Text (string_bytes r.user)) ≡ Some a.user
+  pub path : path_in (Text (string_bytes r.path)) ≡ Some a.path
+  pub bits : mask_in (Int (pos r.bits)) ≡ Some a.bits
+  pub granted : r.granted ≡ a.granted
+  pub entry : place_in (Int r.entry) ≡ Some (a.place, a.kind)

@@ -1,0 +1,103 @@
+-- What the statements of the keeper show of the tables, and what they leave.
+use Rattle.std.specs.Prelude.{◌≡◌, ℕ, ℤ, List, [], ◌∷◌, map, filter, take, Result, IfOk, OnOk, Vec}
+use Rattle.std.specs.Global.{Global}
+use Rattle.std.specs.List.Sorted.{IsPermutation}
+use Rattle.sqlite.specs.Order.{Row, column, value_cmp}
+use Rattle.sqlite.specs.Tree.{Trees, has_rowid}
+use Rattle.sqlite.specs.declared.error.Error.{Error}
+use Rattle.sqlite.specs.State.{State, HasCleanDisk, IsUnchanged}
+use Rattle.sqlite_keyed.specs.Lists.{sort_by}
+use Rattle.std.specs.declared.cmp.Ordering.{Ordering}
+use Rattle.sqlite.specs.Edit.{next_rowid}
+use Rattle.store_tables.specs.Shown.{Adds, IsRoom, Stays, shown_node, is_child, is_child_named}
+use Rattle.store_tables.specs.Shown.{is_numbered, is_top, is_user}
+
+-- ---- queries
+
+-- Over a room's tables the query shows such rows, and changes nothing.
+pub record Asks (Shows : Trees → List Row → Type 0) (old new : State)
+    (result : Result (Vec Row Global) Error) : Type 0 where
+  pub rows : HasCleanDisk new → IsRoom old.now
+      → IfOk result (λ rows. Shows old.now.trees rows.items)
+  pub same : HasCleanDisk new → IsRoom old.now → OnOk result (IsUnchanged old new)
+  pub stays : Stays old new
+
+-- the row of this number
+abbrev pub HasNode : ℤ → Trees → List Row → Type 0
+HasNode id db rows = IsPermutation (map shown_node (filter (has_rowid id) (db 0))) rows
+
+-- the rows of this parent and this name
+abbrev pub HasChild : ℤ → List ℕ → Trees → List Row → Type 0
+HasChild parent name db rows =
+    IsPermutation (map shown_node (filter (is_child_named parent name) (db 0))) rows
+
+abbrev pub shown_number : Row → Row
+shown_number r = column r 0 ∷ []
+
+-- the number of one of the rows of this parent, if there are any
+abbrev pub HasSome : ℤ → Trees → List Row → Type 0
+HasSome parent db rows = (all : List Row)
+    × IsPermutation (map shown_number (filter (is_child parent) (db 0))) all × (rows ≡ take 1 all)
+
+-- the row without a parent of the least number
+abbrev pub HasTop : Trees → List Row → Type 0
+HasTop db rows = rows ≡ take 1 (map shown_node (filter is_top (db 0)))
+
+abbrev pub by_column : ℕ → Row → Row → Ordering
+by_column place a b = value_cmp (column a place) (column b place)
+
+-- the rows of this parent, in order of name
+abbrev pub HasUnder : ℤ → Trees → List Row → Type 0
+HasUnder parent db rows =
+    rows ≡ map shown_node (sort_by (by_column 3) (filter (is_child parent) (db 0)))
+
+abbrev pub shown_name : Row → Row
+shown_name r = column r 0 ∷ column r 3 ∷ column r 4 ∷ []
+
+-- the numbers, names and kinds of the rows of this parent, in order of name
+abbrev pub HasNames : ℤ → Trees → List Row → Type 0
+HasNames parent db rows =
+    rows ≡ map shown_name (sort_by (by_column 3) (filter (is_child parent) (db 0)))
+
+abbrev pub shown_group : Row → Row
+shown_group r = column r 1 ∷ []
+
+-- the groups of this user, in order
+abbrev pub HasGroups : List ℕ → Trees → List Row → Type 0
+HasGroups user db rows =
+    rows ≡ map shown_group (sort_by (by_column 1) (filter (is_user user) (db 3)))
+
+-- all numbers, rising
+abbrev pub HasNumbers : Trees → List Row → Type 0
+HasNumbers db rows = rows ≡ map shown_number (filter is_numbered (db 0))
+
+abbrev pub shown_bytes : Row → Row
+shown_bytes r = column r 2 ∷ []
+
+-- the bytes of this number
+abbrev pub HasBytes : ℤ → Trees → List Row → Type 0
+HasBytes id db rows = IsPermutation (map shown_bytes (filter (has_rowid id) (db 2))) rows
+
+-- ---- changes
+
+-- Over a room's tables the command leaves this, by the count that it answers.
+pub record Writes (Leaves : ℕ → State → State → Type 0) (old new : State) (result : Result ℕ Error)
+    : Type 0 where
+  pub leaves : HasCleanDisk new → IsRoom old.now → IfOk result (λ count. Leaves count old new)
+  pub stays : Stays old new
+
+-- the trees become so, where one row was changed
+abbrev pub OfOne : (Trees → Trees → Type 0) → ℕ → State → State → Type 0
+OfOne Becomes count old new = count ≡ 1 → Becomes old.now.trees new.now.trees
+
+-- the trees become so, whatever is counted
+abbrev pub OfAny : (Trees → Trees → Type 0) → ℕ → State → State → Type 0
+OfAny Becomes count old new = Becomes old.now.trees new.now.trees
+
+-- a row of nodes is put in with the next number, which the connection then tells
+abbrev pub PutsNode : Row → State → State → Type 0
+PutsNode values old new = Adds (next_rowid (old.now.trees 0)) values old.now.trees new.now.trees
+    × (new.last_rowid ≡ next_rowid (old.now.trees 0))
+
+abbrev pub OfNode : Row → ℕ → State → State → Type 0
+OfNode values count old new = PutsNode values old new

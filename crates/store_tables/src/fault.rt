@@ -1,0 +1,15 @@
+//! Why the database failed.
+ghost use Rattle.std.specs.Prelude.{◌≡◌};
+ghost use Rattle.store_tables.specs.Seeing.{wants_memory};
+
+use sqlite::{Error, ErrorCode};
+
+/// Whether there was no memory for the database's own work, which is no fault of the database.
+pub fn wants_memory(error: Error) -> bool
+    ensures { result ≡ wants_memory error }
+{
+    match error {
+        Error::SqliteFailure(ErrorCode::OutOfMemory) => true,
+        _ => false,
+    }
+}

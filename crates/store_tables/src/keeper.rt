@@ -1,0 +1,386 @@
+//! The keeper of the rows of a room's tables.
+ghost use Rattle.std.proofs.Common.{arith, refl, ◌∙◌};
+ghost use Rattle.sqlite.specs.Held.{state};
+ghost use Rattle.room_rows.specs.Counts.{capped_ends, capped_rises};
+ghost use Rattle.std.specs.Prelude.{◌≡◌, ◌≤◌, pos};
+ghost use Rattle.room_rows.specs.Keep.{capped, writes_after};
+ghost use Rattle.store_tables.specs.Meaning.{rows_of};
+ghost use Rattle.store_tables.specs.Columns.{IsStored};
+ghost use Rattle.room_ace.specs.Valid.{is_document};
+ghost use Rattle.store_tables.specs.Shown.{GetsBytes, Stays};
+ghost use Rattle.store_tables.specs.Trust.{HasNoted, Inherits, IsTrusted, Puts, Rewrites};
+ghost use Rattle.store_tables.specs.Trust.{stays_itself};
+ghost use Rattle.store_tables.specs.Trust.{stays_on, trusted_first, trusted_last};
+ghost use Rattle.store_tables.specs.RoomRows.{room_rows};
+
+use crate::columns::{columns_of, record_of};
+use crate::fault::wants_memory;
+use crate::reading::number_of;
+use crate::seen::{
+    answer, answer_top, rowid_of, see_all, see_bytes, see_listing, see_names, see_numbers, see_only,
+};
+use crate::statements::{
+    delete_node, insert_bytes, insert_node, insert_record, select_bytes, select_child,
+    select_groups, select_names, select_node, select_numbers, select_some, select_top,
+    select_under, update_bytes, update_inh, update_node,
+};
+use room_ace::{Entry, Name, Names, Owners, Which, names_are_text, print_entries};
+use room_rows::{
+    AuditRow, Bytes, Held, Keep, KeepFault, Listing, NewNode, Node, Nodes, Numbers, Text,
+    count_one, failed,
+};
+use sqlite::types::ValueRef;
+use sqlite::{Alter, Transaction};
+use std::alloc::Global;
+
+/// The rows of a room's tables, inside one transaction. Whoever begins that writes the keeper out,
+/// with both counts at 0: a call would hide from its proof which transaction the keeper holds.
+#[derive(Drop)]
+pub struct Keeper<'a, 'conn, S: Alter> {
+    /// Where memory is taken.
+    pub alloc: Global,
+    /// The transaction.
+    pub tx: &'a mut Transaction<'conn, S>,
+    /// How often the keeper itself failed.
+    pub failures: u64,
+    /// How much it wrote.
+    pub writes: u64,
+}
+
+// Writes all columns of an object that is there.
+fn put<S: Alter>(keeper: &mut Keeper<'_, '_, S>, node: &Node) -> Result<(), KeepFault>
+    ensures same_reference { keeper.new.tx.ghost_name ≡ keeper.old.tx.ghost_name }
+    ensures same_lender { keeper.new.tx.now.conn.ghost_name ≡ keeper.old.tx.now.conn.ghost_name }
+    ensures written { capped keeper.new.writes ≡ writes_after result (capped keeper.old.writes) }
+    ensures puts { Puts (state S.Store keeper.old.tx.now.conn.now)
+        (state S.Store keeper.new.tx.now.conn.now) keeper.old.failures keeper.new.failures
+        result (λ _. Rewrites node.now) }
+{
+    let Some(at) = rowid_of(node.id) else {
+        return Err(failed(&mut keeper.failures));
+    };
+    let Some(columns) = columns_of(keeper.alloc, node)? else {
+        return Err(failed(&mut keeper.failures));
+    };
+    let done = update_node(keeper.tx, at, &columns);
+    drop(columns);
+    match done {
+        Ok(count) if count == 1 => {}
+        Err(error) if wants_memory(error) => return Err(KeepFault::Memory),
+        _ => return Err(failed(&mut keeper.failures)),
+    }
+    count_one(&mut keeper.writes);
+    Ok(())
+}
+
+// Writes what a list of an object that is there inherits. It is one column, which costs less than
+// half of the whole row.
+fn put_inh<S: Alter>(
+    keeper: &mut Keeper<'_, '_, S>,
+    id: u64,
+    which: Which,
+    entries: &[Entry],
+) -> Result<(), KeepFault>
+    ensures same_reference { keeper.new.tx.ghost_name ≡ keeper.old.tx.ghost_name }
+    ensures same_lender { keeper.new.tx.now.conn.ghost_name ≡ keeper.old.tx.now.conn.ghost_name }
+    ensures written { capped keeper.new.writes ≡ writes_after result (capped keeper.old.writes) }
+    ensures puts { Puts (state S.Store keeper.old.tx.now.conn.now)
+        (state S.Store keeper.new.tx.now.conn.now) keeper.old.failures keeper.new.failures
+        result (λ _. Inherits id which entries.now) }
+{
+    let Some(at) = rowid_of(id) else {
+        return Err(failed(&mut keeper.failures));
+    };
+    let text = print_entries(keeper.alloc, entries)?;
+    let done = update_inh(keeper.tx, at, which, text.as_str());
+    drop(text);
+    match done {
+        Ok(count) if count == 1 => {}
+        Err(error) if wants_memory(error) => return Err(KeepFault::Memory),
+        _ => return Err(failed(&mut keeper.failures)),
+    }
+    count_one(&mut keeper.writes);
+    Ok(())
+}
+
+// Puts in the row of a new object, and answers its number.
+fn put_new<S: Alter>(keeper: &mut Keeper<'_, '_, S>, node: &Node) -> Result<u64, KeepFault>
+    ensures same_reference { keeper.new.tx.ghost_name ≡ keeper.old.tx.ghost_name }
+    ensures same_lender { keeper.new.tx.now.conn.ghost_name ≡ keeper.old.tx.now.conn.ghost_name }
+    ensures unwritten { keeper.new.writes ≡ keeper.old.writes }
+    ensures puts { Puts (state S.Store keeper.old.tx.now.conn.now)
+        (state S.Store keeper.new.tx.now.conn.now) keeper.old.failures keeper.new.failures
+        result (IsStored node.now) }
+{
+    let Some(columns) = columns_of(keeper.alloc, node)? else {
+        return Err(failed(&mut keeper.failures));
+    };
+    let done = insert_node(keeper.tx, &columns);
+    drop(columns);
+    match done {
+        Ok(_) => {}
+        Err(error) if wants_memory(error) => return Err(KeepFault::Memory),
+        Err(_) => return Err(failed(&mut keeper.failures)),
+    }
+    match number_of(ValueRef::Int(keeper.tx.last_insert_rowid())) {
+        Some(id) => Ok(id),
+        None => Err(failed(&mut keeper.failures)),
+    }
+}
+
+// Puts in the bytes of a new object, where it is a document.
+fn put_bytes<S: Alter>(
+    keeper: &mut Keeper<'_, '_, S>,
+    id: u64,
+    node: &Node,
+    bytes: &[u8],
+) -> Result<(), KeepFault>
+    ensures same_reference { keeper.new.tx.ghost_name ≡ keeper.old.tx.ghost_name }
+    ensures same_lender { keeper.new.tx.now.conn.ghost_name ≡ keeper.old.tx.now.conn.ghost_name }
+    ensures unwritten { keeper.new.writes ≡ keeper.old.writes }
+    ensures puts { Puts (state S.Store keeper.old.tx.now.conn.now)
+        (state S.Store keeper.new.tx.now.conn.now) keeper.old.failures keeper.new.failures
+        result (λ _. GetsBytes (is_document node.now.kind) (pos id) bytes.now) }
+{
+    if !node.is_document() {
+        return Ok(());
+    }
+    let Some(at) = rowid_of(id) else {
+        return Err(failed(&mut keeper.failures));
+    };
+    match insert_bytes(keeper.tx, at, bytes) {
+        Ok(_) => Ok(()),
+        Err(error) if wants_memory(error) => Err(KeepFault::Memory),
+        Err(_) => Err(failed(&mut keeper.failures)),
+    }
+}
+
+// Puts in a record.
+fn put_record<S: Alter>(keeper: &mut Keeper<'_, '_, S>, row: &AuditRow) -> Result<(), KeepFault>
+    ensures same_reference { keeper.new.tx.ghost_name ≡ keeper.old.tx.ghost_name }
+    ensures same_lender { keeper.new.tx.now.conn.ghost_name ≡ keeper.old.tx.now.conn.ghost_name }
+    ensures written { capped keeper.new.writes ≡ writes_after result (capped keeper.old.writes) }
+    ensures puts { Puts (state S.Store keeper.old.tx.now.conn.now)
+        (state S.Store keeper.new.tx.now.conn.now) keeper.old.failures keeper.new.failures
+        result (λ _. HasNoted row.now) }
+{
+    let Some(record) = record_of(keeper.alloc, row)? else {
+        return Err(failed(&mut keeper.failures));
+    };
+    let done = insert_record(keeper.tx, &record);
+    drop(record);
+    match done {
+        Ok(_) => {}
+        Err(error) if wants_memory(error) => return Err(KeepFault::Memory),
+        Err(_) => return Err(failed(&mut keeper.failures)),
+    }
+    count_one(&mut keeper.writes);
+    Ok(())
+}
+
+impl<'a, 'conn, S: Alter> Keep for Keeper<'a, 'conn, S> {
+    ghost rows = { λ k. rows_of (state S.Store k.tx.now.conn.now).now };
+
+    ghost failures = { λ k. capped k.failures };
+
+    ghost writes = { λ k. capped k.writes };
+
+    ghost Follows = { λ a b.
+        (b.tx.ghost_name ≡ a.tx.ghost_name)
+        × (b.tx.now.conn.ghost_name ≡ a.tx.now.conn.ghost_name)
+        × Stays (state S.Store a.tx.now.conn.now) (state S.Store b.tx.now.conn.now)
+        × (a.failures ≤ b.failures) };
+
+    ghost IsTrusted = { λ a b.
+        IsTrusted (state S.Store a.tx.now.conn.now) (state S.Store b.tx.now.conn.now) };
+
+    ghost laws = { record {
+      itself = λ a. (refl, refl, stays_itself _, Prim.omega arith);
+      on = λ a b c p q.
+          (q.0 ∙ p.0, q.1 ∙ p.1, stays_on _ _ _ p.2 q.2, Prim.omega (arith, p.3, q.3));
+      rise = λ a b p. capped_rises _ _ p.3;
+      ends = λ a. (capped_ends _, capped_ends _);
+      first = λ a b c p q t. trusted_first _ _ _ p.2 q.2 t;
+      last = λ a b c p q t. trusted_last _ _ _ p.2 q.2 t;
+      are = λ a b t. room_rows _ t.now;
+    } };
+
+    fn root(&mut self) -> Result<Node, KeepFault> {
+        let rows = match select_top(self.tx) {
+            Ok(rows) => rows,
+            Err(error) if wants_memory(error) => return Err(KeepFault::Memory),
+            Err(_) => return Err(failed(&mut self.failures)),
+        };
+        let seen = see_only(self.alloc, rows.as_slice())?;
+        answer_top(seen, &mut self.failures)
+    }
+
+    fn ids(&mut self) -> Result<Numbers, KeepFault> {
+        let rows = match select_numbers(self.tx) {
+            Ok(rows) => rows,
+            Err(error) if wants_memory(error) => return Err(KeepFault::Memory),
+            Err(_) => return Err(failed(&mut self.failures)),
+        };
+        let ids = see_numbers(self.alloc, rows.as_slice())?;
+        Ok(ids)
+    }
+
+    fn node(&mut self, id: u64) -> Result<Option<Node>, KeepFault> {
+        let Some(at) = rowid_of(id) else {
+            return Err(failed(&mut self.failures));
+        };
+        let rows = match select_node(self.tx, at) {
+            Ok(rows) => rows,
+            Err(error) if wants_memory(error) => return Err(KeepFault::Memory),
+            Err(_) => return Err(failed(&mut self.failures)),
+        };
+        let seen = see_only(self.alloc, rows.as_slice())?;
+        answer(seen, &mut self.failures)
+    }
+
+    fn child(&mut self, parent: u64, name: &str) -> Result<Option<Node>, KeepFault> {
+        let Some(at) = rowid_of(parent) else {
+            return Err(failed(&mut self.failures));
+        };
+        let rows = match select_child(self.tx, at, name) {
+            Ok(rows) => rows,
+            Err(error) if wants_memory(error) => return Err(KeepFault::Memory),
+            Err(_) => return Err(failed(&mut self.failures)),
+        };
+        let seen = see_only(self.alloc, rows.as_slice())?;
+        answer(seen, &mut self.failures)
+    }
+
+    fn children(&mut self, parent: u64) -> Result<Nodes, KeepFault> {
+        let Some(at) = rowid_of(parent) else {
+            return Err(failed(&mut self.failures));
+        };
+        let rows = match select_under(self.tx, at) {
+            Ok(rows) => rows,
+            Err(error) if wants_memory(error) => return Err(KeepFault::Memory),
+            Err(_) => return Err(failed(&mut self.failures)),
+        };
+        let seen = see_all(self.alloc, rows.as_slice())?;
+        answer(seen, &mut self.failures)
+    }
+
+    fn listing(&mut self, parent: u64) -> Result<Listing, KeepFault> {
+        let Some(at) = rowid_of(parent) else {
+            return Err(failed(&mut self.failures));
+        };
+        let rows = match select_names(self.tx, at) {
+            Ok(rows) => rows,
+            Err(error) if wants_memory(error) => return Err(KeepFault::Memory),
+            Err(_) => return Err(failed(&mut self.failures)),
+        };
+        let seen = see_listing(self.alloc, rows.as_slice())?;
+        answer(seen, &mut self.failures)
+    }
+
+    fn has_children(&mut self, parent: u64) -> Result<bool, KeepFault> {
+        let Some(at) = rowid_of(parent) else {
+            return Err(failed(&mut self.failures));
+        };
+        match select_some(self.tx, at) {
+            Ok(rows) => Ok(!rows.as_slice().is_empty()),
+            Err(error) if wants_memory(error) => Err(KeepFault::Memory),
+            Err(_) => Err(failed(&mut self.failures)),
+        }
+    }
+
+    fn body(&mut self, id: u64) -> Result<Option<Bytes>, KeepFault> {
+        let Some(at) = rowid_of(id) else {
+            return Err(failed(&mut self.failures));
+        };
+        let rows = match select_bytes(self.tx, at) {
+            Ok(rows) => rows,
+            Err(error) if wants_memory(error) => return Err(KeepFault::Memory),
+            Err(_) => return Err(failed(&mut self.failures)),
+        };
+        let seen = see_bytes(self.alloc, rows.as_slice())?;
+        answer(seen, &mut self.failures)
+    }
+
+    fn groups_of(&mut self, user: &Name) -> Result<Names, KeepFault> {
+        names_are_text();
+        user.is_known();
+        let rows = match select_groups(self.tx, user.as_str()) {
+            Ok(rows) => rows,
+            Err(error) if wants_memory(error) => return Err(KeepFault::Memory),
+            Err(_) => return Err(failed(&mut self.failures)),
+        };
+        let names = see_names(self.alloc, rows.as_slice())?;
+        Ok(names)
+    }
+
+    fn add(&mut self, node: NewNode) -> Result<u64, KeepFault> {
+        let (node, bytes) = node.at_number(0);
+        let id = put_new(self, &node)?;
+        let done = put_bytes(self, id, &node, bytes.as_slice());
+        drop(node);
+        drop(bytes);
+        done?;
+        count_one(&mut self.writes);
+        Ok(id)
+    }
+
+    fn set_held(&mut self, id: u64, which: Which, held: &Held) -> Result<(), KeepFault> {
+        let Some(mut node) = self.node(id)? else {
+            return Err(failed(&mut self.failures));
+        };
+        node.set_held(which, held.copy()?);
+        put(self, &node)
+    }
+
+    fn set_inh(&mut self, id: u64, which: Which, entries: &[Entry]) -> Result<(), KeepFault> {
+        // Whoever carries a list down has just read the row, so it isn't read again.
+        put_inh(self, id, which, entries)
+    }
+
+    fn set_owners(&mut self, id: u64, owners: &Owners) -> Result<(), KeepFault> {
+        let Some(mut node) = self.node(id)? else {
+            return Err(failed(&mut self.failures));
+        };
+        node.owners = owners.copy()?;
+        put(self, &node)
+    }
+
+    fn set_place(&mut self, id: u64, parent: u64, name: &str) -> Result<(), KeepFault> {
+        let Some(mut node) = self.node(id)? else {
+            return Err(failed(&mut self.failures));
+        };
+        node.parent = Some(parent);
+        node.name = Text::from_str(self.alloc, name)?;
+        put(self, &node)
+    }
+
+    fn remove(&mut self, id: u64) -> Result<(), KeepFault> {
+        let Some(at) = rowid_of(id) else {
+            return Err(failed(&mut self.failures));
+        };
+        match delete_node(self.tx, at) {
+            Ok(1) => {}
+            Err(error) if wants_memory(error) => return Err(KeepFault::Memory),
+            _ => return Err(failed(&mut self.failures)),
+        }
+        count_one(&mut self.writes);
+        Ok(())
+    }
+
+    fn set_body(&mut self, id: u64, bytes: &[u8]) -> Result<(), KeepFault> {
+        let Some(at) = rowid_of(id) else {
+            return Err(failed(&mut self.failures));
+        };
+        match update_bytes(self.tx, at, bytes) {
+            Ok(1) => {}
+            Err(error) if wants_memory(error) => return Err(KeepFault::Memory),
+            _ => return Err(failed(&mut self.failures)),
+        }
+        count_one(&mut self.writes);
+        Ok(())
+    }
+
+    fn note(&mut self, row: AuditRow) -> Result<(), KeepFault> {
+        put_record(self, &row)
+    }
+}

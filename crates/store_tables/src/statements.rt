@@ -1,0 +1,312 @@
+//! The statements, each a fixed text.
+ghost use Rattle.std.specs.Prelude.{◌≡◌};
+ghost use Rattle.sqlite.specs.Held.{state};
+ghost use Rattle.store_tables.specs.Columns.{IsParent, record_values, values_of};
+ghost use Rattle.store_tables.specs.Shown.{Bodies, Fills, Notes, Recasts, Removes, Replaces};
+ghost use Rattle.store_tables.specs.Shown.{inheriting};
+ghost use Rattle.store_tables.specs.Statements.{Asks, HasBytes, HasChild, HasGroups, HasNames};
+ghost use Rattle.store_tables.specs.Statements.{HasNode, HasNumbers, HasSome, HasTop, HasUnder};
+ghost use Rattle.store_tables.specs.Statements.{OfAny, OfNode, OfOne, Writes};
+
+use crate::columns::{Columns, Record};
+use room_ace::Which;
+use sqlite::{Alter, Error, Row, Transaction, params};
+
+/// The row of this number.
+pub(crate) fn select_node<S: Alter>(tx: &mut Transaction<'_, S>, id: i64) -> Result<Vec<Row>, Error>
+    ensures same_reference { tx.new.conn.ghost_name ≡ tx.old.conn.ghost_name }
+    ensures asks { Asks (HasNode id)
+        (state S.Store tx.old.conn.now) (state S.Store tx.new.conn.now) result }
+{
+    tx.query_all(
+        "SELECT id, parent, name, kind, owner, grp, dacl_flags, sacl_flags, dacl_own, \
+         dacl_inh, sacl_own, sacl_inh FROM nodes WHERE id = ?1",
+        params![id],
+    )
+}
+
+/// The rows of the objects with this parent and this name.
+pub(crate) fn select_child<S: Alter>(
+    tx: &mut Transaction<'_, S>,
+    parent: i64,
+    name: &str,
+) -> Result<Vec<Row>, Error>
+    ensures same_reference { tx.new.conn.ghost_name ≡ tx.old.conn.ghost_name }
+    ensures asks { Asks (HasChild parent name.now)
+        (state S.Store tx.old.conn.now) (state S.Store tx.new.conn.now) result }
+{
+    tx.query_all(
+        "SELECT id, parent, name, kind, owner, grp, dacl_flags, sacl_flags, dacl_own, \
+         dacl_inh, sacl_own, sacl_inh FROM nodes WHERE parent = ?1 AND name = ?2 AND id >= 1",
+        params![parent, name],
+    )
+}
+
+/// The rows with this parent, in order of name.
+pub(crate) fn select_under<S: Alter>(
+    tx: &mut Transaction<'_, S>,
+    parent: i64,
+) -> Result<Vec<Row>, Error>
+    ensures same_reference { tx.new.conn.ghost_name ≡ tx.old.conn.ghost_name }
+    ensures asks { Asks (HasUnder parent)
+        (state S.Store tx.old.conn.now) (state S.Store tx.new.conn.now) result }
+{
+    tx.query_all(
+        "SELECT id, parent, name, kind, owner, grp, dacl_flags, sacl_flags, dacl_own, \
+         dacl_inh, sacl_own, sacl_inh FROM nodes WHERE parent = ?1 AND id >= 1 ORDER BY name",
+        params![parent],
+    )
+}
+
+/// The numbers, names and kinds of the rows with this parent, in order of name.
+pub(crate) fn select_names<S: Alter>(
+    tx: &mut Transaction<'_, S>,
+    parent: i64,
+) -> Result<Vec<Row>, Error>
+    ensures same_reference { tx.new.conn.ghost_name ≡ tx.old.conn.ghost_name }
+    ensures asks { Asks (HasNames parent)
+        (state S.Store tx.old.conn.now) (state S.Store tx.new.conn.now) result }
+{
+    tx.query_all(
+        "SELECT id, name, kind FROM nodes WHERE parent = ?1 AND id >= 1 ORDER BY name",
+        params![parent],
+    )
+}
+
+/// The number of one of the rows with this parent.
+pub(crate) fn select_some<S: Alter>(
+    tx: &mut Transaction<'_, S>,
+    parent: i64,
+) -> Result<Vec<Row>, Error>
+    ensures same_reference { tx.new.conn.ghost_name ≡ tx.old.conn.ghost_name }
+    ensures asks { Asks (HasSome parent)
+        (state S.Store tx.old.conn.now) (state S.Store tx.new.conn.now) result }
+{
+    tx.query_all(
+        "SELECT id FROM nodes WHERE parent = ?1 AND id >= 1 LIMIT 1",
+        params![parent],
+    )
+}
+
+/// The row without a parent of the least number.
+pub(crate) fn select_top<S: Alter>(tx: &mut Transaction<'_, S>) -> Result<Vec<Row>, Error>
+    ensures same_reference { tx.new.conn.ghost_name ≡ tx.old.conn.ghost_name }
+    ensures asks { Asks HasTop
+        (state S.Store tx.old.conn.now) (state S.Store tx.new.conn.now) result }
+{
+    tx.query_all(
+        "SELECT id, parent, name, kind, owner, grp, dacl_flags, sacl_flags, dacl_own, \
+         dacl_inh, sacl_own, sacl_inh FROM nodes WHERE parent IS NULL AND id >= 1 ORDER BY id \
+         LIMIT 1",
+        params![],
+    )
+}
+
+/// The groups of this user, in order.
+pub(crate) fn select_groups<S: Alter>(
+    tx: &mut Transaction<'_, S>,
+    user: &str,
+) -> Result<Vec<Row>, Error>
+    ensures same_reference { tx.new.conn.ghost_name ≡ tx.old.conn.ghost_name }
+    ensures asks { Asks (HasGroups user.now)
+        (state S.Store tx.old.conn.now) (state S.Store tx.new.conn.now) result }
+{
+    tx.query_all(
+        "SELECT grp FROM members WHERE user = ?1 ORDER BY grp",
+        params![user],
+    )
+}
+
+/// All numbers, rising.
+pub(crate) fn select_numbers<S: Alter>(tx: &mut Transaction<'_, S>) -> Result<Vec<Row>, Error>
+    ensures same_reference { tx.new.conn.ghost_name ≡ tx.old.conn.ghost_name }
+    ensures asks { Asks HasNumbers
+        (state S.Store tx.old.conn.now) (state S.Store tx.new.conn.now) result }
+{
+    tx.query_all("SELECT id FROM nodes WHERE id >= 1 ORDER BY id", params![])
+}
+
+/// The bytes of this number.
+pub(crate) fn select_bytes<S: Alter>(
+    tx: &mut Transaction<'_, S>,
+    id: i64,
+) -> Result<Vec<Row>, Error>
+    ensures same_reference { tx.new.conn.ghost_name ≡ tx.old.conn.ghost_name }
+    ensures asks { Asks (HasBytes id)
+        (state S.Store tx.old.conn.now) (state S.Store tx.new.conn.now) result }
+{
+    tx.query_all("SELECT bytes FROM bodies WHERE node = ?1", params![id])
+}
+
+/// Takes the row of this number out, with its bytes.
+pub(crate) fn delete_node<S: Alter>(tx: &mut Transaction<'_, S>, id: i64) -> Result<usize, Error>
+    ensures same_reference { tx.new.conn.ghost_name ≡ tx.old.conn.ghost_name }
+    ensures writes { Writes (OfOne (Removes id))
+        (state S.Store tx.old.conn.now) (state S.Store tx.new.conn.now) result }
+{
+    tx.execute("DELETE FROM nodes WHERE id = ?1", params![id])
+}
+
+/// Writes all columns of the row of this number.
+pub(crate) fn update_node<S: Alter>(
+    tx: &mut Transaction<'_, S>,
+    id: i64,
+    columns: &Columns,
+) -> Result<usize, Error>
+    requires { IsParent columns.now.parent }
+    ensures same_reference { tx.new.conn.ghost_name ≡ tx.old.conn.ghost_name }
+    ensures writes { Writes (OfOne (Replaces id (values_of columns.now)))
+        (state S.Store tx.old.conn.now) (state S.Store tx.new.conn.now) result }
+{
+    tx.execute(
+        "UPDATE nodes SET parent = ?2, name = ?3, kind = ?4, owner = ?5, grp = ?6, dacl_flags \
+         = ?7, sacl_flags = ?8, dacl_own = ?9, dacl_inh = ?10, sacl_own = ?11, sacl_inh = ?12 \
+         WHERE id = ?1",
+        params![
+            id,
+            &columns.parent,
+            &columns.name,
+            &columns.kind,
+            &columns.owner,
+            &columns.group,
+            &columns.dacl_flags,
+            &columns.sacl_flags,
+            &columns.dacl_own,
+            &columns.dacl_inh,
+            &columns.sacl_own,
+            &columns.sacl_inh,
+        ],
+    )
+}
+
+// Writes what the dacl inherits in the row of this number.
+fn update_dacl_inh<S: Alter>(
+    tx: &mut Transaction<'_, S>,
+    id: i64,
+    text: &str,
+) -> Result<usize, Error>
+    ensures same_reference { tx.new.conn.ghost_name ≡ tx.old.conn.ghost_name }
+    ensures writes { Writes (OfOne (Recasts (inheriting Which.Dacl text.now) id))
+        (state S.Store tx.old.conn.now) (state S.Store tx.new.conn.now) result }
+{
+    tx.execute(
+        "UPDATE nodes SET dacl_inh = ?2 WHERE id = ?1",
+        params![id, text],
+    )
+}
+
+// The same of the sacl.
+fn update_sacl_inh<S: Alter>(
+    tx: &mut Transaction<'_, S>,
+    id: i64,
+    text: &str,
+) -> Result<usize, Error>
+    ensures same_reference { tx.new.conn.ghost_name ≡ tx.old.conn.ghost_name }
+    ensures writes { Writes (OfOne (Recasts (inheriting Which.Sacl text.now) id))
+        (state S.Store tx.old.conn.now) (state S.Store tx.new.conn.now) result }
+{
+    tx.execute(
+        "UPDATE nodes SET sacl_inh = ?2 WHERE id = ?1",
+        params![id, text],
+    )
+}
+
+/// Writes what a list inherits in the row of this number, and none of its other columns.
+pub(crate) fn update_inh<S: Alter>(
+    tx: &mut Transaction<'_, S>,
+    id: i64,
+    which: Which,
+    text: &str,
+) -> Result<usize, Error>
+    ensures same_reference { tx.new.conn.ghost_name ≡ tx.old.conn.ghost_name }
+    ensures writes { Writes (OfOne (Recasts (inheriting which text.now) id))
+        (state S.Store tx.old.conn.now) (state S.Store tx.new.conn.now) result }
+{
+    match which {
+        Which::Dacl => update_dacl_inh(tx, id, text),
+        Which::Sacl => update_sacl_inh(tx, id, text),
+    }
+}
+
+/// Writes the bytes of this number, which has some.
+pub(crate) fn update_bytes<S: Alter>(
+    tx: &mut Transaction<'_, S>,
+    id: i64,
+    bytes: &[u8],
+) -> Result<usize, Error>
+    ensures same_reference { tx.new.conn.ghost_name ≡ tx.old.conn.ghost_name }
+    ensures writes { Writes (OfOne (Fills id bytes.now))
+        (state S.Store tx.old.conn.now) (state S.Store tx.new.conn.now) result }
+{
+    tx.execute(
+        "UPDATE bodies SET bytes = ?2 WHERE node = ?1",
+        params![id, bytes],
+    )
+}
+
+/// Puts in a row with these columns, whose number the connection then tells.
+pub(crate) fn insert_node<S: Alter>(
+    tx: &mut Transaction<'_, S>,
+    columns: &Columns,
+) -> Result<usize, Error>
+    requires { IsParent columns.now.parent }
+    ensures same_reference { tx.new.conn.ghost_name ≡ tx.old.conn.ghost_name }
+    ensures writes { Writes (OfNode (values_of columns.now))
+        (state S.Store tx.old.conn.now) (state S.Store tx.new.conn.now) result }
+{
+    tx.execute(
+        "INSERT INTO nodes (parent, name, kind, owner, grp, dacl_flags, sacl_flags, dacl_own, \
+         dacl_inh, sacl_own, sacl_inh) VALUES (?1, ?2, ?3, ?4, ?5, ?6, ?7, ?8, ?9, ?10, ?11)",
+        params![
+            &columns.parent,
+            &columns.name,
+            &columns.kind,
+            &columns.owner,
+            &columns.group,
+            &columns.dacl_flags,
+            &columns.sacl_flags,
+            &columns.dacl_own,
+            &columns.dacl_inh,
+            &columns.sacl_own,
+            &columns.sacl_inh,
+        ],
+    )
+}
+
+/// Puts in the bytes of this number, which has none.
+pub(crate) fn insert_bytes<S: Alter>(
+    tx: &mut Transaction<'_, S>,
+    id: i64,
+    bytes: &[u8],
+) -> Result<usize, Error>
+    ensures same_reference { tx.new.conn.ghost_name ≡ tx.old.conn.ghost_name }
+    ensures writes { Writes (OfAny (Bodies id bytes.now))
+        (state S.Store tx.old.conn.now) (state S.Store tx.new.conn.now) result }
+{
+    tx.execute(
+        "INSERT INTO bodies (node, bytes) VALUES (?1, ?2)",
+        params![id, bytes],
+    )
+}
+
+/// Puts in a record behind the others.
+pub(crate) fn insert_record<S: Alter>(
+    tx: &mut Transaction<'_, S>,
+    noted: &Record,
+) -> Result<usize, Error>
+    ensures same_reference { tx.new.conn.ghost_name ≡ tx.old.conn.ghost_name }
+    ensures writes { Writes (OfAny (Notes (record_values noted.now)))
+        (state S.Store tx.old.conn.now) (state S.Store tx.new.conn.now) result }
+{
+    tx.execute(
+        "INSERT INTO audits (at, user, path, bits, granted, entry) VALUES (?1, ?2, ?3, ?4, ?5, ?6)",
+        params![
+            &noted.at,
+            &noted.user,
+            &noted.path,
+            noted.bits,
+            noted.granted,
+            &noted.entry,
+        ],
+    )
+}

@@ -1,0 +1,172 @@
+//! Which words the program takes.
+
+use clap::error::ErrorKind;
+use cli_words::{Command, read_command};
+use room_ace::{Failure, Which};
+use std::process::Abort;
+use std::test::Fail;
+
+// The words are this command.
+fn expect_read(
+    rt: &(impl Abort + AllocGlobal),
+    words: &[&str],
+    wanted: Command<'_>,
+) -> Result<(), Fail> {
+    match read_command(rt.alloc(), words) {
+        Ok(command) => assert_eq!(rt; command, wanted),
+        Err(_) => return Err(Fail::from("the words are refused")),
+    }
+    Ok(())
+}
+
+// What `clap` says of words that it refuses with this kind.
+fn told(rt: &(impl Abort + AllocGlobal), words: &[&str], kind: ErrorKind) -> Result<String, Fail> {
+    let fault = match read_command(rt.alloc(), words) {
+        Err(Failure::Fault(fault)) => fault,
+        _ => return Err(Fail::from("no refusal")),
+    };
+    assert_eq!(rt; fault.kind, kind);
+    Ok(fault.text)
+}
+
+// The words are refused with a text of this kind.
+fn expect_refused(
+    rt: &(impl Abort + AllocGlobal),
+    words: &[&str],
+    kind: ErrorKind,
+) -> Result<(), Fail> {
+    let text = told(rt, words, kind)?;
+    assert!(rt; text.as_str().contains("Usage: rooms"));
+    Ok(())
+}
+
+// The help of this subcommand has this line.
+fn expect_help(rt: &(impl Abort + AllocGlobal), subcommand: &str, line: &str) -> Result<(), Fail> {
+    let text = told(rt, &["rooms", subcommand, "--help"], ErrorKind::DisplayHelp)?;
+    assert!(rt; text.as_str().contains(line));
+    Ok(())
+}
+
+#[test]
+fn words_of_a_room_are_read(rt: HostRuntime) -> Result<(), Fail> {
+    let init = Command::Init {
+        file: "a.db",
+        owner: "alice",
+        group: "staff",
+    };
+    expect_read(&rt, &["rooms", "init", "a.db", "alice", "staff"], init)?;
+    let groups = Command::Groups {
+        file: "a.db",
+        csv: "g.csv",
+    };
+    expect_read(&rt, &["rooms", "groups", "a.db", "g.csv"], groups)?;
+    let reset = Command::Reset {
+        file: "a.db",
+        path: "/a b",
+        which: Which::Sacl,
+    };
+    expect_read(&rt, &["rooms", "reset", "a.db", "/a b", "sacl"], reset)?;
+    let dacl = Command::Reset {
+        file: "a.db",
+        path: "/",
+        which: Which::Dacl,
+    };
+    expect_read(&rt, &["rooms", "reset", "a.db", "/", "dacl"], dacl)
+}
+
+#[test]
+fn words_of_a_file_are_read(rt: HostRuntime) -> Result<(), Fail> {
+    let file = "a.db";
+    expect_read(&rt, &["rooms", "check"], Command::Check)?;
+    expect_read(
+        &rt,
+        &["rooms", "groups-out", file],
+        Command::GroupsOut { file },
+    )?;
+    expect_read(&rt, &["rooms", "audit", file], Command::Audit { file })?;
+    expect_read(&rt, &["rooms", "dump", file], Command::Dump { file })?;
+    expect_read(&rt, &["rooms", "verify", file], Command::Verify { file })?;
+    expect_read(&rt, &["rooms", "migrate", file], Command::Migrate { file })
+}
+
+// What `serve` is with these numbers.
+fn serve(port: u16, count: u32) -> Command<'static> {
+    Command::Serve {
+        file: "a.db",
+        port,
+        count,
+    }
+}
+
+#[test]
+fn port_and_count_have_defaults_and_ranges(rt: HostRuntime) -> Result<(), Fail> {
+    expect_read(&rt, &["rooms", "serve", "a.db"], serve(8780, 1))?;
+    let least = ["rooms", "serve", "a.db", "--port", "1", "--count", "1"];
+    expect_read(&rt, &least, serve(1, 1))?;
+    let most = [
+        "rooms", "serve", "a.db", "--port", "65535", "--count", "1000000",
+    ];
+    expect_read(&rt, &most, serve(65_535, 1_000_000))?;
+    let joined = ["rooms", "serve", "--count=7", "a.db"];
+    expect_read(&rt, &joined, serve(8780, 7))
+}
+
+#[test]
+fn numbers_out_of_range_are_refused(rt: HostRuntime) -> Result<(), Fail> {
+    let kind = ErrorKind::ValueValidation;
+    told(&rt, &["rooms", "serve", "a.db", "--port", "0"], kind)?;
+    told(&rt, &["rooms", "serve", "a.db", "--port", "65536"], kind)?;
+    told(&rt, &["rooms", "serve", "a.db", "--count", "0"], kind)?;
+    told(&rt, &["rooms", "serve", "a.db", "--count", "1000001"], kind)?;
+    told(&rt, &["rooms", "serve", "a.db", "--count", "many"], kind)?;
+    Ok(())
+}
+
+#[test]
+fn other_words_are_refused(rt: HostRuntime) -> Result<(), Fail> {
+    expect_refused(&rt, &["rooms"], ErrorKind::MissingSubcommand)?;
+    expect_refused(&rt, &["rooms", "paint"], ErrorKind::InvalidSubcommand)?;
+    expect_refused(&rt, &["rooms", "check", "more"], ErrorKind::UnknownArgument)?;
+    let missing = ErrorKind::MissingRequiredArgument;
+    expect_refused(&rt, &["rooms", "verify"], missing)?;
+    expect_refused(&rt, &["rooms", "init", "a.db", "alice"], missing)?;
+    let other_list = ["rooms", "reset", "a.db", "/", "facl"];
+    told(&rt, &other_list, ErrorKind::InvalidValue)?;
+    expect_refused(
+        &rt,
+        &["rooms", "dump", "a.db", "b.db"],
+        ErrorKind::UnknownArgument,
+    )
+}
+
+#[test]
+fn help_and_version_are_told(rt: HostRuntime) -> Result<(), Fail> {
+    expect_refused(&rt, &["rooms", "--help"], ErrorKind::DisplayHelp)?;
+    let version = told(&rt, &["rooms", "--version"], ErrorKind::DisplayVersion)?;
+    assert_eq!(rt; version.as_str(), "rooms 0.1.0\n");
+    Ok(())
+}
+
+#[test]
+fn help_tells_statuses_and_an_example(rt: HostRuntime) -> Result<(), Fail> {
+    expect_help(&rt, "check", "  2  refused: why")?;
+    expect_help(&rt, "check", "\ncaller: alice\n")?;
+    expect_help(&rt, "check", "Example: rooms check < input.txt")?;
+    expect_help(&rt, "init", "Example: rooms init office.rooms alice staff")?;
+    expect_help(
+        &rt,
+        "serve",
+        "Example: rooms serve office.rooms --port 8781",
+    )?;
+    expect_help(&rt, "groups", "  0  groups G, members M")?;
+    expect_help(&rt, "groups-out", "Example: rooms groups-out office.rooms")?;
+    expect_help(&rt, "audit", "Example: rooms audit office.rooms")?;
+    expect_help(&rt, "dump", "Example: rooms dump office.rooms")?;
+    expect_help(
+        &rt,
+        "reset",
+        "Example: rooms reset office.rooms / dacl < list.txt",
+    )?;
+    expect_help(&rt, "verify", "  1  fault PATH why")?;
+    expect_help(&rt, "migrate", "  0  migrated")
+}

@@ -1,0 +1,215 @@
+//! The subcommand `serve` on a database in memory.
+use crate::meeting::{DONE, Full, MADE, PUT, gets, listens, same_bytes, sends};
+use cli_serve::{NetPorts, host};
+use http_serve::Seconds;
+use room_ace::{Owners, read_name};
+use room_store::Store;
+use sqlite::{Connection, MemStore};
+use std::alloc::Global;
+use std::io;
+use std::io::Write;
+use std::net::{Ipv4Addr, Net, SocketAddr, SocketAddrV4, TcpListener, TcpStream};
+use std::rt::Clock;
+use std::test::Fail;
+use std::time::Duration;
+
+// A network in which one port can be bound, at which clients wait already.
+#[derive(Clone, Copy)]
+struct OnePort<'a> {
+    listener: &'a TcpListener,
+    port: u16,
+}
+
+impl Net for OnePort<'_> {
+    type Stream = TcpStream;
+
+    type Listener = TcpListener;
+
+    fn bind(&self, address: SocketAddr) -> io::Result<TcpListener> {
+        if address == SocketAddr::V4(SocketAddrV4::new(Ipv4Addr::LOCALHOST, self.port)) {
+            self.listener.try_clone()
+        } else {
+            Err(io::Error::from(io::ErrorKind::AddrInUse))
+        }
+    }
+
+    fn connect(&self, _address: SocketAddr) -> io::Result<TcpStream> {
+        Err(io::Error::from(io::ErrorKind::Unsupported))
+    }
+}
+
+// A clock that stands.
+#[derive(Drop)]
+struct Still;
+
+impl Clock for Still {
+    fn monotonic(&self) -> io::Result<Duration> {
+        Ok(Duration::from_secs(1000))
+    }
+
+    fn since_1970(&self) -> io::Result<Duration> {
+        Ok(Duration::from_secs(1000))
+    }
+}
+
+// What has to be told, and the status.
+#[derive(Clone, Copy)]
+struct Wanted<'a> {
+    out: &'a str,
+    err: &'a str,
+    status: u8,
+}
+
+fn new_room(alloc: Global) -> Result<Connection<MemStore>, Fail> {
+    let owner = read_name(alloc, "root").ok().ok_or("memory")?;
+    let group = read_name(alloc, "staff").ok().ok_or("memory")?;
+    let owners = Owners { owner, group };
+    created(Connection::open_in_memory(alloc)?, &owners)
+}
+
+fn created(conn: Connection<MemStore>, owners: &Owners) -> Result<Connection<MemStore>, Fail> {
+    if !conn.is_autocommit() {
+        return Err(Fail::from("in a transaction"));
+    }
+    match Store::create(conn, owners) {
+        Ok(store) => Ok(store.into_conn()),
+        Err(_) => Err(Fail::from("no room")),
+    }
+}
+
+// A database in which these statements were run.
+fn after(mut conn: Connection<MemStore>, text: &str) -> Result<Connection<MemStore>, Fail> {
+    conn.execute_batch(text)?;
+    Ok(conn)
+}
+
+// Hosts two connections at port 8780, which tells this.
+fn hosts(
+    alloc: Global,
+    conn: Connection<MemStore>,
+    net: &OnePort<'_>,
+    wanted: &Wanted<'_>,
+) -> Result<Connection<MemStore>, Fail> {
+    if !conn.is_autocommit() {
+        return Err(Fail::from("in a transaction"));
+    }
+    let mut out = Vec::new(alloc);
+    let mut err = Vec::new(alloc);
+    let mut ports = NetPorts::of(net);
+    let still = Still;
+    let mut clock = Seconds::of(&still);
+    let (conn, status) = host(
+        alloc, conn, &mut ports, &mut clock, 8780, 2, &mut out, &mut err,
+    );
+    same_bytes(out.as_slice(), wanted.out.as_bytes())?;
+    same_bytes(err.as_slice(), wanted.err.as_bytes())?;
+    if status == wanted.status {
+        return Ok(conn);
+    }
+    Err(Fail::new(format_args!("status {status}")))
+}
+
+// Hosts where standard output takes nothing.
+fn hosts_untold(alloc: Global, conn: Connection<MemStore>, net: &OnePort<'_>) -> Result<(), Fail> {
+    if !conn.is_autocommit() {
+        return Err(Fail::from("in a transaction"));
+    }
+    let mut err = Vec::new(alloc);
+    let mut ports = NetPorts::of(net);
+    let still = Still;
+    let mut clock = Seconds::of(&still);
+    let (_, status) = host(
+        alloc, conn, &mut ports, &mut clock, 8780, 2, &mut Full, &mut err,
+    );
+    same_bytes(err.as_slice(), b"fault: file\n")?;
+    if status == 3 {
+        return Ok(());
+    }
+    Err(Fail::new(format_args!("status {status}")))
+}
+
+#[test]
+fn a_room_is_served_and_kept(rt: HostRuntime) -> Result<(), Fail> {
+    let alloc = rt.alloc();
+    let listener = listens(&rt)?;
+    let first = sends(&rt, &listener, PUT)?;
+    let second = sends(&rt, &listener, PUT)?;
+    let third = sends(&rt, &listener, PUT)?;
+    let fourth = sends(&rt, &listener, PUT)?;
+    let port = listener.local_addr()?.port();
+    let line = format!(in alloc; "listening 127.0.0.1:{port}\n")?;
+    let wanted = Wanted {
+        out: line.as_str(),
+        err: "",
+        status: 0,
+    };
+    let net = OnePort {
+        listener: &listener,
+        port: 8780,
+    };
+    let conn = hosts(alloc, new_room(alloc)?, &net, &wanted)?;
+    let _conn = hosts(alloc, conn, &net, &wanted)?;
+    gets(alloc, first, MADE)?;
+    gets(alloc, second, DONE)?;
+    gets(alloc, third, DONE)?;
+    gets(alloc, fourth, DONE)
+}
+
+#[test]
+fn a_port_that_is_taken(rt: HostRuntime) -> Result<(), Fail> {
+    let listener = listens(&rt)?;
+    let net = OnePort {
+        listener: &listener,
+        port: 8781,
+    };
+    let wanted = Wanted {
+        out: "",
+        err: "fault: net\n",
+        status: 3,
+    };
+    let _conn = hosts(rt.alloc(), new_room(rt.alloc())?, &net, &wanted)?;
+    Ok(())
+}
+
+// That the database is refused, as this says.
+fn refuses(alloc: Global, net: &OnePort<'_>, text: &str, out: &str) -> Result<(), Fail> {
+    let conn = after(new_room(alloc)?, text)?;
+    let wanted = Wanted {
+        out,
+        err: "",
+        status: 2,
+    };
+    let _conn = hosts(alloc, conn, net, &wanted)?;
+    Ok(())
+}
+
+#[test]
+fn no_room_of_this_version(rt: HostRuntime) -> Result<(), Fail> {
+    let listener = listens(&rt)?;
+    let net = OnePort {
+        listener: &listener,
+        port: 8780,
+    };
+    let cases = [
+        ("DROP TABLE meta", "refused: not a rooms file\n"),
+        ("UPDATE meta SET value = 1", "refused: schema 1 is old\n"),
+        ("UPDATE meta SET value = -7", "refused: schema -7 is old\n"),
+        ("UPDATE meta SET value = 3", "refused: schema 3 is new\n"),
+    ];
+    'cases: for (text, out) in &cases {
+        refuses(rt.alloc(), &net, *text, *out)?;
+    }
+    Ok(())
+}
+
+#[test]
+fn lines_that_cannot_be_told(rt: HostRuntime) -> Result<(), Fail> {
+    let alloc = rt.alloc();
+    let listener = listens(&rt)?;
+    let net = OnePort {
+        listener: &listener,
+        port: 8780,
+    };
+    hosts_untold(alloc, new_room(alloc)?, &net)?;
+    hosts_untold(alloc, after(new_room(alloc)?, "DROP TABLE meta")?, &net)
+}

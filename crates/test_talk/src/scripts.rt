@@ -1,0 +1,146 @@
+//! Connections as scripts. A line `>` is sent, a line `<` has to come back, and a line `=` says how
+//! the connection ends. In each `|` stands for CRLF, and `~` for LF.
+use crate::going_on::play;
+use crate::pieces::Sink;
+use http_message::Routes;
+use room_http::{Ended, ServeFault, serve};
+use room_machine::Desk;
+use room_memory::MemDesk;
+use std::alloc::{AllocError, Global};
+use std::io::{Read, Write};
+use std::test::Fail;
+use test_player::open_keep;
+
+/// A document is put two times.
+pub const PUT_TWICE: &str = "\
+>PUT /doc/f HTTP/1.1|Room-User: root|Content-Length: 5||hello
+<HTTP/1.1 201 Created|Content-Length: 0||
+>PUT /doc/f HTTP/1.1|Room-User: root|Content-Length: 5||hello
+<HTTP/1.1 204 No Content||
+=Clean
+";
+
+/// What a connection sent back, and how it ended.
+#[derive(Drop)]
+pub struct Talk {
+    pub sent: Sink,
+    pub end: Result<Ended, ServeFault>,
+}
+
+/// The bytes of the lines with this mark.
+pub fn bytes_at(alloc: Global, script: &str, mark: &str) -> Result<Vec<u8>, Fail> {
+    bytes_from(alloc, script, mark, 0)
+}
+
+/// The bytes of the lines with this mark, without so many of the first ones.
+pub(crate) fn bytes_from(
+    alloc: Global,
+    script: &str,
+    mark: &str,
+    first: usize,
+) -> Result<Vec<u8>, Fail> {
+    let mut bytes = Vec::new(alloc);
+    let mut passed = 0;
+    'lines: for line in script.lines() {
+        if let Some(text) = line.strip_prefix(mark) {
+            if passed < first {
+                passed += 1;
+            } else {
+                push_bytes(&mut bytes, text)?;
+            }
+        }
+    }
+    Ok(bytes)
+}
+
+pub(crate) fn push_bytes(bytes: &mut Vec<u8>, text: &str) -> Result<(), AllocError> {
+    'bytes: for byte in text.as_bytes() {
+        push_byte(bytes, *byte)?;
+    }
+    Ok(())
+}
+
+fn push_byte(bytes: &mut Vec<u8>, byte: u8) -> Result<(), AllocError> {
+    match byte {
+        b'|' => bytes.extend_from_slice(b"\r\n"),
+        b'~' => bytes.extend_from_slice(b"\n"),
+        _ => bytes.extend_from_slice(&[byte]),
+    }
+}
+
+/// Serves a connection at a moment.
+pub fn converse<R: Read, D: Desk>(
+    alloc: Global,
+    desk: &mut D,
+    at: i64,
+    reader: &mut R,
+    sink: Sink,
+) -> Result<Talk, Fail> {
+    let mut sent = sink;
+    let end = serve_once(alloc, desk, at, reader, &mut sent)?;
+    Ok(Talk { sent, end })
+}
+
+fn serve_once<R: Read, W: Write, D: Desk>(
+    alloc: Global,
+    desk: &mut D,
+    at: i64,
+    reader: &mut R,
+    writer: &mut W,
+) -> Result<Result<Ended, ServeFault>, Fail> {
+    let routes = Routes::new(alloc)?;
+    Ok(serve(alloc, &routes, desk, at, reader, writer))
+}
+
+/// That a connection went as the script says.
+pub fn agrees(alloc: Global, script: &str, talk: &Talk) -> Result<(), Fail> {
+    agrees_from(alloc, script, 0, talk)
+}
+
+/// That a connection went as the script says behind so many of its first messages.
+pub(crate) fn agrees_from(
+    alloc: Global,
+    script: &str,
+    first: usize,
+    talk: &Talk,
+) -> Result<(), Fail> {
+    let wanted = bytes_from(alloc, script, "<", first)?;
+    same_bytes(talk.sent.written(), wanted.as_slice())?;
+    ends(script, talk.end)
+}
+
+/// That these bytes are those.
+pub fn same_bytes(told: &[u8], wanted: &[u8]) -> Result<(), Fail> {
+    if told == wanted {
+        return Ok(());
+    }
+    let told = str::from_utf8(told).unwrap_or("no text");
+    let wanted = str::from_utf8(wanted).unwrap_or("no text");
+    Err(Fail::new(format_args!("{told:?}, where wanted is {wanted:?}")))
+}
+
+fn ends(script: &str, end: Result<Ended, ServeFault>) -> Result<(), Fail> {
+    let wanted = match script.split_once("\n=") {
+        Some((_, wanted)) => wanted.trim(),
+        None => "no end",
+    };
+    if end_word(end) == wanted {
+        return Ok(());
+    }
+    Err(Fail::new(format_args!("{end:?}, where wanted is {wanted}")))
+}
+
+fn end_word(end: Result<Ended, ServeFault>) -> &'static str {
+    match end {
+        Ok(Ended::Clean) => "Clean",
+        Ok(Ended::Cut) => "Cut",
+        Ok(Ended::Closed) => "Closed",
+        Err(_) => "fault",
+    }
+}
+
+/// Plays a script in an open room in memory, at the moment 1000.
+pub fn plays(alloc: Global, script: &str) -> Result<(), Fail> {
+    let mut desk = MemDesk::new(open_keep(alloc)?);
+    play(alloc, &mut desk, script)
+}
