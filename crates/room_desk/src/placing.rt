@@ -1,6 +1,5 @@
 //! The new place of an object.
 ghost use Rattle.std.specs.Prelude.{◌≡◌, ◌+◌, length};
-ghost use Rattle.room_rows.specs.Held.{held_of, is_linked};
 ghost use Rattle.room_ace.specs.Pieces.{same_text};
 ghost use Rattle.room_rows.specs.Calls.{Reads};
 ghost use Rattle.room_rows.specs.Keep.{IsUnreadable};
@@ -20,7 +19,7 @@ ghost use Rattle.room_machine.specs.Site.{front};
 
 use crate::carrying::carry_down;
 use room_ace::{Entries, Which};
-use room_inherit::pass;
+use room_inherit::{pass, takes_from};
 use room_judge::{Found, refused};
 use room_machine::{Reason, Reply};
 use room_rows::{Keep, KeepFault, Node, Path, Text};
@@ -116,13 +115,6 @@ fn renew_list<K: Keep>(
     }
     let passed = pass(alloc, target.kind, folder.held(which).full())?;
     take_passed(alloc, keep, target, which, &passed)
-}
-
-// Whether the list takes entries from that of the object above.
-fn takes_from(node: &Node, above: &Node, which: Which) -> bool
-    ensures { result ≡ is_linked (held_of which node.now) (Some (held_of which above.now)) }
-{
-    !node.held(which).flags().protect && above.held(which).flags().auto
 }
 
 // Stores these inherited entries, and carries them down, unless they are stored already: then
