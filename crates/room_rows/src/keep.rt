@@ -40,13 +40,13 @@ use room_ace::{Entry, Name, Names, Owners, Which};
 use std::alloc::AllocError;
 use std::fmt;
 
-/// Why a keeper gave no answer. The transaction round it is then given up. It is displayed with the
-/// number of the damaged row, as `row 7 is damaged`.
+/// Why a keeper gave no answer. The transaction around it is then rolled back. It is displayed
+/// with the number of the damaged row, as `row 7 is damaged`.
 #[derive(Clone, Copy, Debug, PartialEq, Eq)]
 pub enum KeepFault {
-    /// There was no memory.
+    /// Out of memory.
     Memory,
-    /// What holds the rows failed. The keeper has counted it.
+    /// What holds the rows failed. The keeper has counted the failure.
     Store,
     /// The row of this number can't be read, or something that belongs to it is missing; 0 where
     /// there is no root.
@@ -76,9 +76,9 @@ impl From<AllocError> for KeepFault {
     }
 }
 
-/// A keeper of objects. What a call that writes leaves is promised where its condition is met: the
-/// object is there, a new parent is a folder, a new name is free. That is the caller's to know, and
-/// no keeper tests it. After a fault of a call that writes nothing is said of the rows.
+/// A keeper of objects. What a call that writes leaves is promised where its condition is met:
+/// the object is there, a new parent is a folder, a new name is free. The caller has to know that,
+/// and no keeper tests it. After a fault of a call that writes nothing is promised of the rows.
 pub trait Keep {
     ghost rows: { Self → Rows };
 
@@ -175,7 +175,7 @@ pub trait Keep {
         ensures written { IsWrite rows failures writes Follows IsTrusted self.old self.new result
             IsUnreadable (Leaves (SetsBody id bytes.now)) };
 
-    /// Adds a record behind the others.
+    /// Adds a record after the others.
     fn note(&mut self, row: AuditRow) -> Result<(), KeepFault>
         ensures written { IsWrite rows failures writes Follows IsTrusted self.old self.new result
             IsNever (Leaves (Notes row)) };
