@@ -83,7 +83,7 @@ fn move_found<K: Keep>(
     }
 }
 
-// The root's place is never free.
+// Refuses a move to the root's place, which is never free.
 fn refuse_root<K: Keep>(
     alloc: Global,
     keep: &mut K,

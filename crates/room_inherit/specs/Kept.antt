@@ -15,8 +15,8 @@ use Rattle.room_inherit.specs.declared.verifying.Holding.TheVariants.{Finished, 
 abbrev pub stores_kept_alone : Content → Node → Bool
 stores_kept_alone rows node = keeps_none_linked rows Dacl node && keeps_none_linked rows Sacl node
 
--- The report on such rows: the first six tests, and then an object with a linked list that
--- stores inherited entries.
+-- The report on such rows: the first six tests, and then an object with a linked list that stores
+-- inherited entries.
 abbrev pub kept_report_of : Rows → Report
 kept_report_of rows = or_sound (or_else (first_fault rows) (fault_of (true_path rows.read) BrokenLaw
     (first_failing (stores_kept_alone rows.read) rows.read)))

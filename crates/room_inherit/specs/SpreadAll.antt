@@ -64,8 +64,7 @@ module _ {S : Type 0} (rows : S → Rows) (failures writes : S → ℕ)
     (Follows IsTrusted : S → S → Type 0) where
   -- As long as the keeper answers by its rows: an answer says what became of them and how many
   -- writes there were, and a fault blames a row that can't be read or a missing root. There is
-  -- never
-  -- a loop.
+  -- never a loop.
   pub record IsCarriedDown {X : Type 0} (count : X → ℕ) (old new : S)
       (result : Result X SpreadFault) (Becomes : Rows → X → Rows → Type 0) : Type 0 where
     pub follows : Follows old new

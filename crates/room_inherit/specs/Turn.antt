@@ -99,8 +99,8 @@ abbrev pub next_of : Reach → Which → Node → List Node → List Node
 next_of Renewed which above nodes = renewals which above nodes
 next_of All which above nodes = map (brought_up which above) nodes
 
--- One object's outdated children are renewed, and these or all children are added after the
--- objects that wait. The first object isn't among them.
+-- One object's outdated children are renewed, and these or all children are added after the objects
+-- that wait. The first object isn't among them.
 pub record IsVisit (descent : Descent) (above : Node) (before after : List Node) (old : Rows)
     (written : ℕ) (new : Rows) : Type 0 where
   pub not_met : meets_again descent.which descent.start above (children_of old.read above.id)

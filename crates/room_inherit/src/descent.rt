@@ -11,8 +11,8 @@ use room_ace::Which;
 use room_rows::{Keep, KeepFault, Node};
 use std::alloc::Global;
 
-// Turns that are taken before it is asked how many objects there are. A keeper may go through
-// the whole room for that, which costs little beside as many turns.
+// Turns that are taken before it is asked how many objects there are. A keeper may go through the
+// whole room for that, which costs little beside as many turns.
 const FIRST_TURNS: usize = 65_536;
 
 /// Which children of an object it goes on to.

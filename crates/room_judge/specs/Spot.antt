@@ -27,7 +27,7 @@ abbrev pub IfUnder : Spot → (Found → Option Node → Type 0) → Type 0
 IfUnder (Under folder child) P = P folder child
 IfUnder (Barred reply) P = Unit {0}
 
--- The way to the folder of the last name, which lets through, and what has that name in it.
+-- The way to the folder of the last name, which has to let through, and what has that name in it.
 pub record IsSpotted (asker : Asker) (path : List (List ℕ)) (old : Rows) (spot : Spot)
     (new : Rows) : Type 0 where
   pub judged : IsJudged asker (way true (stored_along old.read path) path) old (barred spot) new
@@ -61,7 +61,7 @@ pub record SpotsUnder (asker : Asker) (path : List (List ℕ)) (from : Found) (o
   pub folder : IfUnder spot (λ folder child. folder ≡ from)
   pub child : IfUnder spot (λ folder child. child ≡ child_below path from old)
 
--- The same where a walk came to the folder; one that has ended stays so.
+-- The same after a walk to the folder. A walk that has ended stays so.
 abbrev pub SpotsAfter : Asker → List (List ℕ) → ℕ → Arrival → Rows → Spot → Rows → Type 0
 SpotsAfter asker path depth (At node) old spot new =
     SpotsUnder asker path (record { node = node; depth = depth }) old spot new
@@ -76,7 +76,7 @@ abbrev pub pair_of : List (List ℕ) → Found → Option Node → Pair
 pair_of path folder (Some node) = Both folder (record { node = node; depth = length path })
 pair_of path folder None = Halted (Refused path NoSuch)
 
--- the same of what was found at the spot
+-- the same for what was found at the spot
 abbrev pub pair_in : List (List ℕ) → Spot → Pair
 pair_in path (Under folder child) = pair_of path folder child
 pair_in path (Barred reply) = Halted reply

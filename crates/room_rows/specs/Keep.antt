@@ -32,8 +32,8 @@ one_more n = capped (n + 1)
 
 -- ---- faults
 
--- Memory may run out at any call. `Store` comes where the count of failures rose, or was at its
--- end before. `Damaged` comes for the numbers that the last relation names.
+-- Memory may run out at any call. `Store` comes where the count of failures rose, or was at its end
+-- before. `Damaged` comes for the numbers that the last relation names.
 abbrev pub HasCause : ℕ → ℕ → (ℕ → Type 0) → KeepFault → Type 0
 HasCause before after damaged Memory = Unit {0}
 HasCause before after damaged Store = (before < after) ⊎ (2 ^ 64 - 1 ≤ before)
@@ -83,8 +83,8 @@ IsChildOf parent name rows found = found ≡ child_of rows.read parent name
 abbrev pub AreChildrenOf : ℕ → Rows → List Node → Type 0
 AreChildrenOf parent rows nodes = nodes ≡ children_of rows.read parent
 
--- The name and the kind of each child. A keeper may answer from names and kinds alone, so
--- nothing is promised where a row can't be read, as it may be a child's.
+-- The name and the kind of each child. A keeper may answer from names and kinds alone, so nothing
+-- is promised where a row can't be read, as it may be a child's.
 abbrev pub AreNamedUnder : ℕ → Rows → List (List ℕ × ObjKind) → Type 0
 AreNamedUnder parent rows names =
     rows.unreadable ≡ []
@@ -123,8 +123,8 @@ abbrev pub IsDocumentAt : Rows → ℕ → Type 0
 IsDocumentAt rows id =
     (node : Node) × (node_at rows.read id ≡ Some node) × IsTrue (is_document node.kind)
 
--- The object, if it is there, is changed in this way, and nothing else is. The caller has to
--- know that it is there.
+-- The object, if it is there, is changed in this way, and nothing else is. The caller has to know
+-- that it is there.
 abbrev pub Changes : ℕ → (Node → Node) → Rows → Rows → Type 0
 Changes id change old new =
     (node : Node) → node_at old.read id ≡ Some node

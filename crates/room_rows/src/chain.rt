@@ -12,9 +12,9 @@ use std::alloc::Global;
 
 /// The objects that the path leads to, from the root on, and how many of its names are left over.
 ///
-/// It goes from child to child by the names, as long as there are names and the child is there,
-/// and asks neither for kinds nor for rights. The error is the keeper's, or that memory ran out;
-/// where there is no root it is `Damaged { id: 0 }`.
+/// It goes from child to child by the names, as long as there are names and the child is there, and
+/// asks neither for kinds nor for rights. The error is the keeper's, or that memory ran out; where
+/// there is no root it is `Damaged { id: 0 }`.
 pub fn walk<K: Keep>(alloc: Global, keep: &mut K, path: &Path) -> Result<Walk, KeepFault>
     ensures read { Reads K.Keep keep.old keep.new result HasNoRoot (IsWalk path.now) }
 {

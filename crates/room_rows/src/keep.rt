@@ -40,8 +40,8 @@ use room_ace::{Entry, Name, Names, Owners, Which};
 use std::alloc::AllocError;
 use std::fmt;
 
-/// Why a keeper gave no answer. The transaction around it is then rolled back. It is displayed
-/// with the number of the damaged row, as `row 7 is damaged`.
+/// Why a keeper gave no answer. The transaction around it is then rolled back. It is displayed with
+/// the number of the damaged row, as `row 7 is damaged`.
 #[derive(Clone, Copy, Debug, PartialEq, Eq)]
 pub enum KeepFault {
     /// Out of memory.
@@ -76,9 +76,9 @@ impl From<AllocError> for KeepFault {
     }
 }
 
-/// A keeper of objects. What a call that writes leaves is promised where its condition is met:
-/// the object is there, a new parent is a folder, a new name is free. The caller has to know that,
-/// and no keeper tests it. After a fault of a call that writes nothing is promised of the rows.
+/// A keeper of objects. What a call that writes leaves is promised where its condition is met: the
+/// object is there, a new parent is a folder, a new name is free. The caller has to know that, and
+/// no keeper tests it. After a fault of a call that writes nothing is promised of the rows.
 pub trait Keep {
     ghost rows: { Self → Rows };
 

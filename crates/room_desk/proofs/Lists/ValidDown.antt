@@ -139,7 +139,7 @@ module _ (which : Which) (content : Content) (law : AllAgree content which) (fol
           (ap (λ k. are_valid which k (held_of which above).own) (sym is) ∙ (and_parts (list_all (λ entry. not entry.flags.inherited) (held_of which above).own) (are_valid which above.kind (held_of which above).own) owned.1).1)
           (ap (λ k. are_valid which k (held_of which above).inh) (sym is) ∙ (and_parts (list_all (λ entry. entry.flags.inherited) (held_of which above).inh) (are_valid which above.kind (held_of which above).inh) inherited).1)
 
-      -- an object so many steps below the root
+      -- an object at most n steps below the root
       pub valid_down : (n : ℕ) (node : Node) → node_at content node.id ≡ Some node → reaches_root n content node.parent ≡ true → are_inherited which node.kind (held_of which node).inh ≡ true
       valid_down zero node there reaches = elim (cases_Bool (is_linked_in content which node)) [
         | inl linked ↦ (let found = linked_above node there linked in absurd (top node.parent found.0 reaches found.1))
