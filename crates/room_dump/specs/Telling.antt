@@ -1,4 +1,4 @@
--- What the functions behind a dump promise one another.
+-- What the functions below a dump promise one another.
 use Rattle.std.specs.Prelude.{◌≡◌, ℕ, ◌⊎◌, List, [], ◌∷◌, ◌++◌, length, Some, None, IsTrue}
 use Rattle.room_ace.specs.Valid.{is_document}
 use Rattle.room_rows.specs.declared.node.Node.{Node}
@@ -14,7 +14,7 @@ use Rattle.room_dump.specs.Waiting.{waiting_children, waiting_root}
 abbrev pub LacksBytesAt : ℕ → Rows → ℕ → Type 0
 LacksBytesAt id rows at = (at ≡ id) × (body_of rows.read id ≡ None)
 
--- there are bytes, and so many
+-- the bytes of this number are there, and this many
 abbrev pub IsLength : ℕ → Rows → ℕ → Type 0
 IsLength id rows size =
     (bytes : List ℕ) × (body_of rows.read id ≡ Some bytes) × (size ≡ length bytes)

@@ -18,7 +18,7 @@ pub(crate) enum NextRow {
     Text,
 }
 
-/// A reader of the rows of the bytes behind a byte order mark.
+/// A reader of the rows of the bytes after a byte order mark.
 pub(crate) fn rows_of(alloc: Global, bytes: &[u8]) -> Reader<&[u8]>
     ensures goes { GoesOn result }
     ensures rows { rows_left result ≡ records default_config (strip_bom bytes.now) }
