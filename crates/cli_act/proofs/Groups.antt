@@ -13,7 +13,7 @@ use Rattle.std.proofs.lemmas.Map.Text.{is_eq-slice_cmp}
 use Rattle.room_ace.specs.Pieces.{same_text}
 use Rattle.cli_act.specs.Counting.{groups_after, groups_of, with_group}
 
--- the set has these texts, and no others, and so many
+-- the set has these texts, no others, and this many
 pub record HasSeen {A : Type 0} (seen : BTreeSet (String A)) (groups : List (List ℕ)) : Type 0 where
   pub has : (key : String A) → contains string_cmp seen key ≡ list_any (same_text (string_bytes key)) groups
   pub len : length seen.keys ≡ length groups
