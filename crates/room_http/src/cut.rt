@@ -16,7 +16,7 @@ const READ_SIZE: usize = 16_384;
 
 const MAX_HEAD: usize = 16_384;
 
-// Reads once, and adds what came. Nothing comes only at the end of the input.
+// Reads once, and adds the bytes that came. None come only at the end of the input.
 fn fill<R: Read>(r: &mut R, buf: &mut Vec<u8>) -> Result<bool, Cause>
     ensures came { IfOk result (λ some. Came
         (R.remaining r.old) (R.remaining r.new) buf.old.items buf.new.items) }
@@ -43,7 +43,7 @@ fn fill<R: Read>(r: &mut R, buf: &mut Vec<u8>) -> Result<bool, Cause>
     }
 }
 
-// Drops so many bytes from the front.
+// Drops `count` bytes from the front.
 pub(crate) fn drop_front(buf: &mut Vec<u8>, count: usize)
     requires { count ≤ length buf.old.items }
     ensures { buf.new.items ≡ drop count buf.old.items }
@@ -120,7 +120,7 @@ pub(crate) fn read_head<R: Read>(
     }
 }
 
-// Reads until so many bytes are there, or the input ends.
+// Reads until `total` bytes are there, or the input ends.
 pub(crate) fn read_body<R: Read>(r: &mut R, buf: &mut Vec<u8>, total: usize) -> Result<bool, Cause>
     ensures came { OnOk result
         (Came (R.remaining r.old) (R.remaining r.new) buf.old.items buf.new.items) }

@@ -35,7 +35,7 @@ pub fn answer<D: Desk>(
     }
 }
 
-// The same, telling whether the desk was asked.
+// Answers a whole message, and says whether the desk was asked.
 pub(crate) fn respond<D: Desk>(
     alloc: Global,
     routes: &Routes,
