@@ -1,4 +1,4 @@
--- Calls in a transaction that is committed, or given up.
+-- Calls in a transaction that is committed or rolled back.
 use Rattle.std.proofs.Common.{◌≡◌, ◌≤◌, ℕ, Result, Ok, Err, IsTrue, IfOk, OnOk, inl, inr, refl, sym, ap, subst, subst₂, ◌∙◌, true, false, arith}
 use Rattle.sqlite_trees.specs.View.{doubt}
 use Rattle.sqlite.specs.Effect.{Database, IsDatabase}
@@ -38,7 +38,7 @@ never_damage why is =
       | inr e ↦ (let known : Db ≡ Damaged = rw e at is in absurd (cc))
     ]
 
--- the fault of a keeper that a store tells as damage
+-- the fault of a keeper that a store answers as `Damaged`
 damage_of : (why : KeepFault) → fault_as why ≡ Damaged → (id : ℕ) × (why ≡ keep.Damaged id)
 damage_of keep.Memory is = absurd (let e = is in cc)
 damage_of keep.Store is = absurd (let e = is in cc)
@@ -183,7 +183,7 @@ module _ (old begun mid end : State) (begins : Begins old begun) (stays : Stays 
         (λ premise open' is. blamed why fault carries premise ((ends premise.disk).1.was_open open') (ends premise.disk).0 is)
 
   module _ {X : Type 0} (Blames : Database → Type 0) (Answers : Database → X → Type 0) where
-    -- the same for calls that only read, and are given up whatever they answer
+    -- the same for calls that only read, and are rolled back whatever they answer
     look : (done : Result X KeepFault) → Carries begun mid done Blames (Reading Answers) → (result : Result X StoreFault) → (HasCleanDisk end → IsRolledBack mid end)
         → (StorePremise old end → IsTrue mid.is_open → IfOk result (Answers old.now)) → (StorePremise old end → IsTrue mid.is_open → result ≡ Err Damaged → Blames old.now)
         → Looked old end result Blames Answers
