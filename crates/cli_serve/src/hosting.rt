@@ -1,4 +1,4 @@
-//! The room of a database behind a port.
+//! The room of a database, served on a port.
 ghost use Rattle.std.specs.Prelude.{◌≡◌, ◌⊎◌, List, [], ◌∷◌, OnOk, false};
 ghost use Rattle.sqlite.specs.Held.{state};
 ghost use Rattle.room_store.specs.Leads.{Leads};

@@ -19,6 +19,9 @@ use std::net::{TcpListener, TcpStream};
 /// port it listens. The clock is read once for each connection, when it is accepted: this is the
 /// moment of its requests. A fault of a connection is printed on `err`, and the next one is served.
 /// A connection that is lost before it is accepted counts as one whose reading failed.
+///
+/// The error is `Memory` where nothing was served, `Net` where the listener has no address or
+/// accepts no more connections, and `File` where a line couldn't be printed.
 pub fn serve_on<D: Desk, M: Moments, O: Write, E: Write>(
     alloc: Global,
     desk: &mut D,

@@ -170,7 +170,7 @@ fn check_place<K: Keep>(
     }
 }
 
-// The new folder lets through, the object may leave its own, and may come into the new one.
+// The new folder grants EXECUTE, the object may leave its own, and may come into the new one.
 fn check_rights<K: Keep>(
     alloc: Global,
     keep: &mut K,

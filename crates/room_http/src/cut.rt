@@ -53,7 +53,7 @@ pub(crate) fn drop_front(buf: &mut Vec<u8>, count: usize)
     buf.truncate(rest);
 }
 
-// What stands at the front of the bytes, as far as its head goes.
+// What the front of the bytes is: a whole head, a part of one, or no head.
 #[derive(Clone, Copy)]
 enum HeadScan {
     Whole(RequestSpans),
@@ -61,7 +61,7 @@ enum HeadScan {
     Refused(Refusal),
 }
 
-// Looks for a head in the bytes where one may stand.
+// Parses a head in the bytes where one may stand.
 fn scan_window(window: &[u8], spans: &mut [HeaderSpan]) -> HeadScan
     requires room { length spans.old ≡ max_fields }
     requires short { length window.now ≤ max_head }
@@ -76,7 +76,7 @@ fn scan_window(window: &[u8], spans: &mut [HeaderSpan]) -> HeadScan
     }
 }
 
-// Looks for a head within the limits.
+// Parses a head within the limits.
 fn scan_head(buf: &[u8], spans: &mut [HeaderSpan]) -> HeadScan
     requires { length spans.old ≡ max_fields }
     ensures { Scans buf.now spans.new result }
@@ -84,7 +84,7 @@ fn scan_head(buf: &[u8], spans: &mut [HeaderSpan]) -> HeadScan
     scan_window(&buf[..buf.len().min(MAX_HEAD)], spans)
 }
 
-// What was read, as far as a head goes.
+// How reading a head ended: with a head, with the end of the input, or with bytes that are none.
 #[derive(Clone, Copy)]
 pub(crate) enum HeadRead {
     Found(RequestSpans),

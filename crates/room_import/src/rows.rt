@@ -7,7 +7,7 @@ ghost use Rattle.room_import.specs.Rows.{GoesOn, Took, rows_left, two_of};
 use csv::{ErrorKind, Reader, ReaderBuilder, StringRecord};
 use std::alloc::{AllocError, Global};
 
-/// What a reader finds where it looks for the next row.
+/// What reading the next row finds.
 #[derive(Clone, Copy, Debug, PartialEq, Eq)]
 pub(crate) enum NextRow {
     /// There are no more rows.

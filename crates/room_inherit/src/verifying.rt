@@ -35,8 +35,8 @@ pub fn verify<K: Keep>(alloc: Global, keep: &mut K) -> Result<Report, KeepFault>
     look_through(alloc, keep, Holding::Finished)
 }
 
-/// As `verify`, of rows that hold the kept entries alone: the last test looks for an object with a
-/// linked list that stores inherited entries. Nothing is written.
+/// As `verify`, for rows that hold the kept entries alone: the last test looks for an object with a
+/// linked list that stores inherited entries. Nothing is written. Errors are those of `verify`.
 pub fn verify_kept<K: Keep>(alloc: Global, keep: &mut K) -> Result<Report, KeepFault>
     ensures look { Looks K.Keep keep.old keep.new result IsKeptReport }
 {

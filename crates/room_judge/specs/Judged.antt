@@ -179,7 +179,7 @@ of_kind Folder site = no_document site
 
 -- ---- a request
 
--- the asker has the groups that the rows give
+-- the asker has the groups of the rows
 abbrev pub IsKnown : Asker → Rows → Type 0
 IsKnown asker rows = asker.caller ≡ caller_in rows.read asker.caller.user
 

@@ -12,7 +12,7 @@ use std::alloc::{AllocError, Global};
 /// Who asks, and when.
 #[derive(Drop)]
 pub struct Asker {
-    /// The caller, with the groups that the rooms know of.
+    /// The caller, with its groups in the room.
     pub caller: Caller,
     /// The moment of the request, in seconds from 1970-01-01 00:00 UTC. It is written into records.
     pub at: i64,

@@ -21,9 +21,9 @@ use room_machine::Reason;
 use room_rows::{Keep, KeepFault, Node, Path};
 use std::alloc::{AllocError, Global};
 
-/// The walk to the folder of the path's last name, which has to let through, and what has that name
-/// in it. The path isn't the root's. The error is the keeper's, or that memory ran out; where there
-/// is no root it is `Damaged { id: 0 }`.
+/// The walk to the folder of the path's last name, and what has that name in it. The folder has to
+/// grant EXECUTE. The path isn't the root's. The error is the keeper's, or that memory ran out;
+/// where there is no root it is `Damaged { id: 0 }`.
 pub fn walk_to_spot<K: Keep>(
     alloc: Global,
     keep: &mut K,
@@ -125,7 +125,7 @@ fn spot_after<K: Keep>(
     }
 }
 
-// What has the last name of the path in this folder, which has to let through.
+// What has the last name of the path in this folder, which has to grant EXECUTE.
 fn spot_under<K: Keep>(
     alloc: Global,
     keep: &mut K,

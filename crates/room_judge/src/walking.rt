@@ -45,7 +45,8 @@ pub fn pass_through<K: Keep>(
     }
 }
 
-// One step down the way: the child of the next name, where the object lets through.
+// One step down the way: the child of the next name, where the object is a folder that grants
+// EXECUTE.
 fn step_down<K: Keep>(
     alloc: Global,
     keep: &mut K,
@@ -141,9 +142,9 @@ fn walk_down<K: Keep>(
     Ok(arrival)
 }
 
-/// The walk to the object after this many names of the path, as far as it is let through. The path
-/// has as many names. The error is the keeper's, or that memory ran out; where there is no root it
-/// is `Damaged { id: 0 }`.
+/// The walk to the object after this many names of the path, as far as the caller may pass. The
+/// path has as many names. The error is the keeper's, or that memory ran out; where there is no
+/// root it is `Damaged { id: 0 }`.
 pub fn walk_along<K: Keep>(
     alloc: Global,
     keep: &mut K,
@@ -186,7 +187,7 @@ pub fn walk_from<K: Keep>(
     walk_down(alloc, keep, asker, path, depth, root)
 }
 
-/// The walk to the object at the path, as far as it is let through. Errors are those of
+/// The walk to the object at the path, as far as the caller may pass. Errors are those of
 /// `walk_along`.
 pub fn walk_to<K: Keep>(
     alloc: Global,

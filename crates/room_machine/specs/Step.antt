@@ -13,7 +13,7 @@ use Rattle.room_machine.specs.Plan.{Item, Check, Deletion, Refusal, plan_of}
 use Rattle.room_machine.specs.Judge.{first_failure, records_of_plan}
 use Rattle.room_machine.specs.Effect.{effect}
 
--- the caller of this name, or without one, with the groups that the content gives
+-- the caller of this name, or without one, with the groups of the content
 abbrev pub caller_in : Content → Option (List ℕ) → Caller
 caller_in content user = record { user = user; groups = groups_for content user }
 

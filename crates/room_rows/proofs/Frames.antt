@@ -123,7 +123,7 @@ child_of-added content node id parent none =
 pub child_of-added-other : (content : Content) (node : Node) (id : ℕ) (name : List ℕ) → node_at content node.id ≡ None → (has_parent id node && same_text node.name name) ≡ false → child_of (with_node content node) id name ≡ child_of content id name
 child_of-added-other content node id name unused isnt = lookups.find-put_failing (λ (n : Node). has_parent id n && same_text n.name name) node content.nodes isnt unused
 
--- ---- an object taken away
+-- ---- an object removed
 
 pub node_at-without_node : (content : Content) (id : ℕ) → node_at (without_node content id) id ≡ None
 node_at-without_node content id = lookups.find-kept_gone (λ (n : Node). n.id == id) (λ (n : Node). not (n.id == id)) content.nodes (λ n is. not_from_true (n.id == id) is)

@@ -45,7 +45,8 @@ pub fn take_away(rt: &HostRuntime, file: &str, log: &str) {
     let _ = fs::remove_file(rt, log);
 }
 
-/// Opens the file of a room that is there.
+/// Opens the file of a room. The error is `NotRooms` where the file is empty, and else that of the
+/// file or of the database.
 pub fn open<S: Start>(rt: &HostRuntime, file: &str, start: S) -> Result<FileConnection<S>, Stop>
     ensures { IfOk result (λ conn. conn.in_transaction ≡ false) }
 {
@@ -55,7 +56,8 @@ pub fn open<S: Start>(rt: &HostRuntime, file: &str, start: S) -> Result<FileConn
     connect(rt, file, start)
 }
 
-/// Opens the file, which is there, as a database.
+/// Opens a file that is there as a database. The error is that of the file or of the database, or
+/// that memory ran out.
 pub fn connect<S: Start>(rt: &HostRuntime, file: &str, start: S) -> Result<FileConnection<S>, Stop>
     ensures { IfOk result (λ conn. conn.in_transaction ≡ false) }
 {

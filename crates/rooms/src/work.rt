@@ -60,7 +60,8 @@ fn work_on<S: Start>(rt: &HostRuntime, conn: FileConnection<S>, task: &Task) -> 
     status
 }
 
-/// Serves this number of connections on the port.
+/// Serves this number of connections on the port, and answers the exit status. The error is why the
+/// file wasn't opened.
 pub fn serve<S: Start>(
     rt: &HostRuntime,
     start: S,

@@ -1,4 +1,4 @@
-//! What is to be done.
+//! What the program has to do.
 
 use std::test::Fail;
 

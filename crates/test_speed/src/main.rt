@@ -1,7 +1,7 @@
 //! Times work of the rooms: `test_speed SUITE ROUNDS BELOW OBJECTS [WORKLOAD]`.
 //!
 //! A room is made by a script, as the tests make theirs, whatever keeps it: in memory, over a file,
-//! or behind a connection.
+//! or over a connection.
 #![tactic(auto)]
 
 mod file;

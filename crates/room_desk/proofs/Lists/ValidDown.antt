@@ -82,7 +82,7 @@ pass_inherited which kind entries valid = and_from (list_all (λ e. e.flags.inhe
 
 -- ---- down from the root
 
--- what a test of all gives of the one that is found
+-- an object that is found passes a test that all pass
 pub all_found : (p : Node → Bool) (content : Content) (id : ℕ) (node : Node) → list_all p content.nodes ≡ true → node_at content id ≡ Some node → p node ≡ true
 all_found p content id node all found = at content.nodes all found
   where
