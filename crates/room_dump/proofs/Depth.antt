@@ -61,7 +61,7 @@ apart_from node rest once =
     none_counted (is_number node.id) rest
     (none_more (count (is_number node.id) rest) (subst (λ t. (cond t 1 0 + 0) + count (is_number node.id) rest ≤ 1) (eq-eqb node.id node.id refl) (once node.id)))
 
--- Two depths greater than the count of objects that weren't reached yet write the same.
+-- Two depths beyond the count of objects that nobody has come to yet tell the same.
 abbrev Same : ℕ → ℕ → Content → Type 0
 Same d e content =
     (rest : List Node) (path : List ℕ) (node : Node) → HasAll content rest node → Each (HasAll content rest) rest → IsOnce node rest → count always rest < d → count always rest < e
@@ -104,7 +104,7 @@ deep_enough (suc d) (suc e) content rest path node all alls once less less' =
 below_next : (a b : ℕ) → a < b → a < suc b
 below_next a b less = omega (arith, less)
 
--- An object's text, followed by those of its children to the same depth.
+-- An object's text, and behind it those of its children as deep.
 pub goes_on : (d : ℕ) (content : Content) (rest : List Node) (path : List ℕ) (node : Node) → HasAll content rest node → Each (HasAll content rest) rest → IsOnce node rest → count always rest < d
     → tree_text d content path node ≡ object_text (shown path) node (size_of content node) ++ flat_map (λ child. tree_text d content (path_below path child) child) (children_of content node.id)
 goes_on d content rest path node all alls once less = deep_enough d (suc d) content rest path node all alls once less (below_next (count always rest) d less)

@@ -154,7 +154,7 @@ begins rows are most waiting start text =
     subst (λ (n : ℕ). Turning rows waiting n 0 text text) (sym start.0)
     (subst (λ (w : List Waiting). Turning rows w (length (numbers_of rows)) 0 text text) (sym start.1.2) (begins_alone rows are start.1.0 start.1.1 text))
 
--- all is written where none waits
+-- all is told where none waits
 pub ends : (rows : Rows) (most turn : ℕ) (before text : List ℕ) → Turning rows [] most turn before text → text ≡ before ++ objects_text rows
 ends rows most turn before text t = sym (append-nil text) ∙ t.told
 

@@ -12,7 +12,7 @@ abbrev pub texts : ℕ → Content → List Waiting → List ℕ
 texts depth content [] = []
 texts depth content (wait ∷ waits) = texts depth content waits ++ tree_text depth content wait.path wait.node
 
--- the last one is written first
+-- the last one is told first
 pub texts-last : (depth : ℕ) (content : Content) (waits : List Waiting) (wait : Waiting)
     → texts depth content (waits ++ wait ∷ []) ≡ tree_text depth content wait.path wait.node ++ texts depth content waits
 texts-last depth content [] wait = sym (append-nil (tree_text depth content wait.path wait.node))
@@ -23,7 +23,7 @@ texts-last depth content (other ∷ waits) wait =
 waits_first : (path : List ℕ) (node : Node) (nodes : List Node) → waiting_children path (node ∷ nodes) ≡ waiting_children path nodes ++ waiting_below path node ∷ []
 waits_first path node nodes = ap (map (waiting_below path)) (reverse-append (node ∷ []) nodes) ∙ map-append (waiting_below path) (reverse nodes) (node ∷ [])
 
--- children that come to wait are written in their order, before what waited
+-- children that come to wait are told in their order, before what waited
 pub texts-below : (depth : ℕ) (content : Content) (path : List ℕ) (nodes : List Node) (waits : List Waiting)
     → texts depth content (waits ++ waiting_children path nodes)
     ≡ flat_map (λ child. tree_text depth content (path_below path child) child) nodes ++ texts depth content waits

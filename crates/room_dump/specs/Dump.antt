@@ -25,8 +25,8 @@ shown (byte ∷ bytes) = byte ∷ bytes
 abbrev pub path_below : List ℕ → Node → List ℕ
 path_below above node = above ++ 47 ∷ node.name
 
--- An object, followed by its children with all that is below them, in order of name, no deeper than
--- the number says.
+-- An object, and behind it its children with all that is below them, in order of name, no deeper
+-- than the number says.
 abbrev pub tree_text : ℕ → Content → List ℕ → Node → List ℕ
 tree_text zero content path node = []
 tree_text (suc depth) content path node =

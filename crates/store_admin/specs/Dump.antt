@@ -7,7 +7,7 @@ use Rattle.room_dump.specs.Dump.{objects_text, room_text}
 use Rattle.room_dump.specs.Members.{members_text}
 use Rattle.store_tables.specs.Meaning.{rows_of}
 
--- the text of the room that the tables hold: all objects, followed by all pairs
+-- the text of the room that the tables hold: all objects, and behind them all pairs
 abbrev pub IsDump : Database → String Global → Type 0
 IsDump db text = string_bytes text ≡ room_text (rows_of db)
 

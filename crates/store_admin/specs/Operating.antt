@@ -59,7 +59,7 @@ pair_seen r = option_and_then (λ group. option_map (λ user. (group, user)) (na
 abbrev pub pairs_seen : List Row → List (List ℕ × List ℕ)
 pairs_seen rows = filter_map pair_seen rows
 
--- each pair comes before the next one, the first after this one
+-- each pair comes before the next one, the first behind this one
 abbrev pub rises_from : Option (List ℕ × List ℕ) → List (List ℕ × List ℕ) → Bool
 rises_from last [] = true
 rises_from None (pair ∷ pairs) = rises_from (Some pair) pairs

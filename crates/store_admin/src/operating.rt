@@ -135,7 +135,7 @@ pub fn all_members<S: Alter>(
         Err(_) => return Err(KeepFault::Store),
     };
     let pairs = see_pairs(alloc, rows.as_slice())?;
-    // the database returns them in order, each once
+    // the database gives them in order, each once
     if are_rising(pairs.as_slice()) {
         Ok(pairs)
     } else {
