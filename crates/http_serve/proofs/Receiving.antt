@@ -26,7 +26,7 @@ runs_then old mid new events others first then room is =
     let b = then a.0 a.2 in
     (b.0, run_then room a.0 b.0 events others a.1 b.1, b.2)
 
--- what comes next is at most one exchange, and is one
+-- what comes next is an exchange, if anything comes
 next_each : (left : List ℕ) (n : ℕ) (next : Next) → IsNext left n next → All IsExchange (next_exchange next)
 next_each left n Next.Unknown is = All-nil IsExchange
 next_each left n (Next.Exchanging x close) is = All-from_recursion IsExchange (x ∷ []) (is.0, tt)

@@ -13,7 +13,7 @@ pub record Visit : Type 0 where
   pub at : ℤ
   pub exchanges : List Exchange
 
--- the messages are HTTP, and the desk is asked exactly where no test refuses a message
+-- each is a message, and the desk is asked exactly where no test refuses it
 pub record IsVisit (visit : Visit) : Type 0 where
   pub each : All IsExchange visit.exchanges
   pub few : length visit.exchanges ≤ max_messages

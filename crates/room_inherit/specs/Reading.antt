@@ -43,8 +43,8 @@ IsBadBody nodes rows found =
 abbrev pub IsReport : Rows → Report → Type 0
 IsReport rows report = report ≡ report_of rows
 
--- All rows are tested. A row that can't be read is reported, and no error. So no failure was met
--- where the answer is that the rows are sound.
+-- All rows are tested. A row that can't be read is reported, and is no error. Where the answer is
+-- that the rows are sound, no failure was counted.
 pub record Looks {S : Type 0} (k : Ghosts S) (old new : S) (result : Result Report KeepFault)
     (Answers : Rows → Report → Type 0) : Type 0 where
   pub follows : k.Follows old new

@@ -53,8 +53,8 @@ pub fn walk_to_pair<K: Keep>(
     Ok(pair_in(alloc, path, spot)?)
 }
 
-/// The same walk from a root that was read already. The error is the keeper's, or that memory ran
-/// out.
+/// As `walk_to_pair`, from a root that was read already. The error is the keeper's, or that memory
+/// ran out.
 pub fn walk_to_pair_from<K: Keep>(
     alloc: Global,
     keep: &mut K,

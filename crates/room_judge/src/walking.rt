@@ -164,8 +164,8 @@ pub fn walk_along<K: Keep>(
     walk_down(alloc, keep, asker, path, depth, &Found { node, depth: 0 })
 }
 
-/// The same walk from a root that was read already. The error is the keeper's, or that memory ran
-/// out.
+/// As `walk_along`, from a root that was read already. The error is the keeper's, or that memory
+/// ran out.
 pub fn walk_from<K: Keep>(
     alloc: Global,
     keep: &mut K,

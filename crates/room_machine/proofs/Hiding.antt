@@ -24,7 +24,7 @@ use Rattle.room_machine.specs.Step.{caller_in}
 use Rattle.room_machine.specs.Laws.{first_path, Hides}
 use Rattle.room_machine.proofs.Replies.{or_reply, reply_of, same_caller}
 
--- the way up to the check of EXECUTE on the object after n names
+-- the way as far as the check of EXECUTE on the object after n names
 abbrev way_as_far : ℕ → List Site → List (List ℕ) → List Item
 way_as_far n [] names = []
 way_as_far n (site ∷ sites) [] = []
@@ -46,7 +46,7 @@ empty_take : (n : ℕ) (sites : List Site) → is_empty (take (suc n) sites) ≡
 empty_take n [] = refl
 empty_take n (site ∷ sites) = refl
 
--- the way up to an object depends on the objects down to it alone
+-- the way as far as an object depends on the objects down to it alone
 far_take : (n : ℕ) (sites : List Site) (names : List (List ℕ)) → way_as_far n (take (suc n) sites) names ≡ way_as_far n sites names
 far_take zero [] names = refl
 far_take zero (site ∷ sites) [] = refl
@@ -62,7 +62,8 @@ same_far n chain other names same =
     let suc_same : take (suc n) chain ≡ take (suc n) other = rw add-one at same in
     sym (far_take n (sites_of chain) names) ∙ ap (λ sites. way_as_far n sites names) (sym (take_sites (suc n) chain) ∙ ap sites_of suc_same ∙ take_sites (suc n) other) ∙ far_take n (sites_of other) names
 
--- a denial on the way up to an object is the first failure of each plan that begins with the way
+-- a denial on the way as far as an object is the first failure of each plan that begins with the
+-- way
 module _ (caller : Caller) (lack : Bool) (rest : List Item) (at : List (List ℕ)) (bits : List ℕ) (place : Option ℕ) (entry : Option Ace) where
   abbrev denial : Option Reply
   denial = Some (Denied at bits place entry)
