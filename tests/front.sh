@@ -2,8 +2,9 @@
 
 nginx=$(command -v nginx || ls /usr/sbin/nginx 2>/dev/null)
 
-# Starts nginx at the port $front, which is free if $port is. It asks for the passwords of ./passwords, serves the page
-# of contrib, and writes of each request its status, method, target, user and origin into ./access.log.
+# Starts nginx at the port $front, which is free if $port is. It asks for the passwords of
+# ./passwords, serves the page of contrib, and writes the status, method, target, user and origin of
+# each request into ./access.log.
 start_front() { # NAME
   local began=$SECONDS
   front=$((port + 1))

@@ -9,7 +9,7 @@ has_loopback() {
   why=$( (exec 3<>/dev/tcp/127.0.0.1/1) 2>&1) || [[ $why = *refused* ]]
 }
 
-# Starts a server for so many connections, and waits until it listens.
+# Starts a server for COUNT connections, and waits until it listens.
 start_server() { # FILE COUNT
   local tries
   if [ "$loopback" = no ]; then
@@ -18,7 +18,7 @@ start_server() { # FILE COUNT
   fi
   for tries in {1..50}; do
     port=$((port + 1))
-    # The line of an earlier server is none of this one.
+    # The line of an earlier server has to go.
     : >"$work/server.out"
     "$rooms" serve "$1" --port "$port" --count "$2" </dev/null >"$work/server.out" 2>"$work/server.err" &
     server=$!
@@ -32,7 +32,7 @@ start_server() { # FILE COUNT
   return 1
 }
 
-# Waits until the server has told its line, or has ended.
+# Waits until the server has printed its line, or has ended.
 await_line() {
   local began=$SECONDS
   while [ $((SECONDS - began)) -lt "$patience" ]; do
@@ -44,7 +44,7 @@ await_line() {
   return 1
 }
 
-# The server ends by itself, having told its line and nothing else on standard output.
+# The server ends by itself, having printed its line and nothing else on standard output.
 server_ends() { # NAME STATUS ERR
   local wanted=$2
   printf '%b' "$3" >"$work/want.err"
@@ -109,7 +109,7 @@ message() { # METHOD TARGET USER [BODY [FIELD ..]]
   printf '\r\n%s' "$body"
 }
 
-# The same as the last one of its connection.
+# As `message`, for the last message of its connection.
 last_message() { # METHOD TARGET USER [BODY [FIELD ..]]
   local method=$1 target=$2 user=$3 body=${4-}
   shift 3

@@ -15,7 +15,7 @@ skip() { # NAME WHY
   echo "skipped $1: $2"
 }
 
-# Bytes for a message of failure, so that none is lost.
+# Bytes for a failure's message, so that none is lost.
 shown() { head -c 600 "$1" | od -An -c | sed 's/^ *//' | head -12; }
 
 # The two files have the same bytes.
@@ -58,7 +58,7 @@ wants() { # NAME STATUS OUT ERR
   fi
 }
 
-# The same with the bytes of a file on standard output, and none on standard error.
+# As `wants`, with the bytes of a file on standard output, and none on standard error.
 wants_file() { # NAME STATUS FILE
   : >"$work/want.err"
   if [ "$status" != "$2" ]; then
@@ -122,7 +122,7 @@ new_room() { # FILE
   [ "$status" = 0 ] || fail "new room $1" "status $status"
 }
 
-# The same, in which root may do all, and all may pass through.
+# A new room in which root may do all, and all may pass through.
 open_room() { # FILE
   new_room "$1"
   from_lines 'list:a' 'A::EVERYONE@:x' "A:fd:root:$ALL"

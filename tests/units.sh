@@ -1,10 +1,11 @@
-# What contrib/ is tried with: a systemctl that starts and stops a server of the program as a process, and tools whose calls
-# are counted, so that a script can be killed at each of them.
+# Stand-ins with which contrib/ is tried: a systemctl that starts and stops a server of the program
+# as a process, and tools whose calls are counted, so that a script can be killed at each of them.
 
 contrib=$here/../contrib
 stand=
 
-# In the current folder: office/F is the room, and its user another one where the machine allows that.
+# In the current folder: office/F is the room. It belongs to another user where the machine allows
+# that.
 make_stand() {
   stand=$PWD/stand
   mkdir "$stand" "$stand/bin" run office backups
@@ -38,7 +39,8 @@ give_office() {
 
 as_user() { if [ "$STAND_USER" = "$(id -u)" ]; then "$@"; else setpriv --reuid=65534 --regid=65534 --clear-groups "$@"; fi; }
 
-# At the call that is named the script under test gets a signal, and this tool too, as all processes of a unit do.
+# At the given call the script under test gets a signal, and this tool too, as all processes of a
+# unit do.
 write_step() {
   cat <<'STEP'
 step() {
@@ -58,7 +60,7 @@ step() {
 STEP
 }
 
-# STAND/no-start has a start fail, and STAND/no-tool a tool of that name.
+# STAND/no-start makes a start fail, and STAND/no-tool a tool of that name.
 write_tool() {
   cat <<'TOOL'
 #!/usr/bin/env bash
@@ -125,8 +127,8 @@ unit() { PATH=$stand/bin:$PATH KILL_AT=0 systemctl "$@" rooms; }
 
 stop_unit() { if [ -n "$stand" ] && [ -s "$stand/pid" ]; then unit stop; fi; }
 
-# A script of contrib/ with the stand-ins; $status, and what it said in $work/out and $work/err. KILL_AT and KILL_HOW name
-# the call at which it is interrupted.
+# A script of contrib/ with the stand-ins; its status is in $status, and its output in $work/out and
+# $work/err. KILL_AT and KILL_HOW name the call at which it is interrupted.
 script() { # SCRIPT WORD ..
   echo 0 >"$stand/count"
   : >"$stand/steps"
@@ -139,7 +141,7 @@ script() { # SCRIPT WORD ..
   status=$?
 }
 
-# The status of the last script, and a text that is in what it said.
+# The status of the last script, and a text that is in its output.
 says() { # NAME STATUS TEXT
   if [ "$status" != "$2" ]; then
     fail "$1" "status $status, wanted $2: $(head -c 400 "$work/out" "$work/err")"

@@ -59,7 +59,7 @@ def side_by_side(crates, work):
                 running[pool.submit(work, crate, jobs)] = crate, jobs
                 idle -= jobs
             if not running:
-                # What is left stands on a crate that failed.
+                # What is left depends on a crate that failed.
                 return given
             for done in wait(running, return_when=FIRST_COMPLETED).done:
                 given[running.pop(done)[0]] = done.result()

@@ -40,7 +40,8 @@ lost_links() { # PAGE
   done < <(links "$1")
 }
 
-# Lines over 100 columns, of which a byte that goes on with a letter is none. Tables, and links that stand alone, may be wider.
+# Lines over 100 columns, where a byte that continues a letter isn't counted. Tables, and links that
+# stand alone, may be wider.
 long_lines() { # PAGE
   prose "$1" | awk '{
     line = $0; sub(/:.*/, "", line); text = substr($0, length(line) + 2); wide = text; gsub(/[\200-\277]/, "", wide)

@@ -74,7 +74,8 @@ mutant constant 'LIMIT: u8 = 7' 'LIMIT: u8 = 8'
 mutant other '{ result ≡ x }' '{ result ≡ _y }'
 lists 'a constant stands in no function' 0 'low 1: constant' 'low 2: other'
 
-# With the first one made, the second's text would stand twice: both places are those of the text as it is.
+# Once the first is applied, the second's text would stand twice: both places are sought in the
+# unchanged text.
 mutant makes_it_twice '{ result ≡ x }' '{ result ≡ y }'
 mutant stands_once '{ result ≡ y }' '{ result ≡ _x }'
 lists 'a text that another makes ambiguous' 0 'low 1: makes_it_twice stands_once'
@@ -86,7 +87,7 @@ house/tools/wrong high --list >said 2>&1
 holds 'no such crate (status)' [ $? = 1 ]
 holds 'no such crate' grep -qF 'neither an option nor a crate with mutants: high' said
 
-# Which crates have changed is decided by what their files say, and not by their comments.
+# What the files of a crate say decides whether it has changed, and not their comments.
 digest() {
   (cd house && python3 - <<'END'
 import importlib.machinery, importlib.util, sys

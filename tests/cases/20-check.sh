@@ -1,4 +1,4 @@
-# `check`: the worked examples, limits, and faults of its two ends.
+# `check`: the worked examples, limits, and faults of its input and output.
 
 list_of() { # HEADER-CALLER HEADER-GROUPS OWNERS ASK ENTRY ..
   from_lines "caller:${1:+ $1}" "groups:${2:+ $2}" "owners: $3" "ask:${4:+ $4}" list: "${@:5}"
@@ -48,7 +48,7 @@ gives check-too-long 2 'refused: input too long\n' '' check
 # No more than that is read: the input here never ends.
 holds 'input without an end' [ "$(timeout "$patience" "$rooms" check </dev/zero)" = 'refused: input too long' ]
 
-# The two ends.
+# Faults of the output and the input.
 list_of alice '' root:staff r A::alice:r
 "$rooms" check <"$input" 2>"$work/err" >&-
 status=$?
@@ -63,7 +63,7 @@ if [ -c /dev/full ]; then
   : >"$work/err"
   wants 'full standard error' 0 'granted\n' ''
 fi
-# A reader that has gone.
+# A reader that closes the pipe.
 mkfifo pipe
 "$rooms" check <"$input" 2>"$work/err" >pipe &
 process=$!
@@ -71,7 +71,7 @@ exec 8<pipe
 exec 8<&-
 wait "$process"
 status=$?
-# Either it was quicker, or it was told.
+# Either the program had printed before that, or its write failed.
 : >"$work/out"
 if [ "$status" = 0 ]; then pass; else wants 'a reader that has gone' 3 '' 'fault: file\n'; fi
 "$rooms" check >"$work/out" 2>"$work/err" <&-

@@ -1,4 +1,4 @@
-# `init`, and what every other subcommand says of files that are missing, empty or none of a room.
+# `init`, and what every other subcommand says of files that are missing, empty or no room.
 
 NO_RECORDS='at,user,path,bits,granted,entry,kind\n'
 
@@ -42,7 +42,7 @@ gives 'a colon in the name of the file' 0 'ready\n' '' init 'file:x' root staff
 gives 'the same as memory' 0 'ready\n' '' init ':memory:' root staff
 gives 'and it is a file' 0 "$EMPTY_ROOM" '' dump ':memory:'
 
-# What can't print has made nothing.
+# Where `init` can't print, it makes no room.
 "$rooms" init J root staff >&- 2>"$work/err" </dev/null
 status=$?
 : >"$work/out"

@@ -63,7 +63,7 @@ csv 'group,user\nsales,alice\n'
 gives 'the CSV file as the room' 3 '' 'fault: database\n' groups in.csv in.csv
 gives 'which stays' 0 'groups 1, members 1\n' '' groups F in.csv
 
-# A spreadsheet's pairs come from a pipe as well as from a file.
+# A CSV file is read from a pipe as well as from a file.
 [ -e /dev/stdin ] && {
   input=in.csv
   gives 'a CSV file on standard input' 0 'groups 1, members 1\n' '' groups F /dev/stdin

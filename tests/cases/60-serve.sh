@@ -80,7 +80,7 @@ asks 'many fields' "json '431 Request Header Fields Too Large' '{\"why\":\"too-m
 asks 'removed' done_reply DELETE /object/%C3%A9 root
 asks 'gone' "json '404 Not Found' '{\"at\":\"/é\",\"why\":\"no-such\"}'" GET /doc/%C3%A9 root
 
-# Version 1.0 ends its connection; so does garbage, to which nothing is added.
+# A message of version 1.0 ends its connection. So does garbage, and no message after it is served.
 printf 'GET /doc/f HTTP/1.0\r\nRoom-User: root\r\n\r\nGET /doc/f HTTP/1.0\r\n\r\n' >"$work/sent"
 exchange
 reply '200 OK' application/octet-stream hello >"$work/want.reply"

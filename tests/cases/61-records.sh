@@ -28,7 +28,8 @@ moments=$(tail -n +2 "$work/out" | cut -d, -f1)
 for moment in $moments; do
   holds 'the moment of a record' [ "$moment" -ge $((began - 1)) -a "$moment" -le $((ended + 1)) ]
 done
-# The moments are those of the clock, of which the shell's may run on a little before or behind; all else is compared.
+# The moments are those of the server's clock. The shell's clock may be a little before or after it.
+# All else is compared.
 sed 's/^[0-9][0-9]*,/T,/' "$work/out" >records
 cat >wanted <<'END'
 at,user,path,bits,granted,entry,kind

@@ -1,4 +1,5 @@
-# Connections that are cut, reset, half closed or slow, documents of the greatest size, and what a server tells of them.
+# Connections that are cut, reset, half closed or slow, documents of the greatest size, and what a
+# server prints of them.
 
 open_room F
 M=$'PUT /doc/f HTTP/1.1\r\nRoom-User: root\r\nContent-Length: 5\r\n\r\nhello'
@@ -22,7 +23,7 @@ exec 3>&-
 { made goes-on; reply '200 OK' application/octet-stream hello; } >"$work/want.reply"
 same 'a byte at a time' "$work/reply" "$work/want.reply"
 
-# 6: the greatest body. 7: it is read. 8: nothing fits behind it.
+# 6: the greatest body. 7: it is read. 8: no byte can be added to it.
 head -c 1048576 /dev/urandom >big
 { printf 'PUT /doc/big HTTP/1.1\r\nRoom-User: root\r\nConnection: close\r\nContent-Length: 1048576\r\n\r\n'; cat big; } >"$work/sent"
 exchange
@@ -37,8 +38,8 @@ asks 'and it is still there' "json '200 OK' '{\"group\":\"staff\",\"kind\":\"doc
 server_ends 'nothing is told of callers who break off in order' 0 ''
 gives 'sound' 0 'sound\n' '' verify F
 
-# A caller who resets: the first connection has bytes that nobody reads when it is closed. They are more than the system
-# keeps on the way, so the server is writing.
+# A caller who resets: the first connection has bytes that nobody reads when it is closed. They are
+# more than the system buffers, so the server is writing.
 if start_server F 2; then
   exec 3<>"/dev/tcp/127.0.0.1/$port"
   for turn in {1..200}; do message GET /doc/big root; done >&3
@@ -75,7 +76,7 @@ else
   skip 'half closed, and a reset while it reads' 'no perl'
 fi
 
-# 10,000 messages are the most of a connection.
+# A connection has at most 10,000 messages.
 if start_server F 1; then
   for turn in {1..10000}; do printf 'GET /can/f? HTTP/1.1\r\n\r\n'; done >"$work/sent"
   exec 3<>"/dev/tcp/127.0.0.1/$port"

@@ -16,7 +16,7 @@ put_until_cut() {
   exec 3>&- 3<&-
 }
 
-# Waits until the writer has so many answers, or has ended.
+# Waits until the writer has COUNT answers, or has ended.
 await_answers() { # COUNT
   local began=$SECONDS
   while [ "$(wc -l <answered)" -lt "$1" ] && [ $((SECONDS - began)) -lt "$patience" ]; do
@@ -32,7 +32,7 @@ all=0
 : >odd
 for ((round = 1; round <= rounds; round++)); do
   start_server F 1000 || break
-  # The shell would tell of each process that was killed.
+  # The shell would report each process that was killed.
   : >answered
   { put_until_cut 2>/dev/null & } 2>/dev/null
   writer=$!

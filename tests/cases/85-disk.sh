@@ -66,7 +66,8 @@ for how in signal=KILL error=EIO error=ENOSPC; do
   done
 done
 
-# A list that is set, and a file that is raised: the file holds what was before or what was asked, whole.
+# A list that is set, and a file that is upgraded: the file holds what was before or what was asked,
+# whole.
 restore() { # FROM
   cp "$1" F
   rm -f F-wal
@@ -118,7 +119,7 @@ take "rejoined.1.db" O
 printf 'refused: schema 1 is old\n' >old
 before_or_after migrate 'migrated\n' O old "$data/rejoined.dump" migrate F
 
-# A request: the server tells the fault in its reply, or is killed before there is one.
+# A request: the server reports the fault in its reply, or is killed before there is one.
 look() { run dump F; }
 serve_once() { # NUMBER HOW: the reply to a document that is put, and the server's status
   local number=$1 how=$2 tries

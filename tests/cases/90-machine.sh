@@ -106,7 +106,8 @@ fi
 as_other() { # COMMAND ..
   if [ "$(id -u)" != 0 ]; then "$@"; else setpriv --reuid=65534 --regid=65534 --clear-groups "$@"; fi
 }
-# Another user runs the program here and comes to its files, and nobody reads what nobody may.
+# Whether another user can run the program here and reach its files, but can't read a file of mode
+# 000.
 meets_rights() {
   chmod 755 "$work" .
   chmod 000 G G-wal
@@ -132,7 +133,7 @@ else
   chmod 700 locked
 fi
 
-# A disk without room: it takes a room and little more, and then it is filled up.
+# A small disk: it takes a room and little more, and then it is filled up.
 mkdir small
 if mount -t tmpfs -o size=1m none small 2>/dev/null; then
   gives 'init on a small disk' 0 'ready\n' '' init small/F root staff
@@ -146,9 +147,9 @@ if mount -t tmpfs -o size=1m none small 2>/dev/null; then
   gives 'groups on a full disk' 3 '' 'fault: database\n' groups small/F many.csv
   run dump small/F
   wants_file 'which changes nothing' 0 before
-  # What is told of a room finds no space beside it.
+  # What is printed of a room finds no space beside it.
   for command in dump groups-out audit; do
-    # Whatever the last command gave back is taken again.
+    # The space that the last command freed is filled again.
     head -c 2000000 /dev/zero >>small/more 2>/dev/null
     "$rooms" "$command" small/F </dev/null 2>"$work/err" >small/told
     status=$?
@@ -178,7 +179,7 @@ else
   skip 'a full disk' 'no leave to mount'
 fi
 
-# Want of memory.
+# Out of memory.
 if (ulimit -v 60000) 2>/dev/null && has seq; then
   { echo group,user; seq -f 'b,user%05.0f' 20000; } >many.csv
   if ! (ulimit -v 20000; "$rooms" --version </dev/null 2>/dev/null; [ $? = 2 ]); then
@@ -196,8 +197,8 @@ if (ulimit -v 60000) 2>/dev/null && has seq; then
 fi
 gives 'sound' 0 'sound\n' '' verify F
 
-# A connection that wants memory is told, and the next one is served: with little more memory than a server needs, the
-# largest body doesn't fit.
+# A connection that runs out of memory is reported, and the next one is served: with little more
+# memory than a server needs, the largest body doesn't fit.
 if [ "$loopback" = no ] || ! (ulimit -v 60000) 2>/dev/null; then
   skip 'a connection that wants memory' 'no loopback, or no limit of memory'
   return

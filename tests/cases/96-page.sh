@@ -15,7 +15,8 @@ if [ -n "$lacking" ]; then
   return
 fi
 
-# Runs a play, and counts each check that it tells. A play that ends before its last line has failed.
+# Runs a play, and counts each check that it prints. A play that ends before its last line has
+# failed.
 play() { # NAME SCRIPT ARGUMENT ..
   local name=$1 word check why ended=
   shift
@@ -59,7 +60,7 @@ gives 'groups' 0 'groups 1, members 1\n' '' groups G groups.csv
 set_list G / dacl list:a "A:fd:alice:$ALL" A::AUTHENTICATED@:xt
 start_server G 10000 || return
 start_front 'the page' || return
-# It kills the server at its end, which is no news.
+# The play kills the server at its end, which is expected.
 disown "$server"
 play 'the office' office.py "$PWD" "$front" "$PWD/access.log" "$server" "$proxy" "$here/../docs" ${PAGE_PICTURES:+"$PAGE_PICTURES"}
 stop_server

@@ -75,7 +75,7 @@ holds 'what is unsound stays' [ -e backups/2019-01-02.030000.unsound/F ]
 setting KEEP 0
 rm -rf backups/*
 
-# Each failure is said to somebody, and the server runs.
+# Each failure is reported, and the server runs.
 failing() { # NAME TEXT
   says "$1" 1 "$2"
   unit_runs "$1: the server runs"

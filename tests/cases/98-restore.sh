@@ -7,7 +7,8 @@ fi
 make_stand
 restores() { script rooms-restore --conf "$PWD/conf" "$@"; }
 made_by_user() { as_user "$rooms" "$@" >/dev/null; }
-# The old room has carol as its root's owner and the backup has dave; the backup's last words are in its log.
+# The old room has carol as its root's owner and the backup has dave; the backup's last writes are
+# in its log.
 made_by_user init "$PWD/office/F" carol staff
 made_by_user init "$PWD/office/other" dave staff
 cp office/F old.F
@@ -115,7 +116,8 @@ restores good
 holds 'a restore where no room is' [ "$status" = 0 -a "$(owner)" = dave ]
 holds 'leaves the room alone' [ "$(cd office && echo *)" = 'F F-wal' ]
 
-# An interruption at each call: the room is the old or the new one, or there is none; --undo or the same once more mend that.
+# An interruption at each call: the room is the old or the new one, or there is none, and --undo or
+# the same command once more repairs that.
 for how in TERM KILL; do
   for number in {1..80}; do
     old_office
@@ -128,7 +130,7 @@ for how in TERM KILL; do
     name=${name//$PWD\//}
     rm -rf interrupted
     cp -Rp office interrupted
-    # No file is beside another one's log.
+    # No file stands beside the log of another.
     if [ -e office/F ]; then
       case $(owner) in
         carol | dave) pass ;;
@@ -137,7 +139,7 @@ for how in TERM KILL; do
     else
       [ "$how" = KILL ] || fail "$name" 'no room is left'
     fi
-    # A signal that can be heard leaves nothing to mend.
+    # A signal that can be caught leaves nothing to repair.
     if [ "$how" = TERM ]; then
       holds "$name: nothing is left of it" [ ! -e office/restoring ]
       continue

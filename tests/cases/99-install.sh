@@ -65,7 +65,8 @@ if has systemd-analyze; then
   for unit in rooms.service rooms-nightly.service rooms-nightly.timer; do
     sed "s|=/usr/local/|=$PWD/machine/usr/local/|" "$contrib/$unit" >"units/$unit"
   done
-  # It says what it doesn't know of all units that it meets; only these three are of this project.
+  # It reports what it doesn't know of all units that it meets. Only these three are of this
+  # project.
   systemd-analyze verify units/rooms.service units/rooms-nightly.service units/rooms-nightly.timer >"$work/out" 2>&1
   grep -E '^(/.*/)?rooms[a-z-]*\.(service|timer)' "$work/out" >said
   : >nothing

@@ -92,7 +92,7 @@ class Browser:
                                               words, within), f'button {words}')
 
     def press(self, words, within='body'):
-        # A list may be drawn anew between the look and the click.
+        # A list may be drawn anew after the button is found and before it is clicked.
         self.until(lambda: self.button(words, within).click() or True, words)
 
     def write(self, css, text):

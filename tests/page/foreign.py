@@ -91,7 +91,7 @@ def sends_password(browser, base, log):
 
 def framed(browser, base):
     browser.script("const frame = document.createElement('iframe'); frame.src = arguments[0]; document.body.append(frame);", base)
-    # A frame that was refused is another origin's, and so can't be looked into.
+    # A frame that was refused is of another origin, so its content can't be read.
     browser.until(lambda: any('frame-ancestors' in entry['message'] for entry in browser.driver.get_log('browser')),
                   'a refused frame')
 

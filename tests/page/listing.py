@@ -79,7 +79,7 @@ class Lists:
         alice.press('Go on with mine', 'dialog')
         alice.until(lambda: 'Send these changes?' in alice.one('dialog').text, 'the changes')
         assert 'Gone' in alice.script("return document.querySelector('dialog .del').textContent")
-        # Once more, while the changes are looked at.
+        # Once more, while the changes are shown.
         self.ask('PUT', '/dacl/letters', b'list:a\nA:fdg:sales:w\n')
         alice.press('Send', 'dialog')
         alice.until(lambda: 'A:fdg:sales:w' in alice.one('dialog').text, 'the later change')

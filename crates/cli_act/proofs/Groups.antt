@@ -1,4 +1,4 @@
--- The set of groups that came before, as pairs are looked at.
+-- The set of groups that came before, as pairs are counted.
 use Rattle.std.proofs.Common.{ℕ, ◌≡◌, ◌+◌, ◌∷◌, ◌++◌, Bool, true, false, cond, length, List, [], String, string_bytes, string_cmp, refl, sym, ap, subst, ◌∙◌, ◌<◌, ◌≤◌, get_or, drop, drop-cons, add-one}
 use Rattle.std.specs.Prelude.{◌||◌, not, if◌then◌else◌}
 use Rattle.std.specs.Bool.{OnFalse}
@@ -13,7 +13,7 @@ use Rattle.std.proofs.lemmas.Map.Text.{is_eq-slice_cmp}
 use Rattle.room_ace.specs.Pieces.{same_text}
 use Rattle.cli_act.specs.Counting.{groups_after, groups_of, with_group}
 
--- the set has these texts, and no others, and so many
+-- the set has these texts, no others, and this many
 pub record HasSeen {A : Type 0} (seen : BTreeSet (String A)) (groups : List (List ℕ)) : Type 0 where
   pub has : (key : String A) → contains string_cmp seen key ≡ list_any (same_text (string_bytes key)) groups
   pub len : length seen.keys ≡ length groups
@@ -68,7 +68,7 @@ seen_by {A} seen more groups key false added seen_so e was adds same len =
       len = len ∙ ap (λ n. length seen.keys + n) one ∙ ap (λ n. n + 1) seen_so.len ∙ sym (length-append groups (string_bytes key ∷ []));
     })
 
--- a group is looked at, and is new or not
+-- a group of the next pair is new, or came before
 pub seen_next : {A : Type 0} (seen more : BTreeSet (String A)) (groups : List (List ℕ)) (key : String A) (name : List ℕ) (added : Bool)
     → HasSeen seen groups → string_bytes key ≡ name → added ≡ not (contains string_cmp seen key)
     → ((other : String A) → contains string_cmp more other ≡ cond (is_eq (string_cmp key other)) true (contains string_cmp seen other))
@@ -78,7 +78,7 @@ seen_next {A} seen more groups key name added seen_so bytes was adds same len =
     let P : List ℕ → Type 0 = λ text. HasSeen {A = A} more (with_group groups text) in
     subst P bytes (seen_by seen more groups key (list_any (same_text (string_bytes key)) groups) added seen_so refl (was ∙ ap not (seen_so.has key)) adds same len)
 
--- of an empty set
+-- the set that is empty
 pub seen_none : {A : Type 0} (seen : BTreeSet (String A)) → seen.keys ≡ [] → HasSeen seen []
 seen_none {A} seen e = record {
   has = λ key. ap (λ (ks : List (String A)). list_any (λ k. is_eq (string_cmp key k)) ks) e;

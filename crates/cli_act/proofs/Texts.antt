@@ -1,4 +1,4 @@
--- Texts that are told.
+-- Texts that are printed.
 use Rattle.std.proofs.Common.{◌≡◌, ℕ, List, Option, subst}
 use Rattle.cli_outcome.specs.Written.{TellsText}
 use Rattle.cli_outcome.specs.declared.status.Status.{Status}

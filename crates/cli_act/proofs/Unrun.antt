@@ -1,4 +1,4 @@
--- A call that isn't made, for want of memory.
+-- A call that isn't made, since memory ran out.
 use Rattle.std.proofs.Common.{◌≡◌, Result, Ok, Err, refl}
 use Rattle.std.specs.Prelude.{[]}
 use Rattle.sqlite.specs.State.{State}

@@ -1,4 +1,4 @@
--- A task done and told.
+-- A task that is done, and its outcome printed.
 use Rattle.std.specs.Prelude.{ℕ, List, Option}
 use Rattle.sqlite.specs.Held.{Held}
 use Rattle.sqlite.specs.State.{State}
@@ -7,7 +7,7 @@ use Rattle.cli_act.specs.Telling.{Tells}
 use Rattle.cli_act.specs.declared.outcome.Outcome.{Outcome}
 use Rattle.cli_tasks.specs.declared.judging.Task.{Task}
 
--- What came of the task is what is told.
+-- The outcome of the task is what is printed.
 pub record Acts {S : Type 0} (shown : Held S → State) (work : Task) (old new : Held S)
     (out out' err err' : Option (List ℕ)) (status : ℕ) : Type 0 where
   pub outcome : Outcome

@@ -66,7 +66,7 @@ abbrev pub after_dump : Result (String Global) StoreFault → Outcome
 after_dump (Ok text) = Bytes (string_bytes text)
 after_dump (Err fault) = after_fault fault
 
--- A reset is done or refused; no other reply comes of it.
+-- A reset is done or refused. It has no other reply.
 abbrev pub after_reply : Reply → Outcome
 after_reply reply.Done = Answer answer.ListSet
 after_reply (reply.Refused at why) = Answer (answer.ListRefused at why)
@@ -84,7 +84,7 @@ abbrev pub after_verify : Result Report StoreFault → Outcome
 after_verify (Ok report) = after_report report
 after_verify (Err fault) = after_fault fault
 
--- the text, unless memory for it is missing
+-- the text, or out of memory
 abbrev pub IsText : List ℕ → Outcome → Type 0
 IsText text outcome = (outcome ≡ Bytes text) ⊎ (outcome ≡ Failed Memory)
 
@@ -180,7 +180,7 @@ module _ {S : Type 0} (shown : Held S → State) where
   WorksOnRoom work old outcome new =
       OpensAndWorks work old outcome new ⊎ OpensNot old outcome new
 
-  -- What a task does to a database: every one but those that make and raise a room opens it first.
+  -- What a task does to a database: all but those that make or upgrade a room open it first.
   abbrev pub Does : Task → Held S → Outcome → Held S → Type 0
   Does (task.Init owners) old outcome new = MakesRoom owners (shown old) outcome (shown new)
   Does task.Migrate old outcome new = RaisesRoom (shown old) outcome (shown new)

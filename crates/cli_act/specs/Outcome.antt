@@ -51,7 +51,7 @@ abbrev pub refusal_at : List (List ℕ) → Reason → List ℕ
 refusal_at path why =
     codes "refused: " ++ (reason_text why ++ (codes " at " ++ (path_text path ++ codes "\n")))
 
--- of a list that may not stand at the path its first entry that may not
+-- where a list may not stand at the path, the line names its first entry that may not
 abbrev pub refusal_text : List (List ℕ) → Reason → List ℕ
 refusal_text path (reason.BadList place why) =
     codes "refused: entry "

@@ -1,4 +1,4 @@
-//! A task done and told.
+//! Does a task, and prints its outcome.
 ghost use Rattle.std.specs.Prelude.{◌≡◌, false};
 ghost use Rattle.sqlite.specs.Held.{state};
 ghost use Rattle.cli_act.specs.Acting.{Acts};
@@ -10,9 +10,9 @@ use sqlite::{Alter, Connection};
 use std::alloc::Global;
 use std::io::Write;
 
-/// Does a task on a database, and tells what came of it on standard output and standard error.
+/// Does a task on a database, and prints its outcome on standard output and standard error.
 ///
-/// Gives the connection back, outside of any transaction, and the exit status: 0 done, 1 a fault of
+/// It returns the connection, outside of any transaction, and the exit status: 0 done, 1 a fault of
 /// the rows was found, 2 refused, 3 failed.
 pub fn act<S: Alter + Drop, O: Write, E: Write>(
     alloc: Global,

@@ -6,7 +6,7 @@ use room_ace::Name;
 use std::alloc::{AllocError, Global};
 use std::collections::BTreeSet;
 
-/// The number of different groups of the pairs.
+/// The number of different groups of the pairs. The only error is out of memory.
 pub(crate) fn count_groups(alloc: Global, pairs: &[(Name, Name)]) -> Result<usize, AllocError>
     ensures { IfOk result (λ count. count ≡ length (groups_of pairs.now)) }
 {

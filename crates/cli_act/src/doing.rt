@@ -13,7 +13,7 @@ use sqlite::{Alter, Connection};
 use std::alloc::Global;
 use store_schema::{CreateFault, MigrateFault};
 
-// What comes of a room that isn't made.
+// The outcome where a room isn't made.
 fn not_made(fault: CreateFault) -> Outcome
     ensures { result ≡ after_create (Err fault) }
 {
@@ -33,7 +33,7 @@ fn make<S: Alter>(conn: Connection<S>, owners: &Owners) -> (Connection<S>, Outco
     }
 }
 
-// What comes of a room that isn't raised.
+// The outcome where a room isn't upgraded.
 fn not_raised(fault: MigrateFault) -> Outcome
     ensures { result ≡ after_migrate (Err fault) }
 {
@@ -73,8 +73,8 @@ fn open_and_work<S: Alter>(
     }
 }
 
-/// Does a task on a database, and answers what came of it. The connection is given back, outside of
-/// any transaction.
+/// Does a task on a database, and answers its outcome. The connection is returned, outside of any
+/// transaction.
 pub(crate) fn carry_out<S: Alter>(
     alloc: Global,
     conn: Connection<S>,

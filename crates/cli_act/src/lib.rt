@@ -1,4 +1,4 @@
-//! The subcommands that work on a database for a while, and what they tell.
+//! The subcommands that work on a database for a while, and what they print.
 #![tactic(auto)]
 
 mod acting;

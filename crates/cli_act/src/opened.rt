@@ -31,7 +31,7 @@ use room_store::{Store, StoreFault};
 use sqlite::Alter;
 use std::alloc::Global;
 
-// What comes of a store that gave no answer.
+// The outcome where a store gave no answer.
 fn after_fault(fault: StoreFault) -> Outcome
     ensures { result ≡ after_fault fault }
 {
@@ -42,7 +42,7 @@ fn after_fault(fault: StoreFault) -> Outcome
     }
 }
 
-// The members become these pairs, of so many groups.
+// The members are replaced by these pairs, of `groups` groups.
 fn put<S: Alter>(
     alloc: Global,
     store: &mut Store<S>,
@@ -62,7 +62,7 @@ fn put<S: Alter>(
     }
 }
 
-// The groups are counted before, so that nothing is changed where memory for that is missing.
+// The groups are counted before, so that nothing is changed where memory for that runs out.
 fn replace<S: Alter>(alloc: Global, store: &mut Store<S>, pairs: &[(Name, Name)]) -> Outcome
     ensures { PutsMembers pairs.now (state S.Store store.old.conn) result
         (state S.Store store.new.conn) }
@@ -134,7 +134,7 @@ fn set_list<S: Alter>(
     }
 }
 
-// What comes of a reset, whose reply is that it was done or refused.
+// The outcome of a reset, whose reply is that it was done or refused.
 fn after_reply(reply: Reply) -> Outcome
     ensures { result ≡ after_reply reply }
 {
@@ -151,7 +151,7 @@ fn after_reply(reply: Reply) -> Outcome
     }
 }
 
-// What comes of a look through all rows.
+// The outcome of the test of all rows.
 fn after_report(report: Report) -> Outcome
     ensures { result ≡ after_report report }
 {

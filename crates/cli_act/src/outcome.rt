@@ -1,4 +1,4 @@
-//! What comes of a subcommand.
+//! Outcomes of subcommands.
 ghost use Rattle.std.specs.Prelude.{◌≡◌};
 ghost use Rattle.cli_act.specs.Outcome.{answer_status, not_opened, status_of};
 
@@ -13,7 +13,7 @@ use store_schema::OpenFault;
 pub enum Answer {
     /// A room was made.
     Made,
-    /// The members are now these, so many pairs of so many groups.
+    /// The members were replaced by this many pairs of this many groups.
     Replaced { groups: usize, members: usize },
     /// A list was set.
     ListSet,
@@ -23,25 +23,25 @@ pub enum Answer {
     Sound,
     /// The first fault of the rows, and where it is.
     Unsound { path: Text, why: Unsound },
-    /// The older schema was raised.
+    /// The older schema was upgraded.
     Raised,
-    /// The database holds no room of the schema that is wanted.
+    /// The database holds no room of the current schema.
     NoRoom(NoRoom),
 }
 
-/// What came of a subcommand that works on a database.
+/// The outcome of a subcommand that works on a database.
 #[derive(Drop)]
 pub enum Outcome {
     /// It is answered in one line.
     Answer(Answer),
-    /// These bytes were asked for, and are told as they stand.
+    /// These bytes were asked for, and are printed as they stand.
     Bytes(Bytes),
     /// It failed.
     Failed(Fault),
 }
 
 impl Answer {
-    /// How the subcommand ended that is answered so.
+    /// How a subcommand with this answer ended.
     pub fn status(&self) -> Status
         ensures { result ≡ answer_status self.now }
     {
@@ -70,7 +70,7 @@ impl Outcome {
         }
     }
 
-    /// What comes of a database that isn't opened as a room.
+    /// The outcome where a database isn't opened as a room.
     pub fn not_opened(fault: OpenFault) -> Outcome
         ensures { result ≡ not_opened fault }
     {

@@ -1,4 +1,4 @@
-//! An outcome told on the two writers.
+//! Prints an outcome on the two writers.
 ghost use Rattle.cli_act.specs.Outcome.{answer_status, answer_text};
 ghost use Rattle.cli_act.specs.Telling.{Tells};
 ghost use Rattle.cli_outcome.specs.Written.{TellsText};
@@ -19,8 +19,8 @@ fn tell_answer<O: Write, E: Write>(alloc: Global, answer: &Answer, out: &mut O, 
     }
 }
 
-/// Tells what came of a subcommand, and answers the exit status. Where standard output fails, it is
-/// `fault: file`, or `fault: memory`, on standard error, and 3.
+/// Prints the outcome of a subcommand, and answers the exit status. Where standard output fails, it
+/// prints `fault: file` or `fault: memory` on standard error, and answers 3.
 pub fn tell<O: Write, E: Write>(alloc: Global, outcome: &Outcome, out: &mut O, err: &mut E) -> u8
     ensures { Tells outcome.now (O.contents out.old) (O.contents out.new)
         (E.contents err.old) (E.contents err.new) result }

@@ -1,4 +1,4 @@
--- As much of an input as shows that it is too long has the task of all of it.
+-- The first bytes of an input that show that it is too long have the task of all of it.
 use Rattle.std.proofs.Common.{ℕ, ◌≡◌, ◌+◌, ◌<◌, ◌≤◌, ◌∙◌, List, [], length, Option, Some, None, Result, Ok, Err, refl, sym, ap, subst, inl, inr, arith}
 use Rattle.std.specs.Prelude.{take, nat_lt, IfSome, IsSome, if◌then◌else◌}
 use Rattle.std.proofs.lemmas.List.{length-take-le, take_all}

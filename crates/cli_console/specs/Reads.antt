@@ -11,13 +11,13 @@ use Rattle.cli_words.specs.declared.command.Input.TheVariants as input
 use Rattle.cli_console.specs.declared.stop.Stop.{Stop}
 use Rattle.cli_console.specs.declared.stop.Stop.TheVariants as stop
 
--- One byte more than a list and a group file may have.
+-- One byte more than a list or a group file may have.
 abbrev pub most_of : Input → ℕ
 most_of input.Nothing = 0
 most_of input.Standard = 1048577
 most_of (input.File name) = 8388609
 
--- The task that is due, or the refusal that is, or a stream or memory fails.
+-- The task or the refusal that is due, or a stream or memory fails.
 abbrev pub IsTask : Option (Result Task Refusal) → Result Task Stop → Type 0
 IsTask due (Ok task) = due ≡ Some (Ok task)
 IsTask due (Err (stop.Refused why)) = due ≡ Some (Err why)

@@ -1,4 +1,4 @@
--- What is told of the reasons why the program ends before a task is done (own).
+-- What is printed of the reasons why the program ends before a task is done (own).
 use Rattle.std.specs.Prelude.{◌≡◌, ℕ, List, [], ◌∷◌, ◌++◌, Option, codes, string_bytes}
 use Rattle.std.specs.Io.KnownBytes.{Keeps}
 use Rattle.std.specs.declared.io.ErrorKind.{ErrorKind}
@@ -30,9 +30,10 @@ abbrev pub stop_of_refusal : Failure Refusal → Stop
 stop_of_refusal OutOfMemory = stop.Failed fault.Memory
 stop_of_refusal (Fault why) = stop.Refused why
 
--- ---- what is told of it
+-- ---- what is printed of it
 
--- Refusals are told on standard output, and on standard error faults, and what there is to say of words.
+-- Refusals are printed on standard output. Faults and what `clap` says of words are printed on
+-- standard error.
 abbrev pub TellsStop : Stop → Option (List ℕ) → Option (List ℕ) → Option (List ℕ)
     → Option (List ℕ) → ℕ → Type 0
 TellsStop (stop.Failed fault) out out' err err' code =

@@ -1,4 +1,4 @@
-//! How a program reads the task of a command, and how it tells why it ends before that is done.
+//! How a program reads the task of a command, and prints why it ends before that is done.
 #![tactic(auto)]
 
 mod reading;

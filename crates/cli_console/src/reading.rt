@@ -1,4 +1,4 @@
-//! The task of a command, and of what is read for it.
+//! The task of a command and of what is read for it.
 ghost use Rattle.std.specs.Prelude.{◌≡◌, ℕ, List, IsSome};
 ghost use Rattle.cli_tasks.specs.Tasks.{task_of};
 ghost use Rattle.cli_words.specs.Asked.{input_of};
@@ -13,8 +13,8 @@ use std::alloc::Global;
 use std::io::Read;
 
 /// The task of a command that works on an open database for a while, or why it is refused. The
-/// reader has what the command's `input` names. Of an input that is too long there is read one byte
-/// more than it may have, and nothing where the command has none.
+/// reader has what the command's `input` names. Of an input that is too long one byte more is read
+/// than it may have. Nothing is read where the command has no input.
 pub fn read_task<R: Read + Drop>(
     alloc: Global,
     command: &Command<'_>,

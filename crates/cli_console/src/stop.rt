@@ -19,7 +19,7 @@ pub enum Stop {
     Failed(Fault),
     /// The words or the input are refused.
     Refused(Refusal),
-    /// The file that is to be made is there.
+    /// The file to be made is there already.
     Exists,
     /// The file is empty.
     NotRooms,

@@ -1,4 +1,4 @@
-//! Why the program ends, told on its two writers.
+//! Prints why the program ends on its two writers.
 ghost use Rattle.std.specs.Prelude.{◌≡◌, ◌++◌, ◌∷◌, [], IfOk, string_bytes};
 ghost use Rattle.cli_outcome.specs.Written.{TellsText, WritesSome};
 ghost use Rattle.cli_outcome.specs.declared.status.Status.TheVariants.{Refused};
@@ -11,9 +11,9 @@ use cli_tasks::Refusal;
 use std::alloc::{AllocError, Global};
 use std::io::Write;
 
-/// Tells why on standard output, if it is a refusal, and else on standard error, and answers the
-/// exit status. A refusal that can't be told is a fault, and the status 3. A fault that can't be
-/// told is told by the status alone.
+/// Prints why on standard output, if it is a refusal, and else on standard error, and answers the
+/// exit status. A refusal that can't be printed is a fault, and the status is 3. Where a fault
+/// can't be printed, the status alone reports it.
 pub fn tell_stop<O: Write, E: Write>(alloc: Global, stop: &Stop, out: &mut O, err: &mut E) -> u8
     ensures { TellsStop stop.now (O.contents out.old) (O.contents out.new)
         (E.contents err.old) (E.contents err.new) result }
@@ -45,7 +45,7 @@ fn line_of(alloc: Global, why: &Refusal) -> Result<String, AllocError>
     format!(in alloc; "{why}\n")
 }
 
-// Where this fails too, the status alone tells of it.
+// Where this fails too, the status alone reports it.
 fn tell_words<E: Write>(text: &str, err: &mut E) -> u8
     ensures status { result ≡ 2 }
     ensures told { WritesSome (E.contents err.old) (E.contents err.new) text.now }

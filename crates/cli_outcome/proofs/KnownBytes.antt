@@ -24,7 +24,7 @@ pub Appends-none : (u : Option (List ℕ)) → Appends u u []
 Appends-none None = tt
 Appends-none (Some xs) = sym (append-nil xs)
 
--- a beginning was written, and nothing more
+-- a front was written, and nothing more
 pub WritesSome-at : (u v w : Option (List ℕ)) (text : List ℕ) (n : ℕ)
     → Appends u v (take n text) → Keeps v w → WritesSome u w text
 WritesSome-at u v w text n x y =
@@ -58,7 +58,7 @@ writes_none u text = ([], text, refl, Appends-none u)
 pub writes_all : (u v w : Option (List ℕ)) (text : List ℕ) → Appends u v text → Keeps v w → WritesSome u w text
 writes_all u v w text x y = (text, [], sym (append-nil text), Appends-kept u v w text x y)
 
--- a text was sent, or a beginning of it
+-- a text was sent, or a front of it
 pub sent_some : (u v : Option (List ℕ)) (text : List ℕ) (sent : Result (Unit {0}) Fault)
     → OnOk sent (Appends u v text) → OnErr sent (WritesSome u v text) → WritesSome u v text
 sent_some u v text (Ok done) ok err = (text, [], sym (append-nil text), ok)

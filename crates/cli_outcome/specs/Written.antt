@@ -1,24 +1,24 @@
--- What is told on the two writers, where these tell their bytes.
+-- What is written to the two writers, where their contents are known.
 use Rattle.std.specs.Prelude.{◌≡◌, ◌⊎◌, ℕ, List, [], ◌++◌, Option}
 use Rattle.std.specs.Io.KnownBytes.{Appends}
 use Rattle.cli_outcome.specs.Ending.{IsOfStream, fault_line, status_code}
 use Rattle.cli_outcome.specs.declared.fault.Fault.{Fault}
 use Rattle.cli_outcome.specs.declared.status.Status.{Status}
 
--- a beginning of the text was written
+-- a front of the text was written
 abbrev pub WritesSome : Option (List ℕ) → Option (List ℕ) → List ℕ → Type 0
 WritesSome old new text =
     (front : List ℕ) × (back : List ℕ) × (text ≡ front ++ back) × Appends old new front
 
--- All of a text was written on standard output, and on standard error this or a beginning of it.
+-- All of a text was written to standard output, and to standard error this line or a front of it.
 pub record IsTold (text due : List ℕ) (code : ℕ) (out out' err err' : Option (List ℕ))
     (status : ℕ) : Type 0 where
   pub said : Appends out out' text
   pub told : WritesSome err err' due
   pub ends : status ≡ code
 
--- A text was due on standard output, which failed in it; that is told on standard error, or a
--- beginning of it.
+-- A text was due on standard output, and writing it failed. That is printed on standard error, in
+-- full or in part.
 pub record IsCut (text : List ℕ) (out out' err err' : Option (List ℕ))
     (status : ℕ) : Type 0 where
   pub said : WritesSome out out' text
@@ -27,18 +27,18 @@ pub record IsCut (text : List ℕ) (out out' err err' : Option (List ℕ))
   pub told : WritesSome err err' (fault_line why)
   pub ends : status ≡ 3
 
--- The text was written on standard output, and the status is this one, or standard output failed.
+-- The text was written to standard output, and the status is this one, or standard output failed.
 abbrev pub TellsLine : List ℕ → ℕ → Option (List ℕ) → Option (List ℕ) → Option (List ℕ)
     → Option (List ℕ) → ℕ → Type 0
 TellsLine text code out out' err err' status =
     IsTold text [] code out out' err err' status ⊎ IsCut text out out' err err' status
 
--- The same with the status of this ending.
+-- The same with the status as a value of its type.
 abbrev pub TellsText : List ℕ → Status → Option (List ℕ) → Option (List ℕ) → Option (List ℕ)
     → Option (List ℕ) → ℕ → Type 0
 TellsText text how = TellsLine text (status_code how)
 
--- Nothing was written on standard output, and on standard error this fault or a beginning of it.
+-- Nothing was written to standard output, and this fault to standard error, in full or in part.
 abbrev pub TellsFault : Fault → Option (List ℕ) → Option (List ℕ) → Option (List ℕ)
     → Option (List ℕ) → ℕ → Type 0
 TellsFault why = IsTold [] (fault_line why) 3

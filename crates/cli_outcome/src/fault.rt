@@ -5,10 +5,10 @@ ghost use Rattle.std.specs.IoError.{error_kind};
 
 use std::io::{Error, ErrorKind};
 
-/// What failed. It is told on standard error, and the exit status is then 3.
+/// What failed. It is printed on standard error, and the exit status is then 3.
 #[derive(Clone, Copy, Debug, PartialEq, Eq)]
 pub enum Fault {
-    /// There was no memory.
+    /// Out of memory.
     Memory,
     /// The database failed, or a row of it can't be read.
     Database,
@@ -19,7 +19,7 @@ pub enum Fault {
 }
 
 impl Fault {
-    /// The line that is told of it, with its end.
+    /// The line that is printed of it, with its line feed.
     pub fn line(self) -> &'static str
         ensures { result.now ≡ fault_line self }
     {

@@ -1,4 +1,4 @@
-//! How a subcommand ends, its exit status and what it tells on the two writers, and how it reads.
+//! How a subcommand ends, its exit status and what it prints on the two writers, and how it reads.
 #![tactic(auto)]
 
 mod fault;

@@ -4,7 +4,7 @@ ghost use Rattle.cli_outcome.specs.Ending.{no_room_text};
 
 use std::fmt;
 
-/// Why a file is refused as a room. It is displayed as it is told, as `schema 1 is old`.
+/// Why a file is refused as a room. It is displayed as it is printed, as `schema 1 is old`.
 #[derive(Clone, Copy, Debug, PartialEq, Eq)]
 pub enum NoRoom {
     /// It is empty, or a database that holds no room.

@@ -1,4 +1,4 @@
-//! Texts told on the two writers.
+//! Texts written to the two writers.
 ghost use Rattle.std.specs.Prelude.{◌≡◌};
 ghost use Rattle.cli_outcome.specs.Ending.{fault_line};
 ghost use Rattle.cli_outcome.specs.Written.{TellsLine, TellsText, WritesSome};
@@ -8,8 +8,8 @@ use crate::status::Status;
 use crate::write::send_text;
 use std::io::Write;
 
-/// Writes a text, or a beginning of it where that fails. It is for a text after which only the exit
-/// status is left to tell of a failure.
+/// Writes a text. A failure is passed over, and a front of the text may have been written. It is
+/// for a text after which only the exit status is left to report a failure.
 #[tactic(auto, using(crate::proofs::KnownBytes::sent_some))]
 pub fn tell_if_possible<E: Write>(text: &[u8], err: &mut E)
     ensures { WritesSome (E.contents err.old) (E.contents err.new) text.now }
@@ -17,8 +17,8 @@ pub fn tell_if_possible<E: Write>(text: &[u8], err: &mut E)
     let _told = send_text(err, text);
 }
 
-/// Tells of a fault on standard error, and answers the exit status, which tells it alone where that
-/// fails too.
+/// Prints a fault on standard error, and answers the exit status. Where printing fails too, the
+/// status alone reports the fault.
 pub fn tell_fault<E: Write>(fault: Fault, err: &mut E) -> u8
     ensures status { result ≡ 3 }
     ensures text { WritesSome (E.contents err.old) (E.contents err.new) (fault_line fault) }
@@ -27,8 +27,8 @@ pub fn tell_fault<E: Write>(fault: Fault, err: &mut E) -> u8
     Status::Failed.code()
 }
 
-/// Writes a text on standard output, and answers this exit status. Where that fails, it is
-/// `fault: file`, or `fault: memory`, on standard error, and 3.
+/// Writes a text to standard output, and answers this exit status. Where that fails, it prints
+/// `fault: file` or `fault: memory` on standard error, and answers 3.
 pub fn tell_line<O: Write, E: Write>(text: &[u8], code: u8, out: &mut O, err: &mut E) -> u8
     ensures { TellsLine text.now code (O.contents out.old) (O.contents out.new)
         (E.contents err.old) (E.contents err.new) result }
@@ -39,7 +39,7 @@ pub fn tell_line<O: Write, E: Write>(text: &[u8], code: u8, out: &mut O, err: &m
     }
 }
 
-/// The same with the status of this ending.
+/// As `tell_line`, with the exit status of this ending.
 pub fn tell_text<O: Write, E: Write>(text: &[u8], status: Status, out: &mut O, err: &mut E) -> u8
     ensures { TellsText text.now status (O.contents out.old) (O.contents out.new)
         (E.contents err.old) (E.contents err.new) result }

@@ -5,7 +5,7 @@ ghost use Rattle.cli_outcome.specs.Written.{WritesSome};
 
 use std::io::{self, ErrorKind, Write};
 
-// Writes the text, or a beginning of it where a write fails or takes nothing.
+// Writes the text. Where a write fails or takes no byte, a front of it was written.
 fn write_text<W: Write>(w: &mut W, text: &[u8]) -> io::Result<()>
     ensures ok { OnOk result (Appends (W.contents w.old) (W.contents w.new) text.now) }
     ensures err { OnErr result (WritesSome (W.contents w.old) (W.contents w.new) text.now) }
@@ -24,7 +24,7 @@ fn write_text<W: Write>(w: &mut W, text: &[u8]) -> io::Result<()>
     Ok(())
 }
 
-/// Writes the text and has it go out. Where that fails, a beginning of the text was written.
+/// Writes and flushes the text. Where that fails, a front of the text was written.
 pub fn send_text<W: Write>(w: &mut W, text: &[u8]) -> io::Result<()>
     ensures ok { OnOk result (Appends (W.contents w.old) (W.contents w.new) text.now) }
     ensures err { OnErr result (WritesSome (W.contents w.old) (W.contents w.new) text.now) }

@@ -20,7 +20,7 @@ pub ends : (end : Result (Unit {0}) ServingFault) (status : ℕ) (out out' : Opt
 ends (Ok done) status out out' is told = inl (is, told)
 ends (Err fault) status out out' is told = inr is
 
--- nobody came
+-- no connection came
 pub unserved : {D : Type 0} (d : Ghosts D) (count : ℕ) (told : List ℤ → Type 0) (desk : D)
     → Served d count told told desk desk (Err ServingFault.Net)
 unserved d count told desk = (
@@ -46,19 +46,19 @@ rests {D} d old new same =
       run = λ t s room is. (room, refl, is);
     })
 
--- the same, where the port may have been told
+-- the same, where the port may have been printed
 pub rests_or : {D : Type 0} (d : Ghosts D) (old new : D) (out out' : Option (List ℕ)) → (new ≡ old) ⊎ TellsPort out out'
     → Rests d old new ⊎ TellsPort out out'
 rests_or d old new out out' (inl same) = inl (rests d old new same)
 rests_or d old new out out' (inr tells) = inr tells
 
--- what a store rested, in its own words
+-- a store on which nothing was done, in terms of its content
 pub rested : (old new : State) → (HasCleanDisk new → HasCleanDisk old)
     → (HasCleanDisk new → IsSound old → IsSound new)
     → (HasCleanDisk new → IsSound old → Runs (Keeps old) [] (Keeps new)) → Leads old [] new
 rested old new trusted sound run = record { trusted = trusted; sound = sound; run = run }
 
--- what a store received, in its own words
+-- what a store served, in terms of its content
 pub served : (count : ℕ) (told told' : List ℤ → Type 0) (old new : State) (out out' : Option (List ℕ)) (status : ℕ)
     (visits : List Visit) (end : Result (Unit {0}) ServingFault)
     → length visits ≤ count → All IsVisit visits
@@ -81,7 +81,7 @@ served count told told' old new out out' status visits end few each moments trus
   end_says = says;
 }
 
--- what happens after nothing did
+-- events after a step without events
 pub after : (old mid new : State) (events : List Event) → Leads old [] mid → Leads mid events new
     → Leads old events new
 after old mid new events first then = record {

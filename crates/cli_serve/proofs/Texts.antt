@@ -1,4 +1,4 @@
--- Texts that are told, of databases that are not opened.
+-- Texts that are printed where a database isn't opened.
 use Rattle.std.proofs.Common.{◌≡◌, ℕ, List, Option, Result, Ok, Err, subst}
 use Rattle.cli_outcome.proofs.KnownBytes.{Appends-none}
 use Rattle.cli_outcome.specs.Ending.{fault_line}

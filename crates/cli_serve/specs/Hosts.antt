@@ -19,7 +19,7 @@ use Rattle.http_serve.specs.Visits.{IsEnd, IsVisit, Visit, moment_of, requests_o
 use Rattle.http_serve.specs.declared.fault.ServingFault.{ServingFault}
 use Rattle.cli_serve.specs.Places.{AsksFor, Place, local_place}
 
--- what is told where the database holds no room of this version
+-- the line that is printed where the database holds no room of this version
 abbrev pub refusal_line : NoRoom → List ℕ
 refusal_line why = codes "refused: " ++ (no_room_text why ++ codes "\n")
 
@@ -31,7 +31,7 @@ reason_of (OpenFault.NewVersion number) = Ok (NoRoom.New number)
 reason_of OpenFault.Db = Err Fault.Database
 reason_of OpenFault.Memory = Err Fault.Memory
 
--- what is told on the two writers, where these tell their bytes, and the status
+-- what is printed on the two writers, where their contents are known, and the status
 abbrev pub Refuses : NoRoom → Option (List ℕ) → Option (List ℕ) → Option (List ℕ)
     → Option (List ℕ) → ℕ → Type 0
 Refuses why = TellsText (refusal_line why) Status.Refused
@@ -41,7 +41,7 @@ abbrev pub TurnsDown : Result NoRoom Fault → Option (List ℕ) → Option (Lis
 TurnsDown (Ok why) = Refuses why
 TurnsDown (Err why) = TellsFault why
 
--- what is told of a fault where connections were served
+-- the fault that is printed where connections were served
 abbrev pub fault_of : ServingFault → Fault
 fault_of ServingFault.Memory = Fault.Memory
 fault_of ServingFault.File = Fault.File
@@ -70,9 +70,9 @@ pub record Rests {D : Type 0} (d : Ghosts D) (old new : D) : Type 0 where
   pub sound : d.trusted new → d.sound old → d.sound new
   pub run : d.trusted new → d.sound old → Runs (d.content old) [] (d.content new)
 
--- The requests of at most `count` connections were served, each at the moment that the clock gave
--- for it. All is done, or there was a fault, and what this says of the connections holds. The port
--- was printed before the first of them.
+-- The requests of at most `count` connections were served, each at the moment that the clock read
+-- for it. All is done, or there was a fault, and what the fault says of the connections holds. The
+-- port was printed before the first of them.
 pub record IsServed (count : ℕ) (told told' : List ℤ → Type 0) (old new : State)
     (out out' : Option (List ℕ)) (status : ℕ) : Type 0 where
   pub visits : List Visit

@@ -5,11 +5,11 @@ use Rattle.std.specs.Prelude.{ℕ, List, [], ◌∷◌, ◌++◌}
 abbrev pub Place : Type 0
 Place = (address : List ℕ) × ℕ
 
--- the port of this machine alone: nobody else reaches it
+-- the port on 127.0.0.1: no other machine reaches it
 abbrev pub local_place : ℕ → Place
 local_place port = (127 ∷ 0 ∷ 0 ∷ 1 ∷ [], port)
 
--- what had been asked for, and then these places
+-- these places were asked for after those before
 abbrev pub AsksFor : (List Place → Type 0) → (List Place → Type 0) → List Place → Type 0
 AsksFor asked asked' places =
     (before : List Place) → asked before → asked' (before ++ places)

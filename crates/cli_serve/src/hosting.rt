@@ -1,4 +1,4 @@
-//! The room of a database behind a port.
+//! The room of a database, served on a port.
 ghost use Rattle.std.specs.Prelude.{◌≡◌, ◌⊎◌, List, [], ◌∷◌, OnOk, false};
 ghost use Rattle.sqlite.specs.Held.{state};
 ghost use Rattle.room_store.specs.Leads.{Leads};
@@ -16,9 +16,10 @@ use std::alloc::Global;
 use std::io::Write;
 use std::net::Ipv4Addr;
 
-/// Serves so many connections to the room of the database, on this port of 127.0.0.1, one after the
-/// other. It hands the connection back, with the status: 0 where all is done, 2 where the database
-/// holds no room of this version, which `out` tells, and 3 at a fault, which `err` tells.
+/// Serves `count` connections to the room of the database, on this port of 127.0.0.1, one after the
+/// other. It returns the connection with the status: 0 where all is done, 2 where the database
+/// holds no room of this version, which is printed on `out`, and 3 at a fault, which is printed on
+/// `err`.
 pub fn host<S: Alter, P: Ports, M: Moments, O: Write, E: Write>(
     alloc: Global,
     conn: Connection<S>,
@@ -45,7 +46,7 @@ pub fn host<S: Alter, P: Ports, M: Moments, O: Write, E: Write>(
     }
 }
 
-// The same with the room that was opened.
+// Serves connections to the room that was opened.
 fn host_store<S: Alter, P: Ports, M: Moments, O: Write, E: Write>(
     alloc: Global,
     mut store: Store<S>,

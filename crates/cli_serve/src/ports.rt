@@ -11,7 +11,7 @@ pub trait Ports {
     // Whether these may be the places that it was asked for, in order.
     ghost asked: { Self → List Place → Type 0 };
 
-    /// A listener at a port of an address.
+    /// A listener at a port of an address, or the error of the network.
     fn bind(&mut self, address: Ipv4Addr, port: u16) -> io::Result<TcpListener>
         ensures { (before : List Place) → asked self.old before
             → asked self.new (before ++ (ipv4_octets address, port) ∷ []) };
@@ -27,7 +27,7 @@ impl<'a, N> NetPorts<'a, N>
 where
     N: Net<Listener = TcpListener, Stream = TcpStream>,
 {
-    /// Those of this network.
+    /// The ports of this network.
     pub fn of(net: &'a N) -> NetPorts<'a, N> {
         NetPorts { net }
     }
@@ -37,7 +37,7 @@ impl<N> Ports for NetPorts<'_, N>
 where
     N: Net<Listener = TcpListener, Stream = TcpStream>,
 {
-    // A network's own contract says nothing of what it is asked for.
+    // The contract of a network says nothing of what it is asked for.
     ghost asked = { λ _ _. ⊤ };
 
     fn bind(&mut self, address: Ipv4Addr, port: u16) -> io::Result<TcpListener> {

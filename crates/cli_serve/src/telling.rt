@@ -1,4 +1,4 @@
-//! What is told where not all is done, and the status.
+//! Lines that are printed where not all is done, and the status.
 ghost use Rattle.std.specs.Prelude.{◌≡◌, IfErr};
 ghost use Rattle.cli_outcome.specs.Ending.{fault_line};
 ghost use Rattle.cli_outcome.specs.Written.{WritesSome};
@@ -10,7 +10,7 @@ use std::alloc::Global;
 use std::io::Write;
 use store_schema::OpenFault;
 
-/// Tells why the database was not opened as a room, and answers the status.
+/// Prints why the database was not opened as a room, and answers the status.
 pub(crate) fn tell_opening<O: Write, E: Write>(
     alloc: Global,
     fault: OpenFault,
@@ -39,8 +39,8 @@ fn reason_of(fault: OpenFault) -> Result<NoRoom, Fault>
     }
 }
 
-/// Tells why not all connections were served, or not all was told, if that is so, and answers the
-/// status.
+/// Prints why not all connections were served or not every line was printed, if that is so, and
+/// answers the status.
 pub(crate) fn tell_end<E: Write>(end: Result<(), ServingFault>, err: &mut E) -> u8
     ensures status { result ≡ end_status end }
     ensures told { IfErr end (λ why. WritesSome (E.contents err.old) (E.contents err.new)
@@ -62,7 +62,7 @@ fn fault_of(fault: ServingFault) -> Fault
     }
 }
 
-// Tells a refusal. Where that fails, this is a fault.
+// Prints a refusal. Where that fails, the outcome is a fault.
 fn refuse<O: Write, E: Write>(alloc: Global, why: NoRoom, out: &mut O, err: &mut E) -> u8
     ensures { Refuses why (O.contents out.old) (O.contents out.new)
         (E.contents err.old) (E.contents err.new) result }

@@ -16,7 +16,7 @@ use Rattle.cli_tasks.specs.declared.refusal.Refusal.TheVariants as refusal
 use Rattle.cli_words.specs.declared.command.Command.{Command}
 use Rattle.cli_words.specs.declared.command.Command.TheVariants as command
 
--- the line that is told of a refusal
+-- the line that is printed of a refusal
 abbrev pub refusal_text : Refusal → List ℕ
 refusal_text (refusal.Name why) = codes "refused: " ++ text_fault_text why
 refusal_text (refusal.Path why) = codes "refused: " ++ path_fault_text why
@@ -39,13 +39,13 @@ name_in text = refused_by refusal.Name (name_of text)
 abbrev pub path_in : List ℕ → Result (List (List ℕ)) Refusal
 path_in text = refused_by refusal.Path (path_of text)
 
--- of a list at most 2^20 bytes
+-- the list in at most 2^20 bytes
 abbrev pub sent_in : List ℕ → Result Sent Refusal
 sent_in input =
     if nat_lt 1048576 (length input) then Err refusal.TooLong
     else refused_by refusal.Line (sent_of input)
 
--- of a group file at most 2^23 bytes
+-- the pairs in a group file of at most 2^23 bytes
 abbrev pub pairs_in : List ℕ → Result (List (List ℕ × List ℕ)) Refusal
 pairs_in input =
     if nat_lt 8388608 (length input) then Err refusal.TooLong

@@ -1,4 +1,4 @@
-//! A subcommand's words and input judged.
+//! Validates a subcommand's words and input.
 ghost use Rattle.std.specs.Prelude.{IfSome, IsSome};
 ghost use Rattle.room_ace.specs.Gives.{Gives};
 ghost use Rattle.cli_tasks.specs.Tasks.{name_in, new_room, pairs_in, path_in, reset_of, sent_in};
@@ -11,32 +11,33 @@ use room_import::{Pairs, read_groups};
 use room_rows::{Path, read_path};
 use std::alloc::Global;
 
-/// The most bytes of a group file. Of a longer one a single byte more is enough to tell that.
+/// The most bytes of a group file. One byte more is enough to see that it is too long.
 pub const MOST_GROUP_BYTES: usize = 8_388_608;
 
-/// The subcommand and what was read for it, of all that work on an open database for a while.
+/// A subcommand that works on an open database for a while, with its arguments and input.
 #[derive(Drop)]
 pub enum Task {
     /// Make a room whose root has these owners.
     Init(Owners),
     /// Replace the members by these pairs of group and user.
     Groups(Pairs),
-    /// Tell the members.
+    /// Print the members.
     GroupsOut,
-    /// Tell the records.
+    /// Print the records.
     Audit,
-    /// Tell all objects and members.
+    /// Print all objects and members.
     Dump,
     /// Set the list at this path.
     Reset(Path, Which, SentList),
-    /// Look for the first fault of the rows.
+    /// Find the first fault of the rows.
     Verify,
-    /// Raise the older schema.
+    /// Upgrade the older schema.
     Migrate,
 }
 
-/// The task of a subcommand and its input, which is the bytes of its list or of its CSV file, or
-/// why it is refused: names first, next the path, then the input.
+/// The task of a subcommand and its input, which is the bytes of its list or of its CSV file. The
+/// error is the first reason to refuse it, or that memory ran out: names are validated first, next
+/// the path, then the input.
 pub fn judge(alloc: Global, command: &Command<'_>, input: &[u8]) -> Result<Task, Failure<Refusal>>
     requires { IsSome (task_of command.now input.now) }
     ensures { IfSome (task_of command.now input.now) (Gives result) }

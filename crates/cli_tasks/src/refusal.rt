@@ -7,13 +7,13 @@ use room_rows::PathFault;
 use std::error::Error;
 use std::fmt;
 
-/// Why words or an input are refused. It is displayed as the line that is told, as
+/// Why words or an input are refused. It is displayed as it is printed, as
 /// `refused: P1 bad object name`.
 #[derive(Clone, Copy, Debug, PartialEq, Eq)]
 pub enum Refusal {
     /// An owner or an owning group is no name.
     Name(TextFault),
-    /// A path is none.
+    /// A path is invalid.
     Path(PathFault),
     /// The input is too long.
     TooLong,

@@ -19,12 +19,12 @@ second : (a b : Kinds) → or_else a b ≡ [] → b ≡ []
 second [] b none = none
 second (kind ∷ kinds) b none = absurd (true≢false (ap is_full none))
 
--- The last test is that a subcommand was met.
+-- The last test is that there was a subcommand.
 wants : (names : Bor (List (Bor Text))) (rows : List Row) (has : Bool) → check_fault (built (command_line names)).top rows has ≡ [] → has ≡ true
 wants names rows true none = refl
 wants names rows false none = absurd (true≢false (ap is_full none))
 
--- What a level of the parse ends with.
+-- What the parse of a level ends with.
 level_last : (s : Shape) (names : Names) (held : Held) (words : List Text) (has : Bool) (below : Kinds) → level_fault s names held words has below ≡ [] → check_fault s (finished s.rules (walk s.rules names held words).held) has ≡ []
 level_last s names held words has below none =
     let end = (walk s.rules names held words).held in

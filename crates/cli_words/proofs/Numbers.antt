@@ -1,4 +1,4 @@
--- Numbers that `clap` gives of an option.
+-- Numbers of options, as `clap` answers them.
 use Rattle.std.proofs.Common.{◌≡◌, ap, refl, List, ℕ, Option, Some, None}
 use Rattle.std.specs.Prelude.{Result, Ok, Err, unwrap_or}
 use Rattle.std.specs.Str.Parse.{ParsesUnsigned}

@@ -6,7 +6,7 @@ use Rattle.cli_words.specs.declared.command.Command.TheVariants as command
 use Rattle.cli_words.specs.declared.command.Input.{Input}
 use Rattle.cli_words.specs.declared.command.Input.TheVariants as input
 
--- the file of the room
+-- the file of the room that a subcommand works on
 abbrev pub file_of : Command → Option (Bor (List ℕ))
 file_of command.Check = None
 file_of (command.Init file owner group) = Some file

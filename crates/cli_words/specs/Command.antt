@@ -19,7 +19,8 @@ use Rattle.cli_words.specs.declared.command.Command.TheVariants as command
 abbrev pub word : Text → List Row → Text
 word id rows = unwrap_or (first_of id rows) []
 
--- The number that was given for an option, as far as it fits these bits, or what it is without.
+-- The number that was given for an option, if it fits this many bits, or the default where none was
+-- given.
 abbrev pub IsNumber : ℕ → ℕ → Option Text → ℕ → Type 0
 IsNumber bits default None number = number ≡ default
 IsNumber bits default (Some text) number =
@@ -54,7 +55,7 @@ IsMet name rows (command.Verify file) =
 IsMet name rows (command.Migrate file) =
     (name ≡ codes "migrate") × (file.now ≡ word (codes "FILE") rows)
 
--- One of the ten subcommands.
+-- One of the ten names of subcommands.
 abbrev pub IsName : Text → Type 0
 IsName name = (name ≡ codes "check") ⊎ ((name ≡ codes "init") ⊎ ((name ≡ codes "serve")
     ⊎ ((name ≡ codes "groups") ⊎ ((name ≡ codes "groups-out") ⊎ ((name ≡ codes "audit")
@@ -65,7 +66,7 @@ abbrev pub HasName : Option (Text × List Row) → Type 0
 HasName None = ⊥
 HasName (Some found) = IsName found.0
 
--- The subcommand that was met.
+-- The command is the subcommand that was found.
 abbrev pub IsCommand : Option (Text × List Row) → Command → Type 0
 IsCommand None command = ⊥
 IsCommand (Some found) command = IsMet found.0 found.1 command
@@ -83,7 +84,7 @@ IsRefused words (Fault fault) = (names : Bor (List (Bor Text))) × AreAttributes
     × (takes (command_line names) words ≡ false)
     × IsAmong fault.kind (fault_of (command_line names) words)
 
--- Memory ran out, or the kind of `clap`'s error is told.
+-- Memory ran out, or the kind of `clap`'s error is answered.
 abbrev pub IsTold : ErrorKind → Failure CliFault → Type 0
 IsTold kind OutOfMemory = Unit {0}
 IsTold kind (Fault fault) = (fault.kind ≡ kind) × (kind ≢ kinds.OutOfMemory)

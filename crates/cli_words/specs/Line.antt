@@ -12,7 +12,7 @@ use Rattle.clap.specs.declared.builder.value_parser.ValueParser.TheVariants as p
 abbrev pub wanted : Text → Rule
 wanted id = record (new_rule id) { required = true }
 
--- an option with a number from 1 on, and what it is where it isn't given
+-- an option with a number from 1 on, and its default
 abbrev pub number : Text → Text → ValueParser → Rule
 number id default least =
     record (new_rule id) { long = Some id; defaults = default ∷ []; parser = Some least }
@@ -85,7 +85,7 @@ command_line names = with_all (keeping names) (with_all telling (with_all making
 abbrev pub AreAttributes : Bor (List (Bor Text)) → Type 0
 AreAttributes names = map (λ name. name.now) names.now ≡ codes "dacl" ∷ codes "sacl" ∷ []
 
--- An argument read by this rule, of its own subcommand alone.
+-- An argument that is read by this rule, and belongs to its own subcommand alone.
 abbrev pub IsArg : Rule → Arg → Type 0
 IsArg rule arg = (rule_of arg ≡ rule) × (arg.global ≡ false)
 
@@ -98,7 +98,7 @@ abbrev pub IsReset : Command → Type 0
 IsReset line =
     (names : Bor (List (Bor Text))) × AreAttributes names × IsLine (reset names) line
 
--- The whole line, by the names of the two lists.
+-- The whole line, with the names of the two lists.
 abbrev pub IsCommandLine : Command → Type 0
 IsCommandLine line =
     (names : Bor (List (Bor Text))) × AreAttributes names × IsLine (command_line names) line

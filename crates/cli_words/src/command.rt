@@ -45,7 +45,7 @@ pub enum Command<'a> {
         path: &'a str,
         which: Which,
     },
-    /// Looks for the first fault of the rows.
+    /// Finds the first fault of the rows.
     Verify {
         file: &'a str,
     },
@@ -55,7 +55,7 @@ pub enum Command<'a> {
     },
 }
 
-/// Where a subcommand's list or group file stands.
+/// Where a subcommand's list or group file is read from.
 #[derive(Clone, Copy, Debug, PartialEq, Eq)]
 pub enum Input<'a> {
     /// The subcommand reads nothing.
@@ -67,7 +67,7 @@ pub enum Input<'a> {
 }
 
 impl<'a> Command<'a> {
-    /// The name of the file of the room, which `check` alone has none of.
+    /// The name of the file of the room. `check` has none.
     pub fn file(&self) -> Option<&'a str>
         ensures { result ≡ file_of self.now }
     {
@@ -97,7 +97,7 @@ impl<'a> Command<'a> {
     }
 }
 
-/// Why words are no command, or that help is asked: what `clap` says of them.
+/// Why words are no command, or that help was asked for: what `clap` prints.
 #[derive(Drop)]
 pub struct CliFault {
     pub kind: ErrorKind,

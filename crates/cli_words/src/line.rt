@@ -1,4 +1,4 @@
-//! The subcommands with their arguments, as `clap` is told of them.
+//! The subcommands with their arguments, as they are declared to `clap`.
 ghost use Rattle.std.specs.Prelude.{IfOk, [], codes};
 ghost use Rattle.cli_words.specs.Line.{IsArg, IsCommandLine, IsLine, IsReset, count, file, groups};
 ghost use Rattle.cli_words.specs.Line.{init, making, over_file, port, program, serve, sub, telling};
@@ -107,7 +107,7 @@ fn groups<'a>(alloc: Global) -> Result<Command<'a>, AllocError>
         .arg(wanted(alloc, "CSV", "A file with the header group,user"))
 }
 
-// The program, before it has subcommands.
+// The program without its subcommands.
 fn program<'a>(alloc: Global) -> Command<'a>
     ensures { IsLine program result }
 {
@@ -126,7 +126,7 @@ fn check<'a>(alloc: Global) -> Command<'a>
         .after_help(help::CHECK)
 }
 
-// The subcommands that make a room and bring things into it.
+// The subcommands that make a room and change what is in it.
 fn with_making<'a>(alloc: Global) -> Result<Command<'a>, AllocError>
     ensures { IfOk result (IsLine (with_all making program)) }
 {
@@ -137,7 +137,7 @@ fn with_making<'a>(alloc: Global) -> Result<Command<'a>, AllocError>
         .subcommand(groups(alloc)?)
 }
 
-// And those that bring things out of it.
+// And those that print what is in it.
 fn with_telling<'a>(alloc: Global) -> Result<Command<'a>, AllocError>
     ensures { IfOk result (IsLine (with_all telling (with_all making program))) }
 {

@@ -125,7 +125,8 @@ fn command_met<'a>(matches: &ArgMatches<'a>) -> Command<'a>
     }
 }
 
-/// The command of the words, of which the first is the program's name, or what `clap` says.
+/// The command of the words, of which the first is the program's name. The error is what `clap`
+/// says of them, or that memory ran out.
 pub fn read_command<'a, S: AsStr>(
     alloc: Global,
     words: &'a [S],

@@ -1,4 +1,4 @@
--- Worked examples: the words of paths, and the paths behind them.
+-- Worked examples: the words of paths, and the paths after them.
 use Rattle.std.proofs.Common.{◌≡◌, Some, None, refl, codes}
 use Rattle.matchit.proofs.OnLiterals.{matchit_on_literals}
 use Rattle.percent_encoding.proofs.OnLiterals.{percent_encoding_on_literals}

@@ -20,7 +20,7 @@ use Rattle.http_message.specs.Routes.{word_of}
 use Rattle.http_message.specs.Fields.{values_of, trimmed}
 use Rattle.http_message.specs.Json.{text_under}
 
--- a test, and those behind it
+-- a test, and those after it
 abbrev pub and_then : {A B F : Type 0} → Result A F → (A → Result B F) → Result B F
 and_then (Err fault) rest = Err fault
 and_then (Ok value) rest = rest value
@@ -30,7 +30,7 @@ abbrev pub or_fault : {A F : Type 0} → Option A → F → Result A F
 or_fault (Some value) fault = Ok value
 or_fault None fault = Err fault
 
--- the same, for a fault that is told in other words
+-- a result with its fault mapped
 abbrev pub told : {A E F : Type 0} → (E → F) → Result A E → Result A F
 told words (Ok value) = Ok value
 told words (Err fault) = Err (words fault)

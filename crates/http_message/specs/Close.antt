@@ -7,7 +7,7 @@ use Rattle.http_message.specs.declared.head.Field.{Field}
 use Rattle.http_message.specs.declared.head.Head.{Head}
 use Rattle.http_message.specs.Fields.{trimmed}
 
--- the token `close`, in any case, perhaps with blanks round it
+-- the token `close`, in any case, perhaps with blanks around it
 abbrev pub is_close : List ℕ → Bool
 is_close token = str_eq_ignore_ascii_case (trimmed token) (codes "close")
 

@@ -1,4 +1,4 @@
--- The text of a reply, and of what is told where a test of a whole message fails (own).
+-- The text of a reply, and of the reply where a test of a whole message fails (own).
 use Rattle.std.specs.Prelude.{ℕ, List, [], Some, None, Bool, codes}
 use Rattle.room_ace.specs.Lists.{list_text}
 use Rattle.room_machine.specs.declared.reply.Reply.{Reply}
@@ -42,7 +42,7 @@ reply_text (Reply.Refused at why) close = json_form (reason_status why) (refused
 abbrev pub allow_form : List ℕ → Bool → List ℕ
 allow_form allow close = reply_form 405 None (Some allow) (Some []) close
 
--- The text that tells the first test of a whole message that fails.
+-- The text of the reply that reports the first test of a whole message that fails.
 abbrev pub fault_text : HttpFault → Bool → List ℕ
 fault_text HttpFault.UnknownMethod close = allow_form every_method close
 fault_text HttpFault.BadTarget close = json_form 400 (why_data (codes "bad-target")) close

@@ -17,10 +17,10 @@ is_mark byte = byte == 63
 abbrev pub path_part : List ℕ → List ℕ
 path_part target = before_first is_mark target
 
--- what stands behind it, or nothing
+-- what stands after it, or nothing
 abbrev pub query_part : List ℕ → List ℕ
 query_part target = after_first is_mark target
 
--- the bytes of the path that a target names: a slash, and what stands behind /W/, decoded
+-- the bytes of the path that a target names: a slash, and what stands after /W/, decoded
 abbrev pub named_path : Word → List ℕ → List ℕ
 named_path word path = 47 ∷ percent_decode (drop (length (word_text word) + 2) path)

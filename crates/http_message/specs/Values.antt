@@ -1,4 +1,4 @@
--- The values of the fields of one name, as they are told.
+-- The values of the fields of one name.
 use Rattle.std.specs.Prelude.{◌≡◌, ℕ, List, [], ◌∷◌, ⊤}
 use Rattle.http_message.specs.declared.fields.Values.{Values}
 

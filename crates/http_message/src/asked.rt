@@ -17,8 +17,8 @@ use room_machine::Request;
 use room_rows::{Bytes, Path, read_path};
 use std::alloc::{AllocError, Global};
 
-/// Who asks, who is anonymous without a name, and what; or the first test of a whole message that
-/// fails.
+/// Who asks, who is anonymous without a name, and what. The error is the first test of a whole
+/// message that fails, or that memory ran out.
 #[tactic(auto, unfolding(crate::specs::Asked::request_of))]
 pub fn request_of(
     alloc: Global,

@@ -41,7 +41,7 @@ fn has_close(value: &[u8]) -> bool
     is_close(rest)
 }
 
-// The bytes before the first comma, and those behind it.
+// The bytes before the first comma, and those after it.
 fn cut_at_comma(bytes: &[u8]) -> Option<(&[u8], &[u8])>
     ensures { MatchOption result (pieces 44 bytes.now ≡ bytes.now ∷ [])
         (λ cut. (pieces 44 bytes.now ≡ cut.0.now ∷ pieces 44 cut.1.now)

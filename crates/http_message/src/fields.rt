@@ -42,7 +42,7 @@ pub(crate) fn is_same_name(a: &[u8], b: &[u8]) -> bool
     a.eq_ignore_ascii_case(b)
 }
 
-// The values with one more behind them.
+// The values with one more at the end.
 fn one_more<'a>(found: Values<'a>, value: &'a [u8]) -> Values<'a>
     ensures { (values : List (List ℕ)) → AreValues values found.entry
         → AreValues (values ++ value.now ∷ []) result }

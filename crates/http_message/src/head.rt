@@ -9,7 +9,7 @@ use std::marker::Model;
 pub struct Field {
     /// The name, in any case.
     pub name: Bytes,
-    /// The value, perhaps with spaces and tabs round it.
+    /// The value, perhaps with spaces and tabs around it.
     pub value: Bytes,
 }
 

@@ -23,7 +23,7 @@ pub(crate) fn parts_of(target: &[u8]) -> Option<(&str, &str)>
     }
 }
 
-// What stands before the first question mark, and what stands behind it.
+// What stands before the first question mark, and what stands after it.
 fn cut_at_mark(text: &str) -> (&str, &str)
     ensures path { result.0.now ≡ path_part text.now }
     ensures query { result.1.now ≡ query_part text.now }
@@ -44,7 +44,7 @@ pub(crate) fn named_path(alloc: Global, word: Word, path: &str) -> Result<Vec<u8
     Ok(bytes)
 }
 
-// What stands behind the word's slash.
+// What stands after the word's slash.
 fn behind_word(word: Word, path: &[u8]) -> &[u8]
     ensures { result.now ≡ drop (length (word_text word) + 2) path.now }
 {

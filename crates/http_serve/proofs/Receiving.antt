@@ -26,7 +26,7 @@ runs_then old mid new events others first then room is =
     let b = then a.0 a.2 in
     (b.0, run_then room a.0 b.0 events others a.1 b.1, b.2)
 
--- what comes next is an exchange at most, and is one
+-- what comes next is an exchange, if anything comes
 next_each : (left : List ℕ) (n : ℕ) (next : Next) → IsNext left n next → All IsExchange (next_exchange next)
 next_each left n Next.Unknown is = All-nil IsExchange
 next_each left n (Next.Exchanging x close) is = All-from_recursion IsExchange (x ∷ []) (is.0, tt)
@@ -42,21 +42,21 @@ next_few (Next.Failing m) = omega arith
 exchange_is : (x : Exchange) → IsOpen x → IsExchange x
 exchange_is x given = given.is
 
--- an end before anything came
+-- an end before any connection came
 ends_fewer : (count less : ℕ) (end : Result (Unit {0}) ServingFault) → IsEnd less end 0 → IsEnd count end 0
 ends_fewer count less (Ok done) is = tt
 ends_fewer count less (Err ServingFault.Memory) is = refl
 ends_fewer count less (Err ServingFault.File) is = tt
 ends_fewer count less (Err ServingFault.Net) is = inr refl
 
--- the listener failed before the last was received
+-- the listener failed before the last connection came
 ends_missing : (count visits : ℕ) (fault : ServingFault) → fault ≡ ServingFault.Net → visits < count
     → IsEnd count (Err fault) visits
 ends_missing count visits fault is lt =
     subst (λ (f : ServingFault). IsEnd count (Err f) visits) (sym is) (inl lt)
 
 module _ {D : Type 0} (d : Ghosts D) where
-  -- nobody came
+  -- no connection came
   pub nobody : (count : ℕ) (told : List ℤ → Type 0) (desk : D) → Receives d count told told desk desk
   nobody count told desk = record {
     trusted = λ t. t;
@@ -68,7 +68,7 @@ module _ {D : Type 0} (d : Ghosts D) where
     run = λ t s room is. (room, refl, is);
   }
 
-  -- more might have come
+  -- more connections might have come
   pub fewer : (less count : ℕ) (told told' : List ℤ → Type 0) (old new : D) → less ≤ count
       → Receives d less told told' old new → Receives d count told told' old new
   fewer less count told told' old new h given = record {
@@ -81,7 +81,7 @@ module _ {D : Type 0} (d : Ghosts D) where
     run = given.run;
   }
 
-  -- some came, and then others
+  -- some connections came, and then others
   pub others : (some more : ℕ) (told told' told'' : List ℤ → Type 0) (old mid new : D)
       → Receives d some told told' old mid → Receives d more told' told'' mid new
       → Receives d (some + more) told told'' old new
@@ -106,13 +106,13 @@ module _ {D : Type 0} (d : Ghosts D) where
         (then.run t (first.sound (then.trusted t) s)));
   }
 
-  -- nobody came, and the service ended so
+  -- no connection came, and this was the end
   pub unserved : (count : ℕ) (told : List ℤ → Type 0) (desk : D) (fault : ServingFault) → IsEnd 0 (Err fault) 0
       → Served d count told told desk desk (Err fault)
   unfolding nobody
   unserved count told desk fault is = (nobody count told desk, ends_fewer count 0 (Err fault) is)
 
-  -- the listener failed before all came
+  -- the listener failed before all connections came
   pub missing : (number count : ℕ) (told told' told'' : List ℤ → Type 0) (old mid new : D) (fault : ServingFault) → number < count
       → Receives d number told told' old mid → (fault ≡ ServingFault.Net) × Receives d 0 told' told'' mid new
       → Served d count told told'' old new (Err fault)
@@ -150,7 +150,7 @@ module _ {D : Type 0} (d : Ghosts D) where
         run = λ t s. connects.run (t, s);
       }
 
-  -- and the clock told its moment
+  -- and the clock read its moment
   pub one : (at : ℤ) (told told' : List ℤ → Type 0) (old new : D)
       → ((before : List ℤ) → told before → told' (before ++ at ∷ []))
       → Attends d at old new → Receives d 1 told told' old new

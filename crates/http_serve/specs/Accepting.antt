@@ -2,8 +2,8 @@
 use Rattle.std.specs.Prelude.{Bool, true, false}
 use Rattle.std.specs.declared.io.ErrorKind.{ErrorKind}
 
--- The error tells what became of the connection that would have been accepted, and the next one can
--- be: it was interrupted, or the peer or the way to it was lost.
+-- The error says what became of the connection that would have been accepted: it was interrupted,
+-- or the peer or the way to it was lost. The next one can be accepted.
 abbrev pub concerns_one : ErrorKind → Bool
 concerns_one ErrorKind.Interrupted = true
 concerns_one ErrorKind.ConnectionAborted = true

@@ -1,8 +1,8 @@
--- The lines that are told beside the replies (own).
+-- The lines that are printed beside the replies (own).
 use Rattle.std.specs.Prelude.{ℕ, List, ◌++◌, codes, decimal}
 use Rattle.room_http.specs.declared.ended.Cause.{Cause}
 
--- on which port connections are accepted
+-- the port on which connections are accepted
 abbrev pub listening_line : ℕ → List ℕ
 listening_line port = codes "listening 127.0.0.1:" ++ (decimal port ++ codes "\n")
 

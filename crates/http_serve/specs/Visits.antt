@@ -8,12 +8,12 @@ use Rattle.room_http.specs.Limits.{max_messages}
 use Rattle.room_http.specs.Stream.{Exchange, IsExchange, event_of, Runs}
 use Rattle.http_serve.specs.declared.fault.ServingFault.{ServingFault}
 
--- a connection, as far as the desk is asked: its moment, and its messages with their replies
+-- a connection as the desk sees it: its moment, and its messages with their replies
 pub record Visit : Type 0 where
   pub at : ℤ
   pub exchanges : List Exchange
 
--- these are messages, and the desk is asked exactly where no test refuses one
+-- each is a message, and the desk is asked exactly where no test refuses it
 pub record IsVisit (visit : Visit) : Type 0 where
   pub each : All IsExchange visit.exchanges
   pub few : length visit.exchanges ≤ max_messages
@@ -22,14 +22,14 @@ pub record IsVisit (visit : Visit) : Type 0 where
 abbrev pub visit_events : Visit → List Event
 visit_events visit = flat_map (event_of visit.at) visit.exchanges
 
--- those of one connection after another
+-- the requests of one connection after another
 abbrev pub requests_of : List Visit → List Event
 requests_of visits = flat_map visit_events visits
 
 abbrev pub moment_of : Visit → ℤ
 moment_of visit = visit.at
 
--- At this moment a desk was visited once.
+-- One connection was served by the desk at this moment.
 pub record Attends {D : Type 0} (d : Ghosts D) (at : ℤ) (old new : D) : Type 0 where
   pub trusted : d.trusted new → d.trusted old
   pub sound : d.trusted new → d.sound old → d.sound new
@@ -39,10 +39,11 @@ pub record Attends {D : Type 0} (d : Ghosts D) (at : ℤ) (old new : D) : Type 0
   pub run : d.trusted new → d.sound old
       → Runs (d.content old) (visit_events visit) (d.content new)
 
--- From one moment of a desk to a later one, what it did is a run over the requests of at most
--- `count` connections, one after another. It is said of a desk that was sound before, and is
--- trusted then. The moments of the connections are what a clock gave meanwhile, one reading for
--- each, in order: what it may have given before is `told`, and what it may have given then `told'`.
+-- From one state of a desk to a later one, what it did is a run over the requests of at most
+-- `count` connections, one after another. This is said of a desk that was sound before and is
+-- trusted afterwards. The moments of the connections are readings of a clock, one for each, in
+-- order. `told` says what the readings may have been before, and `told'` what they may be
+-- afterwards.
 pub record Receives {D : Type 0} (d : Ghosts D) (count : ℕ) (told told' : List ℤ → Type 0)
     (old new : D) : Type 0 where
   pub trusted : d.trusted new → d.trusted old
@@ -55,7 +56,7 @@ pub record Receives {D : Type 0} (d : Ghosts D) (count : ℕ) (told told' : List
       → Runs (d.content old) (requests_of visits) (d.content new)
 
 -- what an end says of the number of visits: out of memory there was none, and where the listener
--- failed a connection is missing
+-- failed at least one connection is missing
 abbrev pub IsEnd : ℕ → Result (Unit {0}) ServingFault → ℕ → Type 0
 IsEnd count (Ok done) visits = ⊤
 IsEnd count (Err ServingFault.Memory) visits = visits ≡ 0

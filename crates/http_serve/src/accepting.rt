@@ -21,8 +21,8 @@ pub(crate) fn accepted(listener: &TcpListener) -> Result<Option<TcpStream>, Serv
     }
 }
 
-// Whether an error of an accept concerns the connection alone that would have been accepted: the
-// system tells there what became of it, and the next one can be accepted.
+// Whether an error of an accept concerns only the connection that would have been accepted. Then
+// the next one can be accepted.
 fn concerns_one(kind: ErrorKind) -> bool
     ensures { result ≡ concerns_one kind }
 {

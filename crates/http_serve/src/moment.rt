@@ -5,30 +5,30 @@ use std::time::{Clock, SystemTime, UNIX_EPOCH};
 
 /// Where the moments of connections come from.
 pub trait Moments {
-    // Whether these may be the moments that it gave, in order.
+    // Whether these may be the moments that were answered so far, in order.
     ghost told: { Self → List ℤ → Type 0 };
 
-    /// The moment, in seconds from 1970-01-01 00:00 UTC.
+    /// The moment now, in seconds from 1970-01-01 00:00 UTC.
     fn next(&mut self) -> i64
         ensures { (before : List ℤ) → told self.old before
             → told self.new (before ++ result ∷ []) };
 }
 
-/// The moments of a clock. Where it stands before 1970, or can't be read, they are 0.
+/// The moments of a clock. Where the clock is set before 1970, or can't be read, they are 0.
 #[derive(Drop)]
 pub struct Seconds<'a, C> {
     clock: &'a C,
 }
 
 impl<'a, C: Clock> Seconds<'a, C> {
-    /// Those of this clock.
+    /// The moments of this clock.
     pub fn of(clock: &'a C) -> Seconds<'a, C> {
         Seconds { clock }
     }
 }
 
 impl<C: Clock> Moments for Seconds<'_, C> {
-    // A clock's own contract says nothing of what it gives.
+    // The contract of a clock says nothing of its readings.
     ghost told = { λ _ _. ⊤ };
 
     fn next(&mut self) -> i64 {

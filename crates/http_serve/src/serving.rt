@@ -17,8 +17,11 @@ use std::net::{TcpListener, TcpStream};
 
 /// Serves `count` connections of the listener, one after another. First it prints on `out` on which
 /// port it listens. The clock is read once for each connection, when it is accepted: this is the
-/// moment of its requests. A fault of a connection is printed on `err`, and the next one is served;
-/// one that is lost before it is accepted counts as one whose reading failed.
+/// moment of its requests. A fault of a connection is printed on `err`, and the next one is served.
+/// A connection that is lost before it is accepted counts as one whose reading failed.
+///
+/// The error is `Memory` where nothing was served, `Net` where the listener has no address or
+/// accepts no more connections, and `File` where a line couldn't be printed.
 pub fn serve_on<D: Desk, M: Moments, O: Write, E: Write>(
     alloc: Global,
     desk: &mut D,
@@ -44,7 +47,7 @@ pub fn serve_on<D: Desk, M: Moments, O: Write, E: Write>(
     }
 }
 
-// Prints where it listens.
+// Prints the port on which it listens.
 fn announce<O: Write>(listener: &TcpListener, out: &mut O) -> Result<(), ServingFault>
     ensures told { OnOk result ((port : ℕ)
         × Appends (O.contents out.old) (O.contents out.new) (listening_line port)) }
@@ -59,8 +62,8 @@ fn announce<O: Write>(listener: &TcpListener, out: &mut O) -> Result<(), Serving
     }
 }
 
-// Serves `count` connections, and prints the fault of each that has one. That one couldn't be
-// printed is answered once all are served.
+// Serves `count` connections, and prints the fault of each that has one. If a fault couldn't be
+// printed, this is the error once all are served.
 fn serve_each<D: Desk, M: Moments, E: Write>(
     alloc: Global,
     routes: &Routes,

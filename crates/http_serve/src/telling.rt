@@ -1,4 +1,4 @@
-//! What is told beside the replies.
+//! Lines that are printed beside the replies.
 ghost use Rattle.std.specs.Prelude.{OnOk};
 ghost use Rattle.std.specs.Io.KnownBytes.{Appends};
 ghost use Rattle.http_serve.specs.Lines.{fault_line, listening_line};
@@ -7,7 +7,7 @@ use room_http::Cause;
 use std::io;
 use std::io::Write;
 
-/// Tells on which port connections are accepted, before the first is.
+/// Prints on which port connections are accepted, before the first is.
 pub(crate) fn tell_port<O: Write>(out: &mut O, port: u16) -> io::Result<()>
     ensures { OnOk result (Appends (O.contents out.old) (O.contents out.new)
         (listening_line port)) }
@@ -16,7 +16,7 @@ pub(crate) fn tell_port<O: Write>(out: &mut O, port: u16) -> io::Result<()>
     out.flush()
 }
 
-/// Tells what ended this connection, counted from 1.
+/// Prints what ended this connection, counted from 1.
 pub(crate) fn tell_fault<E: Write>(err: &mut E, number: u64, cause: Cause) -> io::Result<()>
     ensures { OnOk result (Appends (E.contents err.old) (E.contents err.new)
         (fault_line number cause)) }

@@ -27,14 +27,14 @@ pub record IsRunOfRows (asked : List Asked) (old : Rows) (replies : List Reply)
 abbrev pub RunsAll : List Asked → Rows → List Reply → Rows → Type 0
 RunsAll asked old replies new = AreSound old → IsRunOfRows asked old replies new
 
--- the first so many requests have these replies, and with none of them nothing is changed
+-- the first n requests have these replies, and without any of them nothing is changed
 pub record AreFirst (asked : List Asked) (count : ℕ) (old : Rows) (replies : List Reply)
     (new : Rows)
     : Type 0 where
   pub ran : RunsAll (take count asked) old replies new
   pub none : count ≡ 0 → new ≡ old
 
--- A row is damaged in the rows that the first requests leave, behind which there is another.
+-- A row is damaged in the rows that the first requests leave, and another request follows.
 pub record IsDamagedAfter (asked : List Asked) (old : Rows) (at : ℕ) : Type 0 where
   pub count : ℕ
   pub below : count < length asked

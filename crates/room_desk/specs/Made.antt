@@ -76,8 +76,8 @@ MakesChild caller kind parent name bytes old reply new =
 
 -- ---- items, and then a change
 
--- Where an item failed, its reply is the answer and nothing is changed. Else this is the reply, and
--- the rows are changed so.
+-- Where an item failed, its reply is the answer and nothing is changed. Otherwise this is the
+-- reply, and the rows are changed by the relation.
 abbrev pub Ends : Reply → (Rows → Rows → Type 0) → Option Reply → Rows → Reply → Rows → Type 0
 Ends served Becomes None old reply new = (reply ≡ served) × Becomes old new
 Ends served Becomes (Some refusal) old reply new = (reply ≡ refusal) × (new ≡ old)

@@ -79,7 +79,7 @@ abbrev pub free_place : Content → List (List ℕ) → Bool → Node → List I
 free_place rows to is_below folder = Refusal to Exists
     (is_some (child_of rows folder.id (last_name to))) ∷ Refusal to Loop is_below ∷ []
 
--- all that is judged at the new folder, behind the way to it
+-- all that is judged at the new folder, after the way to it
 abbrev pub at_place : Content → List (List ℕ) → Bool → Site → Site → Site → List Item
 at_place rows to is_below target from folder =
     (through folder ++ leaving target from folder) ++ free_place rows to is_below folder.node
@@ -88,7 +88,7 @@ at_place rows to is_below target from folder =
 abbrev pub IsTaken : ℕ → List ℕ → Rows → Bool → Type 0
 IsTaken folder name rows answer = answer ≡ is_some (child_of rows.read folder name)
 
--- The items don't ask who it is.
+-- The items don't depend on who asks.
 abbrev pub JudgesAll : (Rows → List Item) → Rows → Option Reply → Rows → Type 0
 JudgesAll items old answer new = (asker : Asker) → IsJudged asker (items old) old answer new
 
@@ -107,7 +107,7 @@ FailsToMove asker path root from target mid at =
 
 -- ---- the change
 
--- Going up from this number, at most so many steps lead to the root, and none to the other object.
+-- Going up from this number, at most n steps lead to the root, and none to the other object.
 abbrev pub goes_past : ℕ → Content → ℕ → Option ℕ → Bool
 goes_past n rows other None = true
 goes_past zero rows other (Some id) = false
@@ -129,7 +129,7 @@ pub record CanPlace (target folder : Node) (name : List ℕ) (rows : Rows) : Typ
   pub steps : ℕ
   pub past : goes_past steps rows.read target.id (Some folder.id) ≡ true
 
--- The target stands there, with the lists that a move gives it, and the rows are sound.
+-- The target stands in the folder, with the lists that a move gives it, and the rows are sound.
 pub record IsPlaced (target folder : Node) (name : List ℕ) (old new : Rows) : Type 0 where
   pub means : meaning new.read ≡ with_node (meaning old.read)
       (moved_node (stored_site [] target) (stored_site [] folder) name)
@@ -139,7 +139,7 @@ abbrev pub PlacesAt : Node → Node → List ℕ → Rows → Reply → Rows →
 PlacesAt target folder name old reply new =
     (reply ≡ Done) × (CanPlace target folder name old → IsPlaced target folder name old new)
 
--- The same, of rows that needn't be sound.
+-- The same for rows that needn't be sound.
 pub record CanGo (target folder : Node) (name : List ℕ) (rows : Rows) : Type 0 where
   pub are : AreRows rows
   pub target_there : node_at rows.read target.id ≡ Some target
@@ -172,7 +172,7 @@ pub record CanRenew (which : Which) (target folder : Node) (rows : Rows) : Type 
   pub others : (node : Node) → node_at rows.read node.id ≡ Some node → (node.id ≡ target.id → ⊥)
       → agrees rows.read which node ≡ true
 
--- Linked lists alone are other ones, and the law holds everywhere.
+-- Only linked lists have changed, and the law holds everywhere.
 pub record IsRenewed (which : Which) (old new : Rows) : Type 0 where
   pub lists : Node → List Ace
   pub becomes : new ≡ reading old (with_lists which lists old.read)
@@ -180,7 +180,7 @@ pub record IsRenewed (which : Which) (old new : Rows) : Type 0 where
       ≡ false → lists node ≡ (held_of which node).inh
   pub law : AllAgree new.read which
 
--- what is rooted stays so, and no other row can't be read
+-- what is rooted stays so, and no other row becomes unreadable
 pub record KeepsRoot (id : ℕ) (old new : Rows) : Type 0 where
   pub unreadable : new.unreadable ≡ old.unreadable
   pub rooted : IsRooted id old → IsRooted id new

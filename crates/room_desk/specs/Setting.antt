@@ -132,7 +132,7 @@ kept_site rows node = record {
       node.sacl.inh;
 }
 
--- From sound rows that have the object, what they mean changes as a request says that sets a list,
+-- From sound rows that have the object, what they mean changes as by a request that sets a list,
 -- and they are sound again.
 pub record IsSetWell (which : Which) (sent : Sent) (node : Node) (old new : Rows) : Type 0 where
   pub means : meaning new.read ≡ set_list (meaning old.read) which sent
@@ -144,12 +144,12 @@ IsSet which sent node old new =
     node_at old.read node.id ≡ Some node → fault_in 1 which node.kind sent.entries ≡ None
     → limit_fault sent.entries ≡ None → AreSound old → IsSetWell which sent node old new
 
--- what becomes, where this is above the object
+-- the relation holds where this is the object's parent
 abbrev pub Beneath : {X : Type 0} → Option Node → Node → (Rows → X → Rows → Type 0) → Rows → X
     → Rows → Type 0
 Beneath above node Becomes old x new = parent_of old.read node ≡ above → Becomes old x new
 
--- the list is stored already as it is to be
+-- the object stores already what it is to store
 abbrev pub IsStored : Which → Sent → Node → Option Node → Type 0
 IsStored which sent node above = stored_held which sent node.kind above ≡ held_of which node
 
@@ -158,7 +158,7 @@ SetUnless None which sent node old new = IsSet which sent node old new
 SetUnless (Some why) which sent node old new = new ≡ old
 
 -- The list of the object at the path is set, or refused for its first entry that may not stand
--- there. It is within the limits of what is sent.
+-- there. It is within the limits for sent lists.
 pub record IsSetOrRefused (path : List (List ℕ)) (which : Which) (sent : Sent) (node : Node)
     (old : Rows) (reply : Reply) (new : Rows) : Type 0 where
   pub replies : reply ≡ option_map_or (λ why. Refused path why)
@@ -194,7 +194,7 @@ abbrev pub ended_at : List (List ℕ) → ObjKind → ℕ → Reply
 ended_at path Document rest = Refused (take (length path - rest) path) NotFolder
 ended_at path Folder rest = Refused (take (length path - (rest - 1)) path) NoSuch
 
--- The walk came to an object with so many names left over.
+-- The walk came to an object with n names left over.
 abbrev pub IsResetAtEnd : List (List ℕ) → Which → Sent → Node → ℕ → Rows → Reply → Rows → Type 0
 IsResetAtEnd path which sent last zero old reply new =
     IsSetOrRefused path which sent last old reply new

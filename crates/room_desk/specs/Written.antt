@@ -27,7 +27,7 @@ abbrev pub TakesBytes : Bool → ℕ → List ℕ → Rows → Rows → Type 0
 TakesBytes true id bytes old new = new ≡ old
 TakesBytes false id bytes old new = SetsBody id bytes old new
 
--- what is told of a document that is to have so many bytes
+-- the reply for a document that is to have n bytes
 abbrev pub sized_reply : List (List ℕ) → ℕ → Reply
 sized_reply path size = if nat_lt MOST_BYTES size then Refused path TooLarge else Done
 
@@ -37,14 +37,14 @@ pub record IsPut (path : List (List ℕ)) (id : ℕ) (bytes : List ℕ) (old : R
   pub replies : reply ≡ sized_reply path (length bytes)
   pub becomes : TakesBytes (nat_lt MOST_BYTES (length bytes)) id bytes old new
 
--- A document gets these bytes behind those that it has.
+-- A document gets these bytes after those that it has.
 pub record IsAppended (path : List (List ℕ)) (id : ℕ) (bytes : List ℕ) (old : Rows) (reply : Reply)
     (new : Rows) : Type 0 where
   pub before : List ℕ
   pub were : body_of old.read id ≡ Some before
   pub put : IsPut path id (before ++ bytes) old reply new
 
--- the same, of a document that has those
+-- the same for a document that has those bytes
 abbrev pub Extends : List (List ℕ) → ℕ → List ℕ → List ℕ → Rows → Reply → Rows → Type 0
 Extends path id before bytes old reply new =
     AreRows old → body_of old.read id ≡ Some before → IsPut path id (before ++ bytes) old reply new

@@ -13,7 +13,7 @@ use room_machine::{Reply, Rulings};
 use room_rows::{Keep, KeepFault, Node, Path};
 use std::alloc::{AllocError, Global};
 
-/// The ruling of each asked bit for the caller.
+/// The ruling on each asked bit for the caller.
 pub(crate) fn can<K: Keep>(
     alloc: Global,
     keep: &mut K,
@@ -31,7 +31,7 @@ pub(crate) fn can<K: Keep>(
     }
 }
 
-// The ruling of each of these bits by the dacl of the object.
+// The ruling of the object's dacl on each of these bits.
 fn rulings_reply(alloc: Global, asker: &Asker, node: &Node, mask: Mask) -> Result<Reply, AllocError>
     ensures { IfOk result (λ reply. reply ≡ RulingsReply (rulings_at asker.now node.now mask)) }
 {
@@ -39,7 +39,7 @@ fn rulings_reply(alloc: Global, asker: &Asker, node: &Node, mask: Mask) -> Resul
     Ok(Reply::Rulings(rulings))
 }
 
-// The ruling of each of these bits by a list.
+// The ruling of a list on each of these bits.
 fn rulings_of(
     alloc: Global,
     entries: &[Entry],

@@ -6,7 +6,8 @@ pub fn sound_is_undamaged()
     ensures { SoundIsUndamaged }
 {}
 
-/// The same of `perform_all`: sound rows stay sound from one request to the next.
+/// From sound rows `perform_all` answers no `Damaged`: they stay sound from one request to the
+/// next.
 pub fn sound_stays_undamaged()
     ensures { SoundStaysUndamaged }
 {}

@@ -8,7 +8,7 @@ use room_inherit::{SpreadFault, spread};
 use room_rows::{Keep, KeepFault};
 use std::alloc::Global;
 
-/// Carries a change of a list down from the object. Where that is its own ancestor, it is
+/// Carries a change of a list down from the object. Where that is its own ancestor, the error is
 /// `Damaged`.
 pub(crate) fn carry_down<K: Keep>(
     alloc: Global,

@@ -47,7 +47,7 @@ pub(crate) fn put<K: Keep>(
     }
 }
 
-// The same at a path with a last name.
+// Puts the document at a path with a last name.
 fn put_below<K: Keep>(
     alloc: Global,
     keep: &mut K,
@@ -152,7 +152,7 @@ pub(crate) fn make_folder<K: Keep>(
     }
 }
 
-// The same at a path with a last name.
+// Makes the folder at a path with a last name.
 fn make_below<K: Keep>(
     alloc: Global,
     keep: &mut K,
@@ -254,7 +254,7 @@ fn child_at(
     })
 }
 
-// The owners of what the caller makes under an object of these.
+// The owners of what the caller makes under an object with these owners.
 fn owners_of(user: &Option<Name>, parent: &Owners) -> Result<Owners, AllocError>
     ensures { IfOk result (λ owners. owners ≡ new_owners user.now parent.now) }
 {

@@ -83,7 +83,7 @@ fn move_found<K: Keep>(
     }
 }
 
-// The root's place is never free.
+// Refuses a move to the root's place, which is never free.
 fn refuse_root<K: Keep>(
     alloc: Global,
     keep: &mut K,
@@ -170,7 +170,7 @@ fn check_place<K: Keep>(
     }
 }
 
-// The new folder lets through, the object may leave its own, and may come into the new one.
+// The new folder grants EXECUTE, the object may leave its own, and may come into the new one.
 fn check_rights<K: Keep>(
     alloc: Global,
     keep: &mut K,

@@ -19,9 +19,9 @@ use std::alloc::Global;
 
 /// Carries out one request of a caller, who is anonymous without a name, at a moment in seconds
 /// from 1970-01-01 00:00 UTC. From sound rows the reply and what the rows then mean are a step of
-/// the room machine, and the rows are sound again. After a fault of the keeper, which is answered
-/// at once, only the transaction round the call says what the keeper holds. `Damaged` names a row
-/// that can't be read or a document without bytes, or is 0 where there is no root.
+/// the room machine, and the rows are sound again. A fault of the keeper ends the request. What the
+/// keeper holds then depends on the transaction around the call alone. `Damaged` names a row that
+/// can't be read or a document without bytes, or is 0 where there is no root.
 pub fn perform<K: Keep>(
     alloc: Global,
     keep: &mut K,

@@ -25,7 +25,7 @@ use room_machine::{Reason, Reply};
 use room_rows::{Keep, KeepFault, Node, Path, Text};
 use std::alloc::Global;
 
-/// Nothing has the new name, and the object's path doesn't begin that of the new folder.
+/// The refusal where something has the new name, or the object's path begins that of the folder.
 pub(crate) fn check_free<K: Keep>(
     alloc: Global,
     keep: &mut K,
@@ -118,7 +118,7 @@ fn renew_list<K: Keep>(
 }
 
 // Stores these inherited entries, and carries them down, unless they are stored already: then
-// nothing below is other than it was.
+// nothing below has changed.
 fn take_passed<K: Keep>(
     alloc: Global,
     keep: &mut K,

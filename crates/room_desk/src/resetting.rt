@@ -12,9 +12,9 @@ use room_machine::{Reason, Reply};
 use room_rows::{Keep, KeepFault, Node, Path, walk};
 use std::alloc::Global;
 
-/// Sets one of an object's lists as the request does, but asks no bits and leaves no record. The
-/// reply is `Done`, or a refusal: no such object, a document on the way, or an entry that isn't
-/// valid. Its faults are those of `perform`.
+/// Sets one of an object's lists as the request does, but checks no rights and leaves no record.
+/// The reply is `Done`, or a refusal: no such object, a document on the way, or an entry that isn't
+/// valid. Errors are those of `perform`.
 pub fn reset<K: Keep>(
     alloc: Global,
     keep: &mut K,

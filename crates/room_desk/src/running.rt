@@ -23,8 +23,8 @@ pub struct Asked {
 
 /// Carries out the requests in turn, and answers their replies in the same order. From sound rows
 /// these are a run of the room machine, and the rows are sound again. The first fault of the keeper
-/// ends it: then only the transaction round the call says what the keeper holds. `Damaged` names a
-/// damaged row of those that the requests before it left.
+/// ends it: what the keeper holds then depends on the transaction around the call alone. `Damaged`
+/// names a damaged row of those that the requests before it left.
 pub fn perform_all<K: Keep>(
     alloc: Global,
     keep: &mut K,
@@ -41,7 +41,7 @@ pub fn perform_all<K: Keep>(
     Ok(replies)
 }
 
-// Carries out one of them.
+// Carries out one request.
 fn perform_one<K: Keep>(alloc: Global, keep: &mut K, asked: &Asked) -> Result<Reply, KeepFault>
     ensures done { Does K.Keep keep.old keep.new result IsDamaged
         (Performs asked.now.user asked.now.at asked.now.request) }
@@ -49,7 +49,7 @@ fn perform_one<K: Keep>(alloc: Global, keep: &mut K, asked: &Asked) -> Result<Re
     perform(alloc, keep, asked.user.as_ref(), asked.at, &asked.request)
 }
 
-// Adds a reply behind the others.
+// Adds a reply after the others.
 fn add_reply(replies: &mut Vec<Reply>, reply: Reply) -> Result<(), AllocError>
     ensures { OnOk result (replies.new.items ≡ replies.old.items ++ reply ∷ []) }
 {

@@ -56,7 +56,7 @@ pub(crate) fn set_list<K: Keep>(
     }
 }
 
-// The same at the root, which nothing is above.
+// Sets the list of the root, which has nothing above it.
 fn set_root<K: Keep>(
     alloc: Global,
     keep: &mut K,
@@ -236,7 +236,7 @@ fn new_inh(
     }
 }
 
-// The same under an object that has this list.
+// The inherited entries to be stored under an object that has this list.
 fn inh_under(
     alloc: Global,
     kind: ObjKind,

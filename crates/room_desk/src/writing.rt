@@ -76,7 +76,7 @@ fn extend<K: Keep>(
     put_bytes(alloc, keep, path, id, joined.as_slice())
 }
 
-// What is told of a document that is to have so many bytes.
+// The reply for a document that is to have this many bytes.
 fn sized_reply(alloc: Global, path: &Path, size: usize) -> Result<Reply, AllocError>
     ensures { IfOk result (λ reply. reply ≡ sized_reply path.now size) }
 {

@@ -191,7 +191,7 @@ pub count_all : {A : Type 0} (xs : List A) → count (λ _. true) xs ≡ length 
 count_all [] = refl
 count_all (x ∷ xs) = let rest = count_all xs in omega (arith, rest)
 
--- ---- a test that tells more than another
+-- ---- a test that implies another
 
 pub filter_weaker : {A : Type 0} (p q : A → Bool) → ((x : A) → p x ≡ true → q x ≡ true) → (xs : List A) → filter p (filter q xs) ≡ filter p xs
 filter_weaker p q weaker [] = refl

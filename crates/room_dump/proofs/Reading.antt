@@ -33,12 +33,12 @@ module _ {S : Type 0} (k : Ghosts S) (laws : KeepLaws k.rows k.failures k.writes
     same = λ t. read.same (laws.last a b c sofar.follows read.follows t) ∙ sofar.same (laws.first a b c sofar.follows read.follows t);
   }
 
-  -- what it answers, by the rows at the first
+  -- what it answers, by the rows before the first read
   pub answer_on : {X : Type 0} (a b c : S) (x : X) {Blames : Rows → ℕ → Type 0} {Answers : Rows → X → Type 0} → HasRead a b → Reads k b c (Ok x) Blames Answers → k.IsTrusted a c → Answers (k.rows a) x
   answer_on a b c x {Answers = Answers} sofar read t =
       subst (λ (w : Rows). Answers w x) (sofar.same (laws.first a b c sofar.follows read.follows t)) (read.answers (laws.last a b c sofar.follows read.follows t))
 
-  -- all reads answered, and so does the one that made them
+  -- where all reads answered, the call that made them answers
   pub done : {Y : Type 0} (a c : S) (y : Y) {Blames : Rows → ℕ → Type 0} {Answers : Rows → Y → Type 0} → HasRead a c → (k.IsTrusted a c → Answers (k.rows a) y) → Reads k a c (Ok y) Blames Answers
   done a c y sofar answers = record { follows = sofar.follows; unwritten = sofar.unwritten; same = sofar.same; answers = answers; unfailed = sofar.unfailed; fault = tt }
 
@@ -46,7 +46,7 @@ module _ {S : Type 0} (k : Ghosts S) (laws : KeepLaws k.rows k.failures k.writes
   pub damaged : {Y : Type 0} (a c : S) (id : ℕ) {Blames : Rows → ℕ → Type 0} {Answers : Rows → Y → Type 0} → HasRead a c → (k.IsTrusted a c → Blames (k.rows a) id) → Reads k {X = Y} a c (Err (Damaged id)) Blames Answers
   damaged a c id sofar blames = record { follows = sofar.follows; unwritten = sofar.unwritten; same = sofar.same; answers = λ t. tt; unfailed = tt; fault = blames }
 
-  -- a read after others fails, and with it the one that made it
+  -- a read after others fails, and so does the call that made it
   pub fails : {X Y : Type 0} (a b c : S) (e : KeepFault) (r : Result Y KeepFault) {Blames Blames' : Rows → ℕ → Type 0} {Answers : Rows → X → Type 0} {Answers' : Rows → Y → Type 0}
       → (k.IsTrusted a b → (at : ℕ) → Blames (k.rows a) at → Blames' (k.rows a) at)
       → HasRead a b → Reads k {X = X} b c (Err e) Blames Answers → IsErrAnd r (λ x. x ≡ e) → Reads k a c r Blames' Answers'

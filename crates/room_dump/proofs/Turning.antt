@@ -1,4 +1,4 @@
--- What waits after so many turns, and the text that was added.
+-- What waits after n turns, and the text that was added.
 use Rattle.std.proofs.Common.{◌≡◌, ℕ, suc, ◌+◌, ◌<◌, ◌≤◌, ◌==◌, Bool, true, false, cond, not, List, [], ◌∷◌, ◌++◌, map, filter, reverse, length, Option, Some, None, nat_lt, refl, sym, ap, subst, ◌∙◌, inl, inr, arith, append_assoc}
 use Rattle.std.specs.Prelude.{is_none}
 use Rattle.std.specs.List.{flat_map}
@@ -107,7 +107,7 @@ waits_at id wait = wait.node.id == id
 abbrev pub any_waits : Waiting → Bool
 any_waits wait = true
 
--- Nobody has come to the rest yet. All children of what waits and of the rest are among it.
+-- The rest wasn't reached yet. All children of what waits and of the rest are among it.
 pub record Turning (rows : Rows) (waiting : List Waiting) (most turn : ℕ) (before text : List ℕ) : Type 0 where
   pub rest : List Node
   pub told : text ++ texts most rows.read waiting ≡ before ++ objects_text rows
@@ -161,7 +161,7 @@ ends rows most turn before text t = sym (append-nil text) ∙ t.told
 too_many : (a b c d : ℕ) → d ≤ c → ((1 + a) + b) + c ≤ d → ⊥
 too_many a b c d e f = omega (arith, e, f)
 
--- none waits after so many turns
+-- none waits after n turns
 pub none_left : (rows : Rows) (waiting : List Waiting) (most turn : ℕ) (before text : List ℕ) → most ≤ turn → (length waiting ≡ 0 → ⊥) → Turning rows waiting most turn before text → ⊥
 none_left rows [] most turn before text over some t = some refl
 none_left rows (wait ∷ waiting) most turn before text over some t = too_many (count any_waits waiting) (count always t.rest) turn most over t.fewer
@@ -188,7 +188,7 @@ count_children p path nodes = count_map (λ (w : Waiting). p w.node) (waiting_be
 joined : (text one below waits : List ℕ) → (text ++ one) ++ (below ++ waits) ≡ text ++ ((one ++ below) ++ waits)
 joined text one below waits = append_assoc text one (below ++ waits) ∙ ap (λ (t : List ℕ). text ++ t) (sym (append_assoc one below waits))
 
--- one object is told, and its children wait
+-- one object is written, and its children wait
 pub turns_on : (rows : Rows) → AreRows rows → (waits : List Waiting) (object : Waiting) (most turn : ℕ) (before text : List ℕ) → Turning rows (waits ++ object ∷ []) most turn before text
     → Turning rows (waits ++ waiting_children object.path (children_of rows.read object.node.id)) most (turn + 1) before (text ++ object_text (shown object.path) object.node (size_of rows.read object.node))
 turns_on rows are waits object most turn before text t =
@@ -239,7 +239,7 @@ turns_on rows are waits object most turn before text t =
     alone_too : (waits one rest : ℕ) → (waits + one) + rest ≤ 1 → one + rest ≤ 1
     alone_too waits one rest e = omega (arith, e)
 
--- the object that is told next can be blamed for its bytes
+-- the object that is written next can be blamed for its bytes
 pub blamed : (rows : Rows) (waits : List Waiting) (object : Waiting) (most turn : ℕ) (before text : List ℕ) → Turning rows (waits ++ object ∷ []) most turn before text
     → (at : ℕ) → IsUntellable object.node rows at → IsDamaged rows at
 blamed rows waits object most turn before text t at (inl unreadable) = inl (inl unreadable)

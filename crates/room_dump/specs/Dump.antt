@@ -17,7 +17,7 @@ size_in ObjKind.Document bytes = option_map_or length bytes 0
 abbrev pub size_of : Content → Node → ℕ
 size_of content node = size_in node.kind (body_of content node.id)
 
--- A path is carried without the slash that stands for the root alone.
+-- The path as it is printed: the root's is empty here, and printed as a slash.
 abbrev pub shown : List ℕ → List ℕ
 shown [] = codes "/"
 shown (byte ∷ bytes) = byte ∷ bytes
@@ -39,7 +39,7 @@ abbrev pub objects_text : Rows → List ℕ
 objects_text rows =
     option_map_or (tree_text (length (numbers_of rows)) rows.read []) (root_of rows.read) []
 
--- A whole room: all objects, and behind them the pairs, which rows have in order of group and then
--- of user.
+-- A whole room: all objects, followed by the pairs, which rows have in order of group and then of
+-- user.
 abbrev pub room_text : Rows → List ℕ
 room_text rows = objects_text rows ++ members_text rows.read.members

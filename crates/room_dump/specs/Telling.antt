@@ -14,7 +14,7 @@ use Rattle.room_dump.specs.Waiting.{waiting_children, waiting_root}
 abbrev pub LacksBytesAt : ℕ → Rows → ℕ → Type 0
 LacksBytesAt id rows at = (at ≡ id) × (body_of rows.read id ≡ None)
 
--- there are bytes, and so many
+-- the bytes of this number are there, and this many
 abbrev pub IsLength : ℕ → Rows → ℕ → Type 0
 IsLength id rows size =
     (bytes : List ℕ) × (body_of rows.read id ≡ Some bytes) × (size ≡ length bytes)

@@ -1,4 +1,4 @@
--- Objects that wait to be told of, the next one last.
+-- Objects that wait to be written, the next one last.
 use Rattle.std.specs.Prelude.{List, [], ℕ, map, reverse}
 use Rattle.room_rows.specs.declared.node.Node.{Node}
 use Rattle.room_dump.specs.declared.dumping.Waiting.{Waiting}

@@ -1,4 +1,4 @@
-//! All objects of a room, one behind the other.
+//! All objects of a room, one after the other.
 ghost use Rattle.std.specs.Prelude.{◌≡◌, ◌∷◌, ◌++◌, [], IfOk, OnOk, string_bytes};
 ghost use Rattle.room_rows.specs.Calls.{Reads};
 ghost use Rattle.room_rows.specs.Keep.{IsDamaged};
@@ -19,18 +19,18 @@ use room_ace::ObjKind;
 use room_rows::{Keep, KeepFault, Node, Nodes, Text};
 use std::alloc::{AllocError, Global};
 
-// An object that waits, and its path, which of the root is empty.
+// An object that waits, and its path, which is empty for the root.
 #[derive(Drop)]
 struct Waiting {
     path: Text,
     node: Node,
 }
 
-/// The text of all objects: the root first, and behind an object its children with all that is
-/// below them, in order of name.
+/// The text of all objects: the root first, and after an object its children with all that is below
+/// them, in order of name.
 ///
-/// Nothing is changed. A fault is the keeper's, or want of memory; `Damaged` comes for a row that
-/// can't be read, a document without bytes, or where there is no root.
+/// Nothing is changed. The error is the keeper's, or that memory ran out; `Damaged` names a row
+/// that can't be read or a document without bytes, or is 0 where there is no root.
 pub fn dump<K: Keep>(alloc: Global, keep: &mut K) -> Result<String, KeepFault>
     ensures read { Reads K.Keep keep.old keep.new result IsDamaged
         (λ rows text. string_bytes text ≡ objects_text rows) }
@@ -42,7 +42,7 @@ pub fn dump<K: Keep>(alloc: Global, keep: &mut K) -> Result<String, KeepFault>
     Ok(text)
 }
 
-// Adds the texts of the root and of all below it. There are no more than so many objects.
+// Adds the texts of the root and of all below it. There are at most `most` objects.
 fn push_tree<K: Keep>(
     alloc: Global,
     keep: &mut K,
@@ -84,7 +84,7 @@ fn push_waiting<K: Keep>(
             return Ok(());
         };
         let told = push_one(alloc, keep, &object, waiting, text);
-        // Let go here, and so not part by part on each way out.
+        // Dropped here, and not part by part on each way out.
         drop(object);
         told?;
     }

@@ -14,7 +14,7 @@ use room_rows::{Held, Node};
 use std::alloc::{AllocError, Global};
 use std::fmt::Write;
 
-// Adds the lines of an object at this path, of which a document has so many bytes.
+// Adds the lines of an object at this path. A document has `size` bytes.
 pub(crate) fn push_object(
     alloc: Global,
     text: &mut String,

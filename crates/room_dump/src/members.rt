@@ -5,7 +5,7 @@ ghost use Rattle.room_dump.specs.Members.{member_line, members_text};
 use room_ace::Name;
 use std::alloc::AllocError;
 
-/// Adds a line `member GROUP USER` for each pair of group and user, one behind the other.
+/// Adds a line `member GROUP USER` for each pair of group and user, one after the other.
 pub fn push_members(text: &mut String, pairs: &[(Name, Name)]) -> Result<(), AllocError>
     ensures { OnOk result
         (string_bytes text.new ≡ string_bytes text.old ++ members_text pairs.now) }

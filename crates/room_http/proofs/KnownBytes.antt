@@ -52,7 +52,7 @@ pub lost-behind : {A : Type 0} (u v w : Option (List ℕ)) (a b : List ℕ) (res
 lost-behind u v w a b (Ok value) x y = tt
 lost-behind u v w a b (Err why) x y = (y.0, Came-then u v w a b y.0 x y.1, y.2)
 
--- a beginning was written, and nothing more
+-- a front was written, and nothing more
 pub WritesPart-at : (u v w : Option (List ℕ)) (text : List ℕ) (n : ℕ)
     → n < length text → Appends u v (take n text) → Keeps v w → WritesPart u w text
 WritesPart-at u v w text n lt x y =

@@ -30,7 +30,7 @@ rose-by old new (inr le) e = inr le
 pub rose : (old new : ℕ) → new ≡ min (old + 1) (2 ^ 64 - 1) → Rose old new
 rose old new e = rose-by old new (cases_lt old (2 ^ 64 - 1)) e
 
--- the desk took the step, and its reply is told
+-- the desk took the step, and its reply is the text
 pub responds-by : (holds : Type 0) (at : ℤ) (close : Bool) (asked : Asked) (old new : Content → Type 0) (before after : ℕ) (reply : Reply)
     → Stepped holds at old new asked reply → after ≡ before
     → (result : Result Response Lost) → Delivers reply close result → Responds holds at close asked old new before after result
@@ -112,7 +112,7 @@ within-write u v a b cause e f w =
     let wrote = part.0 in
     (wrote, subst (λ (k : Cause). BlamesText k wrote.0 wrote.1) (sym f) part.1)
 
--- the same of the text that tells a fault of the desk
+-- the same for the text that reports a fault of the desk
 pub within-fault : (u v : Option (List ℕ)) (a : List ℕ) (cause : Cause) → a ≡ store_text → cause ≡ Cause.Write
     → WritesPart u v a → StopsFault u v cause
 within-fault u v a cause e f w =

@@ -1,4 +1,4 @@
--- What answering one message gives (own).
+-- What answering one message does (own).
 use Rattle.std.specs.Prelude.{◌≡◌, ℕ, ℤ, ◌-◌, ◌^◌, ◌<◌, ◌≤◌, ◌⊎◌, Bool, true, false, List, Result}
 use Rattle.std.specs.Prelude.{Ok, Err}
 use Rattle.room_rows.specs.Content.{Content}
@@ -41,7 +41,7 @@ abbrev pub TellsReply : Type 0 → ℤ → Bool → Asked → (Content → Type 
 TellsReply holds at close asked old new text =
     (reply : Reply) × Stepped holds at old new asked reply × (text ≡ reply_text reply close)
 
--- the count of faults rose, as far as it can
+-- the count of faults rose, or is at its end
 abbrev pub Rose : ℕ → ℕ → Type 0
 Rose old new = (old < new) ⊎ (2 ^ 64 - 1 ≤ old)
 
@@ -68,15 +68,15 @@ Refuses fault close (Ok (Response.Replied text)) = ⊥
 Refuses fault close (Ok Response.Fault) = ⊥
 Refuses fault close (Err lost) = lost.acted ≡ false
 
--- the same where the desk took the step, and replied so
+-- the same where the desk took the step, and answered this reply
 abbrev pub Delivers : Reply → Bool → Result Response Lost → Type 0
 Delivers reply close (Ok (Response.Refused text)) = ⊥
 Delivers reply close (Ok (Response.Replied text)) = text.items ≡ reply_text reply close
 Delivers reply close (Ok Response.Fault) = ⊥
 Delivers reply close (Err lost) = lost.acted ≡ true
 
--- What the answer to a message says of the text and of the desk, between two moments. `holds` is
--- what has to hold of the desk for what is said of its steps.
+-- What the answer to a message says of the text and of the desk, between two moments. Its steps are
+-- promised where `holds`.
 abbrev pub Answers : Type 0 → ℤ → Bool → Asked → (Content → Type 0) → (Content → Type 0)
     → ℕ → ℕ → Result Answer Lost → Type 0
 Answers holds at close asked old new faults_old faults_new (Ok (Answer.Text text)) =

@@ -17,12 +17,12 @@ use Rattle.http_message.specs.declared.fault.HttpFault.{HttpFault}
 use Rattle.room_http.specs.declared.refusal.Refusal.{Refusal}
 use Rattle.room_http.specs.Limits.{max_head, max_fields, max_body}
 
--- ---- a head, and the length of the body behind it
+-- ---- a head, and the length of the body after it
 
 abbrev pub field_of : List ℕ × List ℕ → Field
 field_of pair = record { name = pair.0; value = pair.1 }
 
--- the parts of a head that are looked at
+-- the parts of a head that are read
 abbrev pub head_of : RequestHead → Head
 head_of h = record {
   method = h.method;
@@ -55,7 +55,7 @@ length_from [] = Ok 0
 length_from (value ∷ []) = length_of_text (trimmed value)
 length_from (value ∷ other ∷ values) = Err Refusal.BadLength
 
--- 2: no field tells of a transfer coding
+-- 2: no field is a transfer coding
 abbrev pub length_unless : List (List ℕ) → Result ℕ Refusal → Result ℕ Refusal
 length_unless [] length = length
 length_unless (coding ∷ codings) length = Err Refusal.TransferCoding

@@ -1,4 +1,4 @@
--- What serving a connection gives (own).
+-- What serving a connection does (own).
 use Rattle.std.specs.Prelude.{◌≡◌, ℕ, ℤ, ◌+◌, ◌<◌, ◌⊎◌, Bool, false, List, [], ◌∷◌, ◌++◌}
 use Rattle.std.specs.Prelude.{length, Option, is_some, ⊤}
 use Rattle.std.specs.Io.KnownBytes.{Appends, Consumes, IsAtEnd}
@@ -15,7 +15,7 @@ use Rattle.room_http.specs.Stream.{Exchange, IsExchange, exchange_text, Last, As
 use Rattle.room_http.specs.Stream.{StartsWith, ended_of, last_text, last_exchange, Leads, Opens}
 use Rattle.room_http.specs.Stream.{Stream, texts_of}
 
--- what can be told at one moment: the bytes that the reader has left and that the writer took, what
+-- what is known at one moment: the bytes that the reader has left and that the writer took, what
 -- the desk keeps, and how often it failed
 pub record Seen : Type 1 where
   pub left : Option (List ℕ)
@@ -29,16 +29,16 @@ AtEndIf Last.Clean left = IsAtEnd left
 AtEndIf Last.Cut left = IsAtEnd left
 AtEndIf last left = ⊤
 
--- What was read reaches less than one read beyond the message: none was made once it was whole that
--- could have brought so much.
+-- What was read reaches less than one read beyond the message, since no read was made once the
+-- message was whole.
 abbrev pub IsNear : Message → List ℕ → Type 0
 IsNear m left = length left < length (print_message m) + read_size
 
--- the same of what is refused, which is no longer than a head
+-- the same for what is refused, which is no longer than a head
 abbrev pub IsNearHead : List ℕ → Type 0
 IsNearHead left = length left < max_head + read_size
 
--- nothing was read ahead of the end, but what one read may bring
+-- the bytes that were read ahead of the end are fewer than one read
 abbrev pub NearLast : Last → List ℕ → Type 0
 NearLast (Last.Refused refusal) left = IsNearHead left
 NearLast (Last.Closing x) left = IsNear x.message left
@@ -51,7 +51,7 @@ FaultsRose (Last.Failed m) old new = Rose old new
 FaultsRose last old new = new ≡ old
 
 -- A connection that ended: what was read is a stream, what was written its replies, and what the
--- desk did their run. `holds` is what has to hold of the desk for that.
+-- desk did their run, where `holds`.
 pub record Serves (holds : Type 0) (at : ℤ) (old new : Seen) (ended : Ended) : Type 0 where
   pub read : List ℕ
   pub exchanges : List Exchange
@@ -83,7 +83,7 @@ IsNext left n (Next.Exchanging x close) =
 IsNext left n (Next.Refusing refusal) = IsRefused left refusal
 IsNext left n (Next.Failing m) = IsMessage m × Asks (asked m) × StartsWith left m
 
--- nothing was read ahead of it, but what one read may bring
+-- the bytes that were read ahead of it are fewer than one read
 abbrev pub NearNext : Next → List ℕ → Type 0
 NearNext Next.Unknown left = ⊤
 NearNext (Next.Exchanging x close) left = IsNear x.message left
@@ -124,7 +124,7 @@ BlamesText Cause.Read begun back = ⊥
 BlamesText Cause.Write begun back = 0 < length back
 BlamesText Cause.Memory begun back = begun ≡ []
 
--- the same of the text that tells a fault of the desk: it takes no memory
+-- the same for the text that reports a fault of the desk: it takes no memory
 abbrev pub BlamesWriter : Cause → List ℕ → Type 0
 BlamesWriter Cause.Read back = ⊥
 BlamesWriter Cause.Write back = 0 < length back

@@ -1,4 +1,4 @@
--- The parts of a head, as spans of its own bytes, and what the look for a head found.
+-- The parts of a head, as spans of its own bytes, and what the search for a head found.
 use Rattle.std.specs.Prelude.{◌≡◌, ℕ, ◌+◌, ◌<◌, ◌≤◌, ◌⊎◌, List, [], ◌++◌, length, take}
 use Rattle.std.specs.Prelude.{drop, map, All, Option, ⊤}
 use Rattle.std.specs.Io.KnownBytes.{Consumes, IsAtEnd}
@@ -42,7 +42,7 @@ abbrev pub SpansHead : List ℕ → List HeaderSpan → RequestSpans → Type 0
 SpansHead buf spans r =
     (h : RequestHead) × BeginsWith buf h (drop r.len buf) × AreSpansOf spans r h
 
--- what the look for a head found
+-- what the search for a head found
 abbrev pub Scans : List ℕ → List HeaderSpan → HeadScan → Type 0
 Scans buf spans (HeadScan.Whole r) = SpansHead buf spans r
 Scans buf spans HeadScan.Part =
@@ -59,7 +59,7 @@ ScansWindow w spans (HeadScan.Refused Refusal.TooManyFields) =
     HasTooMany w ⊎ ((max_head ≤ length w) × HasNoRequest w × MayBecomeRequest w)
 ScansWindow w spans (HeadScan.Refused refusal) = ⊥
 
--- these bytes came from the reader, behind those that were there
+-- these bytes came from the reader, after those that were there
 abbrev pub Came : Option (List ℕ) → Option (List ℕ) → List ℕ → List ℕ → Type 0
 Came old_left new_left old new =
     (more : List ℕ) × Consumes old_left new_left more × (new ≡ old ++ more)
@@ -75,7 +75,7 @@ abbrev pub StopsReading : Option (List ℕ) → Option (List ℕ) → List ℕ �
 StopsReading old_left new_left old cause =
     (all : List ℕ) × Came old_left new_left old all × BlamesBefore cause all
 
--- the same within a body, of which less than so many bytes came where a read failed
+-- the same within a body: where a read failed, fewer bytes came than the body has
 abbrev pub BlamesBody : Cause → ℕ → List ℕ → Type 0
 BlamesBody Cause.Read total all = length all < total
 BlamesBody Cause.Write total all = ⊥
@@ -85,7 +85,7 @@ abbrev pub StopsBody : Option (List ℕ) → Option (List ℕ) → List ℕ → 
 StopsBody old_left new_left old total cause =
     (all : List ℕ) × Came old_left new_left old all × BlamesBody cause total all
 
--- how far the bytes reach beyond the head, or beyond what is none
+-- how far the bytes reach beyond the head, or beyond bytes that aren't one
 abbrev pub HeadNear : List ℕ → HeadRead → Type 0
 HeadNear buf (HeadRead.Found r) = length buf < r.len + read_size
 HeadNear buf HeadRead.Ended = ⊤

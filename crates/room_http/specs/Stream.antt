@@ -73,7 +73,7 @@ abbrev pub Asks : Asked → Type 0
 Asks (Ok call) = ⊤
 Asks (Err fault) = ⊥
 
--- the reply to the message after so many others says that the connection ends
+-- the reply to the message after n others says that the connection ends
 abbrev pub says_close : Message → ℕ → Bool
 says_close m n = closes m || ((n + 1) == max_messages)
 
@@ -81,7 +81,7 @@ says_close m n = closes m || ((n + 1) == max_messages)
 abbrev pub StartsWith : List ℕ → Message → Type 0
 StartsWith bytes m = (rest : List ℕ) × (bytes ≡ print_message m ++ rest)
 
--- the bytes that are left, after so many exchanges, end so
+-- the bytes that are left after n exchanges are this end
 abbrev pub Ends : List ℕ → ℕ → Last → Type 0
 Ends left n Last.Clean = left ≡ []
 Ends left n Last.Cut = IsPart left
@@ -128,7 +128,7 @@ pub record Opens (bytes : List ℕ) (xs : List Exchange) (rest : List ℕ) : Typ
   pub whole : bytes ≡ bytes_of xs ++ rest
   pub each : All IsOpen xs
 
--- The bytes are these exchanges and end so.
+-- The bytes are these exchanges and this end.
 pub record Stream (bytes : List ℕ) (xs : List Exchange) (last : Last) : Type 0 where
   pub rest : List ℕ
   pub opens : Opens bytes xs rest

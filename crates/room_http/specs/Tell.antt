@@ -1,4 +1,4 @@
--- How one message was answered, as far as the desk and the writer go.
+-- How one message was answered, by the desk and the writer.
 use Rattle.std.specs.Prelude.{◌≡◌, ℤ, Bool, false, List, ℕ, [], Option, is_some, Result, Ok, Err}
 use Rattle.std.specs.Io.KnownBytes.{Appends}
 use Rattle.room_machine.specs.declared.reply.Reply.{Reply}
@@ -29,12 +29,12 @@ pub data Begun : Type 0 where
   Telling : Option Reply → Begun
   Failing : Begun
 
--- a beginning of the text was written, and this failed
+-- a front of the text was written, and this failed
 abbrev pub StopsWithin : Option (List ℕ) → Option (List ℕ) → List ℕ → Cause → Type 0
 StopsWithin old new text cause =
     (wrote : WritesSome old new text) × BlamesText cause wrote.0 wrote.1
 
--- the same of the text that tells a fault of the desk
+-- the same for the text that reports a fault of the desk
 abbrev pub StopsFault : Option (List ℕ) → Option (List ℕ) → Cause → Type 0
 StopsFault old new cause =
     (wrote : WritesSome old new store_text) × BlamesWriter cause wrote.1

@@ -14,12 +14,12 @@ use Rattle.room_http.specs.Serve.{Seen, AtEndIf, FaultsRose, Next, IsNext, next_
 use Rattle.room_http.specs.Serve.{did_act, Blames, NextRose, IsNearHead, NearLast, NearNext}
 use Rattle.room_http.specs.Spans.{Came}
 
--- a beginning of the text was written
+-- a front of the text was written
 abbrev pub WritesSome : Option (List ℕ) → Option (List ℕ) → List ℕ → Type 0
 WritesSome old new text =
     (front : List ℕ) × (back : List ℕ) × (text ≡ front ++ back) × Appends old new front
 
--- a beginning of the text was written, and not all of it
+-- a front of the text was written, and not all of it
 abbrev pub WritesPart : Option (List ℕ) → Option (List ℕ) → List ℕ → Type 0
 WritesPart old new text = (wrote : WritesSome old new text) × (0 < length wrote.1)
 

@@ -16,7 +16,7 @@ const READ_SIZE: usize = 16_384;
 
 const MAX_HEAD: usize = 16_384;
 
-// Reads once, and adds what came. Nothing comes only at the end of the input.
+// Reads once, and adds the bytes that came. None come only at the end of the input.
 fn fill<R: Read>(r: &mut R, buf: &mut Vec<u8>) -> Result<bool, Cause>
     ensures came { IfOk result (λ some. Came
         (R.remaining r.old) (R.remaining r.new) buf.old.items buf.new.items) }
@@ -43,7 +43,7 @@ fn fill<R: Read>(r: &mut R, buf: &mut Vec<u8>) -> Result<bool, Cause>
     }
 }
 
-// Drops so many bytes from the front.
+// Drops `count` bytes from the front.
 pub(crate) fn drop_front(buf: &mut Vec<u8>, count: usize)
     requires { count ≤ length buf.old.items }
     ensures { buf.new.items ≡ drop count buf.old.items }
@@ -53,7 +53,7 @@ pub(crate) fn drop_front(buf: &mut Vec<u8>, count: usize)
     buf.truncate(rest);
 }
 
-// What stands at the front of the bytes, as far as its head goes.
+// What the front of the bytes is: a whole head, a part of one, or no head.
 #[derive(Clone, Copy)]
 enum HeadScan {
     Whole(RequestSpans),
@@ -61,7 +61,7 @@ enum HeadScan {
     Refused(Refusal),
 }
 
-// Looks for a head in the bytes where one may stand.
+// Parses a head in the bytes where one may stand.
 fn scan_window(window: &[u8], spans: &mut [HeaderSpan]) -> HeadScan
     requires room { length spans.old ≡ max_fields }
     requires short { length window.now ≤ max_head }
@@ -76,7 +76,7 @@ fn scan_window(window: &[u8], spans: &mut [HeaderSpan]) -> HeadScan
     }
 }
 
-// Looks for a head within the limits.
+// Parses a head within the limits.
 fn scan_head(buf: &[u8], spans: &mut [HeaderSpan]) -> HeadScan
     requires { length spans.old ≡ max_fields }
     ensures { Scans buf.now spans.new result }
@@ -84,7 +84,7 @@ fn scan_head(buf: &[u8], spans: &mut [HeaderSpan]) -> HeadScan
     scan_window(&buf[..buf.len().min(MAX_HEAD)], spans)
 }
 
-// What was read, as far as a head goes.
+// How reading a head ended: with a head, with the end of the input, or with bytes that are none.
 #[derive(Clone, Copy)]
 pub(crate) enum HeadRead {
     Found(RequestSpans),
@@ -120,7 +120,7 @@ pub(crate) fn read_head<R: Read>(
     }
 }
 
-// Reads until so many bytes are there, or the input ends.
+// Reads until `total` bytes are there, or the input ends.
 pub(crate) fn read_body<R: Read>(r: &mut R, buf: &mut Vec<u8>, total: usize) -> Result<bool, Cause>
     ensures came { OnOk result
         (Came (R.remaining r.old) (R.remaining r.new) buf.old.items buf.new.items) }

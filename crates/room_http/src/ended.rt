@@ -16,9 +16,9 @@ pub enum Ended {
 pub enum Cause {
     /// The reader answered an error.
     Read,
-    /// The writer answered an error, or took nothing.
+    /// The writer answered an error, or took no byte.
     Write,
-    /// There was no memory outside the desk.
+    /// Memory ran out outside the desk.
     Memory,
 }
 

@@ -54,7 +54,7 @@ pub(crate) fn next_message<R: Read>(
     }
 }
 
-// Reads the body behind the head at the front of the bytes.
+// Reads the body after the head at the front of the bytes.
 fn next_behind<R: Read>(
     alloc: Global,
     r: &mut R,

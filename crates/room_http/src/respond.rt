@@ -11,7 +11,8 @@ use room_machine::{Desk, Reply, Request};
 use std::alloc::Global;
 
 /// Answers a whole message at a moment, in seconds from 1970-01-01 00:00 UTC, from the test of its
-/// method on. With `close` the reply says that the connection ends.
+/// method on. With `close` the reply says that the connection ends. The error is that memory ran
+/// out.
 pub fn answer<D: Desk>(
     alloc: Global,
     routes: &Routes,
@@ -35,7 +36,7 @@ pub fn answer<D: Desk>(
     }
 }
 
-// The same, telling whether the desk was asked.
+// Answers a whole message, and says whether the desk was asked.
 pub(crate) fn respond<D: Desk>(
     alloc: Global,
     routes: &Routes,

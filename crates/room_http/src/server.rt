@@ -97,7 +97,7 @@ fn tell<W: Write, D: Desk>(
     }
 }
 
-// Whether the reply to the message after so many ends the connection.
+// Whether the reply to the message after `answered` others ends the connection.
 fn says_close(head: &Head, answered: u64) -> bool
     requires { answered < max_messages }
     ensures { result ≡ (asks_close head.now || ((answered + 1) == max_messages)) }
@@ -149,7 +149,7 @@ fn take_message<W: Write, D: Desk>(
     }
 }
 
-// What a whole reply leaves of the connection: its end, or the bytes behind the message.
+// What a whole reply leaves of the connection: its end, or the bytes after the message.
 fn behind_reply(buf: &mut Vec<u8>, end: usize, close: bool) -> Option<Ended>
     requires { end ≤ length buf.old.items }
     ensures closes { close ≡ true → result ≡ Some Ended.Closed }
@@ -236,7 +236,7 @@ fn turn<R: Read, W: Write, D: Desk>(
 
 /// Answers the messages of a connection, one after another, until it ends: 10,000 at most. They are
 /// asked at this moment, in seconds from 1970-01-01 00:00 UTC. The first error of the reader or the
-/// writer stops the call.
+/// writer, or of memory, is the error, with what was done before.
 pub fn serve<R: Read, W: Write, D: Desk>(
     alloc: Global,
     routes: &Routes,

@@ -1,4 +1,4 @@
-//! What answering one message gives.
+//! What answers one message.
 
 /// What answers a message.
 #[derive(Drop)]
@@ -9,7 +9,7 @@ pub enum Answer {
     Fault,
 }
 
-/// There was no memory outside the desk.
+/// Memory ran out outside the desk.
 #[derive(Clone, Copy, Debug, PartialEq, Eq)]
 pub struct Lost {
     /// Whether the desk took the step before that.

@@ -6,7 +6,7 @@ ghost use Rattle.room_http.specs.Turn.{WritesPart};
 use crate::ended::Cause;
 use std::io::Write;
 
-// Writes the text, or a part of it where a write fails or takes nothing.
+// Writes the text. Where a write fails or takes no byte, a part of it was written.
 pub(crate) fn write_text<W: Write>(w: &mut W, text: &[u8]) -> Result<(), Cause>
     ensures ok { OnOk result (Appends (W.contents w.old) (W.contents w.new) text.now) }
     ensures err { OnErr result (WritesPart (W.contents w.old) (W.contents w.new) text.now) }

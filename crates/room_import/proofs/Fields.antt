@@ -118,7 +118,7 @@ pair_of_others number (x ∷ []) none = refl
 pair_of_others number (x ∷ y ∷ []) none = cc none
 pair_of_others number (x ∷ y ∷ z ∷ fields) none = refl
 
--- a field that is refused or taken, by whether it is a name
+-- a field is refused or taken, by whether it is a name
 cases_named : (number : ℕ) (field : List ℕ) (is : Bool) (fault : CsvFault) → (if is then Ok field else fault_at number BadName) ≡ Err fault → (is ≡ false) × (fault ≡ record { row = number; why = BadName })
 cases_named number field true fault e = cc e
 cases_named number field false fault e = (refl, cc e)

@@ -39,7 +39,7 @@ rows_left reader = rows_from (reader_state reader) (unread reader)
 abbrev pub IsBetween : State → Type 0
 IsBetween state = (state ≡ st.StartRecord) ⊎ (state ≡ st.AfterCr)
 
--- the reader gives the next row as it stands in the text
+-- the reader answers the next row as it stands in the text
 abbrev pub GoesOn : Rows → Type 0
 GoesOn reader =
     (reader_trim reader ≡ trim.None) × Ready reader × (reader_config reader ≡ default_config)
@@ -64,14 +64,14 @@ two_of _ = None
 abbrev pub named : ℕ → List ℕ → Result (List ℕ) CsvFault
 named number field = if is_name field then Ok field else fault_at number BadName
 
--- what reading the header says of the pairs of all rows
+-- what reading the header means for the pairs of all rows
 abbrev pub HeaderTaken : Rows → Rows → Result (Unit {0}) (Failure CsvFault) → Type 0
 HeaderTaken before after (Ok done) =
     (pairs_of_rows (rows_left before) ≡ pairs_after [] 2 (rows_left after)) × GoesOn after
 HeaderTaken before after (Err OutOfMemory) = Unit {0}
 HeaderTaken before after (Err (Fault fault)) = pairs_of_rows (rows_left before) ≡ Err fault
 
--- what reading the row of this number says of the pairs of the rows from it on
+-- what reading the row of this number means for the pairs of the rows from it on
 abbrev pub PairTaken : ℕ → Rows → Rows → Result (Option (List ℕ × List ℕ)) (Failure CsvFault)
     → Type 0
 PairTaken number before after (Ok None) = rows_left before ≡ []

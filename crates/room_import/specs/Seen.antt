@@ -1,4 +1,4 @@
--- A set of pairs of texts that tells which pairs came before.
+-- A set of pairs of texts that says which pairs came before.
 use Rattle.std.specs.Prelude.{◌≡◌, ℕ, List, String, string_bytes, string_cmp}
 use Rattle.std.specs.List.{list_any}
 use Rattle.std.specs.Ordering.{ordering_then}

@@ -4,7 +4,7 @@ use Rattle.csv.specs.Writing.{default_writer, row_text, fields_written, has_writ
 use Rattle.csv.specs.Writing.{writer_setup, writer_under}
 use Rattle.csv.specs.declared.writer.Writer.{Writer}
 
--- the bytes underneath, and those that are on their way there
+-- the bytes that were written, and those that are still in the writer
 abbrev pub written : {A : Type 0} → Writer (Vec ℕ A) → List ℕ
 written writer = (writer_under writer).items ++ writer_pending writer
 
@@ -14,6 +14,6 @@ StandsAtRow writer =
     (writer_setup writer ≡ default_writer) × (fields_written writer ≡ 0)
     × (has_written writer ≡ false)
 
--- a row more is written
+-- one more row is written
 abbrev pub HasRow : {A : Type 0} → List (List ℕ) → Writer (Vec ℕ A) → Writer (Vec ℕ A) → Type 0
 HasRow fields old new = written new ≡ written old ++ row_text default_writer fields

@@ -30,7 +30,7 @@ pub struct CsvFault {
 }
 
 impl CsvWhy {
-    /// The code and the words of the fault, as they are told.
+    /// The code and the words of the fault, as they are printed.
     pub fn as_str(self) -> &'static str
         ensures { result.now ≡ csv_why_text self }
     {

@@ -10,7 +10,7 @@ use std::marker::Model;
 
 /// Pairs in the order in which each came first. A contract sees the list of them.
 ///
-/// The set tells whether a pair came before, so that many pairs are gathered fast.
+/// The set says whether a pair came before, so that many pairs are gathered fast.
 #[derive(Drop)]
 pub(crate) struct Gathered {
     seen: BTreeSet<(String, String)>,

@@ -21,13 +21,13 @@ const HEADER_ROW: usize = 1;
 /// The number of the last row that a group file may have: the header and 20,000 rows below it.
 const LAST_ROW: usize = 20_001;
 
-/// The pairs of group and user in the order in which each comes first, or the first row that has a
-/// fault.
+/// The pairs of group and user in the order in which each comes first. The error is the first row
+/// that has a fault, or that memory ran out.
 ///
-/// Rows are the records of the bytes behind a byte order mark, by the rules of RFC 4180, with LF
-/// as a line end too. Row 1 is the header `group,user`, and each further row has two fields,
-/// which are names; nothing is trimmed. A repeated pair adds nothing. Of a row's faults the first
-/// is told in the order `TooManyRows`, `NotUtf8`, `BadHeader` or `NotTwoFields`, `BadName`. Where
+/// Rows are the records of the bytes after a byte order mark, by the rules of RFC 4180, with LF as
+/// a line end too. Row 1 is the header `group,user`, and each further row has two fields, which are
+/// names; nothing is trimmed. A repeated pair adds nothing. Of a row's faults the first is
+/// reported, in the order `TooManyRows`, `NotUtf8`, `BadHeader` or `NotTwoFields`, `BadName`. Where
 /// there is no row at all, row 1 is a `BadHeader`.
 pub fn read_groups(alloc: Global, bytes: &[u8]) -> Result<Pairs, Failure<CsvFault>>
     ensures { Gives result (groups_in bytes.now) }
@@ -114,7 +114,7 @@ fn pair_of(
     }
 }
 
-// The name that a field of the row of this number is.
+// The name in a field of the row of this number.
 fn name_in(alloc: Global, number: usize, field: &str) -> Result<Name, Failure<CsvFault>>
     ensures { Gives result (named number field.now) }
 {

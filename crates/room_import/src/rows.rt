@@ -7,7 +7,7 @@ ghost use Rattle.room_import.specs.Rows.{GoesOn, Took, rows_left, two_of};
 use csv::{ErrorKind, Reader, ReaderBuilder, StringRecord};
 use std::alloc::{AllocError, Global};
 
-/// What a reader finds where it looks for the next row.
+/// What reading the next row finds.
 #[derive(Clone, Copy, Debug, PartialEq, Eq)]
 pub(crate) enum NextRow {
     /// There are no more rows.
@@ -18,7 +18,7 @@ pub(crate) enum NextRow {
     Text,
 }
 
-/// A reader of the rows of the bytes behind a byte order mark.
+/// A reader of the rows of the bytes after a byte order mark.
 pub(crate) fn rows_of(alloc: Global, bytes: &[u8]) -> Reader<&[u8]>
     ensures goes { GoesOn result }
     ensures rows { rows_left result ≡ records default_config (strip_bom bytes.now) }

@@ -159,7 +159,7 @@ fn push_record(
     push_fields(writer, at.as_str(), bits.as_str(), place.as_str(), audit)
 }
 
-// Writes the row of a record, of which these fields are made.
+// Writes the row of a record with these fields.
 fn push_fields<'a>(
     writer: &mut Writer<Vec<u8>>,
     at: &'a str,
@@ -197,7 +197,7 @@ fn bits_text(alloc: Global, audit: &AuditRow) -> Result<String, AllocError>
     Ok(bits)
 }
 
-// The user's name, empty for a caller without one.
+// The user's name, empty for a caller without a name.
 fn user_str(audit: &AuditRow) -> &str
     ensures { result.now ≡ unwrap_or audit.now.user [] }
 {

@@ -6,7 +6,7 @@ use Rattle.room_rows.specs.Rows.{Rows}
 use Rattle.room_rows.specs.Keep.{HasCause, IfSeen, IsRead}
 
 module _ {S : Type 0} (rows : S → Rows) (failures writes : S → ℕ) (Follows IsTrusted : S → S → Type 0) where
-  -- a fault of a read is that of the one that made it, which knows more of what is blamed
+  -- a fault of a read is the fault of the call that made it, which may blame more rows
   pub blames_less : {X Y : Type 0} (a c : S) (e : KeepFault) {Blames Blames' : Rows → ℕ → Type 0} {Answers : Rows → X → Type 0} {Answers' : Rows → Y → Type 0}
       → (IsTrusted a c → (at : ℕ) → Blames (rows a) at → Blames' (rows a) at)
       → IsRead rows failures writes Follows IsTrusted {X = X} a c (Err e) Blames Answers → IsRead rows failures writes Follows IsTrusted {X = Y} a c (Err e) Blames' Answers'

@@ -80,7 +80,7 @@ module _ (f : Node → List Ace) (old : Content) where
       on None = refl
       on (Some q) = refl
 
-  -- the law of dacls doesn't look at sacls
+  -- the law of dacls doesn't depend on sacls
   law_stays : (g : Node → List Ace) (content : Content) → AllAgree content Dacl → AllAgree (with_lists Sacl g content) Dacl
   law_stays g content law = all_map (agrees (with_lists Sacl g content) Dacl) (agrees content Dacl) (set Sacl g) (agrees_still g content) content.nodes ∙ law
 

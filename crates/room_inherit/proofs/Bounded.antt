@@ -17,7 +17,7 @@ use Rattle.room_inherit.proofs.Calls.{capped_add}
 use Rattle.room_inherit.proofs.Members.{no_length}
 use Rattle.room_inherit.proofs.Turns.{Progress, Carried, Turned, turned_on, turn_fails, first_turn}
 
--- a count added with its end
+-- a count added to one that stays at its end
 capped_last : (m n : ℕ) → capped (m + capped n) ≡ capped (m + n)
 capped_last m n = ap capped (omega arith) ∙ capped_add n m ∙ ap capped (omega arith)
 
@@ -28,7 +28,7 @@ module _ {S : Type 0} (k : Ghosts S) (laws : KeepLaws k.rows k.failures k.writes
   abbrev Ends : S → S → Result Rattle.room_inherit.specs.declared.outcome.Spread.Spread SpreadFault → Type 0
   Ends a b result = Carried k laws d start progress a b result
 
-  -- as many, told otherwise
+  -- the same with equal counts
   as_many : (count count' changed changed' : ℕ) (waiting : List Node) (a b : S) → count ≡ count' → changed ≡ changed' → Done count waiting changed a b → Done count' waiting changed' a b
   as_many count count' changed changed' waiting a b e e' sofar = subst (λ (n : ℕ). Done n waiting changed' a b) e (subst (λ (n : ℕ). Done count waiting n a b) e' sofar)
 
@@ -45,7 +45,7 @@ module _ {S : Type 0} (k : Ghosts S) (laws : KeepLaws k.rows k.failures k.writes
   follows zero waiting next more b c are = subst (λ (s : S). k.Follows b s) are.2 (laws.itself b)
   follows (suc n) waiting next more b c (rest, above, first, number, mid, before, visit, total) = laws.on b mid c (follows n waiting (rest ++ above ∷ []) first b mid before) visit.follows
 
-  -- none waits, and so few lists are written that their count is exact
+  -- none waits, and few enough lists are written that their count is exact
   over : (count changed total : ℕ) (a b : S) → changed ≡ capped total → (k.IsTrusted a b → progress.Given (k.rows a) → total < 2 ^ 63) → Done count [] total a b → Ends a b (Ok (record { changed = changed }))
   over count changed total a b is small sofar = record {
     follows = sofar.follows;

@@ -30,7 +30,7 @@ use Rattle.room_inherit.proofs.Turns.{Progress}
 
 -- ---- rows
 
--- after so many turns these wait, and so many rows are changed
+-- after n turns these objects wait, and this many rows are changed
 pub record IsCarrying (which : Which) (start turns : ℕ) (waiting : List Node) (changed : ℕ) (old now : Rows) : Type 0 where
   pub lists : Node → List Ace
   pub becomes : now ≡ reading old (with_lists which lists old.read)
@@ -121,7 +121,7 @@ nothing_carried which start old are none = record {
   law = law_without which start old.read are.numbers none;
 }
 
--- what is known turn after turn
+-- what is known after each turn
 abbrev pub carrying : (d : Descent) (start : Node) → start.id ≡ d.start → d.reach ≡ Renewed → Progress d start
 carrying d start same reach = record {
   Given = Holds start;
@@ -151,7 +151,7 @@ module _ {S : Type 0} (k : Ghosts S) (laws : KeepLaws k.rows k.failures k.writes
     fault = tt;
   }
 
-  -- the object was read, and what begins there is carried down
+  -- the object was read, and the change is carried down from there
   pub spreads_there : (start : Node) (a b c : S) (id : ℕ) (r : Result Spread SpreadFault) → IsRead k.rows k.failures k.writes k.Follows k.IsTrusted a b (Ok (Some start)) (IsUnreadableAt id) (IsNodeAt id)
       → SpreadsIf k b c (Holds start) which start.id r → Spreads k a c which id r
   spreads_there start a b c id r found more = record {

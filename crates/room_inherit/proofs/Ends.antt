@@ -128,7 +128,8 @@ module _ (which : Which) (start : ℕ) (old : Content) (rises : is_rising (0 ∷
           | inr same ↦ same
         ]))))
 
-    -- Where each object with another list than before agrees with a parent, each agrees or stores what it did.
+    -- Where each object with another list than before agrees with a parent, each agrees or stores
+    -- what it did.
     pub changed_agree : ((n : Node) → There which start old n → is_changed which f n ≡ true → (p : Node) × There which start old p × (has_parent p.id n ≡ true) × (f n ≡ passes which f p n)) → ChangedAgree which old (with_lists which f old)
     changed_agree came =
         all_each either (map (set which f) old.nodes) (each_map (λ m. either m ≡ true) (set which f) old.nodes (each_there (λ n. either (set which f n) ≡ true) old.nodes (apart_rising 0 old.nodes rises) (λ n there. elim (cases_Bool (is_changed which f n)) [

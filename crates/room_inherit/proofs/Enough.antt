@@ -1,4 +1,5 @@
--- A way to the root needs no more steps than there are objects: a shorter one leaves out what lies between two meetings of one number.
+-- A way to the root needs no more steps than there are objects: a shorter one leaves out what lies
+-- between two meetings of one number.
 use Rattle.std.proofs.Common.{◌≡◌, ℕ, zero, suc, ◌≤◌, ◌+◌, ◌==◌, Bool, true, false, cond, not, List, [], ◌∷◌, filter, length, Option, Some, None, ◌⊎◌, refl, sym, ap, ◌∙◌, inl, inr, arith}
 use Rattle.std.specs.Option.{option_map_or}
 use Rattle.std.proofs.lemmas.Bool.{cases_Bool, false≢true, eqb-true, eqb-false}
@@ -65,11 +66,11 @@ module _ (content : Content) (id : ℕ) where
 
 -- ---- enough steps
 
--- in contents of at most so many objects
+-- in contents of at most this many objects
 abbrev Enough : ℕ → Type 0
 Enough most = (content : Content) → length content.nodes ≤ most → (n : ℕ) (parent : Option ℕ) → reaches_root n content parent ≡ true → reaches_root most content parent ≡ true
 
--- a number that is met again makes the way shorter, and else the rest goes without its object
+-- a number that is met again makes the way shorter, or else the rest goes without its object
 shorter : (most : ℕ) → Enough most → (fuel : ℕ) (content : Content) → length content.nodes ≤ suc most → (n p : ℕ) → n ≤ fuel → reaches_root n content (Some p) ≡ true → reaches_root (suc most) content (Some p) ≡ true
 shorter most before fuel content fits zero p short up = absurd (false≢true up)
 shorter most before zero content fits (suc n) p short up = absurd (omega arith)

@@ -55,7 +55,7 @@ links which above node = is_linked (held_of which node) (Some (held_of which abo
 abbrev pub passes : Which → (Node → List Ace) → Node → Node → List Ace
 passes which f above node = pass node.kind ((held_of which above).own ++ f above)
 
--- where it all began, or with another list than before
+-- the start, or an object with another list than before
 abbrev pub is_reached : Which → ℕ → (Node → List Ace) → Node → Bool
 is_reached which start f node = (node.id == start) || is_changed which f node
 

@@ -135,7 +135,7 @@ module _ (which : Which) (start : ℕ) (old : Content) (rises : is_rising (0 ∷
   rest_apart : (r : Node) → Waits which start old f r → has_id r.id kids ≡ false
   rest_apart r known = ap (λ i. has_id i kids) (ap (λ (n : Node). n.id) known.is ∙ set_id which f known.base) ∙ kids_has known.base known.there ∙ reached_fresh known.base known.there known.reached
 
-  -- a reached object that didn't wait beside the one that was taken
+  -- a reached object that didn't wait together with the one that was taken
   taken_on : (p : Node) → There which start old p → is_reached which start f p ≡ true → has_id p.id rest ≡ false → has_id p.id (rest ++ kids) ≡ false
   taken_on p there reached none = has_either p.id rest kids ∙ or_from (has_id p.id rest) (has_id p.id kids) none (kids_has p there ∙ reached_fresh p there reached)
 

@@ -31,7 +31,7 @@ use Rattle.room_inherit.proofs.Turns.{Progress}
 
 -- ---- rows
 
--- after so many turns these wait, and so many rows are changed
+-- after n turns these objects wait, and this many rows are changed
 pub record IsSweeping (d : Descent) (turns : ℕ) (waiting : List Node) (changed : ℕ) (old now : Rows) : Type 0 where
   pub root : Node
   pub root_is : root_of old.read ≡ Some root
@@ -87,7 +87,7 @@ module _ (d : Descent) (reach : d.reach ≡ All) (turns : ℕ) (rest : List Node
     waits = step.waits ∙ ap (λ (r : Reach). rest ++ next_of r d.which w (children_of (with_lists d.which f old.read) w.id)) reach
         ∙ ap (λ (l : List Node). rest ++ l) (kids_are d.which old.read are.numbers sofar.root top f sofar.seen rest w sofar.front)
 
-    -- not all children are written that wait next
+    -- no more children are written than wait next
     as_few : length (renewals d.which w (children_of (with_lists d.which f old.read) w.id)) ≤ length all
     as_few =
         let kids_now = children_of (with_lists d.which f old.read) w.id in
@@ -122,7 +122,7 @@ module _ (d : Descent) (reach : d.reach ≡ All) (turns : ℕ) (rest : List Node
           omega (arith, l, k, b, n, as_few);
     }
 
--- what is known turn after turn
+-- what is known after each turn
 abbrev pub sweeping : (d : Descent) (start : Node) → start.id ≡ d.start → d.reach ≡ All → Progress d start
 sweeping d start same reach = record {
   Given = IsRoot start;
@@ -151,7 +151,7 @@ sweeping d start same reach = record {
 -- ---- calls
 
 module _ {S : Type 0} (k : Ghosts S) (laws : KeepLaws k.rows k.failures k.writes k.Follows k.IsTrusted) (which : Which) where
-  -- the root was read, and what begins there is carried down
+  -- the root was read, and the lists are carried down from there
   pub sweeps_from : (root : Node) (a b c : S) (r : Result Spread SpreadFault) → IsRead k.rows k.failures k.writes k.Follows k.IsTrusted a b (Ok root) HasNoRoot IsRootOf → SweepsIf k b c (IsRoot root) which r → Sweeps k a c which r
   sweeps_from root a b c r found more = record {
     follows = laws.on a b c found.follows more.follows;
@@ -188,6 +188,6 @@ module _ {S : Type 0} (k : Ghosts S) (laws : KeepLaws k.rows k.failures k.writes
       cause (Ok s) h = tt
       cause (Err e) h = told e h
 
-  -- it wasn't
+  -- the root wasn't read
   pub no_root_read : (a b : S) (e : KeepFault) → IsRead k.rows k.failures k.writes k.Follows k.IsTrusted {X = Node} a b (Err e) HasNoRoot IsRootOf → Sweeps k a b which (Err (Keeper e))
   no_root_read a b e read = record { follows = read.follows; written = tt; becomes = λ t. tt; fault = read.fault }

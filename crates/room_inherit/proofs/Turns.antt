@@ -14,7 +14,8 @@ use Rattle.room_inherit.specs.declared.outcome.SpreadFault.{SpreadFault}
 use Rattle.room_inherit.specs.declared.outcome.SpreadFault.TheVariants.{Keeper, Loop}
 use Rattle.room_inherit.proofs.Calls.{capped_add}
 
--- What is known of the rows after so many turns, where these wait and so many lists are changed, and what follows from it.
+-- What is known of the rows after n turns, where these objects wait and this many lists are
+-- changed, and what follows from it.
 pub record Progress (d : Descent) (start : Node) : Type 1 where
   pub Given : Rows → Type 0
   pub Loops : Rows → Type 0
@@ -34,7 +35,7 @@ module _ {S : Type 0} (k : Ghosts S) (laws : KeepLaws k.rows k.failures k.writes
   abbrev pub Carried : S → S → Result Spread SpreadFault → Type 0
   Carried a b result = CarriesIf k a b progress.Given (λ (spread : Spread). spread.changed) result progress.Loops (λ first spread last. progress.Done first last spread.changed)
 
-  -- so many turns are done
+  -- n turns are done
   pub record Turned (turns : ℕ) (waiting : List Node) (changed : ℕ) (a b : S) : Type 0 where
     pub follows : k.Follows a b
     pub written : k.writes b ≡ capped (k.writes a + changed)

@@ -11,7 +11,7 @@ use Rattle.room_rows.specs.Sound.{names_up}
 use Rattle.room_inherit.proofs.Enough.{enough_steps}
 use Rattle.room_inherit.proofs.Given.{numbers_equal}
 
--- the name of the object, behind those of its parent
+-- the name of the object, after those of its parent
 pub one_up : (count step : ℕ) (rows : Content) (node parent : Node) (names more : List (List ℕ)) → step < count → Some parent ≡ parent_of rows node → more ≡ names ++ node.name ∷ []
     → names_up (count - (step + 1)) rows parent ++ reverse more ≡ names_up (count - step) rows node ++ reverse names
 one_up count step rows node parent names more below above pushed =

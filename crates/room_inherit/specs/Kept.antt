@@ -15,8 +15,8 @@ use Rattle.room_inherit.specs.declared.verifying.Holding.TheVariants.{Finished, 
 abbrev pub stores_kept_alone : Content → Node → Bool
 stores_kept_alone rows node = keeps_none_linked rows Dacl node && keeps_none_linked rows Sacl node
 
--- What a look through such rows finds: the first six tests, and then an object with a linked list
--- that stores inherited entries.
+-- The report on such rows: the first six tests, and then an object with a linked list that stores
+-- inherited entries.
 abbrev pub kept_report_of : Rows → Report
 kept_report_of rows = or_sound (or_else (first_fault rows) (fault_of (true_path rows.read) BrokenLaw
     (first_failing (stores_kept_alone rows.read) rows.read)))
@@ -29,7 +29,7 @@ abbrev pub is_lawful : Holding → Content → Node → Bool
 is_lawful Finished = keeps_law
 is_lawful Kept = stores_kept_alone
 
--- what a look through the rows finds
+-- the report on the rows, by what they are to hold
 abbrev pub report_by : Holding → Rows → Report
 report_by holding rows = or_sound (or_else (first_fault rows) (fault_of (true_path rows.read)
     BrokenLaw (first_failing (is_lawful holding rows.read) rows.read)))
@@ -37,7 +37,7 @@ report_by holding rows = or_sound (or_else (first_fault rows) (fault_of (true_pa
 abbrev pub IsReportBy : Holding → Rows → Report → Type 0
 IsReportBy holding rows report = report ≡ report_by holding rows
 
--- the same where these are the objects of the rows, and no list is bad
+-- the same report, where these are the objects of the rows and no list is bad
 abbrev pub IsReportOf : Holding → List Node → Rows → Report → Type 0
 IsReportOf holding nodes rows report =
     nodes ≡ rows.read.nodes → first_bad_list rows ≡ None → report ≡ report_by holding rows

@@ -39,12 +39,12 @@ abbrev pub IsBadBody : List Node → Rows → Option (Bor Node) → Type 0
 IsBadBody nodes rows found =
     option_copied found ≡ find (λ node. not (has_sound_body rows.read node)) nodes
 
--- what is found in the rows
+-- the report on the rows
 abbrev pub IsReport : Rows → Report → Type 0
 IsReport rows report = report ≡ report_of rows
 
--- A look through all rows. It tells of a row that can't be read and doesn't fail by it, so it is
--- known to have met no failure where it answers that the rows are sound.
+-- All rows are tested. A row that can't be read is reported, and is no error. Where the answer is
+-- that the rows are sound, no failure was counted.
 pub record Looks {S : Type 0} (k : Ghosts S) (old new : S) (result : Result Report KeepFault)
     (Answers : Rows → Report → Type 0) : Type 0 where
   pub follows : k.Follows old new

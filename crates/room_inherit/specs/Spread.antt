@@ -20,7 +20,7 @@ use Rattle.room_inherit.specs.declared.outcome.SpreadFault.TheVariants.{Keeper, 
 
 -- ---- below an object
 
--- at most so many steps below the object of this number
+-- at most n steps below the object of this number
 abbrev pub is_within : ℕ → Content → ℕ → Node → Bool
 is_within zero rows id node = false
 is_within (suc n) rows id node =
@@ -65,8 +65,8 @@ ChangedAgree which old new =
     IsTrue (list_all (λ node. stores_as_before old which node || agrees new which node) new.nodes)
 
 -- The rows are as they were but for inherited entries of this attribute at objects that are linked
--- below this one, of which so many are different now and agree with their parents. If the law held
--- but for the object's children, it holds.
+-- below this one. This many of them are different now, and agree with their parents. If the law
+-- held but for the object's children, it holds.
 pub record IsSpread (which : Which) (id : ℕ) (old new : Rows) (changed : ℕ) : Type 0 where
   pub lists : Node → List Ace
   pub becomes : new ≡ reading old (with_lists which lists old.read)
@@ -78,7 +78,7 @@ pub record IsSpread (which : Which) (id : ℕ) (old new : Rows) (changed : ℕ) 
 
 -- ---- why there is no answer
 
--- A fault of the keeper has that call's cause. `Loop` comes where there is one.
+-- A fault of the keeper has that call's cause. `Loop` comes where there is a loop.
 abbrev pub HasSpreadCause : ℕ → ℕ → (ℕ → Type 0) → Type 0 → SpreadFault → Type 0
 HasSpreadCause before after damaged loops (Keeper fault) = HasCause before after damaged fault
 HasSpreadCause before after damaged loops Loop = loops
@@ -87,8 +87,8 @@ HasSpreadCause before after damaged loops Loop = loops
 
 module _ {S : Type 0} (rows : S → Rows) (failures writes : S → ℕ)
     (Follows IsTrusted : S → S → Type 0) where
-  -- As long as the keeper answers by its rows: an answer tells what became of them and how often
-  -- was written, and a fault blames a row that can't be read or a loop.
+  -- As long as the keeper answers by its rows: an answer says what became of them and how many
+  -- writes there were, and a fault blames a row that can't be read or a loop.
   pub record IsCarried {X : Type 0} (count : X → ℕ) (old new : S) (result : Result X SpreadFault)
       (Loops : Rows → Type 0) (Becomes : Rows → X → Rows → Type 0) : Type 0 where
     pub follows : Follows old new
@@ -101,13 +101,13 @@ module _ {S : Type 0} (rows : S → Rows) (failures writes : S → ℕ)
 -- ---- with the keeper named once
 
 module _ {S : Type 0} (k : Ghosts S) (old new : S) where
-  -- The calls answer so, where they answer by the rows.
+  -- The result of calls that carry lists down, where the keeper answers by its rows.
   abbrev pub Carries : {X : Type 0} → (X → ℕ) → Result X SpreadFault → (Rows → Type 0)
       → (Rows → X → Rows → Type 0) → Type 0
   Carries count result Loops Becomes =
       IsCarried k.rows k.failures k.writes k.Follows k.IsTrusted count old new result Loops Becomes
 
-  -- The same where the rows are so beforehand, which is the caller's to know.
+  -- The same where the rows meet a condition before. The caller has to know that they do.
   abbrev pub CarriesIf : {X : Type 0} → (Rows → Type 0) → (X → ℕ) → Result X SpreadFault
       → (Rows → Type 0) → (Rows → X → Rows → Type 0) → Type 0
   CarriesIf Given count result Loops Becomes =
@@ -115,7 +115,7 @@ module _ {S : Type 0} (k : Ghosts S) (old new : S) where
       (λ first last. k.IsTrusted first last × Given (k.rows first))
       count old new result Loops Becomes
 
-  -- What a change of this object's list means is carried down.
+  -- A change of this object's list is carried down.
   abbrev pub SpreadsIf : (Rows → Type 0) → Which → ℕ → Result Spread SpreadFault → Type 0
   SpreadsIf Given which id result =
       CarriesIf Given (λ (spread : Spread). spread.changed) result

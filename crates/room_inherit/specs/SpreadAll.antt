@@ -24,9 +24,9 @@ pub record IsTree (rows : Content) : Type 0 where
   pub connected :
       IsTrue (list_all (λ node. reaches_root (length rows.nodes) rows node.parent) rows.nodes)
 
--- The rows are as they were but for inherited entries of this attribute at linked objects, of which
--- so many are different now, fewer than 2 ^ 63, and agree with their parents. In a tree the law
--- holds.
+-- The rows are as they were but for inherited entries of this attribute at linked objects. This
+-- many of them are different now, fewer than 2 ^ 63, and agree with their parents. In a tree the
+-- law holds.
 pub record IsSwept (which : Which) (old new : Rows) (changed : ℕ) : Type 0 where
   pub lists : Node → List Ace
   pub becomes : new ≡ reading old (with_lists which lists old.read)
@@ -42,7 +42,7 @@ abbrev pub with_both : (Node → List Ace) → (Node → List Ace) → Content �
 with_both dacls sacls content =
     with_each content (λ node. with_inh Sacl (sacls node) (with_inh Dacl (dacls node) node))
 
--- The rows are as they were but for inherited entries at linked objects, of which so many lists are
+-- The rows are as they were but for inherited entries at linked objects. This many lists are
 -- different now and agree with the parents'. Where the first six tests of all rows found no fault,
 -- the law of both holds, and so it does in any other tree.
 pub record IsSpreadAll (old new : Rows) (changed : ℕ) : Type 0 where
@@ -62,9 +62,9 @@ pub record IsSpreadAll (old new : Rows) (changed : ℕ) : Type 0 where
 
 module _ {S : Type 0} (rows : S → Rows) (failures writes : S → ℕ)
     (Follows IsTrusted : S → S → Type 0) where
-  -- As long as the keeper answers by its rows: an answer tells what became of them and how often
-  -- was written, and a fault blames a row that can't be read or the want of a root. There is never
-  -- a loop.
+  -- As long as the keeper answers by its rows: an answer says what became of them and how many
+  -- writes there were, and a fault blames a row that can't be read or a missing root. There is
+  -- never a loop.
   pub record IsCarriedDown {X : Type 0} (count : X → ℕ) (old new : S)
       (result : Result X SpreadFault) (Becomes : Rows → X → Rows → Type 0) : Type 0 where
     pub follows : Follows old new
@@ -81,14 +81,14 @@ module _ {S : Type 0} (k : Ghosts S) (old new : S) where
       (λ (spread : Spread). spread.changed) old new result
       (λ first spread last. IsSpreadAll first last spread.changed)
 
-  -- Those of one attribute are.
+  -- All lists of one attribute are carried down.
   abbrev pub Sweeps : Which → Result Spread SpreadFault → Type 0
   Sweeps which result =
       IsCarriedDown k.rows k.failures k.writes k.Follows k.IsTrusted
       (λ (spread : Spread). spread.changed) old new result
       (λ first spread last. IsSwept which first last spread.changed)
 
-  -- The same where the rows are so beforehand, which is the caller's to know.
+  -- The same where the rows meet a condition before. The caller has to know that they do.
   abbrev pub SweepsIf : (Rows → Type 0) → Which → Result Spread SpreadFault → Type 0
   SweepsIf Given which result =
       CarriesIf k old new Given (λ (spread : Spread). spread.changed) result (λ _. ⊥)

@@ -32,7 +32,7 @@ passed_to which above node = pass node.kind (full_of (held_of which above))
 abbrev pub renewed : Which → Node → Node → Node
 renewed which above node = with_inh which (passed_to which above node) node
 
--- linked, and stored otherwise than it is to be
+-- linked, and stores something else than it is to store
 abbrev pub is_outdated : Which → Node → Node → Bool
 is_outdated which above node =
     is_linked_to which above node
@@ -53,7 +53,7 @@ renewed_list which above node =
 abbrev pub renewals : Which → Node → List Node → List Node
 renewals which above nodes = map (renewed which above) (filter (is_outdated which above) nodes)
 
--- the object where it all began, met again as a linked child
+-- the object at which it began, met again as a linked child
 abbrev pub is_met_again : Which → ℕ → Node → Node → Bool
 is_met_again which start above node = (node.id == start) && is_linked_to which above node
 
@@ -99,8 +99,8 @@ abbrev pub next_of : Reach → Which → Node → List Node → List Node
 next_of Renewed which above nodes = renewals which above nodes
 next_of All which above nodes = map (brought_up which above) nodes
 
--- One object's outdated children are renewed, and these or all put behind those that wait; the
--- first object isn't among them.
+-- One object's outdated children are renewed, and these or all children are added after the objects
+-- that wait. The first object isn't among them.
 pub record IsVisit (descent : Descent) (above : Node) (before after : List Node) (old : Rows)
     (written : ℕ) (new : Rows) : Type 0 where
   pub not_met : meets_again descent.which descent.start above (children_of old.read above.id)
@@ -128,13 +128,13 @@ abbrev pub one_if : Bool → ℕ
 one_if test = if test then 1 else 0
 
 module _ {S : Type 0} (k : Ghosts S) (old new : S) where
-  -- An object's children are renewed.
+  -- The children of an object are renewed.
   abbrev pub Visits : Descent → Node → List Node → List Node → Result ℕ SpreadFault → Type 0
   Visits descent above before after result =
       Carries k old new (λ written. written) result
       (MeetsAgain descent.which descent.start above) (IsVisit descent above before after)
 
-  -- These are, where those that are outdated are known to the rows.
+  -- These children are renewed, where those that are outdated are known to the rows.
   abbrev pub RenewsAll : Descent → Node → List Node → List Node → List Node
       → Result ℕ SpreadFault → Type 0
   RenewsAll descent above nodes before after result =
@@ -142,7 +142,7 @@ module _ {S : Type 0} (k : Ghosts S) (old new : S) where
       (λ rows. AreKnown descent.which (renewals descent.which above nodes) rows.read)
       (λ written. written) result (λ _. ⊥) (IsRenewal descent above nodes before after)
 
-  -- This one is.
+  -- This child is renewed, if it is outdated and known to the rows.
   abbrev pub Renews : Which → Node → Node → Node → Result Bool SpreadFault → Type 0
   Renews which above before after result =
       CarriesIf k old new
@@ -154,7 +154,7 @@ abbrev pub to_kind : Passed → ObjKind → List Ace
 to_kind passed Document = passed.to_documents
 to_kind passed Folder = passed.to_folders
 
--- what an object with this list passes to its children, if it does
+-- what an object with this list passes to its children, if it passes anything
 pub record IsPassed (held : Held) (passed : Passed) : Type 0 where
   pub auto : passed.auto ≡ held.flags.auto
   pub entries : (kind : ObjKind) → to_kind passed kind ≡ pass kind (full_of held)

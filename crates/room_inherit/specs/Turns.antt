@@ -9,8 +9,8 @@ use Rattle.room_inherit.specs.declared.descent.Descent.{Descent}
 use Rattle.room_inherit.specs.declared.outcome.SpreadFault.{SpreadFault}
 
 module _ {S : Type 0} (k : Ghosts S) (descent : Descent) where
-  -- So many turns, in each of which the last of those that wait is visited: these wait before and
-  -- after, and so many lists are written.
+  -- n turns, in each of which the last of the objects that wait is visited: these wait before and
+  -- after, and this many lists are written.
   abbrev pub AreTurns : ℕ → List Node → List Node → ℕ → S → S → Type 0
   AreTurns zero before after written old new =
       (before ≡ after) × (written ≡ 0) × (old ≡ new)
@@ -20,7 +20,7 @@ module _ {S : Type 0} (k : Ghosts S) (descent : Descent) where
       × Visits k mid new descent above rest after (Ok number)
       × (written ≡ sofar + number)
 
-  -- at most so many turns, and as many where some still wait
+  -- at most this many turns, and exactly as many where some still wait
   pub record Took (most : ℕ) (before after : List Node) (written : ℕ) (old new : S) : Type 0 where
     pub turns : ℕ
     pub total : ℕ

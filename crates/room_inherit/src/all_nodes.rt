@@ -6,8 +6,8 @@ use crate::sound_lists::has_sound_lists;
 use room_rows::{Keep, KeepFault, Node, Nodes};
 use std::alloc::Global;
 
-/// Reads all objects. `Damaged` comes for the first number whose row can't be read or whose lists
-/// aren't sound.
+/// Reads all objects. The error is `Damaged` for the first number whose row can't be read or whose
+/// lists aren't sound.
 pub(crate) fn read_all<K: Keep>(alloc: Global, keep: &mut K) -> Result<Nodes, KeepFault>
     ensures read { Reads K.Keep keep.old keep.new result IsFirstBad AreAll }
 {
@@ -19,8 +19,8 @@ pub(crate) fn read_all<K: Keep>(alloc: Global, keep: &mut K) -> Result<Nodes, Ke
     Ok(nodes)
 }
 
-// The object of a number in use. `Damaged` comes where its row can't be read or its lists aren't
-// sound.
+// The object of a number in use. The error is `Damaged` where its row can't be read or its lists
+// aren't sound.
 fn read_sound<K: Keep>(keep: &mut K, id: u64) -> Result<Node, KeepFault>
     ensures read { Reads K.Keep keep.old keep.new result (IsBadAt id) (IsSoundAt id) }
 {

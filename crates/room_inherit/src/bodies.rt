@@ -28,7 +28,7 @@ pub(crate) fn first_bad_body<'a, K: Keep>(
     Ok(None)
 }
 
-// Whether an object of this kind may have these bytes, or none.
+// Whether an object of this kind may have these bytes, or no bytes.
 fn fits_kind(kind: ObjKind, body: &Option<Bytes>) -> bool
     ensures { result ≡ fits_kind kind body.now }
 {

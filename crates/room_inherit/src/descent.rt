@@ -12,10 +12,10 @@ use room_rows::{Keep, KeepFault, Node};
 use std::alloc::Global;
 
 // Turns that are taken before it is asked how many objects there are. A keeper may go through the
-// whole room for that, which is little beside so many turns.
+// whole room for that, which costs little beside as many turns.
 const FIRST_TURNS: usize = 65_536;
 
-/// To which children of an object it goes on.
+/// Which children of an object it goes on to.
 #[derive(Drop)]
 pub(crate) enum Reach {
     /// To those that were renewed.
@@ -24,7 +24,7 @@ pub(crate) enum Reach {
     All,
 }
 
-/// Where it begins, which of the lists is carried down, and to whom.
+/// The start, which of the lists is carried down, and which children it goes on to.
 #[derive(Drop)]
 pub(crate) struct Descent {
     pub(crate) start: u64,
@@ -87,8 +87,8 @@ fn go_down<K: Keep>(
     }
 }
 
-// Takes the last of those that wait for its turn, until none waits or so many turns were taken, and
-// says how many lists were written.
+// Takes the last of the objects that wait for its turn, until none waits or the most turns were
+// taken, and answers how many lists were written.
 fn take_turns<K: Keep>(
     alloc: Global,
     keep: &mut K,
@@ -105,7 +105,7 @@ fn take_turns<K: Keep>(
             return Ok(written);
         };
         let visited = visit(alloc, keep, descent, &above, waiting);
-        // Let go here, and so not part by part on each way out.
+        // Dropped here, and not part by part on each way out.
         drop(above);
         written = written.saturating_add(visited?);
     }

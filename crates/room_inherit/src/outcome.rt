@@ -8,19 +8,19 @@ use room_rows::KeepFault;
 use std::alloc::AllocError;
 use std::fmt;
 
-/// How many stored lists became different.
+/// How many stored lists changed.
 #[derive(Clone, Copy, Debug, PartialEq, Eq)]
 pub struct Spread {
-    /// How many, as far as the greatest u64.
+    /// How many, at most the greatest u64.
     pub changed: u64,
 }
 
 /// Why lists weren't carried down: the keeper's fault, or an object that is its own ancestor.
 #[derive(Clone, Copy, Debug, PartialEq, Eq)]
 pub enum SpreadFault {
-    /// A call of the keeper gave no answer, or there was no memory.
+    /// A call of the keeper gave no answer, or memory ran out.
     Keeper(KeepFault),
-    /// The object where it began is its own ancestor.
+    /// The object at which it began is its own ancestor.
     Loop,
 }
 

@@ -54,7 +54,7 @@ impl Objects {
         }
     }
 
-    /// The first object whose name is no object name, or has been given under its parent before.
+    /// The first object whose name is no object name, or stands under its parent already.
     pub(crate) fn first_bad_name(&self, alloc: Global) -> Result<Option<&Node>, AllocError>
         ensures { IfOk result (λ found. option_copied found
             ≡ first_failing (has_sound_name (only self.now)) (only self.now)) }
@@ -85,8 +85,8 @@ impl Objects {
         }
     }
 
-    // The first fault in the ways to the root, with the number of its object. Those of the names
-    // come behind it.
+    // The first fault in the ways to the root, with the number of its object. Faults of names come
+    // after it.
     fn fault_above(&self, alloc: Global) -> Result<Option<(u64, Unsound)>, AllocError>
         ensures { IfOk result (λ found. tree_fault (only self.now)
             ≡ or_else (option_map (λ f. Report.Fault (numbered f.0) f.1) found)

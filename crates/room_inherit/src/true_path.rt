@@ -56,7 +56,7 @@ fn path_down(alloc: Global, names: Vec<Text>) -> Result<Text, AllocError>
     Ok(Text::from_string(text))
 }
 
-// Adds the names, each behind a `/`, from the last one to the first.
+// Adds the names, each after a `/`, from the last one to the first.
 fn push_down(text: &mut String, names: Vec<Text>) -> Result<(), AllocError>
     ensures { OnOk result (string_bytes text.new
         ≡ string_bytes text.old ++ flat_map (λ name. 47 ∷ name) (reverse names.items)) }

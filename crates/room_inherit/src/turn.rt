@@ -13,9 +13,9 @@ use room_ace::Which;
 use room_rows::{Held, Keep, Node};
 use std::alloc::{AllocError, Global};
 
-/// Renews the outdated children of an object, says how many they are, and puts those that it goes
-/// on to behind the ones that wait. `Loop` comes where the object at which it began is among the
-/// linked children, before anything is written.
+/// Renews the outdated children of an object, answers how many they are, and adds those that it
+/// goes on to after the ones that wait. The error is `Loop` where the object at which it began is
+/// among the linked children, before anything is written.
 pub(crate) fn visit<K: Keep>(
     alloc: Global,
     keep: &mut K,
@@ -44,8 +44,8 @@ fn meets_again(children: &[Node], descent: &Descent, above: &Node) -> bool
         && takes_from(child, above, descent.which))
 }
 
-// Renews those that are outdated, says how many they are, and puts those that it goes on to behind
-// the ones that wait. What is passed is that of the object above, and each is in the rows.
+// Renews those that are outdated, answers how many they are, and adds those that it goes on to
+// after the ones that wait. What is passed is that of the object above, and each is in the rows.
 fn renew_all<K: Keep>(
     alloc: Global,
     keep: &mut K,
@@ -66,7 +66,7 @@ fn renew_all<K: Keep>(
     Ok(written)
 }
 
-// The same of one of them.
+// Renews one child, if it is outdated, answers 1 if it was, and adds it if it waits next.
 fn renew_next<K: Keep>(
     alloc: Global,
     keep: &mut K,
@@ -90,7 +90,7 @@ fn renew_next<K: Keep>(
     Ok(if renews { 1 } else { 0 })
 }
 
-// Renews the child, if it is outdated, here and in the rows, and says whether it was.
+// Renews the child, if it is outdated, here and in the rows, and answers whether it was.
 fn renew<K: Keep>(
     alloc: Global,
     keep: &mut K,
@@ -129,7 +129,7 @@ fn renewed_list(
     Ok(Some(held.with_inh(alloc, entries.as_slice())?))
 }
 
-// Puts the object behind the others, if it waits.
+// Adds the object after the others, if it waits.
 fn put_if(waiting: &mut Vec<Node>, node: Node, waits: bool) -> Result<(), AllocError>
     ensures { OnOk result (waiting.new.items
         ≡ waiting.old.items ++ (if waits then node ∷ [] else [])) }

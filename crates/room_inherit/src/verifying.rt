@@ -26,16 +26,17 @@ enum Holding {
 
 /// Whether the rows are sound, or the first fault of seven tests, each over all numbers in rising
 /// order: lists, root, parents, loops, names, bytes, and the law that ties stored inherited entries
-/// to the parent's list. The fault's path is `?` and a number in the first four, and in the others
-/// the true path. Nothing is written. `Damaged` comes only where the keeper contradicts itself.
+/// to the parent's list. The fault's path is `?` and a number in the first four, and the true path
+/// in the others. Nothing is written. The error is the keeper's; it is `Damaged` only where the
+/// keeper contradicts itself.
 pub fn verify<K: Keep>(alloc: Global, keep: &mut K) -> Result<Report, KeepFault>
     ensures look { Looks K.Keep keep.old keep.new result IsReport }
 {
     look_through(alloc, keep, Holding::Finished)
 }
 
-/// As `verify`, of rows that hold the kept entries alone: the last test looks for an object with a
-/// linked list that stores inherited entries. Nothing is written.
+/// As `verify`, for rows that hold the kept entries alone: the last test looks for an object with a
+/// linked list that stores inherited entries. Nothing is written. Errors are those of `verify`.
 pub fn verify_kept<K: Keep>(alloc: Global, keep: &mut K) -> Result<Report, KeepFault>
     ensures look { Looks K.Keep keep.old keep.new result IsKeptReport }
 {

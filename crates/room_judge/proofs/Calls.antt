@@ -14,7 +14,7 @@ pub record HasDone {S : Type 0} (rows : S → Rows) (Follows IsTrusted : S → S
   pub becomes : IsTrusted a b → Becomes (rows a) (rows b)
 
 module _ {S : Type 0} {rows : S → Rows} {failures : S → ℕ} {Follows IsTrusted : S → S → Type 0} where
-  -- what a call reads or writes
+  -- a call that reads is such a call, and so is one that writes
   pub of_read : {writes : S → ℕ} {X : Type 0} {a b : S} {r : Result X KeepFault} {Blames : Rows → ℕ → Type 0} {Answers : Rows → X → Type 0}
       → IsRead rows failures writes Follows IsTrusted a b r Blames Answers → IsDone rows failures Follows IsTrusted a b r Blames (λ old x new. Answers old x × (new ≡ old))
   of_read {a = a} {b = b} {r = r} {Answers = Answers} read = record { follows = read.follows; becomes = λ t. both r (read.answers t) (read.same t); fault = read.fault }
@@ -27,7 +27,7 @@ module _ {S : Type 0} {rows : S → Rows} {failures : S → ℕ} {Follows IsTrus
       → IsWrite rows failures writes Follows IsTrusted a b r Blames Becomes → IsDone rows failures Follows IsTrusted a b r Blames Becomes
   of_write write = record { follows = write.follows; becomes = write.becomes; fault = write.fault }
 
-  -- less is said of them
+  -- a weaker statement about them
   pub as_well : {X : Type 0} {a b : S} {r : Result X KeepFault} {Blames Blames' : Rows → ℕ → Type 0} {Becomes Becomes' : Rows → X → Rows → Type 0}
       → IsDone rows failures Follows IsTrusted a b r Blames Becomes → ((old : Rows) (at : ℕ) → Blames old at → Blames' old at) → ((old : Rows) (x : X) (new : Rows) → Becomes old x new → Becomes' old x new)
       → IsDone rows failures Follows IsTrusted a b r Blames' Becomes'
@@ -62,7 +62,7 @@ module _ {S : Type 0} {rows : S → Rows} {failures : S → ℕ} {Follows IsTrus
       becomes = λ t. joins (rows a) (rows b) (rows c) (before.becomes (laws.first a b c before.follows after.follows t)) (after.becomes (laws.last a b c before.follows after.follows t));
     }
 
-    -- the same, of rows with their numbers in order
+    -- the same for rows with their numbers in order
     pub then_known : {a b c : S} {Before After Becomes : Rows → Rows → Type 0} → HasDone rows Follows IsTrusted a b Before → HasDone rows Follows IsTrusted b c After
         → ((old mid new : Rows) → AreRows old → Before old mid → After mid new → Becomes old new) → HasDone rows Follows IsTrusted a c Becomes
     then_known {a = a} {b = b} {c = c} before after joins = record {
@@ -100,7 +100,7 @@ module _ {S : Type 0} {rows : S → Rows} {failures : S → ℕ} {Follows IsTrus
         cause (Err e) h = later_cause (failures a) (failures b) (failures c) e _ _ (laws.rise a b before.follows) (laws.rise b c after.follows)
             (λ at damaged t. blames (rows a) (rows b) at (before.becomes (laws.first a b c before.follows after.follows t)) (damaged (laws.last a b c before.follows after.follows t))) h
 
-    -- the same, of rows with their numbers in order
+    -- the same for rows with their numbers in order
     pub tail_known : {X : Type 0} {a b c : S} {r : Result X KeepFault} {Before : Rows → Rows → Type 0} {Blames Blames' : Rows → ℕ → Type 0} {After Becomes : Rows → X → Rows → Type 0}
         → HasDone rows Follows IsTrusted a b Before → IsDone rows failures Follows IsTrusted b c r Blames After
         → ((old mid : Rows) (at : ℕ) → AreRows old → Before old mid → Blames mid at → Blames' old at) → ((old mid : Rows) (x : X) (new : Rows) → AreRows old → Before old mid → After mid x new → Becomes old x new)
@@ -134,7 +134,7 @@ module _ {S : Type 0} {rows : S → Rows} {failures : S → ℕ} {Follows IsTrus
           (λ at damaged t. blames (rows a) (rows b) at (before.becomes (laws.first a b c before.follows after.follows t)) (damaged (laws.last a b c before.follows after.follows t))) after.fault);
     }
 
-    -- there is no memory for what comes next
+    -- memory ran out after them
     pub memory : {Y : Type 0} {a b : S} {Before : Rows → Rows → Type 0} {Blames : Rows → ℕ → Type 0} {Becomes : Rows → Y → Rows → Type 0}
         → HasDone rows Follows IsTrusted a b Before → (r : Result Y KeepFault) → IsErrAnd r (λ x. x ≡ Memory) → IsDone rows failures Follows IsTrusted a b r Blames Becomes
     memory before (Ok y) is = absurd is

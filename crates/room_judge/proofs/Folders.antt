@@ -70,7 +70,7 @@ and_false true = refl
 and_false false = refl
 
 module _ (asker : Asker) (path : List (List ℕ)) (some : 0 < length path) where
-  -- the way without its last look
+  -- the way without its last check
   way_to_front : (old : Rows) → to_stored old.read (front path) (λ _. []) ≡ way false (stored_along old.read (front path)) (front path)
   way_to_front old = ap (λ items. way false (stored_along old.read (front path)) (front path) ++ items) (none_there (site_at (stored_along old.read (front path)) (front path))) ∙ append-nil _
     where
@@ -130,7 +130,7 @@ module _ (asker : Asker) (path : List (List ℕ)) (some : 0 < length path) where
 
   -- ---- an object that has to be there
 
-  -- what may be absent is asked for last
+  -- whether the object may be absent is judged last
   module _ (old new : Rows) (answer : Option Reply) (judged : IsJudged asker (way true (stored_along old.read path) path) old answer new) where
     on_stem : (o : Option Site) → folder_along old.read path ≡ o → IsJudged asker (stem old.read path) old answer new
     on_stem None is = subst (λ items. IsJudged asker items old answer new) (way_along old.read true path some ∙ ap (λ o. stem old.read path ++ where_found o (λ site. missing old.read true (last_name path) site ∷ [])) is ∙ append-nil (stem old.read path)) judged
@@ -203,9 +203,9 @@ module _ (asker : Asker) (path : List (List ℕ)) (some : 0 < length path) where
     depth = tt;
   }
 
--- ---- as the calls give it
+-- ---- in terms of the calls
 
--- what is to be there is found, or refused
+-- what has to be there is found, or the walk is refused
 pub paired_as : (asker : Asker) (path : List (List ℕ)) (some : 0 < length path) (old new : Rows) (folder : Found) (child : Option Node) (pair : Pair) → pair ≡ pair_of path folder child → IsSpotted asker path old (Under folder child) new → IsPaired asker path old pair new
 paired_as asker path some old new folder (Some node) pair is spotted = subst (λ (p : Pair). IsPaired asker path old p new) (sym is) (pair_found asker path some old new folder node (length path) refl spotted)
 paired_as asker path some old new folder None pair is spotted = subst (λ (p : Pair). IsPaired asker path old p new) (sym is) (pair_missing asker path some old new folder (length path) (Refused path NoSuch) refl (ap (λ p. Refused p NoSuch) (sym (take-length path))) spotted)
@@ -227,7 +227,7 @@ spotted_as asker path spot other old new same spotted = subst (λ (s : Spot). Is
 pub spotted_child : (asker : Asker) (path : List (List ℕ)) (folder : Found) (child other : Option Node) (old new : Rows) → child ≡ other → IsSpotted asker path old (Under folder child) new → IsSpotted asker path old (Under folder other) new
 spotted_child asker path folder child other old new same spotted = subst (λ (o : Option Node). IsSpotted asker path old (Under folder o) new) same spotted
 
--- where a walk to the folder came to
+-- a walk to the folder, and what follows it
 pub spot_follows : (asker : Asker) (path : List (List ℕ)) (depth : ℕ) → length path ≡ depth + 1 → (arrival : Arrival) (old mid new : Rows) (spot : Spot) → IsReached asker (take depth path) (λ _. []) old arrival mid → SpotsAfter asker path depth arrival mid spot new → IsSpotted asker path old spot new
 spot_follows asker path depth deep (At node) old mid new spot reached spots =
     let some : 0 < length path = omega arith in
@@ -237,7 +237,7 @@ spot_follows asker path depth deep (Ended reply) old mid new spot reached spots 
     subst (λ (s : Spot). IsSpotted asker path old s new) (sym spots.0)
     (spot_ends asker path some old new reply (subst (λ (r : Rows). IsReached asker (front path) (λ _. []) old (Ended reply) r) (sym spots.1) (walked_front asker path depth (Ended reply) old mid deep reached)))
 
--- what was found is to be there
+-- what was found has to be there
 pub paired_in : (asker : Asker) (path : List (List ℕ)) (some : 0 < length path) (old new : Rows) (spot : Spot) (pair : Pair) → pair ≡ pair_in path spot → IsSpotted asker path old spot new → IsPaired asker path old pair new
 paired_in asker path some old new (Under folder child) pair is spotted = paired_as asker path some old new folder child pair is spotted
 paired_in asker path some old new (Barred reply) pair is spotted = subst (λ (p : Pair). IsPaired asker path old p new) (sym is) (pair_barred asker path some old new reply spotted)

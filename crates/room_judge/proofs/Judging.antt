@@ -20,7 +20,7 @@ use Rattle.room_machine.specs.Plan.{Item, Check, Deletion, Refusal}
 use Rattle.room_machine.specs.Judge.{by_adding, failure, passes, or_else, first_failure, records_of, records_of_checks, checks_of, records_of_plan}
 use Rattle.room_judge.specs.Judged.{IsJudged, noted, of_kind, is_other}
 
--- ---- records behind records
+-- ---- records after records
 
 abbrev with_audits : Rows → List AuditRow → Rows
 with_audits old audits = reading old (record old.read { audits = audits })
@@ -70,7 +70,7 @@ module _ (caller : Caller) (moment : ℤ) where
       on true = append-nil _ ∙ append-nil _
       on false = append-nil _ ∙ append-nil _
 
--- the refusal of another kind
+-- the refusal of an object of another kind
 pub kind_item : (wanted : ObjKind) (site : Site) → of_kind wanted site ≡ Refusal site.path WrongKind (is_other site.node.kind wanted)
 kind_item Document site = refl
 kind_item Folder site = ap (λ (t : Bool). Refusal site.path WrongKind t) (twice (is_document site.node.kind))
@@ -117,7 +117,7 @@ module _ (asker : Asker) where
   pub judged_as : (items : List Item) (answer other : Option Reply) (old new : Rows) → answer ≡ other → IsJudged asker items old answer new → IsJudged asker items old other new
   judged_as items answer other old new same judged = subst (λ (o : Option Reply). IsJudged asker items old o new) same judged
 
-  -- what can't be read then couldn't be read before
+  -- what can't be read afterwards couldn't be read before
   pub blames_first : (items : List Item) (answer : Option Reply) (old new : Rows) (at : ℕ) → IsJudged asker items old answer new → IsUnreadable new at → IsUnreadable old at
   blames_first items answer old new at judged h = subst (λ (r : Rows). IsUnreadable r at) judged.notes h
 

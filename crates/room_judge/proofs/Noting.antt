@@ -40,7 +40,7 @@ from_one sacl caller owners asked granted places i are below =
 abbrev pub record_for : Asker → Bool → Site → List ℕ → ℕ → AuditRow
 record_for asker granted site bits place = record_at asker.caller asker.at granted (site, bits) place
 
--- Those of the first places are noted.
+-- The records for these places are noted.
 abbrev pub Notes : Asker → Bool → Site → List ℕ → List ℕ → Rows → Rows → Type 0
 Notes asker granted site bits places old now = now ≡ noted old (map (record_for asker granted site bits) places)
 

@@ -160,7 +160,7 @@ module _ (rows : Content) where
   abbrev pub stem : List (List ℕ) → List Item
   stem path = way false (stored_along rows (front path)) (front path) ++ where_found (folder_along path) through
 
-  -- the look for the last name
+  -- the check that the last name is there
   abbrev pub last_look : Bool → List (List ℕ) → List Item
   last_look lack path = where_found (folder_along path) (λ site. missing lack (last_name path) site ∷ [])
 

@@ -26,7 +26,7 @@ grant_is : (site : Site) (v : Verdict) → is_grant v ≡ is_none (of_verdict si
 grant_is site Granted = refl
 grant_is site (DeniedWith bits place) = refl
 
--- the reply and the records of a check go by one verdict
+-- the reply and the records of a check follow from one verdict
 pub judged_by_verdict : (asker : Asker) (site : Site) (bits : List ℕ) (old new : Rows) (v : Verdict) (granted : Bool) (answer : Option Reply)
     → v ≡ verdict (full_at Dacl site) asker.caller site.node.owners bits → granted ≡ is_grant v → answer ≡ of_verdict site v
     → new ≡ noted old (records_of asker.caller asker.at granted (site, bits)) → IsJudged asker (Check site bits ∷ []) old answer new
@@ -56,7 +56,7 @@ second_is Silent Silent (Allowed place) = refl
 second_is Silent Silent (Denied place) = ap (λ t. cond t (write_data ∷ []) []) (eq-eqb place place refl)
 second_is Silent Silent Silent = refl
 
--- The reply and the records of a deletion go by one verdict.
+-- The reply and the records of a deletion follow from one verdict.
 pub judged_by_deletion : (asker : Asker) (target parent : Site) (old new : Rows) (v : DeleteVerdict) (answer : Option Reply)
     → v ≡ deletion (full_at Dacl target) target.node.owners (full_at Dacl parent) parent.node.owners asker.caller → answer ≡ of_deletion target parent v
     → new ≡ noted old (records_of_checks asker.caller asker.at (is_deletable v) ((target, delete ∷ []) ∷ (parent, second_right v) ∷ []))

@@ -69,7 +69,7 @@ name_read path names i name text are below is same = same ∙ get_or_read path i
 pub reached_blames : (asker : Asker) (path : List (List ℕ)) (items : Site → List Item) (arrival : Arrival) (old now : Rows) (at : ℕ) → IsReached asker path items old arrival now → IsUnreadable now at → IsUnreadable old at
 reached_blames asker path items arrival old now at reached h = subst (λ (r : Rows). IsUnreadable r at) reached.judged.notes h
 
--- what the look for the next name finds
+-- the check that the next name is there
 module _ (path : List (List ℕ)) (from : Found) where
   pub found_next : (old new : Rows) (name : List ℕ) (next : Node) → name ≡ name_after path from.depth → new ≡ old → Some next ≡ child_of old.read from.node.id name → FindsNext path from old (At next) new
   found_next old new name next named same is =
@@ -98,7 +98,8 @@ way_down rows path node name names = on (child_of rows node.id name)
     on None = refl
     on (Some child) = ap (λ t. through (stored_site path node) ++ Refusal (path ++ name ∷ []) NoSuch (t && not (false && is_empty names)) ∷ way false (stored_from rows (path ++ name ∷ []) child names) names) (not_empty rows (path ++ name ∷ []) child names)
 
--- So many steps are done: what is left of the way begins at this object, and so does the look for the target.
+-- n steps are done: what is left of the way begins at this object, and the target is looked up from
+-- there.
 pub record IsOnWay (asker : Asker) (path : List (List ℕ)) (from : Found) (old now : Rows) : Type 0 where
   pub so_far : SoFar asker (way false (stored_along old.read path) path) (way false (stored_from old.read (take from.depth path) from.node (drop from.depth path)) (drop from.depth path)) old now
   pub found : site_at (stored_along old.read path) path ≡ site_at (stored_from old.read (take from.depth path) from.node (drop from.depth path)) (drop from.depth path)
@@ -145,7 +146,7 @@ module _ (asker : Asker) (path : List (List ℕ)) where
     way_here : (old : Rows) → way false (stored_from old.read (take from.depth path) from.node (drop from.depth path)) (drop from.depth path) ≡ step_items old ++ items_below old
     way_here old = ap (λ names. way false (stored_from old.read (take from.depth path) from.node names) names) here ∙ way_down old.read (take from.depth path) from.node next_name names_left
 
-    -- the step is one of rows with records behind the others
+    -- the step starts from the rows with the records of the way added
     at_first : (old now : Rows) → IsOnWay asker path from old now → step_items now ≡ step_items old
     at_first old now on_way = ap (λ (r : Rows). step_items r) on_way.so_far.judged.notes
 
@@ -215,7 +216,7 @@ module _ (asker : Asker) (path : List (List ℕ)) where
     pub target_passed : (old mid new : Rows) (target : Found) → target.depth ≡ length path → IsReached asker path (λ _. []) old (At target.node) mid → IsJudged asker (items (found_site path target)) mid None new → IsReached asker path items old (At target.node) new
     target_passed old mid new target deep reached judged = record { judged = at_target old mid new target None deep reached judged; found = reached.found }
 
-    -- what the items answer is where the walk comes to
+    -- the walk comes to the object, or ends with the reply of its items
     pub reaches_with : (old mid new : Rows) (node : Node) (target : Found) (refusal : Option Reply) → target ≡ record { node = node; depth = length path } → IsReached asker path (λ _. []) old (At node) mid
         → IsJudged asker (items (found_site path target)) mid refusal new → IsReached asker path items old (arrival_of node refusal) new
     reaches_with old mid new node target None is reached judged =
@@ -238,7 +239,7 @@ step_of_front asker path n from old new arrival below step =
     items : List (List ℕ) → List ℕ → List Item
     items begin name = through (stored_site begin from.node) ++ Refusal (begin ++ name ∷ []) NoSuch (is_none (child_of old.read from.node.id name)) ∷ []
 
--- So many steps are done, or the walk has ended.
+-- n steps are done, or the walk has ended.
 abbrev pub IsWalking : Asker → List (List ℕ) → ℕ → Arrival → Rows → Rows → Type 0
 IsWalking asker path depth (At node) old now = IsOnWay asker path (record { node = node; depth = depth }) old now
 IsWalking asker path depth (Ended reply) old now = IsReached asker path (λ _. []) old (Ended reply) now

@@ -40,8 +40,8 @@ use Rattle.room_machine.specs.Step.{Step, caller_in, Reset}
 
 module _ {S : Type 0} (rows : S → Rows) (failures : S → ℕ)
     (Follows IsTrusted : S → S → Type 0) where
-  -- As long as the keeper answers by its rows, an answer tells what became of them. A fault has the
-  -- cause that those of the keeper have, and `Damaged` comes for what the relation names.
+  -- As long as the keeper answers by its rows, an answer says what became of them. A fault has the
+  -- cause that those of the keeper have, and `Damaged` names a row that the relation allows.
   pub record IsDone {X : Type 0} (old new : S) (result : Result X KeepFault)
       (Blames : Rows → ℕ → Type 0) (Becomes : Rows → X → Rows → Type 0) : Type 0 where
     pub follows : Follows old new
@@ -54,18 +54,18 @@ module _ {S : Type 0} (k : Ghosts S) {X : Type 0} (old new : S) (result : Result
   abbrev pub Does : (Rows → ℕ → Type 0) → (Rows → X → Rows → Type 0) → Type 0
   Does Blames Becomes = IsDone k.rows k.failures k.Follows k.IsTrusted old new result Blames Becomes
 
--- no row of sound rows
+-- sound rows have no such row
 abbrev pub NotSound : Rows → ℕ → Type 0
 NotSound rows at = AreSound rows → ⊥
 
 -- ---- items that are judged as they come
 
--- the rows with these records behind the others
+-- the rows with these records after the others
 abbrev pub noted : Rows → List AuditRow → Rows
 noted rows records = reading rows (with_records rows.read records)
 
--- The answer is the reply for the first item that fails, and the records of the items up to it
--- stand behind the others.
+-- The answer is the reply for the first item that fails. The records of the items up to it come
+-- after the others.
 pub record IsJudged (asker : Asker) (items : List Item) (old : Rows) (answer : Option Reply)
     (new : Rows) : Type 0 where
   pub answers : answer ≡ first_failure asker.caller items
@@ -83,8 +83,8 @@ is_deletable (MayDelete by_add) = true
 is_deletable (AtTarget place) = false
 is_deletable (AtParent bits place) = false
 
--- What the second check of a deletion asks on the parent: what adding or the parent decided by, and
--- else DELETE_CHILD.
+-- The right that the second check of a deletion asks of the parent: the one by which adding or the
+-- parent decided, or else DELETE_CHILD.
 abbrev pub second_right : DeleteVerdict → List ℕ
 second_right (MayDelete by_add) = (if by_add then write_data else delete_child) ∷ []
 second_right (AtTarget place) = delete_child ∷ []
@@ -100,7 +100,7 @@ abbrev pub IfAt : Arrival → (Node → Type 0) → Type 0
 IfAt (At node) P = P node
 IfAt (Ended reply) P = Unit {0}
 
--- the name of a path after so many others
+-- the name of a path that comes after n others
 abbrev pub name_after : List (List ℕ) → ℕ → List ℕ
 name_after path depth = slice_index_or path depth []
 
@@ -142,7 +142,7 @@ pub record IsStepDown (asker : Asker) (path : List (List ℕ)) (from : Found) (o
   pub judged : IsJudged asker (step_items path from old) old (ended arrival) new
   pub found : IfAt arrival (λ next. child_below path from old ≡ Some next)
 
--- One more step of a walk that has come after so many names; one that has ended stays where it is.
+-- One more step of a walk that has come past n names. A walk that has ended stays where it is.
 abbrev pub StepsOn : Asker → List (List ℕ) → ℕ → Arrival → Rows → Arrival → Rows → Type 0
 StepsOn asker path depth (At node) old next new =
     IsStepDown asker path (record { node = node; depth = depth }) old next new
@@ -155,7 +155,7 @@ pub record IsReached (asker : Asker) (path : List (List ℕ)) (items : Site → 
   pub found : IfAt arrival
       (λ target. site_at (stored_along old.read path) path ≡ Some (stored_site path target))
 
--- what becomes and what can't be read, where the node that was read before is the root
+-- the relation holds where the node that was read before is the root
 abbrev pub FromRoot : {X : Type 0} → Node → (Rows → X → Rows → Type 0) → Rows → X → Rows → Type 0
 FromRoot root Becomes old x new = root_of old.read ≡ Some root → Becomes old x new
 
@@ -167,19 +167,19 @@ abbrev pub arrival_of : Node → Option Reply → Arrival
 arrival_of node None = At node
 arrival_of node (Some reply) = Ended reply
 
--- an object is of another kind than is wanted
+-- the object isn't of the wanted kind
 abbrev pub is_other : ObjKind → ObjKind → Bool
 is_other kind Document = not (is_document kind)
 is_other kind Folder = is_document kind
 
--- the refusal of another kind
+-- the refusal of an object of another kind
 abbrev pub of_kind : ObjKind → Site → Item
 of_kind Document site = no_folder site
 of_kind Folder site = no_document site
 
 -- ---- a request
 
--- the asker has the groups that the rows give
+-- the asker has the groups of the rows
 abbrev pub IsKnown : Asker → Rows → Type 0
 IsKnown asker rows = asker.caller ≡ caller_in rows.read asker.caller.user
 

@@ -1,4 +1,4 @@
--- Where a walk to the folder of a path's last name comes to.
+-- The results of walks to the folder of a path's last name.
 use Rattle.std.specs.Prelude.{◌≡◌, ℕ, List, Option, Some, None, length, false, true}
 use Rattle.std.specs.Option.{option_map}
 use Rattle.room_rows.specs.declared.node.Node.{Node}
@@ -27,7 +27,8 @@ abbrev pub IfUnder : Spot → (Found → Option Node → Type 0) → Type 0
 IfUnder (Under folder child) P = P folder child
 IfUnder (Barred reply) P = Unit {0}
 
--- The way to the folder of the last name, which lets through, and what has that name in it.
+-- The way to the folder of the last name, and what has that name in it. The folder has to grant
+-- EXECUTE.
 pub record IsSpotted (asker : Asker) (path : List (List ℕ)) (old : Rows) (spot : Spot)
     (new : Rows) : Type 0 where
   pub judged : IsJudged asker (way true (stored_along old.read path) path) old (barred spot) new
@@ -54,14 +55,14 @@ pub record IsPaired (asker : Asker) (path : List (List ℕ)) (old : Rows) (pair 
       site_at (stored_along old.read path) path ≡ Some (stored_site path target.node))
   pub depth : IfBoth pair (λ folder target. target.depth ≡ length path)
 
--- The folder lets through, and what has the next name in it is found.
+-- The folder grants EXECUTE, and what has the next name in it is found.
 pub record SpotsUnder (asker : Asker) (path : List (List ℕ)) (from : Found) (old : Rows)
     (spot : Spot) (new : Rows) : Type 0 where
   pub judged : IsJudged asker (through (found_site path from)) old (barred spot) new
   pub folder : IfUnder spot (λ folder child. folder ≡ from)
   pub child : IfUnder spot (λ folder child. child ≡ child_below path from old)
 
--- The same where a walk came to the folder; one that has ended stays so.
+-- The same after a walk to the folder. A walk that has ended stays so.
 abbrev pub SpotsAfter : Asker → List (List ℕ) → ℕ → Arrival → Rows → Spot → Rows → Type 0
 SpotsAfter asker path depth (At node) old spot new =
     SpotsUnder asker path (record { node = node; depth = depth }) old spot new
@@ -76,7 +77,7 @@ abbrev pub pair_of : List (List ℕ) → Found → Option Node → Pair
 pair_of path folder (Some node) = Both folder (record { node = node; depth = length path })
 pair_of path folder None = Halted (Refused path NoSuch)
 
--- the same of what was found at the spot
+-- the same for what was found at the spot
 abbrev pub pair_in : List (List ℕ) → Spot → Pair
 pair_in path (Under folder child) = pair_of path folder child
 pair_in path (Barred reply) = Halted reply

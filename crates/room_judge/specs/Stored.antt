@@ -26,7 +26,7 @@ stored_from rows path node (name ∷ names) =
 abbrev pub stored_along : Content → List (List ℕ) → List Site
 stored_along rows path = option_map_or (λ root. stored_from rows [] root path) (root_of rows) []
 
--- an object that was found after so many names of a path
+-- an object that was found after n names of a path
 abbrev pub found_site : List (List ℕ) → Found → Site
 found_site path found = stored_site (take found.depth path) found.node
 

@@ -1,4 +1,4 @@
-//! Where a walk comes to.
+//! The results of walks.
 
 use room_machine::Reply;
 use room_rows::Node;
@@ -12,28 +12,28 @@ pub struct Found {
     pub depth: usize,
 }
 
-/// Where a walk along a path comes to.
+/// The result of a walk along a path.
 #[derive(Drop)]
 pub enum Arrival {
-    /// The object that the names lead to. Every object before it has let through.
+    /// The object that the names lead to. Every object before it is a folder that grants EXECUTE.
     At(Node),
     /// The reply that ends the walk, since something on the way is refused or denied.
     Ended(Reply),
 }
 
-/// Where a walk to the folder of a path's last name comes to.
+/// The result of a walk to the folder of a path's last name.
 #[derive(Drop)]
 pub enum Spot {
-    /// The folder, which has let through, and what has the last name in it, if anything has.
+    /// The folder, which grants EXECUTE, and what has the last name in it, if anything has.
     Under { folder: Found, child: Option<Node> },
     /// The reply that ends the walk.
     Barred(Reply),
 }
 
-/// Where a walk to an object and its folder comes to.
+/// The result of a walk to an object and its folder.
 #[derive(Drop)]
 pub enum Pair {
-    /// The folder, which has let through, and the object at the path.
+    /// The folder, which grants EXECUTE, and the object at the path.
     Both { folder: Found, target: Found },
     /// The reply that ends the walk, also where there is no object.
     Halted(Reply),

@@ -12,14 +12,14 @@ use std::alloc::{AllocError, Global};
 /// Who asks, and when.
 #[derive(Drop)]
 pub struct Asker {
-    /// The caller, with the groups that the rooms know of.
+    /// The caller, with its groups in the room.
     pub caller: Caller,
-    /// The moment of the request, in seconds from 1970-01-01 00:00 UTC. Records bear it.
+    /// The moment of the request, in seconds from 1970-01-01 00:00 UTC. It is written into records.
     pub at: i64,
 }
 
-/// The caller of this name with the groups that are paired with it, or one without a name, who is
-/// in no group. A fault is the keeper's, or want of memory.
+/// The caller of this name with the groups that are paired with it, or a caller without a name, who
+/// is in no group. The error is the keeper's, or that memory ran out.
 pub fn caller_of<K: Keep>(
     alloc: Global,
     keep: &mut K,

@@ -15,7 +15,7 @@ use room_machine::{Reason, Reply};
 use room_rows::{AuditRow, Keep, KeepFault, Path, RecordKind, Text};
 use std::alloc::{AllocError, Global};
 
-/// The refusal at the object after so many names of the path. It fails for want of memory alone.
+/// The refusal at the object after this many names of the path. The only error is out of memory.
 pub fn refused(alloc: Global, path: &Path, depth: usize, why: Reason) -> Result<Reply, AllocError>
     ensures { IfOk result (λ reply. reply ≡ Refused (take depth path.now) why) }
 {
@@ -59,7 +59,7 @@ fn entry_copy(entries: &[Entry], place: Option<usize>) -> Result<Option<Entry>, 
     }
 }
 
-// The reply of a verdict on the object's dacl.
+// The reply for a verdict on the object's dacl.
 fn denial(
     alloc: Global,
     path: &Path,
@@ -153,7 +153,7 @@ pub(crate) fn note_check<K: Keep>(
 }
 
 /// One check of these bits on the object: the denial where its dacl doesn't grant them all. The
-/// records that its sacl calls for are noted. A fault is the keeper's, or want of memory.
+/// records that its sacl calls for are noted. The error is the keeper's, or that memory ran out.
 pub fn check<K: Keep>(
     alloc: Global,
     keep: &mut K,

@@ -54,7 +54,7 @@ fn is_deletable(verdict: &DeleteVerdict) -> bool
     }
 }
 
-// What the second check of a deletion asks on the parent.
+// The right that the second check of a deletion asks of the parent.
 fn second_right(verdict: &DeleteVerdict) -> Mask
     ensures { result ≡ second_right verdict.now }
 {
@@ -90,7 +90,7 @@ fn note_deletion<K: Keep>(
 
 /// The deletion rule on an object and its parent: the denial where neither list lets the caller
 /// delete it. The records of its two checks, of DELETE on the object and of the right that decides
-/// on the parent, are noted. A fault is the keeper's, or want of memory.
+/// on the parent, are noted. The error is the keeper's, or that memory ran out.
 pub fn check_deletion<K: Keep>(
     alloc: Global,
     keep: &mut K,

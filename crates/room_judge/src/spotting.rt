@@ -21,9 +21,9 @@ use room_machine::Reason;
 use room_rows::{Keep, KeepFault, Node, Path};
 use std::alloc::{AllocError, Global};
 
-/// The walk to the folder of the path's last name, which has to let through, and what has that name
-/// in it. The path isn't the root's. A fault is the keeper's, or want of memory; where there is no
-/// root it is `Damaged { id: 0 }`.
+/// The walk to the folder of the path's last name, and what has that name in it. The folder has to
+/// grant EXECUTE. The path isn't the root's. The error is the keeper's, or that memory ran out;
+/// where there is no root it is `Damaged { id: 0 }`.
 pub fn walk_to_spot<K: Keep>(
     alloc: Global,
     keep: &mut K,
@@ -38,7 +38,7 @@ pub fn walk_to_spot<K: Keep>(
     spot_after(alloc, keep, asker, path, depth, arrival)
 }
 
-/// The walk to an object that has to be there, and to its folder. The path isn't the root's. Faults
+/// The walk to an object that has to be there, and to its folder. The path isn't the root's. Errors
 /// are those of `walk_to_spot`.
 pub fn walk_to_pair<K: Keep>(
     alloc: Global,
@@ -53,7 +53,8 @@ pub fn walk_to_pair<K: Keep>(
     Ok(pair_in(alloc, path, spot)?)
 }
 
-/// The same walk from a root that was read already. A fault is the keeper's, or want of memory.
+/// As `walk_to_pair`, from a root that was read already. The error is the keeper's, or that memory
+/// ran out.
 pub fn walk_to_pair_from<K: Keep>(
     alloc: Global,
     keep: &mut K,
@@ -105,7 +106,7 @@ fn pair_under(
     }
 }
 
-// What has the last name of the path where the walk came to. One that has ended stays so.
+// What has the last name of the path after this walk. A walk that has ended stays so.
 fn spot_after<K: Keep>(
     alloc: Global,
     keep: &mut K,
@@ -124,7 +125,7 @@ fn spot_after<K: Keep>(
     }
 }
 
-// What has the last name of the path in this folder, which has to let through.
+// What has the last name of the path in this folder, which has to grant EXECUTE.
 fn spot_under<K: Keep>(
     alloc: Global,
     keep: &mut K,

@@ -28,7 +28,7 @@ use room_rows::{Keep, KeepFault, Path};
 use std::alloc::Global;
 
 /// Passes through an object on the way: the reply where it is no folder or doesn't grant EXECUTE.
-/// Its records are noted. A fault is the keeper's, or want of memory.
+/// Its records are noted. The error is the keeper's, or that memory ran out.
 pub fn pass_through<K: Keep>(
     alloc: Global,
     keep: &mut K,
@@ -45,7 +45,8 @@ pub fn pass_through<K: Keep>(
     }
 }
 
-// One step down the way: the child of the next name, behind the object that has to let through.
+// One step down the way: the child of the next name, where the object is a folder that grants
+// EXECUTE.
 fn step_down<K: Keep>(
     alloc: Global,
     keep: &mut K,
@@ -98,7 +99,8 @@ fn find_next<K: Keep>(
     }
 }
 
-// One more step of a walk that has come after so many names. One that has ended stays where it is.
+// One more step of a walk that has come past this many names. A walk that has ended stays where it
+// is.
 fn step_on<K: Keep>(
     alloc: Global,
     keep: &mut K,
@@ -117,7 +119,7 @@ fn step_on<K: Keep>(
     }
 }
 
-// The walk from the root to the object after so many names, one at least.
+// The walk from the root to the object after this many names, one at least.
 fn walk_down<K: Keep>(
     alloc: Global,
     keep: &mut K,
@@ -140,9 +142,9 @@ fn walk_down<K: Keep>(
     Ok(arrival)
 }
 
-/// The walk to the object after so many names of the path, as far as it is let through. There are
-/// as many names. A fault is the keeper's, or want of memory; where there is no root it is `Damaged
-/// { id: 0 }`.
+/// The walk to the object after this many names of the path, as far as the caller may pass. The
+/// path has as many names. The error is the keeper's, or that memory ran out; where there is no
+/// root it is `Damaged { id: 0 }`.
 pub fn walk_along<K: Keep>(
     alloc: Global,
     keep: &mut K,
@@ -162,7 +164,8 @@ pub fn walk_along<K: Keep>(
     walk_down(alloc, keep, asker, path, depth, &Found { node, depth: 0 })
 }
 
-/// The same walk from a root that was read already. A fault is the keeper's, or want of memory.
+/// As `walk_along`, from a root that was read already. The error is the keeper's, or that memory
+/// ran out.
 pub fn walk_from<K: Keep>(
     alloc: Global,
     keep: &mut K,
@@ -184,7 +187,7 @@ pub fn walk_from<K: Keep>(
     walk_down(alloc, keep, asker, path, depth, root)
 }
 
-/// The walk to the object at the path, as far as it is let through. Faults are those of
+/// The walk to the object at the path, as far as the caller may pass. Errors are those of
 /// `walk_along`.
 pub fn walk_to<K: Keep>(
     alloc: Global,
@@ -198,7 +201,7 @@ pub fn walk_to<K: Keep>(
     walk_along(alloc, keep, asker, path, path.names().len())
 }
 
-/// The walk to the object at the path, and a check of these bits on it. Faults are those of
+/// The walk to the object at the path, and a check of these bits on it. Errors are those of
 /// `walk_along`.
 pub fn reach<K: Keep>(
     alloc: Global,
@@ -235,7 +238,7 @@ fn arrival_at(found: Found, refusal: Option<Reply>) -> Arrival
 }
 
 /// The walk to the object at the path, which has to be of this kind, and a check of these bits on
-/// it. Faults are those of `walk_along`.
+/// it. Errors are those of `walk_along`.
 pub fn reach_kind<K: Keep>(
     alloc: Global,
     keep: &mut K,
@@ -262,7 +265,7 @@ pub fn reach_kind<K: Keep>(
 }
 
 /// The object has to be of this kind and to grant these bits: the reply where it isn't or doesn't.
-/// The records of the check are noted. A fault is the keeper's, or want of memory.
+/// The records of the check are noted. The error is the keeper's, or that memory ran out.
 pub fn check_kind<K: Keep>(
     alloc: Global,
     keep: &mut K,

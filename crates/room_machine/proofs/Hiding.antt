@@ -24,7 +24,7 @@ use Rattle.room_machine.specs.Step.{caller_in}
 use Rattle.room_machine.specs.Laws.{first_path, Hides}
 use Rattle.room_machine.proofs.Replies.{or_reply, reply_of, same_caller}
 
--- the way as far as the check of EXECUTE on the object after so many names
+-- the way as far as the check of EXECUTE on the object after n names
 abbrev way_as_far : ℕ → List Site → List (List ℕ) → List Item
 way_as_far n [] names = []
 way_as_far n (site ∷ sites) [] = []
@@ -46,7 +46,7 @@ empty_take : (n : ℕ) (sites : List Site) → is_empty (take (suc n) sites) ≡
 empty_take n [] = refl
 empty_take n (site ∷ sites) = refl
 
--- the way as far as an object shows no more than the objects down to it
+-- the way as far as an object depends on the objects down to it alone
 far_take : (n : ℕ) (sites : List Site) (names : List (List ℕ)) → way_as_far n (take (suc n) sites) names ≡ way_as_far n sites names
 far_take zero [] names = refl
 far_take zero (site ∷ sites) [] = refl
@@ -62,7 +62,8 @@ same_far n chain other names same =
     let suc_same : take (suc n) chain ≡ take (suc n) other = rw add-one at same in
     sym (far_take n (sites_of chain) names) ∙ ap (λ sites. way_as_far n sites names) (sym (take_sites (suc n) chain) ∙ ap sites_of suc_same ∙ take_sites (suc n) other) ∙ far_take n (sites_of other) names
 
--- a denial on the way as far as an object is the first failure of each plan that begins by the way
+-- a denial on the way as far as an object is the first failure of each plan that begins with the
+-- way
 module _ (caller : Caller) (lack : Bool) (rest : List Item) (at : List (List ℕ)) (bits : List ℕ) (place : Option ℕ) (entry : Option Ace) where
   abbrev denial : Option Reply
   denial = Some (Denied at bits place entry)
@@ -108,7 +109,7 @@ module _ (caller : Caller) (lack : Bool) (rest : List Item) (at : List (List ℕ
       ap (λ t. or_else (cond (t && not (lack && is_empty names)) (Some (Refused (site.path ++ name ∷ []) NoSuch)) None) behind) there.0
       ∙ denied_first n sites names there.1)
 
--- the plan of a request with a path begins by the way
+-- the plan of a request with a path begins with the way
 module _ (b : Content) (caller : Caller) (n : ℕ) (at : List (List ℕ)) (bits : List ℕ) (place : Option ℕ) (entry : Option Ace) where
   abbrev IsDenied : Request → Type 0
   IsDenied request = first_failure caller (way_as_far n (sites_along b (first_path request)) (first_path request)) ≡ Some (Denied at bits place entry)
@@ -135,7 +136,7 @@ module _ (b : Content) (caller : Caller) (n : ℕ) (at : List (List ℕ)) (bits 
   plan_denied (SetOwners path owners) is = denied_first caller false _ at bits place entry n (sites_along b path) path is
   plan_denied (Can path mask) is = denied_first caller false _ at bits place entry n (sites_along b path) path is
 
--- where the way is denied, it is denied as far as an object
+-- where the way is denied, it is denied at an object on it
 module _ (caller : Caller) (lack : Bool) (at : List (List ℕ)) (bits : List ℕ) (place : Option ℕ) (entry : Option Ace) where
   abbrev denied : Option Reply
   denied = Some (Denied at bits place entry)

@@ -65,7 +65,7 @@ module _ (a b : Content) (user : Option (List ℕ)) (groups : groups_for a user 
   abbrev same_parts : Site → Type 0
   same_parts site = (body_of a site.node.id ≡ body_of b site.node.id) × (children_of a site.node.id ≡ children_of b site.node.id)
 
-  -- a plan and a reply that the objects along the path give alone
+  -- a plan and a reply that depend on the objects along the path alone
   read_same : (path : List (List ℕ)) (items : Site → List Item) (f g : Site → Reply × Content) → walk_of a path ≡ walk_of b path → IfSome (site_at (sites_along a path) path) (λ site. (f site).0 ≡ (g site).0)
       → or_reply (first_failure first_caller (to_target a path items)) (with_site a (site_at (sites_along a path) path) f).0 ≡ or_reply (first_failure second_caller (to_target b path items)) (with_site b (site_at (sites_along b path) path) g).0
   read_same path items f g walk same =

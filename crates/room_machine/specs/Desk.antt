@@ -6,8 +6,8 @@ use Rattle.room_machine.specs.declared.reply.Reply.{Reply}
 use Rattle.room_machine.specs.declared.request.Request.{Request}
 use Rattle.room_machine.specs.Step.{Step}
 
--- A reply is that of a step, from what was kept to what is kept then, and a fault leaves what was
--- kept.
+-- A reply is that of a step from the content before to the content after. A fault leaves the
+-- content as it was.
 abbrev pub Steps : {E : Type 0} → (Content → Type 0) → Option (List ℕ) → ℤ → Request
     → Result Reply E → (Content → Type 0) → Type 0
 Steps old user moment request (Ok reply) new = (room : Content) → old room → (next : Content)

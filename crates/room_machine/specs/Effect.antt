@@ -1,5 +1,5 @@
--- The reply to a request whose plan passes, and the change that it makes (own; what is linked: RFC
--- 8881, section 6.4.3).
+-- The reply to a request whose plan passes, and the change that it makes (own; which lists are
+-- linked: RFC 8881, section 6.4.3).
 use Rattle.std.specs.Prelude.{ℕ, ◌&&◌, Bool, false, not, List, [], ◌∷◌, ◌++◌, map, Option, Some}
 use Rattle.std.specs.Prelude.{None, unwrap_or, if◌then◌else◌}
 use Rattle.std.specs.Option.{option_map, option_map_or}
@@ -87,8 +87,8 @@ sent_held above sent = let held : Held =
     record { flags = sent.flags; own = own_of sent.entries; inh = inherited_of sent.entries } in
     if is_linked held above then record held { inh = [] } else held
 
--- Where AUTO_INHERIT goes, each child that isn't protected keeps what it inherited. Where it comes,
--- such a child keeps nothing of its own.
+-- Where AUTO_INHERIT is cleared, each child that isn't protected keeps what it inherited. Where it
+-- is set, such a child keeps nothing of its own.
 abbrev pub kept_by_child : Bool → Bool → ObjKind → List Ace → Held → Held
 kept_by_child before after kind full held =
     if held.flags.protect then held else
@@ -108,7 +108,7 @@ set_list content which sent folder target =
 
 -- ---- all requests
 
--- what a request does with an object that its plan has found
+-- what a request does with the object that its plan has found
 abbrev pub with_site : Content → Option Site → (Site → Reply × Content) → Reply × Content
 with_site content found act = option_map_or act found (Done, content)
 
@@ -120,7 +120,7 @@ put_bytes content caller id path bytes None parent = with_site content parent (�
     let made = with_node content (new_node id caller Document folder (last_name path)) in
     (Made, with_body made id bytes))
 
--- the same with the object at a path
+-- what a request does with the object at a path
 abbrev pub with_target : Content → List (List ℕ) → (Site → Reply × Content) → Reply × Content
 with_target content path act = with_site content (site_at (sites_along content path) path) act
 

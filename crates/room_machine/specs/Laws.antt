@@ -76,7 +76,7 @@ chain_to at content path = take (length at + 1) (walk_of content path).chain
 
 -- On hiding: where the way to a request's first path is denied at an object, the reply is that
 -- denial in every content with the same objects down to it and the same groups of the caller. What
--- lies behind doesn't show.
+-- lies below doesn't show.
 abbrev pub Hides : Type 0
 Hides =
     (a b : Content) (user : Option (List ℕ)) (moment : ℤ) (request : Request) (may_lack : Bool)

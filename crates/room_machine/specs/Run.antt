@@ -20,7 +20,7 @@ Happens content (Asked user moment request reply) after =
 Happens content (WasReset path which sent reply) after = Reset content path which sent reply after
 Happens content (Replaced pairs) after = ReplaceMembers content pairs after
 
--- One event after another leads from a content to another.
+-- From one content to another by these events, one after the other.
 abbrev pub Run : Content → List Event → Content → Type 0
 Run content [] after = after ≡ content
 Run content (event ∷ events) after = (mid : Content) × Happens content event mid

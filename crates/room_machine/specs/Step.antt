@@ -13,7 +13,7 @@ use Rattle.room_machine.specs.Plan.{Item, Check, Deletion, Refusal, plan_of}
 use Rattle.room_machine.specs.Judge.{first_failure, records_of_plan}
 use Rattle.room_machine.specs.Effect.{effect}
 
--- the caller of this name, or without one, with the groups that the content gives
+-- the caller of this name, or without one, with the groups of the content
 abbrev pub caller_in : Content → Option (List ℕ) → Caller
 caller_in content user = record { user = user; groups = groups_for content user }
 
@@ -50,8 +50,8 @@ is_refusal (Check site bits) = false
 is_refusal (Deletion target parent) = false
 is_refusal (Refusal at why holds) = true
 
--- A list is set as by a request, with the refusals of its plan alone. It asks no bits and leaves no
--- record.
+-- A list is set as by a request, with the refusals of its plan alone. No rights are checked, and no
+-- record is left.
 abbrev pub reset : Content → List (List ℕ) → Which → Sent → Reply × Content
 reset content path which sent =
     let caller : Caller = record { user = None; groups = [] } in
@@ -61,6 +61,6 @@ reset content path which sent =
 abbrev pub Reset : Content → List (List ℕ) → Which → Sent → Reply → Content → Type 0
 Reset content path which sent reply after = reset content path which sent ≡ (reply, after)
 
--- The set of pairs becomes the one that is given.
+-- The pairs are replaced by the given ones.
 abbrev pub ReplaceMembers : Content → List (List ℕ × List ℕ) → Content → Type 0
 ReplaceMembers content pairs after = after ≡ with_members content pairs

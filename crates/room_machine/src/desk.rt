@@ -9,27 +9,28 @@ use crate::request::Request;
 use room_ace::Name;
 use std::alloc::Global;
 
-/// The desk could not answer, for want of memory or by a fault of its store.
+/// The desk could not answer: memory ran out, or its store failed.
 #[derive(Debug, Drop)]
 pub struct DeskFault;
 
 /// What answers requests.
 pub trait Desk {
-    // This is what the desk keeps, as far as it can still tell.
+    // This is what the desk keeps, as far as it is known.
     ghost content: { Self → Content → Type 0 };
 
-    // What the desk keeps is in good order.
+    // What the desk keeps is sound.
     ghost sound: { Self → Type 0 };
 
-    // What the desk writes on has given back, up to now, what was written. It is known of a later
-    // state first.
+    // Up to now, storage has returned what the desk wrote there. It is known of a later state
+    // first.
     ghost trusted: { Self → Type 0 };
 
-    // How often `run` has answered a fault, as far as a count of 64 bits goes.
+    // How often `run` has answered a fault, at most the greatest number of 64 bits.
     ghost faults: { Self → ℕ };
 
     /// Carries out one request of a caller, who is anonymous without a name, at a moment in seconds
-    /// from 1970-01-01 00:00 UTC. A fault leaves what is kept as it was.
+    /// from 1970-01-01 00:00 UTC. A denial or a refusal is a reply. The error is a fault of the
+    /// desk, which leaves what is kept as it was.
     fn run(
         &mut self,
         alloc: Global,

@@ -13,7 +13,7 @@ pub fn reads_only()
     ensures { ReadsOnly }
 {}
 
-/// Where the way to a request's path is denied, what lies behind doesn't show.
+/// Where the way to a request's path is denied, what lies below doesn't show.
 pub fn hides()
     ensures { Hides }
 {}

@@ -60,7 +60,7 @@ impl Rulings {
     }
 }
 
-/// What a caller is told.
+/// The reply to a caller.
 #[derive(Drop)]
 pub enum Reply {
     /// The bytes of a document.
@@ -73,19 +73,19 @@ pub enum Reply {
     Attr(ObjKind, Owners),
     /// What the dacl says of each bit that was asked.
     Rulings(Rulings),
-    /// An object was made.
+    /// A new object was made.
     Made,
-    /// It was done.
+    /// The change was made.
     Done,
-    /// The object at this path doesn't grant these bits, by the entry at the place, counted from 1,
-    /// or since no entry grants them.
+    /// The object at this path doesn't grant these bits, because of the entry at the place, counted
+    /// from 1, or because no entry grants them.
     Denied {
         at: Path,
         bits: Mask,
         place: Option<usize>,
         entry: Option<Entry>,
     },
-    /// The request can't be carried out, for what was found at this path.
+    /// The request can't be carried out, because of what was found at this path.
     Refused {
         at: Path,
         why: Reason,

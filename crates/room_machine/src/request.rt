@@ -12,7 +12,7 @@ pub enum Request {
     List(Path),
     /// A document gets these bytes in place of those it has, or is made with them.
     Put(Path, Bytes),
-    /// A document gets these bytes behind those it has.
+    /// A document gets these bytes after those it has.
     Append(Path, Bytes),
     /// A folder is made.
     MakeFolder(Path),
@@ -20,7 +20,7 @@ pub enum Request {
     Remove(Path),
     /// An object gets the place and the name that the second path says.
     Move(Path, Path),
-    /// One list of an object, as it counts there.
+    /// One list of an object, with its inherited entries.
     ReadList(Path, Which),
     /// One list of an object is replaced.
     SetList(Path, Which, SentList),
@@ -28,6 +28,6 @@ pub enum Request {
     ReadAttr(Path),
     /// The owner and the owning group of an object are replaced.
     SetOwners(Path, Owners),
-    /// What an object's dacl says of each of these bits to the caller.
+    /// The ruling of an object's dacl on each of these bits for the caller.
     Can(Path, Mask),
 }

@@ -14,7 +14,7 @@ use Rattle.room_machine.specs.Step.{Step}
 abbrev pub content_in : MemKeep → Content
 content_in keep = meaning (rows_in keep).read
 
--- Its rows are sound, and stand as those of every keeper do.
+-- Its rows are sound, and meet what holds of every keeper's rows.
 abbrev pub IsSoundKeep : MemKeep → Type 0
 IsSoundKeep keep = AreSound (rows_in keep) × AreRows (rows_in keep)
 

@@ -11,8 +11,8 @@ use room_rows::KeepFault;
 use room_tree::MemKeep;
 use std::alloc::Global;
 
-/// A desk over a keeper in memory. It carries out each request on a copy, and takes the copy over
-/// where there was no fault.
+/// A desk over a keeper in memory. It carries out each request on a copy, and the copy replaces the
+/// keeper where there was no fault.
 #[derive(Drop)]
 pub struct MemDesk {
     keep: MemKeep,
@@ -20,7 +20,7 @@ pub struct MemDesk {
 }
 
 impl MemDesk {
-    /// A desk that keeps what the keeper holds, and has had no fault.
+    /// A desk over this keeper, which has had no fault.
     pub fn new(keep: MemKeep) -> MemDesk
         ensures keeps { result.keep ≡ keep }
         ensures faults { result.faults ≡ 0 }
@@ -28,14 +28,14 @@ impl MemDesk {
         MemDesk { keep, faults: 0 }
     }
 
-    /// What holds the content.
+    /// The keeper that holds the content.
     pub fn keep(&self) -> &MemKeep
         ensures { result.now ≡ self.now.keep }
     {
         &self.keep
     }
 
-    /// What holds the content, without the desk.
+    /// The keeper that holds the content, without the desk.
     pub fn into_keep(self) -> MemKeep
         ensures { result ≡ self.keep }
     {
@@ -90,7 +90,7 @@ impl Desk for MemDesk {
     ghost keeps = { λ desk. (content_in desk.keep, refl) };
 }
 
-// One more than the count, as long as there are numbers.
+// One more than the count. At the greatest u64 the count stays there.
 fn one_more(count: u64) -> u64
     ensures { result ≡ one_more count }
 {

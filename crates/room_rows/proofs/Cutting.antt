@@ -63,7 +63,7 @@ full_first : (b : ℕ) (parts : List (List ℕ)) → names_in ([] ∷ onto_first
 full_first b [] = refl
 full_first b (p ∷ parts) = refl
 
--- one `/` at the start, and something behind it
+-- one `/` at the start, and something after it
 pub slash_first : (rest : List ℕ) → 0 < length rest → names_in (pieces 47 (47 ∷ rest)) ≡ object_names (pieces 47 rest)
 slash_first [] some = absurd (omega (arith, some))
 slash_first (b ∷ bs) some = elim (cases_Bool (b == 47)) [

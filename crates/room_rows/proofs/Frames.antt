@@ -100,14 +100,14 @@ children_of-contains content id child found parent =
 
 -- ---- an object put
 
--- its number then leads to it, whether it was in use or not
+-- it is found by its number, whether that was in use or not
 pub node_at-with_node : (content : Content) (node : Node) → node_at (with_node content node) node.id ≡ Some node
 node_at-with_node content node = lookups.find-put_same node content.nodes
 
 pub node_at-with_node-other : (content : Content) (node : Node) (id : ℕ) → (id ≡ node.id → ⊥) → node_at (with_node content node) id ≡ node_at content id
 node_at-with_node-other content node id other = lookups.find-put_other node content.nodes id other
 
--- of two with one number the later stays
+-- of two with the same number the later one stays
 pub with_node-with_node : (content : Content) (first second : Node) → first.id ≡ second.id → with_node (with_node content first) second ≡ with_node content second
 with_node-with_node content first second same = ap (λ (nodes : List Node). record content { nodes = nodes }) (lookups.put-put first second content.nodes same)
 
@@ -123,7 +123,7 @@ child_of-added content node id parent none =
 pub child_of-added-other : (content : Content) (node : Node) (id : ℕ) (name : List ℕ) → node_at content node.id ≡ None → (has_parent id node && same_text node.name name) ≡ false → child_of (with_node content node) id name ≡ child_of content id name
 child_of-added-other content node id name unused isnt = lookups.find-put_failing (λ (n : Node). has_parent id n && same_text n.name name) node content.nodes isnt unused
 
--- ---- an object taken away
+-- ---- an object removed
 
 pub node_at-without_node : (content : Content) (id : ℕ) → node_at (without_node content id) id ≡ None
 node_at-without_node content id = lookups.find-kept_gone (λ (n : Node). n.id == id) (λ (n : Node). not (n.id == id)) content.nodes (λ n is. not_from_true (n.id == id) is)
@@ -132,7 +132,7 @@ pub node_at-without_node-other : (content : Content) (id other : ℕ) → (other
 node_at-without_node-other content id other isnt =
     lookups.find-kept_all (λ (n : Node). n.id == other) (λ (n : Node). not (n.id == id)) content.nodes (λ n is. not_from_false (n.id == id) (ne_eqb n.id id (λ e. isnt (sym (eqb-true n.id other is) ∙ e))))
 
--- a root and a child of another number stay, and no child comes
+-- a root and a child of another number stay, and no child is added
 pub root_of-without_node : (content : Content) (id : ℕ) (root : Node) → root_of content ≡ Some root → (root.id ≡ id → ⊥) → root_of (without_node content id) ≡ Some root
 root_of-without_node content id root found isnt =
     lookups.find-kept (λ (n : Node). is_none n.parent) (λ (n : Node). not (n.id == id)) content.nodes root found (not_from_false (root.id == id) (ne_eqb root.id id isnt))
@@ -181,7 +181,7 @@ module _ (content : Content) (change : Node → Node) (same : KeepsPlaces conten
   pub rises-with_each : Rises content → Rises (with_each content change)
   rises-with_each rises = subst (λ (ids : List ℕ). IsTrue (is_rising (0 ∷ ids))) (sym numbers-with_each) rises
 
-  -- what the place alone tells of the children stays, as their numbers and names
+  -- what depends on the place alone stays, as the numbers and names of the children
   pub children_of-part : {A : Type 0} (part : Node → A) → ((a b : Node) → IsSamePlace a b → part a ≡ part b) → (id : ℕ) → map part (children_of (with_each content change) id) ≡ map part (children_of content id)
   children_of-part part of_place id =
       ap (map part) (children_of-with_each id)
@@ -214,7 +214,7 @@ with_each-with_each content first second = ap (λ (nodes : List Node). record co
 -- ---- an object put in the place of the one of its number
 
 module _ (content : Content) (rises : Rises content) (id : ℕ) (node new : Node) (found : node_at content id ≡ Some node) (same : IsSamePlace new node) where
-  -- it is that of a change of each which leaves the others alone
+  -- it equals a change of each object that leaves the others alone
   pub with_node-replaces : with_node content new ≡ with_each content (replaced new)
   with_node-replaces =
       ap (λ (nodes : List Node). record content { nodes = nodes }) (lookups.put-replaces 0 content.nodes id node new rises found (same.number ∙ node_at-number content id node found))

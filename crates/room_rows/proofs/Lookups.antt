@@ -277,7 +277,7 @@ find-put_passing p node (x ∷ xs) passes none =
       ]
     ]
 
--- the later of two with one number stays
+-- of two with the same number the later one stays
 pub put-put : (first second : Node) (nodes : List Node) → first.id ≡ second.id → put_node second (put_node first nodes) ≡ put_node second nodes
 put-put first second [] e = put_same second first [] e
 put-put first second (x ∷ xs) e = elim (cases_order x.id first.id) [
@@ -418,7 +418,7 @@ module _ (change : Node → Node) where
   sorted-changed (x ∷ xs) same =
       ap (put_by_name (change x)) (sorted-changed xs same.1) ∙ put_by_name-changed x (sorted_by_name xs) same.0 (each-sorted (λ (n : Node). IsSamePlace (change n) n) xs same.1)
 
-  -- what is told by the place alone stays
+  -- what depends on the place alone stays
   pub map-changed : {A : Type 0} (part : Node → A) → ((a b : Node) → IsSamePlace a b → part a ≡ part b) → (nodes : List Node) → AllByRecursion (λ (n : Node). IsSamePlace (change n) n) nodes → map part (map change nodes) ≡ map part nodes
   map-changed part of_place [] same = refl
   map-changed part of_place (x ∷ xs) same = ap (λ a. a ∷ map part (map change xs)) (of_place (change x) x same.0) ∙ ap (λ l. part x ∷ l) (map-changed part of_place xs same.1)

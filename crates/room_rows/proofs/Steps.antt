@@ -63,11 +63,11 @@ module _ {S : Type 0} (rows : S → Rows) (failures writes : S → ℕ) (Follows
       cause (Ok x) h on up up' = tt
       cause (Err e) h on up up' = later_cause _ _ _ e _ _ up up' on h
 
-  -- all reads answered, and so does the one that made them
+  -- where all reads answered, the call that made them answers
   pub answered : {Y : Type 0} (a c : S) (y : Y) {Blames : Rows → ℕ → Type 0} {Answers : Rows → Y → Type 0} → HasRead a c → (IsTrusted a c → Answers (rows a) y) → IsRead rows failures writes Follows IsTrusted a c (Ok y) Blames Answers
   answered a c y sofar answers = record { follows = sofar.follows; unwritten = sofar.unwritten; same = sofar.same; answers = answers; unfailed = sofar.unfailed; fault = tt }
 
-  -- a fault of a read is that of the one that made it
+  -- a fault of a read is the fault of the call that made it
   pub gives_up : {X Y : Type 0} (a c : S) (e : KeepFault) {Blames Blames' : Rows → ℕ → Type 0} {Answers : Rows → X → Type 0} {Answers' : Rows → Y → Type 0}
       → ((w : Rows) (at : ℕ) → Blames w at → Blames' w at)
       → IsRead rows failures writes Follows IsTrusted {X = X} a c (Err e) Blames Answers → IsRead rows failures writes Follows IsTrusted {X = Y} a c (Err e) Blames' Answers'

@@ -24,7 +24,7 @@ fails_as_utf8 bytes n isnt upto =
 
 -- ---- what passes is UTF-8
 
--- bytes that aren't UTF-8 have a longest front that is, and more behind it
+-- bytes that aren't UTF-8 have a longest front that is, and more after it
 abbrev Front : List ℕ → Type 0
 Front bytes = (n : ℕ) × IsValidUpTo bytes n
 

@@ -17,7 +17,7 @@ capped_twice n more = elim (cases_lt n (2 ^ 64 - 1)) [
 ]
 
 module _ {S : Type 0} (rows : S → Rows) (failures writes : S → ℕ) (Follows IsTrusted : S → S → Type 0) where
-  -- calls that each answered, of which so many wrote, and what became of the rows
+  -- calls that each answered, how many of them wrote, and what became of the rows
   pub record HasWritten (count : ℕ) (a b : S) (Becomes : Rows → Rows → Type 0) : Type 0 where
     pub follows : Follows a b
     pub written : writes b ≡ capped (writes a + count)
@@ -34,11 +34,11 @@ module _ {S : Type 0} (rows : S → Rows) (failures writes : S → ℕ) (Follows
       nothing_more : (n : ℕ) → n + 0 ≡ n
       nothing_more n = omega arith
 
-  -- no more is said of the rows than this
+  -- a weaker statement about the rows holds as well
   pub weaker : {count : ℕ} {a b : S} {Becomes Becomes' : Rows → Rows → Type 0} → ((old new : Rows) → Becomes old new → Becomes' old new) → HasWritten count a b Becomes → HasWritten count a b Becomes'
   weaker tells done = record { follows = done.follows; written = done.written; becomes = λ t. tells _ _ (done.becomes t) }
 
-  -- the same number in another form
+  -- the same with an equal count
   pub counted_as : {count count' : ℕ} {a b : S} {Becomes : Rows → Rows → Type 0} → count ≡ count' → HasWritten count a b Becomes → HasWritten count' a b Becomes
   counted_as {a = a} same done = record { follows = done.follows; written = done.written ∙ ap (λ (n : ℕ). capped (writes a + n)) same; becomes = done.becomes }
 
@@ -75,7 +75,7 @@ module _ {S : Type 0} (rows : S → Rows) (failures writes : S → ℕ) (Follows
       → ((old mid new : Rows) → Before old mid → After mid x new → Becomes old new) → HasWritten count a b Before → IsWrite rows failures writes Follows IsTrusted b c (Ok x) Blames After → HasWritten (count + 1) a c Becomes
   write_on laws a b c x joins done write = written_on laws a b c joins done (one_written b c x write)
 
-  -- a fault of a later call, of what these rows were at the first
+  -- a fault of a later call, in terms of the rows before the first one
   later_fault : KeepLaws rows failures writes Follows IsTrusted → {X : Type 0} (a b c : S) (r : Result X KeepFault) (Blames Blames' : Rows → ℕ → Type 0) → Follows a b → Follows b c → ((at : ℕ) → IsTrusted a b → Blames (rows b) at → Blames' (rows a) at)
       → IfErr r (HasCause (failures b) (failures c) (λ at. IsTrusted b c → Blames (rows b) at)) → IfErr r (HasCause (failures a) (failures c) (λ at. IsTrusted a c → Blames' (rows a) at))
   later_fault laws a b c (Ok x) Blames Blames' before after blames h = tt

@@ -6,12 +6,12 @@ use Rattle.room_rows.specs.Keep.{IsRead, IsWrite}
 use Rattle.room_rows.specs.Rows.{Rows}
 
 module _ {S : Type 0} (k : Ghosts S) {X : Type 0} (old new : S) (result : Result X KeepFault) where
-  -- The call reads, and answers so by the rows.
+  -- The call reads, and its answer is what the rows say.
   abbrev pub Reads : (Rows → ℕ → Type 0) → (Rows → X → Type 0) → Type 0
   Reads Blames Answers =
       IsRead k.rows k.failures k.writes k.Follows k.IsTrusted old new result Blames Answers
 
-  -- The call writes, and leaves such rows.
+  -- The call writes, and leaves the rows that the relation allows.
   abbrev pub Writes : (Rows → ℕ → Type 0) → (Rows → X → Rows → Type 0) → Type 0
   Writes Blames Becomes =
       IsWrite k.rows k.failures k.writes k.Follows k.IsTrusted old new result Blames Becomes

@@ -69,7 +69,7 @@ abbrev pub groups_of : Content → List ℕ → List (List ℕ)
 groups_of content user =
     map (λ pair. pair.0) (filter (λ pair. same_text pair.1 user) content.members)
 
--- the groups of a caller, of which one without a name has none
+-- the groups of a caller; a caller without a name has none
 abbrev pub groups_for : Content → Option (List ℕ) → List (List ℕ)
 groups_for content None = []
 groups_for content (Some user) = groups_of content user
@@ -139,7 +139,7 @@ abbrev pub is_linked_in : Content → Which → Node → Bool
 is_linked_in content which node =
     is_linked (held_of which node) (option_map (held_of which) (parent_of content node))
 
--- whether the parents lead to the root in so many steps
+-- whether the parents lead to the root in at most n steps
 abbrev pub reaches_root : ℕ → Content → Option ℕ → Bool
 reaches_root n content None = true
 reaches_root zero content (Some id) = false
@@ -164,7 +164,7 @@ same_parent None (Some id) = false
 same_parent (Some id) None = false
 same_parent (Some id) (Some other) = id == other
 
--- no later one stands under the same parent by the same name
+-- no two objects stand under the same parent by the same name
 abbrev pub are_names_apart : List Node → Bool
 are_names_apart [] = true
 are_names_apart (node ∷ nodes) =

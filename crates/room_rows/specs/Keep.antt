@@ -32,8 +32,8 @@ one_more n = capped (n + 1)
 
 -- ---- faults
 
--- Memory may fail at any call. `Store` comes where the count of failures rose, or was found at its
--- end. `Damaged` comes for what the last relation names.
+-- Memory may run out at any call. `Store` comes where the count of failures rose, or was at its end
+-- before. `Damaged` comes for the numbers that the last relation names.
 abbrev pub HasCause : ℕ → ℕ → (ℕ → Type 0) → KeepFault → Type 0
 HasCause before after damaged Memory = Unit {0}
 HasCause before after damaged Store = (before < after) ⊎ (2 ^ 64 - 1 ≤ before)
@@ -61,7 +61,7 @@ LacksBytes rows at =
     (node : Node) × (node_at rows.read at ≡ Some node) × IsTrue (is_document node.kind)
     × (body_of rows.read at ≡ None)
 
--- All that `Damaged` may stand for, where what is called answers by its rows.
+-- Every number that `Damaged` may name, where the keeper answers by its rows.
 abbrev pub IsDamaged : Rows → ℕ → Type 0
 IsDamaged rows at = HasNoRoot rows at ⊎ LacksBytes rows at
 
@@ -83,14 +83,14 @@ IsChildOf parent name rows found = found ≡ child_of rows.read parent name
 abbrev pub AreChildrenOf : ℕ → Rows → List Node → Type 0
 AreChildrenOf parent rows nodes = nodes ≡ children_of rows.read parent
 
--- The name and the kind of each child. A keeper may answer from names and kinds alone; so where a
--- row can't be read, which may be a child's, nothing is said.
+-- The name and the kind of each child. A keeper may answer from names and kinds alone, so nothing
+-- is promised where a row can't be read, as it may be a child's.
 abbrev pub AreNamedUnder : ℕ → Rows → List (List ℕ × ObjKind) → Type 0
 AreNamedUnder parent rows names =
     rows.unreadable ≡ []
     → names ≡ map (λ node. (node.name, node.kind)) (children_of rows.read parent)
 
--- the same of whether there is a child
+-- whether there are children; nothing is promised where a row can't be read
 abbrev pub HasChildren : ℕ → Rows → Bool → Type 0
 HasChildren parent rows answer =
     rows.unreadable ≡ [] → answer ≡ not (is_empty (children_of rows.read parent))
@@ -123,8 +123,8 @@ abbrev pub IsDocumentAt : Rows → ℕ → Type 0
 IsDocumentAt rows id =
     (node : Node) × (node_at rows.read id ≡ Some node) × IsTrue (is_document node.kind)
 
--- The object, if it is there, is changed so, and nothing else is. Whether it is there is the
--- caller's to know.
+-- The object, if it is there, is changed in this way, and nothing else is. The caller has to know
+-- that it is there.
 abbrev pub Changes : ℕ → (Node → Node) → Rows → Rows → Type 0
 Changes id change old new =
     (node : Node) → node_at old.read id ≡ Some node
@@ -188,7 +188,7 @@ Removes id old new = CanRemove id old → new ≡ reading old (without_node old.
 abbrev pub SetsBody : ℕ → List ℕ → Rows → Rows → Type 0
 SetsBody id bytes old new = IsDocumentAt old id → new ≡ reading old (with_body old.read id bytes)
 
--- A record stands behind the others, if its place is one: places count from 1.
+-- A record is added after the others, if its place is one: places count from 1.
 abbrev pub Notes : AuditRow → Rows → Rows → Type 0
 Notes row old new = 0 < row.place → new ≡ reading old (with_records old.read (row ∷ []))
 
@@ -198,7 +198,7 @@ Leaves becomes old answer new = becomes old new
 
 -- ---- one call
 
--- There is an answer, or a row that can't be read.
+-- There is an answer, or a row that can't be read. Nothing is said of other faults.
 abbrev pub IfSeen : {X : Type 0} → Result X KeepFault → Type 0 → Type 0
 IfSeen (Ok x) P = P
 IfSeen (Err Memory) P = Unit {0}

@@ -30,7 +30,7 @@ abbrev pub object_names : List (List ℕ) → Result (List (List ℕ)) PathFault
 object_names names = if list_all is_object_name names then Ok names else Err BadName
 
 -- the names in the parts of a text: there is nothing before the first `/`, and at the root nothing
--- behind it
+-- after it
 abbrev pub names_in : List (List ℕ) → Result (List (List ℕ)) PathFault
 names_in ([] ∷ [] ∷ []) = Ok []
 names_in ([] ∷ name ∷ names) = object_names (name ∷ names)

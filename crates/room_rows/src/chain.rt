@@ -13,8 +13,8 @@ use std::alloc::Global;
 /// The objects that the path leads to, from the root on, and how many of its names are left over.
 ///
 /// It goes from child to child by the names, as long as there are names and the child is there, and
-/// looks neither at kinds nor at rights. A fault is the keeper's, or want of memory; where there is
-/// no root it is `Damaged { id: 0 }`.
+/// asks neither for kinds nor for rights. The error is the keeper's, or that memory ran out; where
+/// there is no root it is `Damaged { id: 0 }`.
 pub fn walk<K: Keep>(alloc: Global, keep: &mut K, path: &Path) -> Result<Walk, KeepFault>
     ensures read { Reads K.Keep keep.old keep.new result HasNoRoot (IsWalk path.now) }
 {
@@ -33,7 +33,7 @@ pub fn walk<K: Keep>(alloc: Global, keep: &mut K, path: &Path) -> Result<Walk, K
     Ok(walked(chain, names, names.len()))
 }
 
-// The walk to these objects, which used so many of the names.
+// The walk to these objects, which used this many of the names.
 fn walked(chain: Nodes, names: &[Text], used: usize) -> Walk
     requires { used ≤ length names.now }
     ensures { result ≡ record { chain = chain; rest = length names.now - used } }

@@ -4,7 +4,7 @@ ghost use Rattle.room_rows.specs.Keep.{capped, one_more};
 
 use crate::keep::KeepFault;
 
-/// Counts one more, as long as there are numbers.
+/// Adds one to the count. At the greatest u64 it stays there.
 pub fn count_one(count: &mut u64)
     ensures counted { count.new ≡ one_more count.old }
     ensures capped { capped count.new ≡ one_more (capped count.old) }
@@ -15,7 +15,7 @@ pub fn count_one(count: &mut u64)
     }
 }
 
-/// Counts a failure, as long as there are numbers, and is its fault, `Store`.
+/// Counts a failure, and answers its fault, `Store`. At the greatest u64 the count stays there.
 pub fn failed(failures: &mut u64) -> KeepFault
     ensures store { result ≡ KeepFault.Store }
     ensures rises { (failures.old < failures.new) ⊎ (2 ^ 64 - 1 ≤ failures.old) }

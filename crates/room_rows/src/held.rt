@@ -7,7 +7,7 @@ use std::alloc::{AllocError, Global};
 use std::marker::Model;
 
 /// One list of an object: its flags, its own entries, and the inherited ones that are stored. The
-/// full list is lent as it stands, so that a list is judged without a copy.
+/// full list is one slice, so a list is judged without a copy.
 #[derive(Clone, Drop)]
 pub struct Held {
     flags: ListFlags,
@@ -31,7 +31,7 @@ impl Model for Held {
 }
 
 impl Held {
-    /// The list of these own entries, and of copies of these inherited ones behind them.
+    /// The list of these own entries, followed by copies of these inherited ones.
     pub fn new(flags: ListFlags, own: Entries, inh: &[Entry]) -> Result<Held, AllocError>
         ensures { IfOk result (λ held. held ≡ record { flags = flags; own = own; inh = inh.now }) }
     {

@@ -1,4 +1,4 @@
-//! What keeps the objects.
+//! The contract of what keeps the objects.
 ghost use Rattle.std.specs.Prelude.{◌≡◌, ℕ, Some};
 ghost use Rattle.room_rows.specs.declared.keep.KeepFault.TheVariants.{Memory};
 ghost use Rattle.room_rows.specs.Faults.{keep_fault_text};
@@ -40,13 +40,13 @@ use room_ace::{Entry, Name, Names, Owners, Which};
 use std::alloc::AllocError;
 use std::fmt;
 
-/// Why a keeper gave no answer. The transaction round it is then given up. It is displayed with the
-/// number of the damaged row, as `row 7 is damaged`.
+/// Why a keeper gave no answer. The transaction around it is then rolled back. It is displayed with
+/// the number of the damaged row, as `row 7 is damaged`.
 #[derive(Clone, Copy, Debug, PartialEq, Eq)]
 pub enum KeepFault {
-    /// There was no memory.
+    /// Out of memory.
     Memory,
-    /// What holds the rows failed. The keeper has counted it.
+    /// What holds the rows failed. The keeper has counted the failure.
     Store,
     /// The row of this number can't be read, or something that belongs to it is missing; 0 where
     /// there is no root.
@@ -77,8 +77,11 @@ impl From<AllocError> for KeepFault {
 }
 
 /// A keeper of objects. What a call that writes leaves is promised where its condition is met: the
-/// object is there, a new parent is a folder, a new name is free. That is the caller's to know, and
-/// no keeper tests it. After a fault of a call that writes nothing is said of the rows.
+/// object is there, a new parent is a folder, a new name is free. The caller has to know that, and
+/// no keeper tests it. After an error of a call that writes nothing is promised of the rows.
+///
+/// Any call may answer `Memory` or `Store`. As long as the answers are those of the rows, `Damaged`
+/// comes only where the call says so.
 pub trait Keep {
     ghost rows: { Self → Rows };
 
@@ -93,7 +96,8 @@ pub trait Keep {
     // From the first state to the second the answers are those of the rows.
     ghost IsTrusted: { Self → Self → Type 0 };
 
-    /// The object without a parent of the least number.
+    /// The object without a parent that has the least number. The error is `Damaged` for a row that
+    /// can't be read, and with the number 0 where there is no such object.
     fn root(&mut self) -> Result<Node, KeepFault>
         ensures read { IsRead rows failures writes Follows IsTrusted self.old self.new result
             HasNoRoot IsRootOf };
@@ -103,34 +107,38 @@ pub trait Keep {
         ensures read { IsRead rows failures writes Follows IsTrusted self.old self.new result
             IsNever AreNumbers };
 
-    /// The object of this number, if there is one.
+    /// The object of this number, if there is one. The error is `Damaged` where its row can't be
+    /// read.
     fn node(&mut self, id: u64) -> Result<Option<Node>, KeepFault>
         ensures read { IsRead rows failures writes Follows IsTrusted self.old self.new result
             (IsUnreadableAt id) (IsNodeAt id) };
 
-    /// The child of this name, if there is one.
+    /// The child of this name, if there is one. The error is `Damaged` for a row that can't be
+    /// read.
     fn child(&mut self, parent: u64, name: &str) -> Result<Option<Node>, KeepFault>
         ensures read { IsRead rows failures writes Follows IsTrusted self.old self.new result
             IsUnreadable (IsChildOf parent name.now) };
 
-    /// The children in order of name.
+    /// The children in order of name. The error is `Damaged` for a row that can't be read.
     fn children(&mut self, parent: u64) -> Result<Nodes, KeepFault>
         ensures read { IsRead rows failures writes Follows IsTrusted self.old self.new result
             IsUnreadable (AreChildrenOf parent) };
 
     /// The names and kinds of the children, in order of name. It may be answered from names and
-    /// kinds alone, so a child whose row can't be read otherwise may be listed or left out: the
-    /// answer is promised where all rows can be read.
+    /// kinds alone, so a child whose row can't be read as an object may be listed or left out: the
+    /// answer is promised where all rows can be read. The error is `Damaged` for a row that can't
+    /// be read.
     fn listing(&mut self, parent: u64) -> Result<Listing, KeepFault>
         ensures read { IsRead rows failures writes Follows IsTrusted self.old self.new result
             IsUnreadable (AreNamedUnder parent) };
 
-    /// Whether there are children. As `listing`, it is promised where all rows can be read.
+    /// Whether there are children. The answer is promised where all rows can be read. The error is
+    /// `Damaged` for a row that can't be read.
     fn has_children(&mut self, parent: u64) -> Result<bool, KeepFault>
         ensures read { IsRead rows failures writes Follows IsTrusted self.old self.new result
             IsUnreadable (HasChildren parent) };
 
-    /// The bytes of a document.
+    /// The bytes of a document, if there are any.
     fn body(&mut self, id: u64) -> Result<Option<Bytes>, KeepFault>
         ensures read { IsRead rows failures writes Follows IsTrusted self.old self.new result
             IsNever (IsBodyOf id) };
@@ -140,42 +148,46 @@ pub trait Keep {
         ensures read { IsRead rows failures writes Follows IsTrusted self.old self.new result
             IsNever (AreGroupsOf user.now) };
 
-    /// Adds an object, and answers its number.
+    /// Adds an object, and answers its number. The error is `Damaged` for a row that can't be read.
     fn add(&mut self, node: NewNode) -> Result<u64, KeepFault>
         ensures written { IsWrite rows failures writes Follows IsTrusted self.old self.new result
             IsUnreadable (Adds node) };
 
-    /// Replaces one list of an object: its flags, its own and its inherited entries.
+    /// Replaces one list of an object: its flags, its own and its inherited entries. The error is
+    /// `Damaged` for a row that can't be read.
     fn set_held(&mut self, id: u64, which: Which, held: &Held) -> Result<(), KeepFault>
         ensures written { IsWrite rows failures writes Follows IsTrusted self.old self.new result
             IsUnreadable (Leaves (Changes id (with_held which held.now))) };
 
-    /// Replaces the inherited entries of one list of an object.
+    /// Replaces the inherited entries of one list of an object. The error is `Damaged` for a row
+    /// that can't be read.
     fn set_inh(&mut self, id: u64, which: Which, entries: &[Entry]) -> Result<(), KeepFault>
         ensures written { IsWrite rows failures writes Follows IsTrusted self.old self.new result
             IsUnreadable (Leaves (Changes id (with_inh which entries.now))) };
 
-    /// Replaces the owner and the owning group of an object.
+    /// Replaces the owner and the owning group of an object. The error is `Damaged` for a row that
+    /// can't be read.
     fn set_owners(&mut self, id: u64, owners: &Owners) -> Result<(), KeepFault>
         ensures written { IsWrite rows failures writes Follows IsTrusted self.old self.new result
             IsUnreadable (Leaves (Changes id (with_owners owners.now))) };
 
-    /// Gives an object another parent and another name.
+    /// Gives an object another parent and another name. The error is `Damaged` for a row that can't
+    /// be read.
     fn set_place(&mut self, id: u64, parent: u64, name: &str) -> Result<(), KeepFault>
         ensures written { IsWrite rows failures writes Follows IsTrusted self.old self.new result
             IsUnreadable (Leaves (Places id parent name.now)) };
 
-    /// Removes an object and its bytes.
+    /// Removes an object and its bytes. The error is `Damaged` for a row that can't be read.
     fn remove(&mut self, id: u64) -> Result<(), KeepFault>
         ensures written { IsWrite rows failures writes Follows IsTrusted self.old self.new result
             IsUnreadable (Leaves (Removes id)) };
 
-    /// Replaces the bytes of a document.
+    /// Replaces the bytes of a document. The error is `Damaged` for a row that can't be read.
     fn set_body(&mut self, id: u64, bytes: &[u8]) -> Result<(), KeepFault>
         ensures written { IsWrite rows failures writes Follows IsTrusted self.old self.new result
             IsUnreadable (Leaves (SetsBody id bytes.now)) };
 
-    /// Adds a record behind the others.
+    /// Adds a record after the others.
     fn note(&mut self, row: AuditRow) -> Result<(), KeepFault>
         ensures written { IsWrite rows failures writes Follows IsTrusted self.old self.new result
             IsNever (Leaves (Notes row)) };

@@ -1,4 +1,4 @@
-//! Objects of the tree, the paths to them, the contract of what keeps them, and what is wrong with it.
+//! Objects of the tree, the paths to them, the contract of what keeps them, and reports on them.
 #![tactic(auto)]
 
 mod chain;

@@ -107,7 +107,7 @@ impl Path {
         })
     }
 
-    /// The path of the first names, or of all of them where there are no more.
+    /// The path of the first `count` names, or of all of them where there are no more.
     pub fn front(&self, alloc: Global, count: usize) -> Result<Path, AllocError>
         ensures { IfOk result (λ path. path ≡ take count self.now) }
     {
@@ -126,7 +126,7 @@ impl Path {
         text_of(alloc, self.names())
     }
 
-    /// The text of the path of the first names, or of all of them where there are no more.
+    /// The text of the path of the first `count` names, or of all of them where there are no more.
     pub fn front_text(&self, alloc: Global, count: usize) -> Result<String, AllocError>
         ensures { IfOk result (λ text. string_bytes text ≡ path_text (take count self.now)) }
     {
@@ -152,8 +152,8 @@ fn text_of(alloc: Global, names: &[Text]) -> Result<String, AllocError>
 /// The path that the bytes spell: `/` alone for the root, or a `/` before each name.
 ///
 /// An object name is UTF-8 of 1 to 255 bytes without `/`, without bytes below 0x20 and without
-/// 0x7F, and neither `.` nor `..`. The first fault is answered, in the order `TooLong`, `NotUtf8`,
-/// `BadName`.
+/// 0x7F, and neither `.` nor `..`. The error is the first fault, in the order `TooLong`, `NotUtf8`,
+/// `BadName`, or that memory ran out.
 pub fn read_path(alloc: Global, bytes: &[u8]) -> Result<Path, Failure<PathFault>>
     ensures { Gives result (path_of bytes.now) }
 {

@@ -49,7 +49,7 @@ impl fmt::Display for Unsound {
     }
 }
 
-/// What a look through all rows finds: nothing, or the first fault and where it is. The path is `?`
+/// What the test of all rows finds: nothing, or the first fault and where it is. The path is `?`
 /// and a number, or the names from the root to the object, which may be no object names and more
 /// than a path has.
 #[derive(Drop)]

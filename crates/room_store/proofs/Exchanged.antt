@@ -1,4 +1,5 @@
--- The pairs are exchanged: what rows mean changes as the operator's step says, and sound rows stay sound.
+-- The pairs are exchanged: what rows mean changes as the operator's step says, and sound rows stay
+-- sound.
 use Rattle.std.proofs.Common.{◌≡◌, Result, Ok, Err, OnOk, ℕ, zero, suc, List, [], ◌∷◌, None, Some, Option, Bool, false, refl, sym, ap, subst, ◌∙◌, length}
 use Rattle.std.specs.Prelude.{◌&&◌}
 use Rattle.std.specs.List.{list_all}
@@ -17,7 +18,7 @@ use Rattle.store_admin.specs.Carries.{ByRows, Carries, NoTables, OnRows}
 use Rattle.store_admin.specs.Operating.{ExchangesMembers, HasPairsAlone, ReplacesMembers}
 use Rattle.room_store.proofs.Leading.{IsEvent}
 
--- what is told of the rows, and of those that are no pairs
+-- calls that exchange the pairs, in terms of rows
 pub of_rows : (pairs : List (List ℕ × List ℕ)) (begun mid : State) (done : Result (Unit {0}) KeepFault) → Carries begun mid done NoTables (ExchangesMembers pairs)
     → Carries begun mid done (OnRows (λ _. ⊥)) (ByRows (ReplacesMembers pairs))
 of_rows pairs begun mid (Ok _) carries = record { stays = carries.stays; becomes = λ trust. (carries.becomes trust).0; blames = carries.blames }

@@ -1,4 +1,4 @@
--- Calls in a transaction that is committed, or given up.
+-- Calls in a transaction that is committed or rolled back.
 use Rattle.std.proofs.Common.{◌≡◌, ◌≤◌, ℕ, Result, Ok, Err, IsTrue, IfOk, OnOk, inl, inr, refl, sym, ap, subst, subst₂, ◌∙◌, true, false, arith}
 use Rattle.sqlite_trees.specs.View.{doubt}
 use Rattle.sqlite.specs.Effect.{Database, IsDatabase}
@@ -38,7 +38,7 @@ never_damage why is =
       | inr e ↦ (let known : Db ≡ Damaged = rw e at is in absurd (cc))
     ]
 
--- the fault of a keeper that a store tells as damage
+-- the fault of a keeper that a store answers as `Damaged`
 damage_of : (why : KeepFault) → fault_as why ≡ Damaged → (id : ℕ) × (why ≡ keep.Damaged id)
 damage_of keep.Memory is = absurd (let e = is in cc)
 damage_of keep.Store is = absurd (let e = is in cc)

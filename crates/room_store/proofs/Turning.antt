@@ -1,4 +1,4 @@
--- What calls over any keeper are in the words of a transaction.
+-- What calls over any keeper are, in terms of a transaction.
 use Rattle.std.proofs.Common.{ℕ, Result, IfOk, IfErr, subst}
 use Rattle.sqlite.specs.State.{State}
 use Rattle.room_rows.specs.declared.keep.KeepFault.{KeepFault}
@@ -21,7 +21,7 @@ carried begun mid result Becomes before after stays becomes fault = record {
   blames = λ trust id is. (id, subst (λ r. IfErr r (HasCause before after (λ at. IsTrusted begun mid → IsDamaged (rows_of begun.now) at))) is fault trust);
 }
 
--- the same of a look through all rows, which never fails by a row
+-- the same for the test of all rows, which never fails because of a row
 pub looked_through : {X : Type 0} (begun mid : State) (result : Result X KeepFault)
     (Answers : Rows → X → Type 0) (before after : ℕ) → Stays begun mid
     → (IsTrusted begun mid → IfOk result (Answers (rows_of begun.now)))

@@ -14,12 +14,12 @@ use Rattle.room_store.specs.Premise.{StorePremise}
 pub record LeavesOpen (old new : State) : Type 0 where
   -- It leaves no transaction open.
   pub ended : old.in_transaction ≡ false → new.in_transaction ≡ false
-  -- A disk that gave back what was written up to the end did so up to the beginning.
+  -- A disk that returned what was written up to the end did so up to the beginning.
   pub clean : HasCleanDisk new → HasCleanDisk old
   -- A connection that was shut stays so.
   pub was_open : HasCleanDisk new → IsTrue new.is_open → IsTrue old.is_open
 
--- A call that writes: one transaction, which is given up at a fault.
+-- A call that writes: one transaction, which is rolled back at a fault.
 pub record Ran {X : Type 0} (old new : State) (result : Result X StoreFault)
     (Blames : Rows → Type 0) (Becomes : Rows → X → Rows → Type 0) : Type 0 where
   pub leaves : LeavesOpen old new
@@ -27,14 +27,14 @@ pub record Ran {X : Type 0} (old new : State) (result : Result X StoreFault)
   pub answers : HasCleanDisk new → OnOk result (IsTrue old.is_open × IsTrue new.is_open)
   -- What was answered is committed.
   pub committed : HasCleanDisk new → OnOk result (new.committed ≡ new.now)
-  -- An answer tells what became of the rows.
+  -- An answer says what became of the rows.
   pub step : StorePremise old new
       → IfOk result (λ answer. Becomes (rows_of old.now) answer (rows_of new.now))
   -- A fault leaves the tables, where the connection is still open.
   pub kept : StorePremise old new → IsTrue new.is_open → OnErr result (new.now ≡ old.now)
   -- They are still those of a room.
   pub tables : StorePremise old new → IsTrue new.is_open → HasTables new.now
-  -- `Damaged` comes for such rows.
+  -- `Damaged` comes for rows that the relation names.
   pub damaged : StorePremise old new → IsTrue new.is_open → result ≡ Err Damaged
       → Blames (rows_of old.now)
 

@@ -1,4 +1,4 @@
--- How the transaction round the calls of a keeper begins and ends.
+-- How the transaction around the calls of a keeper begins and ends.
 use Rattle.std.specs.Prelude.{◌≡◌, Result, Ok, Err, IsTrue, false, if◌then◌else◌}
 use Rattle.sqlite.specs.declared.error.Error.{Error}
 use Rattle.sqlite.specs.State.{State, IsRolledBack, Shows}
@@ -15,11 +15,11 @@ fault_as keep.Memory = Memory
 fault_as keep.Store = Db
 fault_as (keep.Damaged id) = Damaged
 
--- the fault of a store whose commit fails so
+-- the fault of a store whose commit fails with this error
 abbrev pub commit_fault : Error → StoreFault
 commit_fault why = if wants_memory why then Memory else Db
 
--- An answer is committed, or the commit fails. After a fault all is undone.
+-- An answer is committed, or the commit fails. After a fault the transaction is rolled back.
 abbrev pub Finishes : {X : Type 0} → State → State → Result X KeepFault → Result X StoreFault
     → Type 0
 Finishes mid end (Ok x) (Ok y) =
@@ -29,7 +29,7 @@ Finishes mid end (Ok x) (Err fault) =
 Finishes mid end (Err why) (Ok y) = ⊥
 Finishes mid end (Err why) (Err fault) = (fault ≡ fault_as why) × IsRolledBack mid end
 
--- Whatever is answered, all is undone.
+-- Whatever is answered, the transaction is rolled back.
 abbrev pub GivesUp : {X : Type 0} → State → State → Result X KeepFault → Result X StoreFault
     → Type 0
 GivesUp mid end (Ok x) (Ok y) = (y ≡ x) × IsRolledBack mid end

@@ -9,7 +9,7 @@ use crate::fault::{StoreFault, fault_of};
 use room_rows::KeepFault;
 use sqlite::{Alter, Transaction};
 
-/// Gives the transaction up, whatever is answered.
+/// Rolls the transaction back, whatever is answered.
 pub(crate) fn give_up<X: Drop, S: Alter>(
     tx: Transaction<'_, S>,
     done: Result<X, KeepFault>,

@@ -95,8 +95,8 @@ impl<S: Alter> Store<S> {
         reset_on(alloc, &mut self.conn, path, which, sent)
     }
 
-    /// Whether the rows are sound, or the first fault of seven tests. Nothing changes, and
-    /// `Damaged` never comes: a row that can't be read is a fault that the report tells.
+    /// Whether the rows are sound, or the first fault of seven tests. Nothing changes. The error is
+    /// never `Damaged`: a row that can't be read is a fault in the report.
     pub fn verify(&mut self, alloc: Global) -> Result<Report, StoreFault>
         ensures looked { Looked (state S.Store self.old.conn) (state S.Store self.new.conn) result
             NoTables (λ db report. IsReport (rows_of db) report) }
@@ -106,8 +106,8 @@ impl<S: Alter> Store<S> {
         verify_on(alloc, &mut self.conn)
     }
 
-    /// The pairs of group and user become these, each once. It is the operator's step of the room
-    /// machine. Rows that were no pairs go too. `Damaged` never comes.
+    /// Replaces the pairs of group and user by these, each once. It is the operator's step of the
+    /// room machine. Rows that were no pairs are removed. The error is never `Damaged`.
     pub fn replace_members(
         &mut self,
         alloc: Global,
@@ -147,10 +147,10 @@ impl<S: Alter> Store<S> {
         audits_on(alloc, &mut self.conn)
     }
 
-    /// The room as text: the lines of all objects, the root first and behind an object its children
-    /// with all that is below them, in order of name; then a line `member GROUP USER` for each pair,
-    /// in order of group and then of user. Both are told of the same rows. Nothing changes, and
-    /// `Damaged` comes only for a damaged row, so never on sound rows.
+    /// The room as text: the lines of all objects, the root first and after an object its children
+    /// with all that is below them, in order of name; then a line `member GROUP USER` for each
+    /// pair, in order of group and then of user. Both are read from the same rows. Nothing changes.
+    /// The error is `Damaged` only for a damaged row, so never on sound rows.
     pub fn dump(&mut self, alloc: Global) -> Result<String, StoreFault>
         ensures looked { Looked (state S.Store self.old.conn) (state S.Store self.new.conn) result
             HasDamagedRow IsDump }

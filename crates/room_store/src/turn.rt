@@ -9,7 +9,7 @@ use crate::fault::{StoreFault, commit_fault, fault_of};
 use room_rows::KeepFault;
 use sqlite::{Alter, Transaction};
 
-/// Commits after an answer, and gives the transaction up after a fault.
+/// Commits after an answer, and rolls the transaction back after a fault.
 pub(crate) fn finish<X: Drop, S: Alter>(
     tx: Transaction<'_, S>,
     done: Result<X, KeepFault>,

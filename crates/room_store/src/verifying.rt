@@ -1,4 +1,4 @@
-//! The test whether the rows are sound, in a transaction that is given up.
+//! The test whether the rows are sound, in a transaction that is rolled back.
 ghost use Rattle.std.specs.Prelude.{◌≡◌};
 ghost use Rattle.sqlite.specs.Held.{state};
 ghost use Rattle.room_inherit.specs.Reading.{IsReport};

@@ -131,7 +131,7 @@ module _ {Y : Type 0} where
   name_less : (a b : ℕ × String Y) → a.0 ≡ b.0 → place_cmp a b ≡ Less → slice_cmp nat_cmp (string_bytes a.1) (string_bytes b.1) ≡ Less
   name_less a b same less = ap (λ o. ordering_then o (string_cmp a.1 b.1)) (sym (cmp_equal a.0 b.0 same)) ∙ less
 
-  -- no place behind its own is that of an object
+  -- no place after its own is that of an object
   behind : (parent : ℕ) (n : Node) (at : ℕ × String Y) (es : List ((ℕ × String Y) × ℕ)) → at.0 ≡ parent → string_bytes at.1 ≡ n.name → AllByRecursion (λ y. place_cmp at y ≡ Less) (keys_of es) → StandsAtNone parent n es
   behind parent n at [] is named later = tt
   behind parent n at (e ∷ es) is named later = (

@@ -142,7 +142,7 @@ put_there p l k below puts stops same =
     ap (put_pair p) step ∙ cond-false _ _ _ stops ∙ cond-false _ (p ∷ get_or l k p ∷ drop (suc k) l) (get_or l k p ∷ drop (suc k) l) back ∙ sym step in
     sym (take-append-drop k l) ∙ ap (λ (m : List Pair). take k l ++ m) (sym front) ∙ puts
 
--- a pair behind all others
+-- a pair that comes after all others
 pub put_last : (p : Pair) (l : List Pair) (k : ℕ) → length l ≤ k → take k l ++ put_pair p (drop k l) ≡ put_pair p l → insert l k p ≡ put_pair p l
 put_last p l k past puts =
     let none : drop k l ≡ [] = drop_all k l past in
@@ -151,6 +151,6 @@ put_last p l k past puts =
 pub joined : (p : Pair) (l : List Pair) → IsStrictlySortedBy pair_cmp l → put_pair p l ≡ set_of (p ∷ l)
 joined p l sorted = ap (put_pair p) (sym (sorted_set l sorted))
 
--- an item within the list doesn't depend on what stands for a missing one
+-- an item within the list doesn't depend on the default for a missing one
 pub item_is : (l : List Pair) (k : ℕ) (x d : Pair) → k < length l → x ≡ get_or l k x → x ≡ get_or l k d
 item_is l k x d below is = is ∙ get_or_default l k x d below

@@ -1,4 +1,4 @@
--- Places listed, taken away and looked up.
+-- Places listed, removed and looked up.
 use Rattle.std.proofs.Common.{◌≡◌, ℕ, ◌≤◌, ◌==◌, ◌&&◌, ◌+◌, Bool, true, false, not, List, [], ◌∷◌, filter, Some, refl, sym, ap, subst, ◌∙◌, arith, inl, inr, if◌then◌else◌, String, string_bytes}
 use Rattle.std.specs.BTreeMap.{insert_entry}
 use Rattle.std.specs.BTreeMap.Range.{range_contains}

@@ -143,7 +143,7 @@ module _ {Y : Type 0} where
   stands_not es places nodes id parent name node tied view found isnt =
       failing (λ (m : Node). has_parent parent m && same_text m.name name) id 0 nodes node (subst (λ (l : List Node). is_rising (0 ∷ map (λ (n : Node). n.id) l) ≡ true) view tied.rising) found isnt
 
-  -- the number that no other is above is the greatest
+  -- a number that no other number exceeds is the greatest
   pub last_is : (es : List (ℕ × Node)) (places : List ((ℕ × String Y) × ℕ)) (nodes : List Node) (last : ℕ) (node : Node) → AreTied es places → values_of es ≡ nodes → lookup (λ k. is_eq (nat_cmp last k)) es ≡ Some node
       → ((q : ℕ) → IsSome (lookup (λ k. is_eq (nat_cmp q k)) es) → is_lt (nat_cmp last q) ≡ false) → last ≡ greatest nodes
   last_is es places nodes last node tied view at least =
@@ -203,7 +203,7 @@ module _ {Y : Type 0} where
   pub put_view : (es new_es : List (ℕ × Node)) (places : List ((ℕ × String Y) × ℕ)) (nodes : List Node) (node : Node) → AreTied es places → values_of es ≡ nodes → new_es ≡ insert_entry nat_cmp es node.id node → values_of new_es ≡ put_node node nodes
   put_view es new_es places nodes node tied view entries = ap values_of entries ∙ inserted node es tied.keyed ∙ ap (put_node node) view
 
-  -- a call that can't be refused at a number that is there
+  -- a call at a number that is there can't fail because no object is there
   pub there : (es : List (ℕ × Node)) (places : List ((ℕ × String Y) × ℕ)) (nodes : List Node) (id : ℕ) → AreTied es places → values_of es ≡ nodes → is_some (find_id id nodes) ≡ true → lookup (λ k. is_eq (nat_cmp id k)) es ≡ None → ⊥
   there es places nodes id tied view is none = false≢true (ap is_some (found_at id es places nodes None tied view (sym none)) ∙ is)
 
@@ -259,7 +259,7 @@ module _ {Y : Type 0} where
       (leaves parent name (free_apart parent name (values_of es) node.id before free' stood') ∙ own_listed places more_places parent name node.id lists)))
       (λ i p m found other has. leaves p m.name (others_apart es places node.id before tied stood' i p m found has other) ∙ still_listed es places more_places parent name node.id tied lists free' i p m found has)
 
-  -- an object is taken away
+  -- an object is removed
   pub tied_taken : (es new_es : List (ℕ × Node)) (places new_places : List ((ℕ × String Y) × ℕ)) (nodes : List Node) (id : ℕ) (before : Option (ℕ × List ℕ)) → AreTied es places → values_of es ≡ nodes
       → before ≡ option_and_then place_of (find_id id nodes) → new_es ≡ remove_entry (λ k. is_eq (nat_cmp id k)) es → IsStrictlySortedBy nat_cmp (keys_of new_es) → KeepsOtherPlaces before places new_places → AreTied new_es new_places
   tied_taken es new_es places new_places nodes id before tied view stood entries sorted leaves =

@@ -1,4 +1,4 @@
--- Objects by their numbers, and what their places have to do with them.
+-- Objects by their numbers, and how their places are listed.
 use Rattle.std.specs.Prelude.{◌≡◌, Bool, false, ℕ, ◌==◌, List, [], ◌∷◌, map, max, Option, Some}
 use Rattle.std.specs.Prelude.{is_some, IsTrue, String}
 use Rattle.std.specs.List.{list_all}

@@ -44,7 +44,7 @@ module _ {Y : Type 0} where
       cons_option (standing place.1 parent (string_bytes place.0.1) nodes)
       (standing_all parent nodes places)
 
-  -- the same of those places that are under the parent
+  -- the same, of all places, for those that are under the parent
   abbrev pub standing_under : ℕ → List Node → List ((ℕ × String Y) × ℕ) → List Node
   standing_under parent nodes [] = []
   standing_under parent nodes (place ∷ places) =
@@ -59,14 +59,14 @@ module _ {Y : Type 0} where
       (p : ℕ) (n : List ℕ)
       → id_at p n new ≡ (if is_same_place p n parent name then Some id else id_at p n old)
 
-  -- every place is as it was, but for this one if it is one
+  -- every place is as it was, but for this one if it is given
   abbrev pub KeepsOtherPlaces : Option (ℕ × List ℕ) → List ((ℕ × String Y) × ℕ)
       → List ((ℕ × String Y) × ℕ) → Type 0
   KeepsOtherPlaces place old new =
       (p : ℕ) (n : List ℕ) → option_map_or (λ at. is_same_place p n at.0 at.1) place false ≡ false
       → id_at p n new ≡ id_at p n old
 
-  -- the number is listed at the place, and then none where it was
+  -- the number is listed at the new place, and then no longer at the old one
   pub record Moves (before : Option (ℕ × List ℕ)) (parent : ℕ) (name : List ℕ) (id : ℕ)
       (old new : List ((ℕ × String Y) × ℕ)) : Type 0 where
     pub both : List ((ℕ × String Y) × ℕ)

@@ -56,7 +56,7 @@ impl Bodies {
         }
     }
 
-    /// Keeps the bytes for this number.
+    /// Stores the bytes under this number.
     pub(crate) fn put(&mut self, id: u64, bytes: Bytes) -> Result<(), AllocError>
         ensures ok { OnOk result (self.new ≡ put_body id bytes self.old) }
         ensures err { OnErr result (self.new ≡ self.old) }
@@ -65,7 +65,7 @@ impl Bodies {
         Ok(())
     }
 
-    /// Keeps the bytes for this number if it is that of a document.
+    /// Stores the bytes under this number if the kind is that of a document.
     pub(crate) fn put_new(&mut self, id: u64, kind: ObjKind, bytes: Bytes) -> Result<(), AllocError>
         ensures ok { OnOk result
             (self.new ≡ (if is_document kind then put_body id bytes self.old else self.old)) }
@@ -77,7 +77,7 @@ impl Bodies {
         }
     }
 
-    /// Lets the bytes of this number go, if there are any.
+    /// Removes the bytes of this number, if there are any.
     pub(crate) fn take(&mut self, id: u64)
         ensures { self.new ≡ filter (λ row. not (row.0 == id)) self.old }
     {

@@ -122,7 +122,7 @@ fn put_in(by_number: &mut BTreeMap<u64, Node>, node: Node)
 }
 
 impl Objects {
-    /// The object, which has no parent, alone.
+    /// The objects of which this one, without a parent, is the only one.
     pub(crate) fn new(alloc: Global, root: Node) -> Result<Objects, AllocError>
         requires number { 0 < root.id }
         requires parent { root.parent ≡ None }
@@ -283,7 +283,7 @@ impl Objects {
         Ok(ids)
     }
 
-    /// A copy of the object without a parent of the least number.
+    /// A copy of the object without a parent that has the least number.
     pub(crate) fn first_root(&self) -> Result<Option<Node>, AllocError>
         ensures { IfOk result (λ found. found ≡ first_root self.now) }
     {
@@ -295,7 +295,7 @@ impl Objects {
         Ok(None)
     }
 
-    /// One more than the greatest number, where that fits.
+    /// One more than the greatest number, if it fits a u64.
     pub(crate) fn next_number(&self) -> Option<u64>
         ensures { MatchOption result (2 ^ 64 ≤ greatest self.now + 1)
             (λ next. next ≡ greatest self.now + 1) }
@@ -364,7 +364,7 @@ impl Objects {
         Ok(())
     }
 
-    /// Takes the object of this number away, and says whether there was one.
+    /// Removes the object of this number, and answers whether there was one.
     pub(crate) fn take(&mut self, alloc: Global, id: u64) -> Result<bool, AllocError>
         ensures found { IfOk result (λ was. was ≡ is_some (find_id id self.old)) }
         ensures ok { OnOk result (self.new ≡ filter (λ node. not (node.id == id)) self.old) }

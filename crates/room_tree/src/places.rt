@@ -28,7 +28,7 @@ pub(crate) fn place_at(alloc: Global, parent: u64, name: &str) -> Result<Place, 
     Ok((parent, String::from_str(alloc, name)?))
 }
 
-/// The numbers of objects by their places. Places that no object stands at may be listed too.
+/// The numbers of objects by their places. Places at which no object stands may be listed too.
 #[derive(Drop)]
 pub(crate) struct Places {
     ids: BTreeMap<(u64, String), u64>,
@@ -105,7 +105,7 @@ impl Places {
         self.ids.remove(place);
     }
 
-    /// What is listed under the parent, in order of name, and what may be listed behind it.
+    /// What is listed under the parent, in order of name, and what may be listed after it.
     pub(crate) fn under(
         &self,
         alloc: Global,

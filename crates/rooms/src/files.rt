@@ -1,4 +1,4 @@
-//! The file of a room: made, found, opened, taken away.
+//! The file of a room: made, found, opened, removed.
 ghost use Rattle.std.specs.Prelude.{◌≡◌, IfOk, false};
 
 use cli_console::Stop;
@@ -14,11 +14,11 @@ use store_tables::wants_memory;
 /// A connection to the file and to its log.
 pub type FileConnection<S> = Connection<FileStore<FileFrom<S>>>;
 
-// Only the owner may read the file: whoever else could would need no list.
+// Only the owner may read the file. Whoever can read it isn't bound by any list.
 const OWNER_ALONE: u32 = 0o600;
 
-/// Makes an empty file where there is none, and answers the path of the log that it will have. A
-/// log that is left of another file of this name counts as that file.
+/// Makes an empty file where there is none, and answers the path of the log that it will have. The
+/// error is `Exists` where there is a file of this name, or the log of an earlier one.
 pub fn make(rt: &HostRuntime, file: &str) -> Result<String, Stop> {
     let log = log_of(rt, file)?;
     if is_there(rt, log.as_str())? {
@@ -38,14 +38,15 @@ fn make_empty(rt: &HostRuntime, file: &str) -> Result<(), Stop> {
     }
 }
 
-/// Takes away the file that `make` made, and the log that came beside it.
+/// Removes the file that `make` made, and the log that came with it.
 pub fn take_away(rt: &HostRuntime, file: &str, log: &str) {
-    // What can't be taken away stays: why the file isn't wanted is what is told.
+    // What can't be removed stays: the reason why the file isn't kept is what is printed.
     let _ = fs::remove_file(rt, file);
     let _ = fs::remove_file(rt, log);
 }
 
-/// Opens the file of a room that is there.
+/// Opens the file of a room. The error is `NotRooms` where the file is empty, and else that of the
+/// file or of the database.
 pub fn open<S: Start>(rt: &HostRuntime, file: &str, start: S) -> Result<FileConnection<S>, Stop>
     ensures { IfOk result (λ conn. conn.in_transaction ≡ false) }
 {
@@ -55,11 +56,12 @@ pub fn open<S: Start>(rt: &HostRuntime, file: &str, start: S) -> Result<FileConn
     connect(rt, file, start)
 }
 
-/// Opens the file, which is there, as a database.
+/// Opens a file that is there as a database. The error is that of the file or of the database, or
+/// that memory ran out.
 pub fn connect<S: Start>(rt: &HostRuntime, file: &str, start: S) -> Result<FileConnection<S>, Stop>
     ensures { IfOk result (λ conn. conn.in_transaction ≡ false) }
 {
-    // By its whole path a file is no database in memory and no address, whatever its name.
+    // By its canonical path a file is no database in memory and no address, whatever its name.
     let path = fs::canonicalize(rt, file)?;
     match Connection::open_from(rt, path.as_str(), false, start) {
         Ok(conn) => Ok(conn),
@@ -69,12 +71,12 @@ pub fn connect<S: Start>(rt: &HostRuntime, file: &str, start: S) -> Result<FileC
 }
 
 /// Copies the log into the file, so that the file alone has the whole room. Where that fails
-/// nothing is lost: the log has what isn't copied, and the next one to open both finds it.
+/// nothing is lost: the log has what isn't copied, and whoever opens both next finds it.
 pub fn close<S: Start>(conn: FileConnection<S>) {
     let _ = conn.close();
 }
 
-// Whether the file is empty, and no log beside it holds what it is to become.
+// Whether the file is empty, and no log beside it holds its content.
 fn is_blank(rt: &HostRuntime, path: &str) -> Result<bool, Stop> {
     let found = fs::metadata(rt, path)?;
     if !found.is_file() || found.len() > 0 {

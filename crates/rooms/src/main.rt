@@ -20,31 +20,31 @@
 //! # Statuses
 //!
 //! - 0: it is done, granted or sound.
-//! - 1: it is denied, or `verify` or `migrate` told a fault of the rows.
-//! - 2: it is refused, which standard output tells; or the words are no command, or ask for help or
-//!   for the version, which standard error tells.
-//! - 3: something failed, which standard error tells in one line: `fault: memory`,
+//! - 1: it is denied, or `verify` or `migrate` found a fault of the rows.
+//! - 2: it is refused, which is printed on standard output; or the words are no command, or ask for
+//!   help or for the version: what there is to say is printed on standard error.
+//! - 3: something failed, which is printed on standard error in one line: `fault: memory`,
 //!   `fault: database`, `fault: file` or `fault: net`.
 //!
 //! # Order
 //!
 //! 1. The words are read, by `cli_words`.
-//! 2. The list on standard input or the CSV file is read, as far as it may be long and one byte
-//!    more, by `cli_console`.
-//! 3. Owner and group, the path and what was read are judged, by `cli_tasks`. What is refused so
-//!    far opens no file of a room, and makes none.
+//! 2. The list on standard input or the CSV file is read, up to one byte more than it may have, by
+//!    `cli_console`.
+//! 3. Owner and group, the path and what was read are validated, by `cli_tasks`. Where something is
+//!    refused up to here, no file of a room is opened or made.
 //! 4. The file is opened, or made by `init`: `files`. One that cannot be opened is a fault, and an
 //!    empty one is no room.
-//! 5. The task is done in one transaction and told, by `cli_act`; or connections are served, by
-//!    `cli_serve`.
+//! 5. The task is done in one transaction and its outcome printed, by `cli_act`; or connections are
+//!    served, by `cli_serve`.
 //! 6. The log beside the file is copied into it, so that the file alone has the whole room.
 //!
 //! # What is proved
 //!
 //! The calls of the crates below are proved to do what is written here of lists, tasks, connections
 //! and texts, and `cli_words` says which file and which input a command names. No contract can name
-//! what a terminal or a file gave and took, so that the program hands over those very ones is shown
-//! by running it.
+//! what a terminal or a file holds. That the program hands over the right ones is shown by running
+//! it.
 #![tactic(auto)]
 
 mod files;
@@ -66,8 +66,8 @@ fn main(rt: HostRuntime) -> ExitCode {
     ExitCode::from(status)
 }
 
-// Carries out the command of the process's arguments, and answers the exit status. What is supposed
-// of the files is `S`.
+// Carries out the command of the process's arguments, and answers the exit status. `S` is what is
+// assumed of the files.
 fn run<S: Start>(rt: &HostRuntime, start: S) -> Result<u8, Stop> {
     let words = words_of(rt)?;
     let command = read_command(rt.alloc(), words.as_slice())?;

@@ -12,7 +12,8 @@ use http_serve::Seconds;
 use sqlite_std_file::Start;
 use std::{fs, io};
 
-/// Reads what the subcommand needs, judges it, and carries it out on its file.
+/// Reads what the subcommand needs, validates it, and carries it out on its file. The error is why
+/// nothing was done.
 pub fn carry_out<S: Start>(rt: &HostRuntime, start: S, command: &Command<'_>) -> Result<u8, Stop>
     requires { (input : List ℕ) → IsSome (task_of command.now input) }
 {
@@ -35,7 +36,7 @@ fn task_for(rt: &HostRuntime, command: &Command<'_>) -> Result<Task, Stop>
     }
 }
 
-// Makes the file and the room in it. Where that fails, nothing stays.
+// Makes the file and the room in it. Where that fails, the file is removed again.
 fn begin<S: Start>(rt: &HostRuntime, start: S, file: &str, task: &Task) -> Result<u8, Stop> {
     let log = make(rt, file)?;
     let status = begin_at(rt, start, file, task);
@@ -59,7 +60,8 @@ fn work_on<S: Start>(rt: &HostRuntime, conn: FileConnection<S>, task: &Task) -> 
     status
 }
 
-/// Serves this number of connections on the port.
+/// Serves this number of connections on the port, and answers the exit status. The error is why the
+/// file wasn't opened.
 pub fn serve<S: Start>(
     rt: &HostRuntime,
     start: S,

@@ -1,4 +1,4 @@
--- What a look over any keeper at all objects is in the words of a transaction.
+-- What reading all objects over any keeper is, in terms of a transaction.
 use Rattle.std.proofs.Common.{◌≡◌, ℕ, Result, Ok, Err, IfOk, IfErr, String, string_bytes, subst}
 use Rattle.std.specs.Global.{Global}
 use Rattle.sqlite.specs.State.{State}

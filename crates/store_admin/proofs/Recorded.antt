@@ -74,7 +74,7 @@ pub records_shown : (table : List Row)
 records_shown [] = refl
 records_shown (r ∷ table) = ap (cons_option (audit_in r)) (records_shown table)
 
--- ---- what is told of the shown rows is told of the table
+-- ---- what holds of the shown rows holds of the table
 
 abbrev is_read : Row → Bool
 is_read r = is_some (record_seen r)

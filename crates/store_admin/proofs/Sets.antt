@@ -15,7 +15,7 @@ use Rattle.store_admin.specs.Operating.{rises_from}
 use Rattle.store_tables.specs.Paired.{Pair, all_past, before, before_is, not_back, pair_cmp, total}
 use Rattle.store_tables.specs.RoomRows.{set_sorted}
 
--- ---- pairs that are told apart by no comparison
+-- ---- pairs that compare as equal are equal
 
 pub same_pair : (p o : Pair) → pair_cmp o p ≡ Equal → o ≡ p
 same_pair p o same =

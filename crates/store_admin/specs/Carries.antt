@@ -9,14 +9,15 @@ use Rattle.store_tables.specs.Meaning.{rows_of}
 use Rattle.store_tables.specs.Shown.{Stays}
 use Rattle.store_tables.specs.Trust.{IsTrusted}
 
--- Over a room's tables an answer tells what became of them, and `Damaged` comes for such tables.
+-- Over a room's tables an answer says what became of them, and `Damaged` comes for tables that the
+-- relation names.
 pub record Carries {X : Type 0} (begun mid : State) (result : Result X KeepFault)
     (Blames : Database → Type 0) (Becomes : Database → X → Database → Type 0) : Type 0 where
   pub stays : Stays begun mid
   pub becomes : IsTrusted begun mid → IfOk result (λ answer. Becomes begun.now answer mid.now)
   pub blames : IsTrusted begun mid → (id : ℕ) → result ≡ Err (Damaged id) → Blames begun.now
 
--- what is said of rows, said of the tables
+-- a relation on rows, as one on tables
 abbrev pub OnRows : (Rows → Type 0) → Database → Type 0
 OnRows Blames db = Blames (rows_of db)
 

@@ -22,6 +22,6 @@ abbrev pub TellsObjects : Database → String Global → Database → Type 0
 TellsObjects old text new =
     (string_bytes text ≡ objects_text (rows_of old)) × (rows_of new ≡ rows_of old)
 
--- the lines of the pairs stand behind the text
+-- the lines of the pairs are added after the text
 abbrev pub AddsMembers : List ℕ → List ℕ → Database → Unit {0} → Type 0
 AddsMembers text more db answer = more ≡ text ++ members_text (rows_of db).read.members

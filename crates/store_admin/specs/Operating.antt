@@ -33,11 +33,11 @@ ReplacesMembers pairs old answer new = new ≡ reading old (with_members old.rea
 abbrev pub are_pairs : List Row → Bool
 are_pairs rows = list_all (λ r. is_some (pair_in r)) rows
 
--- no row of members is none
+-- each row of members is a pair
 abbrev pub HasPairsAlone : Database → Type 0
 HasPairsAlone db = are_pairs (db.trees 3) ≡ true
 
--- The pairs become these, and no row is left that is none.
+-- The pairs are replaced by these, and no other row is left.
 abbrev pub ExchangesMembers : List (List ℕ × List ℕ) → Database → Unit {0} → Database → Type 0
 ExchangesMembers pairs old answer new =
     ReplacesMembers pairs (rows_of old) answer (rows_of new) × HasPairsAlone new
@@ -55,7 +55,7 @@ abbrev pub pair_seen : Row → Option (List ℕ × List ℕ)
 pair_seen r = option_and_then (λ group. option_map (λ user. (group, user)) (name_in (column r 1)))
     (name_in (column r 0))
 
--- the pairs in these rows, but for what is none
+-- the pairs in these rows, without rows that aren't pairs
 abbrev pub pairs_seen : List Row → List (List ℕ × List ℕ)
 pairs_seen rows = filter_map pair_seen rows
 

@@ -72,7 +72,7 @@ fn pair_of(alloc: Global, row: &Row) -> Result<Option<(Name, Name)>, AllocError>
     }
 }
 
-// The pairs in the rows, but for what is none.
+// The pairs in the rows, without rows that aren't pairs.
 fn see_pairs(alloc: Global, rows: &[Row]) -> Result<Vec<(Name, Name)>, AllocError>
     ensures { IfOk result (λ pairs. pairs.items ≡ pairs_seen rows.now) }
 {

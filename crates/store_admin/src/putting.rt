@@ -97,7 +97,7 @@ fn insert_each<S: Alter>(
     Ok(())
 }
 
-/// The pairs of group and user become these, each once. Rows that were no pairs go too.
+/// Replaces the pairs of group and user by these, each once. Rows that were no pairs are removed.
 pub fn put_members<S: Alter>(
     alloc: Global,
     tx: &mut Transaction<'_, S>,

@@ -72,7 +72,7 @@ fn granted_of(value: ValueRef<'_>) -> Option<bool>
     }
 }
 
-// The place and the kind of an entry: the sign tells the kind.
+// The place and the kind of an entry: the sign is the kind.
 fn place_of(value: ValueRef<'_>) -> Option<(usize, RecordKind)>
     ensures { result ≡ place_in (owned value.entry) }
 {
@@ -163,7 +163,8 @@ fn see_records(alloc: Global, rows: &[Row]) -> Result<Option<Vec<AuditRow>>, All
     Ok(Some(records))
 }
 
-/// The records, in the order in which they were added. `Damaged` comes where one can't be read.
+/// The records, in the order in which they were added. The error is `Damaged` where one can't be
+/// read.
 pub fn all_records<S: Alter>(
     alloc: Global,
     tx: &mut Transaction<'_, S>,

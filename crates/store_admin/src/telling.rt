@@ -51,8 +51,8 @@ fn add_members<S: Alter>(
     Ok(push_members(text, pairs.as_slice())?)
 }
 
-/// The text of the room: the lines of all objects, and behind them those of all pairs. `Damaged`
-/// comes only for a damaged row.
+/// The text of the room: the lines of all objects, followed by those of all pairs. The error is
+/// `Damaged` only for a damaged row.
 pub fn dump_all<S: Alter>(alloc: Global, tx: &mut Transaction<'_, S>) -> Result<String, KeepFault>
     ensures same_reference { tx.new.conn.ghost_name ≡ tx.old.conn.ghost_name }
     ensures carries { Carries (state S.Store tx.old.conn.now) (state S.Store tx.new.conn.now)

@@ -1,4 +1,4 @@
--- A look at the schema's number, in a transaction that is given up.
+-- The schema's number is read in a transaction that is rolled back.
 use Rattle.std.proofs.Common.{◌≡◌, ◌≤◌, pos, Result, IsTrue, IsErrAnd, OnOk, sym, ap, subst, ◌∙◌, false, arith}
 use Rattle.sqlite_trees.specs.View.{doubt}
 use Rattle.sqlite.specs.Effect.{Database}

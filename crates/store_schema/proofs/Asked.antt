@@ -1,4 +1,4 @@
--- What a look at the schema's number shows.
+-- What reading the schema's number shows.
 use Rattle.std.proofs.Common.{◌≡◌, ◌≤◌, ℕ, ℤ, List, [], ◌∷◌, length, map, filter, Result, Ok, Err, Option, None, Some, IsTrue, inl, inr, ◌⊎◌, refl, sym, ap, subst, ◌∙◌, true, false, Bool, cond, if◌then◌else◌, arith, IsPermutation, Vec, Global, IfOk, IfErr, OnOk, ◌&&◌}
 use Rattle.std.proofs.lemmas.List.Sorted.{length_permutation}
 use Rattle.sqlite.specs.declared.types.Value.{Value}
@@ -254,7 +254,7 @@ expects_ok wanted old new version r asks says = record {
     on_ok (Ok x) same = same
     on_ok (Err e) same = tt
 
--- no number is told of a query that failed
+-- a query that failed answers no number
 no_number : (wanted : ℤ) (db : Database) (fault : OpenFault) → IsRefusal fault → Tells wanted db (Err fault)
 no_number wanted db NotRooms it = tt
 no_number wanted db (OldVersion n) it = absurd it

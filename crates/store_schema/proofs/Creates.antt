@@ -38,7 +38,7 @@ module _ (text : List ℕ) (old new : State) (schema : Schema) (table : Table) (
         others = subst (λ (d : Database). KeepsRows schema.tables old.now.trees d.trees) (sym now) (subst (λ s. KeepsRows s.tables old.now.trees first.0.trees) has made.others);
       }
 
-  -- the first table with AUTOINCREMENT brings the table that counts
+  -- the first table with AUTOINCREMENT adds the table of its counts
   creates_counted : lacks_sequence (created schema table) ≡ true → (mid : Database) × Creates schema table old.now mid × Creates (created schema table) counters mid new.now
   creates_counted lacks =
       let w = subst (λ t. Writes old new None CreateTable t [] count) is.statement (runs_as text [] old new schema has CreateTable is.command is.plain count h) in

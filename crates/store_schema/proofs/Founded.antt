@@ -1,4 +1,4 @@
--- A transaction that makes a room is committed, or given up.
+-- A transaction that makes a room is committed or rolled back.
 use Rattle.std.proofs.Common.{◌≡◌, ◌≤◌, [], Ok, Err, IsTrue, inl, inr, refl, sym, ap, subst, ◌∙◌, true, false, arith}
 use Rattle.sqlite_trees.specs.View.{doubt}
 use Rattle.sqlite.specs.declared.error.Error.{Error}

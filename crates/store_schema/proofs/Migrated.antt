@@ -1,4 +1,4 @@
--- A transaction that raises a room is committed, or given up.
+-- A transaction that upgrades a room is committed or rolled back.
 use Rattle.std.proofs.Common.{◌≡◌, ◌≤◌, [], pos, Some, Result, Ok, Err, IsErrAnd, IsTrue, inl, inr, ◌⊎◌, sym, ap, subst, ◌∙◌, true, false, arith}
 use Rattle.sqlite_trees.specs.View.{doubt}
 use Rattle.sqlite.specs.Effect.{Database, IsDatabase}
@@ -112,7 +112,7 @@ module _ (old begun mid end : State) (begins : Begins old begun) (sound : IsTrue
             let kept = committed_mid now open'' tables in
             (same.0.now_is ∙ settled ∙ kept, same.0.committed_is ∙ kept)
 
-  -- of a fault only what was there before is told
+  -- a fault says only what was there before
   told_before : (e : MigrateFault) (db : Database) → Leads begun.now mid.now (Err e) → Leads old.now db (Err e)
   told_before (Opening fault) db leads = subst (λ d. Says (pos 1) (meta_of d) (Err fault)) begins.now leads
   told_before (Unsound path why) db leads = subst (λ d. Leads d db (Err (Unsound path why))) begins.now leads

@@ -1,4 +1,4 @@
--- The steps of raising a room, one after the other.
+-- The steps of upgrading a room, one after the other.
 use Rattle.std.proofs.Common.{◌≡◌, ◌≤◌, ℕ, pos, Some, Result, Ok, Err, IfOk, IsErrAnd, IsTrue, inl, inr, ◌⊎◌, refl, sym, ap, subst, subst₂, ◌∙◌, false, arith}
 use Rattle.sqlite_trees.specs.View.{doubt}
 use Rattle.sqlite.specs.Effect.{Database}

@@ -1,7 +1,7 @@
 -- The parts of what a statement does.
 use Rattle.std.proofs.Common.{◌≡◌, Result, Ok, Err, inl, inr, ◌⊎◌}
 
--- a part that gave a value did not stop on the way
+-- a part that returned a value did not stop on the way
 pub went : {B E R : Type 0} {b : B} {Stops : E → Type 0} → ((stop : E) × Stops stop × (Ok b ≡ Err stop)) ⊎ R → R
 went (inl stopped) = absurd (let e = stopped.2 in cc)
 went (inr on) = on

@@ -67,7 +67,7 @@ pub counters_is : table_defined_by (codes "CREATE TABLE sqlite_sequence(name,seq
 unfolding understood everything
 counters_is = refl
 
--- a table with AUTOINCREMENT wants the table that counts
+-- a table with AUTOINCREMENT needs the table of its counts
 pub sequences : (lacks_sequence after_nodes ≡ false) × (lacks_sequence after_bodies ≡ false) × (lacks_sequence after_members ≡ false) × (lacks_sequence after_meta ≡ false) × (lacks_sequence after_audits ≡ true)
 unfolding everything
 sequences = (refl, refl, refl, refl, refl)

@@ -20,7 +20,7 @@ pub record HasEmpty (schema : Schema) (trees : List ℕ) (db : Database) : Type 
   pub has : db.schema ≡ schema
   pub empty : AllByRecursion (λ tree. db.trees tree ≡ []) trees
 
--- From such a database a call that succeeds leads to such a one.
+-- From a database of the first kind a call that succeeds leads to one of the second kind.
 pub record Makes {X E : Type 0} (Before After : Database → Type 0) (old new : State)
     (result : Result X E) : Type 0 where
   pub makes : HasCleanDisk new → Before old.now → OnOk result (After new.now)
@@ -32,7 +32,7 @@ pub record IsBare (db : Database) : Type 0 where
   pub empty : AllByRecursion (λ tree. db.trees tree ≡ []) (0 ∷ 2 ∷ 3 ∷ 7 ∷ [])
   pub version : meta_of db ≡ Some (pos 2)
 
--- what a failing statement or commit is called
+-- the fault for a statement or a commit that fails
 abbrev pub create_fault_of : Error → CreateFault
 create_fault_of why = if wants_memory why then Memory else Db
 

@@ -22,7 +22,7 @@ use Rattle.store_schema.specs.declared.fault.OpenFault.TheVariants.{Db, Memory}
 abbrev pub IsNotUnderstood : Error → Type 0
 IsNotUnderstood e = (fault : CompileError) × (e ≡ SqlInputError fault)
 
--- what a query that failed is called
+-- the faults for a query that failed
 abbrev pub IsCalled : Error → OpenFault → Type 0
 IsCalled e NotRooms = IsNotUnderstood e
 IsCalled e (OldVersion n) = ⊥
@@ -30,7 +30,7 @@ IsCalled e (NewVersion n) = ⊥
 IsCalled e Db = ¬ IsNotUnderstood e
 IsCalled e Memory = ¬ IsNotUnderstood e
 
--- the database failed, or memory
+-- the database failed, or memory ran out
 abbrev pub IsFailure : OpenFault → Type 0
 IsFailure NotRooms = ⊥
 IsFailure (OldVersion n) = ⊥
@@ -38,7 +38,7 @@ IsFailure (NewVersion n) = ⊥
 IsFailure Db = Unit {0}
 IsFailure Memory = Unit {0}
 
--- There is no room, or the database failed, or memory.
+-- There is no room, the database failed, or memory ran out.
 abbrev pub IsRefusal : OpenFault → Type 0
 IsRefusal NotRooms = Unit {0}
 IsRefusal (OldVersion n) = ⊥
@@ -46,8 +46,8 @@ IsRefusal (NewVersion n) = ⊥
 IsRefusal Db = Unit {0}
 IsRefusal Memory = Unit {0}
 
--- What is said where a schema of this number is wanted, and there is that number or none. The
--- database may fail, and memory too.
+-- The answer where a schema of this number is expected, and the number that is there, if there is
+-- one. The database may fail, and memory may run out.
 abbrev pub Says : ℤ → Option ℤ → Result (Unit {0}) OpenFault → Type 0
 Says wanted version (Ok _) = version ≡ Some wanted
 Says wanted version (Err NotRooms) = version ≡ None
@@ -78,7 +78,7 @@ pub record ShowsVersion (version : Option ℤ) (db : Database) : Type 0 where
   pub read : ReadsAs db command clock rows command.returning
   pub number : number_shown rows ≡ version
 
--- A number is told only where the database answered with it.
+-- A number is answered only where the database showed it.
 abbrev pub Tells : ℤ → Database → Result (Unit {0}) OpenFault → Type 0
 Tells wanted db (Ok _) = ShowsVersion (Some wanted) db
 Tells wanted db (Err NotRooms) = Unit {0}
@@ -89,7 +89,7 @@ Tells wanted db (Err Memory) = Unit {0}
 
 -- ---- calls
 
--- The number of the schema is asked, inside a transaction.
+-- The number of the schema is read, inside a transaction.
 pub record AsksVersion (old new : State) (result : Result (Option ℤ) OpenFault) : Type 0 where
   pub clean : doubt old.is_clean ≤ doubt new.is_clean
   pub within : IsTrue old.in_transaction → IsWithin old new

@@ -1,4 +1,4 @@
--- What raising the rows of schema 1 is.
+-- What upgrading the rows of schema 1 is.
 use Rattle.std.specs.Prelude.{◌≡◌, ◌≤◌, ℕ, pos, true, false, Some, Result, Ok, Err}
 use Rattle.std.specs.Prelude.{IfOk, IsErrAnd, OnOk, OnErr, IsTrue, ◌⊎◌}
 use Rattle.sqlite_trees.specs.View.{doubt}
@@ -31,19 +31,19 @@ pub record AreRaised (old new : Rows) : Type 0 where
   pub same : meaning new.read ≡ meaning old.read
   pub spread : (changed : ℕ) × IsSpreadAll old new changed
 
--- Where nothing is found in rows of schema 1, carrying all lists down raises them.
+-- Where the report on rows of schema 1 is sound, carrying all lists down upgrades them.
 abbrev pub SpreadIsRaised : Type 0
 SpreadIsRaised =
     (old new : Rows) → AreRows old → kept_report_of old ≡ Sound
     → (changed : ℕ) × IsSpreadAll old new changed → AreRaised old new
 
--- what is found, and if that is nothing, all lists are carried down
+-- the report, and where it is sound, all lists are carried down
 abbrev pub IsRaised : Rows → Report → Rows → Type 0
 IsRaised old report new =
     (report ≡ kept_report_of old)
     × (report ≡ Sound → (changed : ℕ) × IsSpreadAll old new changed)
 
--- The rows of a keeper are raised.
+-- The rows of a keeper are upgraded.
 pub record Raises {S : Type 0} (k : Ghosts S) (old new : S)
     (result : Result Report KeepFault) : Type 0 where
   pub follows : k.Follows old new
@@ -64,8 +64,8 @@ pub record Stamps (old new : State) (result : Result ℕ Error) : Type 0 where
   pub keeps : HasCleanDisk new → IsRoom old.now → OnOk result (IsRoom new.now
       × (rows_of new.now ≡ rows_of old.now))
 
--- What raising a room leaves of a database. `Opening` is told by the number of the schema, and
--- `Unsound` tells the first fault.
+-- What upgrading a room leaves of a database. `Opening` depends on the number of the schema, and
+-- `Unsound` names the first fault.
 abbrev pub Leads : Database → Database → Result (Unit {0}) MigrateFault → Type 0
 Leads old new (Ok _) =
     (meta_of old ≡ Some (pos 1)) × (meta_of new ≡ Some (pos 2)) × IsRoom new
@@ -74,12 +74,12 @@ Leads old new (Err (Opening fault)) = Says (pos 1) (meta_of old) (Err fault)
 Leads old new (Err (Unsound path why)) =
     (meta_of old ≡ Some (pos 1)) × (kept_report_of (rows_of old) ≡ Fault path why)
 
--- there is no room, or the database failed, or memory
+-- there is no room, the database failed, or memory ran out
 abbrev pub IsNoRoom : MigrateFault → Type 0
 IsNoRoom (Opening fault) = IsRefusal fault
 IsNoRoom (Unsound path why) = ⊥
 
--- The steps of raising a room, inside a transaction.
+-- The steps of upgrading a room, inside a transaction.
 pub record IsInside (old new : State) (result : Result (Unit {0}) MigrateFault) : Type 0 where
   pub clean : doubt old.is_clean ≤ doubt new.is_clean
   pub was_open : HasCleanDisk new → IsTrue new.is_open → IsTrue old.is_open
@@ -95,7 +95,7 @@ pub record IsInside (old new : State) (result : Result (Unit {0}) MigrateFault) 
       → ShowsVersion (Some (pos 1)) old.now ⊎ (IsWithin old new × IsErrAnd result (λ _. Unit {0}))
   pub empty : HasCleanDisk new → old.now.schema ≡ no_schema → IsErrAnd result IsNoRoom
 
--- What raising a room is.
+-- What upgrading a room is.
 pub record Migrates (old new : State) (result : Result (Unit {0}) MigrateFault) : Type 0 where
   pub ended : new.in_transaction ≡ false
   pub clean : doubt old.is_clean ≤ doubt new.is_clean

@@ -10,7 +10,8 @@ use sqlite::{Alter, Connection};
 // The schema of this version.
 const SCHEMA: i64 = 2;
 
-/// Whether the database holds a room of schema 2, by the row `rooms` of `meta` alone.
+/// Tests that the database holds a room of schema 2, by the row `rooms` of `meta` alone. Nothing is
+/// changed. The error says why it doesn't, or that reading failed.
 pub fn adopt<S: Alter>(conn: &mut Connection<S>) -> Result<(), OpenFault>
     requires { conn.old.in_transaction ≡ false }
     ensures { Adopts (state S.Store conn.old) (state S.Store conn.new) result }

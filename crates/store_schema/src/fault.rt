@@ -1,4 +1,4 @@
-//! Why a room was not made, opened or raised.
+//! Why a room was not made, opened or upgraded.
 ghost use Rattle.std.specs.Prelude.{◌≡◌};
 ghost use Rattle.store_schema.specs.Making.{create_fault_of};
 ghost use Rattle.store_schema.specs.Opening.{IsCalled, IsFailure};
@@ -10,7 +10,7 @@ use sqlite::{Error, ErrorCode};
 /// Why no room was made. The tables are then as they were.
 #[derive(Clone, Copy, Debug, PartialEq, Eq)]
 pub enum CreateFault {
-    /// Want of memory.
+    /// Out of memory.
     Memory,
     /// The database failed, or isn't empty.
     Db,
@@ -36,14 +36,14 @@ pub enum OpenFault {
     NewVersion(i64),
     /// The database failed.
     Db,
-    /// Want of memory.
+    /// Out of memory.
     Memory,
 }
 
-/// Why a room of schema 1 was not raised to schema 2. The tables are then as they were.
+/// Why a room of schema 1 was not upgraded to schema 2. The tables are then as they were.
 #[derive(Drop)]
 pub enum MigrateFault {
-    /// The database holds no room of schema 1, or it failed, or memory.
+    /// The database holds no room of schema 1, it failed, or memory ran out.
     Opening(OpenFault),
     /// The rows aren't sound.
     Unsound {
@@ -54,7 +54,8 @@ pub enum MigrateFault {
     },
 }
 
-/// A text that isn't understood asks for a table or a column that isn't there.
+/// The fault for a query that failed. A text that isn't understood names a table or a column that
+/// isn't there.
 pub(crate) fn open_fault(error: &Error) -> OpenFault
     ensures { IsCalled error.now result }
 {
@@ -65,7 +66,7 @@ pub(crate) fn open_fault(error: &Error) -> OpenFault
     }
 }
 
-/// A database that holds a room, and fails.
+/// The fault for a database that holds a room, and fails.
 pub(crate) fn failure_of(error: &Error) -> OpenFault
     ensures { IsFailure result }
 {
@@ -75,7 +76,7 @@ pub(crate) fn failure_of(error: &Error) -> OpenFault
     }
 }
 
-/// A keeper that fails.
+/// The fault for a keeper that fails.
 pub(crate) fn keeper_failure(fault: KeepFault) -> OpenFault
     ensures { IsFailure result }
 {

@@ -32,7 +32,7 @@ fn make_room<S: Alter>(tx: &mut Transaction<'_, S>, owners: &Owners) -> Result<(
 
 /// Makes an empty database a room: its tables, the number of their schema, and the root folder,
 /// with the dacl `list:a` and the entry `A:fd:OWNER@:rwanNxDtThHdcCoy`, and the sacl `list:a`
-/// without entries. Where the database has a table, an index or a view it answers `Db`.
+/// without entries. The error is `Db` where the database has a table, an index or a view.
 pub fn create<S: Alter>(conn: &mut Connection<S>, owners: &Owners) -> Result<(), CreateFault>
     requires { conn.old.in_transaction ≡ false }
     ensures { Founds owners.now (state S.Store conn.old) (state S.Store conn.new) result }

@@ -1,4 +1,4 @@
-//! Laws of rooms that are made and raised.
+//! Laws of rooms that are made and upgraded.
 ghost use Rattle.store_schema.specs.NewRoom.{NewRoomIsSound};
 ghost use Rattle.store_schema.specs.Raising.{SpreadIsRaised};
 

@@ -1,4 +1,4 @@
-//! What makes, recognizes and raises the tables of a room.
+//! What makes, recognizes and upgrades the tables of a room.
 #![tactic(auto)]
 
 mod adopting;

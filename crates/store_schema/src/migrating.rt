@@ -1,4 +1,4 @@
-//! A room of schema 1 that is raised to schema 2.
+//! A room of schema 1 that is upgraded to schema 2.
 ghost use Rattle.std.specs.Prelude.{◌≡◌, false, IsTrue};
 ghost use Rattle.sqlite.specs.Held.{state};
 ghost use Rattle.store_schema.specs.Raising.{IsInside, Migrates};
@@ -40,9 +40,9 @@ fn migrate_inside<S: Alter>(alloc: Global, tx: &mut Transaction<'_, S>) -> Resul
     }
 }
 
-/// Raises a room of schema 1, which stores the inherited entries of objects that aren't linked and
-/// no others, to schema 2, which stores those of all objects. The rows are tested before. After
-/// that they are sound and mean what they meant.
+/// Upgrades a room of schema 1, which stores the inherited entries of objects that aren't linked
+/// and no others, to schema 2, which stores those of all objects. The rows are tested before. After
+/// that they are sound and mean what they meant. After an error the tables are as they were.
 pub fn migrate<S: Alter>(alloc: Global, conn: &mut Connection<S>) -> Result<(), MigrateFault>
     requires { conn.old.in_transaction ≡ false }
     ensures { Migrates (state S.Store conn.old) (state S.Store conn.new) result }

@@ -23,7 +23,7 @@ fn carry_down<K: Keep>(alloc: Global, keep: &mut K) -> Result<(), KeepFault>
     }
 }
 
-// Looks through the rows, and where nothing is found, carries all lists down.
+// Tests all rows, and where no fault is found, carries all lists down.
 fn raise_rows<K: Keep>(alloc: Global, keep: &mut K) -> Result<Report, KeepFault>
     ensures raises { Raises K.Keep keep.old keep.new result }
 {
@@ -49,7 +49,7 @@ fn raise_by<S: Alter>(alloc: Global, keeper: &mut Keeper<'_, '_, S>) -> Result<R
     raise_rows(alloc, keeper)
 }
 
-/// Raises the rows inside a transaction, or tells the first fault in them.
+/// Upgrades the rows inside a transaction, or reports the first fault in them.
 pub(crate) fn raise_inside<S: Alter>(
     alloc: Global,
     tx: &mut Transaction<'_, S>,

@@ -52,7 +52,7 @@ fn ask_version<S: Alter>(tx: &mut Transaction<'_, S>) -> Result<Option<i64>, Ope
     }
 }
 
-// What this number of a schema says, where another is wanted.
+// The answer for this number of a schema, where another is expected.
 fn judge(version: Option<i64>, wanted: i64) -> Result<(), OpenFault>
     ensures { Says wanted version result }
 {

@@ -1,4 +1,4 @@
--- What a look at the bytes of a number tells.
+-- What reading the bytes of a number answers.
 use Rattle.std.proofs.Common.{◌≡◌, ◌<◌, ℕ, pos, List, [], ◌∷◌, map, filter, find, Some, inl, inr, ◌⊎◌, refl, sym, ap, subst, ◌∙◌, true, false, Bool, cond, option_map, IsPermutation}
 use Rattle.std.specs.Prelude.{◌==◌, option_and_then, if◌then◌else◌}
 use Rattle.sqlite.specs.declared.types.Value.{Value}

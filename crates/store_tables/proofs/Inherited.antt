@@ -102,7 +102,7 @@ reads_held flags own inh h e =
       inh = s.1 ∙ ap (λ (x : Held). Some x.inh) s.2;
     }
 
--- what the cells behind the number are read as
+-- what the cells after the number are read as
 record ReadsCells (v2 v3 v4 v5 v6 v7 v8 v9 v10 v11 v12 : Value) (n : Node) : Type 0 where
   parent : parent_in v2 ≡ Some n.parent
   name : text_in v3 ≡ Some n.name

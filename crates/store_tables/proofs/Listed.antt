@@ -1,4 +1,4 @@
--- What the names of children tell, and a look at one of them.
+-- What reading the names of children answers, and reading one of them.
 use Rattle.std.proofs.Common.{◌≡◌, ℕ, zero, suc, pos, negsuc, List, [], ◌∷◌, ◌++◌, map, filter, take, length, None, Some, Option, IsTrue, inl, inr, refl, sym, ap, subst, ◌∙◌, true, false, Bool, cond, not, append-nil, append_assoc, arith, is_lt, IsPermutation}
 use Rattle.std.specs.Prelude.{◌==◌, is_none, option_and_then, option_map, if◌then◌else◌}
 use Rattle.std.specs.List.{AllByRecursion, filter_map, cons_option}

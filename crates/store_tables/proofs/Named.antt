@@ -1,4 +1,4 @@
--- What a look at the rows of one parent and one name tells.
+-- What reading the rows of one parent and one name answers.
 use Rattle.std.proofs.Common.{◌≡◌, ◌<◌, ℕ, ℤ, pos, List, [], ◌∷◌, map, filter, find, None, Some, Option, Result, refl, sym, ap, subst, ◌∙◌, true, false, Bool, cond, not, ◌&&◌, arith}
 use Rattle.std.specs.Prelude.{option_and_then, option_map, is_none, is_some, if◌then◌else◌, ◌==◌, nat_lt}
 use Rattle.std.specs.List.{filter_map, cons_option}
@@ -153,7 +153,7 @@ module _ (db : Database) (room : IsRoom db) (parent : ℕ) (name : List ℕ) whe
   something r one None seen None number = tt
   something r one None seen (Some id) number = unread_row db room r id (has_found test (db.trees 0) r (only_one test (db.trees 0) r one).0) seen number
 
-  -- what is told of the rows that were found by their parent and their name
+  -- what the rows that were found by their parent and their name answer
   pub tells_child : (rows : List Row) → IsPermutation (map shown_node (filter test (db.trees 0))) rows → told (answer_of (seen_only rows))
   tells_child [] perm = sym (none_read (λ r. node_in (shown_node r)) (λ (n : Node). has_parent parent n && same_text n.name name) test (child_agrees parent name) (db.trees 0) (no_map shown_node _ (alone_in _ (IsPermutation-sym _ [] perm))))
   tells_child (x ∷ []) perm =

@@ -1,4 +1,4 @@
--- What a look at a row by its number tells.
+-- What reading a row by its number answers.
 use Rattle.std.proofs.Common.{◌≡◌, ◌<◌, ℕ, pos, List, [], ◌∷◌, map, filter, find, None, Some, Option, Result, Ok, Err, inl, inr, ◌⊎◌, refl, sym, ap, subst, ◌∙◌, true, false, Bool, cond}
 use Rattle.std.specs.Prelude.{option_and_then, option_map, is_none, is_some, if◌then◌else◌, IfOk, IfErr}
 use Rattle.std.specs.List.Sorted.{IsPermutation}
@@ -71,7 +71,7 @@ module _ (db : Database) (room : IsRoom db) (id : ℕ) (low : 0 < id) where
       let bad = unread_at_row db id room.nodes.0 ∙ ap (λ o. is_some (option_and_then (λ r. unread_in (shown_node r)) o)) found ∙ ap (λ o. is_some (if is_none o then number_in (rowid r) else None)) seen ∙ ap is_some number in
       subst (λ o. Tells (IsUnreadableAt id) (IsNodeAt id) (rows_of db) (answer_of (seen_as None o))) (sym number) (refl, bad)
 
-  -- what is told of the rows that were found by this number
+  -- what the rows that were found by this number answer
   pub tells_node : (rows : List Row) → IsPermutation (map shown_node (filter (has_rowid (pos id)) (db.trees 0))) rows → Tells (IsUnreadableAt id) (IsNodeAt id) (rows_of db) (answer_of (seen_only rows))
   tells_node rows perm = by (at_most_one (pos id) (db.trees 0) room.nodes.0)
     where

@@ -24,7 +24,7 @@ number_of_row r = number_in (rowid r)
 abbrev AllPast : ℕ → List ℕ → Type 0
 AllPast id ids = AllByRecursion (λ k. id < k) ids
 
--- ---- rows behind a row have greater numbers
+-- ---- rows after a row have greater numbers
 
 module _ (f : Row → Option ℕ) (keyed : (r : Row) (k : ℕ) → f r ≡ Some k → rowid r ≡ Int (pos k)) (id : ℕ) (r : Row) (is : rowid r ≡ Int (pos id)) where
   past_step : (b : Row) (rest : List ℕ) (o : Option ℕ) → f b ≡ o → value_cmp (rowid r) (rowid b) ≡ Less → AllPast id rest → AllPast id (cons_option o rest)

@@ -1,4 +1,4 @@
--- The rows of a query over one table, in the order of one column or cut off behind the first.
+-- The rows of a query over one table, in the order of one column or cut off after the first.
 use Rattle.std.proofs.Common.{◌≡◌, ℕ, List, [], ◌∷◌, map, filter, false, refl, ap, subst, ◌∙◌, Ordering, Less, is_gt, is_eq, IsPermutation}
 use Rattle.std.specs.List.{AllByRecursion}
 use Rattle.std.proofs.lemmas.Bool.{cond-false}

@@ -32,7 +32,7 @@ use Rattle.store_tables.proofs.Rowids.{at_most_one, only_one, has_found, cells_o
 use Rattle.store_tables.proofs.Actions.{ends, sets_off_none}
 use Rattle.store_tables.proofs.Updates.{cast_int, cast_null, keeps_number, update_edit}
 
--- what the columns behind the number make of cells
+-- what the columns after the number make of cells
 abbrev pub recast : Row → Row
 recast cells = cast_all (drop 1 nodes.columns) cells
 

@@ -1,4 +1,4 @@
--- What a look at the root, or at one child, tells.
+-- What reading the root, or one child, answers.
 use Rattle.std.proofs.Common.{◌≡◌, ℕ, pos, List, [], ◌∷◌, map, filter, take, None, Some, Option, inl, inr, refl, sym, ap, subst, ◌∙◌, true, false, Bool, cond, not, ◌&&◌, arith, is_eq, is_lt}
 use Rattle.std.specs.Prelude.{is_none, option_map}
 use Rattle.std.specs.List.{filter_map}

@@ -37,7 +37,7 @@ pub record Stores (n : Node) (c : Columns) : Type 0 where
   pub sacl_own : entries_in (Text (string_bytes c.sacl_own)) ≡ Some n.sacl.own
   pub sacl_inh : entries_in (Text (string_bytes c.sacl_inh)) ≡ Some n.sacl.inh
 
--- an object is stored in columns that are put in with the number that is told
+-- an object is stored in columns that are put in with this number
 pub record IsStored (node : Node) (id : ℕ) (old new : Database) : Type 0 where
   pub columns : Columns
   pub stores : Stores node columns

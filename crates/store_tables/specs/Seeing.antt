@@ -1,4 +1,4 @@
--- What rows are read as, and what a call answers by it.
+-- What rows are read as, and what a call answers for them.
 use Rattle.std.specs.List.{filter_map}
 use Rattle.std.specs.Prelude.{◌≡◌, ℕ, option_map, List, [], ◌∷◌, ◌++◌, Option, Some, None, Result}
 use Rattle.std.specs.Prelude.{Ok, Err, Bool, true, false}
@@ -32,7 +32,7 @@ seen_in f r = seen_as (f r) (number_in (column r 0))
 
 -- ---- several rows
 
--- the object in the rows that were found, which are to be one at most
+-- the object in the rows that were found, which have to be one at most
 abbrev pub seen_only : List Row → Seen (Option Node)
 seen_only [] = Found None
 seen_only (r ∷ []) = seen_as (option_map Some (node_in r)) (number_in (column r 0))
@@ -61,13 +61,13 @@ bytes_seen (r ∷ other ∷ more) = Foreign
 abbrev pub numbers_seen : List Row → List ℕ
 numbers_seen rows = filter_map (λ r. number_in (column r 0)) rows
 
--- the names in the first column, but for what is none
+-- the names in the first column, without values that aren't names
 abbrev pub names_seen : List Row → List (List ℕ)
 names_seen rows = filter_map (λ r. name_in (column r 0)) rows
 
 -- ---- answers
 
--- there was no memory for the database's own work
+-- memory for the database's own work ran out
 abbrev pub wants_memory : Error → Bool
 wants_memory (SqliteFailure OutOfMemory) = true
 wants_memory other = false

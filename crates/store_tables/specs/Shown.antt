@@ -48,7 +48,7 @@ pub record IsRoom (db : Database) : Type 0 where
   pub members : IsShaped Table (db.trees 3)
   pub audits : IsShaped Table (db.trees 7)
 
--- the same, but that they obey their schema, which a connection tells
+-- the same, without that they obey their schema, which the connection ensures
 pub record HasTables (db : Database) : Type 0 where
   pub schema : db.schema ≡ room_schema
   pub nodes : IsShaped Table (db.trees 0)
@@ -112,7 +112,7 @@ pub record Replaces (id : ℤ) (values : Row) (db next : Trees) : Type 0 where
   pub members : next 3 ≡ db 3
   pub audits : next 7 ≡ db 7
 
--- the cells of a row of nodes behind its number, with this text for what a list inherits
+-- the cells of a row of nodes after its number, with this text for what a list inherits
 abbrev pub inheriting : Which → List ℕ → Row → Row
 inheriting Dacl text r = column r 2 ∷ column r 3 ∷ column r 4 ∷ column r 5 ∷ column r 6
     ∷ column r 7 ∷ column r 8 ∷ column r 9 ∷ Text text ∷ column r 11 ∷ column r 12 ∷ []
@@ -161,7 +161,7 @@ GetsBytes false id bytes old new = new ≡ old
 abbrev pub stored_record : ℤ → Row → Row
 stored_record seq values = Int seq ∷ Null ∷ values
 
--- a record is put in behind the others
+-- a record is put in after the others
 pub record Notes (values : Row) (db next : Trees) : Type 0 where
   pub seq : ℤ
   pub nodes : next 0 ≡ db 0

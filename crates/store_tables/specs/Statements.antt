@@ -94,7 +94,7 @@ OfOne Becomes count old new = count ≡ 1 → Becomes old.now.trees new.now.tree
 abbrev pub OfAny : (Trees → Trees → Type 0) → ℕ → State → State → Type 0
 OfAny Becomes count old new = Becomes old.now.trees new.now.trees
 
--- a row of nodes is put in with the next number, which the connection then tells
+-- a row of nodes is put in with the next number, which the connection then answers
 abbrev pub PutsNode : Row → State → State → Type 0
 PutsNode values old new = Adds (next_rowid (old.now.trees 0)) values old.now.trees new.now.trees
     × (new.last_rowid ≡ next_rowid (old.now.trees 0))

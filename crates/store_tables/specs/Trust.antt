@@ -16,7 +16,8 @@ use Rattle.store_tables.specs.Meaning.{rows_of}
 use Rattle.store_tables.specs.Seeing.{Nowhere}
 use Rattle.store_tables.specs.Shown.{IsRoom, Stays}
 
--- the tables were those of a rooms file at the first, and the disk has told no lie up to the last
+-- the tables were those of a rooms file at first, and the disk has returned what was written up to
+-- the last state
 pub record IsTrusted (first last : State) : Type 0 where
   pub clean : HasCleanDisk last
   pub is_open : IsTrue last.is_open
@@ -33,7 +34,7 @@ Rewrites node old new =
 abbrev pub Inherits : ℕ → Which → List Ace → Database → Database → Type 0
 Inherits id which entries old new = Changes id (with_inh which entries) (rows_of old) (rows_of new)
 
--- a record stands behind the others, and nothing else is changed
+-- a record is added after the others, and nothing else is changed
 abbrev pub HasNoted : AuditRow → Database → Database → Type 0
 HasNoted row old new =
     rows_of new ≡ reading (rows_of old) (with_records (rows_of old).read (row ∷ []))

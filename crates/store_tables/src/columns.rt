@@ -158,7 +158,7 @@ fn path_column(alloc: Global, path: &Text) -> Result<Option<String>, AllocError>
     }
 }
 
-// The sign tells the kind, so a place counts from 1.
+// The sign is the kind, so a place counts from 1.
 fn entry_column(place: usize, kind: RecordKind) -> Option<i64>
     ensures { IfSome result (λ entry. place_in (Int entry) ≡ Some (place, kind)) }
 {

@@ -4,7 +4,7 @@ ghost use Rattle.store_tables.specs.Seeing.{wants_memory};
 
 use sqlite::{Error, ErrorCode};
 
-/// Whether there was no memory for the database's own work, which is no fault of the database.
+/// Whether memory for the database's own work ran out, which is no fault of the database.
 pub fn wants_memory(error: Error) -> bool
     ensures { result ≡ wants_memory error }
 {

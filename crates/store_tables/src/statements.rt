@@ -195,7 +195,7 @@ fn update_dacl_inh<S: Alter>(
     )
 }
 
-// The same of the sacl.
+// Writes what the sacl inherits in the row of this number.
 fn update_sacl_inh<S: Alter>(
     tx: &mut Transaction<'_, S>,
     id: i64,
@@ -244,7 +244,7 @@ pub(crate) fn update_bytes<S: Alter>(
     )
 }
 
-/// Puts in a row with these columns, whose number the connection then tells.
+/// Puts in a row with these columns. The connection then answers its number.
 pub(crate) fn insert_node<S: Alter>(
     tx: &mut Transaction<'_, S>,
     columns: &Columns,
@@ -289,7 +289,7 @@ pub(crate) fn insert_bytes<S: Alter>(
     )
 }
 
-/// Puts in a record behind the others.
+/// Puts in a record after the others.
 pub(crate) fn insert_record<S: Alter>(
     tx: &mut Transaction<'_, S>,
     noted: &Record,

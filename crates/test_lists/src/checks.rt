@@ -1,4 +1,4 @@
-//! What is told of written inputs.
+//! The answers to written inputs.
 
 use cli_check::answer;
 use room_ace::MOST_BYTES;
@@ -6,7 +6,7 @@ use std::io::{self, ErrorKind, Read, Write};
 use std::process::Abort;
 use std::test::Fail;
 
-// The input is told this line, and the status is this one.
+// Tests that this line and this status answer the input.
 fn expect_told(
     rt: &(impl Abort + AllocGlobal),
     input: &[u8],

@@ -70,7 +70,7 @@ fn group_file_quoted(rt: HostRuntime) -> Result<(), Fail> {
     Ok(())
 }
 
-// A group file of so many rows, all of one group.
+// A group file of this many rows, all of one group.
 fn file_of(alloc: Global, rows: usize) -> Result<String, AllocError> {
     let mut text = String::from_str(alloc, "group,user\n")?;
     for row in 0..rows {
@@ -79,17 +79,17 @@ fn file_of(alloc: Global, rows: usize) -> Result<String, AllocError> {
     Ok(text)
 }
 
-// The pairs that are read, without what the contract says of them.
+// The pairs that are read, in a function without a contract.
 fn pairs_in(alloc: Global, text: &str) -> Result<Pairs, Failure<CsvFault>> {
     read_groups(alloc, text.as_bytes())
 }
 
-// The text of the pairs, without what the contract says of it.
+// The text of the pairs, in a function without a contract.
 fn written(alloc: Global, pairs: &Pairs) -> Result<Bytes, AllocError> {
     write_groups(alloc, pairs.as_slice())
 }
 
-// Whether so many pairs are read of the text, and written as the same text.
+// Whether this many pairs are read of the text, and written as the same text.
 fn reads_back(alloc: Global, text: &str, count: usize) -> Result<bool, Fail> {
     let pairs = pairs_in(alloc, text)?;
     let bytes = written(alloc, &pairs)?;
@@ -147,7 +147,7 @@ fn two_rows(alloc: Global) -> Result<Vec<AuditRow>, Fail> {
     Ok(rows)
 }
 
-// The text of the records, without what the contract says of it.
+// The text of the records, in a function without a contract.
 fn audits_text(alloc: Global, rows: &[AuditRow]) -> Result<Bytes, AllocError> {
     write_audits(alloc, rows)
 }

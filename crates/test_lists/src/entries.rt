@@ -7,7 +7,7 @@ use room_ace::{
 use std::alloc::{AllocError, Global};
 use std::test::Fail;
 
-// The fault of the text of an entry, as it is told.
+// The fault of the text of an entry, as it is printed.
 fn fault_in(alloc: Global, text: &str) -> &'static str {
     match read_entry(alloc, text) {
         Ok(_) => "read",
@@ -16,7 +16,7 @@ fn fault_in(alloc: Global, text: &str) -> &'static str {
     }
 }
 
-// What is told of the entry in a dacl.
+// The answer to the entry in a dacl.
 fn judged(alloc: Global, text: &str, kind: ObjKind) -> Result<&'static str, Fail> {
     match valid(&read_entry(alloc, text)?, Which::Dacl, kind) {
         Ok(()) => Ok("valid"),
@@ -106,7 +106,7 @@ fn valid_on_document(rt: HostRuntime) -> Result<(), Fail> {
     Ok(())
 }
 
-// So many own entries.
+// This many own entries.
 fn own_entries(alloc: Global, count: usize) -> Result<Entries, Fail> {
     let mut entries = Entries::new(alloc);
     for _ in 0..count {
@@ -199,7 +199,7 @@ fn names_of(alloc: Global, texts: &[&str]) -> Result<Names, Fail> {
     Ok(names)
 }
 
-// Whether the names have the sought one, as they stand and once they are sorted.
+// Whether the names have the sought one, before and after they are sorted.
 fn is_found(alloc: Global, names: &mut Names, sought: &str) -> Result<(bool, bool), Fail> {
     let name = read_name(alloc, sought)?;
     let unsorted = names.contains(&name);

@@ -1,4 +1,4 @@
-//! Worked examples: lists in text, one caller, and what is told.
+//! Worked examples: lists in text, one caller, and the verdict.
 use room_ace::{Caller, Entries, Mask, Names, Owners, read_entry, read_mask, read_name};
 use room_eval::{DeleteVerdict, Ruling, Verdict, decide, events, may_delete, ruling};
 use std::alloc::Global;
@@ -55,7 +55,7 @@ fn verdict_of(alloc: Global, target: &[&str], parent: &[&str]) -> Result<DeleteV
     verdict_on(alloc, &target, &parent)
 }
 
-// What alice is told who deletes an object with the first list under a parent with the second.
+// The verdict for alice who deletes an object with the first list under a parent with the second.
 fn deleting(alloc: Global, target: &[&str], parent: &[&str]) -> Result<String, Fail> {
     match verdict_of(alloc, target, parent)? {
         DeleteVerdict::Granted { by_add: false } => Ok(String::from_str(alloc, "granted")?),
@@ -110,7 +110,7 @@ fn ruling_least_place(rt: HostRuntime) -> Result<(), Fail> {
 
 const SACL: [&str; 3] = ["U:S:alice:rw", "U:F:alice:w", "U:SF:EVERYONE@:"];
 
-// The places of the entries that call for a record, without what the contract says of them.
+// The places of the entries that call for a record, in a function without a contract.
 fn places(
     alloc: Global,
     sacl: &Entries,

@@ -6,7 +6,7 @@ use room_ace::{Failure, Which};
 use std::process::Abort;
 use std::test::Fail;
 
-// The words are this command.
+// Tests that the words are this command.
 fn expect_read(
     rt: &(impl Abort + AllocGlobal),
     words: &[&str],
@@ -29,7 +29,7 @@ fn told(rt: &(impl Abort + AllocGlobal), words: &[&str], kind: ErrorKind) -> Res
     Ok(fault.text)
 }
 
-// The words are refused with a text of this kind.
+// Tests that the words are refused with a text of this kind.
 fn expect_refused(
     rt: &(impl Abort + AllocGlobal),
     words: &[&str],
@@ -40,7 +40,7 @@ fn expect_refused(
     Ok(())
 }
 
-// The help of this subcommand has this line.
+// Tests that the help of this subcommand has this line.
 fn expect_help(rt: &(impl Abort + AllocGlobal), subcommand: &str, line: &str) -> Result<(), Fail> {
     let text = told(rt, &["rooms", subcommand, "--help"], ErrorKind::DisplayHelp)?;
     assert!(rt; text.as_str().contains(line));

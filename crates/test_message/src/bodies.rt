@@ -105,7 +105,7 @@ fn repeated_keys(rt: HostRuntime) -> Result<(), Fail> {
     )
 }
 
-// Adds a byte so many times.
+// Adds a byte `count` times.
 fn push_times(text: &mut String, byte: char, count: usize) -> Result<(), Fail> {
     for _ in 0..count {
         text.push(byte)?;
@@ -138,14 +138,14 @@ fn nested_json(rt: HostRuntime) -> Result<(), Fail> {
     let mut body = String::new(alloc);
     push_times(&mut body, '[', 200)?;
     refuses(alloc, "POST /move/f", body.as_str(), BAD, BAD_BODY)?;
-    // With the object round the arrays it is 127 deep, then 128.
+    // With the object around the arrays it is 127 deep, then 128.
     nested_read(alloc, 126)?;
     nested_refused(alloc, 127)
 }
 
 const UNREAD: &str = "422 Unprocessable Entity";
 
-// Plays texts of lists that are refused, each with the JSON that tells why.
+// Plays texts of lists that are refused, each with the JSON that says why.
 fn refuses_lists(alloc: Global, rows: &[(&str, &str)]) -> Result<(), Fail> {
     for (list, json) in rows {
         refuses(alloc, "PUT /dacl/f", *list, UNREAD, *json)?;
@@ -176,7 +176,7 @@ fn http_bad_list_text(rt: HostRuntime) -> Result<(), Fail> {
     )
 }
 
-// Plays a list with this line so many times, which is refused.
+// Plays a list with this line `count` times, which is refused.
 fn many_lines(alloc: Global, line: &str, count: usize, json: &str) -> Result<(), Fail> {
     let mut list = String::from_str(alloc, "list:\n")?;
     for _ in 0..count {

@@ -4,7 +4,7 @@ use http_message::asks_close;
 use std::alloc::Global;
 use std::test::Fail;
 
-// What is told of a message: whether it closes.
+// Tests whether a message closes the connection.
 fn closes(alloc: Global, message: &str, wanted: bool) -> Result<(), Fail> {
     let head = head_of(alloc, message.as_bytes())?;
     let told = if asks_close(&head) { "closes" } else { "stays" };

@@ -1,4 +1,4 @@
-//! Messages as they stand on a connection, and what is told of each.
+//! Messages as they stand on a connection, and how each is read.
 
 use crate::telling::request_text;
 use http_message::{Field, Fields, Head, HttpFault, Routes, asks_close, fault_bytes, request_of};
@@ -14,7 +14,7 @@ const MOST_LINES: usize = 16;
 /// The status of most refusals.
 pub const BAD: &str = "400 Bad Request";
 
-/// That what was told about something is what is wanted.
+/// Tests that what was answered about something is what was expected.
 pub fn agree(about: &str, told: &str, wanted: &str) -> Result<(), Fail> {
     if told == wanted {
         return Ok(());
@@ -22,7 +22,7 @@ pub fn agree(about: &str, told: &str, wanted: &str) -> Result<(), Fail> {
     Err(Fail::new(format_args!("{about} => {told}, not {wanted}")))
 }
 
-/// The text of bytes that are one.
+/// The bytes as a text, if they are UTF-8.
 pub fn as_text(bytes: &[u8]) -> &str {
     match text_of(bytes) {
         Some(text) => text,
@@ -30,14 +30,13 @@ pub fn as_text(bytes: &[u8]) -> &str {
     }
 }
 
-/// Plays a message. It asks what is wanted, as in `root Read /f`, or is refused by the reply that
-/// is wanted.
+/// Plays a message. It is read as this request, as in `root Read /f`, or refused by this reply.
 pub fn plays(alloc: Global, message: &[u8], wanted: &str) -> Result<(), Fail> {
     let told = told(alloc, message)?;
     agree(as_text(message), told.as_str(), wanted)
 }
 
-/// Plays messages of root, each with its method and target, its body and what is wanted.
+/// Plays messages of root, each with its method and target, its body and what it is read as.
 pub fn plays_all(alloc: Global, rows: &[(&str, &str, &str)]) -> Result<(), Fail> {
     for (asked, body, wanted) in rows {
         plays_by_root(alloc, *asked, *body, *wanted)?;
@@ -105,7 +104,7 @@ fn asked_text(
     }
 }
 
-// The reply that tells a fault.
+// The reply for a fault.
 fn fault_text(alloc: Global, fault: HttpFault, close: bool) -> Result<String, Fail> {
     let text = fault_bytes(alloc, fault, close)?;
     Ok(String::from_str(alloc, as_text(text.as_slice()))?)
@@ -156,7 +155,7 @@ fn fields_of(alloc: Global, message: &[u8]) -> Result<Fields, AllocError> {
     Ok(Fields::from_vec(items))
 }
 
-// Adds the field of a line, whose value begins behind the colon.
+// Adds the field of a line, whose value begins after the colon.
 fn push_field(alloc: Global, items: &mut Vec<Field>, line: &[u8]) -> Result<(), AllocError> {
     let (name, value) = cut(line, b':');
     let name = bytes_of(alloc, name)?;
@@ -172,7 +171,7 @@ fn behind_line(bytes: &[u8]) -> &[u8] {
     }
 }
 
-// What stands behind the first empty line.
+// What stands after the first empty line.
 fn body_of(message: &[u8]) -> &[u8] {
     let mut rest = message;
     for _ in 0..MOST_LINES {
@@ -185,7 +184,7 @@ fn body_of(message: &[u8]) -> &[u8] {
     rest
 }
 
-// What stands before the first of these bytes, and behind it.
+// What stands before the first of these bytes, and after it.
 fn cut(bytes: &[u8], byte: u8) -> (&[u8], &[u8]) {
     match bytes.iter().position(|it| *it == byte) {
         None => (bytes, &[]),

@@ -9,13 +9,13 @@ use room_rows::{Path, Text, read_path};
 use std::alloc::Global;
 use std::test::Fail;
 
-// That the reply has this text.
+// Tests that the reply has this text.
 fn tells(alloc: Global, reply: Reply, close: bool, wanted: &str) -> Result<(), Fail> {
     let text = reply_bytes(alloc, &reply, close)?;
     agree("a reply", as_text(text.as_slice()), wanted)
 }
 
-// That the reply has this status and this JSON.
+// Tests that the reply has this status and this JSON.
 fn tells_json(alloc: Global, reply: Reply, status: &str, json: &str) -> Result<(), Fail> {
     let text = json_text(alloc, status, json)?;
     tells(alloc, reply, false, text.as_str())
@@ -75,7 +75,7 @@ fn bytes_of_a_document(rt: HostRuntime) -> Result<(), Fail> {
     tells(alloc, bytes_reply(alloc, b"\r\n\0")?, true, LAST_BYTES)
 }
 
-// The reply that tells the list of this text.
+// The reply with the list of this text.
 fn list_reply(alloc: Global, text: &str) -> Result<Reply, Fail> {
     let list = read_list(alloc, text.as_bytes())?;
     Ok(Reply::Lists(list.flags(), list.entries().copy()?))
@@ -258,7 +258,7 @@ fn refusal(alloc: Global, at: &str, why: Reason) -> Result<Reply, Fail> {
     })
 }
 
-// That the refusal has this status, and says this word.
+// Tests that the refusal has this status and this word.
 fn refuses(alloc: Global, at: &str, why: Reason, status: &str, word: &str) -> Result<(), Fail> {
     let json = format!(in alloc; "{{\"at\":\"{at}\",\"why\":\"{word}\"}}")?;
     tells_json(alloc, refusal(alloc, at, why)?, status, json.as_str())
@@ -291,7 +291,7 @@ fn refusals(rt: HostRuntime) -> Result<(), Fail> {
     )
 }
 
-// That the refusal of the entry at a place of a sent list says this.
+// Tests that the refusal of the entry at a place of a sent list says this.
 fn refuses_entry(alloc: Global, place: usize, fault: ListFault, json: &str) -> Result<(), Fail> {
     let made = refusal(alloc, "/f", Reason::BadList { place, fault })?;
     tells_json(alloc, made, "422 Unprocessable Entity", json)
@@ -310,7 +310,7 @@ fn http_bad_list_entry(rt: HostRuntime) -> Result<(), Fail> {
     refuses_entry(alloc, 1, ListFault::InheritanceOnDocument, json)
 }
 
-// That the last reply of a connection has this status and tells why.
+// Tests that the last reply of a connection has this status and says why.
 fn tells_why(alloc: Global, status: StatusCode, why: &str, line: &str) -> Result<(), Fail> {
     let length = why.len() + 10;
     let kind = "Content-Type: application/json";

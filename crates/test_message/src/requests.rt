@@ -1,4 +1,4 @@
-//! Each route with its methods, and what is asked by it.
+//! Each route with its methods, and the request that it is read as.
 use crate::playing::{plays, plays_all, plays_by_root};
 use std::test::Fail;
 
@@ -31,7 +31,7 @@ fn every_route_and_method(rt: HostRuntime) -> Result<(), Fail> {
     )
 }
 
-// What a list is read as can be sent again.
+// A list that is read can be sent again.
 #[test]
 fn write_back(rt: HostRuntime) -> Result<(), Fail> {
     let list = "list:a\nA:fdI:root:rwanNxDtThHdcCoy\n";
@@ -66,7 +66,7 @@ fn can_query(rt: HostRuntime) -> Result<(), Fail> {
     )
 }
 
-// A body where none belongs, a query where none is looked at, and a type of the body.
+// A body where none belongs, a query where none is read, and a type of the body.
 #[test]
 fn ignored_parts(rt: HostRuntime) -> Result<(), Fail> {
     plays_all(

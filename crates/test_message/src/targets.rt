@@ -119,7 +119,7 @@ fn http_escaped_slash(rt: HostRuntime) -> Result<(), Fail> {
     )
 }
 
-// A target whose last name has so many bytes.
+// A target whose last name has `count` bytes.
 fn long_target(alloc: Global, front: &str, count: usize) -> Result<String, Fail> {
     let mut target = String::from_str(alloc, front)?;
     for _ in 0..count {

@@ -33,7 +33,7 @@ fn caller_of(alloc: Global, who: &str) -> Result<Option<Name>, Fail> {
     Ok(Some(read_name(alloc, who)?))
 }
 
-// The request of these words: what is asked, a path, and what stands behind.
+// The request of these words: what is asked, a path, and what follows it.
 fn request_of(alloc: Global, words: &str) -> Result<Request, Fail> {
     let (verb, words) = cut(words);
     let (place, rest) = cut(words);
@@ -50,7 +50,7 @@ fn request_of(alloc: Global, words: &str) -> Result<Request, Fail> {
     }
 }
 
-// The request that brings a path alone, or the name of a list.
+// The request that takes a path alone, or the name of a list.
 fn reading_of(verb: &str, path: Path, rest: &str) -> Result<Request, Fail> {
     match verb {
         "Read" => Ok(Request::Read(path)),

@@ -13,7 +13,8 @@ const AT: i64 = 1000;
 // No line makes more calls than this.
 const MOST_CALLS: u64 = 400;
 
-/// Which calls fail: so many pass, and the next one fails, alone or with all later ones.
+/// Which calls fail: the first `passing` pass, and the next one fails, alone or with all later
+/// ones.
 #[derive(Clone, Copy)]
 pub struct Plan {
     pub passing: u64,
@@ -29,8 +30,8 @@ pub fn failing<K>(keeper: K, plan: Plan) -> FailKeep<K> {
     }
 }
 
-/// Plays scripts over what is kept after the first ones, where calls fail by a plan, and then the
-/// last ones in the room of what is kept itself.
+/// Plays scripts over the room that the first ones leave, where calls fail by a plan, and then the
+/// last ones over the same room without failures.
 pub fn play_failing(
     alloc: Global,
     made: &[&str],
@@ -44,8 +45,8 @@ pub fn play_failing(
     room.play_all(alloc, after)
 }
 
-/// Plays a script over what is kept after the first ones, and counts the calls of each line. Behind
-/// ` # ` stand the counts that are wanted; where nothing stands there, nothing is to be written.
+/// Plays a script over the room that the first ones leave, and counts the calls of each line. The
+/// expected counts stand after ` # `; where nothing stands there, nothing may be written.
 pub fn play_counted(alloc: Global, made: &[&str], script: &str) -> Result<(), Fail> {
     let mut tally = Tally::of(keep_after(alloc, made)?);
     count_lines(alloc, &mut tally, script)
@@ -67,8 +68,8 @@ fn count_line(alloc: Global, tally: &mut Tally<MemKeep>, line: &str) -> Result<(
     expect_calls(&tally.calls, line, wanted)
 }
 
-/// Which lines of a script are answered by the fault, in order, over what is kept after the first
-/// ones, where calls fail by a plan.
+/// Which lines of a script are answered by the fault, in order, over the room that the first ones
+/// leave, where calls fail by a plan.
 pub fn faults_along(
     alloc: Global,
     made: &[&str],
@@ -108,7 +109,7 @@ enum End {
     Astray,
 }
 
-// The end of a line that made so many calls, where so many could be made before the fault.
+// The end of a line that made `made` calls, where `calls` could be made before the fault.
 fn end_of(told: &str, wanted: &str, made: u64, calls: u64) -> End {
     if told == "fault Store" && made == calls {
         End::Stopped
@@ -131,13 +132,14 @@ fn end_over(
     Ok(end_of(told.as_str(), wanted, made, calls))
 }
 
-// The end of a line over a copy of what is kept, where calls fail by this plan.
+// The end of a line over a copy of the keeper, where calls fail by this plan.
 fn end_at(alloc: Global, keep: &MemKeep, line: &str, plan: Plan) -> Result<End, Fail> {
     let mut failing = failing(Tally::of(keep.copy()?), plan);
     end_over(alloc, &mut failing, line, plan.passing)
 }
 
-// The end where the call after so many fails, alone and with all later ones: it has to be the same.
+// The end where the call after `passing` others fails, alone and with all later ones. Both have to
+// be the same.
 fn end_after(alloc: Global, keep: &MemKeep, line: &str, passing: u64) -> Result<End, Fail> {
     let alone = end_at(
         alloc,
@@ -164,7 +166,8 @@ fn end_after(alloc: Global, keep: &MemKeep, line: &str, passing: u64) -> Result<
     }
 }
 
-// That the line stops at each fault in turn, until there is none, and makes a call at all.
+// Tests that the line stops at each fault in turn, until there is none, and makes at least one
+// call.
 fn stop_line(alloc: Global, keep: &MemKeep, line: &str) -> Result<(), Fail> {
     'calls: for calls in 0..MOST_CALLS {
         match end_after(alloc, keep, line, calls)? {
@@ -176,7 +179,7 @@ fn stop_line(alloc: Global, keep: &MemKeep, line: &str) -> Result<(), Fail> {
     Err(Fail::new(format_args!("{line} makes too many calls")))
 }
 
-// Whether the line is a request, the operator's reset, or what carries lists down.
+// Whether the line is a request, the operator's reset, or a spread.
 fn is_asked(line: &str) -> bool {
     line.starts_with("operator Reset ")
         || line.starts_with("keeper Spread")
@@ -200,8 +203,8 @@ fn stop_scripts(alloc: Global, keep: &mut MemKeep, scripts: &[&str]) -> Result<(
     Ok(())
 }
 
-/// Each request of the scripts, which follow each other in an open room, stops at each fault in
-/// turn. The first that doesn't is the error.
+/// Tests that each request of the scripts, which follow each other in an open room, stops at each
+/// fault in turn. The first that doesn't is the error.
 pub fn stop_in_turn(alloc: Global, scripts: &[&str]) -> Result<(), Fail> {
     let mut keep = open_keep(alloc)?;
     stop_scripts(alloc, &mut keep, scripts)

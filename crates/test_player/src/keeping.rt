@@ -1,5 +1,5 @@
 //! Each call of a keeper that reads, made through the trait by the numbers of objects, and its
-//! answer in words; walks, and what carries lists down.
+//! answer in words; walks and spreads too.
 
 use crate::objects::push_node;
 use crate::replying::{kind_text, push_fault, push_listing};
@@ -197,7 +197,7 @@ fn walk_along<K: Keep>(
     }
 }
 
-/// The objects along a path, without what the contract says of them.
+/// The objects along a path, in a function without a contract.
 pub(crate) fn walked<K: Keep>(alloc: Global, keep: &mut K, path: &Path) -> Result<Walk, KeepFault> {
     walk(alloc, keep, path)
 }

@@ -1,5 +1,5 @@
-//! Scripts for tests of rooms: in each line who asks what, and, after an arrow, what has to be
-//! answered.
+//! Scripts for tests of rooms: in each line who asks what, and, after an arrow, the expected
+//! answer.
 //!
 //! In a script `-` is a caller without a name, ` / ` parts the lines of a list, and `ALL` stands
 //! for all letters of a mask. Some callers are none: `operator` takes steps by the paths of

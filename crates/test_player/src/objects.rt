@@ -19,7 +19,7 @@ fn parted(alloc: Global, entries: &[Entry], inherited: bool) -> Result<Entries, 
     Ok(kept)
 }
 
-// The list as it is kept, with its inherited entries behind the own ones.
+// The list as it is kept, with its inherited entries after the own ones.
 fn held_from(alloc: Global, sent: &SentList) -> Result<Held, AllocError> {
     let inh = parted(alloc, sent.entries().as_slice(), true)?;
     let own = parted(alloc, sent.entries().as_slice(), false)?;
@@ -54,7 +54,7 @@ pub(crate) fn new_object(
     })
 }
 
-// Number, parent, kind, name, owners, and what the two lists say.
+// Adds number, parent, kind, name, owners, and the two lists.
 pub(crate) fn push_node(alloc: Global, told: &mut String, node: &Node) -> Result<(), Fail> {
     push_number(told, node.id)?;
     push(told, " in ")?;
@@ -67,7 +67,7 @@ pub(crate) fn push_node(alloc: Global, told: &mut String, node: &Node) -> Result
     push_held(alloc, told, ", ", &node.sacl)
 }
 
-/// Adds the flags and all entries of a list, behind a word.
+/// Adds the flags and all entries of a list, after a word.
 pub(crate) fn push_held(
     alloc: Global,
     told: &mut String,

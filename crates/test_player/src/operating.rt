@@ -15,7 +15,7 @@ use room_rows::{Keep, KeepFault, Node, Path, Walk};
 use std::alloc::Global;
 use std::test::Fail;
 
-/// Takes the step of these words, and adds what is told of it.
+/// Takes the step of these words, and adds what is answered.
 pub(crate) fn operate<K: Keep>(
     alloc: Global,
     keep: &mut K,
@@ -34,7 +34,7 @@ pub(crate) fn operate<K: Keep>(
     }
 }
 
-// What is found about the rows, without what the contract says of it.
+// The report on the rows, in a function without a contract.
 fn found<K: Keep>(alloc: Global, keep: &mut K) -> Result<Report, KeepFault> {
     verify(alloc, keep)
 }
@@ -100,7 +100,7 @@ fn hold<K: Keep>(
     set_held(alloc, keep, id, words, told)
 }
 
-// Takes the stored inherited entries of the object at the path away.
+// Removes the stored inherited entries of the object at the path.
 fn empty<K: Keep>(
     alloc: Global,
     keep: &mut K,

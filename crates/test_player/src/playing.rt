@@ -24,7 +24,7 @@ pub fn play_all<K: Keep>(
     Ok(())
 }
 
-/// Plays a script. The first line that is answered otherwise than it says is the error.
+/// Plays a script. The error is the first line whose answer isn't the expected one.
 pub fn play<K: Keep>(alloc: Global, keep: &mut K, at: i64, script: &str) -> Result<(), Fail> {
     'lines: for line in script.lines() {
         play_line(alloc, keep, at, line)?;
@@ -44,7 +44,7 @@ pub(crate) fn play_line<K: Keep>(
     agree(asked, told.as_str(), wanted)
 }
 
-/// What is answered to one line, which has no arrow.
+/// The answer to one line, which has no arrow.
 pub fn answer_to<K: Keep>(
     alloc: Global,
     keep: &mut K,
@@ -56,7 +56,7 @@ pub fn answer_to<K: Keep>(
     Ok(told)
 }
 
-/// Adds what is answered to one line.
+/// Adds the answer to one line.
 pub(crate) fn push_told<K: Keep>(
     alloc: Global,
     keep: &mut K,
@@ -85,7 +85,7 @@ fn ask<K: Keep>(
     push_answer(alloc, told, answer)
 }
 
-// What is answered to a request, without what the contract says of it.
+// The answer to a request, in a function without a contract.
 fn performed<K: Keep>(
     alloc: Global,
     keep: &mut K,
@@ -95,7 +95,7 @@ fn performed<K: Keep>(
     perform(alloc, keep, spoken.caller.as_ref(), at, &spoken.request)
 }
 
-/// Adds the text of a reply, or of the fault that came in its place.
+/// Adds the text of a reply, or of the fault in its place.
 pub(crate) fn push_answer(
     alloc: Global,
     told: &mut String,

@@ -28,7 +28,7 @@ pub fn empty_keep(alloc: Global) -> Result<MemKeep, Fail> {
     room_of(alloc, "list:a / A:fd:OWNER@:ALL", "list:a")
 }
 
-/// The keeper of an open room after scripts.
+/// The keeper of an open room after these scripts.
 pub fn keep_after(alloc: Global, scripts: &[&str]) -> Result<MemKeep, Fail> {
     let mut room = Room::new(open_keep(alloc)?);
     room.play_all(alloc, scripts)?;
@@ -41,14 +41,14 @@ pub fn plays(alloc: Global, scripts: &[&str]) -> Result<(), Fail> {
     room.play_all(alloc, scripts)
 }
 
-/// The same in a room as it is made.
+/// Plays scripts one after the other in a room as it is made, at the moment 1000.
 pub fn plays_in_empty(alloc: Global, scripts: &[&str]) -> Result<(), Fail> {
     let mut room = Room::new(empty_keep(alloc)?);
     room.play_all(alloc, scripts)
 }
 
-/// A room in memory, and the moment of what is asked in it. In its scripts the caller `room` is
-/// none either: it sets the moment, pairs groups with users, and tells the records.
+/// A room in memory, and the moment of what is asked in it. In its scripts `room` is no caller: it
+/// sets the moment, pairs groups with users, and prints the records.
 #[derive(Drop)]
 pub struct Room {
     keep: MemKeep,
@@ -74,7 +74,7 @@ impl Room {
         Ok(())
     }
 
-    /// Plays a script. The first line that is answered otherwise than it says is the error.
+    /// Plays a script. The error is the first line whose answer isn't the expected one.
     pub fn play(&mut self, alloc: Global, script: &str) -> Result<(), Fail> {
         'lines: for line in script.lines() {
             self.play_line(alloc, line)?;
@@ -135,7 +135,7 @@ impl Room {
         self.keep.join(group, user)
     }
 
-    // Takes the pair away.
+    // Removes the pair.
     fn leave(&mut self, alloc: Global, words: &str) -> Result<(), Fail> {
         let (group, user) = cut(words);
         let group = read_name(alloc, group)?;

@@ -28,13 +28,13 @@ pub(crate) fn bytes_of(alloc: Global, text: &str) -> Result<Bytes, Fail> {
     Ok(Bytes::from_vec(Vec::from_slice(alloc, text.as_bytes())?))
 }
 
-/// So many bytes.
+/// This many bytes.
 pub(crate) fn many_bytes(alloc: Global, count: &str) -> Result<Bytes, Fail> {
     let count = count.parse::<usize>()?;
     Ok(Bytes::from_vec(vec![in alloc; 0x78u8; count]?))
 }
 
-/// The list that is meant by `dacl` or `sacl`.
+/// The list of this name, `dacl` or `sacl`.
 pub(crate) fn which_of(text: &str) -> Which {
     if text == "sacl" {
         Which::Sacl

@@ -4,8 +4,8 @@ use room_ace::{Entry, Name, Names, Owners, Which};
 use room_rows::{AuditRow, Bytes, Held, Keep, KeepFault, Listing, NewNode, Node, Nodes, Numbers};
 use std::test::Fail;
 
-/// How often each kind of call was made. Those of `set_inh` stand apart from the other calls that
-/// write rows, so that a spread can be told from what it starts with.
+/// How often each kind of call was made. Calls of `set_inh` are counted apart from the other calls
+/// that write rows, so that a spread is seen apart from the change that starts it.
 #[derive(Clone, Copy)]
 pub struct Calls {
     root: u64,
@@ -66,7 +66,7 @@ impl Calls {
         self.changes.saturating_add(self.inherited)
     }
 
-    // How many calls this word counts.
+    // How many calls of this kind were counted.
     fn count_of(&self, word: &str) -> Option<u64> {
         match word {
             "all" => Some(self.all()),
@@ -93,7 +93,7 @@ impl Calls {
     }
 }
 
-/// That the calls of a line are those that a text counts, as `writes 2, records 1`.
+/// Tests that the calls of a line are those that a text expects, as `writes 2, records 1`.
 pub(crate) fn expect_calls(calls: &Calls, line: &str, wanted: &str) -> Result<(), Fail> {
     'parts: for part in wanted.split(", ") {
         expect_count(calls, line, part)?;
@@ -119,7 +119,7 @@ pub struct Tally<K> {
 }
 
 impl<K> Tally<K> {
-    /// A count of the calls of this keeper from now on.
+    /// A keeper that counts the calls of this one from now on.
     pub fn of(keeper: K) -> Tally<K> {
         Tally {
             keeper,

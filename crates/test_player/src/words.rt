@@ -4,7 +4,7 @@ use std::alloc::AllocError;
 use std::fmt::Write;
 use std::test::Fail;
 
-/// That what was told about something is what was wanted.
+/// Tests that what was answered about something is what was expected.
 pub fn agree(about: &str, told: &str, wanted: &str) -> Result<(), Fail> {
     if told == wanted {
         return Ok(());
@@ -43,7 +43,7 @@ fn written_moment(told: &mut String, at: i64) -> Result<(), AllocError> {
     write!(told, "{at}")
 }
 
-/// The first word, and what stands behind it.
+/// The first word, and what follows it.
 pub(crate) fn cut(text: &str) -> (&str, &str) {
     text.split_once(" ").unwrap_or((text, ""))
 }

@@ -110,7 +110,7 @@ fn set_place<K: Keep>(keep: &mut K, id: u64, words: &str, told: &mut String) -> 
     push_done(told, keep.set_place(id, parent, name))
 }
 
-// Records that alice has read `/a` at this moment.
+// Adds a record that alice has read `/a` at this moment.
 fn note<K: Keep>(alloc: Global, keep: &mut K, at: u64, told: &mut String) -> Result<(), Fail> {
     let row = record_at(alloc, at)?;
     push_done(told, keep.note(row))

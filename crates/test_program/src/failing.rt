@@ -6,7 +6,7 @@ use std::alloc::Global;
 use std::io::{self, Error, ErrorKind, Write};
 use std::test::Fail;
 
-// Takes so many bytes, and then no more.
+// Takes a number of bytes, and then no more.
 #[derive(Drop)]
 struct Short {
     left: usize,

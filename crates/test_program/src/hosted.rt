@@ -38,7 +38,7 @@ impl Net for OnePort<'_> {
     }
 }
 
-// A clock that stands.
+// A clock that stands still.
 #[derive(Drop)]
 struct Still;
 
@@ -52,7 +52,7 @@ impl Clock for Still {
     }
 }
 
-// What has to be told, and the status.
+// What has to be printed, and the status.
 #[derive(Clone, Copy)]
 struct Wanted<'a> {
     out: &'a str,
@@ -83,7 +83,7 @@ fn after(mut conn: Connection<MemStore>, text: &str) -> Result<Connection<MemSto
     Ok(conn)
 }
 
-// Hosts two connections at port 8780, which tells this.
+// Hosts two connections at port 8780, and compares what is printed.
 fn hosts(
     alloc: Global,
     conn: Connection<MemStore>,
@@ -171,7 +171,7 @@ fn a_port_that_is_taken(rt: HostRuntime) -> Result<(), Fail> {
     Ok(())
 }
 
-// That the database is refused, as this says.
+// Tests that the database is refused, as this says.
 fn refuses(alloc: Global, net: &OnePort<'_>, text: &str, out: &str) -> Result<(), Fail> {
     let conn = after(new_room(alloc)?, text)?;
     let wanted = Wanted {

@@ -133,7 +133,7 @@ PUT /doc/f HTTP/1.1\r\nRoom-User: root\r\n\r\n\
 PUT /sacl/f HTTP/1.1\r\nRoom-User: root\r\nContent-Length: 24\r\n\r\nlist:a\nU:SF:EVERYONE@:r\n\
 GET /doc/f HTTP/1.1\r\nRoom-User: root\r\n\r\n";
 
-// A clock that goes a second further with each reading.
+// A clock that goes on by a second with each reading.
 #[derive(Drop)]
 struct Steps {
     at: i64,

@@ -1,4 +1,4 @@
-//! Clients that have said all before a connection is accepted, and writers that fail.
+//! Clients that have sent everything before a connection is accepted, and writers that fail.
 use http_serve::{Moments, ServingFault, serve_on};
 use room_machine::Desk;
 use std::alloc::Global;
@@ -27,7 +27,7 @@ where
     Ok(TcpListener::bind(net, "127.0.0.1:0")?)
 }
 
-/// A client that says nothing.
+/// A client that sends nothing.
 pub fn connects<N>(net: &N, listener: &TcpListener) -> Result<TcpStream, Fail>
 where
     N: Net<Listener = TcpListener, Stream = TcpStream>,
@@ -46,14 +46,14 @@ where
     Ok(client)
 }
 
-/// That the client got these bytes and no more.
+/// Tests that the client got these bytes and no more.
 pub fn gets(alloc: Global, mut client: TcpStream, wanted: &[u8]) -> Result<(), Fail> {
     let mut reply = Vec::new(alloc);
     client.read_to_end(&mut reply)?;
     same_bytes(reply.as_slice(), wanted)
 }
 
-/// That these bytes are those.
+/// Tests that the bytes are the expected ones.
 pub fn same_bytes(told: &[u8], wanted: &[u8]) -> Result<(), Fail> {
     if told == wanted {
         return Ok(());
@@ -77,7 +77,7 @@ impl Write for Full {
     }
 }
 
-/// Serves so many connections. What it tells of them has to be this.
+/// Serves `count` connections. What it prints of them has to be this.
 pub fn serves<D: Desk, M: Moments>(
     alloc: Global,
     desk: &mut D,
@@ -97,7 +97,7 @@ pub fn serves<D: Desk, M: Moments>(
     same_bytes(out.as_slice(), line.as_bytes())
 }
 
-/// Serves so many connections with a writer for faults that takes nothing.
+/// Serves `count` connections with a writer for faults that takes nothing.
 pub fn serves_untold<D: Desk, M: Moments>(
     alloc: Global,
     desk: &mut D,
@@ -109,8 +109,8 @@ pub fn serves_untold<D: Desk, M: Moments>(
     serve_on(alloc, desk, clock, listener, count, &mut out, &mut Full)
 }
 
-/// From now on a read of a connection that waits is soon an error: the connections of a listener
-/// have its socket's options.
+/// From now on a read on a connection that waits soon ends in an error: the connections of a
+/// listener have its socket's options.
 pub fn grows_impatient(listener: &TcpListener) -> Result<(), Fail> {
     let socket = TcpStream::from(OwnedFd::from(listener.try_clone()?));
     socket.set_read_timeout(Some(Duration::from_millis(20)))?;

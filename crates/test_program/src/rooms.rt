@@ -1,4 +1,4 @@
-//! Rooms that are made, told and changed by an operator.
+//! Rooms that are made, printed and changed by an operator.
 use crate::scripts::{Ask, after, fails, plays, tells};
 use room_ace::Which;
 use std::test::Fail;

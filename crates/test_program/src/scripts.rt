@@ -20,7 +20,7 @@ pub enum Ask {
     Migrate,
 }
 
-/// What is done to the database before, what is asked then, and what has to be told on standard
+/// What is done to the database before, what is asked then, and what has to be printed on standard
 /// output and on standard error, with which status.
 #[derive(Clone, Copy)]
 pub struct Step {
@@ -31,7 +31,7 @@ pub struct Step {
     pub status: u8,
 }
 
-/// Nothing is done before, and nothing is told on standard error.
+/// Nothing is done before, and nothing is printed on standard error.
 pub fn tells(ask: Ask, out: &'static str, status: u8) -> Step {
     after("", ask, out, status)
 }

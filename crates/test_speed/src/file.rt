@@ -38,7 +38,7 @@ fn ran<S: Alter>(
     Ok(word_for(&store.run(alloc, caller, 1000, &spoken.request)?))
 }
 
-/// Makes the file of a room in this folder, does what is wanted, and takes the file away.
+/// Makes the file of a room in this folder, does the workloads, and removes the file.
 pub fn run(rt: &HostRuntime, job: &Job<'_>) -> Result<(), Fail> {
     remove(rt);
     let done = over_file(rt, job);
@@ -46,7 +46,7 @@ pub fn run(rt: &HostRuntime, job: &Job<'_>) -> Result<(), Fail> {
     done
 }
 
-// Takes the files away that are there.
+// Removes the files that are there.
 fn remove(rt: &HostRuntime) {
     let _ = fs::remove_file(rt, FILE);
     let _ = fs::remove_file(rt, LOG);
@@ -82,7 +82,7 @@ fn open(rt: &HostRuntime) -> Result<Connection<Disk>, Fail> {
     }
 }
 
-// The room that the tables hold.
+// The store over the room that the tables hold.
 fn adopted(conn: Connection<Disk>) -> Result<Store<Disk>, Fail> {
     if !conn.is_autocommit() {
         return Err(Fail::new("within a transaction"));
@@ -93,7 +93,7 @@ fn adopted(conn: Connection<Disk>) -> Result<Store<Disk>, Fail> {
     }
 }
 
-// Does what is wanted over a store that was asked for at this instant.
+// Does the workloads over a store that was opened at this instant.
 fn work(
     rt: &HostRuntime,
     store: &mut Store<Disk>,

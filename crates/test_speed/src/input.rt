@@ -11,8 +11,8 @@ use std::test::Fail;
 use std::time::Instant;
 use test_player::push;
 
-/// Judges a list of so many entries of which the last decides, and one of 1,024 entries for a
-/// caller in so many groups; and reads a group file of so many rows.
+/// Judges a list of `objects` entries of which the last decides, and one of 1,024 entries for a
+/// caller in as many groups; and reads a group file of as many rows.
 pub fn run(rt: &HostRuntime, job: &Job<'_>) -> Result<(), Fail> {
     if job.wants("check") {
         last_decides(rt, job)?;
@@ -57,7 +57,7 @@ fn judge_once(alloc: Global, input: &str) -> Result<(), AllocError> {
     Ok(())
 }
 
-// What is told of the input, without what the contract says of it.
+// The answer to the input, in a function without a contract.
 fn judged(alloc: Global, input: &str) -> Result<String, AllocError> {
     Ok(check(alloc, input.as_bytes())?.text)
 }

@@ -1,4 +1,4 @@
-//! What is to be done.
+//! What the program has to do.
 
 use std::test::Fail;
 
@@ -12,7 +12,7 @@ pub struct Job<'a> {
     pub below: usize,
     /// How many objects the room has beside those; for input, how many lines there are.
     pub objects: usize,
-    /// What the titles of the workloads begin with that are done.
+    /// Which workloads are done: those whose titles begin with this.
     pub only: &'a str,
 }
 

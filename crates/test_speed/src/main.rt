@@ -1,7 +1,7 @@
 //! Times work of the rooms: `test_speed SUITE ROUNDS BELOW OBJECTS [WORKLOAD]`.
 //!
 //! A room is made by a script, as the tests make theirs, whatever keeps it: in memory, over a file,
-//! or behind a connection.
+//! or over a connection.
 #![tactic(auto)]
 
 mod file;
@@ -20,8 +20,8 @@ use crate::job::{Job, job_of};
 use std::env;
 use std::test::Fail;
 
-/// Does the workloads of a suite, or of all. What is answered is told on standard output, and times
-/// on standard error, since they differ from run to run.
+/// Does the workloads of a suite, or of all. Answers are printed on standard output, and times on
+/// standard error, since they differ from run to run.
 fn main(rt: HostRuntime) -> Result<(), Fail> {
     let words: Vec<String> = env::args(&rt)?.skip(1).collect(rt.alloc())?;
     run_words(&rt, words.as_slice())

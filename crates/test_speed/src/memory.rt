@@ -29,7 +29,7 @@ fn performed(
     Ok(word_for(&perform(alloc, keep, caller, 1000, &spoken.request)?))
 }
 
-/// Does what is wanted over a room in memory.
+/// Does the workloads over a room in memory.
 pub fn run(rt: &HostRuntime, job: &Job<'_>) -> Result<(), Fail> {
     let mut keep = made(rt.alloc(), job)?;
     over(rt, &mut keep, job)
@@ -40,7 +40,7 @@ fn made(alloc: Global, job: &Job<'_>) -> Result<MemKeep, Fail> {
     keep_after(alloc, &[script.as_str()])
 }
 
-// What changes lists comes last.
+// Workloads that change lists come last.
 fn over(rt: &HostRuntime, keep: &mut MemKeep, job: &Job<'_>) -> Result<(), Fail> {
     ask_all(rt, keep, job)?;
     if job.wants("walk") {
@@ -73,7 +73,7 @@ fn walk_along(rt: &HostRuntime, keep: &mut MemKeep, rounds: u32, path: &Path) ->
     Ok(println!(rt; "walk: {found} objects")?)
 }
 
-// How many objects are found, without what the contract says of them.
+// How many objects are found, in a function without a contract.
 fn walk_once(alloc: Global, keep: &mut MemKeep, path: &Path) -> Result<usize, KeepFault> {
     Ok(walk(alloc, keep, path)?.chain.len())
 }
@@ -91,7 +91,7 @@ fn tested(alloc: Global, keep: &mut MemKeep) -> Result<&'static str, KeepFault> 
     Ok(report_word(&verify(alloc, keep)?))
 }
 
-/// What is found about the rows, in a word.
+/// The report on the rows, in a word.
 pub fn report_word(report: &Report) -> &'static str {
     match report {
         Report::Sound => "sound",
@@ -99,7 +99,7 @@ pub fn report_word(report: &Report) -> &'static str {
     }
 }
 
-// Sets a list at the root alone, and tells the time in which it reaches all objects.
+// Sets a list at the root alone, and prints the time in which it reaches all objects.
 fn carry_down(rt: &HostRuntime, keep: &mut MemKeep) -> Result<(), Fail> {
     let held = "operator Hold / dacl list:a / A:fd:alice:r / A:fd:OWNER@:rwax => done";
     play(rt.alloc(), keep, 1000, held)?;
@@ -111,7 +111,7 @@ fn carry_down(rt: &HostRuntime, keep: &mut MemKeep) -> Result<(), Fail> {
     Ok(println!(rt; "spread: {changed} changed")?)
 }
 
-// How many lists are changed, without what the contract says of them.
+// How many lists are changed, in a function without a contract.
 fn carried(alloc: Global, keep: &mut MemKeep) -> Result<u64, Fail> {
     match spread(alloc, keep, 1, Which::Dacl) {
         Ok(done) => Ok(done.changed),

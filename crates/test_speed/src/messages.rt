@@ -35,7 +35,7 @@ fn push_length(text: &mut String, body: usize) -> Result<(), AllocError> {
     write!(text, "Content-Length: {body}\r\n")
 }
 
-/// The same message so many times.
+/// The same message `count` times.
 pub fn stream(alloc: Global, message: &[u8], count: u32) -> Result<Vec<u8>, AllocError> {
     let mut bytes = Vec::new(alloc);
     for _ in 0..count {

@@ -1,9 +1,9 @@
-//! A reader that gives its bytes piece by piece, and a writer that counts what it takes.
+//! A reader that returns its bytes piece by piece, and a writer that counts what it takes.
 
 use std::io;
 use std::io::{Read, Write};
 
-/// A reader of these bytes, up to so many at a time.
+/// A reader of these bytes, up to `step` at a time.
 #[derive(Drop)]
 pub struct Pieces<'a> {
     rest: &'a [u8],
@@ -11,7 +11,7 @@ pub struct Pieces<'a> {
 }
 
 impl<'a> Pieces<'a> {
-    /// A reader of these bytes, up to so many at a time.
+    /// A reader of these bytes, up to `step` at a time.
     pub fn new(bytes: &'a [u8], step: usize) -> Pieces<'a> {
         Pieces { rest: bytes, step }
     }

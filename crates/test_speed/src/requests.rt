@@ -9,7 +9,7 @@ use std::test::Fail;
 use std::time::Instant;
 use test_player::{Spoken, spoken_in};
 
-/// What answers requests.
+/// What answers requests: a keeper, a store or a desk.
 pub trait Answers {
     /// The answer in a word, or the fault as an error of the program.
     fn answer(&mut self, alloc: Global, spoken: &Spoken) -> Result<&'static str, Fail>;
@@ -27,14 +27,14 @@ pub fn word_for(reply: &Reply) -> &'static str {
     }
 }
 
-// A request that is timed, and one that takes back what it did.
+// A request that is timed, and one that undoes it.
 #[derive(Drop)]
 struct Both {
     asked: Spoken,
     back: Spoken,
 }
 
-/// Asks all requests that are wanted.
+/// Asks all requests of the job.
 pub fn ask_all<A: Answers>(rt: &HostRuntime, room: &mut A, job: &Job<'_>) -> Result<(), Fail> {
     for (title, asked, back) in requests() {
         if job.wants(*title) {
@@ -63,7 +63,7 @@ fn both_in(alloc: Global, asked: &str, back: &str) -> Result<Both, Fail> {
     })
 }
 
-// Asks two requests in turn, and tells the answer of the first and its times.
+// Asks two requests in turn, and prints the answer of the first and its times.
 fn repeat<A: Answers>(
     rt: &HostRuntime,
     room: &mut A,

@@ -9,11 +9,11 @@ use test_player::{push, push_all};
 // How many documents stand in a folder.
 const DOCUMENTS: usize = 100;
 
-// The entries of a list beside the last one, which decides: they speak of somebody else. `MANY`
+// The entries of a list before the last one, which decides: they speak of somebody else. `MANY`
 // stands for them.
 const OTHERS: u32 = 31;
 
-// Documents at depth 1 and 6 behind lists of 32 entries, one whose list grants nothing and asks for
+// Documents at depth 1 and 6 below lists of 32 entries, one whose list grants nothing and asks for
 // a record, and a folder that passes on an entry of its own.
 static ROOM: &str = "\
 root SetList / dacl list:aMANY / A:fd:user7:ALL => done
@@ -38,8 +38,8 @@ user7 MakeFolder /b => made
 user7 SetList /b dacl list:a / A:fd:carol:r => done
 ";
 
-/// What makes the room of the requests in an open room: the folder `/x` has the objects below, and
-/// `/o` the others, as far as there are so many 100 in `/o/f1`.
+/// The script that makes the room of the requests in an open room: the folder `/x` has the objects
+/// below, and `/o` the others, 100 in each folder as `/o/f1`.
 pub fn room_script(alloc: Global, job: &Job<'_>) -> Result<String, Fail> {
     let mut script = String::new(alloc);
     push_room(&mut script, job)?;
@@ -65,7 +65,7 @@ fn push_line(script: &mut String, line: &str) -> Result<(), Fail> {
     push_all(script, &[end, "\n"])
 }
 
-// A folder, and in it folders of documents, so many objects in all below it.
+// A folder, and in it folders of documents, `objects` objects in all below it.
 fn push_objects(script: &mut String, top: &str, objects: usize) -> Result<(), Fail> {
     push_all(script, &["user7 MakeFolder ", top, " => made\n"])?;
     let mut folder = 0;
@@ -96,7 +96,7 @@ fn push_document(
     )
 }
 
-/// What makes a document of 1 KiB in an open room, and so many empty ones.
+/// The script that makes a document of 1 KiB in an open room, and this many empty ones.
 pub fn documents_script(alloc: Global, documents: usize) -> Result<String, Fail> {
     let mut script = String::from_str(alloc, "root PutMany /f 1024 => made\n")?;
     push_documents(&mut script, documents)?;
@@ -114,7 +114,7 @@ fn push_empty(script: &mut String, number: usize) -> Result<(), AllocError> {
     writeln!(script, "root PutMany /object{number} 0 => made")
 }
 
-/// The line that imports so many pairs of members, where each user is in five groups.
+/// The line that imports this many pairs of members, where each user is in five groups.
 pub fn import_script(alloc: Global, pairs: usize) -> Result<String, Fail> {
     let mut script = String::from_str(alloc, "store Import group,user")?;
     push_pairs(&mut script, " / ", pairs)?;
@@ -122,7 +122,7 @@ pub fn import_script(alloc: Global, pairs: usize) -> Result<String, Fail> {
     Ok(script)
 }
 
-/// Adds so many pairs of a group and a user, each behind these letters.
+/// Adds this many pairs of a group and a user, each after these letters.
 pub fn push_pairs(text: &mut String, front: &str, pairs: usize) -> Result<(), AllocError> {
     for row in 0..pairs {
         push_pair(text, front, row)?;

@@ -19,8 +19,8 @@ use test_player::{Spoken, keep_after, spoken_in};
 // One connection is soon over, and other work may disturb it.
 const CONNECTIONS: u32 = 10;
 
-/// Serves connections of messages, up to so many as there are rounds on each, and tells the time of
-/// one message: with the desk's own work, what the desk takes alone, and what remains.
+/// Serves connections of messages, on each up to as many messages as there are rounds, and prints
+/// the time of one message: with the desk's own work, what the desk takes alone, and what remains.
 pub fn run(rt: &HostRuntime, job: &Job<'_>) -> Result<(), Fail> {
     for message in messages() {
         if job.wants(message.title) {
@@ -129,7 +129,7 @@ fn serve_once(
     }
 }
 
-// How a connection ended, without what the contract says of it.
+// How a connection ended, in a function without a contract.
 fn ended(
     alloc: Global,
     routes: &Routes,

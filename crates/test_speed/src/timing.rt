@@ -3,7 +3,7 @@
 use std::test::Fail;
 use std::time::Instant;
 
-// After so many nanoseconds there are no more rounds.
+// After this many nanoseconds there are no more rounds.
 const LIMIT: u128 = 2_000_000_000;
 
 /// The times of several rounds.
@@ -24,8 +24,8 @@ impl Times {
         }
     }
 
-    /// One more round, which began at this instant, of so many equal parts; kept is the time of
-    /// one.
+    /// One more round of this many equal parts, which began at this instant. The time of one part
+    /// is kept.
     pub fn add(&mut self, rt: &HostRuntime, start: Instant, parts: u32) -> Result<(), Fail> {
         let nanos = start.elapsed(rt)?.as_nanos();
         let each = nanos.checked_div(u128::from(parts)).unwrap_or(nanos);
@@ -35,7 +35,7 @@ impl Times {
         Ok(())
     }
 
-    /// Whether there have been rounds enough.
+    /// Whether there have been enough rounds.
     pub fn are_enough(&self) -> bool {
         self.total > LIMIT
     }
@@ -45,7 +45,7 @@ impl Times {
         self.least
     }
 
-    /// Tells the least time of a workload, and the mean.
+    /// Prints the least time of a workload, and the mean.
     pub fn tell(&self, rt: &HostRuntime, title: &str) -> Result<(), Fail> {
         let least = self.least;
         let count = self.count;

@@ -1,6 +1,6 @@
 //! What is timed.
 
-/// The requests: a title, one that is timed, and one that takes back what it did.
+/// The requests: a title, one that is timed, and one that undoes it.
 pub fn requests() -> &'static [(&'static str, &'static str, &'static str)] {
     &REQUESTS
 }
@@ -26,7 +26,7 @@ pub struct Message {
     pub title: &'static str,
     /// What the first line says of the resource.
     pub target: &'static str,
-    /// The request that it is.
+    /// The request that it is read as.
     pub asked: &'static str,
     /// How many bytes are sent along.
     pub body: usize,

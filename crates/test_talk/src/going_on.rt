@@ -1,7 +1,7 @@
-//! Scripts played at a desk, whose memory may be refused once.
+//! Scripts played at a desk, where memory may run out once.
 //!
-//! Want of memory is told, and is no other answer: the whole replies before it are those of the
-//! script, and on a connection behind it the rest of the script is answered as it says.
+//! Out of memory is reported, and never looks like another answer: the whole replies before it are
+//! those of the script, and on a connection after it the rest of the script is answered as it says.
 use crate::pieces::{Pieces, Sink};
 use crate::scripts::{Talk, agrees, agrees_from, bytes_from, converse, push_bytes};
 use room_http::{Cause, Ended};
@@ -9,11 +9,11 @@ use room_machine::Desk;
 use std::alloc::{AllocError, Global};
 use std::test::Fail;
 
-// The reply of a desk that has a fault, as want of memory is.
+// The reply of a desk that has a fault, such as out of memory.
 const STORE_FAULT: &[u8] =
     b"HTTP/1.1 500 Internal Server Error\r\nContent-Type: application/json\r\nContent-Length: 15\r\nConnection: close\r\n\r\n{\"why\":\"store\"}";
 
-// No reader gives more bytes at a time.
+// No read returns more bytes than this.
 const PIECE: usize = 100_000;
 
 /// Plays a script at a desk, at the moment 1000.
@@ -33,7 +33,7 @@ pub fn play_at<D: Desk>(alloc: Global, desk: &mut D, at: i64, script: &str) -> R
     Err(Fail::new("want of memory"))
 }
 
-// The connection of the messages of a script behind so many of the first ones.
+// The connection of the messages of a script that come after the first `first` ones.
 fn talk_from<D: Desk>(
     alloc: Global,
     desk: &mut D,
@@ -46,7 +46,7 @@ fn talk_from<D: Desk>(
     converse(alloc, desk, at, &mut reader, Sink::new(alloc))
 }
 
-/// Whether want of memory ended a connection, outside the desk or in it.
+/// Whether memory ran out and so ended a connection, outside the desk or in it.
 pub fn is_short(talk: &Talk) -> bool {
     match talk.end {
         Err(fault) => fault.cause == Cause::Memory,
@@ -55,8 +55,8 @@ pub fn is_short(talk: &Talk) -> bool {
     }
 }
 
-// The message of a script to go on with behind want of memory: the one that it came to, or the one
-// behind that where the desk has acted on it.
+// The message of a script to go on with once memory ran out: the one that it came to, or the one
+// after that where the desk has acted on it.
 fn next_message(alloc: Global, script: &str, talk: &Talk) -> Result<usize, Fail> {
     let mut rest = talk.sent.written();
     let count = whole_replies(alloc, script, &mut rest)?;
@@ -96,7 +96,7 @@ fn drop_reply(alloc: Global, text: &str, rest: &mut &[u8]) -> Result<bool, Alloc
     }
 }
 
-// Plays the messages of a script behind so many of the first ones.
+// Plays the messages of a script that come after the first `first` ones.
 fn go_on<D: Desk>(
     alloc: Global,
     desk: &mut D,

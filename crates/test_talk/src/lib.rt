@@ -1,6 +1,6 @@
 //! Connections as scripts, for tests: what is sent, what has to come back, and how the connection
-//! ends, at any desk, over readers and writers that pass bytes piece by piece and fail when told.
-//! There are no tests here, so that it is proved once for all crates of tests.
+//! ends, at any desk, over readers and writers that pass bytes piece by piece and can be made to
+//! fail. There are no tests here, so that it is proved once for all crates of tests.
 #![tactic(auto)]
 
 mod going_on;

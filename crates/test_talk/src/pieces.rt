@@ -1,4 +1,4 @@
-//! A reader and a writer that pass bytes piece by piece, and fail when they are told.
+//! A reader and a writer that pass bytes piece by piece, and can be made to fail.
 use std::alloc::Global;
 use std::io;
 use std::io::{Read, Write};
@@ -7,8 +7,8 @@ fn failure() -> io::Error {
     io::Error::from(io::ErrorKind::ConnectionReset)
 }
 
-/// A reader that first gives up to so many bytes, then up to so many at a time, and fails at the
-/// read behind the last one.
+/// A reader that first returns up to `first` bytes, then up to `step` at a time, and fails after
+/// `reads` reads.
 #[derive(Drop)]
 pub struct Pieces<'a> {
     rest: &'a [u8],
@@ -18,7 +18,7 @@ pub struct Pieces<'a> {
 }
 
 impl<'a> Pieces<'a> {
-    /// A reader of these bytes, up to so many at a time, which doesn't fail.
+    /// A reader of these bytes, up to `step` at a time, which doesn't fail.
     pub fn new(bytes: &'a [u8], step: usize) -> Pieces<'a> {
         Pieces {
             rest: bytes,
@@ -28,7 +28,7 @@ impl<'a> Pieces<'a> {
         }
     }
 
-    /// The same with another first piece.
+    /// A reader that doesn't fail, with a first piece of another length.
     pub fn first(bytes: &'a [u8], first: usize, step: usize) -> Pieces<'a> {
         Pieces {
             rest: bytes,
@@ -38,7 +38,7 @@ impl<'a> Pieces<'a> {
         }
     }
 
-    /// The same, failing after so many reads.
+    /// A reader that fails after `reads` reads.
     pub fn failing(bytes: &'a [u8], step: usize, reads: usize) -> Pieces<'a> {
         Pieces {
             rest: bytes,
@@ -61,8 +61,8 @@ impl Read for Pieces<'_> {
     }
 }
 
-/// A writer that takes up to so many bytes at a time, and fails, or takes none, at the write behind
-/// the last one.
+/// A writer that takes up to `step` bytes at a time, and after `writes` writes fails, or takes no
+/// byte.
 #[derive(Drop)]
 pub struct Sink {
     bytes: Vec<u8>,
@@ -77,7 +77,7 @@ impl Sink {
         Sink::of(alloc, 10_000_000, 10_000_000, true)
     }
 
-    /// A writer that takes up to so many bytes at a time, so many times.
+    /// A writer that takes up to `step` bytes at a time, `writes` times.
     pub fn of(alloc: Global, step: usize, writes: usize, fails: bool) -> Sink {
         Sink {
             bytes: Vec::new(alloc),

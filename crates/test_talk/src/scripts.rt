@@ -32,7 +32,7 @@ pub fn bytes_at(alloc: Global, script: &str, mark: &str) -> Result<Vec<u8>, Fail
     bytes_from(alloc, script, mark, 0)
 }
 
-/// The bytes of the lines with this mark, without so many of the first ones.
+/// The bytes of the lines with this mark, without the first `first` ones.
 pub(crate) fn bytes_from(
     alloc: Global,
     script: &str,
@@ -92,12 +92,12 @@ fn serve_once<R: Read, W: Write, D: Desk>(
     Ok(serve(alloc, &routes, desk, at, reader, writer))
 }
 
-/// That a connection went as the script says.
+/// Tests that a connection went as the script says.
 pub fn agrees(alloc: Global, script: &str, talk: &Talk) -> Result<(), Fail> {
     agrees_from(alloc, script, 0, talk)
 }
 
-/// That a connection went as the script says behind so many of its first messages.
+/// Tests that a connection went as the script says after its first `first` messages.
 pub(crate) fn agrees_from(
     alloc: Global,
     script: &str,
@@ -109,7 +109,7 @@ pub(crate) fn agrees_from(
     ends(script, talk.end)
 }
 
-/// That these bytes are those.
+/// Tests that the bytes are the expected ones.
 pub fn same_bytes(told: &[u8], wanted: &[u8]) -> Result<(), Fail> {
     if told == wanted {
         return Ok(());

@@ -19,7 +19,7 @@ pub enum Stop {
     At { acted: bool },
 }
 
-// A connection that ended otherwise than it should have.
+// The failure of a test whose connection ended in another way than expected.
 fn other(talk: &Talk) -> Fail {
     if is_short(talk) {
         return Fail::new("want of memory");
@@ -27,7 +27,7 @@ fn other(talk: &Talk) -> Fail {
     Fail::new(format_args!("{:?}", talk.end))
 }
 
-/// That this ended the connection.
+/// Tests that this ended the connection.
 pub fn stopped(talk: &Talk, answered: u64, acted: bool, cause: Cause) -> Result<(), Fail> {
     let fault = ServeFault {
         answered,
@@ -40,7 +40,8 @@ pub fn stopped(talk: &Talk, answered: u64, acted: bool, cause: Cause) -> Result<
     Err(other(talk))
 }
 
-/// A script over a reader that gives a byte at a time and fails after so many reads, and a writer.
+/// Plays a script over a reader that returns a byte at a time and fails after `reads` reads, and
+/// over this writer.
 pub fn tried<D: Desk>(
     alloc: Global,
     desk: &mut D,
@@ -53,8 +54,8 @@ pub fn tried<D: Desk>(
     converse(alloc, desk, 1000, &mut reader, sink)
 }
 
-/// Plays a script over a writer that takes a byte at a time, and fails, or takes none, after so
-/// many writes. What was written has to be a beginning of what the script says.
+/// Plays a script over a writer that takes a byte at a time, and after `writes` writes fails, or
+/// takes no byte. What was written has to be a front of what the script says.
 pub fn stop_at_write<D: Desk>(
     alloc: Global,
     desk: &mut D,
@@ -66,7 +67,7 @@ pub fn stop_at_write<D: Desk>(
     went(alloc, script, &talk, Cause::Write)
 }
 
-/// Plays a script over a reader that gives a byte at a time, and fails after so many reads.
+/// Plays a script over a reader that returns a byte at a time, and fails after `reads` reads.
 pub fn stop_at_read<D: Desk>(
     alloc: Global,
     desk: &mut D,
@@ -95,7 +96,7 @@ fn went(alloc: Global, script: &str, talk: &Talk, cause: Cause) -> Result<Stop, 
     }
 }
 
-// That what was written is a beginning of what the script says.
+// Tests that what was written is a front of what the script says.
 fn begins(alloc: Global, script: &str, talk: &Talk) -> Result<(), Fail> {
     let wanted = bytes_at(alloc, script, "<")?;
     if wanted.as_slice().starts_with(talk.sent.written()) {

@@ -49,7 +49,7 @@ no_bytes_more (byte ∷ more) items t same is holds =
     let long = sym (ap (λ (l : List ℕ). length l) same) ∙ none in
     absurd (let wrong : ⊥ = omega (arith, long) in wrong)
 
--- no bytes behind those that are there change nothing
+-- adding no bytes changes nothing
 pub put_kept : (path : List (List ℕ)) (id : ℕ) (before bytes : List ℕ) (old new : Rows) (reply : Reply) → AreRows old → body_of old.read id ≡ Some before → bytes ≡ [] → reply ≡ sized_reply path (length before) → new ≡ old → IsPut path id (before ++ bytes) old reply new
 put_kept path id before bytes old new reply are were none replies same =
     subst (λ (b : List ℕ). IsPut path id b old reply new) (sym (ap (λ (b : List ℕ). before ++ b) none ∙ append-nil before))
@@ -62,7 +62,7 @@ put_kept path id before bytes old new reply are were none replies same =
 pub put_as : (path : List (List ℕ)) (id : ℕ) {bytes : List ℕ} (old mid new : Rows) (reply : Reply) → mid ≡ old → IsPut path id bytes mid reply new → IsPut path id bytes old reply new
 put_as path id {bytes} old mid new reply unread put = subst (λ (r : Rows). IsPut path id bytes r reply new) unread put
 
--- ---- items behind others at the target
+-- ---- items after others at the target
 
 more_items : (first more : Site → List Item) (front : List Item) (o : Option Site) → front ++ where_found o (λ s. first s ++ more s) ≡ (front ++ where_found o first) ++ where_found o more
 more_items first more front None = sym (append-nil (front ++ []))

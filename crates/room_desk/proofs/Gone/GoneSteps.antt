@@ -57,7 +57,7 @@ nothing_there : (path : List (List ℕ)) (nodes : List Node) → None ≡ or_els
 nothing_there path [] passes = refl
 nothing_there path (x ∷ xs) passes = absurd (let wrong : ⊥ = cc in wrong)
 
--- what is stored and what is meant have as many children
+-- what is stored and what is meant agree on whether there are children
 empty_kept : (content : Content) (id : ℕ) → is_empty (children_of content id) ≡ is_empty (children_of (meaning content) id)
 empty_kept content id = sym (ap is_empty (children_of-with_each content (kept_node content) (keeps_places content (kept_node content) (λ n. record { number = refl; parent = refl; name = refl })) id) ∙ on (children_of content id))
   where

@@ -1,4 +1,4 @@
--- Rows stay sound where an object without children is taken away, and what they mean changes likewise.
+-- Rows stay sound where an object without children is removed, and what they mean changes likewise.
 use Rattle.std.proofs.Common.{◌≡◌, ℕ, zero, suc, ◌==◌, Bool, true, false, not, ◌&&◌, ◌||◌, List, [], map, filter, length, Option, Some, None, nat_lt, refl, sym, ap, ◌∙◌, inl, inr}
 use Rattle.std.specs.Prelude.{is_none, option_and_then}
 use Rattle.std.specs.List.{find, list_any, AllByRecursion}

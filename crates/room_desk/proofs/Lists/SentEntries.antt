@@ -39,7 +39,7 @@ other_mark true false isnt = refl
 other_mark false true isnt = refl
 other_mark false false isnt = absurd (false≢true (sym isnt))
 
--- ---- as the loop has it
+-- ---- in terms of the loop
 
 module _ (entries items : List Ace) (same : items ≡ entries) (i : ℕ) (entry : Ace) (below : i < length items) (is : entry ≡ get_or items i entry) (inherited : Bool) (flags : EntryFlags) (of_entry : flags ≡ entry.flags) (taken : List Ace)
     (sofar : taken ++ marked inherited (drop i entries) ≡ marked inherited entries) where

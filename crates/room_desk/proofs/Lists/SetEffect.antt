@@ -22,7 +22,7 @@ use Rattle.room_desk.proofs.Sound.Sites.{fill, sites_filled}
 use Rattle.room_desk.proofs.Sound.SoundParts.{SoundParts}
 use Rattle.room_desk.proofs.Made.Uplink.{IsAbove, root_alone, target_above}
 
--- of the parent, the flag AUTO_INHERIT alone is looked at
+-- of the parent, only the flag AUTO_INHERIT counts
 abbrev sent_under : Option Bool → Sent → Held
 sent_under None sent = record { flags = sent.flags; own = own_of sent.entries; inh = inherited_of sent.entries }
 sent_under (Some auto) sent = let held : Held = record { flags = sent.flags; own = own_of sent.entries; inh = inherited_of sent.entries } in cond (not sent.flags.protect && auto) (record held { inh = [] }) held

@@ -1,4 +1,5 @@
--- What rows mean once a list is set and carried down is what setting that list makes of what they meant.
+-- What rows mean once a list is set and carried down is what setting that list makes of what they
+-- meant.
 use Rattle.std.proofs.Common.{◌≡◌, ◌==◌, ◌&&◌, Bool, true, false, cond, not, List, [], ◌++◌, Option, Some, None, refl, sym, ap, ◌∙◌, inl, inr}
 use Rattle.std.specs.Prelude.{option_and_then}
 use Rattle.std.specs.Option.{option_map, option_map_or}

@@ -47,7 +47,7 @@ use Rattle.room_desk.proofs.Sound.SoundParts.{sound_noted, sound_parts}
 use Rattle.room_desk.proofs.Steps.Stepping.{changed_step, refused_step}
 use Rattle.room_desk.proofs.Made.Uplink.{parent_paired, target_stands}
 
--- items behind others at the target
+-- items after others at the target
 more_items : (first more : Site → List Item) (front : List Item) (o : Option Site) → front ++ where_found o (λ s. first s ++ more s) ≡ (front ++ where_found o first) ++ where_found o more
 more_items first more front None = sym (append-nil (front ++ []))
 more_items first more front (Some site) = sym (append_assoc front (first site) (more site))
@@ -90,7 +90,7 @@ module _ (asker : Asker) (path : List (List ℕ)) (which : Which) (sent : Sent) 
     there_mid : node_at mid.read node.id ≡ Some node
     there_mid = ap (λ (r : Rows). node_at r.read node.id) reached.judged.notes ∙ there
 
-    -- what the items behind the check answer
+    -- what the items after the check answer
     behind : (faults : Option EntryFault) (new : Rows) (answer : Option Reply) → first_bad_entry 1 which node.kind sent.entries ≡ faults → IsJudged asker (bad_list path faults) mid answer new → AreSound old
         → IsJudged asker (plan_of (meaning old.read) (SetList path which sent)) old answer new
     behind faults new answer are_faults judged sound =

@@ -43,7 +43,7 @@ use Rattle.room_desk.proofs.Lists.ValidDown.{all_found}
 abbrev operator : Caller
 operator = record { user = None; groups = [] }
 
--- refusals don't look at lists
+-- refusals don't depend on lists
 refusals_filled : (list : List Item) → first_failure operator (filter is_refusal (map fill_item list)) ≡ first_failure operator (filter is_refusal list)
 refusals_filled [] = refl
 refusals_filled (Check site bits ∷ list) = refusals_filled list
@@ -73,7 +73,7 @@ module _ (old : Rows) (are : AreRows old) (sound : AreSound old) (path : List (L
       ∙ ap (λ list. first_failure operator (filter is_refusal list)) (sym (target_filled path (items path which sent) (items_filled path which sent) (sites_along (meaning rows) path)))
       ∙ ap (λ sites. first_failure operator (filter is_refusal (way false sites path ++ where_found (site_at sites path) (items path which sent)))) (sites_filled old are (sound_parts old sound) path)
 
-  -- the walk comes to this object, with so many names left over
+  -- the walk comes to this object, with n names left over
   pub record CameTo (last : Node) (rest : ℕ) : Type 0 where
     pub stands : node_at rows last.id ≡ Some last
     pub comes : Comes rows are.numbers operator (items path which sent) folders path (stored_along rows path) path answer last rest
@@ -123,7 +123,7 @@ module _ (old : Rows) (are : AreRows old) (sound : AreSound old) (path : List (L
     at_end zero there came said = at_target (first_bad_entry 1 which last.kind sent.entries) refl there came.0 came.1 said said.replies said.becomes
     at_end (suc rest) there came said = refused_so (came ∙ ap (λ r. Some r) (sym said.0)) said.1
 
--- ---- as the calls give it
+-- ---- in terms of the calls
 
 module _ (path : List (List ℕ)) (which : Which) (sent : Sent) (old mid : Rows) (walk : Walk) (front : List Node) (last : Node) (is : walk ≡ walk_of old.read path) (same : mid ≡ old) (chain : walk.chain ≡ front ++ last ∷ []) where
   pub reset_done : (above : Option Node) → above ≡ slice_get front (length front - 1) → (new : Rows) (reply : Reply) → AreRows old → Beneath above last (IsResetAtEnd path which sent last walk.rest) mid reply new → Resets path which sent old reply new

@@ -1,4 +1,4 @@
--- Where a list is set and carried down, what the rows mean changes so, and they stay sound.
+-- Where a list is set and carried down, what the rows mean changes likewise, and they stay sound.
 use Rattle.std.proofs.Common.{◌≡◌, ℕ, ◌+◌, ◌==◌, ◌&&◌, Bool, true, false, cond, not, List, [], ◌∷◌, filter, length, Option, Some, None, refl, sym, ap, subst, ◌∙◌, inl, inr}
 use Rattle.std.specs.Prelude.{is_none, nat_le, nat_lt}
 use Rattle.std.specs.List.{list_all}
@@ -180,7 +180,7 @@ module _ (which : Which) (sent : Sent) (node : Node) (old : Rows) (are : AreRows
         subst (IsSetWell which sent node old) (ap (reading old) (sym (ends_is which rows node held spread.lists are.numbers there)) ∙ sym spread.becomes)
         (set_ends spread.lists (unlinked_unchanged which (mid which rows node held) node.id spread.lists spread.below) law)
 
--- ---- as the calls give it
+-- ---- in terms of the calls
 
 module _ (which : Which) (sent : Sent) (node : Node) (inh : List Ace) (old new : Rows) (are : AreRows old) (is : IsNewInh which sent node (parent_of old.read node) inh) where
   abbrev held : Held

@@ -82,7 +82,7 @@ pass_inherited which kind entries valid = and_from (list_all (λ e. e.flags.inhe
 
 -- ---- down from the root
 
--- what a test of all gives of the one that is found
+-- an object that is found passes a test that all pass
 pub all_found : (p : Node → Bool) (content : Content) (id : ℕ) (node : Node) → list_all p content.nodes ≡ true → node_at content id ≡ Some node → p node ≡ true
 all_found p content id node all found = at content.nodes all found
   where
@@ -139,7 +139,7 @@ module _ (which : Which) (content : Content) (law : AllAgree content which) (fol
           (ap (λ k. are_valid which k (held_of which above).own) (sym is) ∙ (and_parts (list_all (λ entry. not entry.flags.inherited) (held_of which above).own) (are_valid which above.kind (held_of which above).own) owned.1).1)
           (ap (λ k. are_valid which k (held_of which above).inh) (sym is) ∙ (and_parts (list_all (λ entry. entry.flags.inherited) (held_of which above).inh) (are_valid which above.kind (held_of which above).inh) inherited).1)
 
-      -- an object so many steps below the root
+      -- an object at most n steps below the root
       pub valid_down : (n : ℕ) (node : Node) → node_at content node.id ≡ Some node → reaches_root n content node.parent ≡ true → are_inherited which node.kind (held_of which node).inh ≡ true
       valid_down zero node there reaches = elim (cases_Bool (is_linked_in content which node)) [
         | inl linked ↦ (let found = linked_above node there linked in absurd (top node.parent found.0 reaches found.1))

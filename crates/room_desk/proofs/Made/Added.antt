@@ -15,7 +15,7 @@ use Rattle.room_inherit.proofs.Children.{each_there, apart_rising}
 
 -- ---- where it is put
 
--- It stands between those before it and those behind it.
+-- It stands between those before it and those after it.
 pub record Between (new : Node) (nodes : List Node) : Type 0 where
   pub front : List Node
   pub back : List Node

@@ -1,4 +1,5 @@
--- Plans that look at the folder of a path's last name, over stored sites and over sites computed from the root.
+-- Plans that ask for the folder of a path's last name, over stored sites and over sites computed
+-- from the root.
 use Rattle.std.proofs.Common.{◌≡◌, ℕ, ◌<◌, Bool, true, List, [], ◌∷◌, ◌++◌, map, length, Option, Some, None, refl, sym, ap, subst, ◌∙◌, arith}
 use Rattle.std.specs.Prelude.{is_some}
 use Rattle.std.specs.Option.{option_map}

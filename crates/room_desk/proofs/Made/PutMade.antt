@@ -93,7 +93,7 @@ module _ (asker : Asker) (path : List (List ℕ)) (bytes : List ℕ) where
       (put_judged asker old new (Some reply) are (sound_parts old sound) path bytes
       (fails_first asker (way true (stored_along old.read path) path) (put_items path size (site_at (stored_along old.read path) path) (parent_at (stored_along old.read path) path)) old new reply spotted.judged))
 
-  -- what is judged behind the way
+  -- what is judged after the way
   judged_behind : (old mid new : Rows) (items : List Item) (answer : Option Reply) → AreRows old → AreSound old → IsJudged asker (way true (stored_along old.read path) path) old None mid
       → put_items path size (site_at (stored_along old.read path) path) (parent_at (stored_along old.read path) path) ≡ items → IsJudged asker items mid answer new → IsJudged asker (plan_of (meaning old.read) (Put path bytes)) old answer new
   judged_behind old mid new items answer are sound before same judged =

@@ -1,4 +1,4 @@
--- What is judged before an object is changed or made, as the calls give it.
+-- What is judged before an object is changed or made, in terms of the calls.
 use Rattle.std.proofs.Common.{◌≡◌, ℕ, ◌+◌, Bool, true, false, cond, List, [], ◌∷◌, ◌++◌, length, Option, Some, None, nat_lt, refl, sym, ap, subst, ◌∙◌, inl, arith, length-append}
 use Rattle.room_ace.specs.Rights.{write_data}
 use Rattle.room_rows.specs.declared.node.NewNode.{NewNode}
@@ -26,7 +26,7 @@ name_of_parts path names name parts sound =
     let size : length path ≡ length names + length (name ∷ []) = ap length parts ∙ length-append names (name ∷ []) in
     record { some = omega arith; last = sym (ap last_name parts ∙ last_of names name); sound = sound }
 
--- a row that can't be read behind the way
+-- a row that can't be read after the way
 pub spotted_blames : (asker : Asker) (path : List (List ℕ)) (spot : Spot) (old mid : Rows) (at : ℕ) → IsSpotted asker path old spot mid → IsUnreadable mid at → IsDamaged old at
 spotted_blames asker path spot old mid at spotted h = inl (inl (blames_first asker _ _ old mid at spotted.judged h))
 

@@ -17,7 +17,7 @@ use Rattle.room_desk.specs.Moving.{IsTaken, JudgesAll, begins, free_place}
 use Rattle.room_judge.proofs.Judging.{judged_none, passes_first, passes_on, refuses}
 use Rattle.room_judge.proofs.Spots.{name_is_last, take_front}
 
--- ---- as the calls give it
+-- ---- in terms of the calls
 
 module _ (to : List (List ℕ)) (is_below : Bool) (folder : Node) where
   abbrev items : Rows → List Item
@@ -50,11 +50,11 @@ module _ (to : List (List ℕ)) (is_below : Bool) (folder : Node) where
   all_free old new taken depth name deep named is absent apart same =
       free old new None taken depth name deep named is absent (λ asker. passes_on asker to Loop is_below [] old new None apart (judged_none asker old new same))
 
-  -- behind items that passed
+  -- after items that passed
   pub free_after : (asker : Asker) (first : List Item) (old mid new : Rows) (answer : Option Reply) → IsJudged asker first old None mid → JudgesAll items mid answer new → IsJudged asker (first ++ items old) old answer new
   free_after asker first old mid new answer judged free =
       passes_first asker first (items old) old mid new answer judged (subst (λ list. IsJudged asker list mid answer new) (ap (λ (r : Rows). items r) judged.notes) (free asker))
 
--- the way that was compared
+-- the way to the new folder, compared with the object's path
 pub begun_as : (path to names others : List (List ℕ)) (depth : ℕ) (answer : Bool) → length to ≡ depth + 1 → names ≡ path → others ≡ take depth to → answer ≡ begins names others → begins path (front to) ≡ answer
 begun_as path to names others depth answer deep are is compared = sym (compared ∙ ap (λ l. begins l others) are ∙ ap (begins path) (is ∙ take_front to depth deep))

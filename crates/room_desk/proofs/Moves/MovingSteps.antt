@@ -195,7 +195,7 @@ module _ (asker : Asker) (path to : List (List ℕ)) (from target : Found) (old 
               ∙ ap (λ (s : Site). moved_node s (stored_site [] folder) (last_name to)) (sym t.filled)
               ∙ ap (λ (s : Site). moved_node (fill t.planned) s (last_name to)) (sym f.filled)
 
--- ---- as the calls give it
+-- ---- in terms of the calls
 
 pub empty_path : (path : List (List ℕ)) (is_root : Bool) → is_root ≡ (length path == 0) → is_root ≡ true → path ≡ []
 empty_path [] is_root is root = refl

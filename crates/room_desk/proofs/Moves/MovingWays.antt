@@ -19,7 +19,7 @@ pub front_reached : (asker : Asker) (to : List (List ℕ)) (depth : ℕ) (arriva
 front_reached asker to depth arrival place old new deep comes reached =
     subst (λ (p : List (List ℕ)). IsReached asker p (λ _. []) old place new) (take_front to depth deep) (subst (λ (a : Arrival). IsReached asker (take depth to) (λ _. []) old a new) comes reached)
 
--- what is judged at the folder is where the walk comes to
+-- the walk comes to the folder, or ends with the reply of what is judged there
 pub place_reached : (asker : Asker) (to : List (List ℕ)) (is_below : Bool) (target from : Site) (old mid new : Rows) (node : Node) (depth : ℕ) (refusal : Option Reply) (arrival : Arrival) → arrival ≡ arrival_of node refusal → length to ≡ depth + 1
     → IsReached asker (front to) (λ _. []) old (At node) mid → IsJudged asker (at_place mid.read to is_below target from (found_site to (record { node = node; depth = depth }))) mid refusal new
     → IsReached asker (front to) (at_place old.read to is_below target from) old arrival new

@@ -1,4 +1,5 @@
--- The objects of rows in which one has another parent and name, and each perhaps other inherited entries.
+-- The objects of rows in which one has another parent and name, and each perhaps other inherited
+-- entries.
 use Rattle.std.proofs.Common.{◌≡◌, ℕ, ◌==◌, Bool, true, false, cond, not, ◌&&◌, List, Option, Some, None, refl, sym, ap, ◌∙◌}
 use Rattle.std.specs.Prelude.{option_and_then}
 use Rattle.std.specs.List.{list_all}

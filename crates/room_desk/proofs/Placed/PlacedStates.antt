@@ -1,4 +1,5 @@
--- The rows while an object gets another place: placed, and then with one attribute after the other handed down.
+-- The rows while an object gets another place: placed, and then with one attribute after the other
+-- handed down.
 use Rattle.std.proofs.Common.{◌≡◌, ℕ, zero, suc, ◌==◌, true, false, cond, not, ◌||◌, List, ◌∷◌, map, Option, Some, None, refl, sym, ap, subst, ◌∙◌, inl, inr}
 use Rattle.std.specs.Option.{option_map, option_map_or}
 use Rattle.std.specs.Prelude.{IsTrue}

@@ -1,4 +1,5 @@
--- Rows stay sound where an object gets another place, if the law holds again and lists that aren't linked are as before.
+-- Rows stay sound where an object gets another place, if the law holds again and lists that aren't
+-- linked are as before.
 use Rattle.std.proofs.Common.{◌≡◌, ℕ, ◌==◌, Bool, true, false, cond, List, [], filter, length, Some, None, sym, ap, ◌∙◌}
 use Rattle.std.specs.Prelude.{is_none, option_and_then}
 use Rattle.std.specs.List.{list_all}

@@ -26,7 +26,7 @@ last_read before x [] = refl
 last_read before x (y ∷ ys) = last_read (Some x) y ys
 
 module _ (rows : Content) (rises : Rises rows) where
-  -- it stands there, and so many steps lead from it to the root
+  -- it stands there, and n steps lead from it to the root
   pub record IsUp (node : Node) : Type 0 where
     pub there : node_at rows node.id ≡ Some node
     pub steps : ℕ
@@ -118,7 +118,7 @@ module _ (rows : Content) (rises : Rises rows) where
           let end = known root refl in
           ap (parent_of rows) (sym (same_last end.front front end.last last (sym end.is ∙ is))) ∙ end.parent ∙ ap (last_or None) (same_front end.front front end.last last (sym end.is ∙ is))
 
--- ---- as the calls give it
+-- ---- in terms of the calls
 
 -- what is above the last object of a walk
 pub above_end : (rows : Rows) → Rises rows.read → (path : List (List ℕ)) (walk : Walk) (front : List Node) (last : Node) (above : Option Node) → walk ≡ walk_of rows.read path → walk.chain ≡ front ++ last ∷ [] → above ≡ slice_get front (length front - 1) → parent_of rows.read last ≡ above

@@ -130,7 +130,7 @@ sound_noted rows records sound =
       law = parts.law;
     })
 
--- ---- what the tests tell
+-- ---- what the tests say
 
 -- each object that is found passes
 pub passes_test : (test found : Node → Bool) (nodes : List Node) (node : Node) → find (λ n. not (test n)) nodes ≡ None → find found nodes ≡ Some node → test node ≡ true

@@ -10,7 +10,7 @@ use Rattle.room_rows.proofs.Frames.{KeepsPlaces, keeps_places, root_of-with_each
 use Rattle.room_machine.specs.Site.{Site, root_site, site_below, sites_below, sites_of, sites_along, site_at}
 use Rattle.room_judge.specs.Stored.{stored_from, stored_along}
 
--- ---- what stands after so many names
+-- ---- what stands after n names
 
 abbrev picked : {X : Type 0} → List X → List (List ℕ) → Option X
 picked [] names = None

@@ -70,7 +70,7 @@ first_more asked n one replies all reply old mid new below is made first more = 
   none = λ zero_is. absurd (let wrong : ⊥ = omega (arith, zero_is) in wrong);
 }
 
--- a row that is damaged behind the first requests
+-- a row that is damaged after the first requests
 pub blamed_after : (asked : List Asked) (n : ℕ) (replies : List Reply) (old mid : Rows) (at : ℕ) → n < length asked → AreFirst asked n old replies mid → IsDamaged mid at → IsDamagedAfter asked old at
 blamed_after asked n replies old mid at below first damaged = record { count = n; below = below; replies = replies; rows = mid; first = first; damaged = damaged }
 

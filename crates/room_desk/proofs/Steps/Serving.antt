@@ -76,7 +76,7 @@ stored_full : (which : Which) (path : List (List ℕ)) (node : Node) → full_at
 stored_full Dacl path node = refl
 stored_full Sacl path node = refl
 
--- what is told of a child
+-- what is listed of a child
 abbrev pub shown : Node → List ℕ × ObjKind
 shown node = (node.name, node.kind)
 
@@ -122,7 +122,7 @@ module _ (asker : Asker) (path : List (List ℕ)) where
       (λ content target. Rulings (map (λ bit. (bit ∷ [], ruling_of (full_at Dacl target) asker.caller target.node.owners bit)) mask)) (λ content id. refl) old new node reply are reached
       (λ target filled. ap (λ (s : Site). Rulings (map (λ bit. (bit ∷ [], ruling_of (full_at Dacl s) asker.caller s.node.owners bit)) mask)) filled ∙ sym replies)
 
--- ---- the same, as the calls give it
+-- ---- the same in terms of the calls
 
 abbrev pub DocumentAt : List ℕ → Site → List Item
 DocumentAt bits target = of_kind Document target ∷ Check target bits ∷ []
@@ -143,7 +143,7 @@ pub reached_rows : {X : Type 0} (part : Content → X) (asker : Asker) (path : L
     → IsReached asker path items old arrival mid → part mid.read ≡ part old.read
 reached_rows part asker path items arrival old mid kept reached = ap (λ (r : Rows). part r.read) reached.judged.notes ∙ kept old.read _
 
--- a row that can't be read then couldn't be read before
+-- a row that can't be read afterwards couldn't be read before
 pub reached_damaged : (asker : Asker) (path : List (List ℕ)) (items : Site → List Item) (arrival : Arrival) (old mid : Rows) (at : ℕ) → IsReached asker path items old arrival mid → IsUnreadable mid at → IsDamaged old at
 reached_damaged asker path items arrival old mid at reached h = inl (inl (subst (λ (r : Rows). IsUnreadable r at) reached.judged.notes h))
 
@@ -192,14 +192,14 @@ document_there asker path bits old new node are reached =
     let at_site = none_both (first_failure asker.caller (way false (stored_along old.read path) path)) _ (judged ∙ failure_of_parts asker.caller asker.at (way false (stored_along old.read path) path) (no_folder site ∷ Check site bits ∷ [])) in
     (along_there old.read are.numbers path site reached.found, folder_fails asker.caller site (none_both (failure asker.caller (no_folder site)) (first_failure asker.caller (Check site bits ∷ [])) at_site.1).0)
 
--- a document that lacks bytes, behind the records of the way to it
+-- a document that lacks bytes, after the records of the way to it
 pub no_bytes : (asker : Asker) (path : List (List ℕ)) (bits : List ℕ) (old mid : Rows) (node : Node) (at : ℕ) → AreRows old → IsReached asker path (DocumentAt bits) old (At node) mid → HasNoBytes node.id mid at → IsDamaged old at
 no_bytes asker path bits old mid node at are reached (inl unreadable) = inl (inl (subst (λ (r : Rows). IsUnreadable r at) reached.judged.notes unreadable))
 no_bytes asker path bits old mid node at are reached (inr lacks) =
     let document = document_there asker path bits old mid node are reached in
     inr (node, ap (node_at old.read) lacks.0 ∙ document.0, document.1, ap (body_of old.read) lacks.0 ∙ sym (ap (λ (r : Rows). body_of r.read node.id) reached.judged.notes) ∙ lacks.1)
 
--- ---- what is answered behind the walk
+-- ---- what is answered after the walk
 
 module _ (asker : Asker) (path : List (List ℕ)) where
   pub bytes_answered : (old mid new : Rows) (node : Node) (reply : Reply) → AreRows old → IsReached asker path (DocumentAt (read_data ∷ [])) old (At node) mid → IsBytesOf node.id mid reply → new ≡ mid → CarriesOut asker (Read path) old reply new

@@ -162,7 +162,8 @@ it_is_there = refl
 the_root_stays : step (world [] []) (Some root) (pos 0) (Move [] (codes "z" ∷ [])) 9 ≡ (Refused [] Root, world [] [])
 the_root_stays = refl
 
--- folders `/a`, `/z`, `/y`, and `/b` below the first, second or third of them, with these entries kept
+-- folders `/a`, `/z`, `/y`, and `/b` below the first, second or third of them, with these entries
+-- kept
 abbrev moved : ℕ → List Ace → Content
 moved above kept = world (
     object 2 1 (codes "a") Folder (own (for_alice ∷ [])) ∷ object 3 above (codes "b") Folder (held true false [] kept)
@@ -238,7 +239,8 @@ a_deletion_is_two_checks = refl
 
 -- ---- alarms and callers without a name
 
--- a document `/f` that is denied to the anonymous and read by all others, under alarm and audit, with these records
+-- a document `/f` that is denied to the anonymous and may be read by all others, with alarm and
+-- audit entries, and these records
 abbrev alarmed : List AuditRow → Content
 alarmed rows = record {
   nodes = root_folder ∷ record {
@@ -255,7 +257,7 @@ alarmed rows = record {
   audits = rows;
 }
 
--- the read that is denied, which is an alarm and an audit, and the read that is served
+-- a read that is denied, which is an alarm and an audit, and a read that is served
 abbrev of_denied_read : List AuditRow
 of_denied_read =
     record { at = pos 2000; user = None; path = codes "/f"; bits = 0x1 ∷ []; granted = false; place = 1; kind = AlarmRecord }

@@ -3,7 +3,7 @@ use Rattle.cli_outcome.proofs.KnownBytes.{writes_none}
 use Rattle.cli_outcome.specs.declared.fault.Fault.TheVariants as fault
 use Rattle.cli_console.proofs.telling.tell_refusal.Goals as goal
 
--- Without memory for the line nothing of it is written.
+-- Where memory for the line runs out, nothing of it is written.
 pub returns-in-Err : goal.returns-in-Err
 returns-in-Err g c =
     inr (record {

@@ -24,7 +24,7 @@ is_plain : (names : Bor (List (Bor Text))) → is_simple (command_line names) �
 unfolding clap_on_literals
 is_plain names = refl
 
--- What `clap` says of a line holds of the line that it is.
+-- What `clap` says of a line holds of the program's own line.
 no_fault : (names : Bor (List (Bor Text))) (words : List Text) (app : App) → app ≡ command_line names → (is_simple_and_free app ≡ true → fault_of app words ≡ []) → fault_of (command_line names) words ≡ []
 no_fault names words app same given = subst (λ (a : App). is_simple_and_free a ≡ true → fault_of a words ≡ []) same given (is_exact names)
 

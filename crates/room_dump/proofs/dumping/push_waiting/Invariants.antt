@@ -4,7 +4,7 @@ use Rattle.room_dump.proofs.Reading.{HasRead}
 use Rattle.room_dump.proofs.Turning.{Turning}
 use Rattle.room_dump.proofs.dumping.push_waiting.Given as goal
 
--- the reads have answered, and so many objects are told
+-- the reads have answered, and this many objects are written
 abbrev pub invariant-turns : goal.invariant-turns
 invariant-turns g l =
     let k = g.K.Keep in

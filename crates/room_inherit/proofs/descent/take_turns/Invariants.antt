@@ -3,7 +3,7 @@ use Rattle.room_rows.specs.Keep.{capped}
 use Rattle.room_inherit.specs.Turns.{AreTurns}
 use Rattle.room_inherit.proofs.descent.take_turns.Given as goal
 
--- so many turns were taken
+-- this many turns were taken
 abbrev pub invariant-turns : goal.invariant-turns
 invariant-turns g l =
     record {

@@ -4,7 +4,7 @@ use Rattle.room_judge.proofs.Calls.{HasDone}
 use Rattle.room_judge.proofs.Ways.{IsWalking}
 use Rattle.room_judge.proofs.walking.walk_down.Given as goal
 
--- so many steps are done
+-- this many steps are done
 abbrev pub invariant-names : goal.invariant-names
 invariant-names g l =
     let k = g.K.Keep in
