@@ -108,23 +108,25 @@ Stops-from so_far one all at n old mid new buf stop fault answered acted cause a
     let N : ℕ → Type 0 = λ k. IsNext t.rest k t.next in
     let F : ℕ → Type 0 = λ f. NextRose t.next f new.faults in
     record {
-      read = a.read ++ t.came.0;
-      exchanges = a.exchanges;
-      next = t.next;
-      rest = t.rest;
-      reads = Consumes-then old.left mid.left new.left a.read t.came.0 a.reads t.came.1;
-      opens = record { whole = bytes-last a.read buf t.came.0 t.rest a.exchanges a.opens.whole t.came.2; each = a.opens.each };
+      connects = record {
+        read = a.read ++ t.came.0;
+        exchanges = a.exchanges;
+        next = t.next;
+        rest = t.rest;
+        reads = Consumes-then old.left mid.left new.left a.read t.came.0 a.reads t.came.1;
+        opens = record { whole = bytes-last a.read buf t.came.0 t.rest a.exchanges a.opens.whole t.came.2; each = a.opens.each };
+        few = subst (λ k. k < max_messages) a.count a.few;
+        is_next = subst N a.count t.is_next;
+        near = t.near;
+        begun = t.writes.0;
+        beginning = (t.writes.1, t.writes.2);
+        writes = Appends-then old.sent mid.sent new.sent (texts_of a.exchanges) t.writes.0 a.writes t.writes.3;
+        run = λ q. Leads-then old.content mid.content new.content at a.exchanges (next_exchange t.next) (a.run (f q)) (t.run (s q));
+        faults = subst F a.faults t.faults;
+      };
       answered = answered ∙ a.count;
-      few = subst (λ k. k < max_messages) a.count a.few;
-      is_next = subst N a.count t.is_next;
-      near = t.near;
-      begun = t.writes.0;
-      beginning = (t.writes.1, t.writes.2);
-      writes = Appends-then old.sent mid.sent new.sent (texts_of a.exchanges) t.writes.0 a.writes t.writes.3;
       acted = acted ∙ t.acted;
       cause = subst (λ (k : Cause). Blames k t.next t.rest t.writes.0 t.writes.1) (sym cause) t.cause;
-      run = λ q. Leads-then old.content mid.content new.content at a.exchanges (next_exchange t.next) (a.run (f q)) (t.run (s q));
-      faults = subst F a.faults t.faults;
     }
 
 -- ---- however it ended
@@ -192,22 +194,3 @@ served-connects holds at old new ended s =
       run = λ h. subst L (next-exchange-of s.last) (s.run h);
       faults = next-rose-of s.last old.faults new.faults s.faults;
     }
-
-pub stopped-connects : (holds : Type 0) (at : ℤ) (old new : Seen) (fault : ServeFault)
-    → Stops holds at old new fault → Connects holds at old new
-stopped-connects holds at old new fault s = record {
-  read = s.read;
-  exchanges = s.exchanges;
-  next = s.next;
-  rest = s.rest;
-  reads = s.reads;
-  opens = s.opens;
-  few = s.few;
-  is_next = s.is_next;
-  near = s.near;
-  begun = s.begun;
-  beginning = s.beginning;
-  writes = s.writes;
-  run = s.run;
-  faults = s.faults;
-}

@@ -65,7 +65,7 @@ pub record Serves (holds : Type 0) (at : ℤ) (old new : Seen) (ended : Ended) :
   pub run : holds → Leads old.content at (exchanges ++ last_exchange last) new.content
   pub faults : FaultsRose last old.faults new.faults
 
--- ---- a connection that a fault ended
+-- ---- a connection, however it ended
 
 -- what comes next, as far as the fault lets it be known: an exchange, with what its reply says of
 -- the connection; a refusal; or a message that the desk failed at
@@ -75,7 +75,7 @@ pub data Next : Type 0 where
   Refusing : Refusal → Next
   Failing : Message → Next
 
--- it stands at the front of the bytes that are left, after so many exchanges
+-- it stands at the front of the bytes that are left, after that many exchanges
 abbrev pub IsNext : List ℕ → ℕ → Next → Type 0
 IsNext left n Next.Unknown = ⊤
 IsNext left n (Next.Exchanging x close) =
@@ -136,29 +136,6 @@ Blames cause (Next.Exchanging x close) left begun back = BlamesText cause begun 
 Blames cause (Next.Refusing refusal) left begun back = BlamesText cause begun back
 Blames cause (Next.Failing m) left begun back = BlamesWriter cause back
 
--- A connection that a fault ended: so many replies went out whole, and then a beginning of the next
--- one's text, perhaps nothing of it.
-pub record Stops (holds : Type 0) (at : ℤ) (old new : Seen) (fault : ServeFault) : Type 0 where
-  pub read : List ℕ
-  pub exchanges : List Exchange
-  pub next : Next
-  pub rest : List ℕ
-  pub reads : Consumes old.left new.left read
-  pub opens : Opens read exchanges rest
-  pub answered : fault.answered ≡ length exchanges
-  pub few : length exchanges < max_messages
-  pub is_next : IsNext rest (length exchanges) next
-  pub near : NearNext next rest
-  pub begun : List ℕ
-  pub beginning : (back : List ℕ) × (next_text next ≡ begun ++ back)
-  pub writes : Appends old.sent new.sent (texts_of exchanges ++ begun)
-  pub acted : fault.acted ≡ did_act next
-  pub cause : Blames fault.cause next rest begun beginning.0
-  pub run : holds → Leads old.content at (exchanges ++ next_exchange next) new.content
-  pub faults : NextRose next old.faults new.faults
-
--- ---- however it ended
-
 -- What a connection is, however it ended: the bytes that were read begin with messages that leave
 -- it open; what was written are their replies, and a beginning of what comes next; and what the
 -- desk did is a run of the room machine over them, with the next message where its step was taken.
@@ -177,3 +154,11 @@ pub record Connects (holds : Type 0) (at : ℤ) (old new : Seen) : Type 0 where
   pub writes : Appends old.sent new.sent (texts_of exchanges ++ begun)
   pub run : holds → Leads old.content at (exchanges ++ next_exchange next) new.content
   pub faults : NextRose next old.faults new.faults
+
+-- A connection that a fault ended: how many replies went out whole, whether the desk took the step
+-- of the next message, and what failed.
+pub record Stops (holds : Type 0) (at : ℤ) (old new : Seen) (fault : ServeFault) : Type 0 where
+  pub connects : Connects holds at old new
+  pub answered : fault.answered ≡ length connects.exchanges
+  pub acted : fault.acted ≡ did_act connects.next
+  pub cause : Blames fault.cause connects.next connects.rest connects.begun connects.beginning.0

@@ -4,7 +4,7 @@ use mir.Val.{to_z, of_z}
 use Rattle.room_http.specs.Serve.{Seen}
 use Rattle.room_http.specs.Turn.{Turns, Along}
 use Rattle.room_http.proofs.Telling.{at-value}
-use Rattle.room_http.proofs.Serving.{Along-begin, Along-then, Serves-from, Stops-from, served-connects, stopped-connects}
+use Rattle.room_http.proofs.Serving.{Along-begin, Along-then, Serves-from, Stops-from, served-connects}
 use Rattle.room_http.proofs.server.serve.Goals as goal
 
 pub returns-in-Some-clause-serves : goal.returns-in-Some-clause-serves
@@ -47,7 +47,7 @@ returns-in-Err-clause-stops g c =
 
 pub returns-in-Err-clause-connects : goal.returns-in-Err-clause-connects
 returns-in-Err-clause-connects g c =
-    stopped-connects _ _ _ _ _ (returns-in-Err-clause-stops g c)
+    (returns-in-Err-clause-stops g c).connects
 
 pub loop-answered-preserved : goal.loop-answered-preserved
 loop-answered-preserved g c =
