@@ -22,7 +22,7 @@ returns-then-is_same-clause-ok c =
 pub returns-then-is_same-clause-ordered : goal.returns-then-is_same-clause-ordered
 returns-then-is_same-clause-ordered c = subst (λ (m : List (List ℕ × List ℕ)). set_of m ≡ m) c.self.view_is (sorted_set c.self.inside.items.items c.self.invariant)
 
-puts : (c : goal.In_ok-insert) → c.insert.new.self.items ≡ put_pair (c.args.group.now, c.args.user.now) c.self.inside.items.items
+puts : (c : goal.In_ok-insert) → c.insert-2.new.self.items ≡ put_pair (c.args.group.now, c.args.user.now) c.self.inside.items.items
 puts c =
     let l = c.self.inside.items.items in
     let k = c.count_before-place.result in
