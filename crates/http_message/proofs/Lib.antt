@@ -5,6 +5,7 @@ pub mod FieldValues
 pub mod InJson
 pub mod NoFloat
 pub mod NoText
+pub mod Printed
 mod Replies
 mod Routed
 pub mod Tables
