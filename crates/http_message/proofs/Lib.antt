@@ -8,4 +8,6 @@ pub mod NoText
 pub mod Printed
 mod Replies
 mod Routed
+pub mod RulingKeys
+pub mod Seeking
 pub mod Tables
