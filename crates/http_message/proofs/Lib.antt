@@ -2,6 +2,7 @@ pub mod Adding
 pub mod Cutting
 mod Examples
 pub mod FieldValues
+pub mod Fronts
 pub mod InJson
 pub mod NoFloat
 pub mod NoText

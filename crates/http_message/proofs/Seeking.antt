@@ -1,11 +1,11 @@
 -- The word of a path, by a walk over the table of routes.
-use Rattle.std.proofs.Common.{◌≡◌, ◌⊎◌, ℕ, zero, suc, ◌-◌, Bool, true, false, not, cond, ◌==◌, ◌&&◌, List, [], ◌∷◌, ◌++◌, length, take, Option, Some, None, option_map, nat_eq, refl, sym, ap, ◌∙◌, inl, inr, true≢false, codes}
+use Rattle.std.proofs.Common.{◌≡◌, ◌⊎◌, ℕ, zero, suc, ◌-◌, Bool, true, false, not, cond, ◌==◌, ◌&&◌, List, [], ◌∷◌, ◌++◌, length, Option, Some, None, option_map, nat_eq, refl, ap, ◌∙◌, inl, inr, true≢false}
 use Rattle.std.specs.Prelude.{⊤}
 use Rattle.std.specs.List.{starts_with}
 use Rattle.std.proofs.lemmas.Bool.{and_parts, cases_Bool, not-true}
 use Rattle.matchit.specs.Rows.{RowsOf, param_token, catch_all_token}
 use Rattle.matchit.specs.Router.{RouteOf}
-use Rattle.matchit.specs.Seek.{own, step, or_else, seek, first, param_step, has_slash}
+use Rattle.matchit.specs.Seek.{own, step, or_else, seek, param_step, has_slash}
 use Rattle.matchit.proofs.OnLiterals.{matchit_on_literals}
 use Rattle.http_message.specs.declared.word.Word.{Word}
 use Rattle.http_message.specs.Laws.{WordsBeginPaths, word_start}

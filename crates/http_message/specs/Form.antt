@@ -49,6 +49,16 @@ reply_form status kind allow body close =
     ++ codes "\r\n"
     ++ body_bytes body
 
+-- all of that text that stands before the body
+abbrev pub head_form : ℕ → Option (List ℕ) → Option (List ℕ) → Option (List ℕ) → Bool → List ℕ
+head_form status kind allow body close =
+    status_line status
+    ++ field_if (codes "Content-Type") kind
+    ++ field_if (codes "Allow") allow
+    ++ length_line body
+    ++ close_line close
+    ++ codes "\r\n"
+
 -- a reply with a text of JSON
 abbrev pub json_text_form : ℕ → List ℕ → Bool → List ℕ
 json_text_form status text close =

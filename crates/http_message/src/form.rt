@@ -1,9 +1,9 @@
 //! The form of a reply's text.
-ghost use Rattle.std.specs.Prelude.{◌≡◌, ◌<◌, ◌++◌, length, IfOk, OnOk};
+ghost use Rattle.std.specs.Prelude.{◌≡◌, ◌<◌, ◌++◌, None, Some, length, IfOk, OnOk};
 ghost use Rattle.std.specs.Option.{option_map};
 ghost use Rattle.http_message.specs.Form.{body_bytes, close_line, field_if, field_line, first_line};
-ghost use Rattle.http_message.specs.Form.{json_text_form, length_line, phrase_of, reply_form};
-ghost use Rattle.http_message.specs.Form.{status_line};
+ghost use Rattle.http_message.specs.Form.{head_form, json_text_form, length_line, phrase_of};
+ghost use Rattle.http_message.specs.Form.{reply_form, status_line};
 
 use http::StatusCode;
 use std::alloc::{AllocError, Global};
@@ -28,14 +28,57 @@ pub(crate) fn print_reply(
         (option_map (λ b. b.now) body.entry)
         close) }
 {
-    let mut text = Vec::with_capacity(alloc, room_for(body))?;
+    let mut text = head_text(alloc, room_for(body), status, kind, allow, body, close)?;
+    push_body(&mut text, body)?;
+    Ok(text)
+}
+
+// The text of a reply up to its body, which follows elsewhere.
+pub(crate) fn print_head(
+    alloc: Global,
+    status: StatusCode,
+    kind: &[u8],
+    body: &[u8],
+    close: bool,
+) -> Result<Vec<u8>, AllocError>
+    ensures { IfOk result (λ text. text.items
+        ≡ head_form status (Some kind.now) None (Some body.now) close) }
+{
+    head_text(
+        alloc,
+        HEAD_ROOM,
+        status,
+        Some(kind),
+        None,
+        Some(body),
+        close,
+    )
+}
+
+// The same, with room for so many bytes.
+fn head_text(
+    alloc: Global,
+    room: usize,
+    status: StatusCode,
+    kind: Option<&[u8]>,
+    allow: Option<&[u8]>,
+    body: Option<&[u8]>,
+    close: bool,
+) -> Result<Vec<u8>, AllocError>
+    ensures { IfOk result (λ text. text.items
+        ≡ head_form status
+        (option_map (λ k. k.now) kind.entry)
+        (option_map (λ a. a.now) allow.entry)
+        (option_map (λ b. b.now) body.entry)
+        close) }
+{
+    let mut text = Vec::with_capacity(alloc, room)?;
     push_status(&mut text, status)?;
     push_if(&mut text, b"Content-Type", kind)?;
     push_if(&mut text, b"Allow", allow)?;
     push_length(alloc, &mut text, body)?;
     push_close(&mut text, close)?;
     text.extend_from_slice(b"\r\n")?;
-    push_body(&mut text, body)?;
     Ok(text)
 }
 

@@ -55,7 +55,8 @@ fn print_bytes(alloc: Global, kind: &[u8], body: &[u8], close: bool) -> Result<V
     print_reply(alloc, StatusCode::OK, Some(kind), None, Some(body), close)
 }
 
-fn bytes_reply(alloc: Global, bytes: &[u8], close: bool) -> Result<Vec<u8>, AllocError>
+// A reply of a document's bytes.
+pub(crate) fn bytes_reply(alloc: Global, bytes: &[u8], close: bool) -> Result<Vec<u8>, AllocError>
     ensures { IfOk result (λ text. text.items ≡ bytes_form octets bytes.now close) }
 {
     print_bytes(alloc, b"application/octet-stream", bytes, close)
