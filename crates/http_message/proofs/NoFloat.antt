@@ -1,4 +1,4 @@
--- The JSON of replies has no float in it.
+-- The JSON of rulings has no float in it.
 use Rattle.std.proofs.Common.{◌≡◌, ℕ, false, List, [], ◌∷◌, Ordering, Less, Equal, Greater, nat_cmp, refl}
 use Rattle.std.proofs.lemmas.Bool.{or_parts, or_from}
 use Rattle.std.specs.Ordering.{match_ordering}
@@ -6,13 +6,8 @@ use Rattle.std.specs.Cmp.Lexicographic.{slice_cmp}
 use Rattle.serde_json.specs.Data.{Data, string, Members, no_members, member, put}
 use Rattle.serde_json.specs.Written.{has_float, members_have_float}
 use Rattle.room_ace.specs.Text.{mask_text}
-use Rattle.room_ace.specs.declared.object.ObjKind.{ObjKind}
 use Rattle.room_eval.specs.declared.outcome.Ruling.{Ruling}
-use Rattle.http_message.specs.Bodies.{names_data, ruling_text, with_rulings, rulings_data}
-
-pub no-float-names : (children : List (List ℕ × ObjKind)) → has_float (names_data children) ≡ false
-no-float-names [] = refl
-no-float-names (child ∷ children) = no-float-names children
+use Rattle.http_message.specs.Bodies.{ruling_text, with_rulings, rulings_data}
 
 put-at : (o : Ordering) (k s l : List ℕ) (e : Data) (ms more : Members)
     → has_float e ≡ false → members_have_float ms ≡ false → members_have_float more ≡ false

@@ -1,7 +1,9 @@
 -- The tables of routes, word by word.
-use Rattle.std.proofs.Common.{refl}
+use Rattle.std.proofs.Common.{◌≡◌, Some, refl}
 use Rattle.http_message.specs.declared.word.Word.{Word}
-use Rattle.http_message.specs.Laws.{AllowsWhatIsAsked}
+use Rattle.http_message.specs.declared.word.Verb.{Verb}
+use Rattle.http_message.specs.Laws.{AllowsWhatIsAsked, EveryMethodIsListed, verb_text}
+use Rattle.http_message.specs.Words.{verb_of}
 
 pub allows : AllowsWhatIsAsked
 allows Word.Doc = refl
@@ -12,3 +14,12 @@ allows Word.Dacl = refl
 allows Word.Sacl = refl
 allows Word.Attr = refl
 allows Word.Can = refl
+
+known : (verb : Verb) → verb_of (verb_text verb) ≡ Some verb
+known Verb.Get = refl
+known Verb.Put = refl
+known Verb.Post = refl
+known Verb.Delete = refl
+
+pub lists_all : EveryMethodIsListed
+lists_all = (refl, known)

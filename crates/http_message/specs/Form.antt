@@ -2,8 +2,10 @@
 use Rattle.std.specs.Prelude.{ℕ, List, [], ◌++◌, length, codes, Option, Some, None, Bool, true}
 use Rattle.std.specs.Prelude.{false, decimal, unwrap_or}
 use Rattle.http.specs.StatusCode.{code_digits, reason_phrase}
+use Rattle.json.specs.Token.{Token}
+use Rattle.json.specs.Tree.{json_tokens}
 use Rattle.serde_json.specs.Data.{Data}
-use Rattle.serde_json.specs.Written.{compact_text}
+use Rattle.serde_json.specs.Written.{compact_text, outline}
 
 -- the phrase of a status, as `http` has it
 abbrev pub phrase_of : ℕ → List ℕ
@@ -47,7 +49,25 @@ reply_form status kind allow body close =
     ++ codes "\r\n"
     ++ body_bytes body
 
+-- all of that text that stands before the body
+abbrev pub head_form : ℕ → Option (List ℕ) → Option (List ℕ) → Option (List ℕ) → Bool → List ℕ
+head_form status kind allow body close =
+    status_line status
+    ++ field_if (codes "Content-Type") kind
+    ++ field_if (codes "Allow") allow
+    ++ length_line body
+    ++ close_line close
+    ++ codes "\r\n"
+
+-- a reply with a text of JSON
+abbrev pub json_text_form : ℕ → List ℕ → Bool → List ℕ
+json_text_form status text close =
+    reply_form status (Some (codes "application/json")) None (Some text) close
+
 -- a reply with JSON
 abbrev pub json_form : ℕ → Data → Bool → List ℕ
-json_form status value close =
-    reply_form status (Some (codes "application/json")) None (Some (compact_text value)) close
+json_form status value close = json_text_form status (compact_text value) close
+
+-- the tokens of which that text is the print
+abbrev pub data_tokens : Data → List Token
+data_tokens value = json_tokens (outline value)

@@ -1,8 +1,21 @@
--- Laws of the tables of routes (own).
-use Rattle.std.specs.Prelude.{◌≡◌, ℕ, List, [], ◌∷◌, ◌++◌, is_some, filter, map, codes}
+-- Laws of methods, routes and rulings (own).
+use Rattle.std.specs.Prelude.{◌≡◌, ℕ, false, List, [], ◌∷◌, ◌++◌, Some, None, is_some, filter}
+use Rattle.std.specs.Prelude.{map, nat_eq, codes, ⊤}
+use Rattle.std.specs.List.{starts_with}
+use Rattle.std.specs.Cmp.Lexicographic.{slice_cmp}
+use Rattle.std.specs.List.Sorted.{IsStrictlySortedBy}
+use Rattle.std.specs.Ordering.{nat_cmp}
+use Rattle.serde_json.specs.Data.{Members, no_members, member, string}
+use Rattle.serde_json.specs.Find.{get_member}
+use Rattle.room_ace.specs.Text.{mask_text}
+use Rattle.room_eval.specs.declared.outcome.Ruling.{Ruling}
 use Rattle.http_message.specs.declared.word.Verb.{Verb}
 use Rattle.http_message.specs.declared.word.Word.{Word}
-use Rattle.http_message.specs.Words.{allow_text, action_of}
+use Rattle.http_message.specs.Words.{allow_text, action_of, every_method, verb_of, word_text}
+use Rattle.http_message.specs.Routes.{word_of}
+use Rattle.http_message.specs.Bodies.{ruling_text, with_rulings}
+
+-- ---- methods
 
 abbrev pub verb_text : Verb → List ℕ
 verb_text Verb.Get = codes "GET"
@@ -26,3 +39,47 @@ AllowsWhatIsAsked =
     (word : Word)
     → allow_text word
     ≡ listed (map verb_text (filter (λ verb. is_some (action_of word verb)) every_verb))
+
+-- The field Allow of an unknown method lists all methods, and each of them is known by its text.
+abbrev pub EveryMethodIsListed : Type 0
+EveryMethodIsListed =
+    (every_method ≡ listed (map verb_text every_verb))
+    × ((verb : Verb) → verb_of (verb_text verb) ≡ Some verb)
+
+-- ---- routes
+
+-- what a path begins with that has this word
+abbrev pub word_start : Word → List ℕ
+word_start word = 47 ∷ word_text word ++ codes "/"
+
+-- A path has a word exactly where it begins with a slash, the word and a slash.
+abbrev pub WordsBeginPaths : Type 0
+WordsBeginPaths =
+    ((word : Word) (rest : List ℕ) → word_of (word_start word ++ rest) ≡ Some word)
+    × ((path : List ℕ)
+    → ((word : Word) → starts_with nat_eq path (word_start word) ≡ false) → word_of path ≡ None)
+
+-- ---- rulings
+
+-- the keys of an object, in their order
+abbrev pub keys_in : Members → List (List ℕ)
+keys_in no_members = []
+keys_in (member key value members) = key ∷ keys_in members
+
+-- none of the rulings is of these letters
+abbrev pub Lacks : List ℕ → List (List ℕ × Ruling) → Type 0
+Lacks letters [] = ⊤
+Lacks letters (ruling ∷ rulings) = (letters ≡ mask_text ruling.0 → ⊥) × Lacks letters rulings
+
+-- Of rulings each letter is a key, with the text of its ruling, the last where there are several;
+-- there is no other key; and the keys are in order of their bytes.
+abbrev pub RulingsAreKeys : Type 0
+RulingsAreKeys =
+    ((rulings others : List (List ℕ × Ruling)) (ruling : List ℕ × Ruling)
+    → Lacks (mask_text ruling.0) others
+    → get_member (mask_text ruling.0) (with_rulings no_members (rulings ++ ruling ∷ others))
+    ≡ Some (string (ruling_text ruling.1)))
+    × ((letters : List ℕ) (rulings : List (List ℕ × Ruling)) → Lacks letters rulings
+    → get_member letters (with_rulings no_members rulings) ≡ None)
+    × ((rulings : List (List ℕ × Ruling))
+    → IsStrictlySortedBy (slice_cmp nat_cmp) (keys_in (with_rulings no_members rulings)))

@@ -1,180 +1,255 @@
-//! The JSON of replies.
-ghost use Rattle.std.specs.Prelude.{◌≡◌, IfOk, OnOk, [], ◌∷◌, ◌++◌, map, option_map, string_bytes};
+//! The JSON of replies, written a token at a time.
+ghost use Rattle.std.specs.Prelude.{◌≡◌, IfOk, OnOk, [], ◌∷◌, ◌++◌, option_map, string_bytes};
+ghost use Rattle.json.specs.Token.{Token};
 ghost use Rattle.serde_json.specs.View.{members_view, view};
 ghost use Rattle.room_ace.specs.Text.{mask_text};
 ghost use Rattle.serde_json.specs.Data.{put, string};
-ghost use Rattle.http_message.specs.Bodies.{at_data, attr_data, attr_texts, child_data};
-ghost use Rattle.http_message.specs.Bodies.{child_texts, denied_data, denied_members, denied_texts};
-ghost use Rattle.http_message.specs.Bodies.{kind_word, line_data, names_data, place_data};
-ghost use Rattle.http_message.specs.Bodies.{refused_data, ruling_text, rulings_data, text_or_null};
-ghost use Rattle.http_message.specs.Bodies.{why_data};
+ghost use Rattle.http_message.specs.Bodies.{at_data, attr_data, attr_texts, child_texts};
+ghost use Rattle.http_message.specs.Bodies.{denied_data, denied_texts, line_data, names_data};
+ghost use Rattle.http_message.specs.Bodies.{number_or_null, place_data, refused_data, ruling_text};
+ghost use Rattle.http_message.specs.Bodies.{rulings_data, text_or_null, why_data};
+ghost use Rattle.http_message.specs.Form.{data_tokens};
 
 use crate::words::{bad_list, kind_word};
+use json::Writer;
 use room_ace::{Entry, Mask, ObjKind, Owners, print_entry};
 use room_eval::Ruling;
 use room_machine::Reason;
 use room_rows::{Path, Text};
-use serde_json::{Map, Value, json};
+use serde_json::{Map, Value};
 use std::alloc::{AllocError, Global};
 
-// Why something is refused.
-pub(crate) fn why_value(alloc: Global, why: &str) -> Result<Value, AllocError>
-    ensures { IfOk result (λ value. view value ≡ why_data why.now) }
+// A buffer for one value.
+pub(crate) fn started(alloc: Global, room: usize) -> Result<Writer, AllocError>
+    ensures before { IfOk result (λ out. out.before ≡ []) }
+    ensures tokens { IfOk result (λ out. out.tokens ≡ []) }
 {
-    json!(in alloc; {"why": why})
+    Ok(Writer::new(Vec::with_capacity(alloc, room)?))
+}
+
+// Adds a member whose value is a text.
+fn push_member(out: &mut Writer, key: &str, text: &str) -> Result<(), AllocError>
+    ensures before { out.new.before ≡ out.old.before }
+    ensures tokens { OnOk result (out.new.tokens
+        ≡ out.old.tokens ++ Token.key key.now ∷ Token.string text.now ∷ []) }
+{
+    out.key(key)?;
+    out.string(text)
+}
+
+// Why something is refused.
+pub(crate) fn push_why(out: &mut Writer, why: &str) -> Result<(), AllocError>
+    ensures before { out.new.before ≡ out.old.before }
+    ensures tokens { OnOk result (out.new.tokens
+        ≡ out.old.tokens ++ data_tokens (why_data why.now)) }
+{
+    out.begin_object()?;
+    push_member(out, "why", why)?;
+    out.end_object()
 }
 
 // Why a line is refused.
-pub(crate) fn line_value(alloc: Global, line: usize, why: &str) -> Result<Value, AllocError>
-    ensures { IfOk result (λ value. view value ≡ line_data line why.now) }
+pub(crate) fn push_line(out: &mut Writer, line: usize, why: &str) -> Result<(), AllocError>
+    ensures before { out.new.before ≡ out.old.before }
+    ensures tokens { OnOk result (out.new.tokens
+        ≡ out.old.tokens ++ data_tokens (line_data line why.now)) }
 {
-    json!(in alloc; {"line": line, "why": why})
+    out.begin_object()?;
+    out.key("line")?;
+    out.u64(line as u64)?;
+    push_member(out, "why", why)?;
+    out.end_object()
 }
 
 // Why a request is refused, at a path.
-pub(crate) fn refused_value(alloc: Global, at: &Path, why: &Reason) -> Result<Value, AllocError>
-    ensures { IfOk result (λ value. view value ≡ refused_data at.now why.now) }
+pub(crate) fn push_refused(
+    alloc: Global,
+    out: &mut Writer,
+    at: &Path,
+    why: &Reason,
+) -> Result<(), AllocError>
+    ensures before { out.new.before ≡ out.old.before }
+    ensures tokens { OnOk result (out.new.tokens
+        ≡ out.old.tokens ++ data_tokens (refused_data at.now why.now)) }
 {
     let text = at.to_text(alloc)?;
     match why {
         Reason::BadList { place, fault } => {
-            place_value(alloc, text.as_str(), *place, bad_list(*fault))
+            push_place(out, text.as_str(), *place, bad_list(*fault))
         }
-        Reason::NoSuch => at_value(alloc, text.as_str(), "no-such"),
-        Reason::NotFolder => at_value(alloc, text.as_str(), "not-folder"),
-        Reason::WrongKind => at_value(alloc, text.as_str(), "wrong-kind"),
-        Reason::Exists => at_value(alloc, text.as_str(), "exists"),
-        Reason::NotEmpty => at_value(alloc, text.as_str(), "not-empty"),
-        Reason::Root => at_value(alloc, text.as_str(), "root"),
-        Reason::Loop => at_value(alloc, text.as_str(), "loop"),
-        Reason::TooLarge => at_value(alloc, text.as_str(), "too-large"),
+        Reason::NoSuch => push_at(out, text.as_str(), "no-such"),
+        Reason::NotFolder => push_at(out, text.as_str(), "not-folder"),
+        Reason::WrongKind => push_at(out, text.as_str(), "wrong-kind"),
+        Reason::Exists => push_at(out, text.as_str(), "exists"),
+        Reason::NotEmpty => push_at(out, text.as_str(), "not-empty"),
+        Reason::Root => push_at(out, text.as_str(), "root"),
+        Reason::Loop => push_at(out, text.as_str(), "loop"),
+        Reason::TooLarge => push_at(out, text.as_str(), "too-large"),
     }
 }
 
-fn at_value(alloc: Global, at: &str, why: &str) -> Result<Value, AllocError>
-    ensures { IfOk result (λ value. view value ≡ at_data at.now why.now) }
+fn push_at(out: &mut Writer, at: &str, why: &str) -> Result<(), AllocError>
+    ensures before { out.new.before ≡ out.old.before }
+    ensures tokens { OnOk result (out.new.tokens
+        ≡ out.old.tokens ++ data_tokens (at_data at.now why.now)) }
 {
-    json!(in alloc; {"at": at, "why": why})
+    out.begin_object()?;
+    push_member(out, "at", at)?;
+    push_member(out, "why", why)?;
+    out.end_object()
 }
 
-fn place_value(alloc: Global, at: &str, place: usize, why: &str) -> Result<Value, AllocError>
-    ensures { IfOk result (λ value. view value ≡ place_data at.now place why.now) }
+fn push_place(out: &mut Writer, at: &str, place: usize, why: &str) -> Result<(), AllocError>
+    ensures before { out.new.before ≡ out.old.before }
+    ensures tokens { OnOk result (out.new.tokens
+        ≡ out.old.tokens ++ data_tokens (place_data at.now place why.now)) }
 {
-    json!(in alloc; {"at": at, "entry": place, "why": why})
+    out.begin_object()?;
+    push_member(out, "at", at)?;
+    out.key("entry")?;
+    out.u64(place as u64)?;
+    push_member(out, "why", why)?;
+    out.end_object()
 }
 
 // What was denied, and by which entry.
-pub(crate) fn denied_value(
+pub(crate) fn push_denied(
     alloc: Global,
+    out: &mut Writer,
     at: &Path,
     bits: Mask,
     place: Option<usize>,
     entry: Option<&Entry>,
-) -> Result<Value, AllocError>
-    ensures { IfOk result (λ value. view value
-        ≡ denied_data at.now bits place (option_map (λ e. e.now) entry.entry)) }
+) -> Result<(), AllocError>
+    ensures before { out.new.before ≡ out.old.before }
+    ensures tokens { OnOk result (out.new.tokens ≡ out.old.tokens
+        ++ data_tokens (denied_data at.now bits place (option_map (λ e. e.now) entry.entry))) }
 {
     let text = at.to_text(alloc)?;
     match entry {
-        None => denied_line(alloc, text.as_str(), bits, place, None),
+        None => push_denied_line(alloc, out, text.as_str(), bits, place, None),
         Some(entry) => {
             let line = print_entry(alloc, entry)?;
-            denied_line(alloc, text.as_str(), bits, place, Some(line.as_str()))
+            push_denied_line(alloc, out, text.as_str(), bits, place, Some(line.as_str()))
         }
     }
 }
 
 // The same, with the text of the path and of the entry.
-fn denied_line(
+fn push_denied_line(
     alloc: Global,
+    out: &mut Writer,
     at: &str,
     bits: Mask,
     place: Option<usize>,
     text: Option<&str>,
-) -> Result<Value, AllocError>
-    ensures { IfOk result (λ value. view value
-        ≡ denied_texts at.now (mask_text bits) place (option_map (λ t. t.now) text.entry)) }
+) -> Result<(), AllocError>
+    ensures before { out.new.before ≡ out.old.before }
+    ensures tokens { OnOk result (out.new.tokens ≡ out.old.tokens
+        ++ data_tokens (denied_texts at.now (mask_text bits) place
+        (option_map (λ t. t.now) text.entry))) }
 {
     let mut letters = String::new(alloc);
     bits.push_letters(&mut letters)?;
-    let text = text_or_null(alloc, text)?;
-    denied_texts(alloc, at, letters.as_str(), place, &text)
+    push_denied_texts(out, at, letters.as_str(), place, text)
 }
 
-fn denied_texts(
-    alloc: Global,
+fn push_denied_texts(
+    out: &mut Writer,
     at: &str,
     bits: &str,
     place: Option<usize>,
-    text: &Value,
-) -> Result<Value, AllocError>
-    ensures { IfOk result (λ value. view value
-        ≡ denied_members at.now bits.now place (view text.now)) }
+    text: Option<&str>,
+) -> Result<(), AllocError>
+    ensures before { out.new.before ≡ out.old.before }
+    ensures tokens { OnOk result (out.new.tokens ≡ out.old.tokens
+        ++ data_tokens (denied_texts at.now bits.now place (option_map (λ t. t.now) text.entry))) }
 {
-    json!(in alloc; {"at": at, "bits": bits, "entry": place, "text": text})
+    out.begin_object()?;
+    push_member(out, "at", at)?;
+    push_member(out, "bits", bits)?;
+    push_number_or_null(out, "entry", place)?;
+    push_text_or_null(out, "text", text)?;
+    out.end_object()
 }
 
-// The text, or null.
-fn text_or_null(alloc: Global, text: Option<&str>) -> Result<Value, AllocError>
-    ensures { IfOk result (λ value. view value
-        ≡ text_or_null (option_map (λ t. t.now) text.entry)) }
+// Adds a member whose value is a number, or null.
+fn push_number_or_null(out: &mut Writer, key: &str, number: Option<usize>) -> Result<(), AllocError>
+    ensures before { out.new.before ≡ out.old.before }
+    ensures tokens { OnOk result (out.new.tokens
+        ≡ out.old.tokens ++ Token.key key.now ∷ data_tokens (number_or_null number)) }
 {
+    out.key(key)?;
+    match number {
+        None => out.null(),
+        Some(number) => out.u64(number as u64),
+    }
+}
+
+// Adds a member whose value is a text, or null.
+fn push_text_or_null(out: &mut Writer, key: &str, text: Option<&str>) -> Result<(), AllocError>
+    ensures before { out.new.before ≡ out.old.before }
+    ensures tokens { OnOk result (out.new.tokens ≡ out.old.tokens
+        ++ Token.key key.now ∷ data_tokens (text_or_null (option_map (λ t. t.now) text.entry))) }
+{
+    out.key(key)?;
     match text {
-        None => Ok(Value::Null),
-        Some(text) => Value::try_from_str(alloc, text),
+        None => out.null(),
+        Some(text) => out.string(text),
     }
 }
 
 // Kind and owners.
-pub(crate) fn attr_value(alloc: Global, kind: ObjKind, owners: &Owners) -> Result<Value, AllocError>
-    ensures { IfOk result (λ value. view value ≡ attr_data kind owners.now) }
+pub(crate) fn push_attr(out: &mut Writer, kind: ObjKind, owners: &Owners) -> Result<(), AllocError>
+    ensures before { out.new.before ≡ out.old.before }
+    ensures tokens { OnOk result (out.new.tokens
+        ≡ out.old.tokens ++ data_tokens (attr_data kind owners.now)) }
 {
-    attr_texts(
-        alloc,
+    push_attr_texts(
+        out,
         owners.group.as_str(),
         kind_word(kind),
         owners.owner.as_str(),
     )
 }
 
-fn attr_texts(alloc: Global, group: &str, kind: &str, owner: &str) -> Result<Value, AllocError>
-    ensures { IfOk result (λ value. view value ≡ attr_texts group.now kind.now owner.now) }
+fn push_attr_texts(out: &mut Writer, group: &str, kind: &str, owner: &str) -> Result<(), AllocError>
+    ensures before { out.new.before ≡ out.old.before }
+    ensures tokens { OnOk result (out.new.tokens
+        ≡ out.old.tokens ++ data_tokens (attr_texts group.now kind.now owner.now)) }
 {
-    json!(in alloc; {"group": group, "kind": kind, "owner": owner})
+    out.begin_object()?;
+    push_member(out, "group", group)?;
+    push_member(out, "kind", kind)?;
+    push_member(out, "owner", owner)?;
+    out.end_object()
 }
 
 // Names and kinds of children.
-pub(crate) fn names_value(alloc: Global, children: &[(Text, ObjKind)]) -> Result<Value, AllocError>
-    ensures { IfOk result (λ value. view value ≡ names_data children.now) }
+pub(crate) fn push_names(out: &mut Writer, children: &[(Text, ObjKind)]) -> Result<(), AllocError>
+    ensures before { out.new.before ≡ out.old.before }
+    ensures tokens { OnOk result (out.new.tokens
+        ≡ out.old.tokens ++ data_tokens (names_data children.now)) }
 {
-    let mut items = Vec::new(alloc);
+    out.begin_array()?;
     for child in children {
-        push_child(alloc, &mut items, child)?;
+        push_child(out, child.0.as_str(), kind_word(child.1))?;
     }
-    Ok(Value::Array(items))
+    out.end_array()
 }
 
-// Adds a child.
-fn push_child(
-    alloc: Global,
-    items: &mut Vec<Value>,
-    child: &(Text, ObjKind),
-) -> Result<(), AllocError>
-    ensures { OnOk result (map view items.new.items
-        ≡ map view items.old.items ++ child_data child.now ∷ []) }
+fn push_child(out: &mut Writer, name: &str, kind: &str) -> Result<(), AllocError>
+    ensures before { out.new.before ≡ out.old.before }
+    ensures tokens { OnOk result (out.new.tokens
+        ≡ out.old.tokens ++ data_tokens (child_texts name.now kind.now)) }
 {
-    let value = child_value(alloc, child.0.as_str(), kind_word(child.1))?;
-    items.push(value)?;
-    Ok(())
+    out.begin_object()?;
+    push_member(out, "kind", kind)?;
+    push_member(out, "name", name)?;
+    out.end_object()
 }
 
-fn child_value(alloc: Global, name: &str, kind: &str) -> Result<Value, AllocError>
-    ensures { IfOk result (λ value. view value ≡ child_texts name.now kind.now) }
-{
-    json!(in alloc; {"kind": kind, "name": name})
-}
-
-// The ruling of each bit.
+// The ruling of each bit. A map puts the letters in order.
 pub(crate) fn rulings_value(alloc: Global, rulings: &[(Mask, Ruling)]) -> Result<Value, AllocError>
     ensures { IfOk result (λ value. view value ≡ rulings_data rulings.now) }
 {
@@ -204,8 +279,7 @@ fn put_ruling(
 fn ruling_value(alloc: Global, ruling: Ruling) -> Result<Value, AllocError>
     ensures { IfOk result (λ value. view value ≡ string (ruling_text ruling)) }
 {
-    let text = ruling_text(alloc, ruling)?;
-    Value::try_from_str(alloc, text.as_str())
+    Ok(Value::String(ruling_text(alloc, ruling)?))
 }
 
 fn ruling_text(alloc: Global, ruling: Ruling) -> Result<String, AllocError>

@@ -1,15 +1,15 @@
 //! The form of a reply's text.
-ghost use Rattle.std.specs.Prelude.{◌≡◌, ◌++◌, ◌∷◌, false, IfOk, OnOk, string_bytes};
+ghost use Rattle.std.specs.Prelude.{◌≡◌, ◌<◌, ◌++◌, None, Some, length, IfOk, OnOk};
 ghost use Rattle.std.specs.Option.{option_map};
-ghost use Rattle.serde_json.specs.Written.{has_float};
-ghost use Rattle.serde_json.specs.View.{view};
 ghost use Rattle.http_message.specs.Form.{body_bytes, close_line, field_if, field_line, first_line};
-ghost use Rattle.http_message.specs.Form.{json_form, length_line, phrase_of, reply_form};
-ghost use Rattle.http_message.specs.Form.{status_line};
+ghost use Rattle.http_message.specs.Form.{head_form, json_text_form, length_line, phrase_of};
+ghost use Rattle.http_message.specs.Form.{reply_form, status_line};
 
 use http::StatusCode;
-use serde_json::Value;
 use std::alloc::{AllocError, Global};
+
+// No head of a reply is longer.
+const HEAD_ROOM: usize = 192;
 
 // The text of a reply, from its parts.
 #[tactic(auto, unfolding(crate::specs::Form::reply_form))]
@@ -28,15 +28,68 @@ pub(crate) fn print_reply(
         (option_map (λ b. b.now) body.entry)
         close) }
 {
-    let mut text = Vec::new(alloc);
+    let mut text = head_text(alloc, room_for(body), status, kind, allow, body, close)?;
+    push_body(&mut text, body)?;
+    Ok(text)
+}
+
+// The text of a reply up to its body, which follows elsewhere.
+pub(crate) fn print_head(
+    alloc: Global,
+    status: StatusCode,
+    kind: &[u8],
+    body: &[u8],
+    close: bool,
+) -> Result<Vec<u8>, AllocError>
+    ensures { IfOk result (λ text. text.items
+        ≡ head_form status (Some kind.now) None (Some body.now) close) }
+{
+    head_text(
+        alloc,
+        HEAD_ROOM,
+        status,
+        Some(kind),
+        None,
+        Some(body),
+        close,
+    )
+}
+
+// The same, with room for so many bytes.
+fn head_text(
+    alloc: Global,
+    room: usize,
+    status: StatusCode,
+    kind: Option<&[u8]>,
+    allow: Option<&[u8]>,
+    body: Option<&[u8]>,
+    close: bool,
+) -> Result<Vec<u8>, AllocError>
+    ensures { IfOk result (λ text. text.items
+        ≡ head_form status
+        (option_map (λ k. k.now) kind.entry)
+        (option_map (λ a. a.now) allow.entry)
+        (option_map (λ b. b.now) body.entry)
+        close) }
+{
+    let mut text = Vec::with_capacity(alloc, room)?;
     push_status(&mut text, status)?;
     push_if(&mut text, b"Content-Type", kind)?;
     push_if(&mut text, b"Allow", allow)?;
     push_length(alloc, &mut text, body)?;
     push_close(&mut text, close)?;
     text.extend_from_slice(b"\r\n")?;
-    push_body(&mut text, body)?;
     Ok(text)
+}
+
+// The room for a head and this body.
+fn room_for(body: Option<&[u8]>) -> usize
+    ensures { length (body_bytes (option_map (λ b. b.now) body.entry)) < result }
+{
+    match body {
+        Some(body) => body.len() + HEAD_ROOM,
+        None => HEAD_ROOM,
+    }
 }
 
 // Adds the status line.
@@ -125,23 +178,21 @@ fn push_body(text: &mut Vec<u8>, body: Option<&[u8]>) -> Result<(), AllocError>
     }
 }
 
-// A reply whose body is the text of a value, which has no float in it.
+// A reply whose body is JSON.
 pub(crate) fn print_json(
     alloc: Global,
     status: StatusCode,
-    value: &Value,
+    body: Vec<u8>,
     close: bool,
 ) -> Result<Vec<u8>, AllocError>
-    requires { has_float (view value.now) ≡ false }
-    ensures { IfOk result (λ text. text.items ≡ json_form status (view value.now) close) }
+    ensures { IfOk result (λ text. text.items ≡ json_text_form status body.items close) }
 {
-    let body = value.to_string(alloc)?;
     print_reply(
         alloc,
         status,
         Some(b"application/json"),
         None,
-        Some(body.as_bytes()),
+        Some(body.as_slice()),
         close,
     )
 }

@@ -1,7 +1,23 @@
-//! Laws of the tables of routes.
-ghost use Rattle.http_message.specs.Laws.{AllowsWhatIsAsked};
+//! Laws of methods, routes and rulings.
+ghost use Rattle.http_message.specs.Laws.{AllowsWhatIsAsked, EveryMethodIsListed};
+ghost use Rattle.http_message.specs.Laws.{RulingsAreKeys, WordsBeginPaths};
 
 /// The field Allow of a word lists the methods that ask something of it, in order.
 pub fn allows_what_is_asked()
     ensures { AllowsWhatIsAsked }
+{}
+
+/// The field Allow of an unknown method lists all methods, and each is known by its text.
+pub fn every_method_is_listed()
+    ensures { EveryMethodIsListed }
+{}
+
+/// A path has a word exactly where it begins with a slash, the word and a slash.
+pub fn words_begin_paths()
+    ensures { WordsBeginPaths }
+{}
+
+/// Of rulings each letter is a key, with its ruling; there is no other; and the keys are in order.
+pub fn rulings_are_keys()
+    ensures { RulingsAreKeys }
 {}

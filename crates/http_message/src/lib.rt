@@ -13,6 +13,7 @@ pub mod laws;
 mod reply;
 mod routes;
 mod target;
+mod text;
 mod word;
 mod words;
 
@@ -23,4 +24,5 @@ pub use fields::{Values, trimmed, values_under};
 pub use head::{Field, Fields, Head};
 pub use reply::{fault_bytes, print_why, reply_bytes};
 pub use routes::Routes;
+pub use text::{ReplyText, reply_text};
 pub use word::{Action, Verb, Word};

@@ -8,7 +8,7 @@ ghost use Rattle.http_message.specs.Reply.{allow_form, bytes_form, fault_text, o
 ghost use Rattle.http_message.specs.Reply.{reason_status, reply_text};
 
 use crate::data::{
-    attr_value, denied_value, line_value, names_value, refused_value, rulings_value, why_value,
+    push_attr, push_denied, push_line, push_names, push_refused, push_why, rulings_value, started,
 };
 use crate::fault::HttpFault;
 use crate::form::{print_json, print_reply};
@@ -19,6 +19,11 @@ use room_eval::Ruling;
 use room_machine::{Reason, Reply};
 use room_rows::{Path, Text};
 use std::alloc::{AllocError, Global};
+
+// What most bodies need, and what a child of a short name needs. More is found where it is wanted.
+const ROOM: usize = 128;
+
+const NAME_ROOM: usize = 48;
 
 /// The text of a reply: status line, fields and body. With `close` it says that the connection
 /// ends.
@@ -50,7 +55,8 @@ fn print_bytes(alloc: Global, kind: &[u8], body: &[u8], close: bool) -> Result<V
     print_reply(alloc, StatusCode::OK, Some(kind), None, Some(body), close)
 }
 
-fn bytes_reply(alloc: Global, bytes: &[u8], close: bool) -> Result<Vec<u8>, AllocError>
+// A reply of a document's bytes.
+pub(crate) fn bytes_reply(alloc: Global, bytes: &[u8], close: bool) -> Result<Vec<u8>, AllocError>
     ensures { IfOk result (λ text. text.items ≡ bytes_form octets bytes.now close) }
 {
     print_bytes(alloc, b"application/octet-stream", bytes, close)
@@ -76,8 +82,9 @@ fn names_reply(
 ) -> Result<Vec<u8>, AllocError>
     ensures { IfOk result (λ text. text.items ≡ json_form 200 (names_data children.now) close) }
 {
-    let value = names_value(alloc, children)?;
-    print_json(alloc, StatusCode::OK, &value, close)
+    let mut out = started(alloc, children.len().saturating_mul(NAME_ROOM))?;
+    push_names(&mut out, children)?;
+    print_json(alloc, StatusCode::OK, out.into_inner(), close)
 }
 
 fn attr_reply(
@@ -88,8 +95,9 @@ fn attr_reply(
 ) -> Result<Vec<u8>, AllocError>
     ensures { IfOk result (λ text. text.items ≡ json_form 200 (attr_data kind owners.now) close) }
 {
-    let value = attr_value(alloc, kind, owners)?;
-    print_json(alloc, StatusCode::OK, &value, close)
+    let mut out = started(alloc, ROOM)?;
+    push_attr(&mut out, kind, owners)?;
+    print_json(alloc, StatusCode::OK, out.into_inner(), close)
 }
 
 fn rulings_reply(
@@ -100,7 +108,8 @@ fn rulings_reply(
     ensures { IfOk result (λ text. text.items ≡ json_form 200 (rulings_data rulings.now) close) }
 {
     let value = rulings_value(alloc, rulings)?;
-    print_json(alloc, StatusCode::OK, &value, close)
+    let body = value.to_vec(alloc)?;
+    print_json(alloc, StatusCode::OK, body, close)
 }
 
 fn denied_reply(
@@ -116,16 +125,18 @@ fn denied_reply(
         (denied_data at.now bits place (option_map (λ e. e.now) entry.entry))
         close) }
 {
-    let value = denied_value(alloc, at, bits, place, entry)?;
-    print_json(alloc, StatusCode::FORBIDDEN, &value, close)
+    let mut out = started(alloc, ROOM)?;
+    push_denied(alloc, &mut out, at, bits, place, entry)?;
+    print_json(alloc, StatusCode::FORBIDDEN, out.into_inner(), close)
 }
 
 fn refused_reply(alloc: Global, at: &Path, why: &Reason, close: bool) -> Result<Vec<u8>, AllocError>
     ensures { IfOk result (λ text. text.items
         ≡ json_form (reason_status why.now) (refused_data at.now why.now) close) }
 {
-    let value = refused_value(alloc, at, why)?;
-    print_json(alloc, reason_status(why), &value, close)
+    let mut out = started(alloc, ROOM)?;
+    push_refused(alloc, &mut out, at, why)?;
+    print_json(alloc, reason_status(why), out.into_inner(), close)
 }
 
 fn reason_status(why: &Reason) -> StatusCode
@@ -187,8 +198,9 @@ pub fn print_why(
 ) -> Result<Vec<u8>, AllocError>
     ensures { IfOk result (λ text. text.items ≡ json_form status (why_data why.now) close) }
 {
-    let value = why_value(alloc, why)?;
-    print_json(alloc, status, &value, close)
+    let mut out = started(alloc, ROOM)?;
+    push_why(&mut out, why)?;
+    print_json(alloc, status, out.into_inner(), close)
 }
 
 // A reply that says which line of a list text is refused.
@@ -196,6 +208,12 @@ fn print_line(alloc: Global, fault: LineFault, close: bool) -> Result<Vec<u8>, A
     ensures { IfOk result (λ text. text.items
         ≡ json_form 422 (line_data fault.line (bad_text fault.why)) close) }
 {
-    let value = line_value(alloc, fault.line, bad_text(fault.why))?;
-    print_json(alloc, StatusCode::UNPROCESSABLE_ENTITY, &value, close)
+    let mut out = started(alloc, ROOM)?;
+    push_line(&mut out, fault.line, bad_text(fault.why))?;
+    print_json(
+        alloc,
+        StatusCode::UNPROCESSABLE_ENTITY,
+        out.into_inner(),
+        close,
+    )
 }

@@ -1,7 +1,14 @@
-use Rattle.std.proofs.Common.{◌∙◌, ap}
-use Rattle.serde_json.specs.Written.{has_float}
-use Rattle.http_message.proofs.NoFloat.{no-float-names}
+use Rattle.std.proofs.Common.{◌≡◌, List, ℕ, subst}
+use Rattle.std.specs.Prelude.{IfOk}
+use Rattle.http_message.specs.Bodies.{names_data}
+use Rattle.http_message.specs.Form.{json_text_form}
+use Rattle.http_message.proofs.Printed.{printed}
 use Rattle.http_message.proofs.reply.names_reply.Goals as goal
 
-pub print_json-requires : goal.print_json-requires
-print_json-requires c = ap has_float c.in_ok-value.ensures ∙ no-float-names c.args.children.now
+pub returns : goal.returns
+returns c =
+    let value = names_data c.args.children.now in
+    let body = printed value c.in_ok-out.out.before c.push_names.new.out.before c.into_inner.result.items c.in_ok-out.out.tokens c.push_names.new.out.tokens
+    c.in_ok-out.ensures.before c.in_ok-out.ensures.tokens c.push_names.ensures.before c.in_ok-push_names.ensures.tokens c.into_inner.ensures.items in
+    let P : List ℕ → Type 0 = λ body. IfOk c.print_json.result (λ text. text.items ≡ json_text_form 200 body c.args.close) in
+    subst P body c.print_json.ensures

@@ -1,0 +1,23 @@
+-- A value written a token at a time.
+use Rattle.std.proofs.Common.{◌≡◌, ℕ, List, [], ◌++◌, Result, Ok, Err, OnOk, ap, ◌∙◌, append_assoc}
+use Rattle.std.specs.declared.alloc.AllocError.{AllocError}
+use Rattle.json.specs.Print.{print}
+use Rattle.json.specs.Token.{Token}
+use Rattle.serde_json.specs.Data.{Data}
+use Rattle.serde_json.specs.Written.{compact_text}
+use Rattle.serde_json.proofs.Texts.{print-outline}
+use Rattle.http_message.specs.Form.{data_tokens}
+
+-- tokens are written, and then the rest
+pub before : (r : Result (Unit {0}) AllocError) (old new end front rest : List Token)
+    → new ≡ old ++ front → OnOk r (end ≡ new ++ rest) → OnOk r (end ≡ old ++ (front ++ rest))
+before (Ok done) old new end front rest e h = h ∙ ap (λ (t : List Token). t ++ rest) e ∙ append_assoc old front rest
+before (Err why) old new end front rest e h = tt
+
+-- what a buffer that was empty holds
+pub printed : (value : Data) (bytes same text : List ℕ) (none wrote : List Token)
+    → bytes ≡ [] → none ≡ [] → same ≡ bytes → wrote ≡ none ++ data_tokens value
+    → text ≡ same ++ print wrote → text ≡ compact_text value
+printed value bytes same text none wrote empty new still is whole =
+    whole ∙ ap (λ (t : List ℕ). t ++ print wrote) (still ∙ empty)
+    ∙ ap print (is ∙ ap (λ (t : List Token). t ++ data_tokens value) new) ∙ print-outline value

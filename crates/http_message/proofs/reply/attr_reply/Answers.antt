@@ -1,0 +1,14 @@
+use Rattle.std.proofs.Common.{◌≡◌, List, ℕ, subst}
+use Rattle.std.specs.Prelude.{IfOk}
+use Rattle.http_message.specs.Bodies.{attr_data}
+use Rattle.http_message.specs.Form.{json_text_form}
+use Rattle.http_message.proofs.Printed.{printed}
+use Rattle.http_message.proofs.reply.attr_reply.Goals as goal
+
+pub returns : goal.returns
+returns c =
+    let value = attr_data c.args.kind c.args.owners.now in
+    let body = printed value c.in_ok-out.out.before c.push_attr.new.out.before c.into_inner.result.items c.in_ok-out.out.tokens c.push_attr.new.out.tokens
+    c.in_ok-out.ensures.before c.in_ok-out.ensures.tokens c.push_attr.ensures.before c.in_ok-push_attr.ensures.tokens c.into_inner.ensures.items in
+    let P : List ℕ → Type 0 = λ body. IfOk c.print_json.result (λ text. text.items ≡ json_text_form 200 body c.args.close) in
+    subst P body c.print_json.ensures
