@@ -5,8 +5,7 @@ use Rattle.std.specs.Option.{option_map_or}
 use Rattle.std.proofs.lemmas.Bool.{false≢true, eqb-true, eq-eqb}
 use Rattle.room_rows.specs.declared.node.Node.{Node}
 use Rattle.room_rows.specs.Content.{Content, children_of, has_parent}
-use Rattle.room_dump.specs.Dump.{path_below, shown, size_of, tree_text}
-use Rattle.room_dump.specs.Lines.{object_text}
+use Rattle.room_dump.specs.Dump.{path_below, tree_of}
 use Rattle.room_dump.proofs.Counting.{Each, count, count_parts, each_both, each_counted, each_filter, each_sorted, filter_weaker, none_counted, same_flat}
 
 abbrev pub is_number : ℕ → Node → Bool
@@ -61,50 +60,51 @@ apart_from node rest once =
     none_counted (is_number node.id) rest
     (none_more (count (is_number node.id) rest) (subst (λ t. (cond t 1 0 + 0) + count (is_number node.id) rest ≤ 1) (eq-eqb node.id node.id refl) (once node.id)))
 
--- Two depths beyond the count of objects that nobody has come to yet tell the same.
-abbrev Same : ℕ → ℕ → Content → Type 0
-Same d e content =
-    (rest : List Node) (path : List ℕ) (node : Node) → HasAll content rest node → Each (HasAll content rest) rest → IsOnce node rest → count always rest < d → count always rest < e
-    → tree_text d content path node ≡ tree_text e content path node
-
--- one level down there are fewer
-level : (d e : ℕ) (content : Content) → Same d e content → Same (suc d) (suc e) content
-level d e content before rest path node all alls once less less' =
-    ap (λ (text : List ℕ). object_text (shown path) node (size_of content node) ++ text)
-    (same_flat (λ child. tree_text d content (path_below path child) child) (λ child. tree_text e content (path_below path child) child) (children_of content node.id)
-    (each_sorted SameBelow (filter (has_parent node.id) content.nodes) (subst (Each SameBelow) all below)))
-  where
-    SameBelow : Node → Type 0
-    SameBelow child = tree_text d content (path_below path child) child ≡ tree_text e content (path_below path child) child
-
-    left : List Node
-    left = others node rest
-
-    still : Each (HasAll content left) rest
-    still = each_both (HasAll content rest) (λ n. is_number node.id n ≡ false) (HasAll content left) (λ n has apart. all_still content rest node n apart has) rest alls (apart_from node rest once)
-
-    child_same : (child : Node) → HasAll content left child → ((p : Node → Bool) → count p (child ∷ []) ≤ count p (filter (has_parent node.id) rest)) → SameBelow child
-    child_same child has counted =
-        let fewer = λ (p : Node → Bool). with_more (count p (child ∷ [])) (count p (filter (has_parent node.id) rest)) (count p left) (count p rest) (counted p) (count_parts p (has_parent node.id) rest) in
-        before left (path_below path child) child has (each_filter (HasAll content left) (λ n. not (has_parent node.id n)) rest still)
-        (λ id. at_most_one (count (is_number id) (child ∷ []) + count (is_number id) left) (count (is_number id) rest) (fewer (is_number id)) (count (is_number id) (node ∷ [])) (once id))
-        (less_by_one (count always left) (count always rest) d (fewer always) less)
-        (less_by_one (count always left) (count always rest) e (fewer always) less')
-
-    below : Each SameBelow (filter (has_parent node.id) rest)
-    below = each_both (HasAll content left) (λ c. (p : Node → Bool) → count p (c ∷ []) ≤ count p (filter (has_parent node.id) rest)) SameBelow child_same (filter (has_parent node.id) rest)
-        (each_filter (HasAll content left) (has_parent node.id) rest still) (each_counted (filter (has_parent node.id) rest))
-
-pub deep_enough : (d e : ℕ) (content : Content) → Same d e content
-deep_enough zero e content rest path node all alls once less less' = absurd (not_below_zero (count always rest) less)
-deep_enough (suc d) zero content rest path node all alls once less less' = absurd (not_below_zero (count always rest) less')
-deep_enough (suc d) (suc e) content rest path node all alls once less less' =
-    level d e content (λ r p n a b c x y. deep_enough d e content r p n a b c x y) rest path node all alls once less less'
-
 below_next : (a b : ℕ) → a < b → a < suc b
 below_next a b less = omega (arith, less)
 
--- An object's text, and behind it those of its children as deep.
-pub goes_on : (d : ℕ) (content : Content) (rest : List Node) (path : List ℕ) (node : Node) → HasAll content rest node → Each (HasAll content rest) rest → IsOnce node rest → count always rest < d
-    → tree_text d content path node ≡ object_text (shown path) node (size_of content node) ++ flat_map (λ child. tree_text d content (path_below path child) child) (children_of content node.id)
-goes_on d content rest path node all alls once less = deep_enough d (suc d) content rest path node all alls once less (below_next (count always rest) d less)
+module _ {X : Type 0} (tell : List ℕ → Node → List X) where
+  -- Two depths beyond the count of objects that nobody has come to yet tell the same.
+  abbrev Same : ℕ → ℕ → Content → Type 0
+  Same d e content =
+      (rest : List Node) (path : List ℕ) (node : Node) → HasAll content rest node → Each (HasAll content rest) rest → IsOnce node rest → count always rest < d → count always rest < e
+      → tree_of tell d content path node ≡ tree_of tell e content path node
+
+  -- one level down there are fewer
+  level : (d e : ℕ) (content : Content) → Same d e content → Same (suc d) (suc e) content
+  level d e content before rest path node all alls once less less' =
+      ap (λ (text : List X). tell path node ++ text)
+      (same_flat (λ child. tree_of tell d content (path_below path child) child) (λ child. tree_of tell e content (path_below path child) child) (children_of content node.id)
+      (each_sorted SameBelow (filter (has_parent node.id) content.nodes) (subst (Each SameBelow) all below)))
+    where
+      SameBelow : Node → Type 0
+      SameBelow child = tree_of tell d content (path_below path child) child ≡ tree_of tell e content (path_below path child) child
+
+      left : List Node
+      left = others node rest
+
+      still : Each (HasAll content left) rest
+      still = each_both (HasAll content rest) (λ n. is_number node.id n ≡ false) (HasAll content left) (λ n has apart. all_still content rest node n apart has) rest alls (apart_from node rest once)
+
+      child_same : (child : Node) → HasAll content left child → ((p : Node → Bool) → count p (child ∷ []) ≤ count p (filter (has_parent node.id) rest)) → SameBelow child
+      child_same child has counted =
+          let fewer = λ (p : Node → Bool). with_more (count p (child ∷ [])) (count p (filter (has_parent node.id) rest)) (count p left) (count p rest) (counted p) (count_parts p (has_parent node.id) rest) in
+          before left (path_below path child) child has (each_filter (HasAll content left) (λ n. not (has_parent node.id n)) rest still)
+          (λ id. at_most_one (count (is_number id) (child ∷ []) + count (is_number id) left) (count (is_number id) rest) (fewer (is_number id)) (count (is_number id) (node ∷ [])) (once id))
+          (less_by_one (count always left) (count always rest) d (fewer always) less)
+          (less_by_one (count always left) (count always rest) e (fewer always) less')
+
+      below : Each SameBelow (filter (has_parent node.id) rest)
+      below = each_both (HasAll content left) (λ c. (p : Node → Bool) → count p (c ∷ []) ≤ count p (filter (has_parent node.id) rest)) SameBelow child_same (filter (has_parent node.id) rest)
+          (each_filter (HasAll content left) (has_parent node.id) rest still) (each_counted (filter (has_parent node.id) rest))
+
+  pub deep_enough : (d e : ℕ) (content : Content) → Same d e content
+  deep_enough zero e content rest path node all alls once less less' = absurd (not_below_zero (count always rest) less)
+  deep_enough (suc d) zero content rest path node all alls once less less' = absurd (not_below_zero (count always rest) less')
+  deep_enough (suc d) (suc e) content rest path node all alls once less less' =
+      level d e content (λ r p n a b c x y. deep_enough d e content r p n a b c x y) rest path node all alls once less less'
+
+  -- An object's text, and behind it those of its children as deep.
+  pub goes_on : (d : ℕ) (content : Content) (rest : List Node) (path : List ℕ) (node : Node) → HasAll content rest node → Each (HasAll content rest) rest → IsOnce node rest → count always rest < d
+      → tree_of tell d content path node ≡ tell path node ++ flat_map (λ child. tree_of tell d content (path_below path child) child) (children_of content node.id)
+  goes_on d content rest path node all alls once less = deep_enough d (suc d) content rest path node all alls once less (below_next (count always rest) d less)

@@ -1,9 +1,9 @@
 -- What waits after n turns, and the text that was added.
 use Rattle.std.proofs.Common.{◌≡◌, ℕ, suc, ◌+◌, ◌<◌, ◌≤◌, ◌==◌, Bool, true, false, cond, not, List, [], ◌∷◌, ◌++◌, map, filter, reverse, length, Option, Some, None, nat_lt, refl, sym, ap, subst, ◌∙◌, inl, inr, arith, append_assoc}
 use Rattle.std.specs.Prelude.{is_none}
-use Rattle.std.specs.List.{flat_map}
+use Rattle.std.specs.List.{flat_map, list_all}
 use Rattle.std.specs.Option.{option_map_or}
-use Rattle.std.proofs.lemmas.Bool.{false≢true, and_parts, eqb-true, eq-eqb, ne_eqb, ltb-true}
+use Rattle.std.proofs.lemmas.Bool.{false≢true, and_from, and_parts, eqb-true, eq-eqb, ne_eqb, ltb-true}
 use Rattle.std.proofs.lemmas.List.{append-nil, length-map}
 use Rattle.room_rows.specs.declared.node.Node.{Node}
 use Rattle.room_rows.specs.Content.{Content, body_of, children_of, has_parent, is_rising, node_at, root_of}
@@ -11,8 +11,7 @@ use Rattle.room_rows.specs.Finding.{find_id}
 use Rattle.room_rows.specs.Rows.{AreRows, Rows, numbers_of, put_number, put_numbers}
 use Rattle.room_rows.specs.Keep.{IsDamaged}
 use Rattle.room_dump.specs.declared.dumping.Waiting.{Waiting}
-use Rattle.room_dump.specs.Dump.{objects_text, path_below, shown, size_of, tree_text}
-use Rattle.room_dump.specs.Lines.{object_text}
+use Rattle.room_dump.specs.Dump.{HasAllBytes, all_of, has_bytes, itself, lines_of, objects_text, path_below, tree_of}
 use Rattle.room_dump.specs.Telling.{Begins, IsUntellable}
 use Rattle.room_dump.specs.Waiting.{waiting_below, waiting_children, waiting_root}
 use Rattle.room_dump.proofs.Counting.{Each, count, count_all, count_append, count_found, count_map, count_parts, count_reverse, count_sorted, each_always, each_append, each_both, each_filter, each_found, each_front, each_last, each_map, each_reverse, each_sorted, each_weaker, filter_weaker, none_counted, one_if}
@@ -110,7 +109,11 @@ any_waits wait = true
 -- The rest wasn't reached yet. All children of what waits and of the rest are among it.
 pub record Turning (rows : Rows) (waiting : List Waiting) (most turn : ℕ) (before text : List ℕ) : Type 0 where
   pub rest : List Node
-  pub told : text ++ texts most rows.read waiting ≡ before ++ objects_text rows
+  pub told : text ++ texts (lines_of rows.read) most rows.read waiting ≡ before ++ objects_text rows
+  -- those that were told of, of which each document has bytes
+  pub met : List Node
+  pub meets : met ++ texts itself most rows.read waiting ≡ all_of itself rows
+  pub filled : list_all (has_bytes rows.read) met ≡ true
   pub waits : Each (λ w. HasAll rows.read rest w.node × IsThere rows.read w.node) waiting
   pub rests : Each (HasAll rows.read rest) rest
   pub once : (id : ℕ) → count (waits_at id) waiting + count (is_number id) rest ≤ 1
@@ -129,9 +132,9 @@ up_to a b c e f = omega (arith, e, f)
 none_yet_turned : (a b c : ℕ) → a ≤ b → b ≤ c → a + 0 ≤ c
 none_yet_turned a b c e f = omega (arith, e, f)
 
--- the text from the root on
-pub told_from : (rows : Rows) (root : Node) → root_of rows.read ≡ Some root → objects_text rows ≡ tree_text (length (numbers_of rows)) rows.read [] root
-told_from rows root is = ap (λ o. option_map_or (tree_text (length (numbers_of rows)) rows.read []) o []) is
+-- what is told from the root on
+pub told_from : {X : Type 0} (tell : List ℕ → Node → List X) (rows : Rows) (root : Node) → root_of rows.read ≡ Some root → all_of tell rows ≡ tree_of tell (length (numbers_of rows)) rows.read [] root
+told_from tell rows root is = ap (λ o. option_map_or (tree_of tell (length (numbers_of rows)) rows.read []) o []) is
 
 -- the root waits
 pub begins_alone : (rows : Rows) → AreRows rows → (root : Node) → root_of rows.read ≡ Some root → (text : List ℕ) → Turning rows (waiting_root root ∷ []) (length (numbers_of rows)) 0 text text
@@ -142,7 +145,10 @@ begins_alone rows are root is text =
     let found = λ (p : Node → Bool). count_found p (λ (n : Node). is_none n.parent) nodes root is in
     record {
       rest = rest;
-      told = ap (λ (t : List ℕ). text ++ t) (sym (told_from rows root is));
+      told = ap (λ (t : List ℕ). text ++ t) (sym (told_from (lines_of rows.read) rows root is));
+      met = [];
+      meets = sym (told_from itself rows root is);
+      filled = refl;
       waits = ((all root, each_found (IsThere rows.read) (λ (n : Node). is_none n.parent) nodes root (each_there 0 nodes are.numbers) is), tt);
       rests = each_always (HasAll rows.read rest) all rest;
       once = λ id. up_to (count (is_number id) (root ∷ []) + count (is_number id) rest) (count (is_number id) nodes) 1 (found (is_number id)) (once_rising 0 id nodes are.numbers);
@@ -155,8 +161,8 @@ begins rows are most waiting start text =
     (subst (λ (w : List Waiting). Turning rows w (length (numbers_of rows)) 0 text text) (sym start.1.2) (begins_alone rows are start.1.0 start.1.1 text))
 
 -- all is told where none waits
-pub ends : (rows : Rows) (most turn : ℕ) (before text : List ℕ) → Turning rows [] most turn before text → text ≡ before ++ objects_text rows
-ends rows most turn before text t = sym (append-nil text) ∙ t.told
+pub ends : (rows : Rows) (most turn : ℕ) (before text : List ℕ) → Turning rows [] most turn before text → (text ≡ before ++ objects_text rows) × HasAllBytes rows
+ends rows most turn before text t = (sym (append-nil text) ∙ t.told, ap (list_all (has_bytes rows.read)) (sym t.meets ∙ append-nil t.met) ∙ t.filled)
 
 too_many : (a b c d : ℕ) → d ≤ c → ((1 + a) + b) + c ≤ d → ⊥
 too_many a b c d e f = omega (arith, e, f)
@@ -185,13 +191,36 @@ rest_below waits rest turn most e = omega (arith, e)
 count_children : (p : Node → Bool) (path : List ℕ) (nodes : List Node) → count (λ (w : Waiting). p w.node) (waiting_children path nodes) ≡ count p nodes
 count_children p path nodes = count_map (λ (w : Waiting). p w.node) (waiting_below path) (reverse nodes) ∙ count_reverse p nodes
 
-joined : (text one below waits : List ℕ) → (text ++ one) ++ (below ++ waits) ≡ text ++ ((one ++ below) ++ waits)
-joined text one below waits = append_assoc text one (below ++ waits) ∙ ap (λ (t : List ℕ). text ++ t) (sym (append_assoc one below waits))
+joined : {X : Type 0} (text one below waits : List X) → (text ++ one) ++ (below ++ waits) ≡ text ++ ((one ++ below) ++ waits)
+joined {X} text one below waits = append_assoc text one (below ++ waits) ∙ ap (λ (t : List X). text ++ t) (sym (append_assoc one below waits))
+
+-- one more passes
+one_passes : {A : Type 0} (p : A → Bool) (xs : List A) (x : A) → list_all p xs ≡ true → p x ≡ true → list_all p (xs ++ x ∷ []) ≡ true
+one_passes p [] x all is = and_from (p x) true is refl
+one_passes p (y ∷ ys) x all is =
+    let both = and_parts (p y) (list_all p ys) all in
+    and_from (p y) (list_all p (ys ++ x ∷ [])) both.0 (one_passes p ys x both.1 is)
+
+-- what was told, and then an object and what waits
+told_on : {X : Type 0} (tell : List ℕ → Node → List X) (content : Content) (waits : List Waiting) (object : Waiting) (most : ℕ) (text whole : List X)
+    → tree_of tell most content object.path object.node ≡ tell object.path object.node ++ flat_map (λ child. tree_of tell most content (path_below object.path child) child) (children_of content object.node.id)
+    → text ++ texts tell most content (waits ++ object ∷ []) ≡ whole
+    → (text ++ tell object.path object.node) ++ texts tell most content (waits ++ waiting_children object.path (children_of content object.node.id)) ≡ whole
+told_on {X} tell content waits object most text whole goes told =
+    let children = children_of content object.node.id in
+    let one = tell object.path object.node in
+    let below = flat_map (λ child. tree_of tell most content (path_below object.path child) child) children in
+    ap (λ (l : List X). (text ++ one) ++ l) (texts-below tell most content object.path children waits)
+    ∙ joined text one below (texts tell most content waits)
+    ∙ ap (λ (l : List X). text ++ (l ++ texts tell most content waits)) (sym goes)
+    ∙ ap (λ (l : List X). text ++ l) (sym (texts-last tell most content waits object))
+    ∙ told
 
 -- one object is written, and its children wait
 pub turns_on : (rows : Rows) → AreRows rows → (waits : List Waiting) (object : Waiting) (most turn : ℕ) (before text : List ℕ) → Turning rows (waits ++ object ∷ []) most turn before text
-    → Turning rows (waits ++ waiting_children object.path (children_of rows.read object.node.id)) most (turn + 1) before (text ++ object_text (shown object.path) object.node (size_of rows.read object.node))
-turns_on rows are waits object most turn before text t =
+    → has_bytes rows.read object.node ≡ true
+    → Turning rows (waits ++ waiting_children object.path (children_of rows.read object.node.id)) most (turn + 1) before (text ++ lines_of rows.read object.path object.node)
+turns_on rows are waits object most turn before text t bytes =
     let content = rows.read in
     let node = object.node in
     let rest = t.rest in
@@ -218,15 +247,13 @@ turns_on rows are waits object most turn before text t =
     let kids_there = each_filter (IsThere content) (has_parent node.id) content.nodes (each_there 0 content.nodes are.numbers) in
     let fit_node = λ (n : Node). HasAll content left n × IsThere content n in
     let kids_fit = each_sorted fit_node (filter (has_parent node.id) content.nodes) (each_both (HasAll content left) (IsThere content) fit_node (λ n has there. (has, there)) (filter (has_parent node.id) content.nodes) kids_all kids_there) in
-    let one = object_text (shown object.path) node (size_of content node) in
-    let below = flat_map (λ child. tree_text most content (path_below object.path child) child) children in
+    let low = rest_below (count any_waits waits) (count always rest) turn most fewer in
     record {
       rest = left;
-      told = ap (λ (l : List ℕ). (text ++ one) ++ l) (texts-below most content object.path children waits)
-          ∙ joined text one below (texts most content waits)
-          ∙ ap (λ (l : List ℕ). text ++ (l ++ texts most content waits)) (sym (goes_on most content rest object.path node all t.rests alone (rest_below (count any_waits waits) (count always rest) turn most fewer)))
-          ∙ ap (λ (l : List ℕ). text ++ l) (sym (texts-last most content waits object))
-          ∙ t.told;
+      told = told_on (lines_of content) content waits object most text _ (goes_on (lines_of content) most content rest object.path node all t.rests alone low) t.told;
+      met = t.met ++ node ∷ [];
+      meets = told_on itself content waits object most t.met _ (goes_on itself most content rest object.path node all t.rests alone low) t.meets;
+      filled = one_passes (has_bytes content) t.met node t.filled bytes;
       waits = each_append fits_still waits (waiting_children object.path children) waits_still
           (each_map fits_still (waiting_below object.path) (reverse children) (each_reverse fit_node children kids_fit));
       rests = each_filter (HasAll content left) (λ n. not (has_parent node.id n)) rest still;

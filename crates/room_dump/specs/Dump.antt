@@ -1,6 +1,7 @@
 -- The text of all objects (own).
-use Rattle.std.specs.Prelude.{ℕ, zero, suc, List, [], ◌∷◌, ◌++◌, length, Option, codes}
-use Rattle.std.specs.List.{flat_map}
+use Rattle.std.specs.Prelude.{◌≡◌, ℕ, zero, suc, Bool, true, List, [], ◌∷◌, ◌++◌, length, Option}
+use Rattle.std.specs.Prelude.{codes, is_some}
+use Rattle.std.specs.List.{flat_map, list_all}
 use Rattle.std.specs.Option.{option_map_or}
 use Rattle.room_ace.specs.declared.object.ObjKind.{ObjKind}
 use Rattle.room_rows.specs.declared.node.Node.{Node}
@@ -25,19 +26,48 @@ shown (byte ∷ bytes) = byte ∷ bytes
 abbrev pub path_below : List ℕ → Node → List ℕ
 path_below above node = above ++ 47 ∷ node.name
 
--- An object, and behind it its children with all that is below them, in order of name, no deeper
--- than the number says.
-abbrev pub tree_text : ℕ → Content → List ℕ → Node → List ℕ
-tree_text zero content path node = []
-tree_text (suc depth) content path node =
-    object_text (shown path) node (size_of content node)
-    ++ flat_map (λ child. tree_text depth content (path_below path child) child)
+-- What is told of an object, and behind it of its children with all that is below them, in order of
+-- name, no deeper than the number says.
+abbrev pub tree_of : {X : Type 0} → (List ℕ → Node → List X) → ℕ → Content → List ℕ → Node → List X
+tree_of tell zero content path node = []
+tree_of tell (suc depth) content path node =
+    tell path node ++ flat_map (λ child. tree_of tell depth content (path_below path child) child)
     (children_of content node.id)
 
--- All objects, the root first. No object is deeper than there are rows.
+-- Of all objects, the root first. No object is deeper than there are rows.
+abbrev pub all_of : {X : Type 0} → (List ℕ → Node → List X) → Rows → List X
+all_of tell rows =
+    option_map_or (tree_of tell (length (numbers_of rows)) rows.read []) (root_of rows.read) []
+
+-- the lines of an object
+abbrev pub lines_of : Content → List ℕ → Node → List ℕ
+lines_of content path node = object_text (shown path) node (size_of content node)
+
+abbrev pub tree_text : ℕ → Content → List ℕ → Node → List ℕ
+tree_text depth content = tree_of (lines_of content) depth content
+
 abbrev pub objects_text : Rows → List ℕ
-objects_text rows =
-    option_map_or (tree_text (length (numbers_of rows)) rows.read []) (root_of rows.read) []
+objects_text rows = all_of (lines_of rows.read) rows
+
+-- the object itself
+abbrev pub itself : List ℕ → Node → List Node
+itself path node = node ∷ []
+
+-- a document is to have bytes
+abbrev pub is_filled : ObjKind → Option (List ℕ) → Bool
+is_filled ObjKind.Folder bytes = true
+is_filled ObjKind.Document bytes = is_some bytes
+
+abbrev pub has_bytes : Content → Node → Bool
+has_bytes content node = is_filled node.kind (body_of content node.id)
+
+-- each document that is told of has bytes
+abbrev pub HasAllBytes : Rows → Type 0
+HasAllBytes rows = list_all (has_bytes rows.read) (all_of itself rows) ≡ true
+
+-- the text of all objects, of which each document has bytes
+abbrev pub IsText : Rows → List ℕ → Type 0
+IsText rows text = (text ≡ objects_text rows) × HasAllBytes rows
 
 -- A whole room: all objects, followed by the pairs, which rows have in order of group and then of
 -- user.

@@ -2,7 +2,7 @@
 ghost use Rattle.std.specs.Prelude.{◌≡◌, ◌∷◌, ◌++◌, [], IfOk, OnOk, string_bytes};
 ghost use Rattle.room_rows.specs.Calls.{Reads};
 ghost use Rattle.room_rows.specs.Keep.{IsDamaged};
-ghost use Rattle.room_dump.specs.Dump.{objects_text, shown};
+ghost use Rattle.room_dump.specs.Dump.{IsText, shown};
 ghost use Rattle.room_dump.specs.Telling.{
   AddsAll,
   AddsOne,
@@ -33,7 +33,7 @@ struct Waiting {
 /// that can't be read or a document without bytes, or is 0 where there is no root.
 pub fn dump<K: Keep>(alloc: Global, keep: &mut K) -> Result<String, KeepFault>
     ensures read { Reads K.Keep keep.old keep.new result IsDamaged
-        (λ rows text. string_bytes text ≡ objects_text rows) }
+        (λ rows text. IsText rows (string_bytes text)) }
 {
     let most = keep.ids()?.len();
     let root = keep.root()?;

@@ -15,7 +15,7 @@ use Rattle.sqlite.specs.Order.{Row, value_cmp}
 use Rattle.sqlite.specs.Tree.{put_row, rowid}
 use Rattle.sqlite.specs.Edit.{is_taken}
 use Rattle.room_rows.specs.Content.{set_of}
-use Rattle.store_tables.specs.Meaning.{audit_in, bodies_of, nodes_of, pair_in, pairs_of, rows_of}
+use Rattle.store_tables.specs.Meaning.{audit_in, bodies_of, nodes_of, pair_in, pairs_of}
 use Rattle.store_tables.specs.Meaning.{name_in, unread_of}
 use Rattle.store_tables.specs.Paired.{Pair, pair_cmp}
 use Rattle.store_tables.specs.RoomRows.{set_sorted}

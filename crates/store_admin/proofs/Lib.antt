@@ -1,4 +1,5 @@
 pub mod Sets
+pub mod InOrder
 pub mod Members
 pub mod Exchanging
 pub mod Gathering

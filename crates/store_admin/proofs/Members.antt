@@ -1,24 +1,31 @@
 -- What the query of all pairs shows, and what it is read as.
-use Rattle.std.proofs.Common.{◌≡◌, ℕ, List, [], ◌∷◌, map, filter, codes, None, Some, Option, refl, sym, ap, subst, ◌∙◌, true, false, Bool, IsPermutation}
+use Rattle.std.proofs.Common.{◌≡◌, ℕ, List, [], ◌∷◌, map, filter, codes, None, Some, Option, refl, sym, ap, subst, ◌∙◌, true, false, Bool}
 use Rattle.std.specs.Prelude.{◌||◌}
 use Rattle.std.specs.List.{cons_option, filter_map, list_any}
 use Rattle.std.specs.Option.{option_map_or}
-use Rattle.std.proofs.lemmas.List.Sorted.{list_any-IsPermutation}
+use Rattle.std.specs.List.Sorted.{IsStrictlySortedBy}
+use Rattle.std.proofs.lemmas.List.Sorted.{IsPermutation-map, IsPermutation-sym, list_any-IsPermutation}
+use Rattle.sqlite.specs.declared.types.Value.TheVariants.{Null}
 use Rattle.sqlite.specs.Order.{Row}
 use Rattle.sqlite.specs.Listing.{understood, reads_listing}
+use Rattle.sqlite.specs.Program.{overlay}
+use Rattle.sqlite.specs.Query.{Query}
 use Rattle.sqlite.specs.State.{State, Shown}
 use Rattle.sqlite.specs.Term.{Term, col}
-use Rattle.sqlite.proofs.Callers.{IsPlain, command_of}
+use Rattle.sqlite.proofs.Callers.{IsPlain, command_of, reads_as}
+use Rattle.sqlite_keyed.specs.Lists.{sort_by}
+use Rattle.sqlite_keyed.proofs.SortLemmas.{IsPermutation-sort_by}
 use Rattle.sqlite_tied.specs.Compute.{everything}
 use Rattle.room_rows.specs.Content.{set_of}
 use Rattle.store_tables.specs.Meaning.{pair_in}
-use Rattle.store_admin.specs.Operating.{HasMembers, pair_seen, pairs_seen, rises_from, shown_pair}
-use Rattle.store_tables.specs.Paired.{Pair}
+use Rattle.store_admin.specs.Operating.{HasMembers, by_pair, pair_seen, pairs_seen, shown_pair}
+use Rattle.store_tables.specs.Paired.{Pair, pair_cmp}
 use Rattle.store_tables.specs.RoomRows.{set_sorted}
 use Rattle.store_tables.specs.Shown.{IsRoom}
 use Rattle.store_tables.specs.Tables.{room_schema}
-use Rattle.store_tables.proofs.Calls.{selects_rows}
-use Rattle.store_admin.proofs.Sets.{has, has_set, is_at, risen, same_sets}
+use Rattle.store_tables.proofs.Ordered.{HasNoTies}
+use Rattle.store_admin.proofs.InOrder.{in_pairs, pair_total, pairs_apart, pairs_in_order}
+use Rattle.store_admin.proofs.Sets.{has, has_set, is_at, same_sets}
 use Rattle.store_tables.proofs.Texts.{ascending_by, query_of, selects}
 
 abbrev pub members_text : List ℕ
@@ -30,7 +37,10 @@ columns = col 1 1 ∷ col 1 2 ∷ []
 abbrev names : List (List ℕ)
 names = codes "grp" ∷ codes "user" ∷ []
 
-members_is : (command_of (understood room_schema members_text) ≡ selects (query_of 3 [] columns (ascending_by 1 ∷ ascending_by 2 ∷ [])) names) × (reads_listing room_schema members_text ≡ false)
+abbrev asked : Query
+asked = query_of 3 [] columns (ascending_by 1 ∷ ascending_by 2 ∷ [])
+
+members_is : (command_of (understood room_schema members_text) ≡ selects asked names) × (reads_listing room_schema members_text ≡ false)
 unfolding understood everything
 members_is = (refl, refl)
 
@@ -44,8 +54,10 @@ all_kept (x ∷ l) = ap (λ m. x ∷ m) (all_kept l)
 
 pub shows_members : (old new : State) (rows : List Row) → IsRoom old.now → Shown members_text [] old new rows → HasMembers old.now.trees rows
 shows_members old new rows room h =
-    subst (λ l. IsPermutation (map shown_pair l) rows) (all_kept (old.now.trees 3))
-    (selects_rows members_text [] old new 3 [] columns (ascending_by 1 ∷ ascending_by 2 ∷ []) names members_is plain_members room.schema rows h)
+    let read = reads_as members_text [] old new room_schema room.schema (selects asked names) members_is.0 plain_members members_is.1 rows h in
+    let all = all_kept (old.now.trees 3) in
+    in_pairs columns (overlay old.now.trees []) [] rows (read.answer Null) (subst (HasNoTies by_pair) (sym all) (pairs_apart old.now room))
+    ∙ ap (λ l. map shown_pair (sort_by by_pair l)) all
 
 -- ---- as pairs
 
@@ -64,10 +76,13 @@ pairs_shown : (rows : List Row) → pairs_seen (map shown_pair rows) ≡ filter_
 pairs_shown [] = refl
 pairs_shown (r ∷ rows) = ap (cons_option (pair_in r)) (pairs_shown rows)
 
-pub tells_members : (table rows : List Row) → IsPermutation (map shown_pair table) rows → rises_from None (pairs_seen rows) ≡ true → pairs_seen rows ≡ set_of (filter_map pair_in table)
-tells_members table rows moved rising =
+pub tells_members : (table rows : List Row) → HasNoTies by_pair table → rows ≡ map shown_pair (sort_by by_pair table) → pairs_seen rows ≡ set_of (filter_map pair_in table)
+tells_members table rows apart is =
+    let order = sort_by by_pair table in
     let all = pairs_seen (map shown_pair table) in
-    let found = pairs_seen rows in
-    same_sets found (set_of all) (risen found rising) (set_sorted all)
-    (λ x. has_read x rows ∙ sym (list_any-IsPermutation (λ r. reads x (pair_seen r)) (map shown_pair table) rows moved) ∙ sym (has_read x (map shown_pair table)) ∙ sym (has_set x all))
+    let found = pairs_seen (map shown_pair order) in
+    let moved = IsPermutation-map shown_pair table order (IsPermutation-sym order table (IsPermutation-sort_by by_pair pair_total table)) in
+    ap pairs_seen is
+    ∙ same_sets found (set_of all) (subst (IsStrictlySortedBy pair_cmp) (sym (pairs_shown order)) (pairs_in_order table apart)) (set_sorted all)
+    (λ x. has_read x (map shown_pair order) ∙ sym (list_any-IsPermutation (λ r. reads x (pair_seen r)) (map shown_pair table) (map shown_pair order) moved) ∙ sym (has_read x (map shown_pair table)) ∙ sym (has_set x all))
     ∙ ap set_of (pairs_shown table)

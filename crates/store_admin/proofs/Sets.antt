@@ -1,17 +1,16 @@
 -- The set of pairs doesn't depend on the order in which they come.
 use Rattle.std.proofs.Common.{◌≡◌, ℕ, List, [], ◌∷◌, Bool, true, false, refl, sym, ap, subst, ◌∙◌, Ordering, Less, Equal, Greater, is_lt, is_eq, nat_cmp, IsPermutation, true≢false}
-use Rattle.std.specs.Prelude.{◌||◌, Some, None}
+use Rattle.std.specs.Prelude.{◌||◌}
 use Rattle.std.specs.List.{AllByRecursion, list_any}
 use Rattle.std.specs.List.Sorted.{IsStrictlySortedBy}
 use Rattle.std.specs.Ordering.{ordering_reverse, ordering_then}
 use Rattle.std.specs.Cmp.Lexicographic.{slice_cmp}
-use Rattle.std.proofs.lemmas.Bool.{and_parts, cond-true, cond-false, false≢true}
+use Rattle.std.proofs.lemmas.Bool.{cond-true, cond-false, false≢true}
 use Rattle.std.proofs.lemmas.Cmp.{tied_itself}
 use Rattle.std.proofs.lemmas.List.Sorted.{list_any-IsPermutation}
 use Rattle.std.proofs.lemmas.Map.Text.{is_eq-slice_cmp}
 use Rattle.std.proofs.lemmas.Slice.Eq.{bytes_eq-Decides}
-use Rattle.room_rows.specs.Content.{is_pair_before, put_pair, set_of}
-use Rattle.store_admin.specs.Operating.{rises_from}
+use Rattle.room_rows.specs.Content.{put_pair, set_of}
 use Rattle.store_tables.specs.Paired.{Pair, all_past, before, before_is, not_back, pair_cmp, total}
 use Rattle.store_tables.specs.RoomRows.{set_sorted}
 
@@ -110,24 +109,3 @@ same_sets (p ∷ a) (q ∷ b) up down same = by (pair_cmp p q) refl (same_sets a
 
 pub set_moved : (a b : List Pair) → IsPermutation a b → set_of a ≡ set_of b
 set_moved a b moved = same_sets (set_of a) (set_of b) (set_sorted a) (set_sorted b) (λ x. has_set x a ∙ list_any-IsPermutation (is_at x) a b moved ∙ sym (has_set x b))
-
--- ---- pairs that were tested to rise
-
-less_is : (o : Ordering) → is_lt o ≡ true → o ≡ Less
-less_is Less is = refl
-less_is Equal is = absurd (false≢true is)
-less_is Greater is = absurd (false≢true is)
-
-behind : (o : Pair) (l : List Pair) → rises_from (Some o) l ≡ true → AllByRecursion (λ y. pair_cmp o y ≡ Less) l × IsStrictlySortedBy pair_cmp l
-unfolding IsStrictlySortedBy
-behind o [] is = (tt, tt)
-behind o (p ∷ l) is =
-    let both = and_parts (is_pair_before o p) (rises_from (Some p) l) is in
-    let less : pair_cmp o p ≡ Less = less_is (pair_cmp o p) (sym (before_is o p) ∙ both.0) in
-    let more = behind p l both.1 in
-    ((less, all_past o p l less more.0), more)
-
-pub risen : (l : List Pair) → rises_from None l ≡ true → IsStrictlySortedBy pair_cmp l
-unfolding IsStrictlySortedBy
-risen [] is = tt
-risen (p ∷ l) is = behind p l is

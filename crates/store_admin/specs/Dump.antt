@@ -3,13 +3,14 @@ use Rattle.std.specs.Prelude.{◌≡◌, ℕ, List, ◌++◌, String, string_byt
 use Rattle.std.specs.Global.{Global}
 use Rattle.sqlite.specs.Effect.{Database}
 use Rattle.room_rows.specs.Keep.{IsDamaged}
-use Rattle.room_dump.specs.Dump.{objects_text, room_text}
+use Rattle.room_dump.specs.Dump.{HasAllBytes, IsText, room_text}
 use Rattle.room_dump.specs.Members.{members_text}
 use Rattle.store_tables.specs.Meaning.{rows_of}
 
--- the text of the room that the tables hold: all objects, and behind them all pairs
+-- the text of the room that the tables hold: all objects, of which each document has bytes, and
+-- behind them all pairs
 abbrev pub IsDump : Database → String Global → Type 0
-IsDump db text = string_bytes text ≡ room_text (rows_of db)
+IsDump db text = (string_bytes text ≡ room_text (rows_of db)) × HasAllBytes (rows_of db)
 
 -- some row is damaged
 abbrev pub HasDamagedRow : Database → Type 0
@@ -20,7 +21,7 @@ HasDamagedRow db = (at : ℕ) × IsDamaged (rows_of db) at
 -- the text of all objects, and the rows are as they were
 abbrev pub TellsObjects : Database → String Global → Database → Type 0
 TellsObjects old text new =
-    (string_bytes text ≡ objects_text (rows_of old)) × (rows_of new ≡ rows_of old)
+    IsText (rows_of old) (string_bytes text) × (rows_of new ≡ rows_of old)
 
 -- the lines of the pairs are added after the text
 abbrev pub AddsMembers : List ℕ → List ℕ → Database → Unit {0} → Type 0

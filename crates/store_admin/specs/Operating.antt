@@ -1,15 +1,17 @@
 -- What an operator learns of all pairs and all records, and how the pairs are exchanged.
-use Rattle.std.specs.Prelude.{◌≡◌, ◌&&◌, ℕ, ℤ, Bool, List, [], ◌∷◌, map, Option, Some, None, true}
+use Rattle.std.specs.Prelude.{◌≡◌, ℕ, ℤ, Bool, List, [], ◌∷◌, map, Option, true}
 use Rattle.std.specs.Prelude.{false, is_some, option_and_then, option_map}
 use Rattle.std.specs.List.{filter_map, list_all}
-use Rattle.std.specs.List.Sorted.{IsPermutation}
+use Rattle.std.specs.Ordering.{ordering_then}
+use Rattle.std.specs.declared.cmp.Ordering.{Ordering}
 use Rattle.sqlite.specs.Effect.{Database}
-use Rattle.sqlite.specs.Order.{Row, column}
+use Rattle.sqlite.specs.Order.{Row, column, value_cmp}
 use Rattle.sqlite.specs.Tree.{Trees, put_row}
 use Rattle.sqlite.specs.Edit.{is_taken}
 use Rattle.sqlite.specs.declared.types.Value.TheVariants.{Null, Int, Text}
+use Rattle.sqlite_keyed.specs.Lists.{sort_by}
 use Rattle.room_rows.specs.declared.node.AuditRow.{AuditRow}
-use Rattle.room_rows.specs.Content.{is_pair_before, set_of, with_members}
+use Rattle.room_rows.specs.Content.{set_of, with_members}
 use Rattle.room_rows.specs.Keep.{reading}
 use Rattle.room_rows.specs.Rows.{Rows}
 use Rattle.store_tables.specs.Meaning.{audit_in, name_in, pair_in, pairs_of, rows_of}
@@ -48,8 +50,14 @@ ExchangesMembers pairs old answer new =
 abbrev pub shown_pair : Row → Row
 shown_pair r = column r 1 ∷ column r 2 ∷ []
 
+-- two rows of members, by group and then by user
+abbrev pub by_pair : Row → Row → Ordering
+by_pair a b =
+    ordering_then (value_cmp (column a 1) (column b 1)) (value_cmp (column a 2) (column b 2))
+
+-- all rows, in order of group and then of user
 abbrev pub HasMembers : Trees → List Row → Type 0
-HasMembers db rows = IsPermutation (map shown_pair (db 3)) rows
+HasMembers db rows = rows ≡ map shown_pair (sort_by by_pair (db 3))
 
 abbrev pub pair_seen : Row → Option (List ℕ × List ℕ)
 pair_seen r = option_and_then (λ group. option_map (λ user. (group, user)) (name_in (column r 1)))
@@ -58,12 +66,6 @@ pair_seen r = option_and_then (λ group. option_map (λ user. (group, user)) (na
 -- the pairs in these rows, without rows that aren't pairs
 abbrev pub pairs_seen : List Row → List (List ℕ × List ℕ)
 pairs_seen rows = filter_map pair_seen rows
-
--- each pair comes before the next one, the first behind this one
-abbrev pub rises_from : Option (List ℕ × List ℕ) → List (List ℕ × List ℕ) → Bool
-rises_from last [] = true
-rises_from None (pair ∷ pairs) = rises_from (Some pair) pairs
-rises_from (Some last) (pair ∷ pairs) = is_pair_before last pair && rises_from (Some pair) pairs
 
 -- a row of audits as it is shown
 abbrev pub shown_record : Row → Row

@@ -1,7 +1,6 @@
 //! All pairs, and how their rows are written.
-ghost use Rattle.std.specs.Prelude.{◌≡◌, [], None, IfOk};
+ghost use Rattle.std.specs.Prelude.{◌≡◌, [], IfOk};
 ghost use Rattle.sqlite.specs.Held.{state};
-ghost use Rattle.room_rows.specs.Content.{is_pair_before};
 ghost use Rattle.store_tables.specs.Paired.{pair_cmp};
 ghost use Rattle.store_tables.specs.Statements.{Asks, OfAny, Writes};
 ghost use Rattle.store_admin.specs.Carries.{Carries, NoTables, Reading};
@@ -12,7 +11,6 @@ ghost use Rattle.store_admin.specs.Operating.{
   Joins,
   pair_seen,
   pairs_seen,
-  rises_from,
 };
 
 use room_ace::Name;
@@ -97,28 +95,6 @@ pub(crate) fn compare(pair: &(Name, Name), other: &(Name, Name)) -> Ordering
     }
 }
 
-// Whether the pair comes before the other one.
-fn is_before(pair: &(Name, Name), other: &(Name, Name)) -> bool
-    ensures { result ≡ is_pair_before pair.now other.now }
-{
-    compare(pair, other).is_lt()
-}
-
-// Whether each pair comes before the next one.
-fn are_rising(pairs: &[(Name, Name)]) -> bool
-    ensures { result ≡ rises_from None pairs.now }
-{
-    let mut last: Option<&(Name, Name)> = None;
-    for pair in pairs {
-        match last {
-            Some(last) if !is_before(last, pair) => return false,
-            _ => {}
-        }
-        last = Some(pair);
-    }
-    true
-}
-
 /// The pairs of group and user, in order of group and then of user, each once. A row whose group or
 /// user is no name is left out.
 pub fn all_members<S: Alter>(
@@ -134,11 +110,5 @@ pub fn all_members<S: Alter>(
         Err(error) if wants_memory(error) => return Err(KeepFault::Memory),
         Err(_) => return Err(KeepFault::Store),
     };
-    let pairs = see_pairs(alloc, rows.as_slice())?;
-    // the database gives them in order, each once
-    if are_rising(pairs.as_slice()) {
-        Ok(pairs)
-    } else {
-        Err(KeepFault::Store)
-    }
+    Ok(see_pairs(alloc, rows.as_slice())?)
 }

@@ -55,7 +55,7 @@ turns-preserved g c =
       read = read_on k laws a b d c.in_ok-told.field-0 sofar read;
       turning = λ t start.
           let one = answer_on k laws a b d c.in_ok-told.field-0 sofar read t in
-          let next = turns_on w (laws.are a b (trusted t)) waits object c.args.most c.turns._turn before text (here (trusted t) start) in
+          let next = turns_on w (laws.are a b (trusted t)) waits object c.args.most c.turns._turn before text (here (trusted t) start) one.2 in
           subst (λ (l : List Waiting). Turning w l c.args.most (c.turns._turn + 1) before (string_bytes c.push_one-told.new.text)) (sym one.1)
           (subst (λ (more : List ℕ). Turning w (waits ++ waiting_children object.path (children_of w.read object.node.id)) c.args.most (c.turns._turn + 1) before more) (sym one.0) next);
     }

@@ -1,7 +1,0 @@
-use Rattle.std.proofs.Common.{◌∙◌, sym, ap}
-use Rattle.std.specs.Ordering.{is_lt}
-use Rattle.store_tables.specs.Paired.{before_is}
-use Rattle.store_admin.proofs.operating.is_before.Goals as goal
-
-pub returns : goal.returns
-returns c = c.is_lt.ensures ∙ ap is_lt c.compare.ensures ∙ sym (before_is c.args.pair.now c.args.other.now)
