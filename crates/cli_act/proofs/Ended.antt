@@ -2,7 +2,7 @@
 use Rattle.std.proofs.Common.{◌≡◌, ◌⊎◌, inl, inr, false}
 use Rattle.sqlite.specs.Held.{Held}
 use Rattle.sqlite.specs.State.{State}
-use Rattle.cli_act.specs.Doing.{Does, Works, WorksOnRoom}
+use Rattle.cli_act.specs.Doing.{DoesTask, Works, WorksOnRoom}
 use Rattle.cli_act.specs.declared.outcome.Outcome.{Outcome}
 use Rattle.cli_tasks.specs.declared.judging.Task.{Task}
 use Rattle.cli_tasks.specs.declared.judging.Task.TheVariants as task
@@ -22,7 +22,7 @@ module _ {S : Type 0} (shown : Held S → State) where
   room_ended work old new outcome (inl opened) = work_ended work (shown opened.mid) (shown new) outcome opened.works opened.opens.adopts.ended
   room_ended work old new outcome (inr not) = not.opens.adopts.ended
 
-  pub does_ended : (work : Task) (old new : Held S) (outcome : Outcome) → Does shown work old outcome new → (shown new).in_transaction ≡ false
+  pub does_ended : (work : Task) (old new : Held S) (outcome : Outcome) → DoesTask shown work old outcome new → (shown new).in_transaction ≡ false
   does_ended (task.Init owners) old new outcome does = does.creates.founds.ended
   does_ended (task.Groups pairs) old new outcome does = room_ended (task.Groups pairs) old new outcome does
   does_ended task.GroupsOut old new outcome does = room_ended task.GroupsOut old new outcome does

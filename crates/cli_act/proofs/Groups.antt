@@ -11,7 +11,7 @@ use Rattle.std.proofs.lemmas.List.Folds.{list_any-append}
 use Rattle.std.proofs.lemmas.List.{drop_all, length-append}
 use Rattle.std.proofs.lemmas.Map.Text.{is_eq-slice_cmp}
 use Rattle.room_ace.specs.Pieces.{same_text}
-use Rattle.cli_act.specs.Counting.{groups_after, groups_of, with_group}
+use Rattle.cli_act.specs.Counting.{groups_after, distinct_groups, with_group}
 
 -- the set has these texts, no others, and this many
 pub record HasSeen {A : Type 0} (seen : BTreeSet (String A)) (groups : List (List ℕ)) : Type 0 where
@@ -87,12 +87,12 @@ seen_none {A} seen e = record {
 
 -- the groups so far and those of the pairs that are left are all
 pub after_next : (groups : List (List ℕ)) (pairs : List (List ℕ × List ℕ)) (i : ℕ) (pair default : List ℕ × List ℕ)
-    → i < length pairs → pair ≡ get_or pairs i default → groups_after groups (drop i pairs) ≡ groups_of pairs
-    → groups_after (with_group groups pair.0) (drop (i + 1) pairs) ≡ groups_of pairs
+    → i < length pairs → pair ≡ get_or pairs i default → groups_after groups (drop i pairs) ≡ distinct_groups pairs
+    → groups_after (with_group groups pair.0) (drop (i + 1) pairs) ≡ distinct_groups pairs
 after_next groups pairs i pair default h is e =
     rw (is, add-one) (sym (ap (λ (xs : List (List ℕ × List ℕ)). groups_after groups xs) (drop-cons pairs i default h)) ∙ e)
 
 pub after_all : (groups : List (List ℕ)) (pairs : List (List ℕ × List ℕ)) (i : ℕ) → length pairs ≤ i
-    → groups_after groups (drop i pairs) ≡ groups_of pairs → groups ≡ groups_of pairs
+    → groups_after groups (drop i pairs) ≡ distinct_groups pairs → groups ≡ distinct_groups pairs
 after_all groups pairs i h e =
     sym (ap (λ (xs : List (List ℕ × List ℕ)). groups_after groups xs) (drop_all i pairs h)) ∙ e

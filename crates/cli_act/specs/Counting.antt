@@ -1,5 +1,6 @@
 -- The groups of pairs (own).
-use Rattle.std.specs.Prelude.{◌≡◌, ℕ, List, [], ◌∷◌, ◌++◌, String, string_bytes, string_cmp, if◌then◌else◌}
+use Rattle.std.specs.Prelude.{◌≡◌, ℕ, List, [], ◌∷◌}
+use Rattle.std.specs.Prelude.{◌++◌, String, string_bytes, string_cmp, if◌then◌else◌}
 use Rattle.std.specs.List.{list_any}
 use Rattle.std.specs.BTreeSet.{BTreeSet, contains}
 use Rattle.room_ace.specs.Pieces.{same_text}
@@ -13,5 +14,5 @@ groups_after before [] = before
 groups_after before (pair ∷ pairs) = groups_after (with_group before pair.0) pairs
 
 -- The groups of the pairs, each once.
-abbrev pub groups_of : List (List ℕ × List ℕ) → List (List ℕ)
-groups_of pairs = groups_after [] pairs
+abbrev pub distinct_groups : List (List ℕ × List ℕ) → List (List ℕ)
+distinct_groups pairs = groups_after [] pairs

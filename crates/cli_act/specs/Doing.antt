@@ -38,7 +38,7 @@ use Rattle.cli_act.specs.declared.outcome.Outcome.{Outcome}
 use Rattle.cli_act.specs.declared.outcome.Outcome.TheVariants.{Answer, Bytes, Failed}
 use Rattle.cli_tasks.specs.declared.judging.Task.{Task}
 use Rattle.cli_tasks.specs.declared.judging.Task.TheVariants as task
-use Rattle.cli_act.specs.Counting.{groups_of}
+use Rattle.cli_act.specs.Counting.{distinct_groups}
 
 -- ---- what comes of an answer
 
@@ -59,7 +59,7 @@ after_migrate (Err (raising.Unsound path why)) = Answer (answer.Unsound path why
 
 abbrev pub after_replacing : List (List ℕ × List ℕ) → Result (Unit {0}) StoreFault → Outcome
 after_replacing pairs (Ok done) =
-    Answer (answer.Replaced (length (groups_of pairs)) (length pairs))
+    Answer (answer.Replaced (length (distinct_groups pairs)) (length pairs))
 after_replacing pairs (Err fault) = after_fault fault
 
 abbrev pub after_dump : Result (String Global) StoreFault → Outcome
@@ -181,7 +181,7 @@ module _ {S : Type 0} (shown : Held S → State) where
       OpensAndWorks work old outcome new ⊎ OpensNot old outcome new
 
   -- What a task does to a database: all but those that make or upgrade a room open it first.
-  abbrev pub Does : Task → Held S → Outcome → Held S → Type 0
-  Does (task.Init owners) old outcome new = MakesRoom owners (shown old) outcome (shown new)
-  Does task.Migrate old outcome new = RaisesRoom (shown old) outcome (shown new)
-  Does work old outcome new = WorksOnRoom work old outcome new
+  abbrev pub DoesTask : Task → Held S → Outcome → Held S → Type 0
+  DoesTask (task.Init owners) old outcome new = MakesRoom owners (shown old) outcome (shown new)
+  DoesTask task.Migrate old outcome new = RaisesRoom (shown old) outcome (shown new)
+  DoesTask work old outcome new = WorksOnRoom work old outcome new

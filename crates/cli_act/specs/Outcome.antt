@@ -52,23 +52,23 @@ refusal_at path why =
     codes "refused: " ++ (reason_text why ++ (codes " at " ++ (path_text path ++ codes "\n")))
 
 -- where a list may not stand at the path, the line names its first entry that may not
-abbrev pub refusal_text : List (List ℕ) → Reason → List ℕ
-refusal_text path (reason.BadList place why) =
+abbrev pub reason_line : List (List ℕ) → Reason → List ℕ
+reason_line path (reason.BadList place why) =
     codes "refused: entry "
     ++ (decimal place ++ (codes ": " ++ (list_fault_text why ++ codes "\n")))
-refusal_text path why = refusal_at path why
+reason_line path why = refusal_at path why
 
-abbrev pub answer_text : Answer → List ℕ
-answer_text answer.Made = codes "ready\n"
-answer_text (answer.Replaced groups members) =
+abbrev pub answer_line : Answer → List ℕ
+answer_line answer.Made = codes "ready\n"
+answer_line (answer.Replaced groups members) =
     codes "groups " ++ (decimal groups ++ (codes ", members " ++ (decimal members ++ codes "\n")))
-answer_text answer.ListSet = codes "done\n"
-answer_text (answer.ListRefused at why) = refusal_text at why
-answer_text answer.Sound = codes "sound\n"
-answer_text (answer.Unsound path why) =
+answer_line answer.ListSet = codes "done\n"
+answer_line (answer.ListRefused at why) = reason_line at why
+answer_line answer.Sound = codes "sound\n"
+answer_line (answer.Unsound path why) =
     codes "fault " ++ (path ++ (codes " " ++ (unsound_text why ++ codes "\n")))
-answer_text answer.Raised = codes "migrated\n"
-answer_text (answer.NoRoom why) = codes "refused: " ++ (no_room_text why ++ codes "\n")
+answer_line answer.Raised = codes "migrated\n"
+answer_line (answer.NoRoom why) = codes "refused: " ++ (no_room_text why ++ codes "\n")
 
 -- ---- a database that isn't opened
 

@@ -1,6 +1,6 @@
 //! How many groups there are.
 ghost use Rattle.std.specs.Prelude.{◌≡◌, IfOk, length};
-ghost use Rattle.cli_act.specs.Counting.{groups_of};
+ghost use Rattle.cli_act.specs.Counting.{distinct_groups};
 
 use room_ace::Name;
 use std::alloc::{AllocError, Global};
@@ -8,7 +8,7 @@ use std::collections::BTreeSet;
 
 /// The number of different groups of the pairs. The only error is out of memory.
 pub(crate) fn count_groups(alloc: Global, pairs: &[(Name, Name)]) -> Result<usize, AllocError>
-    ensures { IfOk result (λ count. count ≡ length (groups_of pairs.now)) }
+    ensures { IfOk result (λ count. count ≡ length (distinct_groups pairs.now)) }
 {
     let mut seen = BTreeSet::new(alloc);
     'pairs: for pair in pairs {

@@ -1,7 +1,8 @@
 //! A task done on a database.
 ghost use Rattle.std.specs.Prelude.{◌≡◌, Err, false};
 ghost use Rattle.sqlite.specs.Held.{state};
-ghost use Rattle.cli_act.specs.Doing.{Does, IsWork, MakesRoom, RaisesRoom, after_create, after_migrate};
+ghost use Rattle.cli_act.specs.Doing.{DoesTask, IsWork, MakesRoom};
+ghost use Rattle.cli_act.specs.Doing.{RaisesRoom, after_create, after_migrate};
 
 use crate::opened::work;
 use crate::outcome::{Answer, Outcome};
@@ -61,7 +62,7 @@ fn open_and_work<S: Alter>(
 ) -> (Connection<S>, Outcome)
     requires ended { conn.in_transaction ≡ false }
     requires work { IsWork task.now }
-    ensures { Does (state S.Store) task.now conn result.1 result.0 }
+    ensures { DoesTask (state S.Store) task.now conn result.1 result.0 }
 {
     match Store::adopt(conn) {
         Ok(store) => {
@@ -81,7 +82,7 @@ pub(crate) fn carry_out<S: Alter>(
     task: &Task,
 ) -> (Connection<S>, Outcome)
     requires { conn.in_transaction ≡ false }
-    ensures { Does (state S.Store) task.now conn result.1 result.0 }
+    ensures { DoesTask (state S.Store) task.now conn result.1 result.0 }
 {
     match task {
         Task::Init(owners) => make(conn, owners),

@@ -1,6 +1,6 @@
 //! The line of an answer.
 ghost use Rattle.std.specs.Prelude.{◌≡◌, IfOk, string_bytes};
-ghost use Rattle.cli_act.specs.Outcome.{answer_text, reason_text, refusal_at, refusal_text};
+ghost use Rattle.cli_act.specs.Outcome.{answer_line, reason_text, refusal_at, reason_line};
 
 use crate::outcome::Answer;
 use room_machine::Reason;
@@ -35,7 +35,7 @@ fn reason_at(alloc: Global, at: &Path, why: &Reason) -> Result<String, AllocErro
 
 // The line of a list that isn't set.
 fn refusal_line(alloc: Global, at: &Path, why: &Reason) -> Result<String, AllocError>
-    ensures { IfOk result (λ text. string_bytes text ≡ refusal_text at.now why.now) }
+    ensures { IfOk result (λ text. string_bytes text ≡ reason_line at.now why.now) }
 {
     match why {
         Reason::BadList { place, fault } => {
@@ -50,7 +50,7 @@ fn refusal_line(alloc: Global, at: &Path, why: &Reason) -> Result<String, AllocE
 impl Answer {
     /// The line of the answer, with its end.
     pub fn line(&self, alloc: Global) -> Result<String, AllocError>
-        ensures { IfOk result (λ text. string_bytes text ≡ answer_text self.now) }
+        ensures { IfOk result (λ text. string_bytes text ≡ answer_line self.now) }
     {
         match self {
             Answer::Made => String::from_str(alloc, "ready\n"),

@@ -1,6 +1,6 @@
 //! A task on a room that is open, each by one call of the store.
 ghost use Rattle.std.specs.Prelude.{◌≡◌, length};
-ghost use Rattle.cli_act.specs.Counting.{groups_of};
+ghost use Rattle.cli_act.specs.Counting.{distinct_groups};
 ghost use Rattle.sqlite.specs.Held.{state};
 ghost use Rattle.cli_act.specs.Doing.{
   GivesDump,
@@ -49,7 +49,7 @@ fn put<S: Alter>(
     pairs: &[(Name, Name)],
     groups: usize,
 ) -> Outcome
-    requires { groups ≡ length (groups_of pairs.now) }
+    requires { groups ≡ length (distinct_groups pairs.now) }
     ensures { PutsMembers pairs.now (state S.Store store.old.conn) result
         (state S.Store store.new.conn) }
 {

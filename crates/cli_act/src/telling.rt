@@ -1,7 +1,7 @@
 //! Prints an outcome on the two writers.
-ghost use Rattle.cli_act.specs.Outcome.{answer_status, answer_text};
-ghost use Rattle.cli_act.specs.Telling.{Tells};
-ghost use Rattle.cli_outcome.specs.Written.{TellsText};
+ghost use Rattle.cli_act.specs.Outcome.{answer_status, answer_line};
+ghost use Rattle.cli_act.specs.Telling.{PrintsOutcome};
+ghost use Rattle.cli_outcome.specs.Written.{PrintsText};
 
 use crate::outcome::{Answer, Outcome};
 use cli_outcome::{Fault, Status, tell_fault, tell_text};
@@ -9,7 +9,7 @@ use std::alloc::Global;
 use std::io::Write;
 
 fn tell_answer<O: Write, E: Write>(alloc: Global, answer: &Answer, out: &mut O, err: &mut E) -> u8
-    ensures { TellsText (answer_text answer.now) (answer_status answer.now)
+    ensures { PrintsText (answer_line answer.now) (answer_status answer.now)
         (O.contents out.old) (O.contents out.new)
         (E.contents err.old) (E.contents err.new) result }
 {
@@ -22,7 +22,7 @@ fn tell_answer<O: Write, E: Write>(alloc: Global, answer: &Answer, out: &mut O, 
 /// Prints the outcome of a subcommand, and answers the exit status. Where standard output fails, it
 /// prints `fault: file` or `fault: memory` on standard error, and answers 3.
 pub fn tell<O: Write, E: Write>(alloc: Global, outcome: &Outcome, out: &mut O, err: &mut E) -> u8
-    ensures { Tells outcome.now (O.contents out.old) (O.contents out.new)
+    ensures { PrintsOutcome outcome.now (O.contents out.old) (O.contents out.new)
         (E.contents err.old) (E.contents err.new) result }
 {
     match outcome {

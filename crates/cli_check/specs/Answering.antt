@@ -3,7 +3,7 @@ use Rattle.std.specs.Prelude.{◌≡◌, ◌⊎◌, ℕ, List, [], ◌∷◌, �
 use Rattle.std.specs.Io.KnownBytes.{Appends}
 use Rattle.cli_outcome.specs.Ending.{IsOfStream}
 use Rattle.cli_outcome.specs.Reading.{IsInput}
-use Rattle.cli_outcome.specs.Written.{TellsFault, TellsLine, WritesSome}
+use Rattle.cli_outcome.specs.Written.{PrintsFault, PrintsLine, WritesSome}
 use Rattle.cli_outcome.specs.declared.fault.Fault.{Fault}
 use Rattle.cli_check.specs.Check.{judged}
 use Rattle.cli_check.specs.Reply.{reply_status, reply_text}
@@ -27,5 +27,5 @@ abbrev pub TellsCheck : Option (List ℕ) → Option (List ℕ) → Option (List
     → Option (List ℕ) → Option (List ℕ) → ℕ → Type 0
 TellsCheck known out out' err err' status =
     ((input : List ℕ) × IsInput known input
-    × TellsLine (reply_line input) (reply_status (judged input)) out out' err err' status)
-    ⊎ ((why : Fault) × IsOfStream why × TellsFault why out out' err err' status)
+    × PrintsLine (reply_line input) (reply_status (judged input)) out out' err err' status)
+    ⊎ ((why : Fault) × IsOfStream why × PrintsFault why out out' err err' status)

@@ -6,7 +6,7 @@ use Rattle.room_ace.specs.declared.failure.Failure.{Failure}
 use Rattle.room_ace.specs.declared.failure.Failure.TheVariants.{OutOfMemory, Fault}
 use Rattle.cli_outcome.specs.Ending.{fault_line, fault_of_kind}
 use Rattle.cli_outcome.specs.declared.fault.Fault.TheVariants as fault
-use Rattle.cli_outcome.specs.Written.{TellsText, WritesSome}
+use Rattle.cli_outcome.specs.Written.{PrintsText, WritesSome}
 use Rattle.cli_outcome.specs.declared.status.Status.TheVariants as status
 use Rattle.cli_console.specs.declared.stop.Stop.{Stop}
 use Rattle.cli_console.specs.declared.stop.Stop.TheVariants as stop
@@ -39,11 +39,11 @@ abbrev pub TellsStop : Stop → Option (List ℕ) → Option (List ℕ) → Opti
 TellsStop (stop.Failed fault) out out' err err' code =
     Keeps out out' × WritesSome err err' (fault_line fault) × (code ≡ 3)
 TellsStop (stop.Refused why) out out' err err' code =
-    TellsText (refusal_text why ++ 10 ∷ []) status.Refused out out' err err' code
+    PrintsText (refusal_text why ++ 10 ∷ []) status.Refused out out' err err' code
 TellsStop stop.Exists out out' err err' code =
-    TellsText (codes "refused: file exists\n") status.Refused out out' err err' code
+    PrintsText (codes "refused: file exists\n") status.Refused out out' err err' code
 TellsStop stop.NotRooms out out' err err' code =
-    TellsText (codes "refused: not a rooms file\n") status.Refused out out' err err' code
+    PrintsText (codes "refused: not a rooms file\n") status.Refused out out' err err' code
 TellsStop (stop.Words fault) out out' err err' code =
     Keeps out out' × WritesSome err err' (string_bytes fault.text) × (code ≡ 2)
 TellsStop stop.NotText out out' err err' code =

@@ -1,6 +1,6 @@
 //! Prints why the program ends on its two writers.
 ghost use Rattle.std.specs.Prelude.{◌≡◌, ◌++◌, ◌∷◌, [], IfOk, string_bytes};
-ghost use Rattle.cli_outcome.specs.Written.{TellsText, WritesSome};
+ghost use Rattle.cli_outcome.specs.Written.{PrintsText, WritesSome};
 ghost use Rattle.cli_outcome.specs.declared.status.Status.TheVariants.{Refused};
 ghost use Rattle.cli_tasks.specs.Tasks.{refusal_text};
 ghost use Rattle.cli_console.specs.Stops.{TellsStop};
@@ -29,7 +29,7 @@ pub fn tell_stop<O: Write, E: Write>(alloc: Global, stop: &Stop, out: &mut O, er
 }
 
 fn tell_refusal<O: Write, E: Write>(alloc: Global, why: &Refusal, out: &mut O, err: &mut E) -> u8
-    ensures { TellsText (refusal_text why.now ++ 10 ∷ []) Refused
+    ensures { PrintsText (refusal_text why.now ++ 10 ∷ []) Refused
         (O.contents out.old) (O.contents out.new) (E.contents err.old) (E.contents err.new)
         result }
 {

@@ -11,7 +11,7 @@ WritesSome old new text =
     (front : List ℕ) × (back : List ℕ) × (text ≡ front ++ back) × Appends old new front
 
 -- All of a text was written to standard output, and to standard error this line or a front of it.
-pub record IsTold (text due : List ℕ) (code : ℕ) (out out' err err' : Option (List ℕ))
+pub record IsPrinted (text due : List ℕ) (code : ℕ) (out out' err err' : Option (List ℕ))
     (status : ℕ) : Type 0 where
   pub said : Appends out out' text
   pub told : WritesSome err err' due
@@ -28,17 +28,17 @@ pub record IsCut (text : List ℕ) (out out' err err' : Option (List ℕ))
   pub ends : status ≡ 3
 
 -- The text was written to standard output, and the status is this one, or standard output failed.
-abbrev pub TellsLine : List ℕ → ℕ → Option (List ℕ) → Option (List ℕ) → Option (List ℕ)
+abbrev pub PrintsLine : List ℕ → ℕ → Option (List ℕ) → Option (List ℕ) → Option (List ℕ)
     → Option (List ℕ) → ℕ → Type 0
-TellsLine text code out out' err err' status =
-    IsTold text [] code out out' err err' status ⊎ IsCut text out out' err err' status
+PrintsLine text code out out' err err' status =
+    IsPrinted text [] code out out' err err' status ⊎ IsCut text out out' err err' status
 
 -- The same with the status as a value of its type.
-abbrev pub TellsText : List ℕ → Status → Option (List ℕ) → Option (List ℕ) → Option (List ℕ)
+abbrev pub PrintsText : List ℕ → Status → Option (List ℕ) → Option (List ℕ) → Option (List ℕ)
     → Option (List ℕ) → ℕ → Type 0
-TellsText text how = TellsLine text (status_code how)
+PrintsText text how = PrintsLine text (status_code how)
 
 -- Nothing was written to standard output, and this fault to standard error, in full or in part.
-abbrev pub TellsFault : Fault → Option (List ℕ) → Option (List ℕ) → Option (List ℕ)
+abbrev pub PrintsFault : Fault → Option (List ℕ) → Option (List ℕ) → Option (List ℕ)
     → Option (List ℕ) → ℕ → Type 0
-TellsFault why = IsTold [] (fault_line why) 3
+PrintsFault why = IsPrinted [] (fault_line why) 3

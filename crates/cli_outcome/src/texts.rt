@@ -1,7 +1,7 @@
 //! Texts written to the two writers.
 ghost use Rattle.std.specs.Prelude.{◌≡◌};
 ghost use Rattle.cli_outcome.specs.Ending.{fault_line};
-ghost use Rattle.cli_outcome.specs.Written.{TellsLine, TellsText, WritesSome};
+ghost use Rattle.cli_outcome.specs.Written.{PrintsLine, PrintsText, WritesSome};
 
 use crate::fault::Fault;
 use crate::status::Status;
@@ -30,7 +30,7 @@ pub fn tell_fault<E: Write>(fault: Fault, err: &mut E) -> u8
 /// Writes a text to standard output, and answers this exit status. Where that fails, it prints
 /// `fault: file` or `fault: memory` on standard error, and answers 3.
 pub fn tell_line<O: Write, E: Write>(text: &[u8], code: u8, out: &mut O, err: &mut E) -> u8
-    ensures { TellsLine text.now code (O.contents out.old) (O.contents out.new)
+    ensures { PrintsLine text.now code (O.contents out.old) (O.contents out.new)
         (E.contents err.old) (E.contents err.new) result }
 {
     match send_text(out, text) {
@@ -41,7 +41,7 @@ pub fn tell_line<O: Write, E: Write>(text: &[u8], code: u8, out: &mut O, err: &m
 
 /// As `tell_line`, with the exit status of this ending.
 pub fn tell_text<O: Write, E: Write>(text: &[u8], status: Status, out: &mut O, err: &mut E) -> u8
-    ensures { TellsText text.now status (O.contents out.old) (O.contents out.new)
+    ensures { PrintsText text.now status (O.contents out.old) (O.contents out.new)
         (E.contents err.old) (E.contents err.new) result }
 {
     tell_line(text, status.code(), out, err)

@@ -9,7 +9,7 @@ use Rattle.room_machine.specs.Run.{Event, Run}
 use Rattle.room_http.specs.Stream.{Runs}
 use Rattle.room_store.specs.Kept.{IsSound, Keeps}
 use Rattle.room_store.specs.Leads.{Leads}
-use Rattle.http_serve.specs.Visits.{IsEnd, IsVisit, Served, Visit, moment_of, requests_of}
+use Rattle.http_serve.specs.Visits.{IsEnd, IsServedVisit, Served, Visit, moment_of, requests_of}
 use Rattle.http_serve.specs.declared.fault.ServingFault.{ServingFault}
 use Rattle.cli_serve.specs.Hosts.{IsServed, Rests, TellsPort, end_status}
 use Rattle.cli_serve.specs.Places.{AsksFor, Place}
@@ -29,7 +29,7 @@ unserved d count told desk = (
     sound = λ t s. s;
     visits = [];
     few = omega arith;
-    each = All-nil IsVisit;
+    each = All-nil IsServedVisit;
     moments = λ before is. subst told (sym (append-nil before)) is;
     run = λ t s room is. (room, refl, is);
   },
@@ -61,7 +61,7 @@ rested old new trusted sound run = record { trusted = trusted; sound = sound; ru
 -- what a store served, in terms of its content
 pub served : (count : ℕ) (told told' : List ℤ → Type 0) (old new : State) (out out' : Option (List ℕ)) (status : ℕ)
     (visits : List Visit) (end : Result (Unit {0}) ServingFault)
-    → length visits ≤ count → All IsVisit visits
+    → length visits ≤ count → All IsServedVisit visits
     → ((before : List ℤ) → told before → told' (before ++ map moment_of visits))
     → (HasCleanDisk new → HasCleanDisk old)
     → (HasCleanDisk new → IsSound old → IsSound new)

@@ -2,27 +2,27 @@
 use Rattle.std.proofs.Common.{◌≡◌, ℕ, List, Option, Result, Ok, Err, subst}
 use Rattle.cli_outcome.proofs.KnownBytes.{Appends-none}
 use Rattle.cli_outcome.specs.Ending.{fault_line}
-use Rattle.cli_outcome.specs.Written.{TellsText, WritesSome}
+use Rattle.cli_outcome.specs.Written.{PrintsText, WritesSome}
 use Rattle.cli_outcome.specs.declared.fault.Fault.{Fault}
 use Rattle.cli_outcome.specs.declared.no_room.NoRoom.{NoRoom}
 use Rattle.cli_outcome.specs.declared.status.Status.{Status}
 use Rattle.store_schema.specs.declared.fault.OpenFault.{OpenFault}
-use Rattle.cli_serve.specs.Hosts.{Refuses, TurnsDown, reason_of}
+use Rattle.cli_serve.specs.Hosts.{PrintsRefusal, TurnsDown, why_not_opened}
 
 pub told_as : (text text' : List ℕ) (how : Status) (u v w x : Option (List ℕ)) (status : ℕ)
-    → text ≡ text' → TellsText text how u v w x status → TellsText text' how u v w x status
+    → text ≡ text' → PrintsText text how u v w x status → PrintsText text' how u v w x status
 told_as text text' how u v w x status is told =
-    subst (λ (t : List ℕ). TellsText t how u v w x status) is told
+    subst (λ (t : List ℕ). PrintsText t how u v w x status) is told
 
 pub refused : (fault : OpenFault) (why : NoRoom) (u v w x : Option (List ℕ)) (status : ℕ)
-    → Ok why ≡ reason_of fault → Refuses why u v w x status
-    → TurnsDown (reason_of fault) u v w x status
+    → Ok why ≡ why_not_opened fault → PrintsRefusal why u v w x status
+    → TurnsDown (why_not_opened fault) u v w x status
 refused fault why u v w x status is told =
     subst (λ (r : Result NoRoom Fault). TurnsDown r u v w x status) is told
 
 pub failed : (fault : OpenFault) (why : Fault) (u w x : Option (List ℕ)) (status : ℕ)
-    → Err why ≡ reason_of fault → WritesSome w x (fault_line why) → status ≡ 3
-    → TurnsDown (reason_of fault) u u w x status
+    → Err why ≡ why_not_opened fault → WritesSome w x (fault_line why) → status ≡ 3
+    → TurnsDown (why_not_opened fault) u u w x status
 failed fault why u w x status is told ends =
     subst (λ (r : Result NoRoom Fault). TurnsDown r u u w x status) is
     (record { said = Appends-none u; told = told; ends = ends })

@@ -7,7 +7,7 @@ use Rattle.sqlite.specs.State.{State}
 use Rattle.room_machine.specs.declared.desk.Desk.{Ghosts}
 use Rattle.room_http.specs.Stream.{Runs}
 use Rattle.cli_outcome.specs.Ending.{no_room_text}
-use Rattle.cli_outcome.specs.Written.{TellsFault, TellsText}
+use Rattle.cli_outcome.specs.Written.{PrintsFault, PrintsText}
 use Rattle.cli_outcome.specs.declared.fault.Fault.{Fault}
 use Rattle.cli_outcome.specs.declared.no_room.NoRoom.{NoRoom}
 use Rattle.cli_outcome.specs.declared.status.Status.{Status}
@@ -15,7 +15,7 @@ use Rattle.store_schema.specs.declared.fault.OpenFault.{OpenFault}
 use Rattle.room_store.specs.Leads.{Leads}
 use Rattle.room_store.specs.Opens.{Opens}
 use Rattle.http_serve.specs.Lines.{listening_line}
-use Rattle.http_serve.specs.Visits.{IsEnd, IsVisit, Visit, moment_of, requests_of}
+use Rattle.http_serve.specs.Visits.{IsEnd, IsServedVisit, Visit, moment_of, requests_of}
 use Rattle.http_serve.specs.declared.fault.ServingFault.{ServingFault}
 use Rattle.cli_serve.specs.Places.{AsksFor, Place, local_place}
 
@@ -24,28 +24,28 @@ abbrev pub refusal_line : NoRoom → List ℕ
 refusal_line why = codes "refused: " ++ (no_room_text why ++ codes "\n")
 
 -- why a database is not opened as a room: for what it holds, or by a fault
-abbrev pub reason_of : OpenFault → Result NoRoom Fault
-reason_of OpenFault.NotRooms = Ok NoRoom.NotRooms
-reason_of (OpenFault.OldVersion number) = Ok (NoRoom.Old number)
-reason_of (OpenFault.NewVersion number) = Ok (NoRoom.New number)
-reason_of OpenFault.Db = Err Fault.Database
-reason_of OpenFault.Memory = Err Fault.Memory
+abbrev pub why_not_opened : OpenFault → Result NoRoom Fault
+why_not_opened OpenFault.NotRooms = Ok NoRoom.NotRooms
+why_not_opened (OpenFault.OldVersion number) = Ok (NoRoom.Old number)
+why_not_opened (OpenFault.NewVersion number) = Ok (NoRoom.New number)
+why_not_opened OpenFault.Db = Err Fault.Database
+why_not_opened OpenFault.Memory = Err Fault.Memory
 
 -- what is printed on the two writers, where their contents are known, and the status
-abbrev pub Refuses : NoRoom → Option (List ℕ) → Option (List ℕ) → Option (List ℕ)
+abbrev pub PrintsRefusal : NoRoom → Option (List ℕ) → Option (List ℕ) → Option (List ℕ)
     → Option (List ℕ) → ℕ → Type 0
-Refuses why = TellsText (refusal_line why) Status.Refused
+PrintsRefusal why = PrintsText (refusal_line why) Status.Refused
 
 abbrev pub TurnsDown : Result NoRoom Fault → Option (List ℕ) → Option (List ℕ)
     → Option (List ℕ) → Option (List ℕ) → ℕ → Type 0
-TurnsDown (Ok why) = Refuses why
-TurnsDown (Err why) = TellsFault why
+TurnsDown (Ok why) = PrintsRefusal why
+TurnsDown (Err why) = PrintsFault why
 
 -- the fault that is printed where connections were served
-abbrev pub fault_of : ServingFault → Fault
-fault_of ServingFault.Memory = Fault.Memory
-fault_of ServingFault.File = Fault.File
-fault_of ServingFault.Net = Fault.Net
+abbrev pub serving_fault : ServingFault → Fault
+serving_fault ServingFault.Memory = Fault.Memory
+serving_fault ServingFault.File = Fault.File
+serving_fault ServingFault.Net = Fault.Net
 
 -- the status where connections were served
 abbrev pub end_status : Result (Unit {0}) ServingFault → ℕ
@@ -61,7 +61,7 @@ pub record IsTurnedDown (asked asked' : List Place → Type 0) (old new : State)
     (out out' err err' : Option (List ℕ)) (status : ℕ) : Type 0 where
   pub why : OpenFault
   pub opens : Opens old new (Err why)
-  pub told : TurnsDown (reason_of why) out out' err err' status
+  pub told : TurnsDown (why_not_opened why) out out' err err' status
   pub asked_none : AsksFor asked asked' []
 
 -- nothing was done at a desk
@@ -77,7 +77,7 @@ pub record IsServed (count : ℕ) (told told' : List ℤ → Type 0) (old new : 
     (out out' : Option (List ℕ)) (status : ℕ) : Type 0 where
   pub visits : List Visit
   pub few : length visits ≤ count
-  pub each : All IsVisit visits
+  pub each : All IsServedVisit visits
   pub moments : (before : List ℤ) → told before → told' (before ++ map moment_of visits)
   pub leads : Leads old (requests_of visits) new
   pub ends : ((status ≡ 0) × TellsPort out out') ⊎ (status ≡ 3)

@@ -2,7 +2,8 @@
 ghost use Rattle.std.specs.Prelude.{◌≡◌, IfErr};
 ghost use Rattle.cli_outcome.specs.Ending.{fault_line};
 ghost use Rattle.cli_outcome.specs.Written.{WritesSome};
-ghost use Rattle.cli_serve.specs.Hosts.{Refuses, TurnsDown, end_status, fault_of, reason_of};
+ghost use Rattle.cli_serve.specs.Hosts.{PrintsRefusal, TurnsDown, end_status};
+ghost use Rattle.cli_serve.specs.Hosts.{serving_fault, why_not_opened};
 
 use cli_outcome::{Fault, NoRoom, Status, tell_fault, tell_text};
 use http_serve::ServingFault;
@@ -17,7 +18,7 @@ pub(crate) fn tell_opening<O: Write, E: Write>(
     out: &mut O,
     err: &mut E,
 ) -> u8
-    ensures { TurnsDown (reason_of fault) (O.contents out.old) (O.contents out.new)
+    ensures { TurnsDown (why_not_opened fault) (O.contents out.old) (O.contents out.new)
         (E.contents err.old) (E.contents err.new) result }
 {
     match reason_of(fault) {
@@ -28,7 +29,7 @@ pub(crate) fn tell_opening<O: Write, E: Write>(
 
 // Why the database was not opened: for what it holds, or by a fault.
 fn reason_of(fault: OpenFault) -> Result<NoRoom, Fault>
-    ensures { result ≡ reason_of fault }
+    ensures { result ≡ why_not_opened fault }
 {
     match fault {
         OpenFault::NotRooms => Ok(NoRoom::NotRooms),
@@ -44,7 +45,7 @@ fn reason_of(fault: OpenFault) -> Result<NoRoom, Fault>
 pub(crate) fn tell_end<E: Write>(end: Result<(), ServingFault>, err: &mut E) -> u8
     ensures status { result ≡ end_status end }
     ensures told { IfErr end (λ why. WritesSome (E.contents err.old) (E.contents err.new)
-        (fault_line (fault_of why))) }
+        (fault_line (serving_fault why))) }
 {
     match end {
         Ok(()) => Status::Done.code(),
@@ -53,7 +54,7 @@ pub(crate) fn tell_end<E: Write>(end: Result<(), ServingFault>, err: &mut E) -> 
 }
 
 fn fault_of(fault: ServingFault) -> Fault
-    ensures { result ≡ fault_of fault }
+    ensures { result ≡ serving_fault fault }
 {
     match fault {
         ServingFault::Memory => Fault::Memory,
@@ -64,7 +65,7 @@ fn fault_of(fault: ServingFault) -> Fault
 
 // Prints a refusal. Where that fails, the outcome is a fault.
 fn refuse<O: Write, E: Write>(alloc: Global, why: NoRoom, out: &mut O, err: &mut E) -> u8
-    ensures { Refuses why (O.contents out.old) (O.contents out.new)
+    ensures { PrintsRefusal why (O.contents out.old) (O.contents out.new)
         (E.contents err.old) (E.contents err.new) result }
 {
     match format!(in alloc; "refused: {why}\n") {

@@ -8,7 +8,7 @@ use Rattle.room_machine.specs.declared.desk.Desk.{Ghosts}
 use Rattle.room_machine.specs.Run.{Event, Run}
 use Rattle.room_http.specs.Serve.{Connects, IsNext, Next, next_exchange}
 use Rattle.room_http.specs.Stream.{Exchange, IsExchange, IsOpen, Runs}
-use Rattle.http_serve.specs.Visits.{Attends, IsEnd, IsVisit, Receives, Served, Visit, moment_of, requests_of, visit_events}
+use Rattle.http_serve.specs.Visits.{Attends, IsEnd, IsServedVisit, Receives, Served, Visit, moment_of, requests_of, visit_events}
 use Rattle.http_serve.specs.declared.fault.ServingFault.{ServingFault}
 
 -- two runs that meet are one run
@@ -63,7 +63,7 @@ module _ {D : Type 0} (d : Ghosts D) where
     sound = λ t s. s;
     visits = [];
     few = omega arith;
-    each = All-nil IsVisit;
+    each = All-nil IsServedVisit;
     moments = λ before is. subst told (sym (append-nil before)) is;
     run = λ t s room is. (room, refl, is);
   }
@@ -91,7 +91,7 @@ module _ {D : Type 0} (d : Ghosts D) where
     visits = first.visits ++ then.visits;
     few = let a = first.few in let b = then.few in
         omega (arith, length-append first.visits then.visits);
-    each = All-append IsVisit first.visits then.visits first.each then.each;
+    each = All-append IsServedVisit first.visits then.visits first.each then.each;
     moments = λ before is.
         let one = map moment_of first.visits in
         let two = map moment_of then.visits in
@@ -159,7 +159,7 @@ module _ {D : Type 0} (d : Ghosts D) where
     sound = a.sound;
     visits = a.visit ∷ [];
     few = omega arith;
-    each = All-from_recursion IsVisit (a.visit ∷ []) (a.is, tt);
+    each = All-from_recursion IsServedVisit (a.visit ∷ []) (a.is, tt);
     moments = λ before is.
         subst (λ (z : ℤ). told' (before ++ z ∷ [])) (sym a.moment) (tells before is);
     run = λ t s.

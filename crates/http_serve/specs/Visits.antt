@@ -5,7 +5,7 @@ use Rattle.std.specs.List.{flat_map}
 use Rattle.room_machine.specs.declared.desk.Desk.{Ghosts}
 use Rattle.room_machine.specs.Run.{Event}
 use Rattle.room_http.specs.Limits.{max_messages}
-use Rattle.room_http.specs.Stream.{Exchange, IsExchange, event_of, Runs}
+use Rattle.room_http.specs.Stream.{Exchange, IsExchange, event_at, Runs}
 use Rattle.http_serve.specs.declared.fault.ServingFault.{ServingFault}
 
 -- a connection as the desk sees it: its moment, and its messages with their replies
@@ -14,13 +14,13 @@ pub record Visit : Type 0 where
   pub exchanges : List Exchange
 
 -- each is a message, and the desk is asked exactly where no test refuses it
-pub record IsVisit (visit : Visit) : Type 0 where
+pub record IsServedVisit (visit : Visit) : Type 0 where
   pub each : All IsExchange visit.exchanges
   pub few : length visit.exchanges ≤ max_messages
 
 -- its requests, each of its caller at that moment
 abbrev pub visit_events : Visit → List Event
-visit_events visit = flat_map (event_of visit.at) visit.exchanges
+visit_events visit = flat_map (event_at visit.at) visit.exchanges
 
 -- the requests of one connection after another
 abbrev pub requests_of : List Visit → List Event
@@ -35,7 +35,7 @@ pub record Attends {D : Type 0} (d : Ghosts D) (at : ℤ) (old new : D) : Type 0
   pub sound : d.trusted new → d.sound old → d.sound new
   pub visit : Visit
   pub moment : visit.at ≡ at
-  pub is : IsVisit visit
+  pub is : IsServedVisit visit
   pub run : d.trusted new → d.sound old
       → Runs (d.content old) (visit_events visit) (d.content new)
 
@@ -50,7 +50,7 @@ pub record Receives {D : Type 0} (d : Ghosts D) (count : ℕ) (told told' : List
   pub sound : d.trusted new → d.sound old → d.sound new
   pub visits : List Visit
   pub few : length visits ≤ count
-  pub each : All IsVisit visits
+  pub each : All IsServedVisit visits
   pub moments : (before : List ℤ) → told before → told' (before ++ map moment_of visits)
   pub run : d.trusted new → d.sound old
       → Runs (d.content old) (requests_of visits) (d.content new)

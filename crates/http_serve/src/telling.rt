@@ -1,7 +1,7 @@
 //! Lines that are printed beside the replies.
 ghost use Rattle.std.specs.Prelude.{OnOk};
 ghost use Rattle.std.specs.Io.KnownBytes.{Appends};
-ghost use Rattle.http_serve.specs.Lines.{fault_line, listening_line};
+ghost use Rattle.http_serve.specs.Lines.{connection_line, listening_line};
 
 use room_http::Cause;
 use std::io;
@@ -19,7 +19,7 @@ pub(crate) fn tell_port<O: Write>(out: &mut O, port: u16) -> io::Result<()>
 /// Prints what ended this connection, counted from 1.
 pub(crate) fn tell_fault<E: Write>(err: &mut E, number: u64, cause: Cause) -> io::Result<()>
     ensures { OnOk result (Appends (E.contents err.old) (E.contents err.new)
-        (fault_line number cause)) }
+        (connection_line number cause)) }
 {
     match cause {
         Cause::Read => writeln!(err, "connection {number}: read fault"),

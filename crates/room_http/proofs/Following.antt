@@ -8,7 +8,7 @@ use Rattle.httparse.specs.declared.spans.RequestSpans.{RequestSpans}
 use Rattle.httparse.specs.Grammar.{RequestHead, print_request}
 use Rattle.http_message.specs.declared.head.Head.{Head}
 use Rattle.room_http.specs.declared.refusal.Refusal.{Refusal}
-use Rattle.room_http.specs.Message.{print_message, BeginsWith, IsPart, IsRefused, head_of, field_of, body_size}
+use Rattle.room_http.specs.Message.{print_message, BeginsWith, IsPart, IsRefusedHead, head_of, field_of, body_size}
 use Rattle.room_http.specs.declared.ended.Cause.{Cause}
 use Rattle.room_http.specs.Spans.{AreSpansOf, head_at, StopsBody, StopsReading}
 use Rattle.room_http.specs.Turn.{WholeNext}
@@ -97,7 +97,7 @@ stopped-next buf u v spans r h head size Cause.Memory b s copied sized stop = (s
 pub refused-next : (buf : List ℕ) (spans : List HeaderSpan) (r : RequestSpans) (h : RequestHead) (head : Head) (refusal : Refusal)
     → BeginsWith buf h (drop r.len buf) → AreSpansOf spans r h → head ≡ head_at (take r.len buf) spans r
     → Err refusal ≡ body_size head.fields
-    → IsRefused buf refusal
+    → IsRefusedHead buf refusal
 refused-next buf spans r h head refusal b s copied refused =
     let parts : head ≡ head_of h = parts-are buf spans r h head b s copied in
     inr (h, drop r.len buf, b, ap (λ (q : Head). body_size q.fields) (sym parts) ∙ sym refused)

@@ -4,7 +4,7 @@ use Rattle.std.specs.List.{flat_map}
 use Rattle.std.proofs.lemmas.Grind.{flat_map-append}
 use Rattle.room_rows.specs.Content.{Content}
 use Rattle.room_machine.specs.Run.{Event, Run}
-use Rattle.room_http.specs.Stream.{Exchange, event_of, Leads, Runs}
+use Rattle.room_http.specs.Stream.{Exchange, event_at, RunsExchanges, Runs}
 
 -- two runs that meet are one run
 Run-then : (old mid new : Content) (events others : List Event)
@@ -25,8 +25,8 @@ pub Runs-none : (old : Content → Type 0) → Runs old [] old
 Runs-none old room is = (room, refl, is)
 
 pub Leads-then : (old mid new : Content → Type 0) (at : ℤ) (xs ys : List Exchange)
-    → Leads old at xs mid → Leads mid at ys new → Leads old at (xs ++ ys) new
+    → RunsExchanges old at xs mid → RunsExchanges mid at ys new → RunsExchanges old at (xs ++ ys) new
 Leads-then old mid new at xs ys first then =
     subst (λ (events : List Event). Runs old events new)
-    (sym (flat_map-append (event_of at) xs ys))
-    (Runs-then old mid new (flat_map (event_of at) xs) (flat_map (event_of at) ys) first then)
+    (sym (flat_map-append (event_at at) xs ys))
+    (Runs-then old mid new (flat_map (event_at at) xs) (flat_map (event_at at) ys) first then)

@@ -11,7 +11,7 @@ use Rattle.room_http.specs.declared.ended.ServeFault.{ServeFault}
 use Rattle.room_http.specs.declared.server.Stop.{Stop}
 use Rattle.room_http.specs.Limits.{max_messages}
 use Rattle.room_http.specs.Message.{print_message}
-use Rattle.room_http.specs.Stream.{Exchange, IsOpen, exchange_text, bytes_of, texts_of, last_text, Last, last_exchange, Leads, Ends}
+use Rattle.room_http.specs.Stream.{Exchange, IsOpen, exchange_text, bytes_of, texts_of, last_text, Last, last_exchange, RunsExchanges, EndsStream}
 use Rattle.room_http.specs.Serve.{Seen, Blames, FaultsRose, Serves, Stops, Connects, Next, next_text, next_exchange, IsNext, NextRose, NearLast, NearNext}
 use Rattle.room_http.specs.Turn.{Along, TurnsOpen, TurnsLast, TurnsStop}
 use Rattle.room_http.proofs.KnownBytes.{Appends-then, Appends-none, Consumes-then, Consumes-none}
@@ -80,7 +80,7 @@ pub Serves-from : (so_far one all : Type 0) (at : ℤ) (n : ℕ) (old mid new : 
     → Serves all at old new ended
 Serves-from so_far one all at n old mid new buf ended a f s t =
     let F : ℕ → Type 0 = λ f. FaultsRose t.last f new.faults in
-    let E : ℕ → Type 0 = λ k. Ends t.rest k t.last in
+    let E : ℕ → Type 0 = λ k. EndsStream t.rest k t.last in
     record {
       read = a.read ++ t.came.0;
       exchanges = a.exchanges;
@@ -139,7 +139,7 @@ next_of (Last.Refused refusal) = Next.Refusing refusal
 next_of (Last.Closing x) = Next.Exchanging x true
 next_of (Last.Failed m) = Next.Failing m
 
-is-next-of : (last : Last) (rest : List ℕ) (n : ℕ) → Ends rest n last → IsNext rest n (next_of last)
+is-next-of : (last : Last) (rest : List ℕ) (n : ℕ) → EndsStream rest n last → IsNext rest n (next_of last)
 is-next-of Last.Clean rest n e = tt
 is-next-of Last.Cut rest n e = tt
 is-next-of (Last.Refused refusal) rest n e = e
@@ -177,7 +177,7 @@ next-rose-of (Last.Failed m) old new f = f
 pub served-connects : (holds : Type 0) (at : ℤ) (old new : Seen) (ended : Ended)
     → Serves holds at old new ended → Connects holds at old new
 served-connects holds at old new ended s =
-    let L : List Exchange → Type 0 = λ ys. Leads old.content at (s.exchanges ++ ys) new.content in
+    let L : List Exchange → Type 0 = λ ys. RunsExchanges old.content at (s.exchanges ++ ys) new.content in
     record {
       read = s.read;
       exchanges = s.exchanges;

@@ -7,11 +7,11 @@ use Rattle.http_message.specs.declared.fault.HttpFault.{HttpFault}
 use Rattle.http_message.specs.Asked as message
 use Rattle.http_message.specs.Reply.{reply_text, fault_text}
 use Rattle.room_http.specs.Message.{Asked}
-use Rattle.room_http.specs.Answer.{Stepped, ActedIf, Delivers, Keeps, Responds, TellsFault, TellsReply, Rose}
+use Rattle.room_http.specs.Answer.{Stepped, ActedIf, Delivers, KeepsContent, Responds, SendsRefusal, TellsReply, Rose}
 use Rattle.room_http.specs.declared.told.Response.{Response}
 use Rattle.room_http.specs.declared.told.Lost.{Lost}
 use Rattle.room_rows.specs.Content.{Content}
-use Rattle.room_http.specs.Stream.{Agrees, Asks, answer_text, events_from, Runs}
+use Rattle.room_http.specs.Stream.{Agrees, IsRequest, answer_text, events_from, Runs}
 use Rattle.room_http.specs.Text.{store_text}
 use Rattle.room_http.specs.Serve.{Seen, BlamesText, BlamesWriter}
 use Rattle.room_http.specs.Turn.{WritesPart}
@@ -19,8 +19,8 @@ use Rattle.room_http.specs.Tell.{Replies, Begun, IsBegun, StopsFault, StopsWithi
 use Rattle.room_http.specs.declared.ended.Cause.{Cause}
 use Rattle.room_http.proofs.KnownBytes.{Appends-none}
 
-pub asks-of : (asked : Asked) (call : message.Message) → asked ≡ Ok call → Asks asked
-asks-of asked call e = subst Asks (sym e) tt
+pub asks-of : (asked : Asked) (call : message.Message) → asked ≡ Ok call → IsRequest asked
+asks-of asked call e = subst IsRequest (sym e) tt
 
 rose-by : (old new : ℕ) → (old < 2 ^ 64 - 1) ⊎ (2 ^ 64 - 1 ≤ old) → new ≡ min (old + 1) (2 ^ 64 - 1) → Rose old new
 rose-by old new (inl lt) e = inl (omega arith)
@@ -42,7 +42,7 @@ responds-by holds at close asked old new before after reply s same (Err lost) d 
 
 -- of a message that a test refuses
 pub replies-refused : (holds : Type 0) (at : ℤ) (asked : Asked) (old new : Seen) (fault : HttpFault)
-    → asked ≡ Err fault → Keeps old.content new.content → new.faults ≡ old.faults → Replies holds at asked old new None
+    → asked ≡ Err fault → KeepsContent old.content new.content → new.faults ≡ old.faults → Replies holds at asked old new None
 replies-refused holds at asked old new fault e same faults =
     let A : Asked → Type 0 = λ a. Agrees a None in
     let R : Asked → Type 0 = λ a. Runs old.content (events_from at a None) new.content in
@@ -89,7 +89,7 @@ at-value P result found value e f h =
     subst (λ x. P (Ok x)) f (subst P e h)
 
 pub refused-tells : (holds : Type 0) (at : ℤ) (close : Bool) (asked : Asked) (old new : Seen) (text : List ℕ)
-    → TellsFault close asked old.content new.content text × (new.faults ≡ old.faults)
+    → SendsRefusal close asked old.content new.content text × (new.faults ≡ old.faults)
     → Replies holds at asked old new None × (text ≡ answer_text close asked None)
 refused-tells holds at close asked old new text a =
     (replies-refused holds at asked old new a.0.0.0 a.0.0.1 a.0.1 a.1, a.0.0.2 ∙ text-refused close asked a.0.0.0 a.0.0.1)

@@ -17,9 +17,9 @@ use Rattle.room_http.specs.declared.ended.Ended.{Ended}
 use Rattle.room_http.specs.declared.server.Stop.{Stop}
 use Rattle.room_http.specs.declared.ended.Cause.{Cause}
 use Rattle.room_http.specs.Limits.{max_messages, read_size}
-use Rattle.room_http.specs.Message.{Message, print_message, IsRefused, IsPart, asked, closes, head_of}
-use Rattle.room_http.specs.Text.{store_text, refusal_text}
-use Rattle.room_http.specs.Stream.{Last, answer_text, events_from, Runs, Leads, says_close}
+use Rattle.room_http.specs.Message.{Message, print_message, IsRefusedHead, IsPart, asked, closes, head_of}
+use Rattle.room_http.specs.Text.{store_text, refusal_reply}
+use Rattle.room_http.specs.Stream.{Last, answer_text, events_from, Runs, RunsExchanges, says_close}
 use Rattle.room_http.specs.Spans.{Came, StopsReading}
 use Rattle.room_http.specs.Serve.{Seen, Next, BlamesBefore, IsNearHead}
 use Rattle.room_http.specs.Turn.{TurnsOpen, TurnsLast, TurnsStop, Turns, WholeNext}
@@ -57,7 +57,7 @@ not-last n few off =
 -- one exchange of a run
 leads-one : (at : ℤ) (old new : Content → Type 0) (m : Message) (reply : Option Reply)
     → Runs old (events_from at (asked m) reply) new
-    → Leads old at (record { message = m; reply = reply } ∷ []) new
+    → RunsExchanges old at (record { message = m; reply = reply } ∷ []) new
 leads-one at old new m reply run =
     subst (λ (events : List Event). Runs old events new)
     (sym (append-nil (events_from at (asked m) reply))) run
@@ -236,9 +236,9 @@ some-same x y e = ap (λ o. unwrap_or o x) e
 
 pub turn-refused : (holds : Type 0) (at : ℤ) (n : ℕ) (left mid sent wrote : Option (List ℕ)) (content : Content → Type 0) (faults : ℕ)
     (buf came after : List ℕ) (reason : Refusal) (result : Result (Option Ended) Stop)
-    → Came left mid buf came → IsRefused came reason → IsNearHead came
-    → IfOk result (λ ended. (ended ≡ Some Ended.Closed) × Appends sent wrote (refusal_text reason))
-    → IfErr result (λ stop. (stop.acted ≡ false) × StopsWithin sent wrote (refusal_text reason) stop.cause)
+    → Came left mid buf came → IsRefusedHead came reason → IsNearHead came
+    → IfOk result (λ ended. (ended ≡ Some Ended.Closed) × Appends sent wrote (refusal_reply reason))
+    → IfErr result (λ stop. (stop.acted ≡ false) × StopsWithin sent wrote (refusal_reply reason) stop.cause)
     → Turns holds at n (record { left = left; sent = sent; content = content; faults = faults })
     (record { left = mid; sent = wrote; content = content; faults = faults }) buf after result
 turn-refused holds at n left mid sent wrote content faults buf came after reason (Ok None) more is near ok err = absurd (none-is-no-some ok.0)

@@ -4,7 +4,7 @@ use Rattle.std.proofs.Math.Seq.{take-append_seam, drop-append_seam}
 use Rattle.httparse.specs.Grammar.{RequestHead, print_request}
 use Rattle.httparse.proofs.GrammarLemmas.{request_unique}
 use Rattle.room_http.specs.Laws.{MessageUnique}
-use Rattle.room_http.specs.Message.{print_message, size_of}
+use Rattle.room_http.specs.Message.{print_message, body_size_of}
 
 ok-same : {A E : Type 0} (d x y : A) (r : Result A E) → r ≡ Ok x → r ≡ Ok y → x ≡ y
 ok-same {A} {E} d x y r e f =
@@ -25,6 +25,6 @@ message-unique bytes p q m k im ik e f =
     (im.head.valid, e ∙ append_assoc (print_request m.head) m.body p)
     (ik.head.valid, f ∙ append_assoc (print_request k.head) k.body q) in
     let len : length m.body ≡ length k.body =
-    ok-same 0 (length m.body) (length k.body) (size_of m.head) im.size (ap (λ (h : RequestHead). size_of h) u.0 ∙ ik.size) in
+    ok-same 0 (length m.body) (length k.body) (body_size_of m.head) im.size (ap (λ (h : RequestHead). body_size_of h) u.0 ∙ ik.size) in
     let same = same-front m.body k.body p q len u.1 in
     (rw (u.0, same.0) refl, same.1)

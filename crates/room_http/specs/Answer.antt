@@ -12,11 +12,11 @@ use Rattle.room_http.specs.declared.told.Answer.{Answer}
 use Rattle.room_http.specs.declared.told.Response.{Response}
 use Rattle.room_http.specs.declared.told.Lost.{Lost}
 use Rattle.room_http.specs.Message.{Asked}
-use Rattle.room_http.specs.Stream.{Asks}
+use Rattle.room_http.specs.Stream.{IsRequest}
 
 -- what the desk kept it keeps
-abbrev pub Keeps : (Content → Type 0) → (Content → Type 0) → Type 0
-Keeps old new = (room : Content) → old room → new room
+abbrev pub KeepsContent : (Content → Type 0) → (Content → Type 0) → Type 0
+KeepsContent old new = (room : Content) → old room → new room
 
 -- the desk took the step that the message asks for, and replied so
 pub record Stepped (holds : Type 0) (at : ℤ) (old new : Content → Type 0) (asked : Asked)
@@ -28,12 +28,13 @@ pub record Stepped (holds : Type 0) (at : ℤ) (old new : Content → Type 0) (a
 -- the step was taken where the flag says so, and else nothing was done
 abbrev pub ActedIf : Bool → Type 0 → ℤ → (Content → Type 0) → (Content → Type 0) → Asked → Type 0
 ActedIf true holds at old new asked = (reply : Reply) × Stepped holds at old new asked reply
-ActedIf false holds at old new asked = Keeps old new
+ActedIf false holds at old new asked = KeepsContent old new
 
 -- the text of the first test that fails, where the desk did nothing
-abbrev pub TellsFault : Bool → Asked → (Content → Type 0) → (Content → Type 0) → List ℕ → Type 0
-TellsFault close asked old new text =
-    ((fault : HttpFault) × (asked ≡ Err fault) × (text ≡ fault_text fault close)) × Keeps old new
+abbrev pub SendsRefusal : Bool → Asked → (Content → Type 0) → (Content → Type 0) → List ℕ → Type 0
+SendsRefusal close asked old new text =
+    ((fault : HttpFault) × (asked ≡ Err fault) × (text ≡ fault_text fault close))
+    × KeepsContent old new
 
 -- the text of the desk's reply, where it took the step
 abbrev pub TellsReply : Type 0 → ℤ → Bool → Asked → (Content → Type 0) → (Content → Type 0)
@@ -48,12 +49,12 @@ Rose old new = (old < new) ⊎ (2 ^ 64 - 1 ≤ old)
 -- the desk failed at what the message asks
 abbrev pub Failed : Type 0 → Asked → (Content → Type 0) → (Content → Type 0) → ℕ → ℕ → Type 0
 Failed holds asked old new faults_old faults_new =
-    Asks asked × (holds → Keeps old new) × Rose faults_old faults_new
+    IsRequest asked × (holds → KeepsContent old new) × Rose faults_old faults_new
 
 abbrev pub Responds : Type 0 → ℤ → Bool → Asked → (Content → Type 0) → (Content → Type 0)
     → ℕ → ℕ → Result Response Lost → Type 0
 Responds holds at close asked old new faults_old faults_new (Ok (Response.Refused text)) =
-    TellsFault close asked old new text.items × (faults_new ≡ faults_old)
+    SendsRefusal close asked old new text.items × (faults_new ≡ faults_old)
 Responds holds at close asked old new faults_old faults_new (Ok (Response.Replied text)) =
     TellsReply holds at close asked old new text.items × (faults_new ≡ faults_old)
 Responds holds at close asked old new faults_old faults_new (Ok Response.Fault) =
@@ -62,11 +63,11 @@ Responds holds at close asked old new faults_old faults_new (Err lost) =
     ActedIf lost.acted holds at old new asked × (faults_new ≡ faults_old)
 
 -- the same where the desk isn't asked
-abbrev pub Refuses : HttpFault → Bool → Result Response Lost → Type 0
-Refuses fault close (Ok (Response.Refused text)) = text.items ≡ fault_text fault close
-Refuses fault close (Ok (Response.Replied text)) = ⊥
-Refuses fault close (Ok Response.Fault) = ⊥
-Refuses fault close (Err lost) = lost.acted ≡ false
+abbrev pub RefusesMessage : HttpFault → Bool → Result Response Lost → Type 0
+RefusesMessage fault close (Ok (Response.Refused text)) = text.items ≡ fault_text fault close
+RefusesMessage fault close (Ok (Response.Replied text)) = ⊥
+RefusesMessage fault close (Ok Response.Fault) = ⊥
+RefusesMessage fault close (Err lost) = lost.acted ≡ false
 
 -- the same where the desk took the step, and answered this reply
 abbrev pub Delivers : Reply → Bool → Result Response Lost → Type 0
@@ -77,12 +78,12 @@ Delivers reply close (Err lost) = lost.acted ≡ true
 
 -- What the answer to a message says of the text and of the desk, between two moments. Its steps are
 -- promised where `holds`.
-abbrev pub Answers : Type 0 → ℤ → Bool → Asked → (Content → Type 0) → (Content → Type 0)
+abbrev pub AnswersMessage : Type 0 → ℤ → Bool → Asked → (Content → Type 0) → (Content → Type 0)
     → ℕ → ℕ → Result Answer Lost → Type 0
-Answers holds at close asked old new faults_old faults_new (Ok (Answer.Text text)) =
-    (TellsFault close asked old new text.items ⊎ TellsReply holds at close asked old new text.items)
+AnswersMessage holds at close asked old new faults_old faults_new (Ok (Answer.Text text)) =
+    (SendsRefusal close asked old new text.items ⊎ TellsReply holds at close asked old new text.items)
     × (faults_new ≡ faults_old)
-Answers holds at close asked old new faults_old faults_new (Ok Answer.Fault) =
+AnswersMessage holds at close asked old new faults_old faults_new (Ok Answer.Fault) =
     Failed holds asked old new faults_old faults_new
-Answers holds at close asked old new faults_old faults_new (Err lost) =
+AnswersMessage holds at close asked old new faults_old faults_new (Err lost) =
     ActedIf lost.acted holds at old new asked × (faults_new ≡ faults_old)

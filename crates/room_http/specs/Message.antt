@@ -66,8 +66,8 @@ body_size fields =
     length_unless (values_of (codes "transfer-encoding") fields)
     (length_from (values_of (codes "content-length") fields))
 
-abbrev pub size_of : RequestHead → Result ℕ Refusal
-size_of h = body_size (head_of h).fields
+abbrev pub body_size_of : RequestHead → Result ℕ Refusal
+body_size_of h = body_size (head_of h).fields
 
 -- ---- a message
 
@@ -82,7 +82,7 @@ print_message m = print_request m.head ++ m.body
 -- none of the tests 1 to 3 fails, and 4: the body is whole
 pub record IsMessage (m : Message) : Type 0 where
   pub head : IsHead m.head
-  pub size : size_of m.head ≡ Ok (length m.body)
+  pub size : body_size_of m.head ≡ Ok (length m.body)
 
 -- who asks, and what; or the first of the tests 5 to 12 that fails
 abbrev pub Asked : Type 0
@@ -128,14 +128,14 @@ pub record BeginsWith (bytes : List ℕ) (h : RequestHead) (rest : List ℕ) : T
 -- the head at the front is refused for its fields
 abbrev pub HeadIsRefused : List ℕ → Refusal → Type 0
 HeadIsRefused bytes refusal =
-    (h : RequestHead) × (rest : List ℕ) × BeginsWith bytes h rest × (size_of h ≡ Err refusal)
+    (h : RequestHead) × (rest : List ℕ) × BeginsWith bytes h rest × (body_size_of h ≡ Err refusal)
 
 -- What stands at the front is refused before a body is read. `httparse` leaves some answers open,
 -- and there two of these hold: both reasons, where there are too many fields and another fault too,
 -- or where a target with a fault is unended at the limit; a reason and `IsPart` below, where such a
 -- target, or one field more than the limit, is unended at the end of the input.
-abbrev pub IsRefused : List ℕ → Refusal → Type 0
-IsRefused bytes refusal = HasNoHead bytes refusal ⊎ HeadIsRefused bytes refusal
+abbrev pub IsRefusedHead : List ℕ → Refusal → Type 0
+IsRefusedHead bytes refusal = HasNoHead bytes refusal ⊎ HeadIsRefused bytes refusal
 
 -- a head that has begun and may go on
 pub record IsPartOfHead (bytes : List ℕ) : Type 0 where
@@ -148,7 +148,7 @@ pub record IsPartOfHead (bytes : List ℕ) : Type 0 where
 abbrev pub IsPartOfBody : List ℕ → Type 0
 IsPartOfBody bytes =
     (h : RequestHead) × (part : List ℕ) × (size : ℕ) × BeginsWith bytes h part
-    × (size_of h ≡ Ok size) × (length part < size)
+    × (body_size_of h ≡ Ok size) × (length part < size)
 
 -- a message that has begun and isn't whole
 abbrev pub IsPart : List ℕ → Type 0

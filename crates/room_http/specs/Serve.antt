@@ -8,11 +8,12 @@ use Rattle.room_http.specs.declared.ended.Ended.{Ended}
 use Rattle.room_http.specs.declared.ended.ServeFault.{ServeFault}
 use Rattle.room_http.specs.declared.refusal.Refusal.{Refusal}
 use Rattle.room_http.specs.Limits.{max_head, max_messages, read_size}
-use Rattle.room_http.specs.Message.{Message, print_message, IsMessage, IsRefused, IsPart, asked}
-use Rattle.room_http.specs.Text.{refusal_text, store_text}
+use Rattle.room_http.specs.Message.{Message, print_message, IsMessage, IsRefusedHead, IsPart, asked}
+use Rattle.room_http.specs.Text.{refusal_reply, store_text}
 use Rattle.room_http.specs.Answer.{Rose}
-use Rattle.room_http.specs.Stream.{Exchange, IsExchange, exchange_text, Last, Asks, says_close}
-use Rattle.room_http.specs.Stream.{StartsWith, ended_of, last_text, last_exchange, Leads, Opens}
+use Rattle.room_http.specs.Stream.{Exchange, IsExchange, exchange_text, Last, IsRequest, says_close}
+use Rattle.room_http.specs.Stream.{StartsWith, ended_of, last_text}
+use Rattle.room_http.specs.Stream.{last_exchange, RunsExchanges, OpensStream}
 use Rattle.room_http.specs.Stream.{Stream, texts_of}
 
 -- what is known at one moment: the bytes that the reader has left and that the writer took, what
@@ -62,7 +63,7 @@ pub record Serves (holds : Type 0) (at : ℤ) (old new : Seen) (ended : Ended) :
   pub writes : Appends old.sent new.sent (texts_of exchanges ++ last_text last)
   pub ended_is : ended ≡ ended_of last
   pub at_end : AtEndIf last new.left
-  pub run : holds → Leads old.content at (exchanges ++ last_exchange last) new.content
+  pub run : holds → RunsExchanges old.content at (exchanges ++ last_exchange last) new.content
   pub faults : FaultsRose last old.faults new.faults
 
 -- ---- a connection, however it ended
@@ -80,8 +81,8 @@ abbrev pub IsNext : List ℕ → ℕ → Next → Type 0
 IsNext left n Next.Unknown = ⊤
 IsNext left n (Next.Exchanging x close) =
     IsExchange x × (says_close x.message n ≡ close) × StartsWith left x.message
-IsNext left n (Next.Refusing refusal) = IsRefused left refusal
-IsNext left n (Next.Failing m) = IsMessage m × Asks (asked m) × StartsWith left m
+IsNext left n (Next.Refusing refusal) = IsRefusedHead left refusal
+IsNext left n (Next.Failing m) = IsMessage m × IsRequest (asked m) × StartsWith left m
 
 -- the bytes that were read ahead of it are fewer than one read
 abbrev pub NearNext : Next → List ℕ → Type 0
@@ -93,7 +94,7 @@ NearNext (Next.Failing m) left = IsNear m left
 abbrev pub next_text : Next → List ℕ
 next_text Next.Unknown = []
 next_text (Next.Exchanging x close) = exchange_text close x
-next_text (Next.Refusing refusal) = refusal_text refusal
+next_text (Next.Refusing refusal) = refusal_reply refusal
 next_text (Next.Failing m) = store_text
 
 abbrev pub next_exchange : Next → List Exchange
@@ -145,14 +146,14 @@ pub record Connects (holds : Type 0) (at : ℤ) (old new : Seen) : Type 0 where
   pub next : Next
   pub rest : List ℕ
   pub reads : Consumes old.left new.left read
-  pub opens : Opens read exchanges rest
+  pub opens : OpensStream read exchanges rest
   pub few : length exchanges < max_messages
   pub is_next : IsNext rest (length exchanges) next
   pub near : NearNext next rest
   pub begun : List ℕ
   pub beginning : (back : List ℕ) × (next_text next ≡ begun ++ back)
   pub writes : Appends old.sent new.sent (texts_of exchanges ++ begun)
-  pub run : holds → Leads old.content at (exchanges ++ next_exchange next) new.content
+  pub run : holds → RunsExchanges old.content at (exchanges ++ next_exchange next) new.content
   pub faults : NextRose next old.faults new.faults
 
 -- A connection that a fault ended: how many replies went out whole, whether the desk took the step

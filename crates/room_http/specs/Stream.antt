@@ -9,9 +9,9 @@ use Rattle.http_message.specs.Reply.{reply_text, fault_text}
 use Rattle.room_http.specs.declared.refusal.Refusal.{Refusal}
 use Rattle.room_http.specs.declared.ended.Ended.{Ended}
 use Rattle.room_http.specs.Limits.{max_messages}
-use Rattle.room_http.specs.Message.{Message, print_message, IsMessage, IsRefused, IsPart, Asked}
+use Rattle.room_http.specs.Message.{Message, print_message, IsMessage, IsRefusedHead, IsPart, Asked}
 use Rattle.room_http.specs.Message.{asked, closes}
-use Rattle.room_http.specs.Text.{refusal_text, store_text}
+use Rattle.room_http.specs.Text.{refusal_reply, store_text}
 
 -- ---- a message and its reply
 
@@ -46,8 +46,8 @@ events_from at (Ok call) (Some reply) = Event.Asked call.0 at call.1 reply ∷ [
 events_from at (Ok call) None = []
 events_from at (Err fault) reply = []
 
-abbrev pub event_of : ℤ → Exchange → List Event
-event_of at x = events_from at (asked x.message) x.reply
+abbrev pub event_at : ℤ → Exchange → List Event
+event_at at x = events_from at (asked x.message) x.reply
 
 -- these events are a run from what the desk kept to what it keeps then
 abbrev pub Runs : (Content → Type 0) → List Event → (Content → Type 0) → Type 0
@@ -55,8 +55,8 @@ Runs old events new =
     (room : Content) → old room → (next : Content) × Run room events next × new next
 
 -- the exchanges are such a run
-abbrev pub Leads : (Content → Type 0) → ℤ → List Exchange → (Content → Type 0) → Type 0
-Leads old at xs new = Runs old (flat_map (event_of at) xs) new
+abbrev pub RunsExchanges : (Content → Type 0) → ℤ → List Exchange → (Content → Type 0) → Type 0
+RunsExchanges old at xs new = Runs old (flat_map (event_at at) xs) new
 
 -- ---- the end
 
@@ -69,9 +69,9 @@ pub data Last : Type 0 where
   Failed : Message → Last
 
 -- the message asks something of the desk
-abbrev pub Asks : Asked → Type 0
-Asks (Ok call) = ⊤
-Asks (Err fault) = ⊥
+abbrev pub IsRequest : Asked → Type 0
+IsRequest (Ok call) = ⊤
+IsRequest (Err fault) = ⊥
 
 -- the reply to the message after n others says that the connection ends
 abbrev pub says_close : Message → ℕ → Bool
@@ -82,19 +82,19 @@ abbrev pub StartsWith : List ℕ → Message → Type 0
 StartsWith bytes m = (rest : List ℕ) × (bytes ≡ print_message m ++ rest)
 
 -- the bytes that are left after n exchanges are this end
-abbrev pub Ends : List ℕ → ℕ → Last → Type 0
-Ends left n Last.Clean = left ≡ []
-Ends left n Last.Cut = IsPart left
-Ends left n (Last.Refused refusal) = IsRefused left refusal
-Ends left n (Last.Closing x) =
+abbrev pub EndsStream : List ℕ → ℕ → Last → Type 0
+EndsStream left n Last.Clean = left ≡ []
+EndsStream left n Last.Cut = IsPart left
+EndsStream left n (Last.Refused refusal) = IsRefusedHead left refusal
+EndsStream left n (Last.Closing x) =
     IsExchange x × (says_close x.message n ≡ true) × StartsWith left x.message
-Ends left n (Last.Failed m) = IsMessage m × Asks (asked m) × StartsWith left m
+EndsStream left n (Last.Failed m) = IsMessage m × IsRequest (asked m) × StartsWith left m
 
 -- the text that the end brings
 abbrev pub last_text : Last → List ℕ
 last_text Last.Clean = []
 last_text Last.Cut = []
-last_text (Last.Refused refusal) = refusal_text refusal
+last_text (Last.Refused refusal) = refusal_reply refusal
 last_text (Last.Closing x) = exchange_text true x
 last_text (Last.Failed m) = store_text
 
@@ -124,13 +124,13 @@ abbrev pub texts_of : List Exchange → List ℕ
 texts_of xs = flat_map (exchange_text false) xs
 
 -- the bytes begin with these exchanges, each of which leaves the connection open, and then the rest
-pub record Opens (bytes : List ℕ) (xs : List Exchange) (rest : List ℕ) : Type 0 where
+pub record OpensStream (bytes : List ℕ) (xs : List Exchange) (rest : List ℕ) : Type 0 where
   pub whole : bytes ≡ bytes_of xs ++ rest
   pub each : All IsOpen xs
 
 -- The bytes are these exchanges and this end.
 pub record Stream (bytes : List ℕ) (xs : List Exchange) (last : Last) : Type 0 where
   pub rest : List ℕ
-  pub opens : Opens bytes xs rest
+  pub opens : OpensStream bytes xs rest
   pub few : length xs < max_messages
-  pub ends : Ends rest (length xs) last
+  pub ends : EndsStream rest (length xs) last

@@ -7,7 +7,7 @@ use Rattle.room_http.specs.declared.server.Stop.{Stop}
 use Rattle.room_http.specs.declared.server.Told.{Told}
 use Rattle.room_http.specs.Message.{Asked}
 use Rattle.room_http.specs.Text.{store_text}
-use Rattle.room_http.specs.Answer.{Keeps, Failed}
+use Rattle.room_http.specs.Answer.{KeepsContent, Failed}
 use Rattle.room_http.specs.Stream.{Agrees, answer_text, events_from, Runs}
 use Rattle.room_http.specs.Serve.{Seen, BlamesText, BlamesWriter}
 use Rattle.room_http.specs.Turn.{WritesSome}
@@ -41,7 +41,7 @@ StopsFault old new cause =
 
 abbrev pub IsBegun : Type 0 → ℤ → Bool → Asked → Seen → Seen → Bool → Cause → Begun → Type 0
 IsBegun holds at close asked old new acted cause Begun.Nothing =
-    Appends old.sent new.sent [] × (acted ≡ false) × Keeps old.content new.content
+    Appends old.sent new.sent [] × (acted ≡ false) × KeepsContent old.content new.content
     × (new.faults ≡ old.faults) × (cause ≡ Cause.Memory)
 IsBegun holds at close asked old new acted cause (Begun.Telling reply) =
     Replies holds at asked old new reply
@@ -49,11 +49,11 @@ IsBegun holds at close asked old new acted cause (Begun.Telling reply) =
 IsBegun holds at close asked old new acted cause Begun.Failing =
     Fails holds asked old new × StopsFault old.sent new.sent cause × (acted ≡ false)
 
-abbrev pub Tells : Type 0 → ℤ → Bool → Asked → Seen → Seen → Result Told Stop → Type 0
-Tells holds at close asked old new (Ok Told.Answered) =
+abbrev pub SendsReply : Type 0 → ℤ → Bool → Asked → Seen → Seen → Result Told Stop → Type 0
+SendsReply holds at close asked old new (Ok Told.Answered) =
     (reply : Option Reply) × Replies holds at asked old new reply
     × Appends old.sent new.sent (answer_text close asked reply)
-Tells holds at close asked old new (Ok Told.Failed) =
+SendsReply holds at close asked old new (Ok Told.Failed) =
     Fails holds asked old new × Appends old.sent new.sent store_text
-Tells holds at close asked old new (Err stop) =
+SendsReply holds at close asked old new (Err stop) =
     (begun : Begun) × IsBegun holds at close asked old new stop.acted stop.cause begun

@@ -8,12 +8,12 @@ abbrev pub last_reply : ℕ → List ℕ → List ℕ
 last_reply status why = json_form status (why_data why) true
 
 -- to what is refused before its body is read
-unfoldable pub refusal_text : Refusal → List ℕ
-refusal_text Refusal.BadHead = last_reply 400 (codes "bad-head")
-refusal_text Refusal.TooManyFields = last_reply 431 (codes "too-many-fields")
-refusal_text Refusal.TransferCoding = last_reply 501 (codes "transfer-coding")
-refusal_text Refusal.BadLength = last_reply 400 (codes "bad-length")
-refusal_text Refusal.TooLarge = last_reply 413 (codes "too-large")
+unfoldable pub refusal_reply : Refusal → List ℕ
+refusal_reply Refusal.BadHead = last_reply 400 (codes "bad-head")
+refusal_reply Refusal.TooManyFields = last_reply 431 (codes "too-many-fields")
+refusal_reply Refusal.TransferCoding = last_reply 501 (codes "transfer-coding")
+refusal_reply Refusal.BadLength = last_reply 400 (codes "bad-length")
+refusal_reply Refusal.TooLarge = last_reply 413 (codes "too-large")
 
 -- to a message that the desk failed at
 unfoldable pub store_text : List ℕ

@@ -7,9 +7,11 @@ use Rattle.room_http.specs.declared.server.Stop.{Stop}
 use Rattle.room_http.specs.declared.next.NextMessage.{NextMessage}
 use Rattle.room_http.specs.declared.next.Upcoming.{Upcoming}
 use Rattle.room_http.specs.Limits.{max_messages, read_size}
-use Rattle.room_http.specs.Message.{Message, print_message, IsMessage, IsRefused, IsPart, head_of}
-use Rattle.room_http.specs.Stream.{Exchange, IsOpen, exchange_text, Last, Ends, ended_of, last_text}
-use Rattle.room_http.specs.Stream.{last_exchange, Leads, Opens, texts_of}
+use Rattle.room_http.specs.Message.{Message, print_message, IsMessage}
+use Rattle.room_http.specs.Message.{IsRefusedHead, IsPart, head_of}
+use Rattle.room_http.specs.Stream.{Exchange, IsOpen, exchange_text, Last}
+use Rattle.room_http.specs.Stream.{EndsStream, ended_of, last_text}
+use Rattle.room_http.specs.Stream.{last_exchange, RunsExchanges, OpensStream, texts_of}
 use Rattle.room_http.specs.Serve.{Seen, AtEndIf, FaultsRose, Next, IsNext, next_text, next_exchange}
 use Rattle.room_http.specs.Serve.{did_act, Blames, NextRose, IsNearHead, NearLast, NearNext}
 use Rattle.room_http.specs.Spans.{Came}
@@ -39,7 +41,7 @@ pub record WholeNext (buf : List ℕ) (next : NextMessage) : Type 0 where
 abbrev pub Coming : List ℕ → Option (List ℕ) → Upcoming → Type 0
 Coming buf left Upcoming.Clean = IsAtEnd left × (buf ≡ [])
 Coming buf left Upcoming.Cut = IsAtEnd left × IsPart buf
-Coming buf left (Upcoming.Refused refusal) = IsRefused buf refusal
+Coming buf left (Upcoming.Refused refusal) = IsRefusedHead buf refusal
 Coming buf left (Upcoming.Whole next) = WholeNext buf next
 
 -- how far the bytes reach beyond what turned out to be next
@@ -59,7 +61,7 @@ pub record TurnsOpen (holds : Type 0) (at : ℤ) (n : ℕ) (old new : Seen)
   pub came : Came old.left new.left buf_old (print_message x.message ++ buf_new)
   pub near : length buf_new < read_size
   pub writes : Appends old.sent new.sent (exchange_text false x)
-  pub run : holds → Leads old.content at (x ∷ []) new.content
+  pub run : holds → RunsExchanges old.content at (x ∷ []) new.content
   pub faults : new.faults ≡ old.faults
 
 pub record TurnsLast (holds : Type 0) (at : ℤ) (n : ℕ) (old new : Seen) (buf : List ℕ)
@@ -68,11 +70,11 @@ pub record TurnsLast (holds : Type 0) (at : ℤ) (n : ℕ) (old new : Seen) (buf
   pub is : ended ≡ ended_of last
   pub rest : List ℕ
   pub came : Came old.left new.left buf rest
-  pub ends : Ends rest n last
+  pub ends : EndsStream rest n last
   pub near : NearLast last rest
   pub writes : Appends old.sent new.sent (last_text last)
   pub at_end : AtEndIf last new.left
-  pub run : holds → Leads old.content at (last_exchange last) new.content
+  pub run : holds → RunsExchanges old.content at (last_exchange last) new.content
   pub faults : FaultsRose last old.faults new.faults
 
 pub record TurnsStop (holds : Type 0) (at : ℤ) (n : ℕ) (old new : Seen) (buf : List ℕ)
@@ -85,7 +87,7 @@ pub record TurnsStop (holds : Type 0) (at : ℤ) (n : ℕ) (old new : Seen) (buf
   pub writes : WritesSome old.sent new.sent (next_text next)
   pub acted : stop.acted ≡ did_act next
   pub cause : Blames stop.cause next rest writes.0 writes.1
-  pub run : holds → Leads old.content at (next_exchange next) new.content
+  pub run : holds → RunsExchanges old.content at (next_exchange next) new.content
   pub faults : NextRose next old.faults new.faults
 
 abbrev pub Turns : Type 0 → ℤ → ℕ → Seen → Seen → List ℕ → List ℕ → Result (Option Ended) Stop
@@ -101,10 +103,10 @@ pub record Along (holds : Type 0) (at : ℤ) (n : ℕ) (old new : Seen) (buf : L
   pub read : List ℕ
   pub exchanges : List Exchange
   pub reads : Consumes old.left new.left read
-  pub opens : Opens read exchanges buf
+  pub opens : OpensStream read exchanges buf
   pub count : n ≡ length exchanges
   pub few : n < max_messages
   pub near : length buf < read_size
   pub writes : Appends old.sent new.sent (texts_of exchanges)
-  pub run : holds → Leads old.content at exchanges new.content
+  pub run : holds → RunsExchanges old.content at exchanges new.content
   pub faults : new.faults ≡ old.faults

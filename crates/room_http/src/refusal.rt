@@ -1,6 +1,6 @@
 //! Why no message can be read on, and the replies of fixed text.
 ghost use Rattle.std.specs.Prelude.{◌≡◌, IfOk};
-ghost use Rattle.room_http.specs.Text.{refusal_text, store_text};
+ghost use Rattle.room_http.specs.Text.{refusal_reply, store_text};
 
 use http::StatusCode;
 use http_message::print_why;
@@ -22,9 +22,9 @@ pub enum Refusal {
 }
 
 // The reply to what is refused, which ends the connection.
-#[tactic(auto, unfolding(crate::specs::Text::refusal_text))]
+#[tactic(auto, unfolding(crate::specs::Text::refusal_reply))]
 pub(crate) fn refusal_bytes(alloc: Global, refusal: Refusal) -> Result<Vec<u8>, AllocError>
-    ensures { IfOk result (λ text. text.items ≡ refusal_text refusal) }
+    ensures { IfOk result (λ text. text.items ≡ refusal_reply refusal) }
 {
     match refusal {
         Refusal::BadHead => print_why(alloc, StatusCode::BAD_REQUEST, "bad-head", true),

@@ -2,7 +2,7 @@
 ghost use Rattle.std.specs.Option.{option_copied};
 ghost use Rattle.std.specs.Prelude.{Ok};
 ghost use Rattle.http_message.specs.Asked.{request_of};
-ghost use Rattle.room_http.specs.Answer.{Answers, Delivers, Refuses, Responds};
+ghost use Rattle.room_http.specs.Answer.{AnswersMessage, Delivers, RefusesMessage, Responds};
 
 use crate::told::{Answer, Lost, Response};
 use http_message::{Head, HttpFault, Routes, fault_bytes, reply_bytes, request_of};
@@ -22,7 +22,7 @@ pub fn answer<D: Desk>(
     body: &[u8],
     close: bool,
 ) -> Result<Answer, Lost>
-    ensures answers { Answers (D.trusted desk.new × D.sound desk.old) at close
+    ensures answers { AnswersMessage (D.trusted desk.new × D.sound desk.old) at close
         (request_of head.now body.now)
         (D.content desk.old) (D.content desk.new) (D.faults desk.old) (D.faults desk.new) result }
     ensures trusted { D.trusted desk.new → D.trusted desk.old }
@@ -61,7 +61,7 @@ pub(crate) fn respond<D: Desk>(
 
 // The text of the first test that fails.
 fn refused(alloc: Global, fault: HttpFault, close: bool) -> Result<Response, Lost>
-    ensures { Refuses fault close result }
+    ensures { RefusesMessage fault close result }
 {
     match fault_bytes(alloc, fault, close) {
         Ok(text) => Ok(Response::Refused(text)),

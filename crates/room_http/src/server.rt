@@ -5,10 +5,10 @@ ghost use Rattle.std.specs.Io.KnownBytes.{Appends};
 ghost use Rattle.http_message.specs.Asked.{request_of};
 ghost use Rattle.http_message.specs.Close.{asks_close};
 ghost use Rattle.room_http.specs.Limits.{max_fields, max_messages, read_size};
-ghost use Rattle.room_http.specs.Text.{refusal_text};
+ghost use Rattle.room_http.specs.Text.{refusal_reply};
 ghost use Rattle.room_http.specs.Serve.{Connects, Seen, Serves, Stops};
 ghost use Rattle.room_http.specs.Turn.{Turns, WholeNext};
-ghost use Rattle.room_http.specs.Tell.{StopsWithin, Tells};
+ghost use Rattle.room_http.specs.Tell.{StopsWithin, SendsReply};
 
 use crate::cut::drop_front;
 use crate::ended::{Cause, Ended, ServeFault};
@@ -54,7 +54,7 @@ fn tell<W: Write, D: Desk>(
     body: &[u8],
     close: bool,
 ) -> Result<Told, Stop>
-    ensures tells { (left : Option (List ℕ)) → Tells (D.trusted desk.new × D.sound desk.old) at
+    ensures tells { (left : Option (List ℕ)) → SendsReply (D.trusted desk.new × D.sound desk.old) at
         close (request_of head.now body.now)
         (record {
           left = left;
@@ -166,9 +166,9 @@ fn behind_reply(buf: &mut Vec<u8>, end: usize, close: bool) -> Option<Ended>
 // Writes the reply to what is refused.
 fn refuse<W: Write>(alloc: Global, w: &mut W, refusal: Refusal) -> Result<Option<Ended>, Stop>
     ensures ok { IfOk result (λ ended. (ended ≡ Some Ended.Closed)
-        × Appends (W.contents w.old) (W.contents w.new) (refusal_text refusal)) }
+        × Appends (W.contents w.old) (W.contents w.new) (refusal_reply refusal)) }
     ensures err { IfErr result (λ stop. (stop.acted ≡ false)
-        × StopsWithin (W.contents w.old) (W.contents w.new) (refusal_text refusal) stop.cause) }
+        × StopsWithin (W.contents w.old) (W.contents w.new) (refusal_reply refusal) stop.cause) }
 {
     let Ok(text) = refusal_bytes(alloc, refusal) else {
         return Err(Stop {

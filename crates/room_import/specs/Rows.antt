@@ -40,20 +40,21 @@ abbrev pub IsBetween : State → Type 0
 IsBetween state = (state ≡ st.StartRecord) ⊎ (state ≡ st.AfterCr)
 
 -- the reader answers the next row as it stands in the text
-abbrev pub GoesOn : Rows → Type 0
-GoesOn reader =
+abbrev pub ReadsNextRow : Rows → Type 0
+ReadsNextRow reader =
     (reader_trim reader ≡ trim.None) × Ready reader × (reader_config reader ≡ default_config)
     × IsBetween (reader_state reader)
     × (is_flexible reader ≡ true) × (bytes : List ℕ) × (unread reader ≡ Some bytes)
 
 -- what was found of the rows before, and the rows after it
-abbrev pub Took : Rows → Rows → List (List ℕ) → NextRow → Type 0
-Took before after fields End = rows_left before ≡ []
-Took before after fields NotText =
+abbrev pub ReadsRow : Rows → Rows → List (List ℕ) → NextRow → Type 0
+ReadsRow before after fields End = rows_left before ≡ []
+ReadsRow before after fields NotText =
     (row : List (List ℕ)) × (rest : List (List (List ℕ))) × (rows_left before ≡ row ∷ rest)
     × (list_all is_utf8 row ≡ false)
-Took before after fields Text =
-    (rows_left before ≡ fields ∷ rows_left after) × (list_all is_utf8 fields ≡ true) × GoesOn after
+ReadsRow before after fields Text =
+    (rows_left before ≡ fields ∷ rows_left after) × (list_all is_utf8 fields ≡ true)
+    × ReadsNextRow after
 
 -- the two fields of a row that has two
 abbrev pub two_of : List (List ℕ) → Option (List ℕ × List ℕ)
@@ -67,7 +68,7 @@ named number field = if is_name field then Ok field else fault_at number BadName
 -- what reading the header means for the pairs of all rows
 abbrev pub HeaderTaken : Rows → Rows → Result (Unit {0}) (Failure CsvFault) → Type 0
 HeaderTaken before after (Ok done) =
-    (pairs_of_rows (rows_left before) ≡ pairs_after [] 2 (rows_left after)) × GoesOn after
+    (pairs_of_rows (rows_left before) ≡ pairs_after [] 2 (rows_left after)) × ReadsNextRow after
 HeaderTaken before after (Err OutOfMemory) = Unit {0}
 HeaderTaken before after (Err (Fault fault)) = pairs_of_rows (rows_left before) ≡ Err fault
 
@@ -76,7 +77,7 @@ abbrev pub PairTaken : ℕ → Rows → Rows → Result (Option (List ℕ × Lis
     → Type 0
 PairTaken number before after (Ok None) = rows_left before ≡ []
 PairTaken number before after (Ok (Some pair)) =
-    (number ≤ 20001) × GoesOn after
+    (number ≤ 20001) × ReadsNextRow after
     × ((pairs : List (List ℕ × List ℕ))
     → pairs_after pairs number (rows_left before)
     ≡ pairs_after (with_pair pairs pair) (number + 1) (rows_left after))

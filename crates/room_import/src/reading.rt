@@ -5,7 +5,7 @@ ghost use Rattle.csv.specs.Records.{fields_of};
 ghost use Rattle.room_ace.specs.Gives.{Gives};
 ghost use Rattle.room_ace.specs.Pieces.{same_text};
 ghost use Rattle.room_import.specs.Groups.{group_header, groups_in, pair_of};
-ghost use Rattle.room_import.specs.Rows.{GoesOn, HeaderTaken, PairTaken, named};
+ghost use Rattle.room_import.specs.Rows.{ReadsNextRow, HeaderTaken, PairTaken, named};
 
 use crate::fault::{CsvFault, CsvWhy};
 use crate::gathered::Gathered;
@@ -46,7 +46,7 @@ pub fn read_groups(alloc: Global, bytes: &[u8]) -> Result<Pairs, Failure<CsvFaul
 
 // Reads the first row, which has to be the header.
 fn read_header(reader: &mut Reader<&[u8]>, row: &mut StringRecord) -> Result<(), Failure<CsvFault>>
-    requires { GoesOn reader.old }
+    requires { ReadsNextRow reader.old }
     ensures { HeaderTaken reader.old reader.new result }
 {
     match next_row(reader, row)? {
@@ -79,7 +79,7 @@ fn read_pair(
     reader: &mut Reader<&[u8]>,
     row: &mut StringRecord,
 ) -> Result<Option<(Name, Name)>, Failure<CsvFault>>
-    requires { GoesOn reader.old }
+    requires { ReadsNextRow reader.old }
     ensures { PairTaken number reader.old reader.new result }
 {
     let next = next_row(reader, row)?;

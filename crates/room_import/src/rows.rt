@@ -2,7 +2,7 @@
 ghost use Rattle.std.specs.Prelude.{◌≡◌, IfOk, Some, None, option_map};
 ghost use Rattle.csv.specs.Reading.{default_config, strip_bom, records};
 ghost use Rattle.csv.specs.Records.{fields_of};
-ghost use Rattle.room_import.specs.Rows.{GoesOn, Took, rows_left, two_of};
+ghost use Rattle.room_import.specs.Rows.{ReadsNextRow, ReadsRow, rows_left, two_of};
 
 use csv::{ErrorKind, Reader, ReaderBuilder, StringRecord};
 use std::alloc::{AllocError, Global};
@@ -20,7 +20,7 @@ pub(crate) enum NextRow {
 
 /// A reader of the rows of the bytes after a byte order mark.
 pub(crate) fn rows_of(alloc: Global, bytes: &[u8]) -> Reader<&[u8]>
-    ensures goes { GoesOn result }
+    ensures goes { ReadsNextRow result }
     ensures rows { rows_left result ≡ records default_config (strip_bom bytes.now) }
 {
     ReaderBuilder::new()
@@ -34,8 +34,8 @@ pub(crate) fn next_row(
     reader: &mut Reader<&[u8]>,
     row: &mut StringRecord,
 ) -> Result<NextRow, AllocError>
-    requires { GoesOn reader.old }
-    ensures { IfOk result (Took reader.old reader.new (fields_of row.new)) }
+    requires { ReadsNextRow reader.old }
+    ensures { IfOk result (ReadsRow reader.old reader.new (fields_of row.new)) }
 {
     match reader.read_record(row) {
         Ok(true) => Ok(NextRow::Text),

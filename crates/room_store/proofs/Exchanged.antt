@@ -14,17 +14,17 @@ use Rattle.room_machine.specs.Run.{Replaced}
 use Rattle.sqlite.specs.State.{State}
 use Rattle.room_rows.specs.declared.keep.KeepFault.{KeepFault}
 use Rattle.store_tables.specs.Trust.{IsTrusted}
-use Rattle.store_admin.specs.Carries.{ByRows, Carries, NoTables, OnRows}
+use Rattle.store_admin.specs.Carries.{ByRows, CallsInside, NoTables, OnRows}
 use Rattle.store_admin.specs.Operating.{ExchangesMembers, HasPairsAlone, ReplacesMembers}
 use Rattle.room_store.proofs.Leading.{IsEvent}
 
 -- calls that exchange the pairs, in terms of rows
-pub of_rows : (pairs : List (List ℕ × List ℕ)) (begun mid : State) (done : Result (Unit {0}) KeepFault) → Carries begun mid done NoTables (ExchangesMembers pairs)
-    → Carries begun mid done (OnRows (λ _. ⊥)) (ByRows (ReplacesMembers pairs))
+pub of_rows : (pairs : List (List ℕ × List ℕ)) (begun mid : State) (done : Result (Unit {0}) KeepFault) → CallsInside begun mid done NoTables (ExchangesMembers pairs)
+    → CallsInside begun mid done (OnRows (λ _. ⊥)) (ByRows (ReplacesMembers pairs))
 of_rows pairs begun mid (Ok _) carries = record { stays = carries.stays; becomes = λ trust. (carries.becomes trust).0; blames = carries.blames }
 of_rows pairs begun mid (Err why) carries = record { stays = carries.stays; becomes = λ _. tt; blames = carries.blames }
 
-pub pairs_alone : (pairs : List (List ℕ × List ℕ)) (begun mid : State) (done : Result (Unit {0}) KeepFault) → Carries begun mid done NoTables (ExchangesMembers pairs) → IsTrusted begun mid → OnOk done (HasPairsAlone mid.now)
+pub pairs_alone : (pairs : List (List ℕ × List ℕ)) (begun mid : State) (done : Result (Unit {0}) KeepFault) → CallsInside begun mid done NoTables (ExchangesMembers pairs) → IsTrusted begun mid → OnOk done (HasPairsAlone mid.now)
 pairs_alone pairs begun mid (Ok _) carries trust = (carries.becomes trust).1
 pairs_alone pairs begun mid (Err why) carries trust = tt
 

@@ -17,7 +17,7 @@ use Rattle.room_store.specs.declared.fault.StoreFault.{StoreFault}
 use Rattle.room_store.specs.declared.fault.StoreFault.TheVariants.{Memory, Db, Damaged}
 use Rattle.room_store.specs.Premise.{StorePremise}
 use Rattle.room_store.specs.Ran.{LeavesOpen, Looked, Ran}
-use Rattle.store_admin.specs.Carries.{ByRows, Carries, OnRows, Reading}
+use Rattle.store_admin.specs.Carries.{ByRows, CallsInside, OnRows, Reading}
 use Rattle.room_store.specs.Turn.{Finishes, GivesUp, commit_fault, fault_as}
 
 -- a transaction begins
@@ -158,13 +158,13 @@ module _ (old begun mid end : State) (begins : Begins old begun) (stays : Stays 
       damaged = λ premise open' is. damaged premise open' (same_fault is);
     }
 
-    blamed : (why : KeepFault) (fault : StoreFault) → Carries {X = X} begun mid (Err why) (OnRows Blames) (ByRows Becomes) → StorePremise old end → IsTrue mid.is_open → fault ≡ fault_as why → fault ≡ Damaged → Blames (rows_of old.now)
+    blamed : (why : KeepFault) (fault : StoreFault) → CallsInside {X = X} begun mid (Err why) (OnRows Blames) (ByRows Becomes) → StorePremise old end → IsTrue mid.is_open → fault ≡ fault_as why → fault ≡ Damaged → Blames (rows_of old.now)
     blamed why fault carries premise open' is damaged =
         let named = damage_of why (sym is ∙ damaged) in
         let m = made premise.disk open' premise.tables in
         subst (λ db. Blames (rows_of db)) begins.now (carries.blames m.trusted named.0 (ap Err named.1))
 
-    pub ran : (done : Result X KeepFault) (result : Result X StoreFault) → Carries begun mid done (OnRows Blames) (ByRows Becomes) → (HasCleanDisk end → Finishes mid end done result) → Ran old end result Blames Becomes
+    pub ran : (done : Result X KeepFault) (result : Result X StoreFault) → CallsInside begun mid done (OnRows Blames) (ByRows Becomes) → (HasCleanDisk end → Finishes mid end done result) → Ran old end result Blames Becomes
     ran (Ok x) (Ok y) carries ends = committed x y (λ now. (ends now).0) (λ trust. carries.becomes trust) (λ now. (ends now).2)
     ran (Ok x) (Err fault) carries ends =
         given_up fault (λ now open'. was_at open' (ends now).0 (ends now).2) (λ now open' tables. left_at now open' tables (ends now).0 (ends now).2)
@@ -184,7 +184,7 @@ module _ (old begun mid end : State) (begins : Begins old begun) (stays : Stays 
 
   module _ {X : Type 0} (Blames : Database → Type 0) (Answers : Database → X → Type 0) where
     -- the same for calls that only read, and are given up whatever they answer
-    look : (done : Result X KeepFault) → Carries begun mid done Blames (Reading Answers) → (result : Result X StoreFault) → (HasCleanDisk end → IsRolledBack mid end)
+    look : (done : Result X KeepFault) → CallsInside begun mid done Blames (Reading Answers) → (result : Result X StoreFault) → (HasCleanDisk end → IsRolledBack mid end)
         → (StorePremise old end → IsTrue mid.is_open → IfOk result (Answers old.now)) → (StorePremise old end → IsTrue mid.is_open → result ≡ Err Damaged → Blames old.now)
         → Looked old end result Blames Answers
     look done carries result back answer damaged = record {
@@ -194,7 +194,7 @@ module _ (old begun mid end : State) (begins : Begins old begun) (stays : Stays 
       damaged = λ premise open' is. damaged premise ((back premise.disk).was_open open') is;
     }
 
-    pub looked : (done : Result X KeepFault) (result : Result X StoreFault) → Carries begun mid done Blames (Reading Answers) → (HasCleanDisk end → GivesUp mid end done result)
+    pub looked : (done : Result X KeepFault) (result : Result X StoreFault) → CallsInside begun mid done Blames (Reading Answers) → (HasCleanDisk end → GivesUp mid end done result)
         → Looked old end result Blames Answers
     looked (Ok x) (Ok y) carries ends =
         look (Ok x) carries (Ok y) (λ now. (ends now).1)

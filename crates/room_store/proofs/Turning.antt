@@ -8,13 +8,13 @@ use Rattle.store_tables.specs.Meaning.{rows_of}
 use Rattle.store_tables.specs.Shown.{Stays}
 use Rattle.store_tables.specs.Trust.{IsTrusted}
 use Rattle.room_store.specs.Ran.{HasDamage}
-use Rattle.store_admin.specs.Carries.{ByRows, Carries, NoTables, OnRows, Reading}
+use Rattle.store_admin.specs.Carries.{ByRows, CallsInside, NoTables, OnRows, Reading}
 
 pub carried : {X : Type 0} (begun mid : State) (result : Result X KeepFault)
     (Becomes : Rows → X → Rows → Type 0) (before after : ℕ) → Stays begun mid
     → (IsTrusted begun mid → IfOk result (λ answer. Becomes (rows_of begun.now) answer (rows_of mid.now)))
     → IfErr result (HasCause before after (λ at. IsTrusted begun mid → IsDamaged (rows_of begun.now) at))
-    → Carries begun mid result (OnRows HasDamage) (ByRows Becomes)
+    → CallsInside begun mid result (OnRows HasDamage) (ByRows Becomes)
 carried begun mid result Becomes before after stays becomes fault = record {
   stays = stays;
   becomes = becomes;
@@ -26,7 +26,7 @@ pub looked_through : {X : Type 0} (begun mid : State) (result : Result X KeepFau
     (Answers : Rows → X → Type 0) (before after : ℕ) → Stays begun mid
     → (IsTrusted begun mid → IfOk result (Answers (rows_of begun.now)))
     → IfErr result (HasCause before after (λ at. IsTrusted begun mid → ⊥))
-    → Carries begun mid result NoTables (Reading (λ db answer. Answers (rows_of db) answer))
+    → CallsInside begun mid result NoTables (Reading (λ db answer. Answers (rows_of db) answer))
 looked_through begun mid result Answers before after stays answers fault = record {
   stays = stays;
   becomes = answers;

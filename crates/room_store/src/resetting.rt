@@ -3,7 +3,7 @@ ghost use Rattle.std.specs.Prelude.{◌≡◌};
 ghost use Rattle.sqlite.specs.Held.{state};
 ghost use Rattle.room_judge.specs.Judged.{Resets};
 ghost use Rattle.room_store.specs.Ran.{HasDamage, Ran};
-ghost use Rattle.store_admin.specs.Carries.{ByRows, Carries, OnRows};
+ghost use Rattle.store_admin.specs.Carries.{ByRows, CallsInside, OnRows};
 
 use crate::fault::StoreFault;
 use crate::turn::finish;
@@ -25,7 +25,7 @@ fn reset_by<S: Alter>(
 ) -> Result<Reply, KeepFault>
     ensures same_reference { keeper.new.tx.ghost_name ≡ keeper.old.tx.ghost_name }
     ensures same_lender { keeper.new.tx.now.conn.ghost_name ≡ keeper.old.tx.now.conn.ghost_name }
-    ensures carries { Carries (state S.Store keeper.old.tx.now.conn.now)
+    ensures carries { CallsInside (state S.Store keeper.old.tx.now.conn.now)
         (state S.Store keeper.new.tx.now.conn.now) result (OnRows HasDamage)
         (ByRows (Resets path.now which sent.now)) }
 {
@@ -41,7 +41,7 @@ fn reset_inside<S: Alter>(
     sent: &SentList,
 ) -> Result<Reply, KeepFault>
     ensures same_reference { tx.new.conn.ghost_name ≡ tx.old.conn.ghost_name }
-    ensures carries { Carries (state S.Store tx.old.conn.now) (state S.Store tx.new.conn.now)
+    ensures carries { CallsInside (state S.Store tx.old.conn.now) (state S.Store tx.new.conn.now)
         result (OnRows HasDamage) (ByRows (Resets path.now which sent.now)) }
 {
     let mut keeper = Keeper {

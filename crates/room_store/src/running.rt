@@ -4,7 +4,7 @@ ghost use Rattle.std.specs.Option.{option_copied};
 ghost use Rattle.sqlite.specs.Held.{state};
 ghost use Rattle.room_judge.specs.Judged.{Performs};
 ghost use Rattle.room_store.specs.Ran.{HasDamage, Ran};
-ghost use Rattle.store_admin.specs.Carries.{ByRows, Carries, OnRows};
+ghost use Rattle.store_admin.specs.Carries.{ByRows, CallsInside, OnRows};
 
 use crate::fault::StoreFault;
 use crate::turn::finish;
@@ -26,7 +26,7 @@ fn perform_by<S: Alter>(
 ) -> Result<Reply, KeepFault>
     ensures same_reference { keeper.new.tx.ghost_name ≡ keeper.old.tx.ghost_name }
     ensures same_lender { keeper.new.tx.now.conn.ghost_name ≡ keeper.old.tx.now.conn.ghost_name }
-    ensures carries { Carries (state S.Store keeper.old.tx.now.conn.now)
+    ensures carries { CallsInside (state S.Store keeper.old.tx.now.conn.now)
         (state S.Store keeper.new.tx.now.conn.now) result (OnRows HasDamage)
         (ByRows (Performs (option_copied caller.entry) at request.now)) }
 {
@@ -42,7 +42,7 @@ fn perform_inside<S: Alter>(
     request: &Request,
 ) -> Result<Reply, KeepFault>
     ensures same_reference { tx.new.conn.ghost_name ≡ tx.old.conn.ghost_name }
-    ensures carries { Carries (state S.Store tx.old.conn.now) (state S.Store tx.new.conn.now)
+    ensures carries { CallsInside (state S.Store tx.old.conn.now) (state S.Store tx.new.conn.now)
         result (OnRows HasDamage) (ByRows (Performs (option_copied caller.entry) at request.now)) }
 {
     let mut keeper = Keeper {

@@ -3,7 +3,7 @@ ghost use Rattle.std.specs.Prelude.{◌≡◌};
 ghost use Rattle.sqlite.specs.Held.{state};
 ghost use Rattle.room_inherit.specs.Reading.{IsReport};
 ghost use Rattle.room_store.specs.Ran.{Looked};
-ghost use Rattle.store_admin.specs.Carries.{Carries, NoTables, Reading};
+ghost use Rattle.store_admin.specs.Carries.{CallsInside, NoTables, Reading};
 ghost use Rattle.store_tables.specs.Meaning.{rows_of};
 
 use crate::fault::StoreFault;
@@ -18,7 +18,7 @@ use store_tables::Keeper;
 fn verify_by<S: Alter>(alloc: Global, keeper: &mut Keeper<'_, '_, S>) -> Result<Report, KeepFault>
     ensures same_reference { keeper.new.tx.ghost_name ≡ keeper.old.tx.ghost_name }
     ensures same_lender { keeper.new.tx.now.conn.ghost_name ≡ keeper.old.tx.now.conn.ghost_name }
-    ensures carries { Carries (state S.Store keeper.old.tx.now.conn.now)
+    ensures carries { CallsInside (state S.Store keeper.old.tx.now.conn.now)
         (state S.Store keeper.new.tx.now.conn.now) result NoTables
         (Reading (λ db report. IsReport (rows_of db) report)) }
 {
@@ -28,7 +28,7 @@ fn verify_by<S: Alter>(alloc: Global, keeper: &mut Keeper<'_, '_, S>) -> Result<
 // The report, by a keeper inside the transaction.
 fn verify_inside<S: Alter>(alloc: Global, tx: &mut Transaction<'_, S>) -> Result<Report, KeepFault>
     ensures same_reference { tx.new.conn.ghost_name ≡ tx.old.conn.ghost_name }
-    ensures carries { Carries (state S.Store tx.old.conn.now) (state S.Store tx.new.conn.now)
+    ensures carries { CallsInside (state S.Store tx.old.conn.now) (state S.Store tx.new.conn.now)
         result NoTables (Reading (λ db report. IsReport (rows_of db) report)) }
 {
     let mut keeper = Keeper {

@@ -8,7 +8,7 @@ use Rattle.room_dump.specs.Dump.{IsText}
 use Rattle.store_tables.specs.Meaning.{rows_of}
 use Rattle.store_tables.specs.Shown.{Stays}
 use Rattle.store_tables.specs.Trust.{IsTrusted}
-use Rattle.store_admin.specs.Carries.{Carries}
+use Rattle.store_admin.specs.Carries.{CallsInside}
 use Rattle.store_admin.specs.Dump.{HasDamagedRow, TellsObjects}
 
 -- the text of all objects, by the keeper
@@ -16,7 +16,7 @@ pub told_objects : (begun mid : State) (result : Result (String Global) KeepFaul
     → (IsTrusted begun mid → IfSeen result (rows_of mid.now ≡ rows_of begun.now))
     → (IsTrusted begun mid → IfOk result (λ text. IsText (rows_of begun.now) (string_bytes text)))
     → IfErr result (HasCause before after (λ at. IsTrusted begun mid → IsDamaged (rows_of begun.now) at))
-    → Carries begun mid result HasDamagedRow TellsObjects
+    → CallsInside begun mid result HasDamagedRow TellsObjects
 told_objects begun mid (Ok text) before after stays same answers fault = record {
   stays = stays;
   becomes = λ trust. (answers trust, same trust);

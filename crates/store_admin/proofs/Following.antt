@@ -4,15 +4,15 @@ use Rattle.sqlite.specs.State.{State}
 use Rattle.room_rows.specs.declared.keep.KeepFault.{KeepFault}
 use Rattle.store_tables.specs.Meaning.{pairs_of}
 use Rattle.store_tables.specs.Paired.{Pair}
-use Rattle.store_tables.specs.Statements.{OfAny, Writes}
+use Rattle.store_tables.specs.Statements.{OfAny, ExecutesSql}
 use Rattle.store_tables.specs.Trust.{stays_on, trusted_first, trusted_last}
-use Rattle.store_admin.specs.Carries.{Carries, NoTables}
+use Rattle.store_admin.specs.Carries.{CallsInside, NoTables}
 use Rattle.store_admin.specs.Operating.{Exchanges, ExchangesMembers, Gathers}
 use Rattle.store_admin.proofs.Gathering.{replaced}
 
 pub gathered : (a b c : State) (before mid after : List Pair) (r : Result (Unit {0}) KeepFault)
-    → Carries {X = Unit {0}} a b (Ok tt) NoTables (Gathers before mid)
-    → Carries b c r NoTables (Gathers mid after) → Carries a c r NoTables (Gathers before after)
+    → CallsInside {X = Unit {0}} a b (Ok tt) NoTables (Gathers before mid)
+    → CallsInside b c r NoTables (Gathers mid after) → CallsInside a c r NoTables (Gathers before after)
 gathered a b c before mid after (Ok done) p q = record {
   stays = stays_on a b c p.stays q.stays;
   becomes = λ trust held.
@@ -35,8 +35,8 @@ gathered a b c before mid after (Err fault) p q = record {
 
 pub exchanged : (pairs order : List Pair) (a b c : State) (count : ℕ)
     (r : Result (Unit {0}) KeepFault) → IsPermutation pairs order
-    → Writes (OfAny (Exchanges [])) a b (Ok count) → Carries b c r NoTables (Gathers [] order)
-    → Carries a c r NoTables (ExchangesMembers pairs)
+    → ExecutesSql (OfAny (Exchanges [])) a b (Ok count) → CallsInside b c r NoTables (Gathers [] order)
+    → CallsInside a c r NoTables (ExchangesMembers pairs)
 exchanged pairs order a b c count (Ok done) moved w q = record {
   stays = stays_on a b c w.stays q.stays;
   becomes = λ trust.

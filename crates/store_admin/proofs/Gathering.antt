@@ -21,7 +21,7 @@ use Rattle.store_tables.specs.Paired.{Pair, pair_cmp}
 use Rattle.store_tables.specs.RoomRows.{set_sorted}
 use Rattle.store_tables.proofs.Removed.{same_rows}
 use Rattle.store_tables.proofs.Rowids.{is_equal}
-use Rattle.store_admin.specs.Operating.{Exchanges, ExchangesMembers, Holds, are_pairs, stored_pair}
+use Rattle.store_admin.specs.Operating.{Exchanges, ExchangesMembers, HoldsPairs, are_pairs, stored_pair}
 use Rattle.store_admin.proofs.Members.{reads}
 use Rattle.store_admin.proofs.Sets.{has, has_first, has_set, is_at, or_swap, same_pair, same_sets}
 use Rattle.store_admin.proofs.Sets.{set_moved}
@@ -184,7 +184,7 @@ read_pair id group user a b = rw (a, b) refl
 
 -- all pairs are taken out, and then these are put in, in any order
 pub replaced : (pairs order : List Pair) (old mid new : Database) → IsPermutation pairs order
-    → Exchanges [] old.trees mid.trees → Holds order mid.trees new.trees
+    → Exchanges [] old.trees mid.trees → HoldsPairs order mid.trees new.trees
     → ExchangesMembers pairs old tt new
 replaced pairs order old mid new moved gone held = (
   same_rows (ap nodes_of (held.nodes ∙ gone.nodes)) (ap unread_of (held.nodes ∙ gone.nodes))

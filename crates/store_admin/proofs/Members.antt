@@ -18,7 +18,7 @@ use Rattle.sqlite_keyed.proofs.SortLemmas.{IsPermutation-sort_by}
 use Rattle.sqlite_tied.specs.Compute.{everything}
 use Rattle.room_rows.specs.Content.{set_of}
 use Rattle.store_tables.specs.Meaning.{pair_in}
-use Rattle.store_admin.specs.Operating.{HasMembers, by_pair, pair_seen, pairs_seen, shown_pair}
+use Rattle.store_admin.specs.Operating.{ShowsMembers, by_pair, pair_seen, pairs_seen, shown_pair}
 use Rattle.store_tables.specs.Paired.{Pair, pair_cmp}
 use Rattle.store_tables.specs.RoomRows.{set_sorted}
 use Rattle.store_tables.specs.Shown.{IsRoom}
@@ -52,7 +52,7 @@ all_kept : {X : Type 0} (l : List X) → filter (λ r. true) l ≡ l
 all_kept [] = refl
 all_kept (x ∷ l) = ap (λ m. x ∷ m) (all_kept l)
 
-pub shows_members : (old new : State) (rows : List Row) → IsRoom old.now → Shown members_text [] old new rows → HasMembers old.now.trees rows
+pub shows_members : (old new : State) (rows : List Row) → IsRoom old.now → Shown members_text [] old new rows → ShowsMembers old.now.trees rows
 shows_members old new rows room h =
     let read = reads_as members_text [] old new room_schema room.schema (selects asked names) members_is.0 plain_members members_is.1 rows h in
     let all = all_kept (old.now.trees 3) in

@@ -11,7 +11,7 @@ use Rattle.store_tables.specs.Trust.{IsTrusted}
 
 -- Over a room's tables an answer says what became of them, and `Damaged` comes for tables that the
 -- relation names.
-pub record Carries {X : Type 0} (begun mid : State) (result : Result X KeepFault)
+pub record CallsInside {X : Type 0} (begun mid : State) (result : Result X KeepFault)
     (Blames : Database → Type 0) (Becomes : Database → X → Database → Type 0) : Type 0 where
   pub stays : Stays begun mid
   pub becomes : IsTrusted begun mid → IfOk result (λ answer. Becomes begun.now answer mid.now)

@@ -56,8 +56,8 @@ by_pair a b =
     ordering_then (value_cmp (column a 1) (column b 1)) (value_cmp (column a 2) (column b 2))
 
 -- all rows, in order of group and then of user
-abbrev pub HasMembers : Trees → List Row → Type 0
-HasMembers db rows = rows ≡ map shown_pair (sort_by by_pair (db 3))
+abbrev pub ShowsMembers : Trees → List Row → Type 0
+ShowsMembers db rows = rows ≡ map shown_pair (sort_by by_pair (db 3))
 
 abbrev pub pair_seen : Row → Option (List ℕ × List ℕ)
 pair_seen r = option_and_then (λ group. option_map (λ user. (group, user)) (name_in (column r 1)))
@@ -98,7 +98,7 @@ pub record Joins (group user : List ℕ) (db next : Trees) : Type 0 where
   pub puts : Exchanges (put_row (stored_pair id group user) (db 3)) db next
 
 -- The rows of members mean the set of these pairs, and the other tables of rows are as they were.
-pub record Holds (pairs : List (List ℕ × List ℕ)) (db next : Trees) : Type 0 where
+pub record HoldsPairs (pairs : List (List ℕ × List ℕ)) (db next : Trees) : Type 0 where
   pub nodes : next 0 ≡ db 0
   pub bodies : next 2 ≡ db 2
   pub members : pairs_of (next 3) ≡ set_of pairs
@@ -110,4 +110,4 @@ pub record Holds (pairs : List (List ℕ × List ℕ)) (db next : Trees) : Type 
 abbrev pub Gathers : List (List ℕ × List ℕ) → List (List ℕ × List ℕ)
     → Database → Unit {0} → Database → Type 0
 Gathers before after old answer new =
-    pairs_of (old.trees 3) ≡ set_of before → Holds after old.trees new.trees
+    pairs_of (old.trees 3) ≡ set_of before → HoldsPairs after old.trees new.trees

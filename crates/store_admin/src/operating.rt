@@ -2,12 +2,12 @@
 ghost use Rattle.std.specs.Prelude.{◌≡◌, [], IfOk};
 ghost use Rattle.sqlite.specs.Held.{state};
 ghost use Rattle.store_tables.specs.Paired.{pair_cmp};
-ghost use Rattle.store_tables.specs.Statements.{Asks, OfAny, Writes};
-ghost use Rattle.store_admin.specs.Carries.{Carries, NoTables, Reading};
+ghost use Rattle.store_tables.specs.Statements.{QueriesSql, OfAny, ExecutesSql};
+ghost use Rattle.store_admin.specs.Carries.{CallsInside, NoTables, Reading};
 ghost use Rattle.store_admin.specs.Operating.{
   AreMembers,
   Exchanges,
-  HasMembers,
+  ShowsMembers,
   Joins,
   pair_seen,
   pairs_seen,
@@ -23,7 +23,7 @@ use store_tables::{name_of, value_at, wants_memory};
 // All pairs, in order.
 fn select_members<S: Alter>(tx: &mut Transaction<'_, S>) -> Result<Vec<Row>, Error>
     ensures same_reference { tx.new.conn.ghost_name ≡ tx.old.conn.ghost_name }
-    ensures asks { Asks HasMembers
+    ensures asks { QueriesSql ShowsMembers
         (state S.Store tx.old.conn.now) (state S.Store tx.new.conn.now) result }
 {
     tx.query_all(
@@ -35,7 +35,7 @@ fn select_members<S: Alter>(tx: &mut Transaction<'_, S>) -> Result<Vec<Row>, Err
 /// Takes all rows of members out.
 pub(crate) fn delete_members<S: Alter>(tx: &mut Transaction<'_, S>) -> Result<usize, Error>
     ensures same_reference { tx.new.conn.ghost_name ≡ tx.old.conn.ghost_name }
-    ensures writes { Writes (OfAny (Exchanges []))
+    ensures writes { ExecutesSql (OfAny (Exchanges []))
         (state S.Store tx.old.conn.now) (state S.Store tx.new.conn.now) result }
 {
     tx.execute("DELETE FROM members", params![])
@@ -48,7 +48,7 @@ pub(crate) fn insert_member<S: Alter>(
     user: &str,
 ) -> Result<usize, Error>
     ensures same_reference { tx.new.conn.ghost_name ≡ tx.old.conn.ghost_name }
-    ensures writes { Writes (OfAny (Joins group.now user.now))
+    ensures writes { ExecutesSql (OfAny (Joins group.now user.now))
         (state S.Store tx.old.conn.now) (state S.Store tx.new.conn.now) result }
 {
     tx.execute(
@@ -102,7 +102,7 @@ pub fn all_members<S: Alter>(
     tx: &mut Transaction<'_, S>,
 ) -> Result<Vec<(Name, Name)>, KeepFault>
     ensures same_reference { tx.new.conn.ghost_name ≡ tx.old.conn.ghost_name }
-    ensures carries { Carries (state S.Store tx.old.conn.now) (state S.Store tx.new.conn.now)
+    ensures carries { CallsInside (state S.Store tx.old.conn.now) (state S.Store tx.new.conn.now)
         result NoTables (Reading (λ db pairs. AreMembers db pairs.items)) }
 {
     let rows = match select_members(tx) {

@@ -6,8 +6,8 @@ ghost use Rattle.sqlite.specs.Held.{state};
 ghost use Rattle.sqlite.specs.declared.types.Value.TheVariants.{Text as SqlText};
 ghost use Rattle.store_tables.specs.Meaning.{name_in};
 ghost use Rattle.store_tables.specs.Paired.{pair_cmp};
-ghost use Rattle.store_tables.specs.Statements.{OfAny, Writes};
-ghost use Rattle.store_admin.specs.Carries.{Carries, NoTables};
+ghost use Rattle.store_tables.specs.Statements.{OfAny, ExecutesSql};
+ghost use Rattle.store_admin.specs.Carries.{CallsInside, NoTables};
 ghost use Rattle.store_admin.specs.Operating.{ExchangesMembers, Gathers, Joins};
 
 use crate::operating::{compare, delete_members, insert_member};
@@ -45,7 +45,7 @@ fn is_read_back(pair: &(Name, Name))
 // Puts in a row with the pair.
 fn insert_pair<S: Alter>(tx: &mut Transaction<'_, S>, pair: &(Name, Name)) -> Result<usize, Error>
     ensures same_reference { tx.new.conn.ghost_name ≡ tx.old.conn.ghost_name }
-    ensures writes { Writes (OfAny (Joins pair.now.0 pair.now.1))
+    ensures writes { ExecutesSql (OfAny (Joins pair.now.0 pair.now.1))
         (state S.Store tx.old.conn.now) (state S.Store tx.new.conn.now) result }
 {
     insert_member(tx, pair.0.as_str(), pair.1.as_str())
@@ -66,7 +66,7 @@ fn insert_at<S: Alter>(
 ) -> Result<(), KeepFault>
     requires { at < length order.now }
     ensures same_reference { tx.new.conn.ghost_name ≡ tx.old.conn.ghost_name }
-    ensures carries { Carries (state S.Store tx.old.conn.now) (state S.Store tx.new.conn.now)
+    ensures carries { CallsInside (state S.Store tx.old.conn.now) (state S.Store tx.new.conn.now)
         result NoTables (Gathers (take at (map (λ pair. pair.now) order.now))
         (take (at + 1) (map (λ pair. pair.now) order.now))) }
 {
@@ -88,7 +88,7 @@ fn insert_each<S: Alter>(
     order: &[&(Name, Name)],
 ) -> Result<(), KeepFault>
     ensures same_reference { tx.new.conn.ghost_name ≡ tx.old.conn.ghost_name }
-    ensures carries { Carries (state S.Store tx.old.conn.now) (state S.Store tx.new.conn.now)
+    ensures carries { CallsInside (state S.Store tx.old.conn.now) (state S.Store tx.new.conn.now)
         result NoTables (Gathers [] (map (λ pair. pair.now) order.now)) }
 {
     for at in 0..order.len() {
@@ -104,7 +104,7 @@ pub fn put_members<S: Alter>(
     pairs: &[(Name, Name)],
 ) -> Result<(), KeepFault>
     ensures same_reference { tx.new.conn.ghost_name ≡ tx.old.conn.ghost_name }
-    ensures carries { Carries (state S.Store tx.old.conn.now) (state S.Store tx.new.conn.now)
+    ensures carries { CallsInside (state S.Store tx.old.conn.now) (state S.Store tx.new.conn.now)
         result NoTables (ExchangesMembers pairs.now) }
 {
     let order = in_order(alloc, pairs)?;

@@ -6,8 +6,8 @@ ghost use Rattle.sqlite.specs.declared.types.Value.TheVariants.{Int};
 ghost use Rattle.sqlite_value.specs.Value.{owned};
 ghost use Rattle.store_tables.specs.Meaning.{granted_in, mask_in, moment_in, path_in, place_in};
 ghost use Rattle.store_tables.specs.Meaning.{user_in};
-ghost use Rattle.store_tables.specs.Statements.{Asks};
-ghost use Rattle.store_admin.specs.Carries.{Carries, Reading};
+ghost use Rattle.store_tables.specs.Statements.{QueriesSql};
+ghost use Rattle.store_admin.specs.Carries.{CallsInside, Reading};
 ghost use Rattle.store_admin.specs.Operating.{
   AreRecords,
   HasRecords,
@@ -25,7 +25,7 @@ use store_tables::{name_of, text_at, value_at, wants_memory};
 // All records, in the order in which they were added.
 fn select_records<S: Alter>(tx: &mut Transaction<'_, S>) -> Result<Vec<Row>, Error>
     ensures same_reference { tx.new.conn.ghost_name ≡ tx.old.conn.ghost_name }
-    ensures asks { Asks HasRecords
+    ensures asks { QueriesSql HasRecords
         (state S.Store tx.old.conn.now) (state S.Store tx.new.conn.now) result }
 {
     tx.query_all(
@@ -170,7 +170,7 @@ pub fn all_records<S: Alter>(
     tx: &mut Transaction<'_, S>,
 ) -> Result<Vec<AuditRow>, KeepFault>
     ensures same_reference { tx.new.conn.ghost_name ≡ tx.old.conn.ghost_name }
-    ensures carries { Carries (state S.Store tx.old.conn.now) (state S.Store tx.new.conn.now)
+    ensures carries { CallsInside (state S.Store tx.old.conn.now) (state S.Store tx.new.conn.now)
         result HasUnreadRecord (Reading (λ db records. AreRecords db records.items)) }
 {
     let rows = match select_records(tx) {

@@ -1,7 +1,7 @@
 //! The text of a room.
 ghost use Rattle.std.specs.Prelude.{◌≡◌, string_bytes};
 ghost use Rattle.sqlite.specs.Held.{state};
-ghost use Rattle.store_admin.specs.Carries.{Carries, NoTables, Reading};
+ghost use Rattle.store_admin.specs.Carries.{CallsInside, NoTables, Reading};
 ghost use Rattle.store_admin.specs.Dump.{AddsMembers, HasDamagedRow, IsDump, TellsObjects};
 
 use crate::operating::all_members;
@@ -15,7 +15,7 @@ use store_tables::Keeper;
 fn objects_by<S: Alter>(alloc: Global, keeper: &mut Keeper<'_, '_, S>) -> Result<String, KeepFault>
     ensures same_reference { keeper.new.tx.ghost_name ≡ keeper.old.tx.ghost_name }
     ensures same_lender { keeper.new.tx.now.conn.ghost_name ≡ keeper.old.tx.now.conn.ghost_name }
-    ensures carries { Carries (state S.Store keeper.old.tx.now.conn.now)
+    ensures carries { CallsInside (state S.Store keeper.old.tx.now.conn.now)
         (state S.Store keeper.new.tx.now.conn.now) result HasDamagedRow TellsObjects }
 {
     dump(alloc, keeper)
@@ -24,7 +24,7 @@ fn objects_by<S: Alter>(alloc: Global, keeper: &mut Keeper<'_, '_, S>) -> Result
 // The text of all objects, by a keeper inside the transaction.
 fn objects_inside<S: Alter>(alloc: Global, tx: &mut Transaction<'_, S>) -> Result<String, KeepFault>
     ensures same_reference { tx.new.conn.ghost_name ≡ tx.old.conn.ghost_name }
-    ensures carries { Carries (state S.Store tx.old.conn.now) (state S.Store tx.new.conn.now)
+    ensures carries { CallsInside (state S.Store tx.old.conn.now) (state S.Store tx.new.conn.now)
         result HasDamagedRow TellsObjects }
 {
     let mut keeper = Keeper {
@@ -43,7 +43,7 @@ fn add_members<S: Alter>(
     text: &mut String,
 ) -> Result<(), KeepFault>
     ensures same_reference { tx.new.conn.ghost_name ≡ tx.old.conn.ghost_name }
-    ensures carries { Carries (state S.Store tx.old.conn.now) (state S.Store tx.new.conn.now)
+    ensures carries { CallsInside (state S.Store tx.old.conn.now) (state S.Store tx.new.conn.now)
         result NoTables
         (Reading (AddsMembers (string_bytes text.old) (string_bytes text.new))) }
 {
@@ -55,7 +55,7 @@ fn add_members<S: Alter>(
 /// `Damaged` only for a damaged row.
 pub fn dump_all<S: Alter>(alloc: Global, tx: &mut Transaction<'_, S>) -> Result<String, KeepFault>
     ensures same_reference { tx.new.conn.ghost_name ≡ tx.old.conn.ghost_name }
-    ensures carries { Carries (state S.Store tx.old.conn.now) (state S.Store tx.new.conn.now)
+    ensures carries { CallsInside (state S.Store tx.old.conn.now) (state S.Store tx.new.conn.now)
         result HasDamagedRow (Reading IsDump) }
 {
     let mut text = objects_inside(alloc, tx)?;

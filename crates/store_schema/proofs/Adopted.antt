@@ -6,7 +6,7 @@ use Rattle.sqlite.specs.State.{State, HasCleanDisk, IsRolledBack}
 use Rattle.sqlite.specs.Schema.{Schema}
 use Rattle.store_tables.specs.Tables.{no_schema, room_schema}
 use Rattle.store_schema.specs.NewRoom.{meta_of}
-use Rattle.store_schema.specs.Opening.{Adopts, Expects, IsRefusal, Says, Tells}
+use Rattle.store_schema.specs.Opening.{Adopts, Expects, IsRefusal, Says, AnswersVersion}
 use Rattle.store_schema.specs.Within.{IsWithin}
 use Rattle.store_schema.specs.declared.fault.OpenFault.{OpenFault}
 use Rattle.store_schema.proofs.Founded.{Begins}
@@ -19,7 +19,7 @@ module _ (old begun mid end : State) (begins : Begins old begun) (ended : end.in
     open_first : HasCleanDisk end → IsTrue end.is_open → IsTrue old.is_open
     open_first now open' = sym begins.same_open ∙ within.was_open (clean_mid now) ((back now).was_open open')
 
-    adopts : (r : Result (Unit {0}) OpenFault) → (HasCleanDisk end → old.now.schema ≡ room_schema → Says (pos 2) (meta_of old.now) r) → (HasCleanDisk end → old.now.schema ≡ no_schema → IsErrAnd r IsRefusal) → (HasCleanDisk end → Tells (pos 2) begun.now r × OnOk r (IsTrue begun.is_open)) → Adopts old end r
+    adopts : (r : Result (Unit {0}) OpenFault) → (HasCleanDisk end → old.now.schema ≡ room_schema → Says (pos 2) (meta_of old.now) r) → (HasCleanDisk end → old.now.schema ≡ no_schema → IsErrAnd r IsRefusal) → (HasCleanDisk end → AnswersVersion (pos 2) begun.now r × OnOk r (IsTrue begun.is_open)) → Adopts old end r
     adopts r told empty shown = record {
       ended = ended;
       clean = let same : doubt begun.is_clean ≡ doubt old.is_clean = ap doubt begins.same_clean in omega (arith, same, within.clean, clean);
@@ -29,7 +29,7 @@ module _ (old begun mid end : State) (begins : Begins old begun) (ended : end.in
           let same = within.committed (clean_mid now) ((back now).was_open open') ∙ begins.committed in
           (undone.0 ∙ same ∙ sym (begins.settled (open_first now open')), undone.1 ∙ same);
       answers = λ now. subst (λ b. OnOk r (IsTrue b)) begins.same_open (shown now).1;
-      shown = λ now. subst (λ d. Tells (pos 2) d r) begins.now (shown now).0;
+      shown = λ now. subst (λ d. AnswersVersion (pos 2) d r) begins.now (shown now).0;
       told = told;
       empty = empty;
     }

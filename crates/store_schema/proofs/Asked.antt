@@ -26,7 +26,7 @@ use Rattle.sqlite.specs.State.{State, HasCleanDisk, Shown, ShowsRows, FailsToQue
 use Rattle.sqlite.proofs.Callers.{IsPlain, command_of, one_permutation, reads_as}
 use Rattle.store_tables.specs.Tables.{no_schema, room_schema}
 use Rattle.store_schema.specs.NewRoom.{is_version, meta_of, number_shown}
-use Rattle.store_schema.specs.Opening.{AsksVersion, Expects, IsCalled, IsFailure, IsRefusal, ReadsAs, Says, ShowsVersion, Tells, number_text}
+use Rattle.store_schema.specs.Opening.{AsksVersion, Expects, IsCalled, IsFailure, IsRefusal, ReadsAs, Says, ShowsVersion, AnswersVersion, number_text}
 use Rattle.store_schema.specs.Within.{IsWithin}
 use Rattle.store_schema.specs.declared.fault.OpenFault.{OpenFault}
 use Rattle.store_schema.specs.declared.fault.OpenFault.TheVariants.{NotRooms, OldVersion, NewVersion, Db, Memory}
@@ -193,7 +193,7 @@ shown_open : (old new : State) (sql : List ℕ) (params : Row) (rows : List Row)
 unfolding Shown
 shown_open old new sql params rows h = open_as old new sql h.0 _ rows h.0.returning h.2
 
-tells_by : (wanted : ℤ) (version : Option ℤ) (db : Database) (r : Result (Unit {0}) OpenFault) → Says wanted version r → ShowsVersion version db → Tells wanted db r
+tells_by : (wanted : ℤ) (version : Option ℤ) (db : Database) (r : Result (Unit {0}) OpenFault) → Says wanted version r → ShowsVersion version db → AnswersVersion wanted db r
 tells_by wanted version db (Ok x) says shows = subst (λ v. ShowsVersion v db) says shows
 tells_by wanted version db (Err NotRooms) says shows = tt
 tells_by wanted version db (Err (OldVersion n)) says shows = (subst (λ v. ShowsVersion v db) says.0 shows, says.1)
@@ -255,7 +255,7 @@ expects_ok wanted old new version r asks says = record {
     on_ok (Err e) same = tt
 
 -- a query that failed answers no number
-no_number : (wanted : ℤ) (db : Database) (fault : OpenFault) → IsRefusal fault → Tells wanted db (Err fault)
+no_number : (wanted : ℤ) (db : Database) (fault : OpenFault) → IsRefusal fault → AnswersVersion wanted db (Err fault)
 no_number wanted db NotRooms it = tt
 no_number wanted db (OldVersion n) it = absurd it
 no_number wanted db (NewVersion n) it = absurd it

@@ -9,7 +9,7 @@ use Rattle.store_tables.specs.Tables.{no_schema}
 use Rattle.store_schema.specs.Within.{IsWithin}
 use Rattle.store_tables.specs.Shown.{HasTables, IsRoom, room_of}
 use Rattle.store_schema.specs.Opening.{IsFailure, Says, ShowsVersion}
-use Rattle.store_schema.specs.Raising.{IsInside, IsNoRoom, Leads, Migrates}
+use Rattle.store_schema.specs.Raising.{IsInside, IsNoRoom, UpgradesTables, Migrates}
 use Rattle.store_schema.specs.NewRoom.{meta_of}
 use Rattle.store_schema.specs.declared.fault.MigrateFault.{MigrateFault}
 use Rattle.store_schema.specs.declared.fault.MigrateFault.TheVariants.{Opening, Unsound}
@@ -55,7 +55,7 @@ module _ (old begun mid end : State) (begins : Begins old begun) (sound : IsTrue
     empty_mid now has = within.empty (clean_mid now) (ap (λ (d : Database). d.schema) begins.now ∙ has)
 
     given_up : (e : MigrateFault) → (HasCleanDisk end → IsTrue end.is_open → IsTrue mid.is_open)
-        → (HasCleanDisk end → IsTrue end.is_open → HasTables old.now → Leads old.now end.now (Err e))
+        → (HasCleanDisk end → IsTrue end.is_open → HasTables old.now → UpgradesTables old.now end.now (Err e))
         → (HasCleanDisk end → IsTrue end.is_open → HasTables old.now → (end.now ≡ old.committed) × (end.committed ≡ old.committed))
         → (HasCleanDisk end → IsTrue end.is_open → ¬ (ShowsVersion (Some (pos 1)) old.now) → (end.now ≡ old.committed) × (end.committed ≡ old.committed))
         → (HasCleanDisk end → old.now.schema ≡ no_schema → IsNoRoom e) → Migrates old end (Err e)
@@ -113,9 +113,9 @@ module _ (old begun mid end : State) (begins : Begins old begun) (sound : IsTrue
             (same.0.now_is ∙ settled ∙ kept, same.0.committed_is ∙ kept)
 
   -- a fault says only what was there before
-  told_before : (e : MigrateFault) (db : Database) → Leads begun.now mid.now (Err e) → Leads old.now db (Err e)
+  told_before : (e : MigrateFault) (db : Database) → UpgradesTables begun.now mid.now (Err e) → UpgradesTables old.now db (Err e)
   told_before (Opening fault) db leads = subst (λ d. Says (pos 1) (meta_of d) (Err fault)) begins.now leads
-  told_before (Unsound path why) db leads = subst (λ d. Leads d db (Err (Unsound path why))) begins.now leads
+  told_before (Unsound path why) db leads = subst (λ d. UpgradesTables d db (Err (Unsound path why))) begins.now leads
 
   pub undone : (e : MigrateFault) → IsInside begun mid (Err e) → (HasCleanDisk end → IsRolledBack mid end) → Migrates old end (Err e)
   undone e within back =
@@ -134,7 +134,7 @@ module _ (old begun mid end : State) (begins : Begins old begun) (sound : IsTrue
     leads = λ now open' tables.
         let shows = (ok now).1 in
         let leads = within.leads (clean_mid within now) shows.was_open (room_committed within now shows.was_open tables) (room_now within now shows.was_open tables) in
-        subst (λ d. Leads d end.now (Ok tt)) begins.now (subst (λ d. Leads begun.now d (Ok tt)) (sym shows.now_is) leads);
+        subst (λ d. UpgradesTables d end.now (Ok tt)) begins.now (subst (λ d. UpgradesTables begun.now d (Ok tt)) (sym shows.now_is) leads);
     committed = λ now. (ok now).1.committed_is ∙ sym (ok now).1.now_is;
     answers = λ now. (open_first within now (ok now).1.was_open, (ok now).1.is_open);
     foreign = λ now _ none. absurd (within_mid within now none).1;

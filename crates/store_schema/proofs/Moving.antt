@@ -15,7 +15,7 @@ use Rattle.store_tables.specs.Trust.{IsTrusted}
 use Rattle.store_schema.specs.NewRoom.{meta_of}
 use Rattle.store_schema.specs.Opening.{Expects, IsFailure, Says, ShowsVersion}
 use Rattle.room_inherit.specs.Kept.{kept_report_of}
-use Rattle.store_schema.specs.Raising.{AreRaised, IsInside, IsNoRoom, IsRaised, Leads, SpreadIsRaised, Stamps}
+use Rattle.store_schema.specs.Raising.{AreRaised, IsInside, IsNoRoom, IsRaised, UpgradesTables, SpreadIsRaised, Stamps}
 use Rattle.store_schema.specs.Within.{IsWithin}
 use Rattle.store_schema.specs.declared.fault.MigrateFault.{MigrateFault}
 use Rattle.store_schema.specs.declared.fault.MigrateFault.TheVariants.{Opening, Unsound}
@@ -70,7 +70,7 @@ by_failure db (NewVersion n) it = absurd it
 by_failure db Db it = tt
 by_failure db Memory it = tt
 
-inside_by : (a b : State) (r : Result (Unit {0}) MigrateFault) → Moves a b → (HasCleanDisk b → IsTrue b.is_open → IsRoom a.committed → IsRoom a.now → Leads a.now b.now r)
+inside_by : (a b : State) (r : Result (Unit {0}) MigrateFault) → Moves a b → (HasCleanDisk b → IsTrue b.is_open → IsRoom a.committed → IsRoom a.now → UpgradesTables a.now b.now r)
     → (HasCleanDisk b → ShowsVersion (Some (pos 1)) a.now ⊎ (IsWithin a b × IsErrAnd r (λ _. Unit {0}))) → (HasCleanDisk b → a.now.schema ≡ no_schema → IsErrAnd r IsNoRoom) → IsInside a b r
 inside_by a b r moves leads foreign empty = record { clean = moves.clean; was_open = moves.was_open; committed = moves.committed; settled = moves.settled; leads = leads; foreign = foreign; empty = empty }
 
@@ -90,7 +90,7 @@ module _ (begun : State) (inside : IsTrue begun.in_transaction) where
     not_empty mid r up now has = absurd (expects.empty (clean_before asked mid up now) has)
 
     by_steps : (mid : State) (r : Result (Unit {0}) MigrateFault) → doubt asked.is_clean ≤ doubt mid.is_clean → Moves begun mid
-        → (HasCleanDisk mid → IsTrue mid.is_open → IsRoom begun.committed → IsRoom begun.now → Leads begun.now mid.now r) → IsInside begun mid r
+        → (HasCleanDisk mid → IsTrue mid.is_open → IsRoom begun.committed → IsRoom begun.now → UpgradesTables begun.now mid.now r) → IsInside begun mid r
     by_steps mid r up moves leads = inside_by begun mid r moves leads (known mid r up) (not_empty mid r up)
 
     first : Moves begun asked
@@ -168,7 +168,7 @@ module _ (begun : State) (inside : IsTrue begun.in_transaction) where
           pub all_done : SpreadIsRaised → (end : State) → Expects (pos 2) stamped end (Ok tt) → IsInside begun end (Ok tt)
           all_done raised_so end again = by_steps end (Ok tt) (omega (arith, stays.clean, stamps.within.clean, again.clean)) (all end (Ok tt) again) leads
             where
-              leads : HasCleanDisk end → IsTrue end.is_open → IsRoom begun.committed → IsRoom begun.now → Leads begun.now end.now (Ok tt)
+              leads : HasCleanDisk end → IsTrue end.is_open → IsRoom begun.committed → IsRoom begun.now → UpgradesTables begun.now end.now (Ok tt)
               leads now open' one two =
                   let now3 = clean_before stamped end again.clean now in
                   let open3 = (last end (Ok tt) again).was_open now open' in

@@ -1,5 +1,6 @@
 -- What opening a room is.
-use Rattle.std.specs.Prelude.{◌≡◌, ◌≤◌, ◌<ℤ◌, ℕ, ℤ, pos, List, [], Option, Some, None, Result, Ok, Err}
+use Rattle.std.specs.Prelude.{◌≡◌, ◌≤◌, ◌<ℤ◌, ℕ, ℤ, pos, List}
+use Rattle.std.specs.Prelude.{[], Option, Some, None, Result, Ok, Err}
 use Rattle.std.specs.Prelude.{MatchResult, IsErrAnd, OnOk, IsTrue, false, codes}
 use Rattle.sqlite_trees.specs.View.{doubt}
 use Rattle.sqlite_resolve.specs.declared.error.CompileError.{CompileError}
@@ -16,7 +17,8 @@ use Rattle.store_tables.specs.Tables.{no_schema, room_schema}
 use Rattle.store_schema.specs.Within.{IsWithin}
 use Rattle.store_schema.specs.NewRoom.{meta_of, number_shown}
 use Rattle.store_schema.specs.declared.fault.OpenFault.{OpenFault}
-use Rattle.store_schema.specs.declared.fault.OpenFault.TheVariants.{NotRooms, OldVersion, NewVersion}
+use Rattle.store_schema.specs.declared.fault.OpenFault.TheVariants.{NotRooms, OldVersion}
+use Rattle.store_schema.specs.declared.fault.OpenFault.TheVariants.{NewVersion}
 use Rattle.store_schema.specs.declared.fault.OpenFault.TheVariants.{Db, Memory}
 
 abbrev pub IsNotUnderstood : Error → Type 0
@@ -79,13 +81,13 @@ pub record ShowsVersion (version : Option ℤ) (db : Database) : Type 0 where
   pub number : number_shown rows ≡ version
 
 -- A number is answered only where the database showed it.
-abbrev pub Tells : ℤ → Database → Result (Unit {0}) OpenFault → Type 0
-Tells wanted db (Ok _) = ShowsVersion (Some wanted) db
-Tells wanted db (Err NotRooms) = Unit {0}
-Tells wanted db (Err (OldVersion n)) = ShowsVersion (Some n) db × (n <ℤ wanted)
-Tells wanted db (Err (NewVersion n)) = ShowsVersion (Some n) db × (wanted <ℤ n)
-Tells wanted db (Err Db) = Unit {0}
-Tells wanted db (Err Memory) = Unit {0}
+abbrev pub AnswersVersion : ℤ → Database → Result (Unit {0}) OpenFault → Type 0
+AnswersVersion wanted db (Ok _) = ShowsVersion (Some wanted) db
+AnswersVersion wanted db (Err NotRooms) = Unit {0}
+AnswersVersion wanted db (Err (OldVersion n)) = ShowsVersion (Some n) db × (n <ℤ wanted)
+AnswersVersion wanted db (Err (NewVersion n)) = ShowsVersion (Some n) db × (wanted <ℤ n)
+AnswersVersion wanted db (Err Db) = Unit {0}
+AnswersVersion wanted db (Err Memory) = Unit {0}
 
 -- ---- calls
 
@@ -108,7 +110,7 @@ pub record Expects (wanted : ℤ) (old new : State)
       → Says wanted (meta_of old.now) result × OnOk result (new.now ≡ old.now)
   pub empty : HasCleanDisk new → old.now.schema ≡ no_schema → IsErrAnd result IsRefusal
   pub shown : HasCleanDisk new
-      → Tells wanted old.now result × OnOk result (IsTrue old.is_open)
+      → AnswersVersion wanted old.now result × OnOk result (IsTrue old.is_open)
 
 -- What opening a room is.
 pub record Adopts (old new : State) (result : Result (Unit {0}) OpenFault) : Type 0 where
@@ -121,7 +123,7 @@ pub record Adopts (old new : State) (result : Result (Unit {0}) OpenFault) : Typ
   -- a connection that is shut gives no answer
   pub answers : HasCleanDisk new → OnOk result (IsTrue old.is_open)
   -- any file is opened only where the database itself answered 2
-  pub shown : HasCleanDisk new → Tells (pos 2) old.now result
+  pub shown : HasCleanDisk new → AnswersVersion (pos 2) old.now result
   -- over a room's tables the answer is what the row of `meta` says
   pub told : HasCleanDisk new → old.now.schema ≡ room_schema → Says (pos 2) (meta_of old.now) result
   -- an empty database is no room

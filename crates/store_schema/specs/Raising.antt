@@ -51,7 +51,7 @@ pub record Raises {S : Type 0} (k : Ghosts S) (old new : S)
       → IfOk result (λ report. IsRaised (k.rows old) report (k.rows new))
 
 -- All lists are carried down.
-pub record Carries {S : Type 0} (k : Ghosts S) (old new : S)
+pub record CarriesAll {S : Type 0} (k : Ghosts S) (old new : S)
     (result : Result (Unit {0}) KeepFault) : Type 0 where
   pub follows : k.Follows old new
   pub becomes : k.IsTrusted old new → IfOk result (λ _. (changed : ℕ)
@@ -66,12 +66,12 @@ pub record Stamps (old new : State) (result : Result ℕ Error) : Type 0 where
 
 -- What upgrading a room leaves of a database. `Opening` depends on the number of the schema, and
 -- `Unsound` names the first fault.
-abbrev pub Leads : Database → Database → Result (Unit {0}) MigrateFault → Type 0
-Leads old new (Ok _) =
+abbrev pub UpgradesTables : Database → Database → Result (Unit {0}) MigrateFault → Type 0
+UpgradesTables old new (Ok _) =
     (meta_of old ≡ Some (pos 1)) × (meta_of new ≡ Some (pos 2)) × IsRoom new
     × AreRaised (rows_of old) (rows_of new)
-Leads old new (Err (Opening fault)) = Says (pos 1) (meta_of old) (Err fault)
-Leads old new (Err (Unsound path why)) =
+UpgradesTables old new (Err (Opening fault)) = Says (pos 1) (meta_of old) (Err fault)
+UpgradesTables old new (Err (Unsound path why)) =
     (meta_of old ≡ Some (pos 1)) × (kept_report_of (rows_of old) ≡ Fault path why)
 
 -- there is no room, the database failed, or memory ran out
@@ -89,7 +89,7 @@ pub record IsInside (old new : State) (result : Result (Unit {0}) MigrateFault) 
       → (old.in_transaction ≡ false → old.now ≡ old.committed) → new.in_transaction ≡ false
       → new.now ≡ new.committed
   pub leads : HasCleanDisk new → IsTrue new.is_open → IsRoom old.committed → IsRoom old.now
-      → Leads old.now new.now result
+      → UpgradesTables old.now new.now result
   -- where the database doesn't answer 1, it is a fault, and nothing is committed
   pub foreign : HasCleanDisk new
       → ShowsVersion (Some (pos 1)) old.now ⊎ (IsWithin old new × IsErrAnd result (λ _. Unit {0}))
@@ -101,7 +101,7 @@ pub record Migrates (old new : State) (result : Result (Unit {0}) MigrateFault) 
   pub clean : doubt old.is_clean ≤ doubt new.is_clean
   pub was_open : HasCleanDisk new → IsTrue new.is_open → IsTrue old.is_open
   pub leads : HasCleanDisk new → IsTrue new.is_open → HasTables old.now
-      → Leads old.now new.now result
+      → UpgradesTables old.now new.now result
   pub committed : HasCleanDisk new → OnOk result (new.committed ≡ new.now)
   -- a connection that is shut gives no answer
   pub answers : HasCleanDisk new → OnOk result (IsTrue old.is_open × IsTrue new.is_open)

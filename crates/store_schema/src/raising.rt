@@ -4,7 +4,7 @@ ghost use Rattle.sqlite.specs.Held.{state};
 ghost use Rattle.store_tables.specs.Meaning.{rows_of};
 ghost use Rattle.store_tables.specs.Shown.{Stays};
 ghost use Rattle.store_tables.specs.Trust.{IsTrusted};
-ghost use Rattle.store_schema.specs.Raising.{Carries, IsRaised, Raises};
+ghost use Rattle.store_schema.specs.Raising.{CarriesAll, IsRaised, Raises};
 
 use room_inherit::{Report, SpreadFault, spread_all, verify_kept};
 use room_rows::{Keep, KeepFault};
@@ -14,7 +14,7 @@ use store_tables::Keeper;
 
 // Carries all lists down.
 fn carry_down<K: Keep>(alloc: Global, keep: &mut K) -> Result<(), KeepFault>
-    ensures carries { Carries K.Keep keep.old keep.new result }
+    ensures carries { CarriesAll K.Keep keep.old keep.new result }
 {
     match spread_all(alloc, keep) {
         Ok(_) => Ok(()),

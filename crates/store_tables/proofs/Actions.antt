@@ -44,7 +44,7 @@ use Rattle.sqlite_trees.specs.declared.store.Shape.TheVariants as Shape
 use Rattle.std.proofs.Common.{find, unwrap_or}
 use Rattle.sqlite.specs.Rows.{Edited}
 use Rattle.sqlite.specs.Edit.{taken_by, edited}
-use Rattle.store_tables.specs.Shown.{Removes, KeepsAll}
+use Rattle.store_tables.specs.Shown.{RemovesRow, KeepsAll}
 use Rattle.std.proofs.Common.{◌<ℤ◌, subst₂, arith, length-append}
 
 abbrev pub bodies_table : Table
@@ -171,7 +171,7 @@ module _ (id : ℤ) (cells : Row) (first : Trees) (ints : AllByRecursion (λ r. 
 -- the steps of an edit that takes out rows and puts in none
 module _ (id : ℤ) (db next : Trees) (rows : List Row) (bodies : IsShaped Shape.Table (db 2)) where
   -- one row is taken out, with its bytes
-  one_removed : (cells : Row) → rows ≡ (Int id ∷ []) ∷ [] → find (has_rowid id) (db 0) ≡ Some (Int id ∷ cells) → Edited room_schema Enforced db (delete_edit db rows) (Ok next) → Removes id db next
+  one_removed : (cells : Row) → rows ≡ (Int id ∷ []) ∷ [] → find (has_rowid id) (db 0) ≡ Some (Int id ∷ cells) → Edited room_schema Enforced db (delete_edit db rows) (Ok next) → RemovesRow id db next
   one_removed cells one there (inl refused) = absurd (let e = refused.2 in cc)
   one_removed cells one there (inr (inl big)) = absurd (let e = big.3 in cc)
   one_removed cells one there (inr (inr went)) =
@@ -208,14 +208,14 @@ module _ (id : ℤ) (db next : Trees) (rows : List Row) (bodies : IsShaped Shape
       }
 
 -- what a deletion by number does
-pub deletes : (id : ℤ) (old new : State) (count : ℕ) → IsRoom old.now → Deleted id old new count → ((count ≡ 0) × KeepsAll old.now.trees new.now.trees) ⊎ Removes id old.now.trees new.now.trees
+pub deletes : (id : ℤ) (old new : State) (count : ℕ) → IsRoom old.now → Deleted id old new count → ((count ≡ 0) × KeepsAll old.now.trees new.now.trees) ⊎ RemovesRow id old.now.trees new.now.trees
 deletes id old new count room d = go (at_most_one id (old.now.trees 0) room.nodes.0)
   where
     now : new.now.trees ≡ d.next
     now = ap (λ (db : Database). db.trees) d.now
 
     go : ((filter (has_rowid id) (old.now.trees 0) ≡ []) ⊎ ((r : Row) × (filter (has_rowid id) (old.now.trees 0) ≡ r ∷ [])))
-        → ((count ≡ 0) × KeepsAll old.now.trees new.now.trees) ⊎ Removes id old.now.trees new.now.trees
+        → ((count ≡ 0) × KeepsAll old.now.trees new.now.trees) ⊎ RemovesRow id old.now.trees new.now.trees
     go (inl none) =
         let rows = alone_in d.rows (subst (λ l. IsPermutation (map (shows (col 1 0 ∷ []) (Int id ∷ [])) l) d.rows) none d.found) in
         let same = none_removed id old.now.trees d.next d.rows room.bodies rows d.edited in
@@ -226,7 +226,7 @@ deletes id old new count room d = go (at_most_one id (old.now.trees 0) room.node
         let rows = one_permutation _ d.rows (subst (λ l. IsPermutation (map (shows (col 1 0 ∷ []) (Int id ∷ [])) l) d.rows) one d.found) in
         let rows' : d.rows ≡ (Int id ∷ []) ∷ [] = rows ∙ ap (λ v. (v ∷ []) ∷ []) is in
         let done = one_removed id old.now.trees d.next d.rows room.bodies (drop 1 r) rows' (there.0 ∙ ap Some (cells_of id r is)) d.edited in
-        inr (subst (Removes id old.now.trees) (sym now) done)
+        inr (subst (RemovesRow id old.now.trees) (sym now) done)
 
 -- the tables are still rooms tables, and nothing is committed
 pub delete_room : (id : ℤ) (old new : State) → IsTrue old.in_transaction → (count : ℕ) → Executes delete_text (Int id ∷ []) old new (Ok count) → IsRoom old.now → WritesRoom old new
@@ -255,6 +255,6 @@ delete_room id old new inside count h room =
     )
 
 -- one row was deleted
-pub delete_one : (id : ℤ) (old new : State) (r : Result ℕ Error) → IsRoom old.now → Executes delete_text (Int id ∷ []) old new r → IfOk r (λ count. count ≡ 1 → Removes id old.now.trees new.now.trees)
+pub delete_one : (id : ℤ) (old new : State) (r : Result ℕ Error) → IsRoom old.now → Executes delete_text (Int id ∷ []) old new r → IfOk r (λ count. count ≡ 1 → RemovesRow id old.now.trees new.now.trees)
 delete_one id old new (Err e) room h = tt
 delete_one id old new (Ok count) room h = λ one. elim (deletes id old new count room (deleted id old new count room.schema h)) [ inl same ↦ absurd (let e : 0 ≡ 1 = sym same.0 ∙ one in omega (arith, e)) | inr gone ↦ gone ]

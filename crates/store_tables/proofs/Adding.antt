@@ -13,10 +13,10 @@ use Rattle.room_rows.specs.Content.{put_body, put_node, with_body, with_node}
 use Rattle.room_rows.specs.Keep.{IsAdded, node_of, reading}
 use Rattle.room_rows.specs.Rows.{Rows}
 use Rattle.store_tables.specs.declared.columns.Columns.{Columns}
-use Rattle.store_tables.specs.Columns.{Stores, values_of}
+use Rattle.store_tables.specs.Columns.{ReadsAsNode, values_of}
 use Rattle.store_tables.specs.Filed.{body_rowid, node_at_row, node_keyed, unread_at_row}
 use Rattle.store_tables.specs.Meaning.{audit_in, bodies_of, body_in, node_in, nodes_of, number_in, pairs_of, rows_of, unread_in, unread_of}
-use Rattle.store_tables.specs.Shown.{Adds, Bodies, GetsBytes, IsRoom, shown_node, stored_body, stored_node}
+use Rattle.store_tables.specs.Shown.{AddsRow, Bodies, GetsBytes, IsRoom, shown_node, stored_body, stored_node}
 use Rattle.store_tables.proofs.Chosen.{none_taken}
 use Rattle.store_tables.proofs.Filling.{body_put, number, stored_bytes}
 use Rattle.store_tables.proofs.Put.{put_seen, unseen}
@@ -31,7 +31,7 @@ pub same_int : (a b : ℤ) → Int a ≡ Int b → a ≡ b
 same_int a b e = cc
 
 -- the number of an object isn't among its columns
-stores_at : (new : NewNode) (id other : ℕ) (c : Columns) → Stores (node_of id new) c → Stores (node_of other new) c
+stores_at : (new : NewNode) (id other : ℕ) (c : Columns) → ReadsAsNode (node_of id new) c → ReadsAsNode (node_of other new) c
 stores_at new id other c s = record {
   is_parent = s.is_parent;
   parent = s.parent;
@@ -54,7 +54,7 @@ pub record IsPut (new : NewNode) (old : Rows) (id : ℕ) (mid : Rows) : Type 0 w
   pub is_free : Rattle.room_rows.specs.Rows.is_unreadable old id ≡ false
   pub becomes : mid ≡ reading old (with_node old.read (node_of id new))
 
-pub put_rows : (db next : Database) (id : ℕ) (new : NewNode) (c : Columns) → IsRoom db → 0 < id → Stores (node_of 0 new) c → Adds (pos id) (values_of c) db.trees next.trees → IsPut new (rows_of db) id (rows_of next)
+pub put_rows : (db next : Database) (id : ℕ) (new : NewNode) (c : Columns) → IsRoom db → 0 < id → ReadsAsNode (node_of 0 new) c → AddsRow (pos id) (values_of c) db.trees next.trees → IsPut new (rows_of db) id (rows_of next)
 put_rows db next id new c room low stores put =
     let n = node_of id new in
     let row = stored_node (pos id) (values_of c) in

@@ -24,7 +24,7 @@ use Rattle.sqlite_trees.specs.View.{is_int}
 use Rattle.sqlite_value.specs.Keys.{first_key, plain}
 use Rattle.sqlite_value.specs.declared.keys.Collation.TheVariants.{Binary}
 use Rattle.sqlite_value.proofs.OrderLemmas.{value_cmp-Null, value_cmp_total}
-use Rattle.store_tables.specs.Shown.{IsRoom, is_child, is_numbered, is_user}
+use Rattle.store_tables.specs.Shown.{IsRoom, is_child, is_numbered, is_user_row}
 use Rattle.store_tables.specs.Statements.{by_column}
 use Rattle.store_tables.specs.Tables.{members, room_schema}
 use Rattle.store_tables.proofs.Ordered.{HasNoTies}
@@ -158,10 +158,10 @@ members_listed : Has room_schema.tables members_table
 unfolding everything
 members_listed = inr (inr (inl refl))
 
-pub members_apart : (db : Database) → IsRoom db → (user : List ℕ) → HasNoTies (by_column 1) (filter (is_user user) (db.trees 3))
+pub members_apart : (db : Database) → IsRoom db → (user : List ℕ) → HasNoTies (by_column 1) (filter (is_user_row user) (db.trees 3))
 members_apart db room user =
     let sound = subst (λ s. IsSound s db.trees) room.schema room.sound in
-    no_ties (db.trees 3) room.members.0 room.members.1 2 1 (Text user) (is_user user)
+    no_ties (db.trees 3) room.members.0 room.members.1 2 1 (Text user) (is_user_row user)
     (λ r there. keys_are_unique room_schema db.trees members_table 0 (2 ∷ 1 ∷ []) r sound members_listed refl there)
     (λ r mine. mine)
     (λ r there mine. (like_text (column r 2) user mine, grouped db.trees r (keeps_at NotNull room_schema db.trees members_table r (sound.obeys.rules NotNull) members_listed there)))

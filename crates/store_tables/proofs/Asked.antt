@@ -8,7 +8,7 @@ use Rattle.sqlite.specs.State.{State, HasCleanDisk, Shown, FailsToQuery, IsTooLa
 use Rattle.sqlite.proofs.Callers.{IsPlain}
 use Rattle.sqlite_trees.specs.View.{doubt}
 use Rattle.store_tables.specs.Shown.{IsRoom, Stays}
-use Rattle.store_tables.specs.Statements.{Asks, Writes}
+use Rattle.store_tables.specs.Statements.{QueriesSql, ExecutesSql}
 use Rattle.store_tables.specs.Tables.{room_schema}
 use Rattle.store_tables.proofs.Calls.{same_ok}
 use Rattle.store_tables.proofs.Executed.{WritesRoom}
@@ -17,7 +17,7 @@ use Rattle.store_tables.proofs.Tests.{if_ok}
 
 pub asks : (sql : List ℕ) (params : Row) (old new : State) (r : Result (Vec Row Global) Error) (Shows : Trees → List Row → Type 0) → IsPlain (understood room_schema sql) → doubt old.is_clean ≤ doubt new.is_clean
     → ((rows : List Row) → IsRoom old.now → Shown sql params old new rows → Shows old.now.trees rows) → (HasCleanDisk new → IfOk r (λ rows. Shown sql params old new rows.items))
-    → (HasCleanDisk new → IfErr r (λ e. FailsToQuery sql params old new e ⊎ IsTooLate sql params old new e)) → Asks Shows old new r
+    → (HasCleanDisk new → IfErr r (λ e. FailsToQuery sql params old new e ⊎ IsTooLate sql params old new e)) → QueriesSql Shows old new r
 asks sql params old new r Shows plain clean shows ok err = record {
   rows = λ now room. if_ok r _ _ (λ rows shown. shows rows.items room shown) (ok now);
   same = λ now room. same_ok sql params old new r plain room.schema (ok now);
@@ -27,7 +27,7 @@ asks sql params old new r Shows plain clean shows ok err = record {
 pub writes : (sql : List ℕ) (params : Row) (old new : State) (r : Result ℕ Error) (e : Error) (Leaves : ℕ → State → State → Type 0) → doubt old.is_clean ≤ doubt new.is_clean
     → (IsTrue old.in_transaction → (count : ℕ) → Executes sql params old new (Ok count) → IsRoom old.now → WritesRoom old new)
     → ((count : ℕ) → IsRoom old.now → Executes sql params old new (Ok count) → Leaves count old new) → (old.in_transaction ≡ false → (r ≡ Err e) × Stays old new)
-    → (HasCleanDisk new → IsTrue old.in_transaction → ExecutesInside 0 sql params old new r) → Writes Leaves old new r
+    → (HasCleanDisk new → IsTrue old.in_transaction → ExecutesInside 0 sql params old new r) → ExecutesSql Leaves old new r
 writes sql params old new r e Leaves clean room_stays leaves ended runs = record {
   leaves = λ now room. did_inside sql params old new r e (λ count. Leaves count old new) (λ off. (ended off).0) (runs now) (by room);
   stays = write_inside sql params old new r clean room_stays (λ off. (ended off).1) runs;

@@ -13,7 +13,7 @@ use Rattle.store_tables.specs.Filed.{body_rowid}
 use Rattle.store_tables.specs.Keyed.{find_key}
 use Rattle.store_tables.specs.Meaning.{body_in, body_row, number_in, rows_of}
 use Rattle.store_tables.specs.RoomRows.{number_in-low}
-use Rattle.store_tables.specs.Seeing.{answer_of, bytes_as, bytes_seen}
+use Rattle.store_tables.specs.Seeing.{result_of_seen, bytes_as, bytes_seen}
 use Rattle.store_tables.specs.Shown.{IsRoom}
 use Rattle.store_tables.specs.Statements.{HasBytes, shown_bytes}
 use Rattle.store_tables.proofs.Nodes.{Tells, none_passes}
@@ -36,7 +36,7 @@ module _ (db : Database) (room : IsRoom db) (id : ℕ) (low : 0 < id) where
   body_at = found_bytes id _ ∙ ap (option_map (λ (x : Blobbed). x.1)) (find_key body_in (λ (x : Blobbed). x.0) body_rowid id (db.trees 2) room.bodies.0)
 
   blob_told : (r : Row) → find (has_rowid (pos id)) (db.trees 2) ≡ Some r → number_in (rowid r) ≡ Some id → (v : Value) → column r 2 ≡ v
-      → Tells IsNever (IsBodyOf id) (rows_of db) (answer_of (bytes_as v))
+      → Tells IsNever (IsBodyOf id) (rows_of db) (result_of_seen (bytes_as v))
   blob_told r found number (Blob bytes) is =
       sym (body_at ∙ ap (λ o. option_map (λ (x : Blobbed). x.1) (option_and_then body_in o)) found ∙ ap (λ n. option_map (λ (x : Blobbed). x.1) (body_row n (column r 2))) number
       ∙ ap (λ v. option_map (λ (x : Blobbed). x.1) (body_row (Some id) v)) is)
@@ -45,17 +45,17 @@ module _ (db : Database) (room : IsRoom db) (id : ℕ) (low : 0 < id) where
   blob_told r found number (Real x) is = tt
   blob_told r found number (Text t) is = tt
 
-  pub tells_bytes : (rows : List Row) → HasBytes (pos id) db.trees rows → Tells IsNever (IsBodyOf id) (rows_of db) (answer_of (bytes_seen rows))
+  pub tells_bytes : (rows : List Row) → HasBytes (pos id) db.trees rows → Tells IsNever (IsBodyOf id) (rows_of db) (result_of_seen (bytes_seen rows))
   tells_bytes rows perm = by (at_most_one (pos id) (db.trees 2) room.bodies.0)
     where
-      by : ((filter (has_rowid (pos id)) (db.trees 2) ≡ []) ⊎ ((r : Row) × (filter (has_rowid (pos id)) (db.trees 2) ≡ r ∷ []))) → Tells IsNever (IsBodyOf id) (rows_of db) (answer_of (bytes_seen rows))
+      by : ((filter (has_rowid (pos id)) (db.trees 2) ≡ []) ⊎ ((r : Row) × (filter (has_rowid (pos id)) (db.trees 2) ≡ r ∷ []))) → Tells IsNever (IsBodyOf id) (rows_of db) (result_of_seen (bytes_seen rows))
       by (inl none) =
           let empty = alone_in rows (subst (λ l. IsPermutation (map shown_bytes l) rows) none perm) in
-          subst (λ l. Tells IsNever (IsBodyOf id) (rows_of db) (answer_of (bytes_seen l))) (sym empty)
+          subst (λ l. Tells IsNever (IsBodyOf id) (rows_of db) (result_of_seen (bytes_seen l))) (sym empty)
           (sym (body_at ∙ ap (λ o. option_map (λ (x : Blobbed). x.1) (option_and_then body_in o)) (none_passes (has_rowid (pos id)) (db.trees 2) none)))
       by (inr (r, one)) =
           let there = only_one (has_rowid (pos id)) (db.trees 2) r one in
           let is = rowid_is (pos id) r (of_each _ (db.trees 2) room.bodies.1 r (has_found (has_rowid (pos id)) (db.trees 2) r there.0)) there.1 in
           let alone = one_permutation (shown_bytes r) rows (subst (λ l. IsPermutation (map shown_bytes l) rows) one perm) in
-          subst (λ l. Tells IsNever (IsBodyOf id) (rows_of db) (answer_of (bytes_seen l))) (sym alone)
+          subst (λ l. Tells IsNever (IsBodyOf id) (rows_of db) (result_of_seen (bytes_seen l))) (sym alone)
           (blob_told r there.0 (ap number_in is ∙ number_in-low id low) (column r 2) refl)

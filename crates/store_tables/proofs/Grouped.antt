@@ -25,7 +25,7 @@ use Rattle.store_tables.specs.Meaning.{name_in, name_of_text, pair_in, rows_of}
 use Rattle.store_tables.specs.Paired.{Pair, all_filter, all_past, before, before_is, pair_cmp, put_first, total}
 use Rattle.store_tables.specs.RoomRows.{set_sorted}
 use Rattle.store_tables.specs.Seeing.{names_seen}
-use Rattle.store_tables.specs.Shown.{is_user}
+use Rattle.store_tables.specs.Shown.{is_user_row}
 use Rattle.store_tables.specs.Statements.{HasGroups, by_column, shown_group}
 use Rattle.store_tables.proofs.Apart.{kept_passes}
 use Rattle.store_tables.proofs.Named.{filter_read}
@@ -241,7 +241,7 @@ module _ (user : List ℕ) (named : IsTrue (is_name user)) (text : IsTrue (is_ut
       by None = refl
       by (Some g) = refl
 
-  agrees : (r : Row) (p : Pair) → pair_in r ≡ Some p → same_text p.1 user ≡ is_user user r
+  agrees : (r : Row) (p : Pair) → pair_in r ≡ Some p → same_text p.1 user ≡ is_user_row user r
   agrees r p is =
       let t = name_text (column r 2) p.1 (pair_user (group r) (name_in (column r 2)) p is) in
       sym (ap (λ v. is_eq (value_cmp v (Text user))) t ∙ ap is_eq (value_cmp-Text p.1 user) ∙ is_eq-slice_cmp p.1 user)
@@ -255,10 +255,10 @@ module _ (user : List ℕ) (named : IsTrue (is_name user)) (text : IsTrue (is_ut
       by None more = more
       by (Some g) more = ap (λ l. g ∷ l) more
 
-  pub tells_groups : (db : Database) → HasNoTies by_group (filter (is_user user) (db.trees 3)) → (rows : List Row) → HasGroups user db.trees rows → AreGroupsOf user (rows_of db) (names_seen rows)
+  pub tells_groups : (db : Database) → HasNoTies by_group (filter (is_user_row user) (db.trees 3)) → (rows : List Row) → HasGroups user db.trees rows → AreGroupsOf user (rows_of db) (names_seen rows)
   tells_groups db apart rows shown =
-      let kept = filter (is_user user) (db.trees 3) in
-      let mine = all_sorted IsOf kept (each_of IsOf kept (λ r there. user_is (column r 2) (kept_passes (is_user user) (db.trees 3) r there))) in
+      let kept = filter (is_user_row user) (db.trees 3) in
+      let mine = all_sorted IsOf kept (each_of IsOf kept (λ r there. user_is (column r 2) (kept_passes (is_user_row user) (db.trees 3) r there))) in
       let q : Pair → Bool = λ p. same_text p.1 user in
-      let pairs = filter_set q (filter_map pair_in (db.trees 3)) ∙ ap set_of (filter_read pair_in q (is_user user) agrees (db.trees 3)) ∙ set_of_rows kept apart in
+      let pairs = filter_set q (filter_map pair_in (db.trees 3)) ∙ ap set_of (filter_read pair_in q (is_user_row user) agrees (db.trees 3)) ∙ set_of_rows kept apart in
       ap names_seen shown ∙ names_shown (sort_by by_group kept) ∙ sym (groups_read (sort_by by_group kept) mine) ∙ ap (map (λ (p : Pair). p.0)) (sym pairs)

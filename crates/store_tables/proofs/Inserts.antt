@@ -21,7 +21,7 @@ use Rattle.sqlite_trees.proofs.TreeLemmas.{IsShaped-put_row}
 use Rattle.sqlite_rules.specs.Action.{works}
 use Rattle.sqlite_tied.specs.Compute.{everything}
 use Rattle.store_tables.specs.Tables.{room_schema}
-use Rattle.store_tables.specs.Shown.{IsRoom, Adds, stored_node}
+use Rattle.store_tables.specs.Shown.{IsRoom, AddsRow, stored_node}
 use Rattle.store_tables.proofs.Texts.{insert_text, insert_is, insert_terms, plain_texts}
 use Rattle.store_tables.proofs.Writes.{went, same_value, nodes_table}
 use Rattle.store_tables.proofs.Executed.{WritesRoom}
@@ -48,7 +48,7 @@ new_sets_off_nothing r = refl
 pub record Inserted (c : Columns) (old new : State) : Type 0 where
   pub schema : new.now.schema ≡ room_schema
   pub sound : IsDatabase new.now
-  pub adds : Adds (next_rowid (old.now.trees 0)) (values c) old.now.trees new.now.trees
+  pub adds : AddsRow (next_rowid (old.now.trees 0)) (values c) old.now.trees new.now.trees
   pub last : new.last_rowid ≡ next_rowid (old.now.trees 0)
   pub shown : Shows old new new.now (if old.in_transaction then old.committed else new.now) old.in_transaction
 

@@ -22,7 +22,7 @@ use Rattle.room_rows.proofs.Lookups.{not_none}
 use Rattle.store_tables.specs.Filed.{node_parts}
 use Rattle.store_tables.specs.Meaning.{named_in, node_in, number_in, rows_of, text_in, unread_in}
 use Rattle.store_tables.specs.RoomRows.{number_in-low}
-use Rattle.store_tables.specs.Seeing.{answer_of, seen_as, seen_behind, seen_then}
+use Rattle.store_tables.specs.Seeing.{result_of_seen, seen_as, seen_behind, seen_then}
 use Rattle.store_tables.specs.Shown.{IsRoom, is_child, is_numbered, shown_node}
 use Rattle.store_tables.specs.Statements.{HasNames, HasSome, shown_name, shown_number}
 use Rattle.store_tables.proofs.Apart.{kept_passes}
@@ -129,24 +129,24 @@ module _ (db : Database) (room : IsRoom db) (parent : ℕ) where
   AreNamed done rows told names = names ≡ done ++ filter_map named rows
 
   name_step : (done : List Named) (r : Row) (rows : List Row) → Has (db.trees 0) r
-      → ((before : List Named) → Tells IsUnreadable (AreNamed before rows) (rows_of db) (answer_of (seen_behind named_in before (map shown_name rows)))) → (o : Option Named) → named r ≡ o → (m : Option ℕ)
-      → number_in (rowid r) ≡ m → Tells IsUnreadable (AreNamed done (r ∷ rows)) (rows_of db) (answer_of (seen_then (seen_as o m) (λ before. seen_behind named_in before (map shown_name rows)) done))
+      → ((before : List Named) → Tells IsUnreadable (AreNamed before rows) (rows_of db) (result_of_seen (seen_behind named_in before (map shown_name rows)))) → (o : Option Named) → named r ≡ o → (m : Option ℕ)
+      → number_in (rowid r) ≡ m → Tells IsUnreadable (AreNamed done (r ∷ rows)) (rows_of db) (result_of_seen (seen_then (seen_as o m) (λ before. seen_behind named_in before (map shown_name rows)) done))
   name_step done r rows there more (Some p) is m number =
       tells_by IsUnreadable (AreNamed (done ++ p ∷ []) rows) (AreNamed done (r ∷ rows)) (rows_of db)
       (λ names read. read ∙ append_assoc done (p ∷ []) (filter_map named rows) ∙ ap (λ x. done ++ cons_option x (filter_map named rows)) (sym is))
-      (answer_of (seen_behind named_in (done ++ p ∷ []) (map shown_name rows))) (more (done ++ p ∷ []))
+      (result_of_seen (seen_behind named_in (done ++ p ∷ []) (map shown_name rows))) (more (done ++ p ∷ []))
   name_step done r rows there more None is None number = tt
   name_step done r rows there more None is (Some id) number = unread_row db room r id there (not_named r (see r) refl is) number
 
-  reads_names : (rows : List Row) → ((r : Row) → Has rows r → Has (db.trees 0) r) → (done : List Named) → Tells IsUnreadable (AreNamed done rows) (rows_of db) (answer_of (seen_behind named_in done (map shown_name rows)))
+  reads_names : (rows : List Row) → ((r : Row) → Has rows r → Has (db.trees 0) r) → (done : List Named) → Tells IsUnreadable (AreNamed done rows) (rows_of db) (result_of_seen (seen_behind named_in done (map shown_name rows)))
   reads_names [] within done = sym (append-nil done)
   reads_names (r ∷ rows) within done = name_step done r rows (within r (inl refl)) (reads_names rows (λ x there. within x (inr there))) (named r) refl (number_in (rowid r)) refl
 
-  pub tells_names : (rows : List Row) → HasNames (pos parent) db.trees rows → Tells IsUnreadable (AreNamedUnder parent) (rows_of db) (answer_of (seen_behind named_in [] rows))
+  pub tells_names : (rows : List Row) → HasNames (pos parent) db.trees rows → Tells IsUnreadable (AreNamedUnder parent) (rows_of db) (result_of_seen (seen_behind named_in [] rows))
   tells_names rows shown =
-      subst (λ l. Tells IsUnreadable (AreNamedUnder parent) (rows_of db) (answer_of (seen_behind named_in [] l))) (sym shown)
+      subst (λ l. Tells IsUnreadable (AreNamedUnder parent) (rows_of db) (result_of_seen (seen_behind named_in [] l))) (sym shown)
       (tells_by IsUnreadable (AreNamed [] (sort_by by_name kept)) (AreNamedUnder parent) (rows_of db)
       (λ names read none.
       let all = under_seen db room parent none in
       read ∙ names_read (sort_by by_name kept) (seen_in_order kept all) ∙ ap (map name_of) (sorted_read kept all ∙ sym (children_read db parent)))
-      (answer_of (seen_behind named_in [] (map shown_name (sort_by by_name kept)))) (reads_names (sort_by by_name kept) (sorted_within db room parent) []))
+      (result_of_seen (seen_behind named_in [] (map shown_name (sort_by by_name kept)))) (reads_names (sort_by by_name kept) (sorted_within db room parent) []))

@@ -27,7 +27,7 @@ use Rattle.store_tables.specs.Meaning.{number_in, parent_in, text_in, node_in, u
 use Rattle.store_tables.specs.Keyed.{same_number}
 use Rattle.store_tables.specs.Filed.{number_is, node_parts, unread_at_row}
 use Rattle.store_tables.specs.RoomRows.{row_found}
-use Rattle.store_tables.specs.Seeing.{answer_of, seen_only, seen_as}
+use Rattle.store_tables.specs.Seeing.{result_of_seen, seen_only, seen_as}
 use Rattle.std.specs.declared.cmp.Ordering.TheVariants.{Less, Equal, Greater}
 use Rattle.store_tables.proofs.Tests.{and_true}
 use Rattle.store_tables.proofs.Nodes.{Tells}
@@ -148,16 +148,16 @@ module _ (db : Database) (room : IsRoom db) (parent : ℕ) (name : List ℕ) whe
   abbrev told : Result (Option Node) Rattle.room_rows.specs.declared.keep.KeepFault.KeepFault → Type 0
   told = Tells IsUnreadable (IsChildOf parent name) (rows_of db)
 
-  something : (r : Row) → filter test (db.trees 0) ≡ r ∷ [] → (o : Option Node) → node_in (shown_node r) ≡ o → (m : Option ℕ) → number_in (rowid r) ≡ m → told (answer_of (seen_as (option_map Some o) m))
+  something : (r : Row) → filter test (db.trees 0) ≡ r ∷ [] → (o : Option Node) → node_in (shown_node r) ≡ o → (m : Option ℕ) → number_in (rowid r) ≡ m → told (result_of_seen (seen_as (option_map Some o) m))
   something r one (Some n) seen m number = sym (first_read (λ r. node_in (shown_node r)) (λ (n : Node). has_parent parent n && same_text n.name name) test (child_agrees parent name) (db.trees 0) r [] n one seen)
   something r one None seen None number = tt
   something r one None seen (Some id) number = unread_row db room r id (has_found test (db.trees 0) r (only_one test (db.trees 0) r one).0) seen number
 
   -- what the rows that were found by their parent and their name answer
-  pub tells_child : (rows : List Row) → IsPermutation (map shown_node (filter test (db.trees 0))) rows → told (answer_of (seen_only rows))
+  pub tells_child : (rows : List Row) → IsPermutation (map shown_node (filter test (db.trees 0))) rows → told (result_of_seen (seen_only rows))
   tells_child [] perm = sym (none_read (λ r. node_in (shown_node r)) (λ (n : Node). has_parent parent n && same_text n.name name) test (child_agrees parent name) (db.trees 0) (no_map shown_node _ (alone_in _ (IsPermutation-sym _ [] perm))))
   tells_child (x ∷ []) perm =
       let shown = one_permutation x _ (IsPermutation-sym _ (x ∷ []) perm) in
       let one = one_of_map shown_node (filter test (db.trees 0)) x shown in
-      subst (λ y. told (answer_of (seen_only (y ∷ [])))) one.2 (something one.0 one.1 (node_in (shown_node one.0)) refl (number_in (rowid one.0)) refl)
+      subst (λ y. told (result_of_seen (seen_only (y ∷ [])))) one.2 (something one.0 one.1 (node_in (shown_node one.0)) refl (number_in (rowid one.0)) refl)
   tells_child (x ∷ y ∷ more) perm = tt

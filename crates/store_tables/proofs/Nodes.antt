@@ -16,7 +16,7 @@ use Rattle.store_tables.specs.Shown.{IsRoom, shown_node}
 use Rattle.store_tables.specs.Meaning.{number_in, node_in, unread_in, rows_of}
 use Rattle.store_tables.specs.Filed.{node_at_row, unread_at_row}
 use Rattle.store_tables.specs.RoomRows.{number_in-low}
-use Rattle.store_tables.specs.Seeing.{answer_of, seen_only, seen_as, counted_by}
+use Rattle.store_tables.specs.Seeing.{result_of_seen, seen_only, seen_as, counted_by}
 use Rattle.store_tables.proofs.Rowids.{alone_in, at_most_one, only_one, has_found, rowid_is, of_each}
 
 -- an answer, or a row that is blamed
@@ -61,7 +61,7 @@ module _ (db : Database) (room : IsRoom db) (id : ℕ) (low : 0 < id) where
       (sym (node_at_row db id room.nodes.0 ∙ ap (option_and_then (λ r. node_in (shown_node r))) none), unread_at_row db id room.nodes.0 ∙ ap (λ o. is_some (option_and_then (λ r. unread_in (shown_node r)) o)) none)
 
   something : (r : Row) → find (has_rowid (pos id)) (db.trees 0) ≡ Some r → rowid r ≡ Int (pos id) → (o : Option Node) → node_in (shown_node r) ≡ o
-      → Tells (IsUnreadableAt id) (IsNodeAt id) (rows_of db) (answer_of (seen_as (option_map Some o) (number_in (rowid r))))
+      → Tells (IsUnreadableAt id) (IsNodeAt id) (rows_of db) (result_of_seen (seen_as (option_map Some o) (number_in (rowid r))))
   something r found is (Some n) seen = (
     sym (node_at_row db id room.nodes.0 ∙ ap (option_and_then (λ r. node_in (shown_node r))) found ∙ seen),
     unread_at_row db id room.nodes.0 ∙ ap (λ o. is_some (option_and_then (λ r. unread_in (shown_node r)) o)) found ∙ ap (λ o. is_some (if is_none o then number_in (rowid r) else None)) seen,
@@ -69,18 +69,18 @@ module _ (db : Database) (room : IsRoom db) (id : ℕ) (low : 0 < id) where
   something r found is None seen =
       let number : number_in (rowid r) ≡ Some id = ap number_in is ∙ number_in-low id low in
       let bad = unread_at_row db id room.nodes.0 ∙ ap (λ o. is_some (option_and_then (λ r. unread_in (shown_node r)) o)) found ∙ ap (λ o. is_some (if is_none o then number_in (rowid r) else None)) seen ∙ ap is_some number in
-      subst (λ o. Tells (IsUnreadableAt id) (IsNodeAt id) (rows_of db) (answer_of (seen_as None o))) (sym number) (refl, bad)
+      subst (λ o. Tells (IsUnreadableAt id) (IsNodeAt id) (rows_of db) (result_of_seen (seen_as None o))) (sym number) (refl, bad)
 
   -- what the rows that were found by this number answer
-  pub tells_node : (rows : List Row) → IsPermutation (map shown_node (filter (has_rowid (pos id)) (db.trees 0))) rows → Tells (IsUnreadableAt id) (IsNodeAt id) (rows_of db) (answer_of (seen_only rows))
+  pub tells_node : (rows : List Row) → IsPermutation (map shown_node (filter (has_rowid (pos id)) (db.trees 0))) rows → Tells (IsUnreadableAt id) (IsNodeAt id) (rows_of db) (result_of_seen (seen_only rows))
   tells_node rows perm = by (at_most_one (pos id) (db.trees 0) room.nodes.0)
     where
-      by : ((filter (has_rowid (pos id)) (db.trees 0) ≡ []) ⊎ ((r : Row) × (filter (has_rowid (pos id)) (db.trees 0) ≡ r ∷ []))) → Tells (IsUnreadableAt id) (IsNodeAt id) (rows_of db) (answer_of (seen_only rows))
+      by : ((filter (has_rowid (pos id)) (db.trees 0) ≡ []) ⊎ ((r : Row) × (filter (has_rowid (pos id)) (db.trees 0) ≡ r ∷ []))) → Tells (IsUnreadableAt id) (IsNodeAt id) (rows_of db) (result_of_seen (seen_only rows))
       by (inl none) =
           let empty = alone_in rows (subst (λ l. IsPermutation (map shown_node l) rows) none perm) in
-          subst (λ l. Tells (IsUnreadableAt id) (IsNodeAt id) (rows_of db) (answer_of (seen_only l))) (sym empty) (nothing (none_passes (has_rowid (pos id)) (db.trees 0) none))
+          subst (λ l. Tells (IsUnreadableAt id) (IsNodeAt id) (rows_of db) (result_of_seen (seen_only l))) (sym empty) (nothing (none_passes (has_rowid (pos id)) (db.trees 0) none))
       by (inr (r, one)) =
           let there = only_one (has_rowid (pos id)) (db.trees 0) r one in
           let is = rowid_is (pos id) r (of_each _ (db.trees 0) room.nodes.1 r (has_found (has_rowid (pos id)) (db.trees 0) r there.0)) there.1 in
           let alone = one_permutation (shown_node r) rows (subst (λ l. IsPermutation (map shown_node l) rows) one perm) in
-          subst (λ l. Tells (IsUnreadableAt id) (IsNodeAt id) (rows_of db) (answer_of (seen_only l))) (sym alone) (something r there.0 is (node_in (shown_node r)) refl)
+          subst (λ l. Tells (IsUnreadableAt id) (IsNodeAt id) (rows_of db) (result_of_seen (seen_only l))) (sym alone) (something r there.0 is (node_in (shown_node r)) refl)

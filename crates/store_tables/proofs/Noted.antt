@@ -32,7 +32,7 @@ use Rattle.sqlite_trees.proofs.TreeLemmas.{IsShaped-put_row}
 use Rattle.sqlite_value.proofs.OrderLemmas.{value_cmp-Int}
 use Rattle.store_tables.specs.declared.columns.Record.{Record}
 use Rattle.store_tables.specs.Columns.{record_values}
-use Rattle.store_tables.specs.Shown.{IsRoom, Notes, stored_record}
+use Rattle.store_tables.specs.Shown.{IsRoom, AddsRecordRow, stored_record}
 use Rattle.store_tables.specs.Tables.{audits, counters, room_schema}
 use Rattle.store_tables.proofs.Executed.{WritesRoom}
 use Rattle.store_tables.proofs.Texts.{note_is, note_text, plain_texts}
@@ -194,7 +194,7 @@ noted r old new count has h =
       shown = w.shown;
     }
 
-pub notes : (r : Record) (old new : State) (count : ℕ) → IsRoom old.now → Executes note_text (record_values r) old new (Ok count) → Notes (record_values r) old.now.trees new.now.trees
+pub notes : (r : Record) (old new : State) (count : ℕ) → IsRoom old.now → Executes note_text (record_values r) old new (Ok count) → AddsRecordRow (record_values r) old.now.trees new.now.trees
 notes r old new count room h =
     let d = noted r old new count room.schema h in
     record {

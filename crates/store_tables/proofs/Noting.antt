@@ -12,7 +12,7 @@ use Rattle.room_rows.specs.declared.node.AuditRow.{AuditRow}
 use Rattle.store_tables.specs.declared.columns.Record.{Record}
 use Rattle.store_tables.specs.Columns.{Recalls, record_values}
 use Rattle.store_tables.specs.Meaning.{audit_in, bodies_of, granted_in, mask_in, name_in, nodes_of, pairs_of, unread_of, user_in}
-use Rattle.store_tables.specs.Shown.{Notes, stored_record}
+use Rattle.store_tables.specs.Shown.{AddsRecordRow, stored_record}
 use Rattle.store_tables.specs.Trust.{HasNoted}
 use Rattle.store_tables.proofs.Removed.{same_rows}
 
@@ -33,7 +33,7 @@ granted_back false = refl
 recalled : (seq : ℤ) (a : AuditRow) (r : Record) → Recalls a r → audit_in (stored_record seq (record_values r)) ≡ Some a
 recalled seq a r s = rw (granted_back r.granted, s.user, s.path, s.bits, s.entry, s.at, s.granted) refl
 
-pub noted_rows : (db now : Database) (a : AuditRow) (r : Record) → Recalls a r → Notes (record_values r) db.trees now.trees → HasNoted a db now
+pub noted_rows : (db now : Database) (a : AuditRow) (r : Record) → Recalls a r → AddsRecordRow (record_values r) db.trees now.trees → HasNoted a db now
 noted_rows db now a r recalls put =
     let row = stored_record put.seq (record_values r) in
     same_rows (ap nodes_of put.nodes) (ap unread_of put.nodes) (ap bodies_of put.bodies) (ap pairs_of put.members)

@@ -13,7 +13,7 @@ use Rattle.room_rows.specs.Content.{node_at, without_node}
 use Rattle.room_rows.specs.Rows.{Rows, is_unreadable}
 use Rattle.room_rows.specs.Keep.{CanRemove, reading}
 use Rattle.room_rows.proofs.Lookups.{not_none}
-use Rattle.store_tables.specs.Shown.{Removes, IsRoom, shown_node}
+use Rattle.store_tables.specs.Shown.{RemovesRow, IsRoom, shown_node}
 use Rattle.store_tables.specs.Meaning.{number_in, node_in, unread_in, body_in, audit_in, nodes_of, unread_of, bodies_of, pairs_of, rows_of}
 use Rattle.store_tables.specs.Keyed.{has_key}
 use Rattle.store_tables.specs.Filed.{node_keyed, unread_keyed, body_rowid, node_at_row, unread_at_row}
@@ -61,7 +61,7 @@ pub same_rows : {a b : List Node} {u v : List ℕ} {c d : List (ℕ × List ℕ)
     → ◌≡◌ {A = Rows} (record { read = record { nodes = a; bodies = c; members = m; audits = x }; unreadable = u }) (record { read = record { nodes = b; bodies = d; members = k; audits = y }; unreadable = v })
 same_rows p q r s t = cc
 
-pub removed_rows : (db next : Database) (id : ℕ) → IsRoom db → Removes (pos id) db.trees next.trees → CanRemove id (rows_of db) → rows_of next ≡ reading (rows_of db) (without_node (rows_of db).read id)
+pub removed_rows : (db next : Database) (id : ℕ) → IsRoom db → RemovesRow (pos id) db.trees next.trees → CanRemove id (rows_of db) → rows_of next ≡ reading (rows_of db) (without_node (rows_of db).read id)
 removed_rows db next id room gone can =
     let nodes : nodes_of (next.trees 0) ≡ filter (λ (n : Node). not (n.id == id)) (nodes_of (db.trees 0)) = ap nodes_of gone.nodes ∙ read_without (λ r. node_in (shown_node r)) (λ (n : Node). n.id) node_keyed id (db.trees 0) in
     let unread : unread_of (next.trees 0) ≡ unread_of (db.trees 0) =

@@ -9,7 +9,7 @@ use Rattle.sqlite.specs.Tree.{rowid}
 use Rattle.sqlite.proofs.Callers.{reads_as}
 use Rattle.sqlite_keyed.specs.Lists.{sort_by}
 use Rattle.sqlite_keyed.proofs.ListLemmas.{ascending-filter}
-use Rattle.store_tables.specs.Shown.{IsRoom, is_child, is_user, shown_node}
+use Rattle.store_tables.specs.Shown.{IsRoom, is_child, is_user_row, shown_node}
 use Rattle.store_tables.specs.Statements.{HasBytes, HasChild, HasGroups, HasNames, HasNode, HasNumbers, HasSome, HasTop, HasUnder, by_column, shown_bytes, shown_group, shown_name, shown_number}
 use Rattle.store_tables.specs.Tables.{room_schema}
 use Rattle.store_tables.proofs.Answers.{passes}
@@ -78,6 +78,6 @@ module _ (old new : State) (rows : List Row) (room : IsRoom old.now) where
       let tests = matches_parameter 2 0 ∷ [] in
       let params = Text user ∷ [] in
       let read = reads_as groups_text params old new room_schema room.schema (selects groups_query (codes "grp" ∷ [])) groups_is.0 plain_texts.6 groups_is.1 rows h in
-      let same = filter_same (passes tests params) (is_user user) (passes_user user) (old.now.trees 3) in
+      let same = filter_same (passes tests params) (is_user_row user) (passes_user user) (old.now.trees 3) in
       in_order 3 1 tests (col 1 1 ∷ []) (lit (Int (negsuc 0))) (overlay old.now.trees []) params rows (read.answer Null) (subst (HasNoTies (by_column 1)) (sym same) (members_apart old.now room user))
       ∙ ap (λ l. map shown_group (sort_by (by_column 1) l)) same

@@ -12,7 +12,7 @@ use Rattle.sqlite_sql.specs.declared.ops.BinaryOp.TheVariants.{Compare, Is}
 use Rattle.sqlite_sql.specs.declared.ops.CompareOp.TheVariants.{Eq, Ge}
 use Rattle.sqlite_value.specs.declared.keys.Collation.TheVariants.{Binary}
 use Rattle.sqlite_value.proofs.OrderLemmas.{value_cmp-Null}
-use Rattle.store_tables.specs.Shown.{is_numbered, is_child, is_child_named, is_top, is_user}
+use Rattle.store_tables.specs.Shown.{is_numbered, is_child, is_child_named, is_top, is_user_row}
 use Rattle.store_tables.proofs.Texts.{matches_parameter, is_kept, top_tests}
 use Rattle.store_tables.proofs.Answers.{passes}
 
@@ -85,5 +85,5 @@ pub passes_top : (r : Row) → passes top_tests [] r ≡ is_top r
 passes_top r = ap (λ b. b && (is_true (binary (Compare Ge Binary) (rowid r) (Int (pos 1))) && true)) (is_null_is (column r 2))
     ∙ ap (λ b. is_eq (value_cmp (column r 2) Null) && b) (and_true _ ∙ at_least_int (rowid r) (pos 1))
 
-pub passes_user : (user : List ℕ) (r : Row) → passes (matches_parameter 2 0 ∷ []) (Text user ∷ []) r ≡ is_user user r
+pub passes_user : (user : List ℕ) (r : Row) → passes (matches_parameter 2 0 ∷ []) (Text user ∷ []) r ≡ is_user_row user r
 passes_user user r = and_true _ ∙ equals_text (column r 2) user

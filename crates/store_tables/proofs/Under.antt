@@ -25,7 +25,7 @@ use Rattle.room_rows.specs.Keep.{AreChildrenOf, IsUnreadable}
 use Rattle.room_rows.specs.Rows.{Rows}
 use Rattle.store_tables.specs.Filed.{node_parts}
 use Rattle.store_tables.specs.Meaning.{node_in, number_in, rows_of, text_in}
-use Rattle.store_tables.specs.Seeing.{answer_of, seen_as, seen_behind, seen_then}
+use Rattle.store_tables.specs.Seeing.{result_of_seen, seen_as, seen_behind, seen_then}
 use Rattle.store_tables.specs.Shown.{IsRoom, is_child, shown_node}
 use Rattle.store_tables.specs.Statements.{HasUnder, by_column}
 use Rattle.store_tables.proofs.Named.{unread_row, utf8_is}
@@ -98,16 +98,16 @@ tells_by Blames A B rows f (Err Store) t = tt
 tells_by Blames A B rows f (Err (Damaged at)) t = t
 
 module _ (db : Database) (room : IsRoom db) where
-  read_step : (done : List Node) (r : Row) (rows : List Row) → Has (db.trees 0) r → ((before : List Node) → Tells IsUnreadable (AreRead before rows) (rows_of db) (answer_of (seen_behind node_in before (map shown_node rows))))
-      → (o : Option Node) → see r ≡ o → (m : Option ℕ) → number_in (rowid r) ≡ m → Tells IsUnreadable (AreRead done (r ∷ rows)) (rows_of db) (answer_of (seen_then (seen_as o m) (λ before. seen_behind node_in before (map shown_node rows)) done))
+  read_step : (done : List Node) (r : Row) (rows : List Row) → Has (db.trees 0) r → ((before : List Node) → Tells IsUnreadable (AreRead before rows) (rows_of db) (result_of_seen (seen_behind node_in before (map shown_node rows))))
+      → (o : Option Node) → see r ≡ o → (m : Option ℕ) → number_in (rowid r) ≡ m → Tells IsUnreadable (AreRead done (r ∷ rows)) (rows_of db) (result_of_seen (seen_then (seen_as o m) (λ before. seen_behind node_in before (map shown_node rows)) done))
   read_step done r rows there more (Some n) seen m number =
       tells_by IsUnreadable (AreRead (done ++ n ∷ []) rows) (AreRead done (r ∷ rows)) (rows_of db)
       (λ nodes read. (read.0 ∙ append_assoc done (n ∷ []) (filter_map see rows) ∙ ap (λ x. done ++ cons_option x (filter_map see rows)) (sym seen), ((n, seen), read.1)))
-      (answer_of (seen_behind node_in (done ++ n ∷ []) (map shown_node rows))) (more (done ++ n ∷ []))
+      (result_of_seen (seen_behind node_in (done ++ n ∷ []) (map shown_node rows))) (more (done ++ n ∷ []))
   read_step done r rows there more None seen None number = tt
   read_step done r rows there more None seen (Some id) number = unread_row db room r id there seen number
 
-  reads : (rows : List Row) → ((r : Row) → Has rows r → Has (db.trees 0) r) → (done : List Node) → Tells IsUnreadable (AreRead done rows) (rows_of db) (answer_of (seen_behind node_in done (map shown_node rows)))
+  reads : (rows : List Row) → ((r : Row) → Has rows r → Has (db.trees 0) r) → (done : List Node) → Tells IsUnreadable (AreRead done rows) (rows_of db) (result_of_seen (seen_behind node_in done (map shown_node rows)))
   reads [] within done = (sym (append-nil done), tt)
   reads (r ∷ rows) within done = read_step done r rows (within r (inl refl)) (reads rows (λ x there. within x (inr there))) (see r) refl (number_in (rowid r)) refl
 
@@ -121,11 +121,11 @@ module _ (db : Database) (room : IsRoom db) where
       of_each (λ r. Has (db.trees 0) r) (sort_by by_name (under parent))
       (all-permutation (λ r. Has (db.trees 0) r) (under parent) (sort_by by_name (under parent)) (IsPermutation-sym (sort_by by_name (under parent)) (under parent) order) all)
 
-  pub tells_under : (parent : ℕ) (rows : List Row) → HasUnder (pos parent) db.trees rows → Tells IsUnreadable (AreChildrenOf parent) (rows_of db) (answer_of (seen_behind node_in [] rows))
+  pub tells_under : (parent : ℕ) (rows : List Row) → HasUnder (pos parent) db.trees rows → Tells IsUnreadable (AreChildrenOf parent) (rows_of db) (result_of_seen (seen_behind node_in [] rows))
   tells_under parent rows shown =
       let kept = under parent in
       let order = IsPermutation-sort_by by_name (on_total (λ (r : Row). column r 3) value_cmp_total) kept in
-      subst (λ l. Tells IsUnreadable (AreChildrenOf parent) (rows_of db) (answer_of (seen_behind node_in [] l))) (sym shown)
+      subst (λ l. Tells IsUnreadable (AreChildrenOf parent) (rows_of db) (result_of_seen (seen_behind node_in [] l))) (sym shown)
       (tells_by IsUnreadable (AreRead [] (sort_by by_name kept)) (AreChildrenOf parent) (rows_of db)
       (λ nodes read. read.0 ∙ sorted_read kept (all-permutation IsSeen (sort_by by_name kept) kept order read.1) ∙ sym (children_read db parent))
-      (answer_of (seen_behind node_in [] (map shown_node (sort_by by_name kept)))) (reads (sort_by by_name kept) (sorted_within parent) []))
+      (result_of_seen (seen_behind node_in [] (map shown_node (sort_by by_name kept)))) (reads (sort_by by_name kept) (sorted_within parent) []))

@@ -8,7 +8,7 @@ use Rattle.room_rows.specs.declared.node.Node.{Node}
 use Rattle.store_tables.specs.declared.columns.Columns.{Columns}
 use Rattle.store_tables.specs.declared.columns.Record.{Record}
 use Rattle.sqlite.specs.Effect.{Database}
-use Rattle.store_tables.specs.Shown.{Adds}
+use Rattle.store_tables.specs.Shown.{AddsRow}
 use Rattle.store_tables.specs.Meaning.{parent_in, text_in, kind_in, name_in, flags_in, entries_in}
 use Rattle.store_tables.specs.Meaning.{mask_in, path_in, place_in, user_in}
 
@@ -23,7 +23,7 @@ abbrev pub IsParent : Value → Type 0
 IsParent v = (v ≡ Null) ⊎ ((n : ℤ) × (v ≡ Int n))
 
 -- what is read of the columns is the object
-pub record Stores (n : Node) (c : Columns) : Type 0 where
+pub record ReadsAsNode (n : Node) (c : Columns) : Type 0 where
   pub is_parent : IsParent c.parent
   pub parent : parent_in c.parent ≡ Some n.parent
   pub name : text_in (Text (string_bytes c.name)) ≡ Some n.name
@@ -38,10 +38,10 @@ pub record Stores (n : Node) (c : Columns) : Type 0 where
   pub sacl_inh : entries_in (Text (string_bytes c.sacl_inh)) ≡ Some n.sacl.inh
 
 -- an object is stored in columns that are put in with this number
-pub record IsStored (node : Node) (id : ℕ) (old new : Database) : Type 0 where
+pub record IsInserted (node : Node) (id : ℕ) (old new : Database) : Type 0 where
   pub columns : Columns
-  pub stores : Stores node columns
-  pub adds : Adds (pos id) (values_of columns) old.trees new.trees
+  pub stores : ReadsAsNode node columns
+  pub adds : AddsRow (pos id) (values_of columns) old.trees new.trees
   pub from_one : 0 < id
 
 abbrev pub record_values : Record → Row

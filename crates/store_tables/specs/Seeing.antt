@@ -72,10 +72,10 @@ abbrev pub wants_memory : Error → Bool
 wants_memory (SqliteFailure OutOfMemory) = true
 wants_memory other = false
 
-abbrev pub answer_of : {X : Type 0} → Seen X → Result X KeepFault
-answer_of Foreign = Err Store
-answer_of (Unread id) = Err (Damaged id)
-answer_of (Found x) = Ok x
+abbrev pub result_of_seen : {X : Type 0} → Seen X → Result X KeepFault
+result_of_seen Foreign = Err Store
+result_of_seen (Unread id) = Err (Damaged id)
+result_of_seen (Found x) = Ok x
 
 abbrev pub needed : Option Node → Result Node KeepFault
 needed None = Err (Damaged 0)

@@ -21,8 +21,8 @@ shown_node r = column r 0 ∷ column r 2 ∷ column r 3 ∷ column r 4 ∷ colum
     ∷ column r 7 ∷ column r 8 ∷ column r 9 ∷ column r 10 ∷ column r 11 ∷ column r 12 ∷ []
 
 -- the pair of this user
-abbrev pub is_user : List ℕ → Row → Bool
-is_user user r = is_eq (value_cmp (column r 2) (Text user))
+abbrev pub is_user_row : List ℕ → Row → Bool
+is_user_row user r = is_eq (value_cmp (column r 2) (Text user))
 
 -- the row's number is from 1 on
 abbrev pub is_numbered : Row → Bool
@@ -95,7 +95,7 @@ pub record Stays (old new : State) : Type 0 where
       → new.now ≡ new.committed
 
 -- an object is taken out of the tables, with its bytes
-pub record Removes (id : ℤ) (db next : Trees) : Type 0 where
+pub record RemovesRow (id : ℤ) (db next : Trees) : Type 0 where
   pub nodes : next 0 ≡ without_rowid id (db 0)
   pub bodies : next 2 ≡ without_rowid id (db 2)
   pub members : next 3 ≡ db 3
@@ -136,7 +136,7 @@ pub record Fills (id : ℤ) (bytes : List ℕ) (db next : Trees) : Type 0 where
   pub audits : next 7 ≡ db 7
 
 -- a row with this number, which none had, is put in
-pub record Adds (id : ℤ) (values : Row) (db next : Trees) : Type 0 where
+pub record AddsRow (id : ℤ) (values : Row) (db next : Trees) : Type 0 where
   pub number : id ≡ next_rowid (db 0)
   pub fresh : is_taken (db 0) (stored_node id values) ≡ false
   pub nodes : next 0 ≡ put_row (stored_node id values) (db 0)
@@ -162,7 +162,7 @@ abbrev pub stored_record : ℤ → Row → Row
 stored_record seq values = Int seq ∷ Null ∷ values
 
 -- a record is put in after the others
-pub record Notes (values : Row) (db next : Trees) : Type 0 where
+pub record AddsRecordRow (values : Row) (db next : Trees) : Type 0 where
   pub seq : ℤ
   pub nodes : next 0 ≡ db 0
   pub bodies : next 2 ≡ db 2

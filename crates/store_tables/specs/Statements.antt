@@ -9,13 +9,13 @@ use Rattle.sqlite.specs.State.{State, HasCleanDisk, IsUnchanged}
 use Rattle.sqlite_keyed.specs.Lists.{sort_by}
 use Rattle.std.specs.declared.cmp.Ordering.{Ordering}
 use Rattle.sqlite.specs.Edit.{next_rowid}
-use Rattle.store_tables.specs.Shown.{Adds, IsRoom, Stays, shown_node, is_child, is_child_named}
-use Rattle.store_tables.specs.Shown.{is_numbered, is_top, is_user}
+use Rattle.store_tables.specs.Shown.{AddsRow, IsRoom, Stays, shown_node, is_child, is_child_named}
+use Rattle.store_tables.specs.Shown.{is_numbered, is_top, is_user_row}
 
 -- ---- queries
 
 -- Over a room's tables the query shows such rows, and changes nothing.
-pub record Asks (Shows : Trees → List Row → Type 0) (old new : State)
+pub record QueriesSql (Shows : Trees → List Row → Type 0) (old new : State)
     (result : Result (Vec Row Global) Error) : Type 0 where
   pub rows : HasCleanDisk new → IsRoom old.now
       → IfOk result (λ rows. Shows old.now.trees rows.items)
@@ -65,7 +65,7 @@ shown_group r = column r 1 ∷ []
 -- the groups of this user, in order
 abbrev pub HasGroups : List ℕ → Trees → List Row → Type 0
 HasGroups user db rows =
-    rows ≡ map shown_group (sort_by (by_column 1) (filter (is_user user) (db 3)))
+    rows ≡ map shown_group (sort_by (by_column 1) (filter (is_user_row user) (db 3)))
 
 -- all numbers, rising
 abbrev pub HasNumbers : Trees → List Row → Type 0
@@ -81,8 +81,8 @@ HasBytes id db rows = IsPermutation (map shown_bytes (filter (has_rowid id) (db 
 -- ---- changes
 
 -- Over a room's tables the command leaves this, by the count that it answers.
-pub record Writes (Leaves : ℕ → State → State → Type 0) (old new : State) (result : Result ℕ Error)
-    : Type 0 where
+pub record ExecutesSql (Leaves : ℕ → State → State → Type 0) (old new : State)
+    (result : Result ℕ Error) : Type 0 where
   pub leaves : HasCleanDisk new → IsRoom old.now → IfOk result (λ count. Leaves count old new)
   pub stays : Stays old new
 
@@ -96,7 +96,7 @@ OfAny Becomes count old new = Becomes old.now.trees new.now.trees
 
 -- a row of nodes is put in with the next number, which the connection then answers
 abbrev pub PutsNode : Row → State → State → Type 0
-PutsNode values old new = Adds (next_rowid (old.now.trees 0)) values old.now.trees new.now.trees
+PutsNode values old new = AddsRow (next_rowid (old.now.trees 0)) values old.now.trees new.now.trees
     × (new.last_rowid ≡ next_rowid (old.now.trees 0))
 
 abbrev pub OfNode : Row → ℕ → State → State → Type 0

@@ -1,7 +1,7 @@
 //! The columns of an object.
 ghost use Rattle.std.specs.Prelude.{◌≡◌, Some, IfOk, IfSome, pos, string_bytes};
 ghost use Rattle.sqlite.specs.declared.types.Value.TheVariants.{Int, Text as SqlText};
-ghost use Rattle.store_tables.specs.Columns.{IsParent, Recalls, Stores};
+ghost use Rattle.store_tables.specs.Columns.{IsParent, Recalls, ReadsAsNode};
 ghost use Rattle.store_tables.specs.Meaning.{entries_in, flags_in, kind_in, mask_in, name_in};
 ghost use Rattle.store_tables.specs.Meaning.{parent_in, path_in, place_in, text_in, user_in};
 
@@ -96,7 +96,7 @@ fn list_columns(alloc: Global, held: &Held) -> Result<(String, String), AllocErr
 
 /// The columns in which the object is stored, if it can be.
 pub(crate) fn columns_of(alloc: Global, node: &Node) -> Result<Option<Columns>, AllocError>
-    ensures { IfOk result (λ o. IfSome o (Stores node.now)) }
+    ensures { IfOk result (λ o. IfSome o (ReadsAsNode node.now)) }
 {
     let Some(parent) = parent_column(node.parent) else {
         return Ok(None);

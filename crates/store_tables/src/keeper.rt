@@ -5,7 +5,7 @@ ghost use Rattle.room_rows.specs.Counts.{capped_ends, capped_rises};
 ghost use Rattle.std.specs.Prelude.{◌≡◌, ◌≤◌, pos};
 ghost use Rattle.room_rows.specs.Keep.{capped, writes_after};
 ghost use Rattle.store_tables.specs.Meaning.{rows_of};
-ghost use Rattle.store_tables.specs.Columns.{IsStored};
+ghost use Rattle.store_tables.specs.Columns.{IsInserted};
 ghost use Rattle.room_ace.specs.Valid.{is_document};
 ghost use Rattle.store_tables.specs.Shown.{GetsBytes, Stays};
 ghost use Rattle.store_tables.specs.Trust.{HasNoted, Inherits, IsTrusted, Puts, Rewrites};
@@ -110,7 +110,7 @@ fn put_new<S: Alter>(keeper: &mut Keeper<'_, '_, S>, node: &Node) -> Result<u64,
     ensures unwritten { keeper.new.writes ≡ keeper.old.writes }
     ensures puts { Puts (state S.Store keeper.old.tx.now.conn.now)
         (state S.Store keeper.new.tx.now.conn.now) keeper.old.failures keeper.new.failures
-        result (IsStored node.now) }
+        result (IsInserted node.now) }
 {
     let Some(columns) = columns_of(keeper.alloc, node)? else {
         return Err(failed(&mut keeper.failures));

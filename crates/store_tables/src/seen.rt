@@ -5,7 +5,8 @@ ghost use Rattle.sqlite.specs.Order.{column};
 ghost use Rattle.sqlite_value.specs.Value.{owned};
 ghost use Rattle.room_rows.specs.Keep.{capped};
 ghost use Rattle.store_tables.specs.Meaning.{named_in, node_in, number_in};
-ghost use Rattle.store_tables.specs.Seeing.{answer_of, bytes_as, bytes_seen, counted_by, names_seen};
+ghost use Rattle.store_tables.specs.Seeing.{result_of_seen, bytes_as, bytes_seen};
+ghost use Rattle.store_tables.specs.Seeing.{counted_by, names_seen};
 ghost use Rattle.store_tables.specs.Seeing.{numbers_seen, seen_behind, seen_in, seen_only};
 ghost use Rattle.store_tables.specs.Seeing.{top_of, unread_as};
 
@@ -153,7 +154,7 @@ pub(crate) fn see_numbers(alloc: Global, rows: &[Row]) -> Result<Numbers, AllocE
 
 /// The answer of a call by what is seen.
 pub(crate) fn answer<T>(seen: Seen<T>, failures: &mut u64) -> Result<T, KeepFault>
-    ensures answer { result ≡ answer_of seen }
+    ensures answer { result ≡ result_of_seen seen }
     ensures counted { counted_by result (capped failures.old) (capped failures.new) }
     ensures no_less { failures.old ≤ failures.new }
 {

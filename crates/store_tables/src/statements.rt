@@ -2,11 +2,13 @@
 ghost use Rattle.std.specs.Prelude.{◌≡◌};
 ghost use Rattle.sqlite.specs.Held.{state};
 ghost use Rattle.store_tables.specs.Columns.{IsParent, record_values, values_of};
-ghost use Rattle.store_tables.specs.Shown.{Bodies, Fills, Notes, Recasts, Removes, Replaces};
+ghost use Rattle.store_tables.specs.Shown.{Bodies, Fills, AddsRecordRow};
+ghost use Rattle.store_tables.specs.Shown.{Recasts, RemovesRow, Replaces};
 ghost use Rattle.store_tables.specs.Shown.{inheriting};
-ghost use Rattle.store_tables.specs.Statements.{Asks, HasBytes, HasChild, HasGroups, HasNames};
+ghost use Rattle.store_tables.specs.Statements.{QueriesSql, HasBytes, HasChild};
+ghost use Rattle.store_tables.specs.Statements.{HasGroups, HasNames};
 ghost use Rattle.store_tables.specs.Statements.{HasNode, HasNumbers, HasSome, HasTop, HasUnder};
-ghost use Rattle.store_tables.specs.Statements.{OfAny, OfNode, OfOne, Writes};
+ghost use Rattle.store_tables.specs.Statements.{OfAny, OfNode, OfOne, ExecutesSql};
 
 use crate::columns::{Columns, Record};
 use room_ace::Which;
@@ -15,7 +17,7 @@ use sqlite::{Alter, Error, Row, Transaction, params};
 /// The row of this number.
 pub(crate) fn select_node<S: Alter>(tx: &mut Transaction<'_, S>, id: i64) -> Result<Vec<Row>, Error>
     ensures same_reference { tx.new.conn.ghost_name ≡ tx.old.conn.ghost_name }
-    ensures asks { Asks (HasNode id)
+    ensures asks { QueriesSql (HasNode id)
         (state S.Store tx.old.conn.now) (state S.Store tx.new.conn.now) result }
 {
     tx.query_all(
@@ -32,7 +34,7 @@ pub(crate) fn select_child<S: Alter>(
     name: &str,
 ) -> Result<Vec<Row>, Error>
     ensures same_reference { tx.new.conn.ghost_name ≡ tx.old.conn.ghost_name }
-    ensures asks { Asks (HasChild parent name.now)
+    ensures asks { QueriesSql (HasChild parent name.now)
         (state S.Store tx.old.conn.now) (state S.Store tx.new.conn.now) result }
 {
     tx.query_all(
@@ -48,7 +50,7 @@ pub(crate) fn select_under<S: Alter>(
     parent: i64,
 ) -> Result<Vec<Row>, Error>
     ensures same_reference { tx.new.conn.ghost_name ≡ tx.old.conn.ghost_name }
-    ensures asks { Asks (HasUnder parent)
+    ensures asks { QueriesSql (HasUnder parent)
         (state S.Store tx.old.conn.now) (state S.Store tx.new.conn.now) result }
 {
     tx.query_all(
@@ -64,7 +66,7 @@ pub(crate) fn select_names<S: Alter>(
     parent: i64,
 ) -> Result<Vec<Row>, Error>
     ensures same_reference { tx.new.conn.ghost_name ≡ tx.old.conn.ghost_name }
-    ensures asks { Asks (HasNames parent)
+    ensures asks { QueriesSql (HasNames parent)
         (state S.Store tx.old.conn.now) (state S.Store tx.new.conn.now) result }
 {
     tx.query_all(
@@ -79,7 +81,7 @@ pub(crate) fn select_some<S: Alter>(
     parent: i64,
 ) -> Result<Vec<Row>, Error>
     ensures same_reference { tx.new.conn.ghost_name ≡ tx.old.conn.ghost_name }
-    ensures asks { Asks (HasSome parent)
+    ensures asks { QueriesSql (HasSome parent)
         (state S.Store tx.old.conn.now) (state S.Store tx.new.conn.now) result }
 {
     tx.query_all(
@@ -91,7 +93,7 @@ pub(crate) fn select_some<S: Alter>(
 /// The row without a parent of the least number.
 pub(crate) fn select_top<S: Alter>(tx: &mut Transaction<'_, S>) -> Result<Vec<Row>, Error>
     ensures same_reference { tx.new.conn.ghost_name ≡ tx.old.conn.ghost_name }
-    ensures asks { Asks HasTop
+    ensures asks { QueriesSql HasTop
         (state S.Store tx.old.conn.now) (state S.Store tx.new.conn.now) result }
 {
     tx.query_all(
@@ -108,7 +110,7 @@ pub(crate) fn select_groups<S: Alter>(
     user: &str,
 ) -> Result<Vec<Row>, Error>
     ensures same_reference { tx.new.conn.ghost_name ≡ tx.old.conn.ghost_name }
-    ensures asks { Asks (HasGroups user.now)
+    ensures asks { QueriesSql (HasGroups user.now)
         (state S.Store tx.old.conn.now) (state S.Store tx.new.conn.now) result }
 {
     tx.query_all(
@@ -120,7 +122,7 @@ pub(crate) fn select_groups<S: Alter>(
 /// All numbers, rising.
 pub(crate) fn select_numbers<S: Alter>(tx: &mut Transaction<'_, S>) -> Result<Vec<Row>, Error>
     ensures same_reference { tx.new.conn.ghost_name ≡ tx.old.conn.ghost_name }
-    ensures asks { Asks HasNumbers
+    ensures asks { QueriesSql HasNumbers
         (state S.Store tx.old.conn.now) (state S.Store tx.new.conn.now) result }
 {
     tx.query_all("SELECT id FROM nodes WHERE id >= 1 ORDER BY id", params![])
@@ -132,7 +134,7 @@ pub(crate) fn select_bytes<S: Alter>(
     id: i64,
 ) -> Result<Vec<Row>, Error>
     ensures same_reference { tx.new.conn.ghost_name ≡ tx.old.conn.ghost_name }
-    ensures asks { Asks (HasBytes id)
+    ensures asks { QueriesSql (HasBytes id)
         (state S.Store tx.old.conn.now) (state S.Store tx.new.conn.now) result }
 {
     tx.query_all("SELECT bytes FROM bodies WHERE node = ?1", params![id])
@@ -141,7 +143,7 @@ pub(crate) fn select_bytes<S: Alter>(
 /// Takes the row of this number out, with its bytes.
 pub(crate) fn delete_node<S: Alter>(tx: &mut Transaction<'_, S>, id: i64) -> Result<usize, Error>
     ensures same_reference { tx.new.conn.ghost_name ≡ tx.old.conn.ghost_name }
-    ensures writes { Writes (OfOne (Removes id))
+    ensures writes { ExecutesSql (OfOne (RemovesRow id))
         (state S.Store tx.old.conn.now) (state S.Store tx.new.conn.now) result }
 {
     tx.execute("DELETE FROM nodes WHERE id = ?1", params![id])
@@ -155,7 +157,7 @@ pub(crate) fn update_node<S: Alter>(
 ) -> Result<usize, Error>
     requires { IsParent columns.now.parent }
     ensures same_reference { tx.new.conn.ghost_name ≡ tx.old.conn.ghost_name }
-    ensures writes { Writes (OfOne (Replaces id (values_of columns.now)))
+    ensures writes { ExecutesSql (OfOne (Replaces id (values_of columns.now)))
         (state S.Store tx.old.conn.now) (state S.Store tx.new.conn.now) result }
 {
     tx.execute(
@@ -186,7 +188,7 @@ fn update_dacl_inh<S: Alter>(
     text: &str,
 ) -> Result<usize, Error>
     ensures same_reference { tx.new.conn.ghost_name ≡ tx.old.conn.ghost_name }
-    ensures writes { Writes (OfOne (Recasts (inheriting Which.Dacl text.now) id))
+    ensures writes { ExecutesSql (OfOne (Recasts (inheriting Which.Dacl text.now) id))
         (state S.Store tx.old.conn.now) (state S.Store tx.new.conn.now) result }
 {
     tx.execute(
@@ -202,7 +204,7 @@ fn update_sacl_inh<S: Alter>(
     text: &str,
 ) -> Result<usize, Error>
     ensures same_reference { tx.new.conn.ghost_name ≡ tx.old.conn.ghost_name }
-    ensures writes { Writes (OfOne (Recasts (inheriting Which.Sacl text.now) id))
+    ensures writes { ExecutesSql (OfOne (Recasts (inheriting Which.Sacl text.now) id))
         (state S.Store tx.old.conn.now) (state S.Store tx.new.conn.now) result }
 {
     tx.execute(
@@ -219,7 +221,7 @@ pub(crate) fn update_inh<S: Alter>(
     text: &str,
 ) -> Result<usize, Error>
     ensures same_reference { tx.new.conn.ghost_name ≡ tx.old.conn.ghost_name }
-    ensures writes { Writes (OfOne (Recasts (inheriting which text.now) id))
+    ensures writes { ExecutesSql (OfOne (Recasts (inheriting which text.now) id))
         (state S.Store tx.old.conn.now) (state S.Store tx.new.conn.now) result }
 {
     match which {
@@ -235,7 +237,7 @@ pub(crate) fn update_bytes<S: Alter>(
     bytes: &[u8],
 ) -> Result<usize, Error>
     ensures same_reference { tx.new.conn.ghost_name ≡ tx.old.conn.ghost_name }
-    ensures writes { Writes (OfOne (Fills id bytes.now))
+    ensures writes { ExecutesSql (OfOne (Fills id bytes.now))
         (state S.Store tx.old.conn.now) (state S.Store tx.new.conn.now) result }
 {
     tx.execute(
@@ -251,7 +253,7 @@ pub(crate) fn insert_node<S: Alter>(
 ) -> Result<usize, Error>
     requires { IsParent columns.now.parent }
     ensures same_reference { tx.new.conn.ghost_name ≡ tx.old.conn.ghost_name }
-    ensures writes { Writes (OfNode (values_of columns.now))
+    ensures writes { ExecutesSql (OfNode (values_of columns.now))
         (state S.Store tx.old.conn.now) (state S.Store tx.new.conn.now) result }
 {
     tx.execute(
@@ -280,7 +282,7 @@ pub(crate) fn insert_bytes<S: Alter>(
     bytes: &[u8],
 ) -> Result<usize, Error>
     ensures same_reference { tx.new.conn.ghost_name ≡ tx.old.conn.ghost_name }
-    ensures writes { Writes (OfAny (Bodies id bytes.now))
+    ensures writes { ExecutesSql (OfAny (Bodies id bytes.now))
         (state S.Store tx.old.conn.now) (state S.Store tx.new.conn.now) result }
 {
     tx.execute(
@@ -295,7 +297,7 @@ pub(crate) fn insert_record<S: Alter>(
     noted: &Record,
 ) -> Result<usize, Error>
     ensures same_reference { tx.new.conn.ghost_name ≡ tx.old.conn.ghost_name }
-    ensures writes { Writes (OfAny (Notes (record_values noted.now)))
+    ensures writes { ExecutesSql (OfAny (AddsRecordRow (record_values noted.now)))
         (state S.Store tx.old.conn.now) (state S.Store tx.new.conn.now) result }
 {
     tx.execute(

@@ -1,12 +1,12 @@
 use Rattle.std.proofs.Common.{[], refl, ◌∙◌}
-use Rattle.room_http.specs.Text.{refusal_text}
+use Rattle.room_http.specs.Text.{refusal_reply}
 use Rattle.room_http.proofs.KnownBytes.{Appends-none}
 use Rattle.room_http.proofs.Telling.{within-write}
 use Rattle.room_http.proofs.server.refuse.Goals as goal
 
 pub returns-in_default-clause-err : goal.returns-in_default-clause-err
 returns-in_default-clause-err g c =
-    (refl, (([], refusal_text c.args.refusal, refl, Appends-none _), refl))
+    (refl, (([], refusal_reply c.args.refusal, refl, Appends-none _), refl))
 
 pub returns-clause-err : goal.returns-clause-err
 returns-clause-err g c =

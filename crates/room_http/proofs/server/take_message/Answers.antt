@@ -5,7 +5,7 @@ use Rattle.http_message.specs.Asked.{request_of}
 use Rattle.room_http.specs.declared.server.Told.{Told}
 use Rattle.room_http.specs.Message.{Asked, asked}
 use Rattle.room_http.specs.Serve.{Seen}
-use Rattle.room_http.specs.Tell.{Tells}
+use Rattle.room_http.specs.Tell.{SendsReply}
 use Rattle.room_http.proofs.Telling.{at-value}
 use Rattle.room_http.proofs.Turning.{asks-the-same, closes-the-same, take-answered, take-failed, take-stop}
 use Rattle.room_http.proofs.server.take_message.Goals as goal
@@ -22,9 +22,9 @@ returns-in-Failed-clause-turn g c left near =
     let same : body c.deref.result.now ≡ asked w.message = ap body c.deref.ensures.value ∙ asks-the-same buf next w in
     let close = c.says_close-close.result in
     let says = closes-the-same buf next w c.args.answered close c.says_close-close.ensures in
-    let given = subst (λ (z : ℤ). Tells all z close (body c.deref.result.now) old new c.tell.result) (to_z-of_z w64 c.args.at c.ranges.at) (c.tell.ensures.tells left) in
-    let asks = subst (λ (a : Asked). Tells all c.args.at close a old new c.tell.result) same given in
-    let fails = at-value (Tells all c.args.at close (asked w.message) old new) _ _ Told.Failed c.in-Ok.is c.in-Failed.is asks in
+    let given = subst (λ (z : ℤ). SendsReply all z close (body c.deref.result.now) old new c.tell.result) (to_z-of_z w64 c.args.at c.ranges.at) (c.tell.ensures.tells left) in
+    let asks = subst (λ (a : Asked). SendsReply all c.args.at close a old new c.tell.result) same given in
+    let fails = at-value (SendsReply all c.args.at close (asked w.message) old new) _ _ Told.Failed c.in-Ok.is c.in-Failed.is asks in
     take-failed all c.args.at c.args.answered old new buf next w near refl fails.0 fails.1
 
 pub returns-clause-turn : goal.returns-clause-turn
@@ -39,9 +39,9 @@ returns-clause-turn g c left near =
     let same : body c.deref.result.now ≡ asked w.message = ap body c.deref.ensures.value ∙ asks-the-same buf next w in
     let close = c.says_close-close.result in
     let says = closes-the-same buf next w c.args.answered close c.says_close-close.ensures in
-    let given = subst (λ (z : ℤ). Tells all z close (body c.deref.result.now) old new c.tell.result) (to_z-of_z w64 c.args.at c.ranges.at) (c.tell.ensures.tells left) in
-    let asks = subst (λ (a : Asked). Tells all c.args.at close a old new c.tell.result) same given in
-    let told = at-value (Tells all c.args.at close (asked w.message) old new) _ _ Told.Answered c.in-Ok.is c.in-Answered.is asks in
+    let given = subst (λ (z : ℤ). SendsReply all z close (body c.deref.result.now) old new c.tell.result) (to_z-of_z w64 c.args.at c.ranges.at) (c.tell.ensures.tells left) in
+    let asks = subst (λ (a : Asked). SendsReply all c.args.at close a old new c.tell.result) same given in
+    let told = at-value (SendsReply all c.args.at close (asked w.message) old new) _ _ Told.Answered c.in-Ok.is c.in-Answered.is asks in
     take-answered all c.args.at c.args.answered old new buf c.behind_reply.new.buf.items next w told.0 close c.behind_reply.result
     c.requires.few near refl says c.behind_reply.ensures.closes c.behind_reply.ensures.stays told.1 told.2
 
@@ -57,7 +57,7 @@ returns-in-Err-clause-turn g c left near =
     let same : body c.deref.result.now ≡ asked w.message = ap body c.deref.ensures.value ∙ asks-the-same buf next w in
     let close = c.says_close-close.result in
     let says = closes-the-same buf next w c.args.answered close c.says_close-close.ensures in
-    let given = subst (λ (z : ℤ). Tells all z close (body c.deref.result.now) old new c.tell.result) (to_z-of_z w64 c.args.at c.ranges.at) (c.tell.ensures.tells left) in
-    let asks = subst (λ (a : Asked). Tells all c.args.at close a old new c.tell.result) same given in
-    let stopped = subst (λ r. Tells all c.args.at close (asked w.message) old new r) c.in-Err.is asks in
+    let given = subst (λ (z : ℤ). SendsReply all z close (body c.deref.result.now) old new c.tell.result) (to_z-of_z w64 c.args.at c.ranges.at) (c.tell.ensures.tells left) in
+    let asks = subst (λ (a : Asked). SendsReply all c.args.at close a old new c.tell.result) same given in
+    let stopped = subst (λ r. SendsReply all c.args.at close (asked w.message) old new r) c.in-Err.is asks in
     take-stop all c.args.at c.args.answered old new buf next w close c.in-Err.stop stopped.0 near refl says stopped.1

@@ -1,12 +1,12 @@
 use Rattle.std.proofs.Common.{◌≡◌, ◌≤◌, ◌-◌}
 use Rattle.room_import.specs.Groups.{groups_in, pairs_after}
-use Rattle.room_import.specs.Rows.{GoesOn, rows_left}
+use Rattle.room_import.specs.Rows.{ReadsNextRow, rows_left}
 use Rattle.room_import.proofs.reading.read_groups.Given as goal
 
 -- the pairs so far, and then those of the rows that are left
 abbrev pub invariant-rows : goal.invariant-rows
 invariant-rows l = record {
-  goes : GoesOn l.reader;
+  goes : ReadsNextRow l.reader;
   pairs : groups_in l.fn.bytes ≡ pairs_after l.gathered l.number (rows_left l.reader);
   within : l.number ≤ 20002;
 }

@@ -1,6 +1,6 @@
 use Rattle.std.proofs.Common.{◌≡◌, [], Ok, map, take}
 use Rattle.sqlite.specs.Held.{state}
-use Rattle.store_admin.specs.Carries.{Carries, NoTables}
+use Rattle.store_admin.specs.Carries.{CallsInside, NoTables}
 use Rattle.store_admin.specs.Operating.{Gathers}
 use Rattle.store_admin.proofs.putting.insert_each.Given as goal
 
@@ -8,5 +8,5 @@ use Rattle.store_admin.proofs.putting.insert_each.Given as goal
 abbrev pub invariant-loop-at : goal.invariant-loop-at
 invariant-loop-at g l =
     (l.tx.conn.ghost_name ≡ l.fn.tx.conn.ghost_name)
-    × Carries {X = Unit {0}} (state g.S.Store l.fn.tx.conn.now) (state g.S.Store l.tx.conn.now) (Ok tt)
+    × CallsInside {X = Unit {0}} (state g.S.Store l.fn.tx.conn.now) (state g.S.Store l.tx.conn.now) (Ok tt)
     NoTables (Gathers [] (take l.at (map (λ p. p.now) l.order)))

@@ -1,7 +1,7 @@
 use Rattle.std.proofs.Common.{◌≡◌, refl, ap, subst, ◌∙◌, pos, arith, to_z, of_z, w64}
 use Rattle.std.proofs.Math.Facts.{to_z-of_z}
 use Rattle.sqlite.specs.Held.{state}
-use Rattle.store_tables.specs.Columns.{Stores, values_of}
+use Rattle.store_tables.specs.Columns.{ReadsAsNode, values_of}
 use Rattle.store_tables.specs.Shown.{Replaces}
 use Rattle.store_tables.proofs.Replaced.{replaced_rows}
 use Rattle.store_tables.proofs.Storing.{stored_back}
@@ -13,7 +13,7 @@ returns-clause-puts g c =
     let new = state g.S.Store c.update_node-done.new.tx.conn.now in
     let node = c.args.node.now in
     let columns = c.in-Some-2.columns in
-    let stores : Stores node columns = rw c.in-Some-2.is at c.in_ok-columns.ensures in
+    let stores : ReadsAsNode node columns = rw c.in-Some-2.is at c.in_ok-columns.ensures in
     let at : to_z w64 (of_z w64 c.in-Some.at) ≡ pos node.id = ap (λ z. to_z w64 (of_z w64 z)) c.in-Some.ensures.1 ∙ to_z-of_z c.in-Some.ensures.0 in
     record {
       stays = c.update_node-done.ensures.writes.stays;

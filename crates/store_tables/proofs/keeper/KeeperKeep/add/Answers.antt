@@ -3,7 +3,7 @@ use Rattle.sqlite.specs.Held.{state}
 use Rattle.room_ace.specs.Valid.{is_document}
 use Rattle.room_rows.specs.declared.node.Node.{Node}
 use Rattle.room_rows.specs.Keep.{capped, node_of, one_more}
-use Rattle.store_tables.specs.Columns.{Stores}
+use Rattle.store_tables.specs.Columns.{ReadsAsNode}
 use Rattle.store_tables.specs.Shown.{GetsBytes}
 use Rattle.store_tables.specs.Trust.{stays_on, trusted_first, trusted_last}
 use Rattle.store_tables.proofs.Adding.{added, put_rows}
@@ -29,7 +29,7 @@ returns g c =
             let bytes : c.at_number-node.result.1 ≡ c.args.node.bytes = ap (λ (p : Node × List ℕ). p.1) parts in
             let gets = second.puts.becomes two in
             added c.args.node old.now mid.now last.now c.in_ok-id.id two.now
-            (put_rows old.now mid.now c.in_ok-id.id c.args.node stored.columns one.now stored.from_one (subst (λ n. Stores n stored.columns) object stored.stores) stored.adds)
+            (put_rows old.now mid.now c.in_ok-id.id c.args.node stored.columns one.now stored.from_one (subst (λ n. ReadsAsNode n stored.columns) object stored.stores) stored.adds)
             (is_document c.at_number-node.result.0.kind) (ap (λ (n : Node). is_document n.kind) (sym object))
             (subst (λ l. GetsBytes (is_document c.at_number-node.result.0.kind) (pos c.in_ok-id.id) l mid.now last.now) (c.as_slice.ensures ∙ bytes) gets);
         unfailed = ap capped (second.puts.unfailed ∙ first.puts.unfailed);

@@ -3,7 +3,7 @@ use Rattle.std.proofs.Math.Facts.{to_z-of_z}
 use Rattle.sqlite.specs.Held.{state}
 use Rattle.room_rows.specs.Keep.{IsNever, IsBodyOf}
 use Rattle.store_tables.specs.Meaning.{rows_of}
-use Rattle.store_tables.specs.Seeing.{answer_of, bytes_seen}
+use Rattle.store_tables.specs.Seeing.{result_of_seen, bytes_seen}
 use Rattle.store_tables.specs.Statements.{HasBytes}
 use Rattle.store_tables.specs.Trust.{IsTrusted}
 use Rattle.store_tables.proofs.Blobs.{tells_bytes}
@@ -18,7 +18,7 @@ returns g c =
     let seen : c.in_ok-seen.seen ≡ bytes_seen c.in-Ok.rows.items = c.in_ok-seen.ensures ∙ ap bytes_seen c.as_slice.ensures.value in
     let told : IsTrusted old new → Tells IsNever (IsBodyOf c.args.id) (rows_of old.now) c.answer.result = λ trust.
     let found = c.in-Ok.ensures.asks.rows trust.clean trust.now in
-    subst (Tells IsNever (IsBodyOf c.args.id) (rows_of old.now)) (sym (c.answer.ensures.answer ∙ ap answer_of seen)) (tells_bytes old.now trust.now c.args.id c.in-Some.ensures.2 c.in-Ok.rows.items (subst (λ z. HasBytes z old.now.trees c.in-Ok.rows.items) at found)) in
+    subst (Tells IsNever (IsBodyOf c.args.id) (rows_of old.now)) (sym (c.answer.ensures.answer ∙ ap result_of_seen seen)) (tells_bytes old.now trust.now c.args.id c.in-Some.ensures.2 c.in-Ok.rows.items (subst (λ z. HasBytes z old.now.trees c.in-Ok.rows.items) at found)) in
     record {
       read = record {
         follows = (refl, c.in-Ok.ensures.same_reference, c.in-Ok.ensures.asks.stays, c.answer.ensures.no_less);

@@ -6,7 +6,7 @@ use Rattle.sqlite.specs.Held.{state}
 use Rattle.store_tables.specs.Shown.{is_child_named, shown_node}
 use Rattle.room_rows.specs.Keep.{IsChildOf, IsUnreadable}
 use Rattle.store_tables.specs.Meaning.{rows_of}
-use Rattle.store_tables.specs.Seeing.{answer_of, seen_only}
+use Rattle.store_tables.specs.Seeing.{result_of_seen, seen_only}
 use Rattle.store_tables.specs.Trust.{IsTrusted}
 use Rattle.store_tables.proofs.Named.{tells_child}
 use Rattle.store_tables.proofs.Nodes.{Tells, if_seen, told_answers, told_cause, told_unfailed}
@@ -22,7 +22,7 @@ returns g c =
     let seen : c.in_ok-seen.seen ≡ seen_only c.in-Ok.rows.items = c.in_ok-seen.ensures ∙ ap seen_only c.as_slice.ensures.value in
     let told : IsTrusted old new → Tells IsUnreadable (IsChildOf parent name) (rows_of old.now) c.answer.result = λ trust.
     let found = c.in-Ok.ensures.asks.rows trust.clean trust.now in
-    subst (Tells IsUnreadable (IsChildOf parent name) (rows_of old.now)) (sym (c.answer.ensures.answer ∙ ap answer_of seen)) (tells_child old.now trust.now parent name c.in-Ok.rows.items (subst (λ z. IsPermutation (map shown_node (filter (is_child_named z name) (old.now.trees 0))) c.in-Ok.rows.items) at found)) in
+    subst (Tells IsUnreadable (IsChildOf parent name) (rows_of old.now)) (sym (c.answer.ensures.answer ∙ ap result_of_seen seen)) (tells_child old.now trust.now parent name c.in-Ok.rows.items (subst (λ z. IsPermutation (map shown_node (filter (is_child_named z name) (old.now.trees 0))) c.in-Ok.rows.items) at found)) in
     record {
       read = record {
         follows = (refl, c.in-Ok.ensures.same_reference, c.in-Ok.ensures.asks.stays, c.answer.ensures.no_less);

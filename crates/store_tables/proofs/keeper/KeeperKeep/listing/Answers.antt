@@ -3,7 +3,7 @@ use Rattle.std.proofs.Math.Facts.{to_z-of_z}
 use Rattle.sqlite.specs.Held.{state}
 use Rattle.room_rows.specs.Keep.{IsUnreadable, AreNamedUnder}
 use Rattle.store_tables.specs.Meaning.{named_in, rows_of}
-use Rattle.store_tables.specs.Seeing.{answer_of, seen_behind}
+use Rattle.store_tables.specs.Seeing.{result_of_seen, seen_behind}
 use Rattle.store_tables.specs.Statements.{HasNames}
 use Rattle.store_tables.specs.Trust.{IsTrusted}
 use Rattle.store_tables.proofs.Listed.{tells_names}
@@ -18,7 +18,7 @@ returns g c =
     let seen : c.in_ok-seen.seen ≡ seen_behind named_in [] c.in-Ok.rows.items = c.in_ok-seen.ensures ∙ ap (seen_behind named_in []) c.as_slice.ensures.value in
     let told : IsTrusted old new → Tells IsUnreadable (AreNamedUnder c.args.parent) (rows_of old.now) c.answer.result = λ trust.
     let found = c.in-Ok.ensures.asks.rows trust.clean trust.now in
-    subst (Tells IsUnreadable (AreNamedUnder c.args.parent) (rows_of old.now)) (sym (c.answer.ensures.answer ∙ ap answer_of seen)) (tells_names old.now trust.now c.args.parent c.in-Ok.rows.items (subst (λ z. HasNames z old.now.trees c.in-Ok.rows.items) at found)) in
+    subst (Tells IsUnreadable (AreNamedUnder c.args.parent) (rows_of old.now)) (sym (c.answer.ensures.answer ∙ ap result_of_seen seen)) (tells_names old.now trust.now c.args.parent c.in-Ok.rows.items (subst (λ z. HasNames z old.now.trees c.in-Ok.rows.items) at found)) in
     record {
       read = record {
         follows = (refl, c.in-Ok.ensures.same_reference, c.in-Ok.ensures.asks.stays, c.answer.ensures.no_less);

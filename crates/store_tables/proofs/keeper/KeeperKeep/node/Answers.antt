@@ -7,7 +7,7 @@ use Rattle.sqlite.specs.Held.{state}
 use Rattle.store_tables.specs.Shown.{shown_node}
 use Rattle.room_rows.specs.Keep.{IsNodeAt, IsUnreadableAt}
 use Rattle.store_tables.specs.Meaning.{rows_of}
-use Rattle.store_tables.specs.Seeing.{answer_of, seen_only}
+use Rattle.store_tables.specs.Seeing.{result_of_seen, seen_only}
 use Rattle.store_tables.specs.Trust.{IsTrusted}
 use Rattle.store_tables.proofs.Nodes.{Tells, if_seen, tells_node, told_answers, told_cause, told_unfailed}
 use Rattle.store_tables.proofs.keeper.KeeperKeep.node.Goals as goal
@@ -21,7 +21,7 @@ returns g c =
     let seen : c.in_ok-seen.seen ≡ seen_only c.in-Ok.rows.items = c.in_ok-seen.ensures ∙ ap seen_only c.as_slice.ensures.value in
     let told : IsTrusted old new → Tells (IsUnreadableAt id) (IsNodeAt id) (rows_of old.now) c.answer.result = λ trust.
     let found = c.in-Ok.ensures.asks.rows trust.clean trust.now in
-    subst (Tells (IsUnreadableAt id) (IsNodeAt id) (rows_of old.now)) (sym (c.answer.ensures.answer ∙ ap answer_of seen)) (tells_node old.now trust.now id c.in-Some.ensures.2 c.in-Ok.rows.items (subst (λ z. IsPermutation (map shown_node (filter (has_rowid z) (old.now.trees 0))) c.in-Ok.rows.items) at found)) in
+    subst (Tells (IsUnreadableAt id) (IsNodeAt id) (rows_of old.now)) (sym (c.answer.ensures.answer ∙ ap result_of_seen seen)) (tells_node old.now trust.now id c.in-Some.ensures.2 c.in-Ok.rows.items (subst (λ z. IsPermutation (map shown_node (filter (has_rowid z) (old.now.trees 0))) c.in-Ok.rows.items) at found)) in
     record {
       read = record {
         follows = (refl, c.in-Ok.ensures.same_reference, c.in-Ok.ensures.asks.stays, c.answer.ensures.no_less);

@@ -2,7 +2,7 @@ use Rattle.std.proofs.Common.{◌≡◌, refl, ap, subst, ◌∙◌, pos, arith}
 use Rattle.std.proofs.Common.{to_z, of_z, w64}
 use Rattle.std.proofs.Math.Facts.{to_z-of_z}
 use Rattle.sqlite.specs.Held.{state}
-use Rattle.store_tables.specs.Shown.{Removes}
+use Rattle.store_tables.specs.Shown.{RemovesRow}
 use Rattle.store_tables.proofs.Removed.{removed_rows}
 use Rattle.store_tables.proofs.keeper.KeeperKeep.remove.Goals as goal
 
@@ -15,7 +15,7 @@ returns g c =
       written = record {
         follows = (refl, c.in-Ok-eq1.ensures.same_reference, c.in-Ok-eq1.ensures.writes.stays, omega arith);
         written = c.count_one.ensures.capped;
-        becomes = λ trust can. let gone = c.in-Ok-eq1.ensures.writes.leaves trust.clean trust.now c.in-Ok-eq1.field-0-test in removed_rows old.now new.now c.args.id trust.now (subst (λ z. Removes z old.now.trees new.now.trees) at gone) can;
+        becomes = λ trust can. let gone = c.in-Ok-eq1.ensures.writes.leaves trust.clean trust.now c.in-Ok-eq1.field-0-test in removed_rows old.now new.now c.args.id trust.now (subst (λ z. RemovesRow z old.now.trees new.now.trees) at gone) can;
         unfailed = refl;
         fault = tt;
       };
