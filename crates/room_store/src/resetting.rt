@@ -13,7 +13,7 @@ use room_machine::Reply;
 use room_rows::{KeepFault, Path};
 use sqlite::{Alter, Connection, Transaction};
 use std::alloc::Global;
-use store_tables::Keeper;
+use store_tables::{Keeper, RecentLists};
 
 // The reset, by the keeper.
 fn reset_by<S: Alter>(
@@ -44,9 +44,11 @@ fn reset_inside<S: Alter>(
     ensures carries { CallsInside (state S.Store tx.old.conn.now) (state S.Store tx.new.conn.now)
         result (OnRows HasDamage) (ByRows (Resets path.now which sent.now)) }
 {
+    let mut lists = RecentLists::new();
     let mut keeper = Keeper {
         alloc,
         tx,
+        lists: &mut lists,
         failures: 0,
         writes: 0,
     };

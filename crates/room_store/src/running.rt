@@ -14,7 +14,7 @@ use room_machine::{Reply, Request};
 use room_rows::KeepFault;
 use sqlite::{Alter, Connection, Transaction};
 use std::alloc::Global;
-use store_tables::Keeper;
+use store_tables::{Keeper, RecentLists};
 
 // The request, by the keeper.
 fn perform_by<S: Alter>(
@@ -37,6 +37,7 @@ fn perform_by<S: Alter>(
 fn perform_inside<S: Alter>(
     alloc: Global,
     tx: &mut Transaction<'_, S>,
+    lists: &mut RecentLists,
     caller: Option<&Name>,
     at: i64,
     request: &Request,
@@ -48,6 +49,7 @@ fn perform_inside<S: Alter>(
     let mut keeper = Keeper {
         alloc,
         tx,
+        lists,
         failures: 0,
         writes: 0,
     };
@@ -58,6 +60,7 @@ fn perform_inside<S: Alter>(
 pub(crate) fn run_on<S: Alter>(
     alloc: Global,
     conn: &mut Connection<S>,
+    lists: &mut RecentLists,
     caller: Option<&Name>,
     at: i64,
     request: &Request,
@@ -70,6 +73,6 @@ pub(crate) fn run_on<S: Alter>(
     }
     let _schema = conn.schema();
     let mut tx = conn.transaction();
-    let done = perform_inside(alloc, &mut tx, caller, at, request);
+    let done = perform_inside(alloc, &mut tx, lists, caller, at, request);
     finish(tx, done)
 }

@@ -31,18 +31,25 @@ use room_machine::{Reply, Request};
 use room_rows::{AuditRow, Path};
 use sqlite::{Alter, Connection};
 use std::alloc::Global;
+use store_tables::RecentLists;
 
 /// A room in the tables of a connection. Each call that writes is one transaction; within a
 /// transaction of the connection's owner all calls answer `Db`.
 pub struct Store<S: Alter> {
     pub(crate) conn: Connection<S>,
+    // the lists that requests read lately
+    lists: RecentLists,
     // how often the store has answered a fault as a desk
     pub(crate) faults: u64,
 }
 
 impl<S: Alter + Drop> Drop for Store<S> {
     fn drop(self) {
-        let Store { conn: _, faults: _ } = self;
+        let Store {
+            conn: _,
+            lists: _,
+            faults: _,
+        } = self;
     }
 }
 
@@ -52,7 +59,11 @@ impl<S: Alter> Store<S> {
         ensures conn { result.conn ≡ conn }
         ensures faults { result.faults ≡ 0 }
     {
-        Store { conn, faults: 0 }
+        Store {
+            conn,
+            lists: RecentLists::new(),
+            faults: 0,
+        }
     }
 
     /// Carries out one request of a caller, who is anonymous without a name, at a moment in seconds
@@ -73,7 +84,7 @@ impl<S: Alter> Store<S> {
             (state S.Store self.new.conn) }
         ensures faults { self.new.faults ≡ self.old.faults }
     {
-        run_on(alloc, &mut self.conn, caller, at, request)
+        run_on(alloc, &mut self.conn, &mut self.lists, caller, at, request)
     }
 
     /// Sets one of an object's lists as the request does, but asks no bits and leaves no record.
@@ -164,7 +175,11 @@ impl<S: Alter> Store<S> {
     pub fn into_conn(self) -> Connection<S>
         ensures { result ≡ self.conn }
     {
-        let Store { conn, faults: _ } = self;
+        let Store {
+            conn,
+            lists: _,
+            faults: _,
+        } = self;
         conn
     }
 }

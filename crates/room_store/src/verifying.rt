@@ -12,7 +12,7 @@ use room_inherit::{Report, verify};
 use room_rows::KeepFault;
 use sqlite::{Alter, Connection, Transaction};
 use std::alloc::Global;
-use store_tables::Keeper;
+use store_tables::{Keeper, RecentLists};
 
 // The report, by the keeper.
 fn verify_by<S: Alter>(alloc: Global, keeper: &mut Keeper<'_, '_, S>) -> Result<Report, KeepFault>
@@ -31,9 +31,11 @@ fn verify_inside<S: Alter>(alloc: Global, tx: &mut Transaction<'_, S>) -> Result
     ensures carries { CallsInside (state S.Store tx.old.conn.now) (state S.Store tx.new.conn.now)
         result NoTables (Reading (λ db report. IsReport (rows_of db) report)) }
 {
+    let mut lists = RecentLists::new();
     let mut keeper = Keeper {
         alloc,
         tx,
+        lists: &mut lists,
         failures: 0,
         writes: 0,
     };

@@ -9,7 +9,7 @@ use room_dump::{dump, push_members};
 use room_rows::KeepFault;
 use sqlite::{Alter, Transaction};
 use std::alloc::Global;
-use store_tables::Keeper;
+use store_tables::{Keeper, RecentLists};
 
 // The text of all objects, by the keeper.
 fn objects_by<S: Alter>(alloc: Global, keeper: &mut Keeper<'_, '_, S>) -> Result<String, KeepFault>
@@ -27,9 +27,11 @@ fn objects_inside<S: Alter>(alloc: Global, tx: &mut Transaction<'_, S>) -> Resul
     ensures carries { CallsInside (state S.Store tx.old.conn.now) (state S.Store tx.new.conn.now)
         result HasDamagedRow TellsObjects }
 {
+    let mut lists = RecentLists::new();
     let mut keeper = Keeper {
         alloc,
         tx,
+        lists: &mut lists,
         failures: 0,
         writes: 0,
     };

@@ -10,7 +10,7 @@ use room_inherit::{Report, SpreadFault, spread_all, verify_kept};
 use room_rows::{Keep, KeepFault};
 use sqlite::{Alter, Transaction};
 use std::alloc::Global;
-use store_tables::Keeper;
+use store_tables::{Keeper, RecentLists};
 
 // Carries all lists down.
 fn carry_down<K: Keep>(alloc: Global, keep: &mut K) -> Result<(), KeepFault>
@@ -60,9 +60,11 @@ pub(crate) fn raise_inside<S: Alter>(
         → IfOk result (λ report. IsRaised (rows_of (state S.Store tx.old.conn.now).now)
         report (rows_of (state S.Store tx.new.conn.now).now)) }
 {
+    let mut lists = RecentLists::new();
     let mut keeper = Keeper {
         alloc,
         tx,
+        lists: &mut lists,
         failures: 0,
         writes: 0,
     };

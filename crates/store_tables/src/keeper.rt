@@ -16,6 +16,7 @@ ghost use Rattle.store_tables.specs.RoomRows.{room_rows};
 use crate::columns::{columns_of, record_of};
 use crate::fault::wants_memory;
 use crate::reading::number_of;
+use crate::recent::RecentLists;
 use crate::seen::{
     answer, answer_top, rowid_of, see_all, see_bytes, see_listing, see_names, see_numbers, see_only,
 };
@@ -41,6 +42,8 @@ pub struct Keeper<'a, 'conn, S: Alter> {
     pub alloc: Global,
     /// The transaction.
     pub tx: &'a mut Transaction<'conn, S>,
+    /// The lists that were read lately.
+    pub lists: &'a mut RecentLists,
     /// How often the keeper itself failed.
     pub failures: u64,
     /// How much it wrote.
@@ -211,7 +214,7 @@ impl<'a, 'conn, S: Alter> Keep for Keeper<'a, 'conn, S> {
             Err(error) if wants_memory(error) => return Err(KeepFault::Memory),
             Err(_) => return Err(failed(&mut self.failures)),
         };
-        let seen = see_only(self.alloc, rows.as_slice())?;
+        let seen = see_only(self.alloc, self.lists, rows.as_slice())?;
         answer_top(seen, &mut self.failures)
     }
 
@@ -234,7 +237,7 @@ impl<'a, 'conn, S: Alter> Keep for Keeper<'a, 'conn, S> {
             Err(error) if wants_memory(error) => return Err(KeepFault::Memory),
             Err(_) => return Err(failed(&mut self.failures)),
         };
-        let seen = see_only(self.alloc, rows.as_slice())?;
+        let seen = see_only(self.alloc, self.lists, rows.as_slice())?;
         answer(seen, &mut self.failures)
     }
 
@@ -247,7 +250,7 @@ impl<'a, 'conn, S: Alter> Keep for Keeper<'a, 'conn, S> {
             Err(error) if wants_memory(error) => return Err(KeepFault::Memory),
             Err(_) => return Err(failed(&mut self.failures)),
         };
-        let seen = see_only(self.alloc, rows.as_slice())?;
+        let seen = see_only(self.alloc, self.lists, rows.as_slice())?;
         answer(seen, &mut self.failures)
     }
 
@@ -260,7 +263,7 @@ impl<'a, 'conn, S: Alter> Keep for Keeper<'a, 'conn, S> {
             Err(error) if wants_memory(error) => return Err(KeepFault::Memory),
             Err(_) => return Err(failed(&mut self.failures)),
         };
-        let seen = see_all(self.alloc, rows.as_slice())?;
+        let seen = see_all(self.alloc, self.lists, rows.as_slice())?;
         answer(seen, &mut self.failures)
     }
 

@@ -5,9 +5,11 @@ mod columns;
 mod fault;
 mod keeper;
 mod reading;
+mod recent;
 mod seen;
 mod statements;
 
 pub use crate::fault::wants_memory;
 pub use crate::keeper::Keeper;
 pub use crate::reading::{name_of, text_at, value_at};
+pub use crate::recent::RecentLists;

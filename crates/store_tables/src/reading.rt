@@ -5,9 +5,8 @@ ghost use Rattle.sqlite_value.specs.Value.{owned};
 ghost use Rattle.store_tables.specs.Meaning.{entries_in, flags_in, held_in, kind_in, name_in};
 ghost use Rattle.store_tables.specs.Meaning.{node_in, number_in, owners_in, parent_in, text_in};
 
-use room_ace::{
-    Entries, Failure, ListFlags, Name, ObjKind, Owners, read_entries, read_name, text_of,
-};
+use crate::recent::RecentLists;
+use room_ace::{Entries, Failure, ListFlags, Name, ObjKind, Owners, read_name, text_of};
 use room_rows::{Held, Node, Text};
 use sqlite::Row;
 use sqlite::types::ValueRef;
@@ -117,11 +116,15 @@ pub fn text_at(alloc: Global, value: ValueRef<'_>) -> Result<Option<Text>, Alloc
 }
 
 // The entries in a column, if they can be read.
-fn entries_at(alloc: Global, value: ValueRef<'_>) -> Result<Option<Entries>, AllocError>
+fn entries_at(
+    alloc: Global,
+    lists: &mut RecentLists,
+    value: ValueRef<'_>,
+) -> Result<Option<Entries>, AllocError>
     ensures { IfOk result (λ entries. entries ≡ entries_in (owned value.entry)) }
 {
     match value {
-        ValueRef::Text(bytes) => read_entries(alloc, bytes),
+        ValueRef::Text(bytes) => lists.read(alloc, bytes),
         _ => Ok(None),
     }
 }
@@ -144,6 +147,7 @@ fn owners_of(
 
 fn held_of(
     alloc: Global,
+    lists: &mut RecentLists,
     flags: ValueRef<'_>,
     own: ValueRef<'_>,
     inh: ValueRef<'_>,
@@ -154,10 +158,10 @@ fn held_of(
     let Some(flags) = flags_of(flags) else {
         return Ok(None);
     };
-    let Some(own) = entries_at(alloc, own)? else {
+    let Some(own) = entries_at(alloc, lists, own)? else {
         return Ok(None);
     };
-    let Some(inh) = entries_at(alloc, inh)? else {
+    let Some(inh) = entries_at(alloc, lists, inh)? else {
         return Ok(None);
     };
     // most lists are inherited whole, and need no copy behind own entries
@@ -168,7 +172,11 @@ fn held_of(
 }
 
 /// The object in a row of all columns of `nodes`, if it can be read.
-pub(crate) fn read_node(alloc: Global, row: &Row) -> Result<Option<Node>, AllocError>
+pub(crate) fn read_node(
+    alloc: Global,
+    lists: &mut RecentLists,
+    row: &Row,
+) -> Result<Option<Node>, AllocError>
     ensures { IfOk result (λ node. node ≡ node_in row.now) }
 {
     let Some(id) = number_of(value_at(row, 0)) else {
@@ -186,11 +194,19 @@ pub(crate) fn read_node(alloc: Global, row: &Row) -> Result<Option<Node>, AllocE
     let Some(owners) = owners_of(alloc, value_at(row, 4), value_at(row, 5))? else {
         return Ok(None);
     };
-    let Some(dacl) = held_of(alloc, value_at(row, 6), value_at(row, 8), value_at(row, 9))? else {
+    let Some(dacl) = held_of(
+        alloc,
+        lists,
+        value_at(row, 6),
+        value_at(row, 8),
+        value_at(row, 9),
+    )?
+    else {
         return Ok(None);
     };
     let Some(sacl) = held_of(
         alloc,
+        lists,
         value_at(row, 7),
         value_at(row, 10),
         value_at(row, 11),

@@ -11,6 +11,7 @@ ghost use Rattle.store_tables.specs.Seeing.{numbers_seen, seen_behind, seen_in, 
 ghost use Rattle.store_tables.specs.Seeing.{top_of, unread_as};
 
 use crate::reading::{kind_of, name_of, number_of, read_node, text_at, value_at};
+use crate::recent::RecentLists;
 use room_ace::{Names, ObjKind};
 use room_rows::{Bytes, KeepFault, Listing, Node, Nodes, Numbers, Text, failed};
 use sqlite::Row;
@@ -35,22 +36,26 @@ fn unread<T>(row: &Row) -> Seen<T>
     }
 }
 
-fn see(alloc: Global, row: &Row) -> Result<Seen<Node>, AllocError>
+fn see(alloc: Global, lists: &mut RecentLists, row: &Row) -> Result<Seen<Node>, AllocError>
     ensures { IfOk result (λ seen. seen ≡ seen_in node_in row.now) }
 {
-    match read_node(alloc, row)? {
+    match read_node(alloc, lists, row)? {
         Some(node) => Ok(Seen::Found(node)),
         None => Ok(unread(row)),
     }
 }
 
 /// The object in the row that was found, if there is one. There are to be no two.
-pub(crate) fn see_only(alloc: Global, rows: &[Row]) -> Result<Seen<Option<Node>>, AllocError>
+pub(crate) fn see_only(
+    alloc: Global,
+    lists: &mut RecentLists,
+    rows: &[Row],
+) -> Result<Seen<Option<Node>>, AllocError>
     ensures { IfOk result (λ seen. seen ≡ seen_only rows.now) }
 {
     match rows {
         [] => Ok(Seen::Found(None)),
-        [row] => match read_node(alloc, row)? {
+        [row] => match read_node(alloc, lists, row)? {
             Some(node) => Ok(Seen::Found(Some(node))),
             None => Ok(unread(row)),
         },
@@ -59,12 +64,16 @@ pub(crate) fn see_only(alloc: Global, rows: &[Row]) -> Result<Seen<Option<Node>>
 }
 
 /// The objects in all rows.
-pub(crate) fn see_all(alloc: Global, rows: &[Row]) -> Result<Seen<Nodes>, AllocError>
+pub(crate) fn see_all(
+    alloc: Global,
+    lists: &mut RecentLists,
+    rows: &[Row],
+) -> Result<Seen<Nodes>, AllocError>
     ensures { IfOk result (λ seen. seen ≡ seen_behind node_in [] rows.now) }
 {
     let mut nodes = Nodes::new(alloc);
     for row in rows {
-        match see(alloc, row)? {
+        match see(alloc, lists, row)? {
             Seen::Found(node) => nodes.push(node)?,
             Seen::Unread(id) => return Ok(Seen::Unread(id)),
             Seen::Foreign => return Ok(Seen::Foreign),

@@ -5,7 +5,7 @@ use room_rows::{AuditRow, Keep, KeepFault, RecordKind, Text};
 use sqlite::{Connection, MemStore, Transaction};
 use std::alloc::Global;
 use std::test::Fail;
-use store_tables::Keeper;
+use store_tables::{Keeper, RecentLists};
 
 // What is noted: who, the path, the letters, whether granted, the place, and the kind.
 struct Noted {
@@ -45,9 +45,11 @@ fn note_inside(
     tx: &mut Transaction<'_, MemStore>,
     row: AuditRow,
 ) -> Result<(), KeepFault> {
+    let mut lists = RecentLists::new();
     let mut keeper = Keeper {
         alloc,
         tx,
+        lists: &mut lists,
         failures: 0,
         writes: 0,
     };

@@ -2,7 +2,7 @@
 use sqlite::{Connection, MemStore, Transaction};
 use std::alloc::Global;
 use std::test::Fail;
-use store_tables::Keeper;
+use store_tables::{Keeper, RecentLists};
 use test_player::{agree, play};
 
 // The tables of a room.
@@ -48,9 +48,11 @@ fn play_inside(
     tx: &mut Transaction<'_, MemStore>,
     script: &str,
 ) -> Result<(), Fail> {
+    let mut lists = RecentLists::new();
     let mut keeper = Keeper {
         alloc,
         tx,
+        lists: &mut lists,
         failures: 0,
         writes: 0,
     };

@@ -1,0 +1,134 @@
+//! Lists that were read lately, so that a text that stands in many rows is read once.
+ghost use Rattle.std.specs.Prelude.{◌≡◌, IfOk, IfSome, Some};
+ghost use Rattle.room_ace.specs.Column.{entries_of};
+
+use room_ace::{Entries, read_entries};
+use std::alloc::{AllocError, Global};
+use std::marker::Model;
+
+// So many texts are remembered, each of at most so many bytes.
+const MOST_TEXTS: usize = 64;
+
+const MOST_BYTES: usize = 4096;
+
+// A text that was read, and what it spells. A contract sees the text.
+#[derive(Drop)]
+struct ReadText {
+    text: Vec<u8>,
+    entries: Entries,
+}
+
+impl Model for ReadText {
+    ghost use Rattle.std.specs.Prelude.{◌≡◌, List, ℕ, Some};
+    ghost use Rattle.room_ace.specs.Column.{entries_of};
+
+    ghost Value = { List ℕ };
+
+    ghost view = { λ r. r.text.items };
+
+    ghost invariant = { λ r. entries_of r.text.items ≡ Some r.entries };
+}
+
+impl ReadText {
+    // A copy of what it spells, if it is this text.
+    fn spelled(&self, text: &[u8]) -> Result<Option<Entries>, AllocError>
+        ensures { IfOk result
+            (λ found. IfSome found (λ entries. entries_of text.now ≡ Some entries)) }
+    {
+        if self.text.as_slice() == text {
+            return Ok(Some(self.entries.copy()?));
+        }
+        Ok(None)
+    }
+}
+
+/// The lists that were read last, by their texts. Equal texts spell equal entries whatever the rows
+/// are, so that nothing makes them wrong.
+#[derive(Drop)]
+pub struct RecentLists {
+    texts: Option<Vec<ReadText>>,
+    // which is replaced next, once there are as many as there may be
+    next: usize,
+}
+
+impl RecentLists {
+    /// None, which takes no memory.
+    pub fn new() -> RecentLists {
+        RecentLists {
+            texts: None,
+            next: 0,
+        }
+    }
+
+    /// The entries that the text spells, as `read_entries` has them.
+    pub(crate) fn read(&mut self, alloc: Global, text: &[u8]) -> Result<Option<Entries>, AllocError>
+        ensures { IfOk result (λ entries. entries ≡ entries_of text.now) }
+    {
+        if text.is_empty() || text.len() > MOST_BYTES {
+            return read_entries(alloc, text);
+        }
+        if let Some(entries) = self.find(text)? {
+            return Ok(Some(entries));
+        }
+        let Some(entries) = read_entries(alloc, text)? else {
+            return Ok(None);
+        };
+        // without memory for it, it is read again the next time
+        let _ = self.remember(alloc, text, &entries);
+        Ok(Some(entries))
+    }
+
+    // A copy of what the text spells, if it is remembered.
+    fn find(&mut self, text: &[u8]) -> Result<Option<Entries>, AllocError>
+        ensures { IfOk result
+            (λ found. IfSome found (λ entries. entries_of text.now ≡ Some entries)) }
+    {
+        match &mut self.texts {
+            None => Ok(None),
+            Some(texts) => find_among(texts, text),
+        }
+    }
+
+    fn remember(&mut self, alloc: Global, text: &[u8], entries: &Entries) -> Result<(), AllocError>
+        requires { entries_of text.now ≡ Some entries.now }
+    {
+        let text = Vec::from_slice(alloc, text)?;
+        let entries = entries.copy()?;
+        self.put(alloc, ReadText { text, entries })
+    }
+
+    // Puts the text in, in the place of another one where there are as many as there may be.
+    fn put(&mut self, alloc: Global, read: ReadText) -> Result<(), AllocError> {
+        let next = self.next % MOST_TEXTS;
+        match &mut self.texts {
+            None => {
+                let mut texts = Vec::new(alloc);
+                texts.push(read)?;
+                self.texts = Some(texts);
+            }
+            Some(texts) if texts.len() < MOST_TEXTS => texts.push(read)?,
+            Some(texts) => {
+                texts[next] = read;
+                self.next = next + 1;
+            }
+        }
+        Ok(())
+    }
+}
+
+fn find_among(texts: &mut [ReadText], text: &[u8]) -> Result<Option<Entries>, AllocError>
+    ensures { IfOk result
+        (λ found. IfSome found (λ entries. entries_of text.now ≡ Some entries)) }
+{
+    'texts: for at in 0..texts.len() {
+        match texts[at].spelled(text)? {
+            None => {}
+            Some(entries) => {
+                // what is asked for often comes to stand in front
+                texts.swap(at, at / 2);
+                return Ok(Some(entries));
+            }
+        }
+    }
+    Ok(None)
+}
