@@ -1,6 +1,6 @@
 -- Known bytes that are read or written one text after another.
-use Rattle.std.proofs.Common.{Bool, true, false, Result, Ok, Err, OnOk, IfErr, ◌≡◌, ℕ, ◌+◌, ◌-◌, ◌<◌, arith, List, [], ◌++◌, length, take, drop, subst, Option, Some, None, sym, ap, refl, ◌∙◌, append_assoc}
-use Rattle.std.proofs.lemmas.List.{append-nil, take-append-drop, take_all, length-drop}
+use Rattle.std.proofs.Common.{Bool, true, false, Result, Ok, Err, OnOk, OnErr, IfErr, ◌≡◌, ℕ, ◌+◌, ◌-◌, ◌<◌, arith, List, [], ◌++◌, length, take, drop, subst, Option, Some, None, sym, ap, refl, ◌∙◌, append_assoc}
+use Rattle.std.proofs.lemmas.List.{append-nil, take-append-drop, take_all, length-append, length-drop}
 use Rattle.std.proofs.Math.Seq.{take-add}
 use Rattle.std.specs.Io.KnownBytes.{Appends, Consumes, Keeps}
 use Rattle.room_http.specs.declared.ended.Cause.{Cause}
@@ -68,6 +68,25 @@ Appends-at u v w text n m x y =
     let rest : take (length text - n) (drop n text) ≡ drop n text = take_all (length text - n) (drop n text) (omega (arith, len)) in
     let y' : Appends v w (take m (drop n text)) = subst V (ap (λ t. take m t) rest) y in
     subst W (sym (take-add n m text)) (Appends-then u v w (take n text) (take m (drop n text)) x y')
+
+-- two parts of a text one after the other
+pub both-written : {A E : Type 0} (result : Result A E) (u v w : Option (List ℕ)) (front rest text : List ℕ) → front ++ rest ≡ text
+    → Appends u v front → OnOk result (Appends v w rest) → OnOk result (Appends u w text)
+both-written (Ok done) u v w front rest text e x y = subst (λ t. Appends u w t) e (Appends-then u v w front rest x y)
+both-written (Err why) u v w front rest text e x y = tt
+
+pub first-part : (u v : Option (List ℕ)) (front rest text : List ℕ) → front ++ rest ≡ text → WritesPart u v front → WritesPart u v text
+first-part u v front rest text e w =
+    let len : length (w.0.1 ++ rest) ≡ length w.0.1 + length rest = length-append w.0.1 rest in
+    subst (λ t. WritesPart u v t) e
+    ((w.0.0, w.0.1 ++ rest, ap (λ (t : List ℕ). t ++ rest) w.0.2 ∙ append_assoc w.0.0 w.0.1 rest, w.0.3), omega (arith, len, w.1))
+
+pub second-part : {A E : Type 0} (result : Result A E) (u v w : Option (List ℕ)) (front rest text : List ℕ) → front ++ rest ≡ text
+    → Appends u v front → OnErr result (WritesPart v w rest) → OnErr result (WritesPart u w text)
+second-part (Ok done) u v w front rest text e x y = tt
+second-part (Err why) u v w front rest text e x y =
+    subst (λ t. WritesPart u w t) e
+    ((front ++ y.0.0, y.0.1, ap (λ (t : List ℕ). front ++ t) y.0.2 ∙ sym (append_assoc front y.0.0 y.0.1), Appends-then u v w front y.0.0 x y.0.3), y.1)
 
 -- nothing was written
 pub Keeps-none : (v w : Option (List ℕ)) → Appends v w [] → Keeps v w

@@ -7,7 +7,8 @@ use Rattle.http_message.specs.declared.fault.HttpFault.{HttpFault}
 use Rattle.http_message.specs.Asked as message
 use Rattle.http_message.specs.Reply.{reply_text, fault_text}
 use Rattle.room_http.specs.Message.{Asked}
-use Rattle.room_http.specs.Answer.{Stepped, ActedIf, Delivers, KeepsContent, Responds, SendsRefusal, TellsReply, Rose}
+use Rattle.room_http.specs.Answer.{Stepped, ActedIf, AnswersMessage, Delivers, Joins, KeepsContent, Responds, SendsRefusal, TellsReply, Rose}
+use Rattle.room_http.specs.declared.told.Answer.{Answer}
 use Rattle.room_http.specs.declared.told.Response.{Response}
 use Rattle.room_http.specs.declared.told.Lost.{Lost}
 use Rattle.room_rows.specs.Content.{Content}
@@ -39,6 +40,16 @@ responds-by holds at close asked old new before after reply s same (Ok (Response
 responds-by holds at close asked old new before after reply s same (Ok Response.Fault) d = absurd d
 responds-by holds at close asked old new before after reply s same (Err lost) d =
     (subst (λ (a : Bool). ActedIf a holds at old new asked) (sym d) (reply, s), same)
+
+-- the same where the text is put together
+pub joined-answers : (holds : Type 0) (at : ℤ) (close : Bool) (asked : Asked) (old new : Content → Type 0) (before after : ℕ) (text : List ℕ)
+    → TellsReply holds at close asked old new text × (after ≡ before)
+    → (result : Result Answer Lost) → Joins text result → AnswersMessage holds at close asked old new before after result
+joined-answers holds at close asked old new before after text tells (Ok (Answer.Text whole)) j =
+    (inr (tells.0.0, tells.0.1, j ∙ tells.0.2), tells.1)
+joined-answers holds at close asked old new before after text tells (Ok Answer.Fault) j = absurd j
+joined-answers holds at close asked old new before after text tells (Err lost) j =
+    (subst (λ (a : Bool). ActedIf a holds at old new asked) (sym j) (tells.0.0, tells.0.1), tells.1)
 
 -- of a message that a test refuses
 pub replies-refused : (holds : Type 0) (at : ℤ) (asked : Asked) (old new : Seen) (fault : HttpFault)

@@ -56,7 +56,7 @@ abbrev pub Responds : Type 0 → ℤ → Bool → Asked → (Content → Type 0)
 Responds holds at close asked old new faults_old faults_new (Ok (Response.Refused text)) =
     SendsRefusal close asked old new text.items × (faults_new ≡ faults_old)
 Responds holds at close asked old new faults_old faults_new (Ok (Response.Replied text)) =
-    TellsReply holds at close asked old new text.items × (faults_new ≡ faults_old)
+    TellsReply holds at close asked old new text × (faults_new ≡ faults_old)
 Responds holds at close asked old new faults_old faults_new (Ok Response.Fault) =
     Failed holds asked old new faults_old faults_new
 Responds holds at close asked old new faults_old faults_new (Err lost) =
@@ -72,9 +72,15 @@ RefusesMessage fault close (Err lost) = lost.acted ≡ false
 -- the same where the desk took the step, and answered this reply
 abbrev pub Delivers : Reply → Bool → Result Response Lost → Type 0
 Delivers reply close (Ok (Response.Refused text)) = ⊥
-Delivers reply close (Ok (Response.Replied text)) = text.items ≡ reply_text reply close
+Delivers reply close (Ok (Response.Replied text)) = text ≡ reply_text reply close
 Delivers reply close (Ok Response.Fault) = ⊥
 Delivers reply close (Err lost) = lost.acted ≡ true
+
+-- the text in one piece, where there is memory for it
+abbrev pub Joins : List ℕ → Result Answer Lost → Type 0
+Joins text (Ok (Answer.Text whole)) = whole.items ≡ text
+Joins text (Ok Answer.Fault) = ⊥
+Joins text (Err lost) = lost.acted ≡ true
 
 -- What the answer to a message says of the text and of the desk, between two moments. Its steps are
 -- promised where `holds`.

@@ -12,12 +12,13 @@ use httparse::spans::{HeaderSpan, RequestSpans, parse_request};
 use httparse::{Error, Status};
 use std::io::Read;
 
-const READ_SIZE: usize = 16_384;
+pub(crate) const READ_SIZE: usize = 16_384;
 
 const MAX_HEAD: usize = 16_384;
 
-// Reads once, and adds the bytes that came. None come only at the end of the input.
-fn fill<R: Read>(r: &mut R, buf: &mut Vec<u8>) -> Result<bool, Cause>
+// Reads once, by way of the chunk, and adds what came. Nothing comes only at the end of the input.
+fn fill<R: Read>(r: &mut R, buf: &mut Vec<u8>, chunk: &mut [u8]) -> Result<bool, Cause>
+    requires { length chunk.old ≡ read_size }
     ensures came { IfOk result (λ some. Came
         (R.remaining r.old) (R.remaining r.new) buf.old.items buf.new.items) }
     ensures more { result ≡ Ok true → length buf.old.items < length buf.new.items }
@@ -27,8 +28,7 @@ fn fill<R: Read>(r: &mut R, buf: &mut Vec<u8>) -> Result<bool, Cause>
     ensures lost { IfErr result (Loses (R.remaining r.old) (R.remaining r.new)) }
     ensures err { OnErr result (buf.new.items ≡ buf.old.items) }
 {
-    let mut chunk = [0u8; READ_SIZE];
-    match r.read(&mut chunk) {
+    match r.read(chunk) {
         Ok(count) => {
             let piece = &chunk[..count];
             if piece.is_empty() {
@@ -97,8 +97,10 @@ pub(crate) fn read_head<R: Read>(
     r: &mut R,
     buf: &mut Vec<u8>,
     spans: &mut [HeaderSpan],
+    chunk: &mut [u8],
 ) -> Result<HeadRead, Cause>
-    requires { length spans.old ≡ max_fields }
+    requires room { length spans.old ≡ max_fields }
+    requires chunk { length chunk.old ≡ read_size }
     ensures came { OnOk result
         (Came (R.remaining r.old) (R.remaining r.new) buf.old.items buf.new.items) }
     ensures lost { IfErr result
@@ -112,7 +114,7 @@ pub(crate) fn read_head<R: Read>(
             HeadScan::Refused(refusal) => return Ok(HeadRead::NotHead(refusal)),
             HeadScan::Part => {}
         }
-        match fill(r, buf) {
+        match fill(r, buf, chunk) {
             Ok(true) => {}
             Ok(false) => return Ok(HeadRead::Ended),
             Err(cause) => return Err(cause),
@@ -121,7 +123,13 @@ pub(crate) fn read_head<R: Read>(
 }
 
 // Reads until `total` bytes are there, or the input ends.
-pub(crate) fn read_body<R: Read>(r: &mut R, buf: &mut Vec<u8>, total: usize) -> Result<bool, Cause>
+pub(crate) fn read_body<R: Read>(
+    r: &mut R,
+    buf: &mut Vec<u8>,
+    chunk: &mut [u8],
+    total: usize,
+) -> Result<bool, Cause>
+    requires { length chunk.old ≡ read_size }
     ensures came { OnOk result
         (Came (R.remaining r.old) (R.remaining r.new) buf.old.items buf.new.items) }
     ensures lost { IfErr result
@@ -132,8 +140,10 @@ pub(crate) fn read_body<R: Read>(r: &mut R, buf: &mut Vec<u8>, total: usize) -> 
     ensures cut { result ≡ Ok false
         → (length buf.new.items < total) × IsAtEnd (R.remaining r.new) }
 {
+    // Without this room the buffer grows step by step.
+    let _ = buf.reserve(total.saturating_sub(buf.len()));
     'reading: while buf.len() < total {
-        match fill(r, buf) {
+        match fill(r, buf, chunk) {
             Ok(true) => {}
             Ok(false) => return Ok(false),
             Err(cause) => return Err(cause),

@@ -36,8 +36,10 @@ pub(crate) fn next_message<R: Read>(
     r: &mut R,
     buf: &mut Vec<u8>,
     spans: &mut [HeaderSpan],
+    chunk: &mut [u8],
 ) -> Result<Upcoming, Cause>
-    requires { length spans.old ≡ max_fields }
+    requires room { length spans.old ≡ max_fields }
+    requires chunk { length chunk.old ≡ read_size }
     ensures near { length buf.old.items < read_size → IfOk result (ComesNear buf.new.items) }
     ensures came { OnOk result
         (Came (R.remaining r.old) (R.remaining r.new) buf.old.items buf.new.items) }
@@ -45,8 +47,8 @@ pub(crate) fn next_message<R: Read>(
         (StopsReading (R.remaining r.old) (R.remaining r.new) buf.old.items) }
     ensures next { IfOk result (Coming buf.new.items (R.remaining r.new)) }
 {
-    match read_head(r, buf, spans) {
-        Ok(HeadRead::Found(at)) => next_behind(alloc, r, buf, spans, at),
+    match read_head(r, buf, spans, chunk) {
+        Ok(HeadRead::Found(at)) => next_behind(alloc, r, buf, spans, chunk, at),
         Ok(HeadRead::NotHead(refusal)) => Ok(Upcoming::Refused(refusal)),
         Ok(HeadRead::Ended) if buf.is_empty() => Ok(Upcoming::Clean),
         Ok(HeadRead::Ended) => Ok(Upcoming::Cut),
@@ -60,9 +62,11 @@ fn next_behind<R: Read>(
     r: &mut R,
     buf: &mut Vec<u8>,
     spans: &[HeaderSpan],
+    chunk: &mut [u8],
     at: RequestSpans,
 ) -> Result<Upcoming, Cause>
-    requires { SpansHead buf.old.items spans.now at }
+    requires head { SpansHead buf.old.items spans.now at }
+    requires chunk { length chunk.old ≡ read_size }
     ensures near { length buf.old.items < at.len + read_size
         → IfOk result (ComesNear buf.new.items) }
     ensures came { OnOk result
@@ -79,7 +83,7 @@ fn next_behind<R: Read>(
         Err(refusal) => return Ok(Upcoming::Refused(refusal)),
     };
     let end = at.len + size;
-    match read_body(r, buf, end) {
+    match read_body(r, buf, chunk, end) {
         Ok(true) => Ok(Upcoming::Whole(NextMessage {
             head,
             start: at.len,

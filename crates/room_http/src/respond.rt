@@ -2,10 +2,10 @@
 ghost use Rattle.std.specs.Option.{option_copied};
 ghost use Rattle.std.specs.Prelude.{Ok};
 ghost use Rattle.http_message.specs.Asked.{request_of};
-ghost use Rattle.room_http.specs.Answer.{AnswersMessage, Delivers, RefusesMessage, Responds};
+ghost use Rattle.room_http.specs.Answer.{AnswersMessage, Delivers, Joins, RefusesMessage, Responds};
 
 use crate::told::{Answer, Lost, Response};
-use http_message::{Head, HttpFault, Routes, fault_bytes, reply_bytes, request_of};
+use http_message::{Head, HttpFault, ReplyText, Routes, fault_bytes, reply_text, request_of};
 use room_ace::{Failure, Name};
 use room_machine::{Desk, Reply, Request};
 use std::alloc::Global;
@@ -30,10 +30,20 @@ pub fn answer<D: Desk>(
 {
     match respond(alloc, routes, desk, at, head, body, close) {
         Ok(Response::Refused(text)) => Ok(Answer::Text(text)),
-        Ok(Response::Replied(text)) => Ok(Answer::Text(text)),
+        Ok(Response::Replied(text)) => joined(text),
         Ok(Response::Fault) => Ok(Answer::Fault),
         Err(lost) => Err(lost),
     }
+}
+
+// The text of the desk's reply, in one piece.
+fn joined(text: ReplyText) -> Result<Answer, Lost>
+    ensures { Joins text result }
+{
+    let Ok(text) = text.into_vec() else {
+        return Err(Lost { acted: true });
+    };
+    Ok(Answer::Text(text))
 }
 
 // Answers a whole message, and says whether the desk was asked.
@@ -85,16 +95,16 @@ fn ask<D: Desk>(
     ensures sound { D.trusted desk.new → D.sound desk.old → D.sound desk.new }
 {
     match desk.run(alloc, caller, at, request) {
-        Ok(reply) => delivered(alloc, &reply, close),
+        Ok(reply) => delivered(alloc, reply, close),
         Err(_) => Ok(Response::Fault),
     }
 }
 
 // The text of the desk's reply.
-fn delivered(alloc: Global, reply: &Reply, close: bool) -> Result<Response, Lost>
-    ensures { Delivers reply.now close result }
+fn delivered(alloc: Global, reply: Reply, close: bool) -> Result<Response, Lost>
+    ensures { Delivers reply close result }
 {
-    match reply_bytes(alloc, reply, close) {
+    match reply_text(alloc, reply, close) {
         Ok(text) => Ok(Response::Replied(text)),
         Err(_) => Err(Lost { acted: true }),
     }

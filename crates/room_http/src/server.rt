@@ -10,13 +10,13 @@ ghost use Rattle.room_http.specs.Serve.{Connects, Seen, Serves, Stops};
 ghost use Rattle.room_http.specs.Turn.{Turns, WholeNext};
 ghost use Rattle.room_http.specs.Tell.{StopsWithin, SendsReply};
 
-use crate::cut::drop_front;
+use crate::cut::{READ_SIZE, drop_front};
 use crate::ended::{Cause, Ended, ServeFault};
 use crate::next::{NextMessage, Upcoming, next_message};
 use crate::refusal::{Refusal, refusal_bytes, store_bytes};
 use crate::respond::respond;
 use crate::told::Response;
-use crate::write::write_text;
+use crate::write::{write_reply, write_text};
 use http_message::{Head, Routes, asks_close};
 use httparse::spans::{EMPTY_HEADER_SPAN, HeaderSpan};
 use room_machine::Desk;
@@ -79,7 +79,7 @@ fn tell<W: Write, D: Desk>(
                 cause,
             }),
         },
-        Ok(Response::Replied(text)) => match write_text(w, text.as_slice()) {
+        Ok(Response::Replied(text)) => match write_reply(w, &text) {
             Ok(()) => Ok(Told::Answered),
             Err(cause) => Err(Stop { acted: true, cause }),
         },
@@ -195,10 +195,12 @@ fn turn<R: Read, W: Write, D: Desk>(
     w: &mut W,
     buf: &mut Vec<u8>,
     spans: &mut [HeaderSpan],
+    chunk: &mut [u8],
     answered: u64,
 ) -> Result<Option<Ended>, Stop>
     requires few { answered < max_messages }
     requires room { length spans.old ≡ max_fields }
+    requires chunk { length chunk.old ≡ read_size }
     ensures turn { length buf.old.items < read_size
         → Turns (D.trusted desk.new × D.sound desk.old) at answered
         (record {
@@ -217,7 +219,7 @@ fn turn<R: Read, W: Write, D: Desk>(
     ensures trusted { D.trusted desk.new → D.trusted desk.old }
     ensures sound { D.trusted desk.new → D.sound desk.old → D.sound desk.new }
 {
-    let next = match next_message(alloc, r, buf, spans) {
+    let next = match next_message(alloc, r, buf, spans, chunk) {
         Ok(next) => next,
         Err(cause) => {
             return Err(Stop {
@@ -289,9 +291,10 @@ pub fn serve<R: Read, W: Write, D: Desk>(
 {
     let mut buf = Vec::new(alloc);
     let mut spans = [EMPTY_HEADER_SPAN; MAX_FIELDS];
+    let mut chunk = [0; READ_SIZE];
     for answered in 0..MAX_MESSAGES {
         let ended = match turn(
-            alloc, routes, desk, at, r, w, &mut buf, &mut spans, answered,
+            alloc, routes, desk, at, r, w, &mut buf, &mut spans, &mut chunk, answered,
         ) {
             Ok(ended) => ended,
             Err(stop) => {

@@ -1,4 +1,5 @@
 //! What answers one message.
+use http_message::ReplyText;
 
 /// What answers a message.
 #[derive(Drop)]
@@ -22,7 +23,7 @@ pub(crate) enum Response {
     /// The text of the reply to a message that a test refuses.
     Refused(Vec<u8>),
     /// The text of the desk's reply.
-    Replied(Vec<u8>),
+    Replied(ReplyText),
     /// The desk answered a fault.
     Fault,
 }

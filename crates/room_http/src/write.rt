@@ -4,6 +4,7 @@ ghost use Rattle.std.specs.Io.KnownBytes.{Appends};
 ghost use Rattle.room_http.specs.Turn.{WritesPart};
 
 use crate::ended::Cause;
+use http_message::ReplyText;
 use std::io::Write;
 
 // Writes the text. Where a write fails or takes no byte, a part of it was written.
@@ -25,4 +26,17 @@ pub(crate) fn write_text<W: Write>(w: &mut W, text: &[u8]) -> Result<(), Cause>
         }
     }
     Ok(())
+}
+
+// The same of the text of a reply.
+pub(crate) fn write_reply<W: Write>(w: &mut W, text: &ReplyText) -> Result<(), Cause>
+    ensures ok { OnOk result (Appends (W.contents w.old) (W.contents w.new) text.now) }
+    ensures err { OnErr result (WritesPart (W.contents w.old) (W.contents w.new) text.now) }
+    ensures cause { IfErr result (λ cause. cause ≡ Cause.Write) }
+{
+    let (front, rest) = text.parts();
+    match write_text(w, front) {
+        Ok(()) => write_text(w, rest),
+        Err(cause) => Err(cause),
+    }
 }

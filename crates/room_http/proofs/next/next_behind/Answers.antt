@@ -8,7 +8,7 @@ pub returns-in-Ok-true-clause-next : goal.returns-in-Ok-true-clause-next
 returns-in-Ok-true-clause-next g c =
     let at = c.args.at in
     let spans = c.args.spans.now in
-    let found = c.requires in
+    let found = c.requires.head in
     whole-next c.args.buf.now.items _ _ spans at found.0 c.in-Ok.head _ found.1 found.2
     (c.in-Ok.ensures ∙ ap (λ (t : List ℕ). head_at (take at.len t) spans at) c.deref.ensures.value)
     (c.in-Ok-declared_size.ensures.value ∙ ap body_size c.as_slice.ensures) c.in-Ok-true.ensures.came.2
@@ -18,7 +18,7 @@ pub returns-in-Ok-false-clause-next : goal.returns-in-Ok-false-clause-next
 returns-in-Ok-false-clause-next g c =
     let at = c.args.at in
     let spans = c.args.spans.now in
-    let found = c.requires in
+    let found = c.requires.head in
     let cut = c.read_body.ensures.cut (c.in-Ok-false.is ∙ ap Ok c.in-Ok-false.field-0-test) in (
       cut.1,
       part-next c.args.buf.now.items _ _ spans at found.0 c.in-Ok.head _ found.1 found.2
@@ -30,7 +30,7 @@ pub returns-in-Err-read_body-clause-lost : goal.returns-in-Err-read_body-clause-
 returns-in-Err-read_body-clause-lost g c =
     let at = c.args.at in
     let spans = c.args.spans.now in
-    let found = c.requires in
+    let found = c.requires.head in
     stopped-next c.args.buf.now.items _ _ spans at found.0 c.in-Ok.head _ c.in-Err-read_body.cause found.1 found.2
     (c.in-Ok.ensures ∙ ap (λ (t : List ℕ). head_at (take at.len t) spans at) c.deref.ensures.value)
     (c.in-Ok-declared_size.ensures.value ∙ ap body_size c.as_slice.ensures) c.in-Err-read_body.ensures.lost

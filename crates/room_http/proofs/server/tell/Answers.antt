@@ -18,27 +18,27 @@ returns-in-Ok-Refused-clause-tells g c left =
     let tells = refused-tells all c.args.at c.args.close asked old new _ answers in
     (Begun.Telling None, (tells.0, within-write _ _ _ _ _ (c.as_slice.ensures.value ∙ tells.1) c.in-Err-write_text.ensures.cause c.in-Err-write_text.ensures.err, refl))
 
-pub returns-in-Ok-write_text-clause-tells : goal.returns-in-Ok-write_text-clause-tells
-returns-in-Ok-write_text-clause-tells g c left =
+pub returns-in-Ok-write_reply-clause-tells : goal.returns-in-Ok-write_reply-clause-tells
+returns-in-Ok-write_reply-clause-tells g c left =
     let old : Seen = record { left = left; sent = g.W.Write.contents c.args.w.now; content = g.D.Desk.content c.args.desk.now; faults = g.D.Desk.faults c.args.desk.now } in
-    let new : Seen = record { left = left; sent = g.W.Write.contents c.write_text-in-Ok-Replied.new.w; content = g.D.Desk.content c.respond.new.desk; faults = g.D.Desk.faults c.respond.new.desk } in
+    let new : Seen = record { left = left; sent = g.W.Write.contents c.write_reply.new.w; content = g.D.Desk.content c.respond.new.desk; faults = g.D.Desk.faults c.respond.new.desk } in
     let asked = request_of c.args.head.now c.args.body.now in
     let all = g.D.Desk.trusted c.respond.new.desk × g.D.Desk.sound c.args.desk.now in
     let given = subst (λ (z : ℤ). Responds all z c.args.close asked old.content new.content old.faults new.faults c.respond.result) (to_z-of_z w64 c.args.at c.ranges.at) c.respond.ensures.responds in
     let answers = at-value (Responds all c.args.at c.args.close asked old.content new.content old.faults new.faults) _ _ _ c.in-Ok-Replied.is c.in-Ok-Replied.field-0-is given in
     let tells = replied-tells all c.args.at c.args.close asked old new _ answers in
-    (Some tells.0, tells.1, Appends-is _ _ _ _ (c.as_slice-in-Ok-Replied.ensures.value ∙ tells.2) c.in-Ok-write_text.ensures.ok)
+    (Some tells.0, tells.1, Appends-is _ _ _ _ tells.2 c.in-Ok-write_reply.ensures.ok)
 
 pub returns-in-Ok-Replied-clause-tells : goal.returns-in-Ok-Replied-clause-tells
 returns-in-Ok-Replied-clause-tells g c left =
     let old : Seen = record { left = left; sent = g.W.Write.contents c.args.w.now; content = g.D.Desk.content c.args.desk.now; faults = g.D.Desk.faults c.args.desk.now } in
-    let new : Seen = record { left = left; sent = g.W.Write.contents c.write_text-in-Ok-Replied.new.w; content = g.D.Desk.content c.respond.new.desk; faults = g.D.Desk.faults c.respond.new.desk } in
+    let new : Seen = record { left = left; sent = g.W.Write.contents c.write_reply.new.w; content = g.D.Desk.content c.respond.new.desk; faults = g.D.Desk.faults c.respond.new.desk } in
     let asked = request_of c.args.head.now c.args.body.now in
     let all = g.D.Desk.trusted c.respond.new.desk × g.D.Desk.sound c.args.desk.now in
     let given = subst (λ (z : ℤ). Responds all z c.args.close asked old.content new.content old.faults new.faults c.respond.result) (to_z-of_z w64 c.args.at c.ranges.at) c.respond.ensures.responds in
     let answers = at-value (Responds all c.args.at c.args.close asked old.content new.content old.faults new.faults) _ _ _ c.in-Ok-Replied.is c.in-Ok-Replied.field-0-is given in
     let tells = replied-tells all c.args.at c.args.close asked old new _ answers in
-    (Begun.Telling (Some tells.0), (tells.1, within-write _ _ _ _ _ (c.as_slice-in-Ok-Replied.ensures.value ∙ tells.2) c.in-Err-write_text-2.ensures.cause c.in-Err-write_text-2.ensures.err, refl))
+    (Begun.Telling (Some tells.0), (tells.1, within-write _ _ _ _ _ tells.2 c.in-Err-write_reply.ensures.cause c.in-Err-write_reply.ensures.err, refl))
 
 pub returns-clause-tells : goal.returns-clause-tells
 returns-clause-tells g c left =
@@ -60,4 +60,4 @@ returns-in-Ok-Fault-clause-tells g c left =
     let after = g.D.Desk.faults c.respond.new.desk in
     let given = subst (λ (z : ℤ). Responds all z c.args.close asked old new before after c.respond.result) (to_z-of_z w64 c.args.at c.ranges.at) c.respond.ensures.responds in
     let fails = at-value (Responds all c.args.at c.args.close asked old new before after) _ _ _ c.in-Ok-Fault.is c.in-Ok-Fault.field-0-is given in
-    (Begun.Failing, (fails, within-fault _ _ _ _ c.store_bytes.ensures c.in-Err-write_text-3.ensures.cause c.in-Err-write_text-3.ensures.err, refl))
+    (Begun.Failing, (fails, within-fault _ _ _ _ c.store_bytes.ensures c.in-Err-write_text-2.ensures.cause c.in-Err-write_text-2.ensures.err, refl))
