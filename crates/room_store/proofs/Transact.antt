@@ -184,7 +184,7 @@ module _ (old begun mid end : State) (begins : Begins old begun) (stays : Stays 
         (λ premise open' is. blamed why fault carries premise ((ends premise.disk).1.was_open open') (ends premise.disk).0 is)
 
   module _ {X : Type 0} (Blames : Database → Type 0) (Answers : Database → X → Type 0) where
-    -- the same for calls that only read, and are given up whatever they answer
+    -- calls that only read, and are rolled back whatever they answer
     look : (result : Result X StoreFault) → (HasCleanDisk end → IsRolledBack mid end) → (HasCleanDisk end → OnOk result (IsTrue old.is_open))
         → (StorePremise old end → IfOk result (Answers old.now)) → (StorePremise old end → IsTrue mid.is_open → result ≡ Err Damaged → Blames old.now)
         → Looked old end result Blames Answers
