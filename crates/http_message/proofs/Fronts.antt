@@ -7,7 +7,7 @@ pub head-and-body : (status : ℕ) (kind allow body : Option (List ℕ)) (close 
 unfolding reply_form
 head-and-body status kind allow body close = refl
 
--- the body behind what a call answered
+-- the body after what a call answered
 pub then-body : {T E : Type 0} (result : Result T E) (seen : T → List ℕ) (head body whole : List ℕ) → head ++ body ≡ whole
     → IfOk result (λ text. seen text ≡ head) → IfOk result (λ text. seen text ++ body ≡ whole)
 then-body (Ok text) seen head body whole same is = ap (λ (t : List ℕ). t ++ body) is ∙ same

@@ -135,7 +135,7 @@ pub(crate) fn push_denied(
     }
 }
 
-// The same, with the text of the path and of the entry.
+// What was denied, with the text of the path and of the entry.
 fn push_denied_line(
     alloc: Global,
     out: &mut Writer,

@@ -55,7 +55,7 @@ pub(crate) fn print_head(
     )
 }
 
-// The same, with room for so many bytes.
+// The head, with room for that many bytes.
 fn head_text(
     alloc: Global,
     room: usize,

@@ -10,7 +10,8 @@ use room_rows::Bytes;
 use std::alloc::{AllocError, Global};
 use std::marker::Model;
 
-// A document of so many bytes is sent as it lies in memory: a second write costs less than a copy.
+// A document of at least that many bytes is sent as it lies in memory: a second write costs less
+// than a copy.
 const LONG: usize = 65_536;
 
 /// The text of a reply. A long document isn't copied into it, but stands beside what comes before

@@ -64,7 +64,7 @@ below_next : (a b : ℕ) → a < b → a < suc b
 below_next a b less = omega (arith, less)
 
 module _ {X : Type 0} (tell : List ℕ → Node → List X) where
-  -- Two depths beyond the count of objects that nobody has come to yet tell the same.
+  -- Two depths beyond the count of objects that nobody has come to yet give the same text.
   abbrev Same : ℕ → ℕ → Content → Type 0
   Same d e content =
       (rest : List Node) (path : List ℕ) (node : Node) → HasAll content rest node → Each (HasAll content rest) rest → IsOnce node rest → count always rest < d → count always rest < e
@@ -104,7 +104,7 @@ module _ {X : Type 0} (tell : List ℕ → Node → List X) where
   deep_enough (suc d) (suc e) content rest path node all alls once less less' =
       level d e content (λ r p n a b c x y. deep_enough d e content r p n a b c x y) rest path node all alls once less less'
 
-  -- An object's text, and behind it those of its children as deep.
+  -- An object's text, and after it those of its children as deep.
   pub goes_on : (d : ℕ) (content : Content) (rest : List Node) (path : List ℕ) (node : Node) → HasAll content rest node → Each (HasAll content rest) rest → IsOnce node rest → count always rest < d
       → tree_of tell d content path node ≡ tell path node ++ flat_map (λ child. tree_of tell d content (path_below path child) child) (children_of content node.id)
   goes_on d content rest path node all alls once less = deep_enough d (suc d) content rest path node all alls once less (below_next (count always rest) d less)

@@ -132,7 +132,7 @@ up_to a b c e f = omega (arith, e, f)
 none_yet_turned : (a b c : ℕ) → a ≤ b → b ≤ c → a + 0 ≤ c
 none_yet_turned a b c e f = omega (arith, e, f)
 
--- what is told from the root on
+-- what is printed from the root on
 pub told_from : {X : Type 0} (tell : List ℕ → Node → List X) (rows : Rows) (root : Node) → root_of rows.read ≡ Some root → all_of tell rows ≡ tree_of tell (length (numbers_of rows)) rows.read [] root
 told_from tell rows root is = ap (λ o. option_map_or (tree_of tell (length (numbers_of rows)) rows.read []) o []) is
 
@@ -160,7 +160,7 @@ begins rows are most waiting start text =
     subst (λ (n : ℕ). Turning rows waiting n 0 text text) (sym start.0)
     (subst (λ (w : List Waiting). Turning rows w (length (numbers_of rows)) 0 text text) (sym start.1.2) (begins_alone rows are start.1.0 start.1.1 text))
 
--- all is told where none waits
+-- all is printed where none waits
 pub ends : (rows : Rows) (most turn : ℕ) (before text : List ℕ) → Turning rows [] most turn before text → (text ≡ before ++ objects_text rows) × HasAllBytes rows
 ends rows most turn before text t = (sym (append-nil text) ∙ t.told, ap (list_all (has_bytes rows.read)) (sym t.meets ∙ append-nil t.met) ∙ t.filled)
 

@@ -1,4 +1,4 @@
--- What is told of objects that wait: the last one comes first.
+-- What is printed of objects that wait: the last one comes first.
 use Rattle.std.proofs.Common.{◌≡◌, ℕ, List, [], ◌∷◌, ◌++◌, map, reverse, sym, ap, ◌∙◌, append_assoc}
 use Rattle.std.proofs.lemmas.List.{append-nil, map-append, reverse-append}
 use Rattle.std.specs.List.{flat_map}
@@ -16,7 +16,7 @@ module _ {X : Type 0} (tell : List ℕ → Node → List X) (depth : ℕ) (conte
   texts [] = []
   texts (wait ∷ waits) = texts waits ++ tree_of tell depth content wait.path wait.node
 
-  -- the last one is told first
+  -- the last one is printed first
   pub texts-last : (waits : List Waiting) (wait : Waiting) → texts (waits ++ wait ∷ []) ≡ tree_of tell depth content wait.path wait.node ++ texts waits
   texts-last [] wait = sym (append-nil (tree_of tell depth content wait.path wait.node))
   texts-last (other ∷ waits) wait =

@@ -26,8 +26,8 @@ shown (byte ∷ bytes) = byte ∷ bytes
 abbrev pub path_below : List ℕ → Node → List ℕ
 path_below above node = above ++ 47 ∷ node.name
 
--- What is told of an object, and behind it of its children with all that is below them, in order of
--- name, no deeper than the number says.
+-- What is printed of an object, and after it of its children with all that is below them, in order
+-- of name, no deeper than the number says.
 abbrev pub tree_of : {X : Type 0} → (List ℕ → Node → List X) → ℕ → Content → List ℕ → Node → List X
 tree_of tell zero content path node = []
 tree_of tell (suc depth) content path node =
@@ -61,7 +61,7 @@ is_filled ObjKind.Document bytes = is_some bytes
 abbrev pub has_bytes : Content → Node → Bool
 has_bytes content node = is_filled node.kind (body_of content node.id)
 
--- each document that is told of has bytes
+-- each document that is printed has bytes
 abbrev pub HasAllBytes : Rows → Type 0
 HasAllBytes rows = list_all (has_bytes rows.read) (all_of itself rows) ≡ true
 

@@ -1,4 +1,4 @@
--- What the functions behind a dump promise one another.
+-- What the functions of a dump promise one another.
 use Rattle.std.specs.Prelude.{◌≡◌, ℕ, ◌⊎◌, List, [], ◌∷◌, ◌++◌, length, Some, None, IsTrue, true}
 use Rattle.room_ace.specs.Valid.{is_document}
 use Rattle.room_rows.specs.declared.node.Node.{Node}

@@ -3,3 +3,4 @@ mod Turning
 mod Leading
 mod Exchanged
 mod Opened
+mod Testing

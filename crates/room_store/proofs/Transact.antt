@@ -17,7 +17,7 @@ use Rattle.room_store.specs.declared.fault.StoreFault.{StoreFault}
 use Rattle.room_store.specs.declared.fault.StoreFault.TheVariants.{Memory, Db, Damaged}
 use Rattle.room_store.specs.Premise.{StorePremise}
 use Rattle.room_store.specs.Ran.{LeavesOpen, Looked, Ran}
-use Rattle.store_admin.specs.Carries.{ByRows, CallsInside, OnRows, Reading}
+use Rattle.store_admin.specs.Carries.{AnswersOpen, ByRows, CallsInside, OnRows, Reading}
 use Rattle.room_store.specs.Turn.{Finishes, GivesUp, commit_fault, fault_as}
 
 -- a transaction begins
@@ -68,7 +68,8 @@ pub not_looked : {X : Type 0} (old : State) (Blames : Database → Type 0) (Answ
 not_looked old Blames Answers = record {
   leaves = record { ended = λ h. h; clean = λ h. h; was_open = λ _ h. h };
   same = λ _ _. refl;
-  answer = λ _ _. tt;
+  answers = λ _. tt;
+  answer = λ _. tt;
   damaged = λ _ _ is. absurd (no_damage Db refl is);
 }
 
@@ -183,27 +184,30 @@ module _ (old begun mid end : State) (begins : Begins old begun) (stays : Stays 
         (λ premise open' is. blamed why fault carries premise ((ends premise.disk).1.was_open open') (ends premise.disk).0 is)
 
   module _ {X : Type 0} (Blames : Database → Type 0) (Answers : Database → X → Type 0) where
-    -- the same for calls that only read, and are given up whatever they answer
-    look : (done : Result X KeepFault) → CallsInside begun mid done Blames (Reading Answers) → (result : Result X StoreFault) → (HasCleanDisk end → IsRolledBack mid end)
-        → (StorePremise old end → IsTrue mid.is_open → IfOk result (Answers old.now)) → (StorePremise old end → IsTrue mid.is_open → result ≡ Err Damaged → Blames old.now)
+    -- calls that only read, and are rolled back whatever they answer
+    look : (result : Result X StoreFault) → (HasCleanDisk end → IsRolledBack mid end) → (HasCleanDisk end → OnOk result (IsTrue old.is_open))
+        → (StorePremise old end → IfOk result (Answers old.now)) → (StorePremise old end → IsTrue mid.is_open → result ≡ Err Damaged → Blames old.now)
         → Looked old end result Blames Answers
-    look done carries result back answer damaged = record {
+    look result back answers answer damaged = record {
       leaves = leaves (λ now open'. (back now).was_open open');
       same = λ premise open'. undone_at premise.disk open' premise.tables (back premise.disk);
-      answer = λ premise open'. answer premise ((back premise.disk).was_open open');
+      answers = answers;
+      answer = answer;
       damaged = λ premise open' is. damaged premise ((back premise.disk).was_open open') is;
     }
 
-    pub looked : (done : Result X KeepFault) (result : Result X StoreFault) → CallsInside begun mid done Blames (Reading Answers) → (HasCleanDisk end → GivesUp mid end done result)
+    pub looked : (done : Result X KeepFault) (result : Result X StoreFault) → CallsInside begun mid done Blames (Reading Answers) → AnswersOpen begun mid done → (HasCleanDisk end → GivesUp mid end done result)
         → Looked old end result Blames Answers
-    looked (Ok x) (Ok y) carries ends =
-        look (Ok x) carries (Ok y) (λ now. (ends now).1)
-        (λ premise open'. subst (Answers old.now) (sym (ends premise.disk).0) (subst (λ db. Answers db x) begins.now (carries.becomes (made premise.disk open' premise.tables).trusted)))
+    looked (Ok x) (Ok y) carries opens ends =
+        look (Ok y) (λ now. (ends now).1) (λ now. sym begins.same_open ∙ (opens (clean_mid now)).0)
+        (λ premise.
+        let m = made premise.disk (opens (clean_mid premise.disk)).1 premise.tables in
+        subst (Answers old.now) (sym (ends premise.disk).0) (subst (λ db. Answers db x) begins.now (carries.becomes m.trusted)))
         (λ _ _ is. absurd (let e = is in cc))
-    looked (Ok x) (Err fault) carries ends = look (Ok x) carries (Err fault) (λ now. absurd (ends now)) (λ _ _. tt) (λ premise. absurd (ends premise.disk))
-    looked (Err why) (Ok y) carries ends = look (Err why) carries (Ok y) (λ now. absurd (ends now)) (λ premise. absurd (ends premise.disk)) (λ premise. absurd (ends premise.disk))
-    looked (Err why) (Err fault) carries ends =
-        look (Err why) carries (Err fault) (λ now. (ends now).1) (λ _ _. tt)
+    looked (Ok x) (Err fault) carries opens ends = look (Err fault) (λ now. absurd (ends now)) (λ _. tt) (λ _. tt) (λ premise. absurd (ends premise.disk))
+    looked (Err why) (Ok y) carries opens ends = look (Ok y) (λ now. absurd (ends now)) (λ now. absurd (ends now)) (λ premise. absurd (ends premise.disk)) (λ premise. absurd (ends premise.disk))
+    looked (Err why) (Err fault) carries opens ends =
+        look (Err fault) (λ now. (ends now).1) (λ _. tt) (λ _. tt)
         (λ premise open' is.
         let named = damage_of why (sym (ends premise.disk).0 ∙ same_fault is) in
         let m = made premise.disk open' premise.tables in

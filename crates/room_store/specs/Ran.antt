@@ -43,7 +43,9 @@ pub record Looked {X : Type 0} (old new : State) (result : Result X StoreFault)
     (Blames : Database → Type 0) (Answers : Database → X → Type 0) : Type 0 where
   pub leaves : LeavesOpen old new
   pub same : StorePremise old new → IsTrue new.is_open → new.now ≡ old.now
-  pub answer : StorePremise old new → IsTrue new.is_open → IfOk result (Answers old.now)
+  -- A connection that is shut gives no answer.
+  pub answers : HasCleanDisk new → OnOk result (IsTrue old.is_open)
+  pub answer : StorePremise old new → IfOk result (Answers old.now)
   pub damaged : StorePremise old new → IsTrue new.is_open → result ≡ Err Damaged
       → Blames old.now
 

@@ -3,11 +3,11 @@ ghost use Rattle.std.specs.Prelude.{◌≡◌};
 ghost use Rattle.sqlite.specs.Held.{state};
 ghost use Rattle.room_inherit.specs.Reading.{IsReport};
 ghost use Rattle.room_store.specs.Ran.{Looked};
-ghost use Rattle.store_admin.specs.Carries.{CallsInside, NoTables, Reading};
+ghost use Rattle.store_admin.specs.Carries.{AnswersOpen, CallsInside, NoTables, Reading};
 ghost use Rattle.store_tables.specs.Meaning.{rows_of};
 
 use crate::fault::StoreFault;
-use crate::look::give_up;
+use crate::look::{give_up, test_open};
 use room_inherit::{Report, verify};
 use room_rows::KeepFault;
 use sqlite::{Alter, Connection, Transaction};
@@ -26,7 +26,7 @@ fn verify_by<S: Alter>(alloc: Global, keeper: &mut Keeper<'_, '_, S>) -> Result<
 }
 
 // The report, by a keeper inside the transaction.
-fn verify_inside<S: Alter>(alloc: Global, tx: &mut Transaction<'_, S>) -> Result<Report, KeepFault>
+fn verify_within<S: Alter>(alloc: Global, tx: &mut Transaction<'_, S>) -> Result<Report, KeepFault>
     ensures same_reference { tx.new.conn.ghost_name ≡ tx.old.conn.ghost_name }
     ensures carries { CallsInside (state S.Store tx.old.conn.now) (state S.Store tx.new.conn.now)
         result NoTables (Reading (λ db report. IsReport (rows_of db) report)) }
@@ -40,6 +40,22 @@ fn verify_inside<S: Alter>(alloc: Global, tx: &mut Transaction<'_, S>) -> Result
         writes: 0,
     };
     verify_by(alloc, &mut keeper)
+}
+
+// The report, while the connection is open.
+fn verify_inside<S: Alter>(alloc: Global, tx: &mut Transaction<'_, S>) -> Result<Report, KeepFault>
+    ensures same_reference { tx.new.conn.ghost_name ≡ tx.old.conn.ghost_name }
+    ensures carries { CallsInside (state S.Store tx.old.conn.now) (state S.Store tx.new.conn.now)
+        result NoTables (Reading (λ db report. IsReport (rows_of db) report)) }
+    ensures opens { AnswersOpen (state S.Store tx.old.conn.now) (state S.Store tx.new.conn.now)
+        result }
+{
+    let report = verify_within(alloc, tx)?;
+    // a keeper doesn't tell whether the connection was open
+    match test_open(tx) {
+        Ok(()) => Ok(report),
+        Err(fault) => Err(fault),
+    }
 }
 
 /// The report on the rows. Nothing changes, and within another transaction it answers `Db` at once.

@@ -1,3 +1,4 @@
+pub mod Answered
 pub mod Sets
 pub mod InOrder
 pub mod Members

@@ -1,7 +1,7 @@
 -- What calls inside one transaction answer and leave.
-use Rattle.std.specs.Prelude.{◌≡◌, ℕ, Result, Err, IfOk}
+use Rattle.std.specs.Prelude.{◌≡◌, ℕ, Result, Err, IfOk, OnOk, IsTrue}
 use Rattle.sqlite.specs.Effect.{Database}
-use Rattle.sqlite.specs.State.{State}
+use Rattle.sqlite.specs.State.{State, HasCleanDisk}
 use Rattle.room_rows.specs.declared.keep.KeepFault.{KeepFault}
 use Rattle.room_rows.specs.declared.keep.KeepFault.TheVariants.{Damaged}
 use Rattle.room_rows.specs.Rows.{Rows}
@@ -27,6 +27,11 @@ ByRows Becomes old answer new = Becomes (rows_of old) answer (rows_of new)
 -- what a call answers by the tables that it reads
 abbrev pub Reading : {X : Type 0} → (Database → X → Type 0) → Database → X → Database → Type 0
 Reading Answers old answer new = Answers old answer
+
+-- Over a connection that is shut there is no answer.
+abbrev pub AnswersOpen : {X E : Type 0} → State → State → Result X E → Type 0
+AnswersOpen old new result =
+    HasCleanDisk new → OnOk result (IsTrue old.is_open × IsTrue new.is_open)
 
 -- no table
 abbrev pub NoTables : Database → Type 0

@@ -8,7 +8,7 @@ use Rattle.room_dump.specs.Members.{members_text}
 use Rattle.store_tables.specs.Meaning.{rows_of}
 
 -- the text of the room that the tables hold: all objects, of which each document has bytes, and
--- behind them all pairs
+-- after them all pairs
 abbrev pub IsDump : Database → String Global → Type 0
 IsDump db text = (string_bytes text ≡ room_text (rows_of db)) × HasAllBytes (rows_of db)
 

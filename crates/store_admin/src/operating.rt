@@ -3,7 +3,7 @@ ghost use Rattle.std.specs.Prelude.{◌≡◌, [], IfOk};
 ghost use Rattle.sqlite.specs.Held.{state};
 ghost use Rattle.store_tables.specs.Paired.{pair_cmp};
 ghost use Rattle.store_tables.specs.Statements.{QueriesSql, OfAny, ExecutesSql};
-ghost use Rattle.store_admin.specs.Carries.{CallsInside, NoTables, Reading};
+ghost use Rattle.store_admin.specs.Carries.{AnswersOpen, CallsInside, NoTables, Reading};
 ghost use Rattle.store_admin.specs.Operating.{
   AreMembers,
   Exchanges,
@@ -25,6 +25,8 @@ fn select_members<S: Alter>(tx: &mut Transaction<'_, S>) -> Result<Vec<Row>, Err
     ensures same_reference { tx.new.conn.ghost_name ≡ tx.old.conn.ghost_name }
     ensures asks { QueriesSql ShowsMembers
         (state S.Store tx.old.conn.now) (state S.Store tx.new.conn.now) result }
+    ensures opens { AnswersOpen (state S.Store tx.old.conn.now) (state S.Store tx.new.conn.now)
+        result }
 {
     tx.query_all(
         "SELECT grp, user FROM members ORDER BY grp, user",
@@ -104,6 +106,8 @@ pub fn all_members<S: Alter>(
     ensures same_reference { tx.new.conn.ghost_name ≡ tx.old.conn.ghost_name }
     ensures carries { CallsInside (state S.Store tx.old.conn.now) (state S.Store tx.new.conn.now)
         result NoTables (Reading (λ db pairs. AreMembers db pairs.items)) }
+    ensures opens { AnswersOpen (state S.Store tx.old.conn.now) (state S.Store tx.new.conn.now)
+        result }
 {
     let rows = match select_members(tx) {
         Ok(rows) => rows,

@@ -7,7 +7,7 @@ ghost use Rattle.sqlite_value.specs.Value.{owned};
 ghost use Rattle.store_tables.specs.Meaning.{granted_in, mask_in, moment_in, path_in, place_in};
 ghost use Rattle.store_tables.specs.Meaning.{user_in};
 ghost use Rattle.store_tables.specs.Statements.{QueriesSql};
-ghost use Rattle.store_admin.specs.Carries.{CallsInside, Reading};
+ghost use Rattle.store_admin.specs.Carries.{AnswersOpen, CallsInside, Reading};
 ghost use Rattle.store_admin.specs.Operating.{
   AreRecords,
   HasRecords,
@@ -27,6 +27,8 @@ fn select_records<S: Alter>(tx: &mut Transaction<'_, S>) -> Result<Vec<Row>, Err
     ensures same_reference { tx.new.conn.ghost_name ≡ tx.old.conn.ghost_name }
     ensures asks { QueriesSql HasRecords
         (state S.Store tx.old.conn.now) (state S.Store tx.new.conn.now) result }
+    ensures opens { AnswersOpen (state S.Store tx.old.conn.now) (state S.Store tx.new.conn.now)
+        result }
 {
     tx.query_all(
         "SELECT at, user, path, bits, granted, entry FROM audits ORDER BY seq",
@@ -172,6 +174,8 @@ pub fn all_records<S: Alter>(
     ensures same_reference { tx.new.conn.ghost_name ≡ tx.old.conn.ghost_name }
     ensures carries { CallsInside (state S.Store tx.old.conn.now) (state S.Store tx.new.conn.now)
         result HasUnreadRecord (Reading (λ db records. AreRecords db records.items)) }
+    ensures opens { AnswersOpen (state S.Store tx.old.conn.now) (state S.Store tx.new.conn.now)
+        result }
 {
     let rows = match select_records(tx) {
         Ok(rows) => rows,

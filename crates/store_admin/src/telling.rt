@@ -1,7 +1,7 @@
 //! The text of a room.
 ghost use Rattle.std.specs.Prelude.{◌≡◌, string_bytes};
 ghost use Rattle.sqlite.specs.Held.{state};
-ghost use Rattle.store_admin.specs.Carries.{CallsInside, NoTables, Reading};
+ghost use Rattle.store_admin.specs.Carries.{AnswersOpen, CallsInside, NoTables, Reading};
 ghost use Rattle.store_admin.specs.Dump.{AddsMembers, HasDamagedRow, IsDump, TellsObjects};
 
 use crate::operating::all_members;
@@ -48,6 +48,8 @@ fn add_members<S: Alter>(
     ensures carries { CallsInside (state S.Store tx.old.conn.now) (state S.Store tx.new.conn.now)
         result NoTables
         (Reading (AddsMembers (string_bytes text.old) (string_bytes text.new))) }
+    ensures opens { AnswersOpen (state S.Store tx.old.conn.now) (state S.Store tx.new.conn.now)
+        result }
 {
     let pairs = all_members(alloc, tx)?;
     Ok(push_members(text, pairs.as_slice())?)
@@ -59,6 +61,8 @@ pub fn dump_all<S: Alter>(alloc: Global, tx: &mut Transaction<'_, S>) -> Result<
     ensures same_reference { tx.new.conn.ghost_name ≡ tx.old.conn.ghost_name }
     ensures carries { CallsInside (state S.Store tx.old.conn.now) (state S.Store tx.new.conn.now)
         result HasDamagedRow (Reading IsDump) }
+    ensures opens { AnswersOpen (state S.Store tx.old.conn.now) (state S.Store tx.new.conn.now)
+        result }
 {
     let mut text = objects_inside(alloc, tx)?;
     add_members(alloc, tx, &mut text)?;

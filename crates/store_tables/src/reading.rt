@@ -164,7 +164,7 @@ fn held_of(
     let Some(inh) = entries_at(alloc, lists, inh)? else {
         return Ok(None);
     };
-    // most lists are inherited whole, and need no copy behind own entries
+    // most lists are inherited whole, and need no copy after own entries
     if own.as_slice().is_empty() {
         return Ok(Some(Held::inherited(flags, inh)));
     }

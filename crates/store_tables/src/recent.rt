@@ -6,7 +6,7 @@ use room_ace::{Entries, read_entries};
 use std::alloc::{AllocError, Global};
 use std::marker::Model;
 
-// So many texts are remembered, each of at most so many bytes.
+// How many texts are remembered, and how many bytes each has at most.
 const MOST_TEXTS: usize = 64;
 
 const MOST_BYTES: usize = 4096;

@@ -14,5 +14,5 @@ returns g c =
     let mid = state g.S.Store c.dump_all-done.new.tx.conn.now in
     let alone : IsTrue c.is_autocommit.result = search rules in
     let begins : Begins old begun = rw c.transaction-tx.ensures.begun (record { now = refl; committed = refl; same_open = refl; same_clean = refl; mode = refl; settled = c.is_autocommit.ensures.settled alone; sound = λ open'. (c.schema-schema.ensures.live open').0 }) in
-    let done = looked old begun mid (state g.S.Store end) begins c.dump_all-done.ensures.carries.stays c.give_up.ensures.ended c.give_up.ensures.clean HasDamagedRow IsDump c.dump_all-done.result c.give_up.result c.dump_all-done.ensures.carries c.give_up.ensures.gives_up in
+    let done = looked old begun mid (state g.S.Store end) begins c.dump_all-done.ensures.carries.stays c.give_up.ensures.ended c.give_up.ensures.clean HasDamagedRow IsDump c.dump_all-done.result c.give_up.result c.dump_all-done.ensures.carries c.dump_all-done.ensures.opens c.give_up.ensures.gives_up in
     record { looked = subst (λ h. Looked old (state g.S.Store h) c.give_up.result HasDamagedRow IsDump) same done }

@@ -15,5 +15,5 @@ returns g c =
     let mid = state g.S.Store c.all_members-done.new.tx.conn.now in
     let alone : IsTrue c.is_autocommit.result = search rules in
     let begins : Begins old begun = rw c.transaction-tx.ensures.begun (record { now = refl; committed = refl; same_open = refl; same_clean = refl; mode = refl; settled = c.is_autocommit.ensures.settled alone; sound = λ open'. (c.schema-schema.ensures.live open').0 }) in
-    let done = looked old begun mid (state g.S.Store end) begins c.all_members-done.ensures.carries.stays c.give_up.ensures.ended c.give_up.ensures.clean NoTables (λ db pairs. AreMembers db pairs.items) c.all_members-done.result c.give_up.result c.all_members-done.ensures.carries c.give_up.ensures.gives_up in
+    let done = looked old begun mid (state g.S.Store end) begins c.all_members-done.ensures.carries.stays c.give_up.ensures.ended c.give_up.ensures.clean NoTables (λ db pairs. AreMembers db pairs.items) c.all_members-done.result c.give_up.result c.all_members-done.ensures.carries c.all_members-done.ensures.opens c.give_up.ensures.gives_up in
     record { looked = subst (λ h. Looked old (state g.S.Store h) c.give_up.result NoTables (λ db pairs. AreMembers db pairs.items)) same done }

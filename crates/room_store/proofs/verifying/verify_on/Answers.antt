@@ -16,5 +16,5 @@ returns g c =
     let mid = state g.S.Store c.verify_inside-done.new.tx.conn.now in
     let alone : IsTrue c.is_autocommit.result = search rules in
     let begins : Begins old begun = rw c.transaction-tx.ensures.begun (record { now = refl; committed = refl; same_open = refl; same_clean = refl; mode = refl; settled = c.is_autocommit.ensures.settled alone; sound = λ open'. (c.schema-schema.ensures.live open').0 }) in
-    let done = looked old begun mid (state g.S.Store end) begins c.verify_inside-done.ensures.carries.stays c.give_up.ensures.ended c.give_up.ensures.clean NoTables (λ db report. IsReport (rows_of db) report) c.verify_inside-done.result c.give_up.result c.verify_inside-done.ensures.carries c.give_up.ensures.gives_up in
+    let done = looked old begun mid (state g.S.Store end) begins c.verify_inside-done.ensures.carries.stays c.give_up.ensures.ended c.give_up.ensures.clean NoTables (λ db report. IsReport (rows_of db) report) c.verify_inside-done.result c.give_up.result c.verify_inside-done.ensures.carries c.verify_inside-done.ensures.opens c.give_up.ensures.gives_up in
     record { looked = subst (λ h. Looked old (state g.S.Store h) c.give_up.result NoTables (λ db report. IsReport (rows_of db) report)) same done }

@@ -1,6 +1,7 @@
 use Rattle.std.proofs.Common.{[]}
 use Rattle.sqlite.specs.Held.{state}
 use Rattle.store_tables.proofs.Asked.{asks}
+use Rattle.store_admin.proofs.Answered.{answered}
 use Rattle.store_admin.proofs.Recorded.{plain_records, records_text, shows_records}
 use Rattle.store_admin.proofs.records.select_records.Goals as goal
 
@@ -10,3 +11,8 @@ returns-clause-asks g c =
     let new = state g.S.Store c.query_all.new.self.conn.now in
     asks records_text [] old new c.query_all.result _ plain_records c.query_all.ensures.survives.clean
     (λ rows room. shows_records old new rows room) c.query_all.ensures.ok c.query_all.ensures.err
+
+pub returns-clause-opens : goal.returns-clause-opens
+returns-clause-opens g c =
+    answered records_text [] (state g.S.Store c.args.tx.now.conn.now)
+    (state g.S.Store c.query_all.new.self.conn.now) c.query_all.result c.query_all.ensures.ok
