@@ -26,7 +26,7 @@ pub mod Put
 pub mod Replaced
 pub mod Filled
 pub mod Recast
-pub mod Inherited
+pub mod Altered
 pub mod Filling
 pub mod Chosen
 pub mod Storing

@@ -162,7 +162,7 @@ noted r old new count has h =
     let params = record_values r in
     let db = old.now.trees in
     let command = Insert 4 (Values note_terms 8) in
-    let w = runs_as note_text params old new room_schema has command note_is plain_texts.10 count h in
+    let w = runs_as note_text params old new room_schema has command note_is plain_texts.9 count h in
     let text = statement_of note_text (understood room_schema note_text) in
     let done = went (subst (λ s. Does old.step_limit (mode_of old) params (record old.now { schema = s }) text None command (Ok (w.tally, new.now))) has w.changed) in
     let concluded = same_value (went (went done.2).2).2 in

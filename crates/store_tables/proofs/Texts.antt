@@ -160,16 +160,6 @@ pub insert_is : command_of (understood room_schema insert_text) ≡ Insert 0 (Va
 unfolding understood everything
 insert_is = refl
 
-abbrev pub update_text : List ℕ
-update_text = codes "UPDATE nodes SET parent = ?2, name = ?3, kind = ?4, owner = ?5, grp = ?6, dacl_flags = ?7, sacl_flags = ?8, dacl_own = ?9, dacl_inh = ?10, sacl_own = ?11, sacl_inh = ?12 WHERE id = ?1"
-
-abbrev pub update_terms : List Term
-update_terms = col 1 0 ∷ col 1 0 ∷ lit Null ∷ col 0 1 ∷ col 0 2 ∷ col 0 3 ∷ col 0 4 ∷ col 0 5 ∷ col 0 6 ∷ col 0 7 ∷ col 0 8 ∷ col 0 9 ∷ col 0 10 ∷ col 0 11 ∷ []
-
-pub update_is : command_of (understood room_schema update_text) ≡ Update 0 (record { lets = []; body = query_of 0 (matches_parameter 0 0 ∷ []) update_terms [] })
-unfolding understood everything
-update_is = refl
-
 abbrev pub dacl_inh_text : List ℕ
 dacl_inh_text = codes "UPDATE nodes SET dacl_inh = ?2 WHERE id = ?1"
 
@@ -201,6 +191,62 @@ plain_dacl_inh = (refl, refl)
 pub plain_sacl_inh : IsPlain (understood room_schema sacl_inh_text)
 unfolding understood everything
 plain_sacl_inh = (refl, refl)
+
+abbrev pub dacl_text : List ℕ
+dacl_text = codes "UPDATE nodes SET dacl_flags = ?2, dacl_own = ?3, dacl_inh = ?4 WHERE id = ?1"
+
+abbrev pub dacl_terms : List Term
+dacl_terms = col 1 0 ∷ col 1 0 ∷ lit Null ∷ col 1 2 ∷ col 1 3 ∷ col 1 4 ∷ col 1 5 ∷ col 1 6 ∷ col 0 1 ∷ col 1 8 ∷ col 0 2 ∷ col 0 3 ∷ col 1 11 ∷ col 1 12 ∷ []
+
+pub dacl_is : command_of (understood room_schema dacl_text) ≡ updates_nodes dacl_terms
+unfolding understood everything
+dacl_is = refl
+
+pub plain_dacl : IsPlain (understood room_schema dacl_text)
+unfolding understood everything
+plain_dacl = (refl, refl)
+
+abbrev pub sacl_text : List ℕ
+sacl_text = codes "UPDATE nodes SET sacl_flags = ?2, sacl_own = ?3, sacl_inh = ?4 WHERE id = ?1"
+
+abbrev pub sacl_terms : List Term
+sacl_terms = col 1 0 ∷ col 1 0 ∷ lit Null ∷ col 1 2 ∷ col 1 3 ∷ col 1 4 ∷ col 1 5 ∷ col 1 6 ∷ col 1 7 ∷ col 0 1 ∷ col 1 9 ∷ col 1 10 ∷ col 0 2 ∷ col 0 3 ∷ []
+
+pub sacl_is : command_of (understood room_schema sacl_text) ≡ updates_nodes sacl_terms
+unfolding understood everything
+sacl_is = refl
+
+pub plain_sacl : IsPlain (understood room_schema sacl_text)
+unfolding understood everything
+plain_sacl = (refl, refl)
+
+abbrev pub owners_text : List ℕ
+owners_text = codes "UPDATE nodes SET owner = ?2, grp = ?3 WHERE id = ?1"
+
+abbrev pub owners_terms : List Term
+owners_terms = col 1 0 ∷ col 1 0 ∷ lit Null ∷ col 1 2 ∷ col 1 3 ∷ col 1 4 ∷ col 0 1 ∷ col 0 2 ∷ col 1 7 ∷ col 1 8 ∷ col 1 9 ∷ col 1 10 ∷ col 1 11 ∷ col 1 12 ∷ []
+
+pub owners_is : command_of (understood room_schema owners_text) ≡ updates_nodes owners_terms
+unfolding understood everything
+owners_is = refl
+
+pub plain_owners : IsPlain (understood room_schema owners_text)
+unfolding understood everything
+plain_owners = (refl, refl)
+
+abbrev pub place_text : List ℕ
+place_text = codes "UPDATE nodes SET parent = ?2, name = ?3 WHERE id = ?1"
+
+abbrev pub place_terms : List Term
+place_terms = col 1 0 ∷ col 1 0 ∷ lit Null ∷ col 0 1 ∷ col 0 2 ∷ col 1 4 ∷ col 1 5 ∷ col 1 6 ∷ col 1 7 ∷ col 1 8 ∷ col 1 9 ∷ col 1 10 ∷ col 1 11 ∷ col 1 12 ∷ []
+
+pub place_is : command_of (understood room_schema place_text) ≡ updates_nodes place_terms
+unfolding understood everything
+place_is = refl
+
+pub plain_place : IsPlain (understood room_schema place_text)
+unfolding understood everything
+plain_place = (refl, refl)
 
 abbrev pub delete_text : List ℕ
 delete_text = codes "DELETE FROM nodes WHERE id = ?1"
@@ -244,6 +290,6 @@ note_is = refl
 -- each is one statement with no RETURNING, which reads no time
 pub plain_texts : IsPlain (understood room_schema node_text) × IsPlain (understood room_schema child_text) × IsPlain (understood room_schema children_text) × IsPlain (understood room_schema root_text)
     × IsPlain (understood room_schema ids_text) × IsPlain (understood room_schema body_text) × IsPlain (understood room_schema groups_text) × IsPlain (understood room_schema insert_text)
-    × IsPlain (understood room_schema update_text) × IsPlain (understood room_schema delete_text) × IsPlain (understood room_schema note_text)
+    × IsPlain (understood room_schema delete_text) × IsPlain (understood room_schema note_text)
 unfolding understood everything
-plain_texts = ((refl, refl), (refl, refl), (refl, refl), (refl, refl), (refl, refl), (refl, refl), (refl, refl), (refl, refl), (refl, refl), (refl, refl), (refl, refl))
+plain_texts = ((refl, refl), (refl, refl), (refl, refl), (refl, refl), (refl, refl), (refl, refl), (refl, refl), (refl, refl), (refl, refl), (refl, refl))

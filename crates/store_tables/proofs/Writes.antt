@@ -55,7 +55,7 @@ pub deleted : (id : ℤ) (old new : State) (count : ℕ) → old.now.schema ≡ 
 deleted id old new count has h =
     let params = Int id ∷ [] in
     let command = Delete 0 (record { lets = []; body = query_of 0 (matches_parameter 0 0 ∷ []) (col 1 0 ∷ []) [] }) in
-    let w = runs_as delete_text params old new room_schema has command delete_is plain_texts.9 count h in
+    let w = runs_as delete_text params old new room_schema has command delete_is plain_texts.8 count h in
     let text = statement_of delete_text (understood room_schema delete_text) in
     let done = went (subst (λ s. Does old.step_limit (mode_of old) params (record old.now { schema = s }) text None command (Ok (w.tally, new.now))) has w.changed) in
     let asked = went done.1 in

@@ -3,9 +3,11 @@ use Rattle.std.specs.Prelude.{◌≡◌, ◌⊎◌, ◌<◌, ℕ, pos, Some, ℤ
 use Rattle.sqlite.specs.declared.types.Value.{Value}
 use Rattle.sqlite.specs.declared.types.Value.TheVariants.{Null, Int, Text}
 use Rattle.sqlite.specs.Order.{Row}
+use Rattle.room_rows.specs.HeldList.{Held}
 use Rattle.room_rows.specs.declared.node.AuditRow.{AuditRow}
 use Rattle.room_rows.specs.declared.node.Node.{Node}
 use Rattle.store_tables.specs.declared.columns.Columns.{Columns}
+use Rattle.store_tables.specs.declared.columns.HeldColumns.{HeldColumns}
 use Rattle.store_tables.specs.declared.columns.Record.{Record}
 use Rattle.sqlite.specs.Effect.{Database}
 use Rattle.store_tables.specs.Shown.{AddsRow}
@@ -36,6 +38,12 @@ pub record ReadsAsNode (n : Node) (c : Columns) : Type 0 where
   pub dacl_inh : entries_in (Text (string_bytes c.dacl_inh)) ≡ Some n.dacl.inh
   pub sacl_own : entries_in (Text (string_bytes c.sacl_own)) ≡ Some n.sacl.own
   pub sacl_inh : entries_in (Text (string_bytes c.sacl_inh)) ≡ Some n.sacl.inh
+
+-- what is read of the columns is the list
+pub record ReadsAsHeld (h : Held) (c : HeldColumns) : Type 0 where
+  pub flags : flags_in (Int c.flags) ≡ Some h.flags
+  pub own : entries_in (Text (string_bytes c.own)) ≡ Some h.own
+  pub inh : entries_in (Text (string_bytes c.inh)) ≡ Some h.inh
 
 -- an object is stored in columns that are put in with this number
 pub record IsInserted (node : Node) (id : ℕ) (old new : Database) : Type 0 where

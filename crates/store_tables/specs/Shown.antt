@@ -119,6 +119,23 @@ inheriting Dacl text r = column r 2 ∷ column r 3 ∷ column r 4 ∷ column r 5
 inheriting Sacl text r = column r 2 ∷ column r 3 ∷ column r 4 ∷ column r 5 ∷ column r 6
     ∷ column r 7 ∷ column r 8 ∷ column r 9 ∷ column r 10 ∷ column r 11 ∷ Text text ∷ []
 
+-- the same, with these flags and these texts for a list
+abbrev pub holding : Which → ℤ → List ℕ → List ℕ → Row → Row
+holding Dacl flags own inh r = column r 2 ∷ column r 3 ∷ column r 4 ∷ column r 5 ∷ column r 6
+    ∷ Int flags ∷ column r 8 ∷ Text own ∷ Text inh ∷ column r 11 ∷ column r 12 ∷ []
+holding Sacl flags own inh r = column r 2 ∷ column r 3 ∷ column r 4 ∷ column r 5 ∷ column r 6
+    ∷ column r 7 ∷ Int flags ∷ column r 9 ∷ column r 10 ∷ Text own ∷ Text inh ∷ []
+
+-- the same, with these owners
+abbrev pub owning : List ℕ → List ℕ → Row → Row
+owning owner group r = column r 2 ∷ column r 3 ∷ column r 4 ∷ Text owner ∷ Text group ∷ column r 7
+    ∷ column r 8 ∷ column r 9 ∷ column r 10 ∷ column r 11 ∷ column r 12 ∷ []
+
+-- the same, with this parent and this name
+abbrev pub lying : ℤ → List ℕ → Row → Row
+lying parent name r = Int parent ∷ Text name ∷ column r 4 ∷ column r 5 ∷ column r 6 ∷ column r 7
+    ∷ column r 8 ∷ column r 9 ∷ column r 10 ∷ column r 11 ∷ column r 12 ∷ []
+
 -- the row of this number is replaced by one of these cells, as the columns make them
 abbrev pub Recasts : (Row → Row) → ℤ → Trees → Trees → Type 0
 Recasts change id db next = (r : Row) → find (has_rowid id) (db 0) ≡ Some r

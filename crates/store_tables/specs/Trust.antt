@@ -1,16 +1,14 @@
 -- When the answers of a database are those of its rows, and that this is so of each part of a run
 -- of calls.
-use Rattle.std.specs.Prelude.{◌≡◌, List, [], ◌∷◌, Some, Result, IfOk, IfErr, ◌≤◌, ℕ, IsTrue, refl}
+use Rattle.std.specs.Prelude.{◌≡◌, [], ◌∷◌, Result, IfOk, IfErr, ◌≤◌, ℕ, IsTrue, refl}
 use Rattle.std.proofs.Common.{◌∙◌, sym, subst, arith}
 use Rattle.sqlite_trees.specs.View.{doubt}
 use Rattle.sqlite.specs.State.{State, HasCleanDisk}
 use Rattle.sqlite.specs.Effect.{Database}
-use Rattle.room_ace.specs.Ace.{Ace}
-use Rattle.room_ace.specs.declared.object.Which.{Which}
 use Rattle.room_rows.specs.declared.node.AuditRow.{AuditRow}
 use Rattle.room_rows.specs.declared.node.Node.{Node}
-use Rattle.room_rows.specs.Content.{node_at, with_node, with_records}
-use Rattle.room_rows.specs.Keep.{Changes, HasCause, capped, reading, with_inh}
+use Rattle.room_rows.specs.Content.{with_records}
+use Rattle.room_rows.specs.Keep.{Changes, HasCause, capped, reading}
 use Rattle.room_rows.specs.declared.keep.KeepFault.{KeepFault}
 use Rattle.store_tables.specs.Meaning.{rows_of}
 use Rattle.store_tables.specs.Seeing.{Nowhere}
@@ -24,15 +22,9 @@ pub record IsTrusted (first last : State) : Type 0 where
   pub now : IsRoom first.now
   pub committed : IsRoom first.committed
 
--- the object, if it is there, is written anew, and nothing else is
-abbrev pub Rewrites : Node → Database → Database → Type 0
-Rewrites node old new =
-    (before : Node) → node_at (rows_of old).read node.id ≡ Some before
-    → rows_of new ≡ reading (rows_of old) (with_node (rows_of old).read node)
-
--- a list of the object, if it is there, inherits these entries, and nothing else is changed
-abbrev pub Inherits : ℕ → Which → List Ace → Database → Database → Type 0
-Inherits id which entries old new = Changes id (with_inh which entries) (rows_of old) (rows_of new)
+-- the object, if it is there, is changed so, and nothing else is
+abbrev pub Alters : ℕ → (Node → Node) → Database → Database → Type 0
+Alters id change old new = Changes id change (rows_of old) (rows_of new)
 
 -- a record is added after the others, and nothing else is changed
 abbrev pub HasNoted : AuditRow → Database → Database → Type 0

@@ -1,7 +1,7 @@
 //! The columns of an object.
 ghost use Rattle.std.specs.Prelude.{◌≡◌, Some, IfOk, IfSome, pos, string_bytes};
 ghost use Rattle.sqlite.specs.declared.types.Value.TheVariants.{Int, Text as SqlText};
-ghost use Rattle.store_tables.specs.Columns.{IsParent, Recalls, ReadsAsNode};
+ghost use Rattle.store_tables.specs.Columns.{IsParent, Recalls, ReadsAsHeld, ReadsAsNode};
 ghost use Rattle.store_tables.specs.Meaning.{entries_in, flags_in, kind_in, mask_in, name_in};
 ghost use Rattle.store_tables.specs.Meaning.{parent_in, path_in, place_in, text_in, user_in};
 
@@ -66,6 +66,21 @@ fn text_column(alloc: Global, text: &Text) -> Result<String, AllocError>
     String::from_str(alloc, text.as_str())
 }
 
+/// Tells a proof that a text is read back as this text.
+pub(crate) fn text_is_kept(text: &str)
+    ensures { text_in (SqlText text.now) ≡ Some text.now }
+{
+    let _text = text;
+}
+
+/// Tells a proof that a name's text is read back as this name.
+pub(crate) fn name_is_kept(name: &Name)
+    ensures { name_in (SqlText name.now) ≡ Some name.now }
+{
+    names_are_text();
+    name.is_known();
+}
+
 fn name_column(alloc: Global, name: &Name) -> Result<String, AllocError>
     ensures { IfOk result (λ t. name_in (SqlText (string_bytes t)) ≡ Some name.now) }
 {
@@ -92,6 +107,26 @@ fn list_columns(alloc: Global, held: &Held) -> Result<(String, String), AllocErr
     let own = print_entries(alloc, held.own())?;
     let inh = print_entries(alloc, held.inh())?;
     Ok((own, inh))
+}
+
+/// What the columns of a list hold.
+#[derive(Drop)]
+pub(crate) struct HeldColumns {
+    pub(crate) flags: i64,
+    pub(crate) own: String,
+    pub(crate) inh: String,
+}
+
+/// The columns in which the list is stored.
+pub(crate) fn held_columns(alloc: Global, held: &Held) -> Result<HeldColumns, AllocError>
+    ensures { IfOk result (ReadsAsHeld held.now) }
+{
+    let (own, inh) = list_columns(alloc, held)?;
+    Ok(HeldColumns {
+        flags: flags_column(held.flags()),
+        own,
+        inh,
+    })
 }
 
 /// The columns in which the object is stored, if it can be.

@@ -3,17 +3,18 @@ ghost use Rattle.std.proofs.Common.{arith, refl, ◌∙◌};
 ghost use Rattle.sqlite.specs.Held.{state};
 ghost use Rattle.room_rows.specs.Counts.{capped_ends, capped_rises};
 ghost use Rattle.std.specs.Prelude.{◌≡◌, ◌≤◌, pos};
-ghost use Rattle.room_rows.specs.Keep.{capped, writes_after};
+ghost use Rattle.room_rows.specs.Held.{with_held};
+ghost use Rattle.room_rows.specs.Keep.{capped, with_inh, with_owners, with_place, writes_after};
 ghost use Rattle.store_tables.specs.Meaning.{rows_of};
 ghost use Rattle.store_tables.specs.Columns.{IsInserted};
 ghost use Rattle.room_ace.specs.Valid.{is_document};
 ghost use Rattle.store_tables.specs.Shown.{GetsBytes, Stays};
-ghost use Rattle.store_tables.specs.Trust.{HasNoted, Inherits, IsTrusted, Puts, Rewrites};
+ghost use Rattle.store_tables.specs.Trust.{Alters, HasNoted, IsTrusted, Puts};
 ghost use Rattle.store_tables.specs.Trust.{stays_itself};
 ghost use Rattle.store_tables.specs.Trust.{stays_on, trusted_first, trusted_last};
 ghost use Rattle.store_tables.specs.RoomRows.{room_rows};
 
-use crate::columns::{columns_of, record_of};
+use crate::columns::{columns_of, held_columns, name_is_kept, record_of, text_is_kept};
 use crate::fault::wants_memory;
 use crate::reading::number_of;
 use crate::recent::RecentLists;
@@ -23,12 +24,12 @@ use crate::seen::{
 use crate::statements::{
     delete_node, insert_bytes, insert_node, insert_record, select_bytes, select_child,
     select_groups, select_names, select_node, select_numbers, select_some, select_top,
-    select_under, update_bytes, update_inh, update_node,
+    select_under, update_bytes, update_held, update_inh, update_owners, update_place,
 };
 use room_ace::{Entry, Name, Names, Owners, Which, names_are_text, print_entries};
 use room_rows::{
-    AuditRow, Bytes, Held, Keep, KeepFault, Listing, NewNode, Node, Nodes, Numbers, Text,
-    count_one, failed,
+    AuditRow, Bytes, Held, Keep, KeepFault, Listing, NewNode, Node, Nodes, Numbers, count_one,
+    failed,
 };
 use sqlite::types::ValueRef;
 use sqlite::{Alter, Transaction};
@@ -50,23 +51,27 @@ pub struct Keeper<'a, 'conn, S: Alter> {
     pub writes: u64,
 }
 
-// Writes all columns of an object that is there.
-fn put<S: Alter>(keeper: &mut Keeper<'_, '_, S>, node: &Node) -> Result<(), KeepFault>
+// Writes a list of an object that is there, and none of the row's other columns, which would cost
+// more than twice as much.
+fn put_held<S: Alter>(
+    keeper: &mut Keeper<'_, '_, S>,
+    id: u64,
+    which: Which,
+    held: &Held,
+) -> Result<(), KeepFault>
     ensures same_reference { keeper.new.tx.ghost_name ≡ keeper.old.tx.ghost_name }
     ensures same_lender { keeper.new.tx.now.conn.ghost_name ≡ keeper.old.tx.now.conn.ghost_name }
     ensures written { capped keeper.new.writes ≡ writes_after result (capped keeper.old.writes) }
     ensures puts { Puts (state S.Store keeper.old.tx.now.conn.now)
         (state S.Store keeper.new.tx.now.conn.now) keeper.old.failures keeper.new.failures
-        result (λ _. Rewrites node.now) }
+        result (λ _. Alters id (with_held which held.now)) }
 {
-    let Some(at) = rowid_of(node.id) else {
+    let Some(at) = rowid_of(id) else {
         return Err(failed(&mut keeper.failures));
     };
-    let Some(columns) = columns_of(keeper.alloc, node)? else {
-        return Err(failed(&mut keeper.failures));
-    };
-    let done = update_node(keeper.tx, at, &columns);
-    drop(columns);
+    let list = held_columns(keeper.alloc, held)?;
+    let done = update_held(keeper.tx, at, which, &list);
+    drop(list);
     match done {
         Ok(count) if count == 1 => {}
         Err(error) if wants_memory(error) => return Err(KeepFault::Memory),
@@ -76,8 +81,66 @@ fn put<S: Alter>(keeper: &mut Keeper<'_, '_, S>, node: &Node) -> Result<(), Keep
     Ok(())
 }
 
-// Writes what a list of an object that is there inherits. It is one column, which costs less than
-// half of the whole row.
+// Writes the owners of an object that is there.
+fn put_owners<S: Alter>(
+    keeper: &mut Keeper<'_, '_, S>,
+    id: u64,
+    owners: &Owners,
+) -> Result<(), KeepFault>
+    ensures same_reference { keeper.new.tx.ghost_name ≡ keeper.old.tx.ghost_name }
+    ensures same_lender { keeper.new.tx.now.conn.ghost_name ≡ keeper.old.tx.now.conn.ghost_name }
+    ensures written { capped keeper.new.writes ≡ writes_after result (capped keeper.old.writes) }
+    ensures puts { Puts (state S.Store keeper.old.tx.now.conn.now)
+        (state S.Store keeper.new.tx.now.conn.now) keeper.old.failures keeper.new.failures
+        result (λ _. Alters id (with_owners owners.now)) }
+{
+    let Some(at) = rowid_of(id) else {
+        return Err(failed(&mut keeper.failures));
+    };
+    name_is_kept(&owners.owner);
+    name_is_kept(&owners.group);
+    let done = update_owners(keeper.tx, at, owners.owner.as_str(), owners.group.as_str());
+    match done {
+        Ok(count) if count == 1 => {}
+        Err(error) if wants_memory(error) => return Err(KeepFault::Memory),
+        _ => return Err(failed(&mut keeper.failures)),
+    }
+    count_one(&mut keeper.writes);
+    Ok(())
+}
+
+// Writes where an object that is there lies.
+fn put_place<S: Alter>(
+    keeper: &mut Keeper<'_, '_, S>,
+    id: u64,
+    parent: u64,
+    name: &str,
+) -> Result<(), KeepFault>
+    ensures same_reference { keeper.new.tx.ghost_name ≡ keeper.old.tx.ghost_name }
+    ensures same_lender { keeper.new.tx.now.conn.ghost_name ≡ keeper.old.tx.now.conn.ghost_name }
+    ensures written { capped keeper.new.writes ≡ writes_after result (capped keeper.old.writes) }
+    ensures puts { Puts (state S.Store keeper.old.tx.now.conn.now)
+        (state S.Store keeper.new.tx.now.conn.now) keeper.old.failures keeper.new.failures
+        result (λ _. Alters id (with_place parent name.now)) }
+{
+    let Some(at) = rowid_of(id) else {
+        return Err(failed(&mut keeper.failures));
+    };
+    let Some(under) = rowid_of(parent) else {
+        return Err(failed(&mut keeper.failures));
+    };
+    text_is_kept(name);
+    let done = update_place(keeper.tx, at, under, name);
+    match done {
+        Ok(count) if count == 1 => {}
+        Err(error) if wants_memory(error) => return Err(KeepFault::Memory),
+        _ => return Err(failed(&mut keeper.failures)),
+    }
+    count_one(&mut keeper.writes);
+    Ok(())
+}
+
+// Writes what a list of an object that is there inherits.
 fn put_inh<S: Alter>(
     keeper: &mut Keeper<'_, '_, S>,
     id: u64,
@@ -89,7 +152,7 @@ fn put_inh<S: Alter>(
     ensures written { capped keeper.new.writes ≡ writes_after result (capped keeper.old.writes) }
     ensures puts { Puts (state S.Store keeper.old.tx.now.conn.now)
         (state S.Store keeper.new.tx.now.conn.now) keeper.old.failures keeper.new.failures
-        result (λ _. Inherits id which entries.now) }
+        result (λ _. Alters id (with_inh which entries.now)) }
 {
     let Some(at) = rowid_of(id) else {
         return Err(failed(&mut keeper.failures));
@@ -327,34 +390,21 @@ impl<'a, 'conn, S: Alter> Keep for Keeper<'a, 'conn, S> {
         Ok(id)
     }
 
+    // Whoever sets a part of an object has just read its row, so it isn't read again.
     fn set_held(&mut self, id: u64, which: Which, held: &Held) -> Result<(), KeepFault> {
-        let Some(mut node) = self.node(id)? else {
-            return Err(failed(&mut self.failures));
-        };
-        node.set_held(which, held.copy()?);
-        put(self, &node)
+        put_held(self, id, which, held)
     }
 
     fn set_inh(&mut self, id: u64, which: Which, entries: &[Entry]) -> Result<(), KeepFault> {
-        // Whoever carries a list down has just read the row, so it isn't read again.
         put_inh(self, id, which, entries)
     }
 
     fn set_owners(&mut self, id: u64, owners: &Owners) -> Result<(), KeepFault> {
-        let Some(mut node) = self.node(id)? else {
-            return Err(failed(&mut self.failures));
-        };
-        node.owners = owners.copy()?;
-        put(self, &node)
+        put_owners(self, id, owners)
     }
 
     fn set_place(&mut self, id: u64, parent: u64, name: &str) -> Result<(), KeepFault> {
-        let Some(mut node) = self.node(id)? else {
-            return Err(failed(&mut self.failures));
-        };
-        node.parent = Some(parent);
-        node.name = Text::from_str(self.alloc, name)?;
-        put(self, &node)
+        put_place(self, id, parent, name)
     }
 
     fn remove(&mut self, id: u64) -> Result<(), KeepFault> {

@@ -1,16 +1,16 @@
 //! The statements, each a fixed text.
-ghost use Rattle.std.specs.Prelude.{◌≡◌};
+ghost use Rattle.std.specs.Prelude.{◌≡◌, string_bytes};
 ghost use Rattle.sqlite.specs.Held.{state};
 ghost use Rattle.store_tables.specs.Columns.{IsParent, record_values, values_of};
 ghost use Rattle.store_tables.specs.Shown.{Bodies, Fills, AddsRecordRow};
-ghost use Rattle.store_tables.specs.Shown.{Recasts, RemovesRow, Replaces};
-ghost use Rattle.store_tables.specs.Shown.{inheriting};
+ghost use Rattle.store_tables.specs.Shown.{Recasts, RemovesRow};
+ghost use Rattle.store_tables.specs.Shown.{holding, inheriting, lying, owning};
 ghost use Rattle.store_tables.specs.Statements.{QueriesSql, HasBytes, HasChild};
 ghost use Rattle.store_tables.specs.Statements.{HasGroups, HasNames};
 ghost use Rattle.store_tables.specs.Statements.{HasNode, HasNumbers, HasSome, HasTop, HasUnder};
 ghost use Rattle.store_tables.specs.Statements.{OfAny, OfNode, OfOne, ExecutesSql};
 
-use crate::columns::{Columns, Record};
+use crate::columns::{Columns, HeldColumns, Record};
 use room_ace::Which;
 use sqlite::{Alter, Error, Row, Transaction, params};
 
@@ -149,35 +149,89 @@ pub(crate) fn delete_node<S: Alter>(tx: &mut Transaction<'_, S>, id: i64) -> Res
     tx.execute("DELETE FROM nodes WHERE id = ?1", params![id])
 }
 
-/// Writes all columns of the row of this number.
-pub(crate) fn update_node<S: Alter>(
+// Writes the dacl in the row of this number.
+fn update_dacl<S: Alter>(
     tx: &mut Transaction<'_, S>,
     id: i64,
-    columns: &Columns,
+    list: &HeldColumns,
 ) -> Result<usize, Error>
-    requires { IsParent columns.now.parent }
     ensures same_reference { tx.new.conn.ghost_name ≡ tx.old.conn.ghost_name }
-    ensures writes { ExecutesSql (OfOne (Replaces id (values_of columns.now)))
+    ensures writes { ExecutesSql (OfOne (Recasts (holding Which.Dacl list.now.flags
+        (string_bytes list.now.own) (string_bytes list.now.inh)) id))
         (state S.Store tx.old.conn.now) (state S.Store tx.new.conn.now) result }
 {
     tx.execute(
-        "UPDATE nodes SET parent = ?2, name = ?3, kind = ?4, owner = ?5, grp = ?6, dacl_flags \
-         = ?7, sacl_flags = ?8, dacl_own = ?9, dacl_inh = ?10, sacl_own = ?11, sacl_inh = ?12 \
-         WHERE id = ?1",
-        params![
-            id,
-            &columns.parent,
-            &columns.name,
-            &columns.kind,
-            &columns.owner,
-            &columns.group,
-            &columns.dacl_flags,
-            &columns.sacl_flags,
-            &columns.dacl_own,
-            &columns.dacl_inh,
-            &columns.sacl_own,
-            &columns.sacl_inh,
-        ],
+        "UPDATE nodes SET dacl_flags = ?2, dacl_own = ?3, dacl_inh = ?4 WHERE id = ?1",
+        params![id, &list.flags, &list.own, &list.inh],
+    )
+}
+
+// The same of the sacl.
+fn update_sacl<S: Alter>(
+    tx: &mut Transaction<'_, S>,
+    id: i64,
+    list: &HeldColumns,
+) -> Result<usize, Error>
+    ensures same_reference { tx.new.conn.ghost_name ≡ tx.old.conn.ghost_name }
+    ensures writes { ExecutesSql (OfOne (Recasts (holding Which.Sacl list.now.flags
+        (string_bytes list.now.own) (string_bytes list.now.inh)) id))
+        (state S.Store tx.old.conn.now) (state S.Store tx.new.conn.now) result }
+{
+    tx.execute(
+        "UPDATE nodes SET sacl_flags = ?2, sacl_own = ?3, sacl_inh = ?4 WHERE id = ?1",
+        params![id, &list.flags, &list.own, &list.inh],
+    )
+}
+
+/// Writes a list in the row of this number, and none of its other columns.
+pub(crate) fn update_held<S: Alter>(
+    tx: &mut Transaction<'_, S>,
+    id: i64,
+    which: Which,
+    list: &HeldColumns,
+) -> Result<usize, Error>
+    ensures same_reference { tx.new.conn.ghost_name ≡ tx.old.conn.ghost_name }
+    ensures writes { ExecutesSql (OfOne (Recasts (holding which list.now.flags
+        (string_bytes list.now.own) (string_bytes list.now.inh)) id))
+        (state S.Store tx.old.conn.now) (state S.Store tx.new.conn.now) result }
+{
+    match which {
+        Which::Dacl => update_dacl(tx, id, list),
+        Which::Sacl => update_sacl(tx, id, list),
+    }
+}
+
+/// Writes the owners in the row of this number, and none of its other columns.
+pub(crate) fn update_owners<S: Alter>(
+    tx: &mut Transaction<'_, S>,
+    id: i64,
+    owner: &str,
+    group: &str,
+) -> Result<usize, Error>
+    ensures same_reference { tx.new.conn.ghost_name ≡ tx.old.conn.ghost_name }
+    ensures writes { ExecutesSql (OfOne (Recasts (owning owner.now group.now) id))
+        (state S.Store tx.old.conn.now) (state S.Store tx.new.conn.now) result }
+{
+    tx.execute(
+        "UPDATE nodes SET owner = ?2, grp = ?3 WHERE id = ?1",
+        params![id, owner, group],
+    )
+}
+
+/// Writes the parent and the name in the row of this number, and none of its other columns.
+pub(crate) fn update_place<S: Alter>(
+    tx: &mut Transaction<'_, S>,
+    id: i64,
+    parent: i64,
+    name: &str,
+) -> Result<usize, Error>
+    ensures same_reference { tx.new.conn.ghost_name ≡ tx.old.conn.ghost_name }
+    ensures writes { ExecutesSql (OfOne (Recasts (lying parent name.now) id))
+        (state S.Store tx.old.conn.now) (state S.Store tx.new.conn.now) result }
+{
+    tx.execute(
+        "UPDATE nodes SET parent = ?2, name = ?3 WHERE id = ?1",
+        params![id, parent, name],
     )
 }
 

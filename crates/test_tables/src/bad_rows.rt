@@ -16,11 +16,12 @@ keeper Children 1 => fault Damaged 2
 keeper Listing 1 => fault Damaged 2
 keeper HasChildren 1 => yes
 keeper Body 2 => bytes hi
-keeper SetHeld 2 dacl list:a => fault Damaged 2
+keeper SetHeld 2 dacl list:a => done
 keeper SetInh 2 dacl list: / A:I:bob:r => done
-keeper SetOwners 2 alice:staff => fault Damaged 2
-keeper SetPlace 2 1 d => fault Damaged 2
-keeper Add 1 k document => fault Store
+keeper SetOwners 2 alice:staff => done
+keeper SetPlace 2 1 d => done
+keeper Node 2 => fault Damaged 2
+keeper Add 1 d document => fault Store
 ",
     ),
     (

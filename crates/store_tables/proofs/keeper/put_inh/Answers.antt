@@ -5,7 +5,7 @@ use Rattle.sqlite.specs.Held.{state}
 use Rattle.store_tables.specs.Meaning.{entries_in}
 use Rattle.store_tables.specs.RoomRows.{number_in-low}
 use Rattle.store_tables.specs.Shown.{Recasts, inheriting}
-use Rattle.store_tables.proofs.Inherited.{inherited_rows}
+use Rattle.store_tables.proofs.Altered.{inherited_rows}
 use Rattle.store_tables.proofs.keeper.put_inh.Goals as goal
 
 pub returns-clause-puts : goal.returns-clause-puts
@@ -22,5 +22,5 @@ returns-clause-puts g c =
       fault = tt;
       becomes = λ trust.
           let put = c.in-Ok.ensures.writes.leaves trust.clean trust.now c.if-count-eq1.true in
-          inherited_rows old.now new.now c.args.id c.args.which text c.args.entries.now trust.now (number_in-low c.args.id c.in-Some.ensures.2) back (subst (λ z. Recasts (inheriting c.args.which text) z old.now.trees new.now.trees) at put);
+          inherited_rows old.now new.now c.args.id trust.now (number_in-low c.args.id c.in-Some.ensures.2) c.args.which text c.args.entries.now back (subst (λ z. Recasts (inheriting c.args.which text) z old.now.trees new.now.trees) at put);
     }

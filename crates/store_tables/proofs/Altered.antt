@@ -1,5 +1,5 @@
--- What the rows mean once a list of an object inherits other entries, by one column of its row.
-use Rattle.std.proofs.Common.{◌≡◌, ℕ, pos, List, [], ◌∷◌, find, None, Some, Option, refl, sym, ap, subst, ◌∙◌}
+-- What the rows mean once some columns of an object's row are written.
+use Rattle.std.proofs.Common.{◌≡◌, ℕ, ℤ, pos, List, [], ◌∷◌, find, None, Some, Option, refl, sym, ap, subst, ◌∙◌}
 use Rattle.std.specs.Prelude.{option_and_then}
 use Rattle.sqlite.specs.declared.types.Value.{Value}
 use Rattle.sqlite.specs.declared.types.Value.TheVariants.{Null, Int, Real, Text, Blob}
@@ -16,14 +16,16 @@ use Rattle.room_ace.specs.declared.object.Which.TheVariants.{Dacl, Sacl}
 use Rattle.room_ace.specs.declared.parties.Owners.{Owners}
 use Rattle.room_rows.specs.HeldList.{Held}
 use Rattle.room_rows.specs.declared.node.Node.{Node}
-use Rattle.room_rows.specs.Content.{node_at, with_node}
-use Rattle.room_rows.specs.Keep.{reading, with_inh}
+use Rattle.room_rows.specs.Content.{with_node}
+use Rattle.room_rows.specs.Held.{with_held}
+use Rattle.room_rows.specs.Keep.{reading, with_inh, with_owners, with_place}
 use Rattle.room_rows.proofs.Frames.{node_at-number}
 use Rattle.room_rows.proofs.Lookups.{not_none}
 use Rattle.store_tables.specs.Filed.{node_at_row}
 use Rattle.store_tables.specs.Meaning.{number_in, parent_in, kind_in, flags_in, text_in, name_of_text, name_in, entries_in, given, giving, held_in, owners_in, node_in, rows_of}
-use Rattle.store_tables.specs.Shown.{IsRoom, Recasts, inheriting, shown_node, stored_node}
-use Rattle.store_tables.proofs.Changing.{inh_id}
+use Rattle.store_tables.specs.Shown.{IsRoom, Recasts, holding, inheriting, lying, owning, shown_node, stored_node}
+use Rattle.store_tables.specs.Trust.{Alters}
+use Rattle.store_tables.proofs.Changing.{held_id, inh_id}
 use Rattle.store_tables.proofs.Recast.{recast}
 use Rattle.store_tables.proofs.Replaced.{replaced_rows}
 use Rattle.store_tables.proofs.Updates.{cast_int, cast_null}
@@ -162,11 +164,11 @@ module _ (v2 v3 v4 v5 v6 v7 v8 v9 v10 v11 v12 : Value) (n : Node) where
   stored_again : (id : ℕ) → number_in (Int (pos id)) ≡ Some n.id → ReadsCells v2 v3 v4 v5 v6 v7 v8 v9 v10 v11 v12 n → node_in (shown_node (stored_node (pos id) (recast (v2 ∷ v3 ∷ v4 ∷ v5 ∷ v6 ∷ v7 ∷ v8 ∷ v9 ∷ v10 ∷ v11 ∷ v12 ∷ [])))) ≡ Some n
   stored_again id number s = ap (λ l. node_in (shown_node (stored_node (pos id) l))) (recast_same s) ∙ read_back id number s
 
--- ---- one column written
+-- ---- some columns written
 
-module _ (id : ℕ) (r : Row) (before : Node) (text : List ℕ) (entries : List Ace) (number : number_in (Int (pos id)) ≡ Some before.id) (back : entries_in (Text text) ≡ Some entries) where
-  inherits_back : (which : Which) → node_in (shown_node r) ≡ Some before → node_in (shown_node (stored_node (pos id) (recast (inheriting which text r)))) ≡ Some (with_inh which entries before)
-  inherits_back Dacl e =
+module _ (id : ℕ) (r : Row) (before : Node) (number : number_in (Int (pos id)) ≡ Some before.id) (e : node_in (shown_node r) ≡ Some before) where
+  inherits_back : (which : Which) (text : List ℕ) (entries : List Ace) → entries_in (Text text) ≡ Some entries → node_in (shown_node (stored_node (pos id) (recast (inheriting which text r)))) ≡ Some (with_inh which entries before)
+  inherits_back Dacl text entries back =
       let s = reads_cells (column r 2) (column r 3) (column r 4) (column r 5) (column r 6) (column r 7) (column r 8) (column r 9) (column r 10) (column r 11) (column r 12) before (column r 0) e in
       stored_again (column r 2) (column r 3) (column r 4) (column r 5) (column r 6) (column r 7) (column r 8) (column r 9) (Text text) (column r 11) (column r 12) (with_inh Dacl entries before) id number (record {
         parent = s.parent;
@@ -177,7 +179,7 @@ module _ (id : ℕ) (r : Row) (before : Node) (text : List ℕ) (entries : List 
         dacl = record { flags = s.dacl.flags; own = s.dacl.own; inh = back };
         sacl = s.sacl;
       })
-  inherits_back Sacl e =
+  inherits_back Sacl text entries back =
       let s = reads_cells (column r 2) (column r 3) (column r 4) (column r 5) (column r 6) (column r 7) (column r 8) (column r 9) (column r 10) (column r 11) (column r 12) before (column r 0) e in
       stored_again (column r 2) (column r 3) (column r 4) (column r 5) (column r 6) (column r 7) (column r 8) (column r 9) (column r 10) (column r 11) (Text text) (with_inh Sacl entries before) id number (record {
         parent = s.parent;
@@ -189,13 +191,79 @@ module _ (id : ℕ) (r : Row) (before : Node) (text : List ℕ) (entries : List 
         sacl = record { flags = s.sacl.flags; own = s.sacl.own; inh = back };
       })
 
--- the row is written with the entries, and so the object inherits them
-pub inherited_rows : (db next : Database) (id : ℕ) (which : Which) (text : List ℕ) (entries : List Ace) → IsRoom db → number_in (Int (pos id)) ≡ Some id → entries_in (Text text) ≡ Some entries → Recasts (inheriting which text) (pos id) db.trees next.trees → (before : Node) → node_at (rows_of db).read id ≡ Some before → rows_of next ≡ reading (rows_of db) (with_node (rows_of db).read (with_inh which entries before))
-inherited_rows db next id which text entries room number back put before there = by (find (has_rowid (pos id)) (db.trees 0)) refl
-  where
-    by : (o : Option Row) → find (has_rowid (pos id)) (db.trees 0) ≡ o → rows_of next ≡ reading (rows_of db) (with_node (rows_of db).read (with_inh which entries before))
-    by None found = absurd (not_none before (sym (ap (option_and_then (λ r. node_in (shown_node r))) found) ∙ sym (node_at_row db id room.nodes.0) ∙ there))
-    by (Some r) found =
-        let seen : node_in (shown_node r) ≡ Some before = sym (ap (option_and_then (λ r. node_in (shown_node r))) found) ∙ sym (node_at_row db id room.nodes.0) ∙ there in
-        let is = node_at-number (rows_of db).read id before there in
-        replaced_rows db next id (recast (inheriting which text r)) before (with_inh which entries before) room there (inherits_back id r before text entries (number ∙ ap Some (sym is)) back which seen) (inh_id which entries before ∙ is) (put r found)
+  holds_back : (which : Which) (flags : ℤ) (own inh : List ℕ) (held : Held) → flags_in (Int flags) ≡ Some held.flags → entries_in (Text own) ≡ Some held.own → entries_in (Text inh) ≡ Some held.inh → node_in (shown_node (stored_node (pos id) (recast (holding which flags own inh r)))) ≡ Some (with_held which held before)
+  holds_back Dacl flags own inh held p q t =
+      let s = reads_cells (column r 2) (column r 3) (column r 4) (column r 5) (column r 6) (column r 7) (column r 8) (column r 9) (column r 10) (column r 11) (column r 12) before (column r 0) e in
+      stored_again (column r 2) (column r 3) (column r 4) (column r 5) (column r 6) (Int flags) (column r 8) (Text own) (Text inh) (column r 11) (column r 12) (with_held Dacl held before) id number (record {
+        parent = s.parent;
+        name = s.name;
+        kind = s.kind;
+        owner = s.owner;
+        group = s.group;
+        dacl = record { flags = p; own = q; inh = t };
+        sacl = s.sacl;
+      })
+  holds_back Sacl flags own inh held p q t =
+      let s = reads_cells (column r 2) (column r 3) (column r 4) (column r 5) (column r 6) (column r 7) (column r 8) (column r 9) (column r 10) (column r 11) (column r 12) before (column r 0) e in
+      stored_again (column r 2) (column r 3) (column r 4) (column r 5) (column r 6) (column r 7) (Int flags) (column r 9) (column r 10) (Text own) (Text inh) (with_held Sacl held before) id number (record {
+        parent = s.parent;
+        name = s.name;
+        kind = s.kind;
+        owner = s.owner;
+        group = s.group;
+        dacl = s.dacl;
+        sacl = record { flags = p; own = q; inh = t };
+      })
+
+  owns_back : (owner group : List ℕ) (owners : Owners) → name_in (Text owner) ≡ Some owners.owner → name_in (Text group) ≡ Some owners.group → node_in (shown_node (stored_node (pos id) (recast (owning owner group r)))) ≡ Some (with_owners owners before)
+  owns_back owner group owners p q =
+      let s = reads_cells (column r 2) (column r 3) (column r 4) (column r 5) (column r 6) (column r 7) (column r 8) (column r 9) (column r 10) (column r 11) (column r 12) before (column r 0) e in
+      stored_again (column r 2) (column r 3) (column r 4) (Text owner) (Text group) (column r 7) (column r 8) (column r 9) (column r 10) (column r 11) (column r 12) (with_owners owners before) id number (record {
+        parent = s.parent;
+        name = s.name;
+        kind = s.kind;
+        owner = p;
+        group = q;
+        dacl = s.dacl;
+        sacl = s.sacl;
+      })
+
+  lies_back : (at : ℤ) (text : List ℕ) (parent : ℕ) (name : List ℕ) → parent_in (Int at) ≡ Some (Some parent) → text_in (Text text) ≡ Some name → node_in (shown_node (stored_node (pos id) (recast (lying at text r)))) ≡ Some (with_place parent name before)
+  lies_back at text parent name p q =
+      let s = reads_cells (column r 2) (column r 3) (column r 4) (column r 5) (column r 6) (column r 7) (column r 8) (column r 9) (column r 10) (column r 11) (column r 12) before (column r 0) e in
+      stored_again (Int at) (Text text) (column r 4) (column r 5) (column r 6) (column r 7) (column r 8) (column r 9) (column r 10) (column r 11) (column r 12) (with_place parent name before) id number (record {
+        parent = p;
+        name = q;
+        kind = s.kind;
+        owner = s.owner;
+        group = s.group;
+        dacl = s.dacl;
+        sacl = s.sacl;
+      })
+
+-- ---- the object is changed
+
+module _ (db next : Database) (id : ℕ) (room : IsRoom db) (number : number_in (Int (pos id)) ≡ Some id) where
+  -- the row is written with cells that are read as the changed object
+  altered : (cells : Row → Row) (change : Node → Node) → ((n : Node) → (change n).id ≡ n.id) → ((r : Row) (before : Node) → number_in (Int (pos id)) ≡ Some before.id → node_in (shown_node r) ≡ Some before → node_in (shown_node (stored_node (pos id) (recast (cells r)))) ≡ Some (change before))
+      → Recasts cells (pos id) db.trees next.trees → Alters id change db next
+  altered cells change keeps back put before there = by (find (has_rowid (pos id)) (db.trees 0)) refl
+    where
+      by : (o : Option Row) → find (has_rowid (pos id)) (db.trees 0) ≡ o → rows_of next ≡ reading (rows_of db) (with_node (rows_of db).read (change before))
+      by None found = absurd (not_none before (sym (ap (option_and_then (λ r. node_in (shown_node r))) found) ∙ sym (node_at_row db id room.nodes.0) ∙ there))
+      by (Some r) found =
+          let seen : node_in (shown_node r) ≡ Some before = sym (ap (option_and_then (λ r. node_in (shown_node r))) found) ∙ sym (node_at_row db id room.nodes.0) ∙ there in
+          let is = node_at-number (rows_of db).read id before there in
+          replaced_rows db next id (recast (cells r)) before (change before) room there (back r before (number ∙ ap Some (sym is)) seen) (keeps before ∙ is) (put r found)
+
+  pub inherited_rows : (which : Which) (text : List ℕ) (entries : List Ace) → entries_in (Text text) ≡ Some entries → Recasts (inheriting which text) (pos id) db.trees next.trees → Alters id (with_inh which entries) db next
+  inherited_rows which text entries back = altered (inheriting which text) (with_inh which entries) (inh_id which entries) (λ r before n e. inherits_back id r before n e which text entries back)
+
+  pub held_rows : (which : Which) (flags : ℤ) (own inh : List ℕ) (held : Held) → flags_in (Int flags) ≡ Some held.flags → entries_in (Text own) ≡ Some held.own → entries_in (Text inh) ≡ Some held.inh → Recasts (holding which flags own inh) (pos id) db.trees next.trees → Alters id (with_held which held) db next
+  held_rows which flags own inh held p q t = altered (holding which flags own inh) (with_held which held) (held_id which held) (λ r before n e. holds_back id r before n e which flags own inh held p q t)
+
+  pub owned_rows : (owner group : List ℕ) (owners : Owners) → name_in (Text owner) ≡ Some owners.owner → name_in (Text group) ≡ Some owners.group → Recasts (owning owner group) (pos id) db.trees next.trees → Alters id (with_owners owners) db next
+  owned_rows owner group owners p q = altered (owning owner group) (with_owners owners) (λ n. refl) (λ r before n e. owns_back id r before n e owner group owners p q)
+
+  pub placed_rows : (at : ℤ) (text : List ℕ) (parent : ℕ) (name : List ℕ) → parent_in (Int at) ≡ Some (Some parent) → text_in (Text text) ≡ Some name → Recasts (lying at text) (pos id) db.trees next.trees → Alters id (with_place parent name) db next
+  placed_rows at text parent name p q = altered (lying at text) (with_place parent name) (λ n. refl) (λ r before n e. lies_back id r before n e at text parent name p q)

@@ -1,0 +1,28 @@
+use Rattle.std.proofs.Common.{◌≡◌, Some, refl, sym, ap, subst, ◌∙◌, pos, arith, to_z, of_z, w64}
+use Rattle.std.proofs.Math.Facts.{to_z-of_z}
+use Rattle.sqlite.specs.declared.types.Value.TheVariants.{Text}
+use Rattle.store_tables.specs.Meaning.{name_in}
+use Rattle.sqlite.specs.Held.{state}
+use Rattle.store_tables.specs.RoomRows.{number_in-low}
+use Rattle.store_tables.specs.Shown.{Recasts, owning}
+use Rattle.store_tables.proofs.Altered.{owned_rows}
+use Rattle.store_tables.proofs.keeper.put_owners.Goals as goal
+
+pub returns-clause-puts : goal.returns-clause-puts
+returns-clause-puts g c =
+    let old = state g.S.Store c.args.keeper.now.tx.now.conn.now in
+    let new = state g.S.Store c.update_owners-done.new.tx.conn.now in
+    let owner = c.as_str.result.now in
+    let group = c.as_str-2.result.now in
+    let owned : name_in (Text owner) ≡ Some c.args.owners.now.owner = subst (λ t. name_in (Text t) ≡ Some c.args.owners.now.owner) (sym c.as_str.ensures) c.name_is_kept.ensures in
+    let grouped : name_in (Text group) ≡ Some c.args.owners.now.group = subst (λ t. name_in (Text t) ≡ Some c.args.owners.now.group) (sym c.as_str-2.ensures) c.name_is_kept-2.ensures in
+    let at : to_z w64 (of_z w64 c.in-Some.at) ≡ pos c.args.id = ap (λ z. to_z w64 (of_z w64 z)) c.in-Some.ensures.1 ∙ to_z-of_z c.in-Some.ensures.0 in
+    record {
+      stays = c.update_owners-done.ensures.writes.stays;
+      no_less = omega arith;
+      unfailed = refl;
+      fault = tt;
+      becomes = λ trust.
+          let put = c.in-Ok.ensures.writes.leaves trust.clean trust.now c.if-count-eq1.true in
+          owned_rows old.now new.now c.args.id trust.now (number_in-low c.args.id c.in-Some.ensures.2) owner group c.args.owners.now owned grouped (subst (λ z. Recasts (owning owner group) z old.now.trees new.now.trees) at put);
+    }
