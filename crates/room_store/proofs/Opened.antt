@@ -1,21 +1,15 @@
 -- A store over a new room, and over one that is there.
-use Rattle.std.proofs.Common.{◌≡◌, ◌≤◌, Ok, Err, Result, refl, sym, ap, subst, ◌∙◌, arith}
-use Rattle.std.specs.Prelude.{[], OnOk}
-use Rattle.sqlite.specs.State.{State, HasCleanDisk}
+use Rattle.std.proofs.Common.{Ok, Err, Result, refl, sym, ap, subst}
+use Rattle.sqlite.specs.State.{State}
 use Rattle.room_ace.specs.Bits.{all_bits}
 use Rattle.room_ace.specs.declared.parties.Owners.{Owners}
 use Rattle.room_rows.specs.Meaning.{meaning}
 use Rattle.room_rows.specs.Sound.{AreSound}
-use Rattle.store_tables.specs.Meaning.{rows_of}
-use Rattle.store_tables.specs.Shown.{HasTables, tables_of}
+use Rattle.store_tables.specs.Shown.{tables_of}
 use Rattle.store_schema.specs.Making.{Founds}
 use Rattle.store_schema.specs.NewRoom.{new_room}
-use Rattle.store_schema.specs.Opening.{Adopts}
 use Rattle.store_schema.specs.declared.fault.CreateFault.{CreateFault}
-use Rattle.store_schema.specs.declared.fault.OpenFault.{OpenFault}
-use Rattle.room_store.specs.Kept.{IsSound, Keeps}
-use Rattle.room_store.specs.Leads.{Leads}
-use Rattle.room_store.specs.Opens.{Creates, Opens}
+use Rattle.room_store.specs.Opens.{Creates}
 
 -- a root with the owner's entry is a sound room
 new_is_sound : (owners : Owners) → AreSound (new_room owners)
