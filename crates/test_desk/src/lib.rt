@@ -3,22 +3,6 @@
 #![tactic(auto)]
 
 #[cfg(test)]
-mod changes;
-#[cfg(test)]
-mod counts;
-#[cfg(test)]
 mod desks;
 #[cfg(test)]
-mod examples;
-#[cfg(test)]
-mod faults;
-#[cfg(test)]
-mod records;
-#[cfg(test)]
-mod refusals;
-#[cfg(test)]
-mod rows;
-#[cfg(test)]
-mod serving;
-#[cfg(test)]
-mod trees;
+mod limits;

@@ -3,10 +3,10 @@
 #![tactic(auto)]
 
 #[cfg(test)]
+mod cutting;
+#[cfg(test)]
 mod failing;
 #[cfg(test)]
 mod limits;
-#[cfg(test)]
-mod messages;
 #[cfg(test)]
 mod waiting;

@@ -1,7 +1,7 @@
 //! Scripts over keepers in memory whose calls fail, and over those whose calls are counted.
 
 use crate::playing::{answer_to, play, play_all};
-use crate::room::{Room, keep_after, open_keep};
+use crate::room::{Room, keep_after};
 use crate::tally::{Calls, Tally, expect_calls};
 use room_tree::{FailKeep, MemKeep};
 use std::alloc::Global;
@@ -45,21 +45,9 @@ pub fn play_failing(
     room.play_all(alloc, after)
 }
 
-/// Plays a script over the room that the first ones leave, and counts the calls of each line. The
-/// expected counts stand after ` # `; where nothing stands there, nothing may be written.
-pub fn play_counted(alloc: Global, made: &[&str], script: &str) -> Result<(), Fail> {
-    let mut tally = Tally::of(keep_after(alloc, made)?);
-    count_lines(alloc, &mut tally, script)
-}
-
-fn count_lines(alloc: Global, tally: &mut Tally<MemKeep>, script: &str) -> Result<(), Fail> {
-    'lines: for line in script.lines() {
-        count_line(alloc, tally, line)?;
-    }
-    Ok(())
-}
-
-fn count_line(alloc: Global, tally: &mut Tally<MemKeep>, line: &str) -> Result<(), Fail> {
+/// Plays a line, and counts its calls. The expected counts stand after ` # `; where nothing stands
+/// there, nothing may be written.
+pub fn count_line(alloc: Global, tally: &mut Tally<MemKeep>, line: &str) -> Result<(), Fail> {
     let (line, wanted) = line
         .split_once(" # ")
         .unwrap_or((line, "writes 0, records 0"));
@@ -181,31 +169,18 @@ fn stop_line(alloc: Global, keep: &MemKeep, line: &str) -> Result<(), Fail> {
 
 // Whether the line is a request, the operator's reset, or a spread.
 fn is_asked(line: &str) -> bool {
-    line.starts_with("operator Reset ")
-        || line.starts_with("keeper Spread")
-        || !(line.starts_with("operator ") || line.starts_with("keeper "))
+    match line.split_once(" ") {
+        Some(("operator", step)) => step.starts_with("Reset "),
+        Some(("keeper", call)) => call.starts_with("Spread"),
+        Some((who, _)) => who != "room",
+        None => false,
+    }
 }
 
-fn stop_script(alloc: Global, keep: &mut MemKeep, script: &str) -> Result<(), Fail> {
-    'lines: for line in script.lines() {
-        if is_asked(line) {
-            stop_line(alloc, keep, line)?;
-        }
-        play(alloc, keep, AT, line)?;
+/// That the line, where it asks something, stops at each fault in turn over copies of what is kept.
+pub fn stop_at_faults(alloc: Global, keep: &MemKeep, line: &str) -> Result<(), Fail> {
+    if is_asked(line) {
+        stop_line(alloc, keep, line)?;
     }
     Ok(())
-}
-
-fn stop_scripts(alloc: Global, keep: &mut MemKeep, scripts: &[&str]) -> Result<(), Fail> {
-    'scripts: for script in scripts {
-        stop_script(alloc, keep, *script)?;
-    }
-    Ok(())
-}
-
-/// Tests that each request of the scripts, which follow each other in an open room, stops at each
-/// fault in turn. The first that doesn't is the error.
-pub fn stop_in_turn(alloc: Global, scripts: &[&str]) -> Result<(), Fail> {
-    let mut keep = open_keep(alloc)?;
-    stop_scripts(alloc, &mut keep, scripts)
 }

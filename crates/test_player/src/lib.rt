@@ -22,12 +22,12 @@ mod words;
 mod writing;
 
 pub use asking::{Spoken, spoken_in};
-pub use faults::{Plan, failing, faults_along, play_counted, play_failing, stop_in_turn};
+pub use faults::{Plan, count_line, failing, faults_along, play_failing, stop_at_faults};
 pub use objects::held_of;
 pub use playing::{answer_to, play, play_all};
 pub use records::push_records;
 pub use replying::{push_entries, push_reply};
-pub use room::{Room, empty_keep, keep_after, open_keep, plays, plays_in_empty, room_of};
+pub use room::{Room, empty_keep, keep_after, open_keep, plays, room_of};
 pub use sending::{owners_of, path_of, sent_of};
 pub use tally::{Calls, Tally};
 pub use words::{agree, push, push_all};

@@ -41,12 +41,6 @@ pub fn plays(alloc: Global, scripts: &[&str]) -> Result<(), Fail> {
     room.play_all(alloc, scripts)
 }
 
-/// Plays scripts one after the other in a room as it is made, at the moment 1000.
-pub fn plays_in_empty(alloc: Global, scripts: &[&str]) -> Result<(), Fail> {
-    let mut room = Room::new(empty_keep(alloc)?);
-    room.play_all(alloc, scripts)
-}
-
 /// A room in memory, and the moment of what is asked in it. In its scripts `room` is no caller: it
 /// sets the moment, pairs groups with users, and prints the records.
 #[derive(Drop)]
@@ -64,6 +58,21 @@ impl Room {
     /// The room's keeper.
     pub fn into_keep(self) -> MemKeep {
         self.keep
+    }
+
+    /// What is kept.
+    pub fn keep(&self) -> &MemKeep {
+        &self.keep
+    }
+
+    /// From now on this is kept.
+    pub fn set_keep(&mut self, keep: MemKeep) {
+        self.keep = keep;
+    }
+
+    /// The moment of what is asked.
+    pub fn at(&self) -> i64 {
+        self.at
     }
 
     /// Plays scripts one after the other.

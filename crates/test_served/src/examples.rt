@@ -1,6 +1,6 @@
 //! Examples that are played one after the other, in a test for each module: a test costs more proof
 //! than a row of a table.
-use crate::rooms::plays_on_both;
+use crate::rooms::plays_in_store;
 use std::test::Fail;
 
 /// The name of an example, and its script.
@@ -14,10 +14,10 @@ fn named(rt: &HostRuntime, name: &str, answer: Result<(), Fail>) -> Result<(), F
     answer
 }
 
-/// Plays each example in an open room in memory, and in one of a store.
-pub(crate) fn plays_each_on_both(rt: &HostRuntime, examples: &[Example]) -> Result<(), Fail> {
+/// Plays each example in an open room of a store.
+pub(crate) fn plays_each(rt: &HostRuntime, examples: &[Example]) -> Result<(), Fail> {
     'examples: for (name, script) in examples {
-        named(rt, *name, plays_on_both(rt.alloc(), *script))?;
+        named(rt, *name, plays_in_store(rt.alloc(), *script))?;
     }
     Ok(())
 }

@@ -1,5 +1,5 @@
 //! Lists that are set, read and passed down.
-use crate::examples::{Example, plays_each_on_both};
+use crate::examples::{Example, plays_each};
 use crate::rooms::open_store;
 use room_store::Store;
 use sqlite::MemStore;
@@ -103,5 +103,5 @@ static EXAMPLES: [Example; 3] = [
 
 #[test]
 fn examples_of_lists(rt: HostRuntime) -> Result<(), Fail> {
-    plays_each_on_both(&rt, EXAMPLES.as_slice())
+    plays_each(&rt, EXAMPLES.as_slice())
 }

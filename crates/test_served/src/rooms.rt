@@ -1,4 +1,4 @@
-//! Rooms in memory, as a store and as a desk without tables.
+//! Rooms of a store in memory.
 use room_ace::{Owners, SentList, Which};
 use room_inherit::Report;
 use room_machine::Reply;
@@ -8,7 +8,7 @@ use sqlite::{Connection, MemStore};
 use std::alloc::Global;
 use std::test::Fail;
 use test_player::{owners_of, path_of, sent_of};
-use test_talk::{play, plays};
+use test_talk::play;
 
 // The lists of an open room's root: all may pass, and root may do anything.
 const OPEN: &str = "list:a / A::EVERYONE@:x / A:fd:root:ALL";
@@ -75,12 +75,6 @@ pub(crate) fn plays_in_store(alloc: Global, script: &str) -> Result<(), Fail> {
     let mut store = open_store(alloc)?;
     play(alloc, &mut store, script)?;
     sound(alloc, &mut store)
-}
-
-/// Plays a script in an open room in memory, and in one of a store.
-pub(crate) fn plays_on_both(alloc: Global, script: &str) -> Result<(), Fail> {
-    plays(alloc, script)?;
-    plays_in_store(alloc, script)
 }
 
 /// Whether a line of the room's text says this.

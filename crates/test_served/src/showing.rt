@@ -1,5 +1,5 @@
 //! What shows of a room.
-use crate::examples::{Example, plays_each_on_both};
+use crate::examples::{Example, plays_each};
 use std::test::Fail;
 
 pub(crate) const HIDDEN_BEHIND_FOLDER: &str = "\
@@ -50,5 +50,5 @@ static EXAMPLES: [Example; 4] = [
 
 #[test]
 fn examples_of_showing(rt: HostRuntime) -> Result<(), Fail> {
-    plays_each_on_both(&rt, EXAMPLES.as_slice())
+    plays_each(&rt, EXAMPLES.as_slice())
 }

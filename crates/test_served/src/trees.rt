@@ -1,5 +1,5 @@
 //! Objects that are removed and moved.
-use crate::examples::{Example, plays_each_on_both};
+use crate::examples::{Example, plays_each};
 use std::test::Fail;
 
 pub(crate) const DELETE_BY_PARENT_RIGHT: &str = "\
@@ -95,5 +95,5 @@ static EXAMPLES: [Example; 5] = [
 
 #[test]
 fn examples_of_trees(rt: HostRuntime) -> Result<(), Fail> {
-    plays_each_on_both(&rt, EXAMPLES.as_slice())
+    plays_each(&rt, EXAMPLES.as_slice())
 }

@@ -10,5 +10,5 @@ mod stopping;
 
 pub use going_on::{is_short, play, play_at};
 pub use pieces::{Pieces, Sink};
-pub use scripts::{PUT_TWICE, Talk, agrees, bytes_at, converse, plays, same_bytes};
+pub use scripts::{PUT_TWICE, Talk, agrees, bytes_at, converse, same_bytes};
 pub use stopping::{Stop, stop_at_read, stop_at_write, stopped, tried};

@@ -1,15 +1,12 @@
 //! Connections as scripts. A line `>` is sent, a line `<` has to come back, and a line `=` says how
 //! the connection ends. In each `|` stands for CRLF, and `~` for LF.
-use crate::going_on::play;
 use crate::pieces::Sink;
 use http_message::Routes;
 use room_http::{Ended, ServeFault, serve};
 use room_machine::Desk;
-use room_memory::MemDesk;
 use std::alloc::{AllocError, Global};
 use std::io::{Read, Write};
 use std::test::Fail;
-use test_player::open_keep;
 
 /// A document is put two times.
 pub const PUT_TWICE: &str = "\
@@ -109,14 +106,29 @@ pub(crate) fn agrees_from(
     ends(script, talk.end)
 }
 
-/// Tests that the bytes are the expected ones.
+/// Tests that the bytes are the expected ones. The first line that differs is told.
 pub fn same_bytes(told: &[u8], wanted: &[u8]) -> Result<(), Fail> {
     if told == wanted {
         return Ok(());
     }
     let told = str::from_utf8(told).unwrap_or("no text");
     let wanted = str::from_utf8(wanted).unwrap_or("no text");
+    same_lines(told, wanted)?;
     Err(Fail::new(format_args!("{told:?}, where wanted is {wanted:?}")))
+}
+
+fn same_lines(told: &str, wanted: &str) -> Result<(), Fail> {
+    let mut replies = 0u64;
+    'lines: for (told, wanted) in told.split("\r\n").zip(wanted.split("\r\n")) {
+        if wanted.contains("HTTP/1.1 ") {
+            replies = replies.saturating_add(1);
+        }
+        if told != wanted {
+            let why = format_args!("{told:?} in reply {replies}, where wanted is {wanted:?}");
+            return Err(Fail::new(why));
+        }
+    }
+    Ok(())
 }
 
 fn ends(script: &str, end: Result<Ended, ServeFault>) -> Result<(), Fail> {
@@ -137,10 +149,4 @@ fn end_word(end: Result<Ended, ServeFault>) -> &'static str {
         Ok(Ended::Closed) => "Closed",
         Err(_) => "fault",
     }
-}
-
-/// Plays a script in an open room in memory, at the moment 1000.
-pub fn plays(alloc: Global, script: &str) -> Result<(), Fail> {
-    let mut desk = MemDesk::new(open_keep(alloc)?);
-    play(alloc, &mut desk, script)
 }

@@ -1,5 +1,4 @@
 //! What the text of a room is.
-use crate::examples::named;
 use room_dump::dump;
 use room_rows::{Keep, KeepFault};
 use std::alloc::Global;
@@ -108,7 +107,11 @@ static EXAMPLES: [(&str, &str, &str); 3] = [
 #[test]
 fn examples_of_dumps(rt: HostRuntime) -> Result<(), Fail> {
     for (name, script, wanted) in &EXAMPLES {
-        named(&rt, *name, tells(rt.alloc(), *script, *wanted))?;
+        let answer = tells(rt.alloc(), *script, *wanted);
+        if answer.is_err() {
+            let _ = rt.eprintln(*name);
+        }
+        answer?;
     }
     Ok(())
 }

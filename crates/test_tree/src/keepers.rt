@@ -1,5 +1,4 @@
-//! Keepers in memory: what each call of the trait answers and leaves, and the calls that fail.
-use crate::examples::{Example, plays_each};
+//! Keepers in memory whose calls fail, and those that hand all calls on.
 use room_rows::KeepFault;
 use std::alloc::Global;
 use std::test::Fail;
@@ -131,21 +130,6 @@ fn failing_keepers_read_and_write(rt: HostRuntime) -> Result<(), Fail> {
     )
 }
 
-// Another way to the same content.
-const ROUND: &str = "\
-keeper Add 1 z folder => 2
-keeper Add 2 a document => 3
-keeper Add 1 f document => 4
-keeper SetPlace 2 1 b => done
-keeper SetPlace 3 1 a => done
-keeper SetPlace 4 2 f => done
-keeper SetBody 3 other => done
-keeper SetBody 3 hi => done
-keeper Add 1 B document => 5
-keeper Remove 5 => done
-keeper Add 1 B folder => 5
-";
-
 // Each call that reads and each that writes.
 const EACH: &str = "\
 keeper Root => any
@@ -235,15 +219,6 @@ fn failing_keepers_ask_nothing_more(rt: HostRuntime) -> Result<(), Fail> {
     )
 }
 
-const MEMBERS: &str = "\
-room Join sales bob => done
-room Leave sales alice => done
-room Leave sales alice => done
-keeper Groups alice => groups staff
-keeper Groups bob => groups sales
-keeper Groups sales => groups
-";
-
 #[test]
 fn keep_fault_texts(rt: HostRuntime) -> Result<(), Fail> {
     for (fault, text) in [
@@ -254,22 +229,4 @@ fn keep_fault_texts(rt: HostRuntime) -> Result<(), Fail> {
         assert_eq!(rt; format!(in rt.alloc(); "{fault}")?.as_str(), text);
     }
     Ok(())
-}
-
-// The examples of keepers of which no call fails.
-static EXAMPLES: [Example; 3] = [
-    (
-        "keepers_read_and_write",
-        &[GROUPS, ADDED, FOUR, CHANGES, CHANGED, NOTED],
-    ),
-    (
-        "keepers_of_one_content_answer_alike",
-        &[GROUPS, ROUND, FOUR],
-    ),
-    ("members_join_and_leave", &[GROUPS, MEMBERS]),
-];
-
-#[test]
-fn examples_of_keepers(rt: HostRuntime) -> Result<(), Fail> {
-    plays_each(&rt, EXAMPLES.as_slice())
 }

@@ -1,20 +1,7 @@
-//! Walks over keepers in memory.
+//! Walks over keepers in memory whose calls fail.
 use std::alloc::Global;
 use std::test::Fail;
-use test_player::{Plan, play_failing, plays};
-
-const WALKS: &str = "\
-keeper Add 1 a folder => 2
-keeper Add 2 f document => 3
-keeper Walk /a/f/x => found 3 left 1
-keeper Walk /q/r => found 1 left 2
-keeper Walk / => found 1 left 0
-";
-
-#[test]
-fn walk_counts(rt: HostRuntime) -> Result<(), Fail> {
-    plays(rt.alloc(), &[WALKS])
-}
+use test_player::{Plan, play_failing};
 
 const FOUND: &str = "keeper Walk /q => found 1 left 1\n";
 

@@ -1,0 +1,27 @@
+//! What scripts are played over.
+
+use crate::lines::Place;
+use crate::memory::{play_counted, play_in_room, play_stopping};
+use std::alloc::Global;
+use std::test::Fail;
+use test_player::{empty_keep, open_keep};
+
+/// What lines are played over.
+pub trait Ground {
+    /// Plays a line, which has to be answered as it says.
+    fn take(&mut self, alloc: Global, line: &str) -> Result<(), Fail>;
+
+    /// Plays a connection, which has to go as its lines say.
+    fn converse(&mut self, alloc: Global, talk: &str) -> Result<(), Fail>;
+}
+
+/// Plays lines over a new ground of this name.
+pub fn play_part(alloc: Global, ground: &str, part: &str, place: &mut Place) -> Result<(), Fail> {
+    match ground {
+        "memory" => play_in_room(alloc, open_keep(alloc)?, part, place),
+        "new memory" => play_in_room(alloc, empty_keep(alloc)?, part, place),
+        "counted memory" => play_counted(alloc, part, place),
+        "failing memory" => play_stopping(alloc, part, place),
+        _ => Err(Fail::new("nothing has this name")),
+    }
+}
