@@ -75,6 +75,13 @@ else
   skip 'the tables of crates' 'python3 is missing'
 fi
 
+# What the page quotes of contracts and definitions stands there.
+stripped() { sed 's/^ *//' "$@" | LC_ALL=C sort -u; }
+awk '/^```/ { quoted = !quoted; next } quoted && length > 12' "$top/docs/statement.md" | stripped >quoted
+stripped "$top"/crates/*/src/*.rt "$top"/crates/*/specs/*.antt >stated
+LC_ALL=C comm -23 quoted stated >found
+none 'the quotes of statement.md' found
+
 # The case itself finds what it is for.
 printf '%s\n' '# One `two`, three' '# A' '# A' '[x](#one-two-three) [x](#a-1) [x](page.md) [x](page.md#a "T")' '```' '[x](none.md)' '```' \
   '`[x](none.md)` <http://none>' >page.md
