@@ -27,6 +27,7 @@ use Rattle.room_inherit.proofs.Kinship.{same_parent}
 use Rattle.room_inherit.proofs.Members.{count-is, count_length, count_map}
 use Rattle.room_inherit.proofs.Renewing.{map_map}
 use Rattle.room_inherit.proofs.Frontier.{set, find_set}
+use Rattle.room_inherit.proofs.Folders.{folders_stay}
 use Rattle.room_inherit.proofs.Calls.{capped_add}
 use Rattle.room_inherit.proofs.NoFault.{checked_is_tree}
 use Rattle.room_inherit.proofs.Unmoved.{all_map, reach_all}
@@ -61,6 +62,7 @@ module _ (f : Node → List Ace) (old : Content) where
   tree_mid : IsTree old → IsTree mid
   tree_mid tree = record {
     one_root = count_length is_root (map (set Dacl f) old.nodes) ∙ count_map is_root (set Dacl f) old.nodes ∙ sym (count_length is_root old.nodes) ∙ tree.one_root;
+    folders = folders_stay Dacl f old tree.folders;
     connected = all_map (reaches mid) (reaches old) (set Dacl f) (reach_all old (set Dacl f) place) old.nodes ∙ tree.connected;
   }
 

@@ -1,10 +1,11 @@
 -- Turns up to a bound, and then up to one that is enough.
-use Rattle.std.proofs.Common.{◌≡◌, ℕ, zero, suc, ◌+◌, ◌<◌, ◌^◌, List, [], ◌∷◌, ◌++◌, length, Result, Ok, Err, sym, ap, subst, ◌∙◌, inl, inr, arith}
+use Rattle.std.proofs.Common.{◌≡◌, ℕ, zero, suc, ◌+◌, ◌<◌, ◌-◌, ◌^◌, List, [], ◌∷◌, ◌++◌, length, Result, Ok, Err, sym, ap, subst, ◌∙◌, inl, inr, arith}
+use Rattle.std.proofs.lemmas.Bool.{cases_lt}
 use Rattle.room_rows.specs.declared.keep.Keep.{Ghosts}
 use Rattle.room_rows.specs.declared.keep.KeepFault.{KeepFault}
 use Rattle.room_rows.specs.declared.keep.KeepFault.TheVariants.{Damaged}
 use Rattle.room_rows.specs.declared.node.Node.{Node}
-use Rattle.room_rows.specs.Counts.{capped_below}
+use Rattle.room_rows.specs.Counts.{capped_below, capped_past}
 use Rattle.room_rows.specs.Keep.{IsNever, IsRead, AreNumbers, capped, KeepLaws}
 use Rattle.room_rows.specs.Rows.{Rows, numbers_of}
 use Rattle.room_rows.proofs.Steps.{later_cause}
@@ -84,17 +85,18 @@ module _ {S : Type 0} (k : Ghosts S) (laws : KeepLaws k.rows k.failures k.writes
       told_soon : capped (begun + soon) ≡ capped changed
       told_soon = ap (λ n. capped (begun + n)) took.counted ∙ capped_last begun took.total
 
-      pub soon_done : bound + 1 < 2 ^ 63 → (told : ℕ) → told ≡ capped (begun + soon) → next ≡ [] → Ends a c (Ok (record { changed = told }))
-      soon_done few told is none = over count told changed a c (is ∙ told_soon) small last
+      pub soon_done : (told : ℕ) → told < 2 ^ 63 → told ≡ capped (begun + soon) → next ≡ [] → Ends a c (Ok (record { changed = told }))
+      soon_done told few is none = over count told changed a c (is ∙ told_soon) (λ t given. small_count changed few (is ∙ told_soon)) last
         where
           last : Done count [] changed a c
           last = subst (λ (l : List Node). Done count l changed a c) none sofar
 
-          small : k.IsTrusted a c → progress.Given (k.rows a) → changed < 2 ^ 63
-          small t given =
-              let below = progress.turned count [] changed (k.rows a) (k.rows c) (last.along t given) in
-              let most = took.bounded in
-              omega (arith, below, most, few)
+          -- a small count with an end is the count
+          small_count : (n : ℕ) → told < 2 ^ 63 → told ≡ capped n → n < 2 ^ 63
+          small_count n few e = elim (cases_lt n (2 ^ 64 - 1)) [
+            | inl below ↦ let same = e ∙ capped_below n (omega (arith, below)) in omega (arith, same, few)
+            | inr past ↦ absurd (let end = e ∙ capped_past n past in let wrong : ⊥ = omega (arith, end, few) in wrong)
+          ]
 
       -- no answer came to the numbers
       pub ids_fail : (e : KeepFault) (f : S) → IsRead k.rows k.failures k.writes k.Follows k.IsTrusted c f (Err e) IsNever AreNumbers → Ends a f (Err (Keeper e))

@@ -1,22 +1,24 @@
 -- Calls of a keeper that write lists, one after the other.
-use Rattle.std.proofs.Common.{◌≡◌, ℕ, suc, ◌+◌, ◌<◌, ◌^◌, ◌-◌, Bool, true, false, cond, List, [], ◌∷◌, ◌++◌, length, map, filter, drop, get_or, Result, Ok, Err, IfOk, IfErr, refl, sym, ap, subst, ◌∙◌, inl, inr, arith, add-one, drop-cons}
+use Rattle.std.proofs.Common.{◌≡◌, ℕ, suc, ◌+◌, ◌<◌, ◌^◌, ◌-◌, Bool, true, false, cond, List, [], ◌∷◌, ◌++◌, length, map, filter, drop, get_or, Some, Result, Ok, Err, IfOk, IfErr, refl, sym, ap, subst, ◌∙◌, inl, inr, arith, add-one, drop-cons}
 use Rattle.std.proofs.lemmas.Bool.{cases_lt}
 use Rattle.std.proofs.lemmas.List.{append_assoc, append-nil, length-append}
+use Rattle.room_ace.specs.Ace.{Ace}
 use Rattle.room_ace.specs.declared.object.Which.{Which}
 use Rattle.room_rows.specs.declared.keep.Keep.{Ghosts}
 use Rattle.room_rows.specs.declared.node.Node.{Node}
-use Rattle.room_rows.specs.Content.{Content, children_of, with_node}
+use Rattle.room_rows.specs.Content.{Content, children_of, node_at, with_node}
 use Rattle.room_rows.specs.Counts.{capped_below, capped_past}
-use Rattle.room_rows.specs.Keep.{IsUnreadable, IsRead, AreChildrenOf, capped, reading, KeepLaws}
+use Rattle.room_rows.specs.HeldList.{Held}
+use Rattle.room_rows.specs.Keep.{Changes, IsUnreadable, IsRead, IsWrite, AreChildrenOf, Leaves, capped, reading, with_inh, KeepLaws}
 use Rattle.room_rows.specs.Rows.{Rows, is_unreadable}
 use Rattle.room_rows.proofs.Steps.{later_cause}
 use Rattle.room_inherit.specs.declared.descent.Descent.{Descent}
 use Rattle.room_inherit.specs.declared.descent.Reach.{Reach}
-use Rattle.room_inherit.specs.declared.descent.Reach.TheVariants.{Renewed, All}
 use Rattle.room_inherit.specs.declared.outcome.SpreadFault.{SpreadFault}
 use Rattle.room_inherit.specs.declared.outcome.SpreadFault.TheVariants.{Keeper, Loop}
 use Rattle.room_inherit.specs.Spread.{HasSpreadCause}
-use Rattle.room_inherit.specs.Turn.{AreKnown, MeetsAgain, IsVisit, IsRenewal, RenewsAll, Visits, with_nodes, is_outdated, renewed, renewals, next_of, meets_again}
+use Rattle.room_inherit.specs.Turn.{AreKnown, MeetsAgain, IsVisit, IsRenewal, Renews, RenewsAll, Visits, with_nodes, brought_up, is_outdated, passed_to, renewed, renewals, next_of, meets_again, waits_next}
+use Rattle.room_inherit.proofs.Kinship.{held_with, same_id}
 use Rattle.room_inherit.proofs.Renewing.{known_other, known_renewals, turn_becomes}
 
 -- ---- counts with an end
@@ -61,8 +63,26 @@ renewals_cons which above child left = on (is_outdated which above child)
     on false = refl
 
 next_cons : (reach : Reach) (which : Which) (above child : Node) (left : List Node) → next_of reach which above (child ∷ left) ≡ next_of reach which above (child ∷ []) ++ next_of reach which above left
-next_cons Renewed which above child left = renewals_cons which above child left
-next_cons All which above child left = refl
+next_cons reach which above child left = on (waits_next reach which above child)
+  where
+    on : (t : Bool) → map (brought_up which above) (cond t (child ∷ filter (waits_next reach which above) left) (filter (waits_next reach which above) left)) ≡ map (brought_up which above) (cond t (child ∷ []) []) ++ next_of reach which above left
+    on true = refl
+    on false = refl
+
+module _ (which : Which) (above child : Node) (entries : List Ace) (is : is_outdated which above child ≡ true) (passes : entries ≡ passed_to which above child) where
+  only_child : renewals which above (child ∷ []) ≡ renewed which above child ∷ []
+  only_child = ap (λ t. map (renewed which above) (cond t (child ∷ []) [])) is
+
+  stored_so : (old new : Rows) → AreKnown which (renewals which above (child ∷ [])) old.read → Changes child.id (with_inh which entries) old new → new ≡ reading old (with_nodes old.read (renewals which above (child ∷ [])))
+  stored_so old new known changes =
+      let here = (subst (λ (l : List Node). AreKnown which l old.read) only_child known).0 in
+      let found : node_at old.read child.id ≡ Some here.0 = ap (node_at old.read) (sym (same_id which (passed_to which above child) child)) ∙ here.1 in
+      let same : with_inh which entries here.0 ≡ renewed which above child = ap (λ e. with_inh which e here.0) (passes ∙ sym (ap (λ (h : Held). h.inh) (held_with which (passed_to which above child) child))) ∙ sym here.2 in
+      changes here.0 found ∙ ap (λ (n : Node). reading old (with_node old.read n)) same ∙ ap (λ (l : List Node). reading old (with_nodes old.read l)) (sym only_child)
+
+  -- an outdated child gets the entries that are passed to it
+  pub child_renewed : {S : Type 0} (k : Ghosts S) (a b : S) → IsWrite k.rows k.failures k.writes k.Follows k.IsTrusted {X = Unit {0}} a b (Ok tt) IsUnreadable (Leaves (Changes child.id (with_inh which entries))) → Renews k a b which above child (Ok true)
+  child_renewed k a b write = record { follows = write.follows; written = write.written; becomes = λ t. record { outdated = sym is; stores = stored_so (k.rows a) (k.rows b) t.1 (write.becomes t.0) }; fault = tt }
 
 module _ (d : Descent) (above : Node) where
   -- some of the children are renewed, and these are left
@@ -143,13 +163,9 @@ module _ {S : Type 0} (k : Ghosts S) (laws : KeepLaws k.rows k.failures k.writes
     written = sofar.counted;
     becomes = λ t.
         let ended = sofar.along t.0 t.1 in
-        record { counted = (let e = ended.counted in omega (arith, e)); waits = sym (append-nil mid) ∙ on d.reach ended.waits; stores = ended.storing.leaves };
+        record { counted = (let e = ended.counted in omega (arith, e)); waits = sym (append-nil mid) ∙ ended.waits; stores = ended.storing.leaves };
     fault = tt;
   }
-    where
-      on : (reach : Reach) → mid ++ next_of reach d.which above [] ≡ before ++ next_of reach d.which above all → mid ++ [] ≡ before ++ next_of reach d.which above all
-      on Renewed e = e
-      on All e = e
 
   -- ---- one turn
 

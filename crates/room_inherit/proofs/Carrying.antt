@@ -6,15 +6,14 @@ use Rattle.room_ace.specs.Ace.{Ace}
 use Rattle.room_ace.specs.declared.object.Which.{Which}
 use Rattle.room_rows.specs.declared.keep.Keep.{Ghosts}
 use Rattle.room_rows.specs.declared.node.Node.{Node}
-use Rattle.room_rows.specs.Content.{Content, node_at, children_of}
+use Rattle.room_rows.specs.Content.{Content, node_at, children_of, is_folder}
 use Rattle.room_rows.specs.Counts.{capped_below}
 use Rattle.room_rows.specs.Keep.{IsUnreadable, IsUnreadableAt, IsNodeAt, IsRead, capped, reading, KeepLaws}
 use Rattle.room_rows.specs.Rows.{Rows, AreRows, numbers_of, is_unreadable}
 use Rattle.room_rows.proofs.Frames.{numbers_of-reading}
 use Rattle.room_rows.proofs.Steps.{later_cause}
-use Rattle.room_rows.specs.Law.{AllAgree}
-use Rattle.room_inherit.specs.Spread.{ChangedAgree, HasSpreadCause, IsSpread, IsOwnAncestor, Holds, Spreads, SpreadsIf, with_lists, is_changed}
-use Rattle.room_inherit.specs.Turn.{IsVisit, MeetsAgain, renewals, next_of}
+use Rattle.room_inherit.specs.Spread.{AllAgreeInFolders, ChangedAgree, HasSpreadCause, IsSpread, IsOwnAncestor, Holds, Spreads, SpreadsIf, with_lists, is_changed}
+use Rattle.room_inherit.specs.Turn.{IsVisit, MeetsAgain, next_of}
 use Rattle.room_inherit.specs.declared.descent.Descent.{Descent}
 use Rattle.room_inherit.specs.declared.descent.Reach.{Reach}
 use Rattle.room_inherit.specs.declared.descent.Reach.TheVariants.{Renewed}
@@ -24,8 +23,8 @@ use Rattle.room_inherit.specs.declared.outcome.SpreadFault.TheVariants.{Keeper, 
 use Rattle.room_inherit.proofs.Members.{count, count-is}
 use Rattle.room_inherit.proofs.Children.{found_id}
 use Rattle.room_inherit.proofs.Frontier.{Frontier, ids_set}
-use Rattle.room_inherit.proofs.OneTurn.{after, rows_after, frontier_after, count_after}
-use Rattle.room_inherit.proofs.Ends.{own_lists, with_own_lists, own_unchanged, count_own, frontier_first, law_without, law_at_end, changed_agree, loop_found, count_less, as_many_numbers}
+use Rattle.room_inherit.proofs.OneTurn.{after, rows_after, frontier_after, as_few, count_after}
+use Rattle.room_inherit.proofs.Ends.{own_lists, with_own_lists, own_unchanged, count_own, frontier_first, law_without, law_document, law_at_end, changed_agree, loop_found, count_less, as_many_numbers}
 use Rattle.room_inherit.proofs.Turns.{Progress}
 
 -- ---- rows
@@ -36,7 +35,7 @@ pub record IsCarrying (which : Which) (start turns : ℕ) (waiting : List Node) 
   pub becomes : now ≡ reading old (with_lists which lists old.read)
   pub front : Frontier which start old.read lists waiting
   pub counted : changed ≡ count (is_changed which lists) old.read.nodes
-  pub turned : turns + length waiting ≡ suc (count (is_changed which lists) old.read.nodes)
+  pub turned : turns + length waiting ≤ suc (count (is_changed which lists) old.read.nodes)
   pub first : Node
   pub first_is : node_at old.read start ≡ Some first
 
@@ -70,13 +69,13 @@ module _ (d : Descent) (reach : d.reach ≡ Renewed) (turns : ℕ) (rest : List 
   step : IsVisit d w rest next (reading old (with_lists d.which f old.read)) number new
   step = subst (λ (r : Rows). IsVisit d w rest next r number new) sofar.becomes visit
 
-  abbrev taken : Frontier d.which d.start old.read (after d.which d.start old.read are.numbers f rest w sofar.front step.not_met) (rest ++ renewals d.which w (children_of (with_lists d.which f old.read) w.id))
-  taken = frontier_after d.which d.start old.read are.numbers f rest w sofar.front step.not_met
-
   abbrev lists : Node → List Ace
   lists = after d.which d.start old.read are.numbers f rest w sofar.front step.not_met
 
-  waits : next ≡ rest ++ renewals d.which w (children_of (with_lists d.which f old.read) w.id)
+  abbrev going : List Node
+  going = next_of Renewed d.which w (children_of (with_lists d.which f old.read) w.id)
+
+  waits : next ≡ rest ++ going
   waits = step.waits ∙ ap (λ (r : Reach). rest ++ next_of r d.which w (children_of (with_lists d.which f old.read) w.id)) reach
 
   total : changed + number ≡ count (is_changed d.which lists) old.read.nodes
@@ -86,15 +85,16 @@ module _ (d : Descent) (reach : d.reach ≡ Renewed) (turns : ℕ) (rest : List 
   carrying_turn = record {
     lists = lists;
     becomes = step.becomes ∙ ap (reading old) (rows_after d.which d.start old.read are.numbers f rest w sofar.front step.not_met);
-    front = subst (λ (l : List Node). Frontier d.which d.start old.read lists l) (sym waits) taken;
+    front = subst (λ (l : List Node). Frontier d.which d.start old.read lists l) (sym waits) (frontier_after d.which d.start old.read are.numbers f rest w sofar.front step.not_met);
     counted = total;
     turned =
-        let l = ap length waits ∙ length-append rest (renewals d.which w (children_of (with_lists d.which f old.read) w.id)) in
+        let l = ap length waits ∙ length-append rest going in
+        let few = as_few d.which d.start old.read are.numbers f rest w sofar.front step.not_met in
         let k = length-append rest (w ∷ []) in
         let t = sofar.turned in
         let s = sofar.counted in
         let n = step.counted in
-        omega (arith, l, k, t, s, n, total);
+        omega (arith, l, few, k, t, s, n, total);
     first = sofar.first;
     first_is = sofar.first_is;
   }
@@ -107,7 +107,7 @@ carrying_done which start turns changed old now are sofar = record {
   counted = sofar.counted ∙ sym (count-is (is_changed which sofar.lists) old.read.nodes);
   agree = subst (λ (r : Rows). ChangedAgree which old.read r.read) (sym sofar.becomes)
       (changed_agree which start old.read are.numbers sofar.lists (λ n there changed. let c = sofar.front.came n there changed in (c.parent, c.there, c.has, c.agrees)));
-  law = λ but. subst (λ (r : Rows). AllAgree r.read which) (sym sofar.becomes) (law_at_end which start old.read are.numbers sofar.lists (sofar.front.law but));
+  law = λ but. subst (λ (r : Rows). AllAgreeInFolders r.read which) (sym sofar.becomes) (law_at_end which start old.read are.numbers sofar.lists (sofar.front.law but));
 }
 
 -- where the object isn't there, nothing is carried
@@ -121,6 +121,17 @@ nothing_carried which start old are none = record {
   law = law_without which start old.read are.numbers none;
 }
 
+-- nor where it is a document
+document_carried : (which : Which) (start : Node) (old : Rows) → AreRows old → Holds start old → is_folder start ≡ false → IsSpread which start.id old old 0
+document_carried which start old are there document = record {
+  lists = own_lists which;
+  becomes = ap (reading old) (sym (with_own_lists which old.read));
+  below = λ n there changed. absurd (false≢true (sym (own_unchanged which n) ∙ changed));
+  counted = sym (count-is (is_changed which (own_lists which)) old.read.nodes ∙ count_own which old.read.nodes);
+  agree = subst (λ (c : Content). ChangedAgree which old.read c) (with_own_lists which old.read) (changed_agree which start.id old.read are.numbers (own_lists which) (λ n there changed. absurd (false≢true (sym (own_unchanged which n) ∙ changed))));
+  law = law_document which start.id old.read are.numbers start there document;
+}
+
 -- what is known after each turn
 abbrev pub carrying : (d : Descent) (start : Node) → start.id ≡ d.start → d.reach ≡ Renewed → Progress d start
 carrying d start same reach = record {
@@ -131,7 +142,6 @@ carrying d start same reach = record {
   first = λ old are is. carrying_first d.which d.start old start are (ap (node_at old.read) (sym same) ∙ is);
   on = λ turns rest w changed number next old now new are sofar visit. carrying_turn d reach turns rest w changed number next old now new are sofar visit;
   few = λ turns waiting changed old now sofar. let m = fewer d.which d.start waiting old sofar.lists sofar.first sofar.first_is sofar.front in let c = sofar.counted in omega (arith, m, c);
-  turned = λ turns waiting changed old now sofar. let t = sofar.turned in let c = sofar.counted in omega (arith, t, c);
   ends = λ turns waiting changed old now past sofar. let m = fewer d.which d.start waiting old sofar.lists sofar.first sofar.first_is sofar.front in let t = sofar.turned in omega (arith, m, past, t);
   numbers = λ turns waiting changed old now sofar. ap numbers_of sofar.becomes ∙ numbers_of-reading old (with_lists d.which sofar.lists old.read) (ids_set d.which sofar.lists old.read.nodes);
   unreadable = λ turns waiting changed at old now sofar damaged. ap (λ (r : Rows). is_unreadable r at) (sym sofar.becomes) ∙ damaged;
@@ -143,6 +153,14 @@ carrying d start same reach = record {
 -- ---- calls
 
 module _ {S : Type 0} (k : Ghosts S) (laws : KeepLaws k.rows k.failures k.writes k.Follows k.IsTrusted) (which : Which) where
+  pub spreads_no_document : (start : Node) (a : S) → is_folder start ≡ false → SpreadsIf k a a (Holds start) which start.id (Ok (record { changed = 0 }))
+  spreads_no_document start a document = record {
+    follows = laws.itself a;
+    written = sym (capped_below (k.writes a) (laws.ends a).1) ∙ ap capped (omega arith);
+    becomes = λ t. document_carried which start (k.rows a) (laws.are a a t.0) t.1 document;
+    fault = tt;
+  }
+
   pub spreads_nowhere : (id : ℕ) (a b : S) → IsRead k.rows k.failures k.writes k.Follows k.IsTrusted a b (Ok None) (IsUnreadableAt id) (IsNodeAt id) → Spreads k a b which id (Ok (record { changed = 0 }))
   spreads_nowhere id a b found = record {
     follows = found.follows;

@@ -1,17 +1,17 @@
 -- The objects that wait, while a change of a list is carried down.
-use Rattle.std.proofs.Common.{◌≡◌, ℕ, ◌==◌, Bool, true, false, cond, ◌||◌, List, [], ◌∷◌, ◌++◌, map, Option, Some, refl, ap, ◌∙◌, ◌⊎◌}
+use Rattle.std.proofs.Common.{◌≡◌, ℕ, ◌==◌, Bool, true, false, cond, not, ◌||◌, List, [], ◌∷◌, ◌++◌, map, Option, Some, refl, ap, ◌∙◌, ◌⊎◌}
 use Rattle.std.specs.Option.{option_map, option_map_or}
 use Rattle.room_ace.specs.Ace.{Ace}
+use Rattle.room_ace.specs.Valid.{is_document}
 use Rattle.room_ace.specs.declared.object.Which.{Which}
 use Rattle.room_rows.specs.declared.node.Node.{Node}
-use Rattle.room_rows.specs.Content.{Content, node_at, has_parent}
+use Rattle.room_rows.specs.Content.{Content, node_at, has_parent, is_folder}
 use Rattle.room_rows.specs.Finding.{find_id}
 use Rattle.room_rows.specs.Held.{held_of, is_linked}
 use Rattle.room_rows.specs.Keep.{with_inh}
 use Rattle.room_rows.specs.Pass.{pass}
-use Rattle.room_rows.specs.Law.{AllAgreeBut}
-use Rattle.room_inherit.specs.Spread.{is_changed, IsLinkedBelow}
-use Rattle.room_inherit.proofs.Kinship.{same_id, same_parent, held_with}
+use Rattle.room_inherit.specs.Spread.{AllAgreeInFoldersBut, is_changed, IsLinkedBelow}
+use Rattle.room_inherit.proofs.Kinship.{same_id, same_kind, same_parent, held_with}
 use Rattle.room_inherit.proofs.Members.{Each}
 use Rattle.room_inherit.proofs.Children.{has_id, Apart, ids_of}
 use Rattle.room_inherit.proofs.Renewing.{map_agree, map_map}
@@ -27,6 +27,9 @@ module _ (which : Which) (f : Node → List Ace) where
 
   pub set_parent : (id : ℕ) (n : Node) → has_parent id (set n) ≡ has_parent id n
   set_parent id n = ap (λ (p : Option ℕ). option_map_or (λ parent. parent == id) p false) (same_parent which (f n) n)
+
+  pub set_folder : (n : Node) → is_folder (set n) ≡ is_folder n
+  set_folder n = ap (λ k. not (is_document k)) (same_kind which (f n) n)
 
   pub set_held : (n : Node) → held_of which (set n) ≡ record (held_of which n) { inh = f n }
   set_held n = held_with which (f n) n
@@ -81,12 +84,13 @@ module _ (which : Which) (start : ℕ) (old : Content) where
     pub taken : has_id parent.id waiting ≡ false
     pub agrees : f node ≡ passes which f parent node
 
-  -- an object agrees with its parent, or the parent waits
+  -- an object in a folder agrees with it, or the folder waits
   abbrev pub AgreesOrWaits : (Node → List Ace) → List Node → Type 0
-  AgreesOrWaits f waiting = (node parent : Node) → There node → There parent → has_parent parent.id node ≡ true → links which parent node ≡ true → (has_id parent.id waiting ≡ true) ⊎ (f node ≡ passes which f parent node)
+  AgreesOrWaits f waiting =
+      (node parent : Node) → There node → There parent → is_folder parent ≡ true → has_parent parent.id node ≡ true → links which parent node ≡ true → (has_id parent.id waiting ≡ true) ⊎ (f node ≡ passes which f parent node)
 
   pub record Frontier (f : Node → List Ace) (waiting : List Node) : Type 0 where
     pub known : Each (Waits f) waiting
     pub apart : Apart waiting
     pub came : (node : Node) → There node → is_changed which f node ≡ true → Came f waiting node
-    pub law : AllAgreeBut old which start → AgreesOrWaits f waiting
+    pub law : AllAgreeInFoldersBut old which start → AgreesOrWaits f waiting

@@ -49,6 +49,15 @@ pub no_length : {A : Type 0} (xs : List A) → length xs ≡ 0 → xs ≡ []
 no_length [] none = refl
 no_length (x ∷ xs) none = absurd (let wrong : ⊥ = omega (arith, none) in wrong)
 
+-- those of changed ones that pass a test which the change leaves
+pub filter_map : {A B : Type 0} (p : A → Bool) (q : B → Bool) (f : A → B) → ((x : A) → q (f x) ≡ p x) → (xs : List A) → filter q (map f xs) ≡ map f (filter p xs)
+filter_map p q f same [] = refl
+filter_map p q f same (x ∷ xs) = ap (λ t. cond t (f x ∷ filter q (map f xs)) (filter q (map f xs))) (same x) ∙ on (p x) (filter_map p q f same xs)
+  where
+    on : (t : Bool) → filter q (map f xs) ≡ map f (filter p xs) → cond t (f x ∷ filter q (map f xs)) (filter q (map f xs)) ≡ map f (cond t (x ∷ filter p xs) (filter p xs))
+    on true rest = ap (λ ys. f x ∷ ys) rest
+    on false rest = rest
+
 -- ---- tests
 
 pub any_filter : {A : Type 0} (p q : A → Bool) (xs : List A) → list_any p (filter q xs) ≡ list_any (λ x. q x && p x) xs
@@ -133,6 +142,16 @@ count_either p q r (x ∷ xs) all = ap (λ t. one_if t + count r xs) all.0.0 ∙
     on true false apart rest = omega (arith, rest)
     on false true apart rest = omega (arith, rest)
     on false false apart rest = omega (arith, rest)
+
+-- no more pass two tests than one of them
+pub count_narrow : {A : Type 0} (p q : A → Bool) (xs : List A) → count (λ x. p x && q x) xs ≤ count q xs
+count_narrow p q [] = omega arith
+count_narrow p q (x ∷ xs) = on (p x) (q x) (count_narrow p q xs)
+  where
+    on : (s t : Bool) → count (λ y. p y && q y) xs ≤ count q xs → one_if (s && t) + count (λ y. p y && q y) xs ≤ one_if t + count q xs
+    on true t rest = omega (arith, rest)
+    on false true rest = omega (arith, rest)
+    on false false rest = omega (arith, rest)
 
 pub count_ends : {A : Type 0} (p : A → Bool) (xs : List A) → count p xs ≤ length xs
 count_ends p [] = omega arith

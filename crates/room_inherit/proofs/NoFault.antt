@@ -137,7 +137,7 @@ root_alone (root ∷ other ∷ others) none = absurd (let wrong : ⊥ = cc in wr
 
 pub checked_is_tree : CheckedIsTree
 checked_is_tree rows unfaulted =
-    let none = checked rows unfaulted in record { one_root = root_alone (filter is_root rows.read.nodes) none.root; connected = none.reach }
+    let none = checked rows unfaulted in record { one_root = root_alone (filter is_root rows.read.nodes) none.root; folders = none.parents; connected = none.reach }
 
 -- ---- rows that hold the kept entries alone
 

@@ -1,24 +1,26 @@
 -- One object taken from those that wait, and its children renewed.
-use Rattle.std.proofs.Common.{◌≡◌, ℕ, zero, suc, ◌+◌, ◌==◌, Bool, true, false, not, ◌&&◌, ◌||◌, List, [], ◌∷◌, ◌++◌, map, filter, length, Some, sym, ap, ◌∙◌, inl, inr, ◌⊎◌}
+use Rattle.std.proofs.Common.{◌≡◌, ℕ, zero, suc, ◌+◌, ◌≤◌, ◌==◌, Bool, true, false, cond, not, ◌&&◌, ◌||◌, List, [], ◌∷◌, ◌++◌, map, filter, length, Some, refl, sym, ap, ◌∙◌, inl, inr, ◌⊎◌, arith}
 use Rattle.std.specs.Option.{option_map, option_map_or}
-use Rattle.std.proofs.lemmas.Bool.{cases_Bool, and_from, and_left, or_cases, or_parts, or_from, or_left, or_right, false≢true, eq-eqb, eqb-true, false_from_ne_true}
+use Rattle.std.proofs.lemmas.Bool.{cases_Bool, and_from, and_left, and_parts, and_right, cond-true, or_cases, or_parts, or_from, or_left, or_right, false≢true, eq-eqb, eqb-true, false_from_ne_true}
+use Rattle.std.proofs.lemmas.List.{length-map}
 use Rattle.room_ace.specs.Ace.{Ace}
 use Rattle.room_ace.specs.Same.{same_entries}
 use Rattle.room_ace.specs.declared.object.Which.{Which}
 use Rattle.room_rows.specs.declared.node.Node.{Node}
-use Rattle.room_rows.specs.Content.{Content, node_at, parent_of, has_parent, children_of, is_linked_in, is_rising, with_each}
+use Rattle.room_rows.specs.Content.{Content, node_at, parent_of, has_parent, children_of, is_folder, is_linked_in, is_rising, with_each}
 use Rattle.room_rows.specs.Finding.{find_id}
 use Rattle.room_rows.specs.Held.{held_of, is_linked}
 use Rattle.room_rows.specs.Keep.{with_inh}
 use Rattle.room_rows.specs.Pass.{pass}
 use Rattle.room_inherit.specs.Spread.{with_lists, is_changed, is_linked_within, IsLinkedBelow}
-use Rattle.room_inherit.specs.Turn.{is_linked_to, is_outdated, passed_to, renewed, renewals, renewed_below, is_met_again, meets_again}
+use Rattle.room_inherit.specs.Turn.{brought_up, is_linked_to, is_outdated, next_of, passed_to, renewed, renewals, renewed_below, is_met_again, meets_again, waits_next}
+use Rattle.room_inherit.specs.declared.descent.Reach.TheVariants.{Renewed}
 use Rattle.room_inherit.proofs.Kinship.{same_id}
-use Rattle.room_inherit.proofs.Members.{Each, each_append, each_front, each_back, each_weaker, each_map, each_filter, count}
+use Rattle.room_inherit.proofs.Members.{Each, each_append, each_front, each_back, each_weaker, each_map, each_filter, count, count_length, count_narrow}
 use Rattle.room_inherit.proofs.Children.{has_id, Apart, ids_of, apart_rising, apart_filter, apart_map, has_id_map, each_child, apart_children, is_such_child, no_child}
 use Rattle.room_inherit.proofs.Outdated as step
 use Rattle.room_inherit.proofs.Outdated.{parent_found, same_above, has_either, apart_join, apart_front, apart_last, has_last, or_false, base_of}
-use Rattle.room_inherit.proofs.Frontier.{set, set_id, set_parent, find_set, links, passes, is_reached, There, Waits, Came, Frontier}
+use Rattle.room_inherit.proofs.Frontier.{set, set_folder, set_id, set_parent, find_set, links, passes, is_reached, There, Waits, Came, Frontier}
 
 module _ (which : Which) (start : ℕ) (old : Content) (rises : is_rising (0 ∷ ids_of old.nodes) ≡ true) (f : Node → List Ace) (rest : List Node) (w : Node)
     (front : Frontier which start old f (rest ++ w ∷ [])) (not_met : meets_again which start w (children_of (with_lists which f old) w.id) ≡ false) where
@@ -89,24 +91,43 @@ module _ (which : Which) (start : ℕ) (old : Content) (rises : is_rising (0 ∷
   -- ---- those that wait next
 
   abbrev pub kids : List Node
-  kids = renewals which w (children_of now w.id)
+  kids = next_of Renewed which w (children_of now w.id)
 
-  abbrev outdated : List Node
-  outdated = filter (is_outdated which w) (children_of now w.id)
+  abbrev going : Node → Bool
+  going = waits_next Renewed which w
 
-  kept_id : (n : Node) → (renewed which w n).id ≡ n.id
-  kept_id n = same_id which (passed_to which w n) n
+  abbrev folders : List Node
+  folders = filter going (children_of now w.id)
 
-  kids_has : (n : Node) → There which start old n → has_id n.id kids ≡ stale n
+  kept_id : (n : Node) → (brought_up which w n).id ≡ n.id
+  kept_id n = on (is_outdated which w n)
+    where
+      on : (t : Bool) → (cond t (renewed which w n) n).id ≡ n.id
+      on true = same_id which (passed_to which w n) n
+      on false = refl
+
+  kids_has : (n : Node) → There which start old n → has_id n.id kids ≡ (is_folder n && stale n)
   kids_has n there =
-      has_id_map (renewed which w) kept_id n.id outdated ∙ ap (λ i. has_id i outdated) (sym (set_id which f n))
-      ∙ is_such_child now apart_now (is_outdated which w) w.id (set which f n) (there_now n there) ∙ step.stale_is which f w w0 waits.is n
+      has_id_map (brought_up which w) kept_id n.id folders ∙ ap (λ i. has_id i folders) (sym (set_id which f n))
+      ∙ is_such_child now apart_now going w.id (set which f n) (there_now n there)
+      ∙ swapped (has_parent w.id (set which f n)) (is_folder (set which f n)) (is_outdated which w (set which f n))
+      ∙ (λ i. set_folder which f n i && step.stale_is which f w w0 waits.is n i)
+    where
+      swapped : (a b c : Bool) → (a && (b && c)) ≡ (b && (a && c))
+      swapped true true c = refl
+      swapped true false c = refl
+      swapped false true c = refl
+      swapped false false c = refl
+
+  no_kid : (n : Node) → There which start old n → stale n ≡ false → has_id n.id kids ≡ false
+  no_kid n there fresh = kids_has n there ∙ and_right (is_folder n) (stale n) fresh
 
   kids_apart : Apart kids
-  kids_apart = apart_map (renewed which w) kept_id outdated (apart_filter (is_outdated which w) (children_of now w.id) (apart_children now apart_now w.id))
+  kids_apart = apart_map (brought_up which w) kept_id folders (apart_filter going (children_of now w.id) (apart_children now apart_now w.id))
 
-  kid_waits : (m : Node) → node_at now m.id ≡ Some m → has_parent w.id m ≡ true → is_outdated which w m ≡ true → Waits which start old after (renewed which w m)
-  kid_waits m there has is =
+  kid_waits : (m : Node) → node_at now m.id ≡ Some m → has_parent w.id m ≡ true → going m ≡ true → Waits which start old after (brought_up which w m)
+  kid_waits m there has goes =
+      let is = (and_parts (is_folder m) (is_outdated which w m) goes).1 in
       let b = base_of which f m (find_id m.id old.nodes) (sym (find_set which f m.id old.nodes) ∙ there) in
       let n = b.0 in
       let there' : There which start old n = ap (λ i. node_at old i) (sym (set_id which f n) ∙ ap (λ (x : Node). x.id) (sym b.2)) ∙ b.1 in
@@ -114,15 +135,15 @@ module _ (which : Which) (start : ℕ) (old : Content) (rises : is_rising (0 ∷
       record {
         base = n;
         there = there';
-        is = ap (renewed which w) b.2 ∙ step.renewed_is which f w w0 waits.is n ∙ ap (λ e. with_inh which e n) (sym (step.takes which f w w0 n st));
+        is = cond-true (is_outdated which w m) (renewed which w m) m is ∙ ap (renewed which w) b.2 ∙ step.renewed_is which f w w0 waits.is n ∙ ap (λ e. with_inh which e n) (sym (step.takes which f w w0 n st));
         reached = or_right (n.id == start) (is_changed which after n) (step.changed_stale which f w w0 old child_unchanged n there' st);
       }
 
   kids_wait : Each (Waits which start old after) kids
   kids_wait =
-      each_map (Waits which start old after) (renewed which w) outdated
-      (each_filter (λ m. Waits which start old after (renewed which w m)) (is_outdated which w) (children_of now w.id)
-      (each_child now apart_now (λ m. is_outdated which w m ≡ true → Waits which start old after (renewed which w m)) w.id (λ m there has is. kid_waits m there has is)))
+      each_map (Waits which start old after) (brought_up which w) folders
+      (each_filter (λ m. Waits which start old after (brought_up which w m)) going (children_of now w.id)
+      (each_child now apart_now (λ m. going m ≡ true → Waits which start old after (brought_up which w m)) w.id (λ m there has goes. kid_waits m there has goes)))
 
   rest_waits : (r : Node) → Waits which start old f r → Waits which start old after r
   rest_waits r known = record {
@@ -133,11 +154,11 @@ module _ (which : Which) (start : ℕ) (old : Content) (rises : is_rising (0 ∷
   }
 
   rest_apart : (r : Node) → Waits which start old f r → has_id r.id kids ≡ false
-  rest_apart r known = ap (λ i. has_id i kids) (ap (λ (n : Node). n.id) known.is ∙ set_id which f known.base) ∙ kids_has known.base known.there ∙ reached_fresh known.base known.there known.reached
+  rest_apart r known = ap (λ i. has_id i kids) (ap (λ (n : Node). n.id) known.is ∙ set_id which f known.base) ∙ no_kid known.base known.there (reached_fresh known.base known.there known.reached)
 
   -- a reached object that didn't wait together with the one that was taken
   taken_on : (p : Node) → There which start old p → is_reached which start f p ≡ true → has_id p.id rest ≡ false → has_id p.id (rest ++ kids) ≡ false
-  taken_on p there reached none = has_either p.id rest kids ∙ or_from (has_id p.id rest) (has_id p.id kids) none (kids_has p there ∙ reached_fresh p there reached)
+  taken_on p there reached none = has_either p.id rest kids ∙ or_from (has_id p.id rest) (has_id p.id kids) none (no_kid p there (reached_fresh p there reached))
 
   passed_on : (n p : Node) → There which start old p → is_reached which start f p ≡ true → passes which f p n ≡ passes which after p n
   passed_on n p there reached = ap (λ l. pass n.kind ((held_of which p).own ++ l)) (sym (keeps p (reached_fresh p there reached)))
@@ -188,17 +209,17 @@ module _ (which : Which) (start : ℕ) (old : Content) (rises : is_rising (0 ∷
   child_agrees = step.child_agrees which f w w0 old waits.there w_id (reached_fresh w0 waits.there waits.reached)
 
   -- any other object stays as it was
-  other_agrees : (n p : Node) → There which start old n → There which start old p → has_parent p.id n ≡ true → (p.id == w.id) ≡ false
+  other_agrees : (n p : Node) → There which start old n → There which start old p → is_folder p ≡ true → has_parent p.id n ≡ true → (p.id == w.id) ≡ false
       → (has_id p.id (rest ++ w ∷ []) ≡ true) ⊎ (f n ≡ passes which f p n) → Goal n p
-  other_agrees n p there there' has other (inl waiting) =
+  other_agrees n p there there' folder has other (inl waiting) =
       elim (or_cases (has_id p.id rest) (has_id p.id (w ∷ [])) (sym (has_either p.id rest (w ∷ [])) ∙ waiting)) [
         | inl still ↦ inl (has_either p.id rest kids ∙ or_left (has_id p.id rest) (has_id p.id kids) still)
         | inr last ↦ absurd (false≢true (sym other ∙ eq-eqb p.id w.id (sym (eqb-true w.id p.id (sym (or_false (w.id == p.id)) ∙ last)))))
       ]
-  other_agrees n p there there' has other (inr agrees) =
+  other_agrees n p there there' folder has other (inr agrees) =
       let fresh : stale n ≡ false = and_left (has_parent w.id n) _ (false_from_ne_true (has_parent w.id n) (λ has'. false≢true (sym other ∙ eq-eqb p.id w.id (same_above p.id w.id n has has')))) in
       elim (cases_Bool (stale p)) [
-        | inl st ↦ inl (has_either p.id rest kids ∙ or_right (has_id p.id rest) (has_id p.id kids) (kids_has p there' ∙ st))
+        | inl st ↦ inl (has_either p.id rest kids ∙ or_right (has_id p.id rest) (has_id p.id kids) (kids_has p there' ∙ and_from (is_folder p) (stale p) folder st))
         | inr fresh' ↦ inr (keeps n fresh ∙ agrees ∙ ap (λ l. pass n.kind ((held_of which p).own ++ l)) (sym (keeps p fresh')))
       ]
 
@@ -210,13 +231,24 @@ module _ (which : Which) (start : ℕ) (old : Content) (rises : is_rising (0 ∷
       | inl before ↦ came_before n there before (front.came n there before)
       | inr st ↦ came_now n there st
     ];
-    law = λ but n p there there' has link. elim (cases_Bool (p.id == w.id)) [
+    law = λ but n p there there' folder has link. elim (cases_Bool (p.id == w.id)) [
       | inl is ↦ inr (child_agrees n p there' has link (eqb-true p.id w.id is))
-      | inr other ↦ other_agrees n p there there' has other (front.law but n p there there' has link)
+      | inr other ↦ other_agrees n p there there' folder has other (front.law but n p there there' folder has link)
     ];
   }
 
   -- ---- counts
 
-  pub count_after : count (is_changed which after) old.nodes ≡ count (is_changed which f) old.nodes + length kids
+  -- no more wait next than are renewed
+  pub as_few : length kids ≤ length (renewals which w (children_of now w.id))
+  as_few =
+      let all = children_of now w.id in
+      let k = length-map folders (brought_up which w) in
+      let c = count_length going all in
+      let n = count_narrow is_folder (is_outdated which w) all in
+      let o = count_length (is_outdated which w) all in
+      let r = length-map (filter (is_outdated which w) all) (renewed which w) in
+      omega (arith, k, c, n, o, r)
+
+  pub count_after : count (is_changed which after) old.nodes ≡ count (is_changed which f) old.nodes + length (renewals which w (children_of now w.id))
   count_after = step.count_renewed which f w w0 old child_unchanged waits.is apart_old

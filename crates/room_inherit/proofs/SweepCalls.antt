@@ -1,7 +1,7 @@
 -- The tree gone through, turn after turn.
-use Rattle.std.proofs.Common.{◌≡◌, ℕ, ◌+◌, ◌≤◌, Bool, List, [], ◌∷◌, ◌++◌, filter, length, Some, None, Result, Ok, Err, IfOk, IfErr, refl, sym, ap, subst, ◌∙◌, inl, arith}
+use Rattle.std.proofs.Common.{◌≡◌, ℕ, ◌+◌, ◌≤◌, Bool, List, [], ◌∷◌, ◌++◌, length, Some, None, Result, Ok, Err, IfOk, IfErr, refl, sym, ap, subst, ◌∙◌, inl, arith}
 use Rattle.std.proofs.lemmas.Bool.{false≢true, eq-eqb}
-use Rattle.std.proofs.lemmas.List.{length-append, length-map}
+use Rattle.std.proofs.lemmas.List.{length-append}
 use Rattle.room_ace.specs.Ace.{Ace}
 use Rattle.room_ace.specs.declared.object.Which.{Which}
 use Rattle.room_rows.specs.declared.keep.Keep.{Ghosts}
@@ -15,14 +15,14 @@ use Rattle.room_rows.proofs.Steps.{later_cause}
 use Rattle.room_rows.specs.Law.{AllAgree}
 use Rattle.room_inherit.specs.Spread.{ChangedAgree, HasSpreadCause, with_lists, is_changed}
 use Rattle.room_inherit.specs.SpreadAll.{IsRoot, IsSwept, Sweeps, SweepsIf}
-use Rattle.room_inherit.specs.Turn.{IsVisit, MeetsAgain, next_of, is_outdated, renewed, renewals, brought_up}
+use Rattle.room_inherit.specs.Turn.{IsVisit, MeetsAgain, next_of}
 use Rattle.room_inherit.specs.declared.descent.Descent.{Descent}
 use Rattle.room_inherit.specs.declared.descent.Reach.{Reach}
 use Rattle.room_inherit.specs.declared.descent.Reach.TheVariants.{All}
 use Rattle.room_inherit.specs.declared.outcome.Spread.{Spread}
 use Rattle.room_inherit.specs.declared.outcome.SpreadFault.{SpreadFault}
 use Rattle.room_inherit.specs.declared.outcome.SpreadFault.TheVariants.{Keeper, Loop}
-use Rattle.room_inherit.proofs.Members.{count, count-is, count_length, count_ends}
+use Rattle.room_inherit.proofs.Members.{count, count-is, count_ends}
 use Rattle.room_inherit.proofs.Frontier.{ids_set}
 use Rattle.room_inherit.proofs.Sweeping.{Sweep, after, seen_after, kids, kids_are, rows_after, sweep_after, count_seen, count_after, not_met_again}
 use Rattle.room_inherit.proofs.SweepEnds.{root_there, root_top, seen_first, sweep_first, count_has, changed_swept, law_swept}
@@ -42,7 +42,6 @@ pub record IsSweeping (d : Descent) (turns : ℕ) (waiting : List Node) (changed
   pub front : Sweep d.which old.read root lists seen waiting
   pub counted : changed ≡ count (is_changed d.which lists) old.read.nodes
   pub turned : turns + length waiting ≤ count seen old.read.nodes
-  pub written : changed ≤ turns + length waiting
 
 pub sweeping_first : (d : Descent) (old : Rows) (root : Node) → AreRows old → root_of old.read ≡ Some root → d.start ≡ root.id → IsSweeping d 0 (root ∷ []) 0 old old
 sweeping_first d old root are is start = record {
@@ -55,7 +54,6 @@ sweeping_first d old root are is start = record {
   front = sweep_first d.which old.read are.numbers root is;
   counted = sym (count_own d.which old.read.nodes);
   turned = let one = count_has (seen_first d.which old.read are.numbers root is) root.id old.read.nodes root (root_there d.which old.read are.numbers root is) (eq-eqb root.id root.id refl) in omega (arith, one);
-  written = omega arith;
 }
 
 module _ (d : Descent) (reach : d.reach ≡ All) (turns : ℕ) (rest : List Node) (w : Node) (changed : ℕ) (old now : Rows) (are : AreRows old) (sofar : IsSweeping d turns (rest ++ w ∷ []) changed old now) where
@@ -87,17 +85,6 @@ module _ (d : Descent) (reach : d.reach ≡ All) (turns : ℕ) (rest : List Node
     waits = step.waits ∙ ap (λ (r : Reach). rest ++ next_of r d.which w (children_of (with_lists d.which f old.read) w.id)) reach
         ∙ ap (λ (l : List Node). rest ++ l) (kids_are d.which old.read are.numbers sofar.root top f sofar.seen rest w sofar.front)
 
-    -- no more children are written than wait next
-    as_few : length (renewals d.which w (children_of (with_lists d.which f old.read) w.id)) ≤ length all
-    as_few =
-        let kids_now = children_of (with_lists d.which f old.read) w.id in
-        let r = length-map (filter (is_outdated d.which w) kids_now) (renewed d.which w) in
-        let c = count_length (is_outdated d.which w) kids_now in
-        let m = count_ends (is_outdated d.which w) kids_now in
-        let b = length-map kids_now (brought_up d.which w) in
-        let same = ap length (kids_are d.which old.read are.numbers sofar.root top f sofar.seen rest w sofar.front) in
-        omega (arith, r, c, m, b, same)
-
     pub sweeping_turn : IsSweeping d (turns + 1) next (changed + number) old new
     sweeping_turn = record {
       root = sofar.root;
@@ -114,12 +101,6 @@ module _ (d : Descent) (reach : d.reach ≡ All) (turns : ℕ) (rest : List Node
           let t = sofar.turned in
           let s = count_seen d.which old.read are.numbers sofar.root top f sofar.seen rest w sofar.front in
           omega (arith, l, k, t, s);
-      written =
-          let l = ap length waits ∙ length-append rest all in
-          let k = length-append rest (w ∷ []) in
-          let b = sofar.written in
-          let n = step.counted in
-          omega (arith, l, k, b, n, as_few);
     }
 
 -- what is known after each turn
@@ -132,7 +113,6 @@ sweeping d start same reach = record {
   first = λ old are is. sweeping_first d old start are is (sym same);
   on = λ turns rest w changed number next old now new are sofar visit. sweeping_turn d reach turns rest w changed old now are sofar new number next visit;
   few = λ turns waiting changed old now sofar. let m = count_ends (is_changed d.which sofar.lists) old.read.nodes in let a = as_many_numbers old in let c = sofar.counted in omega (arith, m, a, c);
-  turned = λ turns waiting changed old now sofar. sofar.written;
   ends = λ turns waiting changed old now past sofar. let m = count_ends sofar.seen old.read.nodes in let a = as_many_numbers old in let t = sofar.turned in omega (arith, m, a, t, past);
   numbers = λ turns waiting changed old now sofar. ap numbers_of sofar.becomes ∙ numbers_of-reading old (with_lists d.which sofar.lists old.read) (ids_set d.which sofar.lists old.read.nodes);
   unreadable = λ turns waiting changed at old now sofar damaged. ap (λ (r : Rows). is_unreadable r at) (sym sofar.becomes) ∙ damaged;

@@ -7,7 +7,7 @@ use Rattle.std.proofs.lemmas.Bool.{or_left, false≢true, eq-eqb, eqb-true}
 use Rattle.room_ace.specs.Ace.{Ace}
 use Rattle.room_ace.specs.declared.object.Which.{Which}
 use Rattle.room_rows.specs.declared.node.Node.{Node}
-use Rattle.room_rows.specs.Content.{Content, node_at, root_of, has_parent, is_linked_in, is_rising, reaches_root}
+use Rattle.room_rows.specs.Content.{Content, node_at, root_of, has_folder_above, has_parent, is_folder, is_linked_in, is_rising, reaches_root}
 use Rattle.room_rows.specs.Held.{held_of, is_linked}
 use Rattle.room_rows.specs.HeldList.{Held}
 use Rattle.room_rows.specs.Finding.{find_id}
@@ -21,6 +21,7 @@ use Rattle.room_inherit.proofs.Renewing.{one_object}
 use Rattle.room_inherit.proofs.Frontier.{passes}
 use Rattle.room_inherit.proofs.Ends.{own_lists, own_unchanged, law_at_end, changed_agree, each_all}
 use Rattle.room_inherit.proofs.Outdated.{parent_found}
+use Rattle.room_inherit.proofs.Folders.{folders_stay, in_folder_is, law_in_folders}
 use Rattle.room_inherit.proofs.Sweeping.{Sweep}
 
 same_some : (x y : Node) → Some x ≡ Some y → x ≡ y
@@ -87,7 +88,7 @@ module _ (which : Which) (old : Content) (rises : is_rising (0 ∷ ids_of old.no
     known = (record { base = root; there = root_there; is = sym (with_own which root); seen_is = eq-eqb root.id root.id refl }, tt);
     apart = (refl, tt);
     came = λ n there is. inl (one_object old.nodes n root there root_there (eqb-true n.id root.id is));
-    closed = λ n p there there' has is. inl (or_left (root.id == p.id) false (eq-eqb root.id p.id (sym (eqb-true p.id root.id is))));
+    closed = λ n p there there' folder has is. inl (or_left (root.id == p.id) false (eq-eqb root.id p.id (sym (eqb-true p.id root.id is))));
     fresh = λ n there isnt. own_unchanged which n;
     linked = λ n there changed. absurd (false≢true (sym (own_unchanged which n) ∙ changed));
     from_root = eq-eqb root.id root.id refl;
@@ -106,10 +107,7 @@ module _ (which : Which) (old : Content) (rises : is_rising (0 ∷ ids_of old.no
             c.parent,
             c.there,
             c.has,
-            elim (front.closed n c.parent there c.there c.has c.seen_is) [
-              | inl waiting ↦ absurd (false≢true waiting)
-              | inr agrees ↦ agrees.1 (sym (ap (λ o. is_linked (held_of which n) (option_map (held_of which) o)) (parent_found old c.parent n c.there c.has)) ∙ link)
-            ],
+            c.agrees (sym (ap (λ o. is_linked (held_of which n) (option_map (held_of which) o)) (parent_found old c.parent n c.there c.has)) ∙ link),
           )
         ])
       where
@@ -121,6 +119,10 @@ module _ (which : Which) (old : Content) (rises : is_rising (0 ∷ ids_of old.no
         true_from_ne_false false isnt = absurd (isnt refl)
 
   module _ (f : Node → List Ace) (seen : Node → Bool) (front : Sweep which old root f seen []) (tree : IsTree old) where
+    -- a parent is a folder
+    folder_is : (n p : Node) → node_at old n.id ≡ Some n → node_at old p.id ≡ Some p → has_parent p.id n ≡ true → is_folder p ≡ true
+    folder_is n p there there' has = sym (in_folder_is old n p there' has) ∙ each_found (λ m. has_folder_above old m ≡ true) n.id old.nodes n (each_all (has_folder_above old) old.nodes tree.folders) there
+
     seen_up : (k : ℕ) (n : Node) → node_at old n.id ≡ Some n → (o : Option ℕ) → n.parent ≡ o → reaches_root k old o ≡ true → seen n ≡ true
     seen_up k n there None up reaches =
         ap seen (only_one (λ m. is_none m.parent) old.nodes root n (sym (count_length (λ (m : Node). is_none m.parent) old.nodes) ∙ tree.one_root) root_is there (ap is_none up)) ∙ front.from_root
@@ -133,7 +135,7 @@ module _ (which : Which) (old : Content) (rises : is_rising (0 ∷ ids_of old.no
             let same : q.id ≡ p = found_id p old.nodes q found in
             let there_q : node_at old q.id ≡ Some q = ap (node_at old) same ∙ found in
             let has : has_parent q.id n ≡ true = ap (λ x. option_map_or (λ parent. parent == q.id) x false) up ∙ eq-eqb p q.id (sym same) in
-            elim (front.closed n q there there_q has (before q there_q r)) [
+            elim (front.closed n q there there_q (folder_is n q there there_q has) has (before q there_q r)) [
               | inl waiting ↦ absurd (false≢true waiting)
               | inr met ↦ met.0
             ]
@@ -144,7 +146,7 @@ module _ (which : Which) (old : Content) (rises : is_rising (0 ∷ ids_of old.no
         (each_found (λ m. reaches_root (length old.nodes) old m.parent ≡ true) n.id old.nodes n (each_all (λ m. reaches_root (length old.nodes) old m.parent) old.nodes tree.connected) there)
 
     pub law_swept : AllAgree (with_lists which f old) which
-    law_swept = law_at_end which 0 old rises f (λ n p there there' has link. elim (front.closed n p there there' has (all_seen p there')) [
+    law_swept = law_in_folders (with_lists which f old) which (folders_stay which f old tree.folders) (law_at_end which 0 old rises f (λ n p there there' folder has link. elim (front.closed n p there there' folder has (all_seen p there')) [
       | inl waiting ↦ absurd (false≢true waiting)
       | inr met ↦ inr (met.1 link)
-    ])
+    ]))

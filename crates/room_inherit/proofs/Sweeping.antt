@@ -1,23 +1,25 @@
 -- The tree gone through from the root down.
-use Rattle.std.proofs.Common.{◌≡◌, ℕ, ◌+◌, ◌==◌, Bool, true, false, cond, not, ◌&&◌, ◌||◌, List, [], ◌∷◌, ◌++◌, map, length, Option, Some, None, refl, sym, ap, ◌∙◌, inl, inr, ◌⊎◌}
+use Rattle.std.proofs.Common.{◌≡◌, ℕ, ◌+◌, ◌≤◌, ◌==◌, Bool, true, false, cond, not, ◌&&◌, ◌||◌, List, [], ◌∷◌, ◌++◌, map, filter, length, Option, Some, None, refl, sym, ap, ◌∙◌, inl, inr, ◌⊎◌, arith}
 use Rattle.std.specs.Option.{option_map, option_map_or}
-use Rattle.std.proofs.lemmas.Bool.{cases_Bool, and_parts, and_left, or_cases, or_parts, or_from, or_left, or_right, false≢true, eq-eqb, eqb-true, false_from_ne_true}
+use Rattle.std.proofs.lemmas.Bool.{cases_Bool, and_from, and_parts, and_left, or_cases, or_parts, or_from, or_left, or_right, false≢true, eq-eqb, eqb-true, false_from_ne_true}
 use Rattle.room_ace.specs.Ace.{Ace}
 use Rattle.room_ace.specs.Same.{same_entries}
+use Rattle.room_ace.specs.Valid.{is_document}
 use Rattle.room_ace.specs.declared.object.Which.{Which}
 use Rattle.room_rows.specs.declared.node.Node.{Node}
-use Rattle.room_rows.specs.Content.{Content, node_at, parent_of, has_parent, children_of, is_linked_in, is_rising, with_each}
+use Rattle.room_rows.specs.Content.{Content, node_at, parent_of, has_parent, children_of, is_folder, is_linked_in, is_rising, with_each}
 use Rattle.room_rows.specs.Finding.{find_id}
 use Rattle.room_rows.specs.Held.{held_of, is_linked}
 use Rattle.room_rows.specs.Keep.{with_inh}
 use Rattle.room_rows.specs.Pass.{pass}
 use Rattle.room_inherit.specs.Spread.{with_lists, is_changed}
-use Rattle.room_inherit.specs.Turn.{is_linked_to, is_outdated, passed_to, renewed, renewals, brought_up, renewed_below, is_met_again, meets_again}
-use Rattle.room_inherit.proofs.Kinship.{same_name, same_parent}
-use Rattle.room_inherit.proofs.Members.{Each, each_append, each_front, each_back, each_weaker, count, count_map, count_agree, count_either}
-use Rattle.room_inherit.proofs.Children.{has_id, Apart, ids_of, each_there, apart_rising, apart_map, each_child, apart_children, some_child, is_child, length_children, children_map}
+use Rattle.room_inherit.specs.Turn.{is_linked_to, is_outdated, next_of, passed_to, renewed, renewals, brought_up, renewed_below, is_met_again, meets_again}
+use Rattle.room_inherit.specs.declared.descent.Reach.TheVariants.{All}
+use Rattle.room_inherit.proofs.Kinship.{same_kind, same_name, same_parent}
+use Rattle.room_inherit.proofs.Members.{Each, each_append, each_front, each_back, each_filter, each_weaker, filter_map, count, count_ends, count_length, count_map, count_agree, count_either}
+use Rattle.room_inherit.proofs.Children.{has_id, Apart, ids_of, each_there, apart_rising, apart_filter, apart_map, each_child, apart_children, some_child, is_such_child, length_children, children_map}
 use Rattle.room_inherit.proofs.Renewing.{map_agree, one_object}
-use Rattle.room_inherit.proofs.Frontier.{set, set_id, set_parent, find_set, links, passes}
+use Rattle.room_inherit.proofs.Frontier.{set, set_folder, set_id, set_parent, find_set, links, passes}
 use Rattle.room_inherit.proofs.Outdated as step
 use Rattle.room_inherit.proofs.Outdated.{parent_is, parent_found, same_above, has_either, apart_join, apart_front, apart_last, has_last, or_false, base_of}
 
@@ -32,23 +34,24 @@ module _ (which : Which) (old : Content) (root : Node) where
     pub is : waiting ≡ set which f base
     pub seen_is : seen base ≡ true
 
-  -- an object was met below one that was taken
-  pub record WasMet (seen : Node → Bool) (waiting : List Node) (node : Node) : Type 0 where
+  -- an object was met below one that was taken, and agrees with it
+  pub record WasMet (f : Node → List Ace) (seen : Node → Bool) (waiting : List Node) (node : Node) : Type 0 where
     pub parent : Node
     pub there : There parent
     pub has : has_parent parent.id node ≡ true
     pub seen_is : seen parent ≡ true
     pub taken : has_id parent.id waiting ≡ false
+    pub agrees : links which parent node ≡ true → f node ≡ passes which f parent node
 
-  -- the children of one that was taken were met, and agree with it
+  -- the children of a folder that was taken were met, and agree with it
   abbrev pub Closed : (Node → List Ace) → (Node → Bool) → List Node → Type 0
   Closed f seen waiting =
-      (n p : Node) → There n → There p → has_parent p.id n ≡ true → seen p ≡ true → (has_id p.id waiting ≡ true) ⊎ ((seen n ≡ true) × (links which p n ≡ true → f n ≡ passes which f p n))
+      (n p : Node) → There n → There p → is_folder p ≡ true → has_parent p.id n ≡ true → seen p ≡ true → (has_id p.id waiting ≡ true) ⊎ ((seen n ≡ true) × (links which p n ≡ true → f n ≡ passes which f p n))
 
   pub record Sweep (f : Node → List Ace) (seen : Node → Bool) (waiting : List Node) : Type 0 where
     pub known : Each (Visits f seen) waiting
     pub apart : Apart waiting
-    pub came : (node : Node) → There node → seen node ≡ true → (node ≡ root) ⊎ WasMet seen waiting node
+    pub came : (node : Node) → There node → seen node ≡ true → (node ≡ root) ⊎ WasMet f seen waiting node
     pub closed : Closed f seen waiting
     pub fresh : (node : Node) → There node → seen node ≡ false → is_changed which f node ≡ false
     pub linked : (node : Node) → There node → is_changed which f node ≡ true → is_linked_in old which node ≡ true
@@ -131,11 +134,11 @@ module _ (which : Which) (old : Content) (rises : is_rising (0 ∷ ids_of old.no
   there_later n there = ap (λ i. find_id i (map (set which after) old.nodes)) (set_id which after n) ∙ find_set which after n.id old.nodes ∙ ap (option_map (set which after)) there
 
   abbrev pub kids : List Node
-  kids = children_of later w.id
+  kids = filter is_folder (children_of later w.id)
 
-  -- they are the children with what they inherit
-  pub kids_are : map (brought_up which w) (children_of now w.id) ≡ kids
-  kids_are =
+  -- the children with what they inherit
+  all_are : map (brought_up which w) (children_of now w.id) ≡ children_of later w.id
+  all_are =
       map_agree (brought_up which w) (renewed_below which w) (children_of now w.id) (each_child now apart_now (λ n. brought_up which w n ≡ renewed_below which w n) w.id (λ n there has. sym (ap (λ t. cond (t && is_outdated which w n) (renewed which w n) n) has)))
       ∙ sym (children_map (renewed_below which w) (λ n. one (λ (m : Node). m.name) (λ e m. same_name which e m) n) (λ id n. one (has_parent id) (λ e m. ap (λ (p : Option ℕ). option_map_or (λ parent. parent == id) p false) (same_parent which e m)) n) now w.id)
       ∙ ap (λ (c : Content). children_of c w.id) rows_after
@@ -147,11 +150,30 @@ module _ (which : Which) (old : Content) (rises : is_rising (0 ∷ ids_of old.no
           on true = same (passed_to which w n) n
           on false = refl
 
-  kids_has : (n : Node) → There which old root n → has_id n.id kids ≡ child n
-  kids_has n there = ap (λ i. has_id i kids) (sym (set_id which after n)) ∙ is_child later apart_later w.id (set which after n) (there_later n there) ∙ set_parent which after w.id n
+  same_folder : (n : Node) → is_folder (brought_up which w n) ≡ is_folder n
+  same_folder n = on (is_outdated which w n)
+    where
+      on : (t : Bool) → is_folder (cond t (renewed which w n) n) ≡ is_folder n
+      on true = ap (λ k. not (is_document k)) (same_kind which (passed_to which w n) n)
+      on false = refl
+
+  -- those of them that wait next
+  pub kids_are : next_of All which w (children_of now w.id) ≡ kids
+  kids_are = sym (filter_map is_folder is_folder (brought_up which w) same_folder (children_of now w.id)) ∙ ap (filter is_folder) all_are
+
+  kids_has : (n : Node) → There which old root n → has_id n.id kids ≡ (child n && is_folder n)
+  kids_has n there =
+      ap (λ i. has_id i kids) (sym (set_id which after n)) ∙ is_such_child later apart_later is_folder w.id (set which after n) (there_later n there)
+      ∙ (λ i. set_parent which after w.id n i && set_folder which after n i)
+
+  no_kid : (n : Node) → There which old root n → child n ≡ false → has_id n.id kids ≡ false
+  no_kid n there isnt = kids_has n there ∙ and_left (child n) (is_folder n) isnt
 
   kids_visit : Each (Visits which old root after seen_after) kids
-  kids_visit = each_child later apart_later (Visits which old root after seen_after) w.id kid
+  kids_visit =
+      each_filter (Visits which old root after seen_after) is_folder (children_of later w.id)
+      (each_weaker (Visits which old root after seen_after) (λ m. is_folder m ≡ true → Visits which old root after seen_after m) (λ m visits folder. visits) (children_of later w.id)
+      (each_child later apart_later (Visits which old root after seen_after) w.id kid))
     where
       kid : (m : Node) → node_at later m.id ≡ Some m → has_parent w.id m ≡ true → Visits which old root after seen_after m
       kid m there has =
@@ -175,23 +197,31 @@ module _ (which : Which) (old : Content) (rises : is_rising (0 ∷ ids_of old.no
   }
 
   rest_apart : (r : Node) → Visits which old root f seen r → has_id r.id kids ≡ false
-  rest_apart r known = ap (λ i. has_id i kids) (ap (λ (n : Node). n.id) known.is ∙ set_id which f known.base) ∙ kids_has known.base known.there ∙ seen_apart known.base known.there known.seen_is
+  rest_apart r known = ap (λ i. has_id i kids) (ap (λ (n : Node). n.id) known.is ∙ set_id which f known.base) ∙ no_kid known.base known.there (seen_apart known.base known.there known.seen_is)
 
   taken_on : (p : Node) → There which old root p → seen p ≡ true → has_id p.id rest ≡ false → has_id p.id (rest ++ kids) ≡ false
-  taken_on p there is none = has_either p.id rest kids ∙ or_from (has_id p.id rest) (has_id p.id kids) none (kids_has p there ∙ seen_apart p there is)
+  taken_on p there is none = has_either p.id rest kids ∙ or_from (has_id p.id rest) (has_id p.id kids) none (no_kid p there (seen_apart p there is))
 
   abbrev Came : Node → Type 0
-  Came n = (n ≡ root) ⊎ WasMet which old root seen_after (rest ++ kids) n
+  Came n = (n ≡ root) ⊎ WasMet which old root after seen_after (rest ++ kids) n
 
-  came_before : (n : Node) → (n ≡ root) ⊎ WasMet which old root seen (rest ++ w ∷ []) n → Came n
-  came_before n (inl is) = inl is
-  came_before n (inr c) = inr (record {
+  -- what an object passes that was seen stays
+  passed_on : (n p : Node) → There which old root p → seen p ≡ true → passes which f p n ≡ passes which after p n
+  passed_on n p there is = ap (λ l. pass n.kind ((held_of which p).own ++ l)) (sym (keeps_seen p there is))
+
+  came_before : (n : Node) → There which old root n → seen n ≡ true → (n ≡ root) ⊎ WasMet which old root f seen (rest ++ w ∷ []) n → Came n
+  came_before n there is (inl same) = inl same
+  came_before n there is (inr c) = inr (record {
     parent = c.parent;
     there = c.there;
     has = c.has;
     seen_is = or_left (seen c.parent) (child c.parent) c.seen_is;
     taken = taken_on c.parent c.there c.seen_is (or_parts (has_id c.parent.id rest) (has_id c.parent.id (w ∷ [])) (sym (has_either c.parent.id rest (w ∷ [])) ∙ c.taken)).0;
+    agrees = λ link. keeps_seen n there is ∙ c.agrees link ∙ passed_on n c.parent c.there c.seen_is;
   })
+
+  child_agrees : (n p : Node) → There which old root p → has_parent p.id n ≡ true → links which p n ≡ true → p.id ≡ w.id → after n ≡ passes which after p n
+  child_agrees = step.child_agrees which f w w0 old waits.there w_id (not_stale w0 (seen_apart w0 waits.there waits.seen_is))
 
   came_now : (n : Node) → child n ≡ true → Came n
   came_now n has = inr (record {
@@ -200,13 +230,11 @@ module _ (which : Which) (old : Content) (rises : is_rising (0 ∷ ids_of old.no
     has = ap (λ i. has_parent i n) (sym w_id) ∙ has;
     seen_is = or_left (seen w0) (child w0) waits.seen_is;
     taken = taken_on w0 waits.there waits.seen_is (ap (λ i. has_id i rest) (sym w_id) ∙ apart_last rest w front.apart);
+    agrees = λ link. child_agrees n w0 waits.there (ap (λ i. has_parent i n) (sym w_id) ∙ has) link (sym w_id);
   })
 
   abbrev Goal : Node → Node → Type 0
   Goal n p = (has_id p.id (rest ++ kids) ≡ true) ⊎ ((seen_after n ≡ true) × (links which p n ≡ true → after n ≡ passes which after p n))
-
-  child_agrees : (n p : Node) → There which old root p → has_parent p.id n ≡ true → links which p n ≡ true → p.id ≡ w.id → after n ≡ passes which after p n
-  child_agrees = step.child_agrees which f w w0 old waits.there w_id (not_stale w0 (seen_apart w0 waits.there waits.seen_is))
 
   other_agrees : (n p : Node) → There which old root n → There which old root p → has_parent p.id n ≡ true → seen p ≡ true → (p.id == w.id) ≡ false
       → (has_id p.id (rest ++ w ∷ []) ≡ true) ⊎ ((seen n ≡ true) × (links which p n ≡ true → f n ≡ passes which f p n)) → Goal n p
@@ -219,17 +247,17 @@ module _ (which : Which) (old : Content) (rises : is_rising (0 ∷ ids_of old.no
       let isnt : child n ≡ false = false_from_ne_true (child n) (λ has'. false≢true (sym other ∙ eq-eqb p.id w.id (same_above p.id w.id n has has'))) in
       inr (
         or_left (seen n) (child n) agrees.0,
-        λ link. keeps n (not_stale n isnt) ∙ agrees.1 link ∙ ap (λ l. pass n.kind ((held_of which p).own ++ l)) (sym (keeps_seen p there' is)),
+        λ link. keeps n (not_stale n isnt) ∙ agrees.1 link ∙ passed_on n p there' is,
       )
 
   closed_after : Closed which old root after seen_after (rest ++ kids)
-  closed_after n p there there' has is = elim (cases_Bool (p.id == w.id)) [
+  closed_after n p there there' folder has is = elim (cases_Bool (p.id == w.id)) [
     | inl same ↦
         let e = eqb-true p.id w.id same in
         inr (or_right (seen n) (child n) (ap (λ i. has_parent i n) (sym e) ∙ has), λ link. child_agrees n p there' has link e)
     | inr other ↦ elim (or_cases (seen p) (child p) is) [
-      | inl before ↦ other_agrees n p there there' has before other (front.closed n p there there' has before)
-      | inr now_met ↦ inl (has_either p.id rest kids ∙ or_right (has_id p.id rest) (has_id p.id kids) (kids_has p there' ∙ now_met))
+      | inl before ↦ other_agrees n p there there' has before other (front.closed n p there there' folder has before)
+      | inr now_met ↦ inl (has_either p.id rest kids ∙ or_right (has_id p.id rest) (has_id p.id kids) (kids_has p there' ∙ and_from (child p) (is_folder p) now_met folder))
     ]
   ]
 
@@ -242,9 +270,9 @@ module _ (which : Which) (old : Content) (rises : is_rising (0 ∷ ids_of old.no
   pub sweep_after : Sweep which old root after seen_after (rest ++ kids)
   sweep_after = record {
     known = each_append (Visits which old root after seen_after) rest kids (each_weaker (Visits which old root f seen) (Visits which old root after seen_after) rest_visits rest (each_front (Visits which old root f seen) rest (w ∷ []) front.known)) kids_visit;
-    apart = apart_join rest kids (apart_front rest (w ∷ []) front.apart) (apart_children later apart_later w.id) (each_weaker (Visits which old root f seen) (λ r. has_id r.id kids ≡ false) rest_apart rest (each_front (Visits which old root f seen) rest (w ∷ []) front.known));
+    apart = apart_join rest kids (apart_front rest (w ∷ []) front.apart) (apart_filter is_folder (children_of later w.id) (apart_children later apart_later w.id)) (each_weaker (Visits which old root f seen) (λ r. has_id r.id kids ≡ false) rest_apart rest (each_front (Visits which old root f seen) rest (w ∷ []) front.known));
     came = λ n there is. elim (or_cases (seen n) (child n) is) [
-      | inl before ↦ came_before n (front.came n there before)
+      | inl before ↦ came_before n there before (front.came n there before)
       | inr has ↦ came_now n has
     ];
     closed = closed_after;
@@ -260,17 +288,23 @@ module _ (which : Which) (old : Content) (rises : is_rising (0 ∷ ids_of old.no
 
   -- ---- counts
 
-  pub count_seen : count seen_after old.nodes ≡ count seen old.nodes + length kids
+  pub count_seen : count seen old.nodes + length kids ≤ count seen_after old.nodes
   count_seen =
-      count_either seen child seen_after old.nodes (each_there (λ n. (seen_after n ≡ (seen n || child n)) × (child n ≡ true → seen n ≡ false)) old.nodes apart_old (λ n there. (refl, unseen_child n there)))
-      ∙ ap (λ k. count seen old.nodes + k) (sym number)
+      let c = count_length is_folder (children_of later w.id) in
+      let e = count_ends is_folder (children_of later w.id) in
+      omega (arith, c, e, all_seen)
     where
       every : (xs : List Node) → Each (λ n. has_parent w.id (set which after n) ≡ child n) xs
       every [] = tt
       every (x ∷ xs) = (set_parent which after w.id x, every xs)
 
-      number : length kids ≡ count child old.nodes
+      number : length (children_of later w.id) ≡ count child old.nodes
       number = length_children later apart_later w.id ∙ count_map (has_parent w.id) (set which after) old.nodes ∙ count_agree (λ n. has_parent w.id (set which after n)) child old.nodes (every old.nodes)
+
+      all_seen : count seen_after old.nodes ≡ count seen old.nodes + length (children_of later w.id)
+      all_seen =
+          count_either seen child seen_after old.nodes (each_there (λ n. (seen_after n ≡ (seen n || child n)) × (child n ≡ true → seen n ≡ false)) old.nodes apart_old (λ n there. (refl, unseen_child n there)))
+          ∙ ap (λ k. count seen old.nodes + k) (sym number)
 
   abbrev pub written : List Node
   written = renewals which w (children_of now w.id)

@@ -24,7 +24,6 @@ pub record Progress (d : Descent) (start : Node) : Type 1 where
   pub first : (old : Rows) → AreRows old → Given old → After 0 (start ∷ []) 0 old old
   pub on : (turns : ℕ) (rest : List Node) (w : Node) (changed number : ℕ) (next : List Node) (old now new : Rows) → AreRows old → After turns (rest ++ w ∷ []) changed old now → IsVisit d w rest next now number new → After (turns + 1) next (changed + number) old new
   pub few : (turns : ℕ) (waiting : List Node) (changed : ℕ) (old now : Rows) → After turns waiting changed old now → changed ≤ length (numbers_of old)
-  pub turned : (turns : ℕ) (waiting : List Node) (changed : ℕ) (old now : Rows) → After turns waiting changed old now → changed ≤ turns + length waiting
   pub ends : (turns : ℕ) (waiting : List Node) (changed : ℕ) (old now : Rows) → length (numbers_of old) ≤ turns → After turns waiting changed old now → length waiting ≡ 0
   pub numbers : (turns : ℕ) (waiting : List Node) (changed : ℕ) (old now : Rows) → After turns waiting changed old now → numbers_of now ≡ numbers_of old
   pub unreadable : (turns : ℕ) (waiting : List Node) (changed at : ℕ) (old now : Rows) → After turns waiting changed old now → IsUnreadable now at → IsUnreadable old at

@@ -7,8 +7,8 @@ use Rattle.room_ace.specs.declared.object.Which.{Which}
 use Rattle.room_ace.specs.declared.object.Which.TheVariants.{Dacl, Sacl}
 use Rattle.room_rows.specs.declared.keep.Keep.{Ghosts}
 use Rattle.room_rows.specs.declared.node.Node.{Node}
-use Rattle.room_rows.specs.Content.{Content, node_at, root_of, is_linked_in, is_root, reaches_root}
-use Rattle.room_rows.specs.Content.{with_each}
+use Rattle.room_rows.specs.Content.{Content, node_at, root_of, has_folder_above, is_linked_in}
+use Rattle.room_rows.specs.Content.{is_root, reaches_root, with_each}
 use Rattle.room_rows.specs.Keep.{HasNoRoot, capped, reading, with_inh}
 use Rattle.room_rows.specs.Rows.{Rows}
 use Rattle.room_rows.specs.Law.{AllAgree}
@@ -18,9 +18,10 @@ use Rattle.room_inherit.specs.Spread.{with_lists}
 use Rattle.room_inherit.specs.declared.outcome.Spread.{Spread}
 use Rattle.room_inherit.specs.declared.outcome.SpreadFault.{SpreadFault}
 
--- One object has no parent, and the parents of each lead to it.
+-- One object has no parent, each other one stands in a folder, and the parents of each lead to it.
 pub record IsTree (rows : Content) : Type 0 where
   pub one_root : length (filter is_root rows.nodes) ≡ 1
+  pub folders : IsTrue (list_all (has_folder_above rows) rows.nodes)
   pub connected :
       IsTrue (list_all (λ node. reaches_root (length rows.nodes) rows node.parent) rows.nodes)
 

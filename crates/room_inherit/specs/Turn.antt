@@ -9,7 +9,8 @@ use Rattle.room_ace.specs.declared.object.ObjKind.TheVariants.{Document, Folder}
 use Rattle.room_ace.specs.declared.object.Which.{Which}
 use Rattle.room_rows.specs.declared.keep.Keep.{Ghosts}
 use Rattle.room_rows.specs.declared.node.Node.{Node}
-use Rattle.room_rows.specs.Content.{Content, node_at, children_of, has_parent, put_node, with_each}
+use Rattle.room_rows.specs.Content.{Content, node_at, children_of, has_parent, is_folder, put_node}
+use Rattle.room_rows.specs.Content.{with_each}
 use Rattle.room_rows.specs.HeldList.{Held}
 use Rattle.room_rows.specs.Held.{held_of, full_of, is_linked}
 use Rattle.room_rows.specs.Keep.{reading, with_inh}
@@ -37,17 +38,6 @@ abbrev pub is_outdated : Which → Node → Node → Bool
 is_outdated which above node =
     is_linked_to which above node
     && not (same_entries (held_of which node).inh (passed_to which above node))
-
-abbrev pub renewal : Which → Node → Node → Option Node
-renewal which above node =
-    if is_outdated which above node then Some (renewed which above node) else None
-
--- the list of an outdated object, as it is to be
-abbrev pub renewed_list : Which → Node → Node → Option Held
-renewed_list which above node =
-    if is_outdated which above node
-    then Some (record (held_of which node) { inh = passed_to which above node })
-    else None
 
 -- those of the children that are outdated, as they are to be
 abbrev pub renewals : Which → Node → List Node → List Node
@@ -94,13 +84,18 @@ abbrev pub brought_up : Which → Node → Node → Node
 brought_up which above node =
     if is_outdated which above node then renewed which above node else node
 
--- which of the children wait next: the renewed ones, or all
-abbrev pub next_of : Reach → Which → Node → List Node → List Node
-next_of Renewed which above nodes = renewals which above nodes
-next_of All which above nodes = map (brought_up which above) nodes
+-- Which children wait next: the renewed folders, or all folders. Nothing lies below a document.
+abbrev pub waits_next : Reach → Which → Node → Node → Bool
+waits_next Renewed which above node = is_folder node && is_outdated which above node
+waits_next All which above node = is_folder node
 
--- One object's outdated children are renewed, and these or all children are added after the objects
--- that wait. The first object isn't among them.
+-- those of the children, as they are to be
+abbrev pub next_of : Reach → Which → Node → List Node → List Node
+next_of reach which above nodes =
+    map (brought_up which above) (filter (waits_next reach which above) nodes)
+
+-- One object's outdated children are renewed, and the folders among these or among all children are
+-- added after the objects that wait. The first object isn't among the children.
 pub record IsVisit (descent : Descent) (above : Node) (before after : List Node) (old : Rows)
     (written : ℕ) (new : Rows) : Type 0 where
   pub not_met : meets_again descent.which descent.start above (children_of old.read above.id)
@@ -110,19 +105,19 @@ pub record IsVisit (descent : Descent) (above : Node) (before after : List Node)
   pub waits : after
       ≡ before ++ next_of descent.reach descent.which above (children_of old.read above.id)
 
--- The outdated ones of these children are renewed in the rows, and they or all wait next.
+-- The outdated ones of these children are renewed in the rows, and the folders among them or among
+-- all wait next.
 pub record IsRenewal (descent : Descent) (above : Node) (nodes before after : List Node)
     (old : Rows) (written : ℕ) (new : Rows) : Type 0 where
   pub counted : written ≡ length (renewals descent.which above nodes)
   pub waits : after ≡ before ++ next_of descent.reach descent.which above nodes
   pub stores : new ≡ reading old (with_nodes old.read (renewals descent.which above nodes))
 
--- The child is renewed here and in the rows, if it is outdated.
-pub record IsRenewed (which : Which) (above before after : Node) (old : Rows) (renews : Bool)
+-- The child is renewed in the rows, if it is outdated.
+pub record IsRenewed (which : Which) (above child : Node) (old : Rows) (renews : Bool)
     (new : Rows) : Type 0 where
-  pub outdated : renews ≡ is_outdated which above before
-  pub becomes : after ≡ brought_up which above before
-  pub stores : new ≡ reading old (with_nodes old.read (renewals which above (before ∷ [])))
+  pub outdated : renews ≡ is_outdated which above child
+  pub stores : new ≡ reading old (with_nodes old.read (renewals which above (child ∷ [])))
 
 abbrev pub one_if : Bool → ℕ
 one_if test = if test then 1 else 0
@@ -143,11 +138,11 @@ module _ {S : Type 0} (k : Ghosts S) (old new : S) where
       (λ written. written) result (λ _. ⊥) (IsRenewal descent above nodes before after)
 
   -- This child is renewed, if it is outdated and known to the rows.
-  abbrev pub Renews : Which → Node → Node → Node → Result Bool SpreadFault → Type 0
-  Renews which above before after result =
+  abbrev pub Renews : Which → Node → Node → Result Bool SpreadFault → Type 0
+  Renews which above child result =
       CarriesIf k old new
-      (λ rows. AreKnown which (renewals which above (before ∷ [])) rows.read)
-      one_if result (λ _. ⊥) (IsRenewed which above before after)
+      (λ rows. AreKnown which (renewals which above (child ∷ [])) rows.read)
+      one_if result (λ _. ⊥) (IsRenewed which above child)
 
 -- what a list passes to the children of a kind
 abbrev pub to_kind : Passed → ObjKind → List Ace

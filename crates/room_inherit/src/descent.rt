@@ -15,7 +15,11 @@ use std::alloc::Global;
 // whole room for that, which costs little beside as many turns.
 const FIRST_TURNS: usize = 65_536;
 
-/// Which children of an object it goes on to.
+// From this count of written lists on it is asked too, since a count that has no bound might not be
+// exact.
+const MANY: u64 = 1 << 63;
+
+/// Which folders in an object it goes on to.
 #[derive(Drop)]
 pub(crate) enum Reach {
     /// To those that were renewed.
@@ -24,7 +28,7 @@ pub(crate) enum Reach {
     All,
 }
 
-/// The start, which of the lists is carried down, and which children it goes on to.
+/// The start, which of the lists is carried down, and which folders it goes on to.
 #[derive(Drop)]
 pub(crate) struct Descent {
     pub(crate) start: u64,
@@ -33,7 +37,7 @@ pub(crate) struct Descent {
 }
 
 /// Brings the stored inherited entries below an object of the rows up to date, for one of the
-/// lists. It goes on to the children that were renewed, or from the root to all.
+/// lists. It goes on to the folders that were renewed, or from the root to all.
 pub(crate) fn carry_down<K: Keep>(
     alloc: Global,
     keep: &mut K,
@@ -56,7 +60,8 @@ pub(crate) fn carry_down<K: Keep>(
 }
 
 // The turns, of which the first is that of the start. How many objects there are is asked only
-// where some still wait after the first turns, since a keeper may have to go through all for that.
+// where some still wait after the first turns, or very many lists were written, since a keeper may
+// have to go through all for that.
 fn go_down<K: Keep>(
     alloc: Global,
     keep: &mut K,
@@ -74,7 +79,8 @@ fn go_down<K: Keep>(
     let begun = visit(alloc, keep, descent, start, waiting)?;
     let soon = take_turns(alloc, keep, descent, waiting, FIRST_TURNS)?;
     let mut changed = begun.saturating_add(soon);
-    if waiting.is_empty() {
+    let is_done = waiting.is_empty() && changed < MANY;
+    if is_done {
         return Ok(Spread { changed });
     }
     let most = keep.ids()?.as_slice().len();

@@ -1,11 +1,11 @@
 //! A change of a list carried down to what is stored below, and all lists from the root.
-ghost use Rattle.room_inherit.specs.Spread.{Spreads};
+ghost use Rattle.room_inherit.specs.Spread.{Holds, Spreads, SpreadsIf};
 ghost use Rattle.room_inherit.specs.SpreadAll.{SpreadsAll, Sweeps};
 
 use crate::descent::{Reach, carry_down};
 use crate::outcome::{Spread, SpreadFault};
 use room_ace::Which;
-use room_rows::Keep;
+use room_rows::{Keep, Node};
 use std::alloc::Global;
 
 /// Brings the stored inherited entries below the object up to date, for one of the lists: each
@@ -22,8 +22,25 @@ pub fn spread<K: Keep>(
 {
     match keep.node(id)? {
         None => Ok(Spread { changed: 0 }),
-        Some(start) => carry_down(alloc, keep, &start, which, Reach::Renewed),
+        Some(start) => spread_from(alloc, keep, &start, which),
     }
+}
+
+/// The same from an object that was read, which has to stand so in the rows. It isn't read again.
+pub fn spread_from<K: Keep>(
+    alloc: Global,
+    keep: &mut K,
+    start: &Node,
+    which: Which,
+) -> Result<Spread, SpreadFault>
+    ensures spread { SpreadsIf K.Keep keep.old keep.new (Holds start.now) which start.now.id
+        result }
+{
+    // Nothing lies below a document.
+    if start.is_document() {
+        return Ok(Spread { changed: 0 });
+    }
+    carry_down(alloc, keep, start, which, Reach::Renewed)
 }
 
 /// Brings the stored inherited entries of every linked object up to date, for both lists, from the

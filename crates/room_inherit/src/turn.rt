@@ -1,20 +1,20 @@
 //! One turn of carrying lists down: an object's children.
 ghost use Rattle.std.specs.Prelude.{◌≡◌, ◌<◌, ◌≤◌, ◌^◌, ◌++◌, ◌∷◌, [], IfOk, OnOk};
-ghost use Rattle.std.specs.Prelude.{if◌then◌else◌};
 ghost use Rattle.room_rows.specs.Held.{held_of};
 ghost use Rattle.room_inherit.specs.Turn.{IsPassed, Renews, RenewsAll, Visits};
-ghost use Rattle.room_inherit.specs.Turn.{meets_again, renewed_list};
+ghost use Rattle.room_inherit.specs.Turn.{brought_up, is_outdated, meets_again, next_of};
+ghost use Rattle.room_inherit.specs.Turn.{waits_next};
 
 use crate::descent::{Descent, Reach};
 use crate::inheriting::{stores, takes_from};
 use crate::outcome::SpreadFault;
 use crate::passed::Passed;
 use room_ace::Which;
-use room_rows::{Held, Keep, Node};
+use room_rows::{Keep, Node};
 use std::alloc::{AllocError, Global};
 
-/// Renews the outdated children of an object, answers how many they are, and adds those that it
-/// goes on to after the ones that wait. The error is `Loop` where the object at which it began is
+/// Renews the outdated children of an object, answers how many they are, and adds the folders that
+/// it goes on to after the ones that wait. The error is `Loop` where the object at which it began is
 /// among the linked children, before anything is written.
 pub(crate) fn visit<K: Keep>(
     alloc: Global,
@@ -80,62 +80,89 @@ fn renew_next<K: Keep>(
         waiting.new.items result }
     ensures one { IfOk result (λ written. written ≤ 1) }
 {
-    let mut next = child;
-    let renews = renew(alloc, keep, descent.which, passed, &mut next)?;
-    put_if(
-        waiting,
-        next,
-        renews || matches!(&descent.reach, Reach::All),
-    )?;
+    let renews = renew(keep, descent.which, passed, &child)?;
+    wait_next(alloc, descent, passed, child, renews, waiting)?;
     Ok(if renews { 1 } else { 0 })
 }
 
-// Renews the child, if it is outdated, here and in the rows, and answers whether it was.
+// Renews the child in the rows, if it is outdated, and answers whether it was.
 fn renew<K: Keep>(
-    alloc: Global,
     keep: &mut K,
     which: Which,
     passed: &Passed,
-    child: &mut Node,
+    child: &Node,
 ) -> Result<bool, SpreadFault>
     ensures renewed { (above : Node) → IsPassed (held_of which above) passed.now
-        → Renews K.Keep keep.old keep.new which above child.old child.new result }
+        → Renews K.Keep keep.old keep.new which above child.now result }
 {
-    match renewed_list(alloc, passed, child, which)? {
-        None => Ok(false),
-        Some(held) => {
-            keep.set_inh(child.id, which, held.inh())?;
-            child.set_held(which, held);
-            Ok(true)
-        }
+    let renews = is_outdated(passed, child, which);
+    if renews {
+        keep.set_inh(child.id, which, passed.to(child.kind).as_slice())?;
     }
+    Ok(renews)
 }
 
-// The list of the child with what it inherits, if it stores something else.
-fn renewed_list(
-    alloc: Global,
-    passed: &Passed,
-    child: &Node,
-    which: Which,
-) -> Result<Option<Held>, AllocError>
+// Whether the child is linked, and stores something else than it is to store.
+fn is_outdated(passed: &Passed, child: &Node, which: Which) -> bool
     ensures { (above : Node) → IsPassed (held_of which above) passed.now
-        → IfOk result (λ held. held ≡ renewed_list which above child.now) }
+        → result ≡ is_outdated which above child.now }
 {
     let held = child.held(which);
-    let entries = passed.to(child.kind);
-    if held.flags().protect || !passed.auto || stores(held, entries) {
-        return Ok(None);
-    }
-    Ok(Some(held.with_inh(alloc, entries.as_slice())?))
+    let is_linked = !held.flags().protect && passed.auto;
+    is_linked && !stores(held, passed.to(child.kind))
 }
 
-// Adds the object after the others, if it waits.
-fn put_if(waiting: &mut Vec<Node>, node: Node, waits: bool) -> Result<(), AllocError>
-    ensures { OnOk result (waiting.new.items
-        ≡ waiting.old.items ++ (if waits then node ∷ [] else [])) }
+// Adds the child after the others, as it is to be, if it waits next.
+fn wait_next(
+    alloc: Global,
+    descent: &Descent,
+    passed: &Passed,
+    child: Node,
+    renews: bool,
+    waiting: &mut Vec<Node>,
+) -> Result<(), AllocError>
+    ensures { (above : Node) → IsPassed (held_of descent.now.which above) passed.now
+        → renews ≡ is_outdated descent.now.which above child
+        → OnOk result (waiting.new.items ≡ waiting.old.items
+        ++ next_of descent.now.reach descent.now.which above (child ∷ [])) }
 {
+    let waits = waits_next(&descent.reach, &child, renews);
     if waits {
-        waiting.push(node)?;
+        let next = brought_up(alloc, passed, child, descent.which, renews)?;
+        waiting.push(next)?;
     }
     Ok(())
+}
+
+// Whether the child waits next. A document doesn't, since nothing lies below it.
+fn waits_next(reach: &Reach, child: &Node, renews: bool) -> bool
+    ensures { (which : Which) (above : Node) → renews ≡ is_outdated which above child.now
+        → result ≡ waits_next reach.now which above child.now }
+{
+    match reach {
+        Reach::Renewed => !child.is_document() && renews,
+        Reach::All => !child.is_document(),
+    }
+}
+
+// The child, with what it is to inherit where it was renewed.
+fn brought_up(
+    alloc: Global,
+    passed: &Passed,
+    child: Node,
+    which: Which,
+    renews: bool,
+) -> Result<Node, AllocError>
+    ensures { (above : Node) → IsPassed (held_of which above) passed.now
+        → renews ≡ is_outdated which above child
+        → IfOk result (λ next. next ≡ brought_up which above child) }
+{
+    let mut next = child;
+    if renews {
+        let held = next
+            .held(which)
+            .with_inh(alloc, passed.to(next.kind).as_slice())?;
+        next.set_held(which, held);
+    }
+    Ok(next)
 }

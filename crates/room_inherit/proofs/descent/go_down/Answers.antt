@@ -1,5 +1,6 @@
-use Rattle.std.proofs.Common.{◌≡◌, ◌+◌, ◌<◌, ◌^◌, length, List, [], Result, Ok, Err, sym, ap, subst, ◌∙◌, arith}
-use Rattle.std.proofs.lemmas.Bool.{eqb-true, eqb-false}
+use Rattle.std.proofs.Common.{◌≡◌, true, ◌+◌, ◌<◌, ◌^◌, length, List, [], Result, Ok, Err, sym, ap, subst, ◌∙◌, arith}
+use Rattle.std.specs.Prelude.{nat_lt}
+use Rattle.std.proofs.lemmas.Bool.{eqb-true, eqb-false, false≢true, ltb-true}
 use Rattle.room_rows.specs.declared.node.Node.{Node}
 use Rattle.room_rows.specs.Keep.{capped}
 use Rattle.room_inherit.specs.Turn.{Visits}
@@ -12,6 +13,7 @@ use Rattle.room_inherit.proofs.Turns.{Carried, first_turn_fails}
 use Rattle.room_inherit.proofs.Bounded.{soon_fails, soon_done, ids_fail, later_fails, later_done, never_too_many}
 use Rattle.room_inherit.proofs.Carrying.{carrying}
 use Rattle.room_inherit.proofs.SweepCalls.{sweeping}
+use Rattle.room_inherit.proofs.descent.go_down.Goals.{then-is_empty, else-is_empty}
 use Rattle.room_inherit.proofs.descent.go_down.Goals as goal
 
 pub returns-in_err-begun-clause-spread : goal.returns-in_err-begun-clause-spread
@@ -74,8 +76,8 @@ returns-in_err-soon-clause-sweep g c = λ none same reach.
     subst (λ (r : Result Spread SpreadFault). Carried k laws d start p a e r) (sym (handed_on c.from_residual-in_err-soon.result fault c.from_residual-in_err-soon.ensures.1))
     (soon_fails k laws d start p begun first a b visit c.take_turns.new.waiting.items fault e c.in_err-soon.ensures.turns)
 
-pub returns-then-is_empty-clause-spread : goal.returns-then-is_empty-clause-spread
-returns-then-is_empty-clause-spread g c = λ none same reach.
+pub returns-then-is_done-clause-spread : goal.returns-then-is_done-clause-spread
+returns-then-is_done-clause-spread g c = λ none same reach.
     let k = g.K.Keep in
     let laws = g.met.K.Keep.laws in
     let d = c.args.descent.now in
@@ -90,11 +92,16 @@ returns-then-is_empty-clause-spread g c = λ none same reach.
     let next = c.take_turns.new.waiting.items in
     let soon = c.in_ok-soon.soon in
     let took = c.in_ok-soon.ensures.turns in
-    let over : next ≡ [] = no_length next (sym c.take_turns.new.waiting.ok.0 ∙ eqb-true c.take_turns.new.waiting.len 0 (sym c.is_empty.ensures ∙ c.if-is_empty.true)) in
-    soon_done k laws d start p begun first a b visit 65536 soon next e took (omega arith) c.saturating_add-changed.result c.saturating_add-changed.ensures over
+    let told = c.saturating_add-changed.result in
+    let facts : (c.is_empty.result ≡ true) × (nat_lt told (2 ^ 63) ≡ true) = elim c.if-is_empty.branch [
+      | then-is_empty w ↦ (w.if-is_empty.true, sym w.is_done-is ∙ c.if-is_done.true)
+      | else-is_empty w ↦ absurd (false≢true (sym w.if-is_empty.false ∙ sym w.is_done-is ∙ c.if-is_done.true))
+    ] in
+    let over : next ≡ [] = no_length next (sym c.take_turns.new.waiting.ok.0 ∙ eqb-true c.take_turns.new.waiting.len 0 (sym c.is_empty.ensures ∙ facts.0)) in
+    soon_done k laws d start p begun first a b visit 65536 soon next e took told (ltb-true told (2 ^ 63) facts.1) c.saturating_add-changed.ensures over
 
-pub returns-then-is_empty-clause-sweep : goal.returns-then-is_empty-clause-sweep
-returns-then-is_empty-clause-sweep g c = λ none same reach.
+pub returns-then-is_done-clause-sweep : goal.returns-then-is_done-clause-sweep
+returns-then-is_done-clause-sweep g c = λ none same reach.
     let k = g.K.Keep in
     let laws = g.met.K.Keep.laws in
     let d = c.args.descent.now in
@@ -109,8 +116,13 @@ returns-then-is_empty-clause-sweep g c = λ none same reach.
     let next = c.take_turns.new.waiting.items in
     let soon = c.in_ok-soon.soon in
     let took = c.in_ok-soon.ensures.turns in
-    let over : next ≡ [] = no_length next (sym c.take_turns.new.waiting.ok.0 ∙ eqb-true c.take_turns.new.waiting.len 0 (sym c.is_empty.ensures ∙ c.if-is_empty.true)) in
-    soon_done k laws d start p begun first a b visit 65536 soon next e took (omega arith) c.saturating_add-changed.result c.saturating_add-changed.ensures over
+    let told = c.saturating_add-changed.result in
+    let facts : (c.is_empty.result ≡ true) × (nat_lt told (2 ^ 63) ≡ true) = elim c.if-is_empty.branch [
+      | then-is_empty w ↦ (w.if-is_empty.true, sym w.is_done-is ∙ c.if-is_done.true)
+      | else-is_empty w ↦ absurd (false≢true (sym w.if-is_empty.false ∙ sym w.is_done-is ∙ c.if-is_done.true))
+    ] in
+    let over : next ≡ [] = no_length next (sym c.take_turns.new.waiting.ok.0 ∙ eqb-true c.take_turns.new.waiting.len 0 (sym c.is_empty.ensures ∙ facts.0)) in
+    soon_done k laws d start p begun first a b visit 65536 soon next e took told (ltb-true told (2 ^ 63) facts.1) c.saturating_add-changed.ensures over
 
 pub returns-in_err-ids-clause-spread : goal.returns-in_err-ids-clause-spread
 returns-in_err-ids-clause-spread g c = λ none same reach.

@@ -1,4 +1,4 @@
-use Rattle.std.proofs.Common.{Ok, Option, refl, subst}
+use Rattle.std.proofs.Common.{Ok, Option, subst}
 use Rattle.room_rows.specs.Keep.{IsNodeAt, IsRead, IsUnreadableAt}
 use Rattle.room_rows.specs.declared.node.Node.{Node}
 use Rattle.room_inherit.proofs.Carrying.{spreads_nowhere, spreads_there}
@@ -19,5 +19,5 @@ returns-in-Some g c =
     let b = c.node.new.self in
     let found = subst (λ (o : Option Node). IsRead k.rows k.failures k.writes k.Follows k.IsTrusted a b (Ok o) (IsUnreadableAt c.args.id) (IsNodeAt c.args.id)) c.in-Some.is c.in_ok-node.ensures.read in
     record {
-      spread = spreads_there k g.met.K.Keep.laws c.args.which c.in-Some.start a b c.carry_down.new.keep c.args.id c.carry_down.result found (c.carry_down.ensures.spread refl);
+      spread = spreads_there k g.met.K.Keep.laws c.args.which c.in-Some.start a b c.spread_from.new.keep c.args.id c.spread_from.result found c.spread_from.ensures.spread;
     }
