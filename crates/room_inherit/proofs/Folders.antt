@@ -1,11 +1,10 @@
 -- What stands in folders keeps the law, and in sound rows that is the law.
-use Rattle.std.proofs.Common.{◌≡◌, ℕ, Bool, true, false, not, ◌&&◌, ◌||◌, List, [], ◌∷◌, map, Some, refl, sym, ap, subst, ◌∙◌}
-use Rattle.std.specs.Prelude.{is_none, IsTrue}
+use Rattle.std.proofs.Common.{◌≡◌, ℕ, Bool, true, false, not, ◌||◌, List, [], ◌∷◌, Some, refl, sym, subst, ◌∙◌}
+use Rattle.std.specs.Prelude.{is_none}
 use Rattle.std.specs.List.{list_all}
 use Rattle.std.specs.Option.{option_map_or}
 use Rattle.std.proofs.lemmas.Bool.{and_parts, and_from, false≢true}
 use Rattle.room_ace.specs.Ace.{Ace}
-use Rattle.room_ace.specs.Valid.{is_document}
 use Rattle.room_ace.specs.declared.object.Which.{Which}
 use Rattle.room_rows.specs.declared.node.Node.{Node}
 use Rattle.room_rows.specs.Content.{Content, has_folder_above, has_parent, is_folder, node_at}
@@ -13,7 +12,7 @@ use Rattle.room_rows.specs.Rows.{Rows}
 use Rattle.room_rows.specs.Law.{AllAgree, AllAgreeBut, agrees}
 use Rattle.room_rows.proofs.Lookups.{IsSamePlace}
 use Rattle.room_inherit.specs.Laws.{LawInFolders}
-use Rattle.room_inherit.specs.Spread.{AllAgreeInFolders, AllAgreeInFoldersBut, IsSpread, agrees_in_folder, with_lists}
+use Rattle.room_inherit.specs.Spread.{AllAgreeInFoldersBut, IsSpread, with_lists}
 use Rattle.room_inherit.proofs.Kinship.{same_kind, same_name, same_parent}
 use Rattle.room_inherit.proofs.Frontier.{set, set_id}
 use Rattle.room_inherit.proofs.Outdated.{parent_is, parent_found}

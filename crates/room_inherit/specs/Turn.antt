@@ -1,6 +1,6 @@
 -- One object's children, and what they are to inherit from it.
 use Rattle.std.specs.Prelude.{◌≡◌, ℕ, ◌==◌, ◌&&◌, Bool, true, false, not, List, [], ◌∷◌, ◌++◌}
-use Rattle.std.specs.Prelude.{length, map, filter, Option, Some, None, Result, if◌then◌else◌}
+use Rattle.std.specs.Prelude.{length, map, filter, Some, Result, if◌then◌else◌}
 use Rattle.std.specs.List.{list_any}
 use Rattle.room_ace.specs.Ace.{Ace}
 use Rattle.room_ace.specs.Same.{same_entries}
