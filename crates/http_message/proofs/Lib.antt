@@ -12,3 +12,4 @@ mod Routed
 pub mod RulingKeys
 pub mod Seeking
 pub mod Tables
+pub mod Targets

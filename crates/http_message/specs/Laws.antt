@@ -1,18 +1,25 @@
--- Laws of methods, routes and rulings (own).
+-- Laws of methods, routes, targets and rulings (own).
 use Rattle.std.specs.Prelude.{◌≡◌, ℕ, false, List, [], ◌∷◌, ◌++◌, Some, None, is_some, filter}
-use Rattle.std.specs.Prelude.{map, nat_eq, codes, ⊤}
+use Rattle.std.specs.Prelude.{map, nat_eq, codes, ⊤, IsTrue, Ok}
 use Rattle.std.specs.List.{starts_with}
 use Rattle.std.specs.Cmp.Lexicographic.{slice_cmp}
 use Rattle.std.specs.List.Sorted.{IsStrictlySortedBy}
 use Rattle.std.specs.Ordering.{nat_cmp}
+use Rattle.percent_encoding.specs.AsciiSet.{contains}
+use Rattle.percent_encoding.specs.Percent.{percent_encode}
+use Rattle.percent_encoding.specs.declared.ascii_set.AsciiSet.{AsciiSet}
 use Rattle.serde_json.specs.Data.{Members, no_members, member, string}
 use Rattle.serde_json.specs.Find.{get_member}
+use Rattle.room_ace.specs.Lists.{is_utf8}
 use Rattle.room_ace.specs.Text.{mask_text}
 use Rattle.room_eval.specs.declared.outcome.Ruling.{Ruling}
+use Rattle.room_rows.specs.Paths.{is_path, path_text}
 use Rattle.http_message.specs.declared.word.Verb.{Verb}
 use Rattle.http_message.specs.declared.word.Word.{Word}
+use Rattle.http_message.specs.Asked.{target_of, target_path}
 use Rattle.http_message.specs.Words.{allow_text, action_of, every_method, verb_of, word_text}
 use Rattle.http_message.specs.Routes.{word_of}
+use Rattle.http_message.specs.Target.{path_part, query_part}
 use Rattle.http_message.specs.Bodies.{ruling_text, with_rulings}
 
 -- ---- methods
@@ -58,6 +65,31 @@ WordsBeginPaths =
     ((word : Word) (rest : List ℕ) → word_of (word_start word ++ rest) ≡ Some word)
     × ((path : List ℕ)
     → ((word : Word) → starts_with nat_eq path (word_start word) ≡ false) → word_of path ≡ None)
+
+-- ---- targets
+
+-- The target of a path: a slash, the word, and the text of the path. In its names a byte stands as
+-- `%` and two hexadecimal digits where it is outside ASCII or in the set, and else as itself.
+abbrev pub target_to : AsciiSet → Word → List (List ℕ) → List ℕ
+target_to set word names = 47 ∷ word_text word ++ path_text (map (percent_encode set) names)
+
+-- A target passes its test, and is read as this word, path and query.
+pub record IsReadAs (target : List ℕ) (word : Word) (names : List (List ℕ)) (query : List ℕ)
+    : Type 0 where
+  pub passes : target_of target ≡ Ok target
+  pub has_word : word_of (path_part target) ≡ Some word
+  pub has_path : target_path word (path_part target) ≡ Ok names
+  pub has_query : query_part target ≡ query
+
+-- Every path has a target under every word, with and without a query, whichever bytes of its names
+-- are escaped, as long as `%` and `?` are.
+abbrev pub EveryPathHasATarget : Type 0
+EveryPathHasATarget =
+    (set : AsciiSet) (word : Word) (names : List (List ℕ))
+    → IsTrue (contains set 37) → IsTrue (contains set 63) → IsTrue (is_path names)
+    → IsReadAs (target_to set word names) word names []
+    × ((query : List ℕ) → IsTrue (is_utf8 query)
+    → IsReadAs (target_to set word names ++ 63 ∷ query) word names query)
 
 -- ---- rulings
 

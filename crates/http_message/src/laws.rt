@@ -1,6 +1,8 @@
-//! Laws of methods, routes and rulings.
+//! Laws of methods, routes, targets and rulings.
 ghost use Rattle.http_message.specs.Laws.{AllowsWhatIsAsked, EveryMethodIsListed};
-ghost use Rattle.http_message.specs.Laws.{RulingsAreKeys, WordsBeginPaths};
+ghost use Rattle.http_message.specs.Laws.{EveryPathHasATarget, RulingsAreKeys, WordsBeginPaths};
+
+use room_rows::laws::path_reads_back;
 
 /// The field Allow of a word lists the methods that ask something of it, in order.
 pub fn allows_what_is_asked()
@@ -16,6 +18,13 @@ pub fn every_method_is_listed()
 pub fn words_begin_paths()
     ensures { WordsBeginPaths }
 {}
+
+/// Every path has a target under every word, which is read as that word and that path.
+pub fn every_path_has_a_target()
+    ensures { EveryPathHasATarget }
+{
+    path_reads_back();
+}
 
 /// Of rulings each letter is a key, with its ruling; there is no other; and the keys are in order.
 pub fn rulings_are_keys()

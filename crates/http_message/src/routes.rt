@@ -1,5 +1,7 @@
 //! The table of routes.
-ghost use Rattle.std.specs.Prelude.{◌≡◌, OnOk, ◌∷◌, ◌++◌, codes};
+ghost use Rattle.std.specs.Prelude.{◌≡◌, OnOk};
+ghost use Rattle.matchit.specs.declared.error.InsertError.{InsertError};
+ghost use Rattle.http_message.specs.Routes.{TakesBoth, TakesRoute, TakesWord, TakesWords};
 ghost use Rattle.http_message.specs.Routes.{with_route, with_word, with_words, word_of};
 
 use crate::word::Word;
@@ -56,6 +58,7 @@ impl Routes {
 
 // Adds the routes of the words, in their order.
 fn add_words(alloc: Global, router: &mut Router<Word>, words: &[Word]) -> Result<(), AllocError>
+    requires { TakesWords router.old words.now }
     ensures { OnOk result (router.new ≡ with_words router.old words.now) }
 {
     'words: for word in words {
@@ -66,6 +69,7 @@ fn add_words(alloc: Global, router: &mut Router<Word>, words: &[Word]) -> Result
 
 // Adds the two routes of a word.
 fn add_word(alloc: Global, router: &mut Router<Word>, word: Word) -> Result<(), AllocError>
+    requires { TakesWord router.old word }
     ensures { OnOk result (router.new ≡ with_word router.old word) }
 {
     let folder = format!(in alloc; "/{}/", word.as_str())?;
@@ -80,21 +84,34 @@ fn add_two(
     below: &str,
     word: Word,
 ) -> Result<(), AllocError>
+    requires { TakesBoth folder.now below.now word router.old }
     ensures { OnOk result (router.new
         ≡ with_route below.now word (with_route folder.now word router.old)) }
 {
-    match add_route(router, folder, word) {
-        Err(_) => Err(AllocError),
-        Ok(()) => match add_route(router, below, word) {
-            Err(_) => Err(AllocError),
-            Ok(()) => Ok(()),
-        },
+    add_route(router, folder, word)?;
+    add_route(router, below, word)
+}
+
+// Adds a route that can be added.
+fn add_route(router: &mut Router<Word>, route: &str, word: Word) -> Result<(), AllocError>
+    requires { TakesRoute route.now router.old }
+    ensures { OnOk result (router.new ≡ with_route route.now word router.old) }
+{
+    match router.insert(route, word) {
+        Ok(()) => Ok(()),
+        Err(fault) => Err(memory_alone(fault)),
     }
 }
 
-// Adds a route.
-fn add_route(router: &mut Router<Word>, route: &str, word: Word) -> Result<(), InsertError>
-    ensures { OnOk result (router.new ≡ with_route route.now word router.old) }
+// The fault of a route that can be added: memory ran out.
+fn memory_alone(fault: InsertError) -> AllocError
+    requires { fault ≡ InsertError.OutOfMemory }
 {
-    router.insert(route, word)
+    match fault {
+        InsertError::OutOfMemory => AllocError,
+        InsertError::Conflict { .. } => unreachable!(),
+        InsertError::InvalidParamSegment => unreachable!(),
+        InsertError::InvalidParam => unreachable!(),
+        InsertError::InvalidCatchAll => unreachable!(),
+    }
 }

@@ -38,7 +38,8 @@ fn cut_at_mark(text: &str) -> (&str, &str)
 pub(crate) fn named_path(alloc: Global, word: Word, path: &str) -> Result<Vec<u8>, AllocError>
     ensures { IfOk result (λ bytes. bytes.items ≡ named_path word path.now) }
 {
-    let mut bytes = Vec::new(alloc);
+    // The word and its slashes are longer than what is added.
+    let mut bytes = Vec::with_capacity(alloc, path.len())?;
     bytes.push(b'/')?;
     percent_decode(behind_word(word, path.as_bytes())).append_to(&mut bytes)?;
     Ok(bytes)
