@@ -5,8 +5,8 @@ use Rattle.std.specs.Prelude.{Vec}
 use Rattle.sqlite.specs.Held.{Held}
 use Rattle.sqlite.specs.State.{State}
 use Rattle.room_ace.specs.Sent.{Sent}
-use Rattle.room_ace.specs.declared.object.Which.{Which}
-use Rattle.room_ace.specs.declared.parties.Owners.{Owners}
+use Rattle.room_entry.specs.declared.object.Which.{Which}
+use Rattle.room_entry.specs.declared.parties.Owners.{Owners}
 use Rattle.room_import.specs.Exports.{groups_text, records_text}
 use Rattle.room_inherit.specs.Reading.{IsReport}
 use Rattle.room_rows.specs.declared.report.Report.{Report}

@@ -1,6 +1,6 @@
 -- The text of an outcome for each of the two writers, and its exit status (own).
 use Rattle.std.specs.Prelude.{ℕ, List, ◌++◌, codes, decimal}
-use Rattle.room_ace.specs.Faults.{list_fault_text}
+use Rattle.room_entry.specs.Faults.{list_fault_text}
 use Rattle.room_rows.specs.Paths.{path_text}
 use Rattle.room_machine.specs.declared.reply.Reason.{Reason}
 use Rattle.room_machine.specs.declared.reply.Reason.TheVariants as reason

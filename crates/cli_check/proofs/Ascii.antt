@@ -3,11 +3,11 @@ use Rattle.std.proofs.Common.{ℕ, ◌≡◌, Bool, true, false, List, [], ◌�
 use Rattle.std.specs.Prelude.{◌==◌, nat_lt}
 use Rattle.std.specs.List.{list_all}
 use Rattle.std.proofs.lemmas.Bool.{eqb-true, and_parts, and_from, or_cases, or_left, false≢true, false_from_ne_true, both_ways}
-use Rattle.room_ace.specs.Pieces.{is_among}
-use Rattle.room_ace.specs.Names.{is_name}
-use Rattle.room_ace.specs.Text.{mask_letters}
-use Rattle.room_ace.specs.Laws.{NamesAreText}
-use Rattle.room_ace.specs.Lists.{is_utf8}
+use Rattle.room_entry.specs.Pieces.{is_among}
+use Rattle.room_entry.specs.Names.{is_name}
+use Rattle.room_entry.specs.Letters.{mask_letters}
+use Rattle.room_entry.specs.Laws.{NamesAreText}
+use Rattle.room_entry.specs.Utf8.{is_utf8}
 
 abbrev is_ascii : ℕ → Bool
 is_ascii byte = nat_lt byte 128

@@ -5,13 +5,14 @@ use Rattle.std.specs.List.{enumerate_from, list_all}
 use Rattle.std.proofs.lemmas.Bool.{cases_Bool, leb-true, le-leb, and_parts, and_from}
 use Rattle.std.proofs.lemmas.List.Splits.{length-slice_split}
 use Rattle.std.proofs.lemmas.List.Sums.{count_by-le-length}
-use Rattle.room_ace.specs.Pieces.{pieces}
-use Rattle.room_ace.specs.Ace.{Ace}
+use Rattle.room_entry.specs.Pieces.{pieces}
+use Rattle.room_entry.specs.Ace.{Ace}
 use Rattle.room_ace.specs.Sent.{Sent, limit_fault}
 use Rattle.room_ace.specs.Text.{entry_of}
-use Rattle.room_ace.specs.Lists.{lines_of, lines_of_pieces, is_blank, is_comment, is_utf8, numbered_lines, flags_of_list, with_entry, and_then, entries_after, sent_with, sent_of_lines, sent_of}
-use Rattle.room_ace.specs.declared.flags.ListFlags.{ListFlags}
-use Rattle.room_ace.specs.declared.fault.TextFault.{TextFault}
+use Rattle.room_ace.specs.Lists.{lines_of, lines_of_pieces, is_blank, is_comment, numbered_lines, flags_of_list, with_entry, and_then, entries_after, sent_with, sent_of_lines, sent_of}
+use Rattle.room_entry.specs.Utf8.{is_utf8}
+use Rattle.room_entry.specs.declared.flags.ListFlags.{ListFlags}
+use Rattle.room_entry.specs.declared.fault.TextFault.{TextFault}
 use Rattle.room_ace.specs.declared.fault.LineFault.{LineFault}
 use Rattle.cli_check.specs.Check.{in_list, list_below}
 

@@ -2,9 +2,9 @@
 use Rattle.std.proofs.Common.{ℕ, ◌≡◌, List, [], ◌∷◌, ◌++◌, refl, ap, arith, codes}
 use Rattle.std.specs.List.{flat_map}
 use Rattle.std.proofs.lemmas.Fmt.{decimal_digit}
-use Rattle.room_ace.specs.Bits.{all_bits}
-use Rattle.room_ace.specs.Names.{is_name}
-use Rattle.room_ace.specs.Text.{mask_letters}
+use Rattle.room_entry.specs.Bits.{all_bits}
+use Rattle.room_entry.specs.Names.{is_name}
+use Rattle.room_entry.specs.Letters.{mask_letters}
 use Rattle.cli_check.specs.Check.{judged}
 use Rattle.cli_check.specs.Reply.{reply_text}
 

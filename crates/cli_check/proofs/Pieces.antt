@@ -5,7 +5,7 @@ use Rattle.std.specs.List.{position, position_or_len}
 use Rattle.std.proofs.lemmas.Bool.{cases_Bool, ltb-true, ltb-false}
 use Rattle.std.proofs.lemmas.List.{length-drop}
 use Rattle.std.proofs.lemmas.List.Splits.{slice_split_first}
-use Rattle.room_ace.specs.Pieces.{pieces}
+use Rattle.room_entry.specs.Pieces.{pieces}
 use Rattle.cli_check.specs.declared.fault.InputWhy.TheVariants.{BadName}
 use Rattle.cli_check.specs.Check.{owners_of, owners_of_parts}
 

@@ -4,18 +4,18 @@ use Rattle.std.specs.Prelude.{Option, Some, None, Result, Ok, Err, if◌then◌e
 use Rattle.std.specs.Prelude.{codes}
 use Rattle.std.specs.List.{list_all, enumerate_from, starts_with}
 use Rattle.std.specs.Option.{option_map_or, ok_or}
-use Rattle.room_ace.specs.Pieces.{pieces}
-use Rattle.room_ace.specs.Names.{is_name}
-use Rattle.room_ace.specs.Text.{mask_of}
+use Rattle.room_entry.specs.Pieces.{pieces}
+use Rattle.room_entry.specs.Names.{is_name}
+use Rattle.room_entry.specs.Letters.{mask_of}
 use Rattle.room_ace.specs.Sent.{Sent}
 use Rattle.room_ace.specs.Lists.{lines_of, is_blank, is_comment, sent_of_lines}
-use Rattle.room_ace.specs.Valid.{first_bad_entry}
-use Rattle.room_ace.specs.declared.limits.TheConstants.{MOST_BYTES}
-use Rattle.room_ace.specs.declared.object.Which.TheVariants.{Dacl}
-use Rattle.room_ace.specs.declared.object.ObjKind.TheVariants.{Folder}
-use Rattle.room_ace.specs.declared.parties.Owners.{Owners}
+use Rattle.room_entry.specs.Valid.{first_bad_entry}
+use Rattle.room_entry.specs.declared.limits.TheConstants.{MOST_BYTES}
+use Rattle.room_entry.specs.declared.object.Which.TheVariants.{Dacl}
+use Rattle.room_entry.specs.declared.object.ObjKind.TheVariants.{Folder}
+use Rattle.room_entry.specs.declared.parties.Owners.{Owners}
 use Rattle.room_ace.specs.declared.fault.LineFault.{LineFault}
-use Rattle.room_ace.specs.declared.fault.TextFault.TheVariants.{BadMask}
+use Rattle.room_entry.specs.declared.fault.TextFault.TheVariants.{BadMask}
 use Rattle.room_ace.specs.declared.fault.Why.TheVariants.{Entry}
 use Rattle.room_eval.specs.Verdict.{verdict}
 use Rattle.cli_check.specs.declared.fault.InputWhy.{InputWhy}

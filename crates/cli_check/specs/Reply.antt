@@ -1,9 +1,11 @@
 -- The text and the exit status that answer an input (own).
 use Rattle.std.specs.Prelude.{ℕ, ◌-◌, List, [], ◌++◌, Option, Some, None, codes, decimal, slice_get}
 use Rattle.std.specs.Option.{option_map_or}
-use Rattle.room_ace.specs.Ace.{Ace}
-use Rattle.room_ace.specs.Text.{entry_text, mask_text}
-use Rattle.room_ace.specs.Faults.{list_fault_text, why_text}
+use Rattle.room_entry.specs.Ace.{Ace}
+use Rattle.room_ace.specs.Text.{entry_text}
+use Rattle.room_entry.specs.Letters.{mask_text}
+use Rattle.room_entry.specs.Faults.{list_fault_text}
+use Rattle.room_ace.specs.Faults.{why_text}
 use Rattle.room_eval.specs.declared.outcome.Verdict.{Verdict}
 use Rattle.room_eval.specs.declared.outcome.Verdict.TheVariants.{Granted, Denied}
 use Rattle.cli_check.specs.declared.fault.InputFault.{InputFault}

@@ -2,9 +2,9 @@
 ghost use Rattle.std.specs.Prelude.{◌≡◌, ◌==◌, ℕ, ◌<◌, ◌≤◌, [], ◌∷◌, Result, Ok, Err, length};
 ghost use Rattle.std.specs.Prelude.{MatchOption};
 ghost use Rattle.std.specs.List.{position};
-ghost use Rattle.room_ace.specs.Gives.{Gives};
+ghost use Rattle.room_entry.specs.Gives.{Gives};
 ghost use Rattle.room_ace.specs.Lists.{lines_of};
-ghost use Rattle.room_ace.specs.Pieces.{pieces};
+ghost use Rattle.room_entry.specs.Pieces.{pieces};
 ghost use Rattle.cli_check.specs.declared.fault.InputWhy.{InputWhy};
 ghost use Rattle.cli_check.specs.declared.fault.InputWhy.TheVariants.{BadHeader};
 ghost use Rattle.cli_check.specs.Given.{GivesBy};

@@ -1,6 +1,6 @@
 //! The judging of one list from bytes, without a room.
 ghost use Rattle.std.specs.Prelude.{◌≡◌, IfOk, length, nat_lt, string_bytes};
-ghost use Rattle.room_ace.specs.Text.{mask_text};
+ghost use Rattle.room_entry.specs.Letters.{mask_text};
 ghost use Rattle.cli_check.specs.Check.{judged};
 ghost use Rattle.cli_check.specs.Reply.{place_text, reply_status, reply_text, text_at};
 ghost use Rattle.cli_check.specs.Reply.{verdict_status, verdict_text};

@@ -1,6 +1,6 @@
 //! What an input asks: its headers and its list.
 ghost use Rattle.std.specs.Prelude.{◌≡◌, ◌+◌, ◌≤◌, length};
-ghost use Rattle.room_ace.specs.Gives.{Gives};
+ghost use Rattle.room_entry.specs.Gives.{Gives};
 ghost use Rattle.room_ace.specs.Lists.{lines_of};
 ghost use Rattle.cli_check.specs.Check.{answer_of, list_below, question_of};
 ghost use Rattle.room_eval.specs.Verdict.{verdict};

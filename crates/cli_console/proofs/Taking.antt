@@ -3,11 +3,11 @@ use Rattle.std.proofs.Common.{ℕ, ◌≡◌, ◌+◌, ◌<◌, ◌≤◌, ◌�
 use Rattle.std.specs.Prelude.{take, nat_lt, IfSome, IsSome, if◌then◌else◌}
 use Rattle.std.proofs.lemmas.List.{length-take-le, take_all}
 use Rattle.std.proofs.lemmas.Bool.{cases_Bool, cond-true, false≢true, lt-ltb, ltb-true, ltb-false}
-use Rattle.room_ace.specs.Gives.{Gives}
+use Rattle.room_entry.specs.Gives.{Gives}
 use Rattle.room_ace.specs.Lists.{sent_of}
 use Rattle.room_ace.specs.Sent.{Sent}
-use Rattle.room_ace.specs.declared.failure.Failure.{Failure}
-use Rattle.room_ace.specs.declared.failure.Failure.TheVariants.{OutOfMemory, Fault}
+use Rattle.room_entry.specs.declared.failure.Failure.{Failure}
+use Rattle.room_entry.specs.declared.failure.Failure.TheVariants.{OutOfMemory, Fault}
 use Rattle.room_import.specs.Groups.{groups_in}
 use Rattle.cli_outcome.specs.Ending.{IsOfStream}
 use Rattle.cli_outcome.specs.Reading.{IsInput}

@@ -2,8 +2,8 @@
 use Rattle.std.specs.Prelude.{◌≡◌, ℕ, List, [], ◌∷◌, ◌++◌, Option, codes, string_bytes}
 use Rattle.std.specs.Io.KnownBytes.{Keeps}
 use Rattle.std.specs.declared.io.ErrorKind.{ErrorKind}
-use Rattle.room_ace.specs.declared.failure.Failure.{Failure}
-use Rattle.room_ace.specs.declared.failure.Failure.TheVariants.{OutOfMemory, Fault}
+use Rattle.room_entry.specs.declared.failure.Failure.{Failure}
+use Rattle.room_entry.specs.declared.failure.Failure.TheVariants.{OutOfMemory, Fault}
 use Rattle.cli_outcome.specs.Ending.{fault_line, fault_of_kind}
 use Rattle.cli_outcome.specs.declared.fault.Fault.TheVariants as fault
 use Rattle.cli_outcome.specs.Written.{PrintsText, WritesSome}

@@ -1,10 +1,11 @@
 -- The task of a subcommand and its input, or the first reason to refuse it (own).
 use Rattle.std.specs.Prelude.{ℕ, List, ◌++◌, Option, Some, None, Result, Ok, Err, codes, if◌then◌else◌, length, nat_lt}
-use Rattle.room_ace.specs.Faults.{line_fault_text, text_fault_text}
+use Rattle.room_ace.specs.Faults.{line_fault_text}
+use Rattle.room_entry.specs.Faults.{text_fault_text}
 use Rattle.room_ace.specs.Lists.{sent_of}
 use Rattle.room_ace.specs.Sent.{Sent}
-use Rattle.room_ace.specs.Text.{name_of}
-use Rattle.room_ace.specs.declared.object.Which.{Which}
+use Rattle.room_entry.specs.Names.{name_of}
+use Rattle.room_entry.specs.declared.object.Which.{Which}
 use Rattle.room_import.specs.Faults.{csv_fault_text}
 use Rattle.room_import.specs.Groups.{groups_in}
 use Rattle.room_rows.specs.Faults.{path_fault_text}

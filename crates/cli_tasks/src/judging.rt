@@ -1,6 +1,6 @@
 //! Validates a subcommand's words and input.
 ghost use Rattle.std.specs.Prelude.{IfSome, IsSome};
-ghost use Rattle.room_ace.specs.Gives.{Gives};
+ghost use Rattle.room_entry.specs.Gives.{Gives};
 ghost use Rattle.cli_tasks.specs.Tasks.{name_in, new_room, pairs_in, path_in, reset_of, sent_in};
 ghost use Rattle.cli_tasks.specs.Tasks.{task_of};
 

@@ -3,7 +3,7 @@ ghost use Rattle.std.specs.Prelude.{◌≡◌};
 ghost use Rattle.cli_words.specs.Asked.{file_of, input_of};
 
 use clap::error::ErrorKind;
-use room_ace::Which;
+use room_entry::Which;
 
 /// A subcommand and its words. Files, names and paths stay texts, which are judged afterwards.
 #[derive(Clone, Copy, Debug, PartialEq, Eq)]

@@ -9,7 +9,7 @@ use crate::command::{CliFault, Command};
 use crate::line::command_line;
 use clap::ArgMatches;
 use clap::error::{Error, ErrorKind};
-use room_ace::{Failure, Which};
+use room_entry::{Failure, Which};
 use std::alloc::Global;
 use std::convert::AsStr;
 

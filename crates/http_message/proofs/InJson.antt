@@ -1,6 +1,6 @@
 -- The text under a key.
 use Rattle.std.proofs.Common.{◌≡◌, ℕ, Bool, true, false, List, Option, Some, None, option_and_then, if◌then◌else◌, refl, sym, ap, ◌∙◌}
-use Rattle.room_ace.specs.Lists.{is_utf8}
+use Rattle.room_entry.specs.Utf8.{is_utf8}
 use Rattle.serde_json.specs.Data.{Data}
 use Rattle.serde_json.specs.Read.{read}
 use Rattle.serde_json.specs.Find.{get, as_str}

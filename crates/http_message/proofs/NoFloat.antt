@@ -5,7 +5,7 @@ use Rattle.std.specs.Ordering.{match_ordering}
 use Rattle.std.specs.Cmp.Lexicographic.{slice_cmp}
 use Rattle.serde_json.specs.Data.{Data, string, Members, no_members, member, put}
 use Rattle.serde_json.specs.Written.{has_float, members_have_float}
-use Rattle.room_ace.specs.Text.{mask_text}
+use Rattle.room_entry.specs.Letters.{mask_text}
 use Rattle.room_eval.specs.declared.outcome.Ruling.{Ruling}
 use Rattle.http_message.specs.Bodies.{ruling_text, with_rulings, rulings_data}
 

@@ -2,8 +2,8 @@
 use Rattle.std.proofs.Common.{◌≡◌, [], ◌∷◌, false, true, None, refl, codes}
 use Rattle.std.specs.Fmt.{digits}
 use Rattle.serde_json.proofs.OnLiterals.{serde_json_on_literals}
-use Rattle.room_ace.specs.Bits.{all_bits}
-use Rattle.room_ace.specs.Text.{mask_letters}
+use Rattle.room_entry.specs.Bits.{all_bits}
+use Rattle.room_entry.specs.Letters.{mask_letters}
 use Rattle.room_ace.specs.declared.fault.Why.{Why}
 use Rattle.room_machine.specs.declared.reply.Reply.{Reply}
 use Rattle.http_message.specs.declared.fault.HttpFault.{HttpFault}

@@ -8,7 +8,7 @@ use Rattle.std.specs.Ordering.{match_ordering, ordering_reverse}
 use Rattle.serde_json.specs.Data.{Data, Members, no_members, member, put, string}
 use Rattle.serde_json.specs.Find.{get_member}
 use Rattle.serde_json.proofs.Views.{get_member-put, get_member-put_other}
-use Rattle.room_ace.specs.Text.{mask_text}
+use Rattle.room_entry.specs.Letters.{mask_text}
 use Rattle.room_eval.specs.declared.outcome.Ruling.{Ruling}
 use Rattle.http_message.specs.Bodies.{ruling_text, with_rulings}
 use Rattle.http_message.specs.Laws.{Lacks, RulingsAreKeys, keys_in}

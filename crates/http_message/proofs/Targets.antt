@@ -15,7 +15,7 @@ use Rattle.percent_encoding.specs.Percent.{percent_encode, percent_encode_byte, 
 use Rattle.percent_encoding.specs.declared.ascii_set.AsciiSet.{AsciiSet}
 use Rattle.percent_encoding.proofs.AsciiSetLemmas.{ascii_from_kept, escaped_from_inside, outside_from_kept}
 use Rattle.percent_encoding.proofs.PercentLemmas.{All-percent_encode, IsByte, IsEscapeByte, percent_encode-nil, percent_encode_escaped, percent_encode_kept, percent_decode-nil, percent_decode-percent_encode_byte, percent_decode_not_percent}
-use Rattle.room_ace.specs.Lists.{is_utf8}
+use Rattle.room_entry.specs.Utf8.{is_utf8}
 use Rattle.room_rows.specs.Laws.{PathReadsBack}
 use Rattle.room_rows.specs.Paths.{is_object_name, is_path, path_of, path_text}
 use Rattle.room_rows.proofs.Utf8.{passes_as_utf8, text_from}

@@ -1,11 +1,11 @@
 -- What a message asks, or the first of its tests that fails (own). Tests 1 to 4 work on the stream.
 use Rattle.std.specs.Prelude.{ℕ, List, [], ◌∷◌, Option, Some, None, Result, Ok, Err, if◌then◌else◌}
 use Rattle.std.specs.Prelude.{codes}
-use Rattle.room_ace.specs.Names.{is_name}
-use Rattle.room_ace.specs.Text.{name_of, read_mask_of}
+use Rattle.room_entry.specs.Names.{is_name, name_of}
+use Rattle.room_entry.specs.Letters.{read_mask_of}
 use Rattle.room_ace.specs.Lists.{sent_of}
 use Rattle.room_ace.specs.Sent.{Sent}
-use Rattle.room_ace.specs.declared.parties.Owners.{Owners}
+use Rattle.room_entry.specs.declared.parties.Owners.{Owners}
 use Rattle.room_rows.specs.Paths.{path_of}
 use Rattle.room_machine.specs.declared.request.Request.{Request}
 use Rattle.http_message.specs.declared.head.Head.{Head}

@@ -3,13 +3,14 @@ use Rattle.std.specs.Prelude.{ℕ, List, [], ◌∷◌, ◌++◌, Option, Some, 
 use Rattle.serde_json.specs.Data.{Data, null, number, unsigned, string, array, object, Members}
 use Rattle.serde_json.specs.Data.{member, no_members, put}
 use Rattle.serde_json.specs.View.{items_of}
-use Rattle.room_ace.specs.Ace.{Ace}
-use Rattle.room_ace.specs.Text.{mask_text, entry_text}
-use Rattle.room_ace.specs.declared.fault.TextFault.{TextFault}
-use Rattle.room_ace.specs.declared.fault.ListFault.{ListFault}
+use Rattle.room_entry.specs.Ace.{Ace}
+use Rattle.room_entry.specs.Letters.{mask_text}
+use Rattle.room_ace.specs.Text.{entry_text}
+use Rattle.room_entry.specs.declared.fault.TextFault.{TextFault}
+use Rattle.room_entry.specs.declared.fault.ListFault.{ListFault}
 use Rattle.room_ace.specs.declared.fault.Why.{Why}
-use Rattle.room_ace.specs.declared.object.ObjKind.{ObjKind}
-use Rattle.room_ace.specs.declared.parties.Owners.{Owners}
+use Rattle.room_entry.specs.declared.object.ObjKind.{ObjKind}
+use Rattle.room_entry.specs.declared.parties.Owners.{Owners}
 use Rattle.room_eval.specs.declared.outcome.Ruling.{Ruling}
 use Rattle.room_rows.specs.Paths.{path_text}
 use Rattle.room_rows.specs.declared.fault.PathFault.{PathFault}

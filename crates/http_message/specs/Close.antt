@@ -2,7 +2,7 @@
 use Rattle.std.specs.Prelude.{ℕ, ◌==◌, ◌&&◌, ◌||◌, Bool, List, codes}
 use Rattle.std.specs.List.{list_any}
 use Rattle.std.specs.Str.{str_eq_ignore_ascii_case}
-use Rattle.room_ace.specs.Pieces.{pieces}
+use Rattle.room_entry.specs.Pieces.{pieces}
 use Rattle.http_message.specs.declared.head.Field.{Field}
 use Rattle.http_message.specs.declared.head.Head.{Head}
 use Rattle.http_message.specs.Fields.{trimmed}

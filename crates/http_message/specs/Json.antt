@@ -1,6 +1,6 @@
 -- The texts in a JSON body, by `serde_json`'s definitions.
 use Rattle.std.specs.Prelude.{ℕ, List, Option, None, option_and_then, if◌then◌else◌}
-use Rattle.room_ace.specs.Lists.{is_utf8}
+use Rattle.room_entry.specs.Utf8.{is_utf8}
 use Rattle.serde_json.specs.Data.{Data}
 use Rattle.serde_json.specs.Read.{read}
 use Rattle.serde_json.specs.Find.{get, as_str}

@@ -10,8 +10,8 @@ use Rattle.percent_encoding.specs.Percent.{percent_encode}
 use Rattle.percent_encoding.specs.declared.ascii_set.AsciiSet.{AsciiSet}
 use Rattle.serde_json.specs.Data.{Members, no_members, member, string}
 use Rattle.serde_json.specs.Find.{get_member}
-use Rattle.room_ace.specs.Lists.{is_utf8}
-use Rattle.room_ace.specs.Text.{mask_text}
+use Rattle.room_entry.specs.Utf8.{is_utf8}
+use Rattle.room_entry.specs.Letters.{mask_text}
 use Rattle.room_eval.specs.declared.outcome.Ruling.{Ruling}
 use Rattle.room_rows.specs.Paths.{is_path, path_text}
 use Rattle.http_message.specs.declared.word.Verb.{Verb}

@@ -2,7 +2,7 @@
 use Rattle.std.specs.Prelude.{ℕ, ◌+◌, ◌==◌, ◌&&◌, Bool, List, ◌∷◌, length, drop, nat_eq, codes}
 use Rattle.std.specs.List.{starts_with, before_first, after_first}
 use Rattle.percent_encoding.specs.Percent.{percent_decode}
-use Rattle.room_ace.specs.Lists.{is_utf8}
+use Rattle.room_entry.specs.Utf8.{is_utf8}
 use Rattle.http_message.specs.declared.word.Word.{Word}
 use Rattle.http_message.specs.Words.{word_text}
 

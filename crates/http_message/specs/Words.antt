@@ -1,7 +1,7 @@
 -- The words of routes, the methods that each has, and what they ask (own).
 use Rattle.std.specs.Prelude.{ℕ, List, Option, Some, None, if◌then◌else◌, codes}
-use Rattle.room_ace.specs.Pieces.{same_text}
-use Rattle.room_ace.specs.declared.object.Which.{Which}
+use Rattle.room_entry.specs.Pieces.{same_text}
+use Rattle.room_entry.specs.declared.object.Which.{Which}
 use Rattle.http_message.specs.declared.word.Verb.{Verb}
 use Rattle.http_message.specs.declared.word.Word.{Word}
 use Rattle.http_message.specs.declared.word.Action.{Action}

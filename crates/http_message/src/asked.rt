@@ -1,6 +1,6 @@
 //! What a message asks: the tests of a whole message, in their order.
 ghost use Rattle.std.specs.Prelude.{◌≡◌, [], IfOk};
-ghost use Rattle.room_ace.specs.Gives.{Gives};
+ghost use Rattle.room_entry.specs.Gives.{Gives};
 ghost use Rattle.http_message.specs.Asked.{asked_by, asked_mask, asked_of, asked_on, list_in};
 ghost use Rattle.http_message.specs.Asked.{mask_in, method_of, request_in, request_of, target_path};
 ghost use Rattle.http_message.specs.declared.word.Action.{Action};

@@ -1,6 +1,6 @@
 //! The texts in a JSON body.
 ghost use Rattle.std.specs.Prelude.{◌≡◌, IfOk};
-ghost use Rattle.room_ace.specs.Gives.{Gives};
+ghost use Rattle.room_entry.specs.Gives.{Gives};
 ghost use Rattle.http_message.specs.Asked.{name_in, name_under, owners_in, path_in, path_under};
 ghost use Rattle.http_message.specs.Json.{text_under};
 

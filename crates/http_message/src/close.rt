@@ -1,7 +1,7 @@
 //! Whether a message asks that the connection ends.
 ghost use Rattle.std.specs.Prelude.{◌≡◌, ◌==◌, ◌<◌, [], ◌∷◌, length, MatchOption};
 ghost use Rattle.std.specs.List.{list_any, position};
-ghost use Rattle.room_ace.specs.Pieces.{pieces};
+ghost use Rattle.room_entry.specs.Pieces.{pieces};
 ghost use Rattle.http_message.specs.Close.{asks_close, is_close, lists_close};
 
 use crate::fields::{is_same_name, trimmed};

@@ -2,7 +2,7 @@
 ghost use Rattle.std.specs.Prelude.{◌≡◌, IfOk, OnOk, [], ◌∷◌, ◌++◌, option_map, string_bytes};
 ghost use Rattle.json.specs.Token.{Token};
 ghost use Rattle.serde_json.specs.View.{members_view, view};
-ghost use Rattle.room_ace.specs.Text.{mask_text};
+ghost use Rattle.room_entry.specs.Letters.{mask_text};
 ghost use Rattle.serde_json.specs.Data.{put, string};
 ghost use Rattle.http_message.specs.Bodies.{at_data, attr_data, attr_texts, child_texts};
 ghost use Rattle.http_message.specs.Bodies.{denied_data, denied_texts, line_data, names_data};

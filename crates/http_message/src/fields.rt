@@ -1,7 +1,7 @@
 //! The fields of a head by their names, and their values.
 ghost use Rattle.std.specs.Prelude.{◌≡◌, ℕ, List, [], ◌∷◌, ◌++◌, reverse};
 ghost use Rattle.std.specs.Str.{str_eq_ignore_ascii_case};
-ghost use Rattle.room_ace.specs.Gives.{Gives};
+ghost use Rattle.room_entry.specs.Gives.{Gives};
 ghost use Rattle.http_message.specs.Asked.{caller_of, user_in};
 ghost use Rattle.http_message.specs.Fields.{is_blank, trimmed, values_of, without_blanks};
 ghost use Rattle.http_message.specs.Values.{AreValues};

@@ -10,9 +10,11 @@ use Rattle.std.proofs.lemmas.List.{length-drop}
 use Rattle.std.proofs.lemmas.List.Splits.{length-slice_split}
 use Rattle.std.proofs.lemmas.Str.{utf8_valid_len-IsUtf8, IsUtf8-from_ascii}
 use Rattle.std.proofs.lemmas.Str.Ascii.{IsAscii-nil, IsAscii-cons}
-use Rattle.room_ace.specs.Pieces.{pieces}
-use Rattle.room_ace.specs.Lists.{after_line, lines_of, lines_of_pieces, without_return, is_utf8}
-use Rattle.room_ace.proofs.Cuts.{cut_at, not_cut}
+use Rattle.room_entry.specs.Pieces.{pieces}
+use Rattle.room_ace.specs.Lists.{after_line, lines_of, lines_of_pieces, without_return}
+use Rattle.room_entry.specs.Utf8.{is_utf8}
+use Rattle.room_entry.proofs.Cuts.{cut_at, not_cut}
+use Rattle.room_entry.proofs.Visible.{ascii}
 
 abbrev is_end : ℕ → Bool
 is_end byte = byte == 10
@@ -70,12 +72,6 @@ without_return-push (byte ∷ next ∷ front) last =
     ap (λ line. byte ∷ line) (without_return-push (next ∷ front) last) ∙ cond_cons byte (last == 13) (next ∷ front) ((next ∷ front) ++ last ∷ [])
 
 -- ---- UTF-8
-
-pub ascii : (bytes : List ℕ) → list_all (λ byte. nat_lt byte 128) bytes ≡ true → IsAscii bytes
-ascii [] all = IsAscii-nil
-ascii (byte ∷ bytes) all =
-    let parts = and_parts (nat_lt byte 128) (list_all (λ other. nat_lt other 128) bytes) all in
-    IsAscii-cons byte bytes (ltb-true byte 128 parts.0) (ascii bytes parts.1)
 
 pub is_utf8-text : (bytes : List ℕ) → IsUtf8 bytes → is_utf8 bytes ≡ true
 is_utf8-text bytes text = or_right _ _ (eq-eqb (utf8_valid_len bytes) (length bytes) (utf8_valid_len-IsUtf8 bytes text))

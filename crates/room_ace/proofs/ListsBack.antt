@@ -5,85 +5,34 @@ use Rattle.std.specs.List.{All, list_all, flat_map, enumerate_from, join_with_by
 use Rattle.std.proofs.lemmas.Bool.{cases_Bool, and_parts, and_from, eqb-true, false≢true, true≢false, not-true, not_from_false, cond-true, cond-false, or_cases, or_left, leb-true, le-leb, lt-ltb, ltb-false, le-ltb}
 use Rattle.std.proofs.lemmas.List.Elements.{All-head, All-tail, filter-append}
 use Rattle.std.proofs.lemmas.List.Splits.{join_with_byte-slice_split}
-use Rattle.room_ace.specs.Bits.{all_bits, has}
-use Rattle.room_ace.specs.Pieces.{pieces, is_among}
+use Rattle.room_entry.specs.Bits.{all_bits, has}
+use Rattle.room_entry.specs.Pieces.{pieces, is_among}
 use Rattle.std.specs.Char.{is_ascii_alphanumeric}
-use Rattle.room_ace.specs.Names.{is_name, is_part, is_local_byte, is_domain_byte, are_name_parts}
-use Rattle.room_ace.specs.Ace.{Ace}
+use Rattle.room_entry.specs.Names.{is_name, is_part, is_local_byte, is_domain_byte, are_name_parts}
+use Rattle.room_entry.specs.Ace.{Ace}
 use Rattle.room_ace.specs.Sent.{Sent, own_of, limit_fault}
-use Rattle.room_ace.specs.Text.{kind_text, letter_if, flags_text, mask_letters, mask_text, letter_of, who_text, entry_text, entry_of}
-use Rattle.room_ace.specs.Lists.{entry_lines, list_line, list_text, without_return, lines_of_pieces, lines_of, is_blank, is_comment, numbered_lines, is_utf8, flags_of_list, fault_at, with_entry, and_then, entries_after, sent_with, sent_of_lines}
+use Rattle.room_entry.specs.Letters.{kind_text, letter_if, flags_text, mask_letters, mask_text, letter_of}
+use Rattle.room_ace.specs.Text.{who_text, entry_text, entry_of}
+use Rattle.room_ace.specs.Lists.{entry_lines, list_line, list_text, without_return, lines_of_pieces, lines_of, is_blank, is_comment, numbered_lines, flags_of_list, fault_at, with_entry, and_then, entries_after, sent_with, sent_of_lines}
+use Rattle.room_entry.specs.Utf8.{is_utf8}
 use Rattle.room_ace.specs.Column.{some_of, entry_in, entries_behind, entries_of}
-use Rattle.room_ace.specs.Laws.{has_name, IsEntry, ListReadsBack}
+use Rattle.room_entry.specs.Laws.{has_name, IsEntry}
+use Rattle.room_ace.specs.Laws.{ListReadsBack}
 use Rattle.std.specs.Prelude.{option_and_then}
-use Rattle.room_ace.specs.declared.entry.EntryKind.{EntryKind}
-use Rattle.room_ace.specs.declared.entry.EntryKind.TheVariants.{Allow, Deny, Audit, Alarm}
-use Rattle.room_ace.specs.declared.entry.Who.{Who}
-use Rattle.room_ace.specs.declared.entry.Who.TheVariants.{Owner, Group, Everyone, Anonymous, Authenticated, User, Members}
-use Rattle.room_ace.specs.declared.flags.ListFlags.{ListFlags}
-use Rattle.room_ace.specs.declared.fault.ListFault.{ListFault}
-use Rattle.room_ace.specs.declared.fault.ListFault.TheVariants.{TooManyEntries, TooManyOwn}
+use Rattle.room_entry.specs.declared.entry.EntryKind.{EntryKind}
+use Rattle.room_entry.specs.declared.entry.EntryKind.TheVariants.{Allow, Deny, Audit, Alarm}
+use Rattle.room_entry.specs.declared.entry.Who.{Who}
+use Rattle.room_entry.specs.declared.entry.Who.TheVariants.{Owner, Group, Everyone, Anonymous, Authenticated, User, Members}
+use Rattle.room_entry.specs.declared.flags.ListFlags.{ListFlags}
+use Rattle.room_entry.specs.declared.fault.ListFault.{ListFault}
+use Rattle.room_entry.specs.declared.fault.ListFault.TheVariants.{TooManyEntries, TooManyOwn}
 use Rattle.room_ace.specs.declared.fault.LineFault.{LineFault}
 use Rattle.room_ace.specs.declared.fault.Why.TheVariants.{NotUtf8}
-use Rattle.room_ace.proofs.RoundTrip.{apart, pieces_at, all-append, all_flags, all_imply, at_bit, all-map, of_known, reads_back}
+use Rattle.room_ace.proofs.RoundTrip.{apart, pieces_at, all_flags, all-map, of_known, reads_back}
+use Rattle.room_entry.proofs.Texts.{all-append, all_imply, at_bit}
+use Rattle.room_entry.proofs.Visible.{is_visible, are_visible, visible_name, visible_utf8}
 
 -- ---- a printed entry is of visible ASCII bytes
-
-abbrev is_between : ℕ → ℕ → ℕ → Bool
-is_between low high byte = nat_le low byte && nat_le byte high
-
-abbrev is_visible : ℕ → Bool
-is_visible byte = is_between 33 126 byte
-
-abbrev are_visible : List ℕ → Bool
-are_visible text = list_all is_visible text
-
--- a range of visible bytes
-visible_between : (low high byte : ℕ) → 33 ≤ low → high ≤ 126 → is_between low high byte ≡ true → is_visible byte ≡ true
-visible_between low high byte above below holds =
-    let parts = and_parts (nat_le low byte) (nat_le byte high) holds in
-    let from : low ≤ byte = leb-true low byte parts.0 in
-    let to : byte ≤ high = leb-true byte high parts.1 in
-    and_from (nat_le 33 byte) (nat_le byte 126) (le-leb 33 byte (omega arith)) (le-leb byte 126 (omega arith))
-
-visible_letter : (byte : ℕ) → is_ascii_alphanumeric byte ≡ true → is_visible byte ≡ true
-visible_letter byte holds =
-    elim (or_cases (is_between 48 57 byte || is_between 65 90 byte) (is_between 97 122 byte) holds) [
-      | inl first ↦ elim (or_cases (is_between 48 57 byte) (is_between 65 90 byte) first) [
-        | inl digit ↦ visible_between 48 57 byte (omega arith) (omega arith) digit
-        | inr upper ↦ visible_between 65 90 byte (omega arith) (omega arith) upper
-      ]
-      | inr lower ↦ visible_between 97 122 byte (omega arith) (omega arith) lower
-    ]
-
-visible_local : (byte : ℕ) → is_local_byte byte ≡ true → is_visible byte ≡ true
-visible_local byte holds =
-    elim (or_cases (is_ascii_alphanumeric byte) (is_among (codes "._-+$\\") byte) holds) [
-      | inl letter ↦ visible_letter byte letter
-      | inr mark ↦ at_bit is_visible (codes "._-+$\\") byte refl mark
-    ]
-
-visible_domain : (byte : ℕ) → is_domain_byte byte ≡ true → is_visible byte ≡ true
-visible_domain byte holds =
-    elim (or_cases (is_ascii_alphanumeric byte) (is_among (codes ".-") byte) holds) [
-      | inl letter ↦ visible_letter byte letter
-      | inr mark ↦ at_bit is_visible (codes ".-") byte refl mark
-    ]
-
-visible_part : (p : ℕ → Bool) (text : List ℕ) → ((byte : ℕ) → p byte ≡ true → is_visible byte ≡ true) → is_part p text ≡ true → are_visible text ≡ true
-visible_part p text each holds = all_imply p is_visible text each (and_parts _ (list_all p text) holds).1
-
-visible_parts : (parts : List (List ℕ)) → are_name_parts parts ≡ true → are_visible (join_with_byte 64 parts) ≡ true
-visible_parts [] holds = absurd (false≢true holds)
-visible_parts (local ∷ []) holds = visible_part is_local_byte local visible_local holds
-visible_parts (local ∷ domain ∷ []) holds =
-    let both = and_parts (is_part is_local_byte local) (is_part is_domain_byte domain) holds in
-    all-append is_visible local (64 ∷ domain) (visible_part is_local_byte local visible_local both.0) (visible_part is_domain_byte domain visible_domain both.1)
-visible_parts (local ∷ domain ∷ other ∷ rest) holds = absurd (false≢true holds)
-
-visible_name : (name : List ℕ) → is_name name ≡ true → are_visible name ≡ true
-unfolding is_name
-visible_name name holds = subst (λ (text : List ℕ). are_visible text ≡ true) (join_with_byte-slice_split 64 name) (visible_parts (pieces 64 name) holds)
 
 visible_who : (who : Who) → has_name who ≡ true → are_visible (who_text who) ≡ true
 visible_who Owner named = refl
@@ -127,23 +76,6 @@ other_byte c byte hidden shown =
 
 visible_apart : (c : ℕ) (text : List ℕ) → is_visible c ≡ false → are_visible text ≡ true → apart c text ≡ true
 visible_apart c text hidden shown = all_imply is_visible (λ byte. not (byte == c)) text (λ byte. other_byte c byte hidden) shown
-
-ascii_byte : (byte : ℕ) → is_visible byte ≡ true → nat_lt byte 128 ≡ true
-ascii_byte byte shown =
-    let most : byte ≤ 126 = leb-true byte 126 (and_parts (nat_le 33 byte) (nat_le byte 126) shown).1 in
-    lt-ltb byte 128 (omega arith)
-
-visible_ascii : (text : List ℕ) → are_visible text ≡ true → list_all (λ byte. nat_lt byte 128) text ≡ true
-visible_ascii text shown = all_imply is_visible (λ byte. nat_lt byte 128) text ascii_byte shown
-
-visible_utf8 : (text : List ℕ) → are_visible text ≡ true → is_utf8 text ≡ true
-visible_utf8 text shown = or_left (list_all (λ byte. nat_lt byte 128) text) _ (visible_ascii text shown)
-
-pub name_ascii : (name : List ℕ) → is_name name ≡ true → list_all (λ byte. nat_lt byte 128) name ≡ true
-name_ascii name holds = visible_ascii name (visible_name name holds)
-
-pub name_text : (name : List ℕ) → is_name name ≡ true → is_utf8 name ≡ true
-name_text name holds = visible_utf8 name (visible_name name holds)
 
 -- ---- lines of visible bytes
 

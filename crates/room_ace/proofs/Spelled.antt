@@ -5,20 +5,21 @@ use Rattle.std.specs.List.{list_all, join_with_byte}
 use Rattle.std.specs.Cmp.Lexicographic.{same_text as text_equal}
 use Rattle.std.proofs.lemmas.Bool.{cases_Bool, cond-true, cond-false, or_left}
 use Rattle.std.proofs.lemmas.List.Splits.{join_with_byte-slice_split}
-use Rattle.room_ace.specs.Pieces.{pieces, is_among, same_text}
-use Rattle.room_ace.specs.Names.{is_name}
-use Rattle.room_ace.specs.Ace.{Ace}
-use Rattle.room_ace.specs.Text.{kind_of, flag_letters, flags_of, mask_letters, mask_of, who_of, part, entry_of, entry_of_parts}
-use Rattle.room_ace.specs.Lists.{is_utf8}
+use Rattle.room_entry.specs.Pieces.{pieces, is_among, same_text}
+use Rattle.room_entry.specs.Names.{is_name}
+use Rattle.room_entry.specs.Ace.{Ace}
+use Rattle.room_entry.specs.Letters.{kind_of, flag_letters, flags_of, mask_letters, mask_of}
+use Rattle.room_ace.specs.Text.{who_of, part, entry_of, entry_of_parts}
+use Rattle.room_entry.specs.Utf8.{is_utf8}
 use Rattle.room_ace.specs.Column.{some_of, entry_in}
-use Rattle.room_ace.specs.declared.entry.EntryKind.{EntryKind}
-use Rattle.room_ace.specs.declared.entry.EntryKind.TheVariants.{Allow, Deny, Audit, Alarm}
-use Rattle.room_ace.specs.declared.entry.Who.{Who}
-use Rattle.room_ace.specs.declared.entry.Who.TheVariants.{Owner, Group, Everyone, Anonymous, Authenticated}
-use Rattle.room_ace.specs.declared.flags.EntryFlags.{EntryFlags}
-use Rattle.room_ace.specs.declared.fault.TextFault.{TextFault}
-use Rattle.room_ace.proofs.RoundTrip.{all-append, all_imply, at_bit}
-use Rattle.room_ace.proofs.ListsBack.{name_ascii}
+use Rattle.room_entry.specs.declared.entry.EntryKind.{EntryKind}
+use Rattle.room_entry.specs.declared.entry.EntryKind.TheVariants.{Allow, Deny, Audit, Alarm}
+use Rattle.room_entry.specs.declared.entry.Who.{Who}
+use Rattle.room_entry.specs.declared.entry.Who.TheVariants.{Owner, Group, Everyone, Anonymous, Authenticated}
+use Rattle.room_entry.specs.declared.flags.EntryFlags.{EntryFlags}
+use Rattle.room_entry.specs.declared.fault.TextFault.{TextFault}
+use Rattle.room_entry.proofs.Texts.{all-append, all_imply, at_bit}
+use Rattle.room_entry.proofs.Visible.{name_ascii}
 
 abbrev is_ascii : ℕ → Bool
 is_ascii byte = nat_lt byte 128

@@ -1,9 +1,10 @@
 -- The text of entries in a column: a line for each, and no list line.
 use Rattle.std.specs.Prelude.{ℕ, ◌||◌, List, [], ◌∷◌, ◌++◌, Option, Some, None, Result, Ok, Err}
 use Rattle.std.specs.Prelude.{option_and_then, if◌then◌else◌}
-use Rattle.room_ace.specs.Ace.{Ace}
+use Rattle.room_entry.specs.Ace.{Ace}
 use Rattle.room_ace.specs.Text.{entry_of}
-use Rattle.room_ace.specs.Lists.{is_blank, is_comment, is_utf8, lines_of}
+use Rattle.room_ace.specs.Lists.{is_blank, is_comment, lines_of}
+use Rattle.room_entry.specs.Utf8.{is_utf8}
 
 abbrev pub some_of : {A F : Type 0} → Result A F → Option A
 some_of (Ok value) = Some value

@@ -2,16 +2,17 @@
 use Rattle.std.specs.Prelude.{ℕ, ◌+◌, ◌||◌, not, List, filter, Option, Some, None, Result, Ok, Err}
 use Rattle.std.specs.Prelude.{if◌then◌else◌, codes}
 use Rattle.std.specs.List.{enumerate_from, list_all}
-use Rattle.room_ace.specs.Pieces.{is_among}
-use Rattle.room_ace.specs.Ace.{Ace}
+use Rattle.room_entry.specs.Pieces.{is_among}
+use Rattle.room_entry.specs.Ace.{Ace}
 use Rattle.room_ace.specs.Text.{entry_of}
 use Rattle.room_ace.specs.Sent.{Sent, limit_fault}
-use Rattle.room_ace.specs.Lists.{lines_of, is_blank, is_comment, is_utf8, fault_at, and_then}
+use Rattle.room_entry.specs.Utf8.{is_utf8}
+use Rattle.room_ace.specs.Lists.{lines_of, is_blank, is_comment, fault_at, and_then}
 use Rattle.room_ace.specs.Lists.{with_entry, entries_after}
-use Rattle.room_ace.specs.declared.failure.Failure.{Failure}
-use Rattle.room_ace.specs.declared.failure.Failure.TheVariants.{OutOfMemory, Fault}
-use Rattle.room_ace.specs.declared.flags.ListFlags.{ListFlags}
-use Rattle.room_ace.specs.declared.fault.ListFault.{ListFault}
+use Rattle.room_entry.specs.declared.failure.Failure.{Failure}
+use Rattle.room_entry.specs.declared.failure.Failure.TheVariants.{OutOfMemory, Fault}
+use Rattle.room_entry.specs.declared.flags.ListFlags.{ListFlags}
+use Rattle.room_entry.specs.declared.fault.ListFault.{ListFault}
 use Rattle.room_ace.specs.declared.fault.LineFault.{LineFault}
 use Rattle.room_ace.specs.declared.fault.Why.{Why}
 use Rattle.room_ace.specs.declared.fault.Why.TheVariants.{NotUtf8}

@@ -1,14 +1,13 @@
 //! The text of entries with no list line: a line for each. There may be any number of them.
 ghost use Rattle.std.specs.Prelude.{◌≡◌, ◌++◌, ◌∷◌, [], All, IfOk, OnOk, Some, string_bytes};
 ghost use Rattle.room_ace.specs.Column.{entries_of, entry_in};
-ghost use Rattle.room_ace.specs.Laws.{IsEntry};
+ghost use Rattle.room_entry.specs.Laws.{IsEntry};
 ghost use Rattle.room_ace.specs.Lists.{entry_lines};
 
-use crate::entry::{Entries, Entry};
 use crate::entry_text::{entry_from, write_line};
-use crate::failure::Failure;
 use crate::lines::split_line;
 use crate::list_lines::{is_blank, is_comment};
+use room_entry::{Entries, Entry, Failure};
 use std::alloc::{AllocError, Global};
 
 /// The printed form of the entries, each with LF after it. It reads back as these entries.

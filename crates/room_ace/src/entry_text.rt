@@ -2,19 +2,13 @@
 ghost use Rattle.std.specs.Prelude.{◌≡◌, ◌++◌, ◌∷◌, [], IfOk, OnOk, MatchOption, Err, string_bytes};
 ghost use Rattle.std.specs.Prelude.{codes, ◌<◌};
 ghost use Rattle.std.specs.List.{list_all};
-ghost use Rattle.room_ace.specs.Gives.{Gives};
-ghost use Rattle.room_ace.specs.Pieces.{is_among, pieces, same_text};
-ghost use Rattle.room_ace.specs.Text.{entry_of, entry_of_parts, flag_letters, flags_in, flags_of};
-ghost use Rattle.room_ace.specs.Text.{kind_of, kind_text, who_of, flags_text, who_text, entry_text};
-ghost use Rattle.room_ace.specs.Text.{letter_if};
+ghost use Rattle.room_entry.specs.Gives.{Gives};
+ghost use Rattle.room_entry.specs.Pieces.{is_among, pieces, same_text};
+ghost use Rattle.room_entry.specs.Letters.{flag_letters, flags_in, flags_of, flags_text, kind_of};
+ghost use Rattle.room_entry.specs.Letters.{kind_text, letter_if};
+ghost use Rattle.room_ace.specs.Text.{entry_of, entry_of_parts, entry_text, who_of, who_text};
 
-use crate::entry::{Entry, EntryKind, Who};
-use crate::failure::Failure;
-use crate::fault::TextFault;
-use crate::flags::EntryFlags;
-use crate::mask::mask_in;
-use crate::name::name_in;
-use crate::pieces::cut;
+use room_entry::{Entry, EntryFlags, EntryKind, Failure, TextFault, Who, cut, mask_in, name_in};
 use std::alloc::{AllocError, Global};
 
 // The four parts of the text of an entry, as bytes, which are cut and compared without a look at

@@ -1,7 +1,8 @@
 //! The lines of bytes, and their text.
 ghost use Rattle.std.specs.Prelude.{◌≡◌, ◌==◌, ◌∷◌, ◌<◌, [], true, false, length, MatchOption};
 ghost use Rattle.std.specs.List.{position};
-ghost use Rattle.room_ace.specs.Lists.{after_line, is_utf8, lines_of, without_return};
+ghost use Rattle.room_ace.specs.Lists.{after_line, lines_of, without_return};
+ghost use Rattle.room_entry.specs.Utf8.{is_utf8};
 
 /// The first line of the bytes, without its end, and what follows it. A line ends at LF, and loses
 /// one CR before its end. Bytes after the last LF are a line if there are any.

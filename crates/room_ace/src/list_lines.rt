@@ -2,11 +2,11 @@
 ghost use Rattle.std.specs.Prelude.{◌≡◌, ◌∷◌, ◌+◌, ◌<◌, ◌≤◌, ◌^◌, [], codes, length, MatchOption};
 ghost use Rattle.std.specs.List.{list_all};
 ghost use Rattle.room_ace.specs.Lists.{flags_of_list, is_blank, is_comment, lines_of};
-ghost use Rattle.room_ace.specs.Pieces.{is_among};
+ghost use Rattle.room_entry.specs.Pieces.{is_among};
 ghost use Rattle.room_ace.specs.Reading.{lines_after, list_flags};
 
-use crate::flags::ListFlags;
 use crate::lines::split_line;
+use room_entry::ListFlags;
 
 /// What is left of a list's text, and how many of its lines stand before that.
 #[derive(Drop)]

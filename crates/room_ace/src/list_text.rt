@@ -2,19 +2,17 @@
 ghost use Rattle.std.specs.Prelude.{◌≡◌, ◌++◌, ◌∷◌, ◌+◌, ◌<◌, ◌^◌, [], length, IfOk, OnOk};
 ghost use Rattle.std.specs.Prelude.{string_bytes};
 ghost use Rattle.room_ace.specs.Lists.{list_text, sent_of};
-ghost use Rattle.room_ace.specs.Gives.{Gives};
+ghost use Rattle.room_entry.specs.Gives.{Gives};
 ghost use Rattle.room_ace.specs.Reading.{failure_at, lines_after, sent_after, with_line};
-ghost use Rattle.room_ace.specs.declared.failure.Failure.TheVariants.{Fault};
+ghost use Rattle.room_entry.specs.declared.failure.Failure.TheVariants.{Fault};
 ghost use Rattle.room_ace.specs.declared.fault.Why.TheVariants.{Entry as Told, List as Limit};
 
-use crate::entry::Entry;
 use crate::entry_text::{push_if, read_entry, write_line};
-use crate::failure::Failure;
-use crate::fault::{LineFault, ListFault, TextFault, Why};
-use crate::flags::ListFlags;
+use crate::fault::{LineFault, Why};
 use crate::lines::text_of;
 use crate::list_lines::{ListLines, flags_of_list};
 use crate::sent::{EntriesWithin, SentList};
+use room_entry::{Entry, Failure, ListFault, ListFlags, TextFault};
 use std::alloc::{AllocError, Global};
 
 /// The list that the bytes spell, or the fault of the first line that has one.

@@ -1,7 +1,7 @@
 -- What is answered from the rows, or done to them, once an object was reached.
 use Rattle.std.specs.Prelude.{◌≡◌, ℕ, ◌⊎◌, List, [], Some, map}
 use Rattle.room_rows.specs.Content.{body_of, children_of}
-use Rattle.room_ace.specs.declared.parties.Owners.{Owners}
+use Rattle.room_entry.specs.declared.parties.Owners.{Owners}
 use Rattle.room_rows.specs.declared.node.Node.{Node}
 use Rattle.room_rows.specs.Keep.{Changes, with_owners}
 use Rattle.room_rows.specs.Rows.{Rows}

@@ -1,6 +1,6 @@
 -- A change of a list carried down, as part of a request.
 use Rattle.std.specs.Prelude.{◌≡◌, ℕ, ◌⊎◌, Bool, true, false, ◌∷◌, Some, map, IsTrue}
-use Rattle.room_ace.specs.declared.object.Which.{Which}
+use Rattle.room_entry.specs.declared.object.Which.{Which}
 use Rattle.room_rows.specs.declared.keep.KeepFault.{KeepFault}
 use Rattle.room_rows.specs.declared.keep.KeepFault.TheVariants.{Damaged}
 use Rattle.room_rows.specs.Content.{is_rising, node_at, reaches_root}

@@ -24,9 +24,9 @@ use Rattle.std.specs.Prelude.{
 }
 use Rattle.std.specs.List.{list_all}
 use Rattle.std.specs.Option.{option_map_or}
-use Rattle.room_ace.specs.Ace.{Ace}
-use Rattle.room_ace.specs.Pieces.{same_text}
-use Rattle.room_ace.specs.declared.object.Which.{Which}
+use Rattle.room_entry.specs.Ace.{Ace}
+use Rattle.room_entry.specs.Pieces.{same_text}
+use Rattle.room_entry.specs.declared.object.Which.{Which}
 use Rattle.room_rows.specs.declared.node.Node.{Node}
 use Rattle.room_rows.specs.Content.{
   Content,

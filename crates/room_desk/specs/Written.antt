@@ -14,7 +14,7 @@ use Rattle.std.specs.Prelude.{
   nat_lt,
   if◌then◌else◌,
 }
-use Rattle.room_ace.specs.declared.limits.TheConstants.{MOST_BYTES}
+use Rattle.room_entry.specs.declared.limits.TheConstants.{MOST_BYTES}
 use Rattle.room_rows.specs.Content.{body_of}
 use Rattle.room_rows.specs.Keep.{IsUnreadable, SetsBody}
 use Rattle.room_rows.specs.Rows.{Rows, AreRows}

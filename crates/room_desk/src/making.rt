@@ -1,7 +1,7 @@
 //! Requests that make an object, or give a document all its bytes.
 ghost use Rattle.std.specs.Prelude.{◌≡◌, [], ◌∷◌, IfOk, length, unwrap_or};
-ghost use Rattle.room_ace.specs.Rights.{append_data, write_data};
-ghost use Rattle.room_ace.specs.declared.object.ObjKind.TheVariants.{
+ghost use Rattle.room_entry.specs.Rights.{append_data, write_data};
+ghost use Rattle.room_entry.specs.declared.object.ObjKind.TheVariants.{
   Document as DocumentKind,
   Folder as FolderKind,
 };

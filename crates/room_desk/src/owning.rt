@@ -1,6 +1,6 @@
 //! The request that sets owners.
 ghost use Rattle.std.specs.Prelude.{◌≡◌, ◌&&◌, IfOk};
-ghost use Rattle.room_ace.specs.Pieces.{same_text};
+ghost use Rattle.room_entry.specs.Pieces.{same_text};
 ghost use Rattle.room_rows.specs.Keep.{IsDamaged, IsUnreadable};
 ghost use Rattle.room_judge.specs.Judged.{CarriesOut, Does};
 ghost use Rattle.room_desk.specs.Answered.{SetsOwners};

@@ -1,6 +1,6 @@
 //! The new place of an object.
 ghost use Rattle.std.specs.Prelude.{◌≡◌, ◌+◌, length};
-ghost use Rattle.room_ace.specs.Pieces.{same_text};
+ghost use Rattle.room_entry.specs.Pieces.{same_text};
 ghost use Rattle.room_rows.specs.Calls.{Reads};
 ghost use Rattle.room_rows.specs.Keep.{IsUnreadable};
 ghost use Rattle.room_judge.specs.Judged.{Does};

@@ -1,7 +1,7 @@
 -- The lines that a dump has of an object (own).
 use Rattle.std.specs.Prelude.{ℕ, List, [], ◌++◌, codes, decimal}
 use Rattle.room_ace.specs.Lists.{list_text}
-use Rattle.room_ace.specs.declared.object.ObjKind.{ObjKind}
+use Rattle.room_entry.specs.declared.object.ObjKind.{ObjKind}
 use Rattle.room_rows.specs.HeldList.{Held}
 use Rattle.room_rows.specs.Held.{full_of}
 use Rattle.room_rows.specs.declared.node.Node.{Node}

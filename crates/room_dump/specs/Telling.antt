@@ -1,6 +1,6 @@
 -- What the functions of a dump promise one another.
 use Rattle.std.specs.Prelude.{◌≡◌, ℕ, ◌⊎◌, List, [], ◌∷◌, ◌++◌, length, Some, None, IsTrue, true}
-use Rattle.room_ace.specs.Valid.{is_document}
+use Rattle.room_entry.specs.Valid.{is_document}
 use Rattle.room_rows.specs.declared.node.Node.{Node}
 use Rattle.room_rows.specs.Content.{body_of, children_of, root_of}
 use Rattle.room_rows.specs.Rows.{Rows, is_unreadable, numbers_of}

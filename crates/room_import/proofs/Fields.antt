@@ -5,12 +5,12 @@ use Rattle.std.specs.List.{list_all}
 use Rattle.std.specs.Cmp.Lexicographic.{pointwise}
 use Rattle.std.proofs.lemmas.Bool.{cond-true, cond-false, le-ltb, lt-ltb}
 use Rattle.csv.specs.Records.{field_at}
-use Rattle.room_ace.specs.Gives.{Gives}
-use Rattle.room_ace.specs.Lists.{is_utf8}
-use Rattle.room_ace.specs.Names.{is_name}
-use Rattle.room_ace.specs.Pieces.{same_text}
-use Rattle.room_ace.specs.declared.failure.Failure.{Failure}
-use Rattle.room_ace.specs.declared.failure.Failure.TheVariants.{OutOfMemory, Fault}
+use Rattle.room_entry.specs.Gives.{Gives}
+use Rattle.room_entry.specs.Utf8.{is_utf8}
+use Rattle.room_entry.specs.Names.{is_name}
+use Rattle.room_entry.specs.Pieces.{same_text}
+use Rattle.room_entry.specs.declared.failure.Failure.{Failure}
+use Rattle.room_entry.specs.declared.failure.Failure.TheVariants.{OutOfMemory, Fault}
 use Rattle.room_import.specs.declared.fault.CsvFault.{CsvFault}
 use Rattle.room_import.specs.declared.fault.CsvWhy.TheVariants.{BadHeader, NotTwoFields, BadName, TooManyRows, NotUtf8}
 use Rattle.room_import.specs.Groups.{and_then, fault_at, group_header, pair_of, pair_of_row, pairs_after, pairs_of_rows, with_pair}

@@ -10,10 +10,10 @@ use Rattle.csv.specs.Reading.{records, records_from, default_config, strip_bom}
 use Rattle.csv.specs.Writing.{row_text, row_body, default_writer, read_back, escaped, fields_text, is_blank}
 use Rattle.csv.specs.declared.parser.State.TheVariants as st
 use Rattle.csv.proofs.RoundTrip.{read-write}
-use Rattle.room_ace.specs.Pieces.{pieces, is_among}
+use Rattle.room_entry.specs.Pieces.{pieces, is_among}
 use Rattle.std.specs.Char.{is_ascii_alphanumeric}
-use Rattle.room_ace.specs.Names.{is_name, is_part, is_local_byte, is_domain_byte, are_name_parts}
-use Rattle.room_ace.specs.Lists.{is_utf8}
+use Rattle.room_entry.specs.Names.{is_name, is_part, is_local_byte, is_domain_byte, are_name_parts}
+use Rattle.room_entry.specs.Utf8.{is_utf8}
 use Rattle.room_import.specs.Groups.{group_header, pair_of_row, pairs_after, pairs_of_rows, same_pair}
 use Rattle.room_import.specs.Exports.{rows_text, pair_row, are_new, GroupsReadBack}
 

@@ -9,7 +9,7 @@ use Rattle.std.specs.BTreeSet.{BTreeSet, contains}
 use Rattle.std.proofs.lemmas.Bool.{cond-true, cond-false}
 use Rattle.std.proofs.lemmas.List.Folds.{list_any-append}
 use Rattle.std.proofs.lemmas.Map.Text.{is_eq-slice_cmp}
-use Rattle.room_ace.specs.Pieces.{same_text}
+use Rattle.room_entry.specs.Pieces.{same_text}
 use Rattle.room_import.specs.Groups.{same_pair, with_pair}
 use Rattle.room_import.specs.Seen.{HasSeen, pair_bytes, pair_cmp}
 

@@ -9,10 +9,10 @@ use Rattle.csv.specs.declared.parser.State.{State}
 use Rattle.csv.specs.declared.parser.State.TheVariants as st
 use Rattle.csv.specs.declared.reader.Reader.{Reader}
 use Rattle.csv.specs.declared.reader.Trim.TheVariants as trim
-use Rattle.room_ace.specs.Lists.{is_utf8}
-use Rattle.room_ace.specs.Names.{is_name}
-use Rattle.room_ace.specs.declared.failure.Failure.{Failure}
-use Rattle.room_ace.specs.declared.failure.Failure.TheVariants.{OutOfMemory, Fault}
+use Rattle.room_entry.specs.Utf8.{is_utf8}
+use Rattle.room_entry.specs.Names.{is_name}
+use Rattle.room_entry.specs.declared.failure.Failure.{Failure}
+use Rattle.room_entry.specs.declared.failure.Failure.TheVariants.{OutOfMemory, Fault}
 use Rattle.room_import.specs.declared.fault.CsvFault.{CsvFault}
 use Rattle.room_import.specs.declared.fault.CsvWhy.TheVariants.{BadName}
 use Rattle.room_import.specs.declared.rows.NextRow.{NextRow}

@@ -2,8 +2,8 @@
 ghost use Rattle.std.specs.Prelude.{◌≡◌};
 ghost use Rattle.std.specs.Cmp.Lexicographic.{pointwise};
 ghost use Rattle.csv.specs.Records.{fields_of};
-ghost use Rattle.room_ace.specs.Gives.{Gives};
-ghost use Rattle.room_ace.specs.Pieces.{same_text};
+ghost use Rattle.room_entry.specs.Gives.{Gives};
+ghost use Rattle.room_entry.specs.Pieces.{same_text};
 ghost use Rattle.room_import.specs.Groups.{group_header, groups_in, pair_of};
 ghost use Rattle.room_import.specs.Rows.{ReadsNextRow, HeaderTaken, PairTaken, named};
 

@@ -13,7 +13,7 @@ ghost use Rattle.std.specs.Prelude.{
   unwrap_or,
 };
 ghost use Rattle.std.specs.Fmt.{signed_decimal};
-ghost use Rattle.room_ace.specs.Text.{mask_text};
+ghost use Rattle.room_entry.specs.Letters.{mask_text};
 ghost use Rattle.room_import.specs.Exports.{
   groups_text,
   pair_row,

@@ -2,8 +2,8 @@
 use Rattle.std.proofs.Common.{◌≡◌, ℕ, suc, ◌+◌, ◌<◌, ◌^◌, ◌-◌, Bool, true, false, cond, List, [], ◌∷◌, ◌++◌, length, map, filter, drop, get_or, Some, Result, Ok, Err, IfOk, IfErr, refl, sym, ap, subst, ◌∙◌, inl, inr, arith, add-one, drop-cons}
 use Rattle.std.proofs.lemmas.Bool.{cases_lt}
 use Rattle.std.proofs.lemmas.List.{append_assoc, append-nil, length-append}
-use Rattle.room_ace.specs.Ace.{Ace}
-use Rattle.room_ace.specs.declared.object.Which.{Which}
+use Rattle.room_entry.specs.Ace.{Ace}
+use Rattle.room_entry.specs.declared.object.Which.{Which}
 use Rattle.room_rows.specs.declared.keep.Keep.{Ghosts}
 use Rattle.room_rows.specs.declared.node.Node.{Node}
 use Rattle.room_rows.specs.Content.{Content, children_of, node_at, with_node}
@@ -154,7 +154,7 @@ module _ {S : Type 0} (k : Ghosts S) (laws : KeepLaws k.rows k.failures k.writes
         cause : (e : SpreadFault) → HasSpreadCause (k.failures b) (k.failures c) (λ at. k.IsTrusted b c × AreKnown d.which (renewals d.which above (child ∷ [])) (k.rows b).read → IsUnreadable (k.rows b) at) (k.IsTrusted b c × AreKnown d.which (renewals d.which above (child ∷ [])) (k.rows b).read → ⊥) e
             → HasSpreadCause (k.failures a) (k.failures c) (λ at. k.IsTrusted a c × Known a → IsUnreadable (k.rows a) at) (k.IsTrusted a c × Known a → ⊥) e
         cause (Keeper f) h = later_cause (k.failures a) (k.failures b) (k.failures c) f _ _ (laws.rise a b sofar.follows) (laws.rise b c one.follows)
-            (λ at damaged t. ap (λ (u : List ℕ). Rattle.room_ace.specs.Pieces.is_among u at) (sym (sofar.along (laws.first a b c sofar.follows one.follows t.0) t.1).storing.unreadable) ∙ damaged (trusted t)) h
+            (λ at damaged t. ap (λ (u : List ℕ). Rattle.room_entry.specs.Pieces.is_among u at) (sym (sofar.along (laws.first a b c sofar.follows one.follows t.0) t.1).storing.unreadable) ∙ damaged (trusted t)) h
         cause Loop h = λ t. h (trusted t)
 
   pub renewing_ends : (mid : List Node) (number : ℕ) (a b : S) → Renewing [] mid number a b → RenewsAll k a b d above all before mid (Ok number)

@@ -2,8 +2,8 @@
 use Rattle.std.proofs.Common.{◌≡◌, ℕ, suc, ◌+◌, ◌≤◌, false, List, [], ◌∷◌, ◌++◌, length, Some, None, Result, Ok, Err, IfOk, IfErr, sym, ap, subst, ◌∙◌, arith}
 use Rattle.std.proofs.lemmas.Bool.{false≢true, false_from_ne_true, eq-eqb}
 use Rattle.std.proofs.lemmas.List.{length-append}
-use Rattle.room_ace.specs.Ace.{Ace}
-use Rattle.room_ace.specs.declared.object.Which.{Which}
+use Rattle.room_entry.specs.Ace.{Ace}
+use Rattle.room_entry.specs.declared.object.Which.{Which}
 use Rattle.room_rows.specs.declared.keep.Keep.{Ghosts}
 use Rattle.room_rows.specs.declared.node.Node.{Node}
 use Rattle.room_rows.specs.Content.{Content, node_at, children_of, is_folder}

@@ -1,9 +1,9 @@
 -- The objects that wait, while a change of a list is carried down.
 use Rattle.std.proofs.Common.{◌≡◌, ℕ, ◌==◌, Bool, true, false, cond, not, ◌||◌, List, [], ◌∷◌, ◌++◌, map, Option, Some, refl, ap, ◌∙◌, ◌⊎◌}
 use Rattle.std.specs.Option.{option_map, option_map_or}
-use Rattle.room_ace.specs.Ace.{Ace}
-use Rattle.room_ace.specs.Valid.{is_document}
-use Rattle.room_ace.specs.declared.object.Which.{Which}
+use Rattle.room_entry.specs.Ace.{Ace}
+use Rattle.room_entry.specs.Valid.{is_document}
+use Rattle.room_entry.specs.declared.object.Which.{Which}
 use Rattle.room_rows.specs.declared.node.Node.{Node}
 use Rattle.room_rows.specs.Content.{Content, node_at, has_parent, is_folder}
 use Rattle.room_rows.specs.Finding.{find_id}

@@ -5,14 +5,14 @@ use Rattle.std.specs.List.{cons_option, list_all}
 use Rattle.std.specs.Option.{option_map, option_map_or}
 use Rattle.std.proofs.lemmas.Bool.{and_parts, and_from, cases_Bool, false≢true, false_from_ne_true, or_from, or_parts}
 use Rattle.std.proofs.lemmas.List.Folds.{list_all-append}
-use Rattle.room_ace.specs.Ace.{Ace}
-use Rattle.room_ace.specs.Valid.{entry_fault, is_document}
-use Rattle.room_ace.specs.declared.flags.EntryFlags.{EntryFlags}
-use Rattle.room_ace.specs.declared.object.ObjKind.{ObjKind}
-use Rattle.room_ace.specs.declared.object.ObjKind.TheVariants.{Document, Folder}
-use Rattle.room_ace.specs.declared.object.Which.{Which}
-use Rattle.room_ace.specs.declared.object.Which.TheVariants.{Dacl, Sacl}
-use Rattle.room_ace.proofs.Same.{entries_equal}
+use Rattle.room_entry.specs.Ace.{Ace}
+use Rattle.room_entry.specs.Valid.{entry_fault, is_document}
+use Rattle.room_entry.specs.declared.flags.EntryFlags.{EntryFlags}
+use Rattle.room_entry.specs.declared.object.ObjKind.{ObjKind}
+use Rattle.room_entry.specs.declared.object.ObjKind.TheVariants.{Document, Folder}
+use Rattle.room_entry.specs.declared.object.Which.{Which}
+use Rattle.room_entry.specs.declared.object.Which.TheVariants.{Dacl, Sacl}
+use Rattle.room_entry.proofs.Same.{entries_equal}
 use Rattle.room_rows.specs.HeldList.{Held}
 use Rattle.room_rows.specs.declared.node.Node.{Node}
 use Rattle.room_rows.specs.Content.{Content, has_folder_above, is_folder, is_linked_in, is_root, node_at, parent_of, reaches_root}

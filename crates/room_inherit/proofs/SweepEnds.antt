@@ -4,8 +4,8 @@ use Rattle.std.specs.Prelude.{is_none, option_and_then}
 use Rattle.std.specs.List.{find}
 use Rattle.std.specs.Option.{option_map, option_map_or}
 use Rattle.std.proofs.lemmas.Bool.{or_left, false≢true, eq-eqb, eqb-true}
-use Rattle.room_ace.specs.Ace.{Ace}
-use Rattle.room_ace.specs.declared.object.Which.{Which}
+use Rattle.room_entry.specs.Ace.{Ace}
+use Rattle.room_entry.specs.declared.object.Which.{Which}
 use Rattle.room_rows.specs.declared.node.Node.{Node}
 use Rattle.room_rows.specs.Content.{Content, node_at, root_of, has_folder_above, has_parent, is_folder, is_linked_in, is_rising, reaches_root}
 use Rattle.room_rows.specs.Held.{held_of, is_linked}

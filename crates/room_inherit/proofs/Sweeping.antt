@@ -2,10 +2,10 @@
 use Rattle.std.proofs.Common.{◌≡◌, ℕ, ◌+◌, ◌≤◌, ◌==◌, Bool, true, false, cond, not, ◌&&◌, ◌||◌, List, [], ◌∷◌, ◌++◌, map, filter, length, Option, Some, None, refl, sym, ap, ◌∙◌, inl, inr, ◌⊎◌, arith}
 use Rattle.std.specs.Option.{option_map, option_map_or}
 use Rattle.std.proofs.lemmas.Bool.{cases_Bool, and_from, and_parts, and_left, or_cases, or_parts, or_from, or_left, or_right, false≢true, eq-eqb, eqb-true, false_from_ne_true}
-use Rattle.room_ace.specs.Ace.{Ace}
-use Rattle.room_ace.specs.Same.{same_entries}
-use Rattle.room_ace.specs.Valid.{is_document}
-use Rattle.room_ace.specs.declared.object.Which.{Which}
+use Rattle.room_entry.specs.Ace.{Ace}
+use Rattle.room_entry.specs.Same.{same_entries}
+use Rattle.room_entry.specs.Valid.{is_document}
+use Rattle.room_entry.specs.declared.object.Which.{Which}
 use Rattle.room_rows.specs.declared.node.Node.{Node}
 use Rattle.room_rows.specs.Content.{Content, node_at, parent_of, has_parent, children_of, is_folder, is_linked_in, is_rising, with_each}
 use Rattle.room_rows.specs.Finding.{find_id}

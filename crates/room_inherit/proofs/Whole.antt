@@ -5,7 +5,7 @@ use Rattle.std.specs.List.{find, list_any, filter_map, cons_option}
 use Rattle.std.proofs.lemmas.Bool.{cases_Bool, false≢true, eqb-true, eq-eqb, or_left, or_right, or_from, cond-true, cond-false, false_from_ne_true}
 use Rattle.std.proofs.lemmas.List.{drop_more}
 use Rattle.std.proofs.lemmas.List.Recursion.{or_at}
-use Rattle.room_ace.specs.Pieces.{is_among}
+use Rattle.room_entry.specs.Pieces.{is_among}
 use Rattle.room_rows.specs.declared.node.Node.{Node}
 use Rattle.room_rows.specs.Content.{node_at}
 use Rattle.room_rows.specs.Rows.{Rows, AreRows, is_unreadable, numbers_of, put_number, put_numbers}

@@ -1,6 +1,6 @@
 -- Rows that are to hold the kept entries alone.
 use Rattle.std.specs.Prelude.{◌≡◌, ◌&&◌, Bool, List, None}
-use Rattle.room_ace.specs.declared.object.Which.TheVariants.{Dacl, Sacl}
+use Rattle.room_entry.specs.declared.object.Which.TheVariants.{Dacl, Sacl}
 use Rattle.room_rows.specs.Content.{Content, keeps_none_linked}
 use Rattle.room_rows.specs.Rows.{Rows}
 use Rattle.room_rows.specs.declared.node.Node.{Node}

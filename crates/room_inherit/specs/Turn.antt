@@ -2,11 +2,11 @@
 use Rattle.std.specs.Prelude.{◌≡◌, ℕ, ◌==◌, ◌&&◌, Bool, true, false, not, List, [], ◌∷◌, ◌++◌}
 use Rattle.std.specs.Prelude.{length, map, filter, Some, Result, if◌then◌else◌}
 use Rattle.std.specs.List.{list_any}
-use Rattle.room_ace.specs.Ace.{Ace}
-use Rattle.room_ace.specs.Same.{same_entries}
-use Rattle.room_ace.specs.declared.object.ObjKind.{ObjKind}
-use Rattle.room_ace.specs.declared.object.ObjKind.TheVariants.{Document, Folder}
-use Rattle.room_ace.specs.declared.object.Which.{Which}
+use Rattle.room_entry.specs.Ace.{Ace}
+use Rattle.room_entry.specs.Same.{same_entries}
+use Rattle.room_entry.specs.declared.object.ObjKind.{ObjKind}
+use Rattle.room_entry.specs.declared.object.ObjKind.TheVariants.{Document, Folder}
+use Rattle.room_entry.specs.declared.object.Which.{Which}
 use Rattle.room_rows.specs.declared.keep.Keep.{Ghosts}
 use Rattle.room_rows.specs.declared.node.Node.{Node}
 use Rattle.room_rows.specs.Content.{Content, node_at, children_of, has_parent, is_folder, put_node}

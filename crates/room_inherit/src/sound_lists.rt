@@ -1,7 +1,7 @@
 //! Whether the lists of an object are sound.
 ghost use Rattle.std.specs.Prelude.{◌≡◌, is_none, not};
 ghost use Rattle.std.specs.List.{list_all};
-ghost use Rattle.room_ace.specs.Valid.{entry_fault};
+ghost use Rattle.room_entry.specs.Valid.{entry_fault};
 ghost use Rattle.room_rows.specs.Sound.{has_sound_lists, is_sound_held};
 
 use room_ace::{Entry, ObjKind, Which, valid};

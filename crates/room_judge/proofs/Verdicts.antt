@@ -1,8 +1,8 @@
 -- What a verdict says of a check and of a deletion.
 use Rattle.std.proofs.Common.{◌≡◌, ℕ, Bool, cond, List, [], ◌∷◌, Option, refl, sym, ap, ◌∙◌, eq-eqb}
 use Rattle.std.specs.Prelude.{is_none, ◌&&◌}
-use Rattle.room_ace.specs.Rights.{delete, delete_child, write_data}
-use Rattle.room_ace.specs.declared.object.Which.TheVariants.{Dacl}
+use Rattle.room_entry.specs.Rights.{delete, delete_child, write_data}
+use Rattle.room_entry.specs.declared.object.Which.TheVariants.{Dacl}
 use Rattle.room_eval.specs.declared.outcome.Ruling.{Ruling}
 use Rattle.room_eval.specs.declared.outcome.Ruling.TheVariants.{Allowed, Denied, Silent}
 use Rattle.room_eval.specs.declared.outcome.Verdict.{Verdict}

@@ -1,6 +1,6 @@
 //! The deletion rule, with its records.
 ghost use Rattle.std.specs.Prelude.{◌≡◌, [], ◌∷◌, IfOk};
-ghost use Rattle.room_ace.specs.Rights.{delete};
+ghost use Rattle.room_entry.specs.Rights.{delete};
 ghost use Rattle.room_rows.specs.Keep.{IsNever};
 ghost use Rattle.room_machine.specs.Judge.{of_deletion, records_of_checks};
 ghost use Rattle.room_machine.specs.Plan.{Deletion};

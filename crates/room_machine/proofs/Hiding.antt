@@ -1,9 +1,9 @@
 -- What a denial on the way to an object hides.
 use Rattle.std.proofs.Common.{ℕ, zero, suc, ◌+◌, ◌≡◌, ◌⊎◌, inl, inr, Bool, true, false, cond, not, ◌&&◌, List, [], ◌∷◌, ◌++◌, length, length-append, take, Option, Some, None, refl, sym, ap, ◌∙◌, add-one, zero-add, arith}
-use Rattle.room_ace.specs.Ace.{Ace}
-use Rattle.room_ace.specs.Rights.{execute}
-use Rattle.room_ace.specs.declared.parties.Caller.{Caller}
-use Rattle.room_ace.specs.declared.object.Which.TheVariants.{Dacl}
+use Rattle.room_entry.specs.Ace.{Ace}
+use Rattle.room_entry.specs.Rights.{execute}
+use Rattle.room_entry.specs.declared.parties.Caller.{Caller}
+use Rattle.room_entry.specs.declared.object.Which.TheVariants.{Dacl}
 use Rattle.room_eval.specs.Verdict.{verdict}
 use Rattle.room_eval.specs.declared.outcome.Verdict.{Verdict}
 use Rattle.room_eval.specs.declared.outcome.Verdict.TheVariants.{Granted, Denied as DeniedWith}

@@ -2,12 +2,12 @@
 use Rattle.std.specs.Prelude.{ℕ, ℤ, ◌-◌, ◌&&◌, Bool, List, [], ◌∷◌, ◌++◌, map, Option, Some, None}
 use Rattle.std.specs.Prelude.{is_none, slice_get, if◌then◌else◌}
 use Rattle.std.specs.Option.{option_map_or}
-use Rattle.room_ace.specs.Rights.{delete, delete_child, write_data}
-use Rattle.room_ace.specs.Ace.{Ace}
-use Rattle.room_ace.specs.declared.entry.EntryKind.{EntryKind}
-use Rattle.room_ace.specs.declared.entry.EntryKind.TheVariants.{Audit, Alarm}
-use Rattle.room_ace.specs.declared.object.Which.TheVariants.{Dacl, Sacl}
-use Rattle.room_ace.specs.declared.parties.Caller.{Caller}
+use Rattle.room_entry.specs.Rights.{delete, delete_child, write_data}
+use Rattle.room_entry.specs.Ace.{Ace}
+use Rattle.room_entry.specs.declared.entry.EntryKind.{EntryKind}
+use Rattle.room_entry.specs.declared.entry.EntryKind.TheVariants.{Audit, Alarm}
+use Rattle.room_entry.specs.declared.object.Which.TheVariants.{Dacl, Sacl}
+use Rattle.room_entry.specs.declared.parties.Caller.{Caller}
 use Rattle.room_eval.specs.declared.outcome.Verdict.{Verdict}
 use Rattle.room_eval.specs.declared.outcome.Verdict.TheVariants.{Granted, Denied as DeniedWith}
 use Rattle.room_eval.specs.declared.deletion.DeleteVerdict.{DeleteVerdict}

@@ -11,7 +11,7 @@ use Rattle.room_machine.specs.declared.request.Request.TheVariants.{Move, ReadLi
 use Rattle.room_machine.specs.declared.request.Request.TheVariants.{ReadAttr, SetOwners, Can}
 use Rattle.room_machine.specs.declared.reply.Reply.{Reply}
 use Rattle.room_machine.specs.declared.reply.Reply.TheVariants.{Denied}
-use Rattle.room_ace.specs.Ace.{Ace}
+use Rattle.room_entry.specs.Ace.{Ace}
 use Rattle.room_machine.specs.Site.{sites_along, site_at}
 use Rattle.room_machine.specs.Plan.{way}
 use Rattle.room_machine.specs.Judge.{first_failure}

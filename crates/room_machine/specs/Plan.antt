@@ -4,11 +4,11 @@ use Rattle.std.specs.Prelude.{ℕ, ◌+◌, ◌==◌, ◌&&◌, Bool, true, fals
 use Rattle.std.specs.Prelude.{length, Option, Some, None, is_some, nat_lt, if◌then◌else◌, unwrap_or}
 use Rattle.std.specs.List.{list_any}
 use Rattle.std.specs.Option.{option_map_or}
-use Rattle.room_ace.specs.Rights.{read_data, write_data, append_data, execute, read_attributes}
-use Rattle.room_ace.specs.Rights.{read_acl, write_acl, write_owner}
-use Rattle.room_ace.specs.Valid.{first_bad_entry, is_document}
-use Rattle.room_ace.specs.declared.fault.EntryFault.{EntryFault}
-use Rattle.room_ace.specs.declared.limits.TheConstants.{MOST_BYTES}
+use Rattle.room_entry.specs.Rights.{read_data, write_data, append_data, execute, read_attributes}
+use Rattle.room_entry.specs.Rights.{read_acl, write_acl, write_owner}
+use Rattle.room_entry.specs.Valid.{first_bad_entry, is_document}
+use Rattle.room_entry.specs.declared.fault.EntryFault.{EntryFault}
+use Rattle.room_entry.specs.declared.limits.TheConstants.{MOST_BYTES}
 use Rattle.room_rows.specs.declared.node.Node.{Node}
 use Rattle.room_rows.specs.Content.{Content, is_empty, is_folder, children_of, child_of, body_of}
 use Rattle.room_machine.specs.declared.request.Request.{Request}

@@ -1,6 +1,6 @@
 -- Runs of the room machine.
 use Rattle.std.specs.Prelude.{◌≡◌, ℕ, ℤ, List, [], ◌∷◌, ◌++◌, Option}
-use Rattle.room_ace.specs.declared.object.Which.{Which}
+use Rattle.room_entry.specs.declared.object.Which.{Which}
 use Rattle.room_rows.specs.Content.{Content}
 use Rattle.room_ace.specs.Sent.{Sent}
 use Rattle.room_machine.specs.declared.request.Request.{Request}

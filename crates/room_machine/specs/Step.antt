@@ -1,8 +1,8 @@
 -- One step of the room machine.
 use Rattle.std.specs.Prelude.{◌≡◌, ℕ, ℤ, ◌<◌, Bool, true, false, List, [], filter, Option, Some}
 use Rattle.std.specs.Prelude.{None, is_none, IsTrue}
-use Rattle.room_ace.specs.declared.object.Which.{Which}
-use Rattle.room_ace.specs.declared.parties.Caller.{Caller}
+use Rattle.room_entry.specs.declared.object.Which.{Which}
+use Rattle.room_entry.specs.declared.parties.Caller.{Caller}
 use Rattle.room_rows.specs.Content.{Content, node_at, groups_for, with_records, with_members}
 use Rattle.room_rows.specs.declared.node.AuditRow.{AuditRow}
 use Rattle.room_ace.specs.Sent.{Sent}

@@ -6,8 +6,8 @@ use Rattle.std.specs.Str.{IsUtf8, IsValidUpTo}
 use Rattle.std.proofs.lemmas.Bool.{cases_Bool, and_parts, and_from, and_left, and_right, not_from_false, le-ltb, lt-ltb, leb-true, le-leb, eqb-true, ne_eqb, cond-true, cond-false}
 use Rattle.std.proofs.lemmas.List.Splits.{slice_split-cons_yes, slice_split-cons_no, length-slice_split}
 use Rattle.std.specs.List.{onto_first}
-use Rattle.room_ace.specs.Lists.{is_utf8}
-use Rattle.room_ace.specs.Pieces.{pieces, same_text}
+use Rattle.room_entry.specs.Utf8.{is_utf8}
+use Rattle.room_entry.specs.Pieces.{pieces, same_text}
 use Rattle.room_rows.specs.declared.fault.PathFault.TheVariants.{BadName, TooLong, NotUtf8}
 use Rattle.room_rows.specs.Paths.{is_object_name, is_path, is_name_byte, names_in, object_names, path_of, path_text}
 use Rattle.room_rows.proofs.Utf8.{passes_as_utf8, fails_as_utf8}

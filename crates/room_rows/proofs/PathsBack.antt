@@ -6,8 +6,8 @@ use Rattle.std.proofs.lemmas.Bool.{and_parts, ltb-true, leb-true, not-true, cond
 use Rattle.std.proofs.lemmas.List.{append-nil}
 use Rattle.std.proofs.lemmas.List.Splits.{slice_split-cons_yes, slice_split-cons_no}
 use Rattle.std.proofs.lemmas.Str.{IsUtf8-append, IsUtf8-from_ascii, IsUtf8-nil}
-use Rattle.room_ace.specs.Lists.{is_utf8}
-use Rattle.room_ace.specs.Pieces.{pieces, same_text}
+use Rattle.room_entry.specs.Utf8.{is_utf8}
+use Rattle.room_entry.specs.Pieces.{pieces, same_text}
 use Rattle.room_rows.specs.Laws.{PathReadsBack}
 use Rattle.room_rows.specs.Paths.{is_object_name, is_name_byte, object_names, path_text}
 use Rattle.room_rows.proofs.Cutting.{good_names, joined, slash_first, within}

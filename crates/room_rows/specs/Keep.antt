@@ -2,11 +2,11 @@
 use Rattle.std.specs.Prelude.{◌≡◌, ℕ, ◌+◌, ◌<◌, ◌≤◌, ◌^◌, ◌-◌, ◌⊎◌, min, map, Bool, not, List, []}
 use Rattle.std.specs.Prelude.{◌∷◌, false, Option, Some, None, Result, Ok, Err, IfOk, IfErr, IsTrue}
 use Rattle.std.specs.Prelude.{if◌then◌else◌}
-use Rattle.room_ace.specs.Ace.{Ace}
-use Rattle.room_ace.specs.Valid.{is_document}
-use Rattle.room_ace.specs.declared.object.ObjKind.{ObjKind}
-use Rattle.room_ace.specs.declared.object.Which.{Which}
-use Rattle.room_ace.specs.declared.parties.Owners.{Owners}
+use Rattle.room_entry.specs.Ace.{Ace}
+use Rattle.room_entry.specs.Valid.{is_document}
+use Rattle.room_entry.specs.declared.object.ObjKind.{ObjKind}
+use Rattle.room_entry.specs.declared.object.Which.{Which}
+use Rattle.room_entry.specs.declared.parties.Owners.{Owners}
 use Rattle.room_rows.specs.declared.keep.KeepFault.{KeepFault}
 use Rattle.room_rows.specs.declared.keep.KeepFault.TheVariants.{Memory, Store, Damaged}
 use Rattle.room_rows.specs.declared.node.AuditRow.{AuditRow}

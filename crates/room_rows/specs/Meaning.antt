@@ -1,6 +1,6 @@
 -- What rows mean.
 use Rattle.std.specs.Prelude.{Bool, [], map, if◌then◌else◌}
-use Rattle.room_ace.specs.declared.object.Which.TheVariants.{Dacl, Sacl}
+use Rattle.room_entry.specs.declared.object.Which.TheVariants.{Dacl, Sacl}
 use Rattle.room_rows.specs.HeldList.{Held}
 use Rattle.room_rows.specs.declared.node.Node.{Node}
 use Rattle.room_rows.specs.Content.{Content, is_linked_in}

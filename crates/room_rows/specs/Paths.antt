@@ -2,8 +2,8 @@
 use Rattle.std.specs.Prelude.{ℕ, ◌==◌, ◌&&◌, Bool, not, List, [], ◌∷◌, length, Result, Ok, Err}
 use Rattle.std.specs.Prelude.{if◌then◌else◌, nat_lt, nat_le, codes}
 use Rattle.std.specs.List.{list_all, flat_map}
-use Rattle.room_ace.specs.Pieces.{pieces, same_text}
-use Rattle.room_ace.specs.Lists.{is_utf8}
+use Rattle.room_entry.specs.Pieces.{pieces, same_text}
+use Rattle.room_entry.specs.Utf8.{is_utf8}
 use Rattle.room_rows.specs.declared.fault.PathFault.{PathFault}
 use Rattle.room_rows.specs.declared.fault.PathFault.TheVariants.{BadName, TooLong, NotUtf8}
 

@@ -2,7 +2,7 @@
 use Rattle.std.specs.Prelude.{◌≡◌, ℕ, Bool, List, [], ◌∷◌, map, is_none, if◌then◌else◌, nat_lt}
 use Rattle.std.specs.Prelude.{IsTrue}
 use Rattle.std.specs.List.{list_all}
-use Rattle.room_ace.specs.Pieces.{is_among}
+use Rattle.room_entry.specs.Pieces.{is_among}
 use Rattle.room_rows.specs.Content.{Content, node_at, is_rising, set_of}
 
 -- The objects as their rows say, with the inherited entries that are stored, and in rising order

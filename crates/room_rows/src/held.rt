@@ -2,7 +2,7 @@
 ghost use Rattle.std.specs.Prelude.{◌≡◌, [], IfOk};
 ghost use Rattle.room_rows.specs.Held.{full_of};
 
-use room_ace::{Entries, Entry, ListFlags};
+use room_entry::{Entries, Entry, ListFlags};
 use std::alloc::{AllocError, Global};
 use std::marker::Model;
 

@@ -36,7 +36,7 @@ use crate::held::Held;
 use crate::listing::Listing;
 use crate::node::{AuditRow, NewNode, Node, Nodes, Numbers};
 use crate::text::Bytes;
-use room_ace::{Entry, Name, Names, Owners, Which};
+use room_entry::{Entry, Name, Names, Owners, Which};
 use std::alloc::AllocError;
 use std::fmt;
 

@@ -2,7 +2,7 @@
 ghost use Rattle.std.specs.Prelude.{◌≡◌};
 
 use crate::text::Text;
-use room_ace::ObjKind;
+use room_entry::ObjKind;
 use std::marker::Model;
 
 /// The names and kinds of the children of a folder. A contract sees the list of pairs.
@@ -13,7 +13,7 @@ pub struct Listing {
 
 impl Model for Listing {
     ghost use Rattle.std.specs.Prelude.{List, ℕ};
-    ghost use Rattle.room_ace.specs.declared.object.ObjKind.{ObjKind};
+    ghost use Rattle.room_entry.specs.declared.object.ObjKind.{ObjKind};
 
     ghost Value = { List (List ℕ × ObjKind) };
 

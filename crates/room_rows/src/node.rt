@@ -1,12 +1,12 @@
 //! Objects as they are kept.
 ghost use Rattle.std.specs.Prelude.{◌≡◌, ◌==◌, [], ◌∷◌, ◌++◌, IfOk, OnOk, OnErr, length};
-ghost use Rattle.room_ace.specs.Valid.{is_document};
+ghost use Rattle.room_entry.specs.Valid.{is_document};
 ghost use Rattle.room_rows.specs.Held.{held_of, with_held};
 ghost use Rattle.room_rows.specs.Keep.{node_of};
 
 use crate::held::Held;
 use crate::text::{Bytes, Text};
-use room_ace::{Mask, Name, ObjKind, Owners, Which};
+use room_entry::{Mask, Name, ObjKind, Owners, Which};
 use std::alloc::{AllocError, Global};
 use std::marker::Model;
 

@@ -17,8 +17,8 @@ ghost use Rattle.std.specs.Prelude.{
   take,
 };
 ghost use Rattle.std.specs.List.{list_all};
-ghost use Rattle.room_ace.specs.Gives.{Gives};
-ghost use Rattle.room_ace.specs.Pieces.{pieces};
+ghost use Rattle.room_entry.specs.Gives.{Gives};
+ghost use Rattle.room_entry.specs.Pieces.{pieces};
 ghost use Rattle.room_rows.specs.Paths.{
   is_name_byte,
   is_object_name,
@@ -31,7 +31,7 @@ ghost use Rattle.room_rows.specs.Paths.{
 
 use crate::fault::PathFault;
 use crate::text::Text;
-use room_ace::Failure;
+use room_entry::Failure;
 use std::alloc::{AllocError, Global};
 use std::marker::Model;
 

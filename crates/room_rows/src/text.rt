@@ -1,6 +1,6 @@
 //! Texts and bytes that contracts see as lists.
 ghost use Rattle.std.specs.Prelude.{◌≡◌, ◌==◌, [], IfOk, IsTrue, length, string_bytes};
-ghost use Rattle.room_ace.specs.Lists.{is_utf8};
+ghost use Rattle.room_entry.specs.Utf8.{is_utf8};
 
 use std::alloc::{AllocError, Global};
 use std::marker::Model;

@@ -8,7 +8,7 @@ use Rattle.room_rows.specs.Rows.{Rows}
 use Rattle.room_rows.specs.Sound.{AreSound}
 use Rattle.sqlite.specs.Effect.{Database}
 use Rattle.room_ace.specs.Sent.{Sent}
-use Rattle.room_ace.specs.declared.object.Which.{Which}
+use Rattle.room_entry.specs.declared.object.Which.{Which}
 use Rattle.store_tables.specs.Shown.{HasTables}
 use Rattle.room_judge.specs.Judged.{Performs, Resets}
 use Rattle.room_machine.specs.declared.reply.Reply.{Reply}

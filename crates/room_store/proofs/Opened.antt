@@ -1,8 +1,8 @@
 -- A store over a new room, and over one that is there.
 use Rattle.std.proofs.Common.{Ok, Err, Result, refl, sym, ap, subst}
 use Rattle.sqlite.specs.State.{State}
-use Rattle.room_ace.specs.Bits.{all_bits}
-use Rattle.room_ace.specs.declared.parties.Owners.{Owners}
+use Rattle.room_entry.specs.Bits.{all_bits}
+use Rattle.room_entry.specs.declared.parties.Owners.{Owners}
 use Rattle.room_rows.specs.Meaning.{meaning}
 use Rattle.room_rows.specs.Sound.{AreSound}
 use Rattle.store_tables.specs.Shown.{tables_of}

@@ -1,7 +1,7 @@
 -- What opening a store is.
 use Rattle.std.specs.Prelude.{[], Result, OnOk}
 use Rattle.sqlite.specs.State.{State, HasCleanDisk}
-use Rattle.room_ace.specs.declared.parties.Owners.{Owners}
+use Rattle.room_entry.specs.declared.parties.Owners.{Owners}
 use Rattle.room_rows.specs.Meaning.{meaning}
 use Rattle.store_schema.specs.Making.{Founds}
 use Rattle.store_schema.specs.NewRoom.{new_room}

@@ -11,7 +11,7 @@ use Rattle.std.proofs.lemmas.Bool.{cases_Bool, false≢true, true≢false, and_p
 use Rattle.std.proofs.lemmas.Cmp.{nat_list_cmp_total, on_total, then_total}
 use Rattle.std.proofs.lemmas.Map.Text.{is_eq-slice_cmp}
 use Rattle.std.proofs.lemmas.List.{take-append-drop, drop_all, get_or_default}
-use Rattle.room_ace.specs.Pieces.{same_text}
+use Rattle.room_entry.specs.Pieces.{same_text}
 use Rattle.room_rows.specs.Content.{is_before, is_pair_before, put_pair, set_of}
 use Rattle.room_tree.specs.Pairs.{pair_cmp, is_same_pair}
 use Rattle.room_tree.proofs.Listed.{same_bytes}

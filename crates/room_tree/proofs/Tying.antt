@@ -9,8 +9,8 @@ use Rattle.std.specs.Option.{IsSome, SomeIff, MatchOption, option_map, option_ma
 use Rattle.std.specs.Ordering.{nat_cmp, is_eq, is_lt}
 use Rattle.std.proofs.lemmas.Bool.{cases_Bool, cases_lt, false≢true, true≢false, and_parts, and_from, eqb-true, eqb-false, eq-eqb, lt-ltb, cond-true, cond-false, false_from_ne_true}
 use Rattle.std.proofs.lemmas.Map.Keys.{ge_from_not_lt}
-use Rattle.room_ace.specs.Pieces.{same_text}
-use Rattle.room_ace.specs.declared.object.ObjKind.{ObjKind}
+use Rattle.room_entry.specs.Pieces.{same_text}
+use Rattle.room_entry.specs.declared.object.ObjKind.{ObjKind}
 use Rattle.room_rows.specs.declared.node.Node.{Node}
 use Rattle.room_rows.specs.Content.{put_node, is_rising, has_parent, sorted_by_name}
 use Rattle.room_rows.specs.Finding.{find_id, find_named}

@@ -5,9 +5,9 @@ use Rattle.std.specs.List.{list_all}
 use Rattle.std.specs.List.Sorted.{IsStrictlySortedBy}
 use Rattle.std.specs.Map.{keys_of, lookup, values_of}
 use Rattle.std.specs.Option.{option_map, option_map_or}
-use Rattle.room_ace.specs.Valid.{is_document}
+use Rattle.room_entry.specs.Valid.{is_document}
 use Rattle.std.specs.Ordering.{is_eq, nat_cmp}
-use Rattle.room_ace.specs.declared.object.ObjKind.{ObjKind}
+use Rattle.room_entry.specs.declared.object.ObjKind.{ObjKind}
 use Rattle.room_rows.specs.declared.node.Node.{Node}
 use Rattle.room_rows.specs.Content.{is_rising}
 use Rattle.room_rows.specs.Finding.{find_id}

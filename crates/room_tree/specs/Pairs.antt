@@ -3,7 +3,7 @@ use Rattle.std.specs.Prelude.{ℕ, ◌&&◌, Bool, List}
 use Rattle.std.specs.Cmp.Lexicographic.{slice_cmp}
 use Rattle.std.specs.Ordering.{nat_cmp, ordering_then}
 use Rattle.std.specs.declared.cmp.Ordering.{Ordering}
-use Rattle.room_ace.specs.Pieces.{same_text}
+use Rattle.room_entry.specs.Pieces.{same_text}
 
 -- by group, then by user
 abbrev pub pair_cmp : List ℕ × List ℕ → List ℕ × List ℕ → Ordering

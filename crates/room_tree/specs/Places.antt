@@ -4,7 +4,7 @@ use Rattle.std.specs.Prelude.{if◌then◌else◌, String, string_bytes}
 use Rattle.std.specs.List.{find, cons_option}
 use Rattle.std.specs.Map.{lookup}
 use Rattle.std.specs.Option.{option_map_or}
-use Rattle.room_ace.specs.Pieces.{same_text}
+use Rattle.room_entry.specs.Pieces.{same_text}
 use Rattle.room_rows.specs.declared.node.Node.{Node}
 use Rattle.room_rows.specs.Content.{has_parent}
 

@@ -1,9 +1,9 @@
 //! The bytes of documents.
 ghost use Rattle.std.specs.Prelude.{◌≡◌, [], IfOk, OnOk, OnErr, filter, not, ◌==◌, if◌then◌else◌};
-ghost use Rattle.room_ace.specs.Valid.{is_document};
+ghost use Rattle.room_entry.specs.Valid.{is_document};
 ghost use Rattle.room_rows.specs.Content.{body_in, put_body};
 
-use room_ace::ObjKind;
+use room_entry::ObjKind;
 use room_rows::Bytes;
 use std::alloc::{AllocError, Global};
 use std::collections::BTreeMap;

@@ -32,8 +32,8 @@ ghost use Rattle.std.specs.Prelude.{
 ghost use Rattle.std.specs.BTreeMap.{IsOrdered, insert_entry};
 ghost use Rattle.std.specs.Ordering.{nat_cmp};
 ghost use Rattle.std.specs.Option.{option_copied, option_map, option_map_or, option_to_list};
-ghost use Rattle.room_ace.specs.Valid.{is_document};
-ghost use Rattle.room_ace.specs.Pieces.{same_text};
+ghost use Rattle.room_entry.specs.Valid.{is_document};
+ghost use Rattle.room_entry.specs.Pieces.{same_text};
 ghost use Rattle.room_rows.specs.Content.{has_parent, is_empty, put_node, sorted_by_name};
 ghost use Rattle.room_rows.specs.Finding.{find_id, find_named, first_root};
 ghost use Rattle.room_tree.specs.Objects.{
@@ -46,7 +46,7 @@ ghost use Rattle.room_tree.specs.Objects.{
 ghost use Rattle.room_tree.specs.Places.{standing, text_place};
 
 use crate::places::{Place, Places, place_at};
-use room_ace::ObjKind;
+use room_entry::ObjKind;
 use room_rows::{Listing, Node, Nodes, Numbers, Text};
 use std::alloc::{AllocError, Global};
 use std::collections::BTreeMap;

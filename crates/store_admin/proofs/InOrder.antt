@@ -36,8 +36,8 @@ use Rattle.sqlite_trees.specs.View.{is_int}
 use Rattle.sqlite_value.specs.Keys.{first_key, plain}
 use Rattle.sqlite_value.specs.declared.keys.Collation.TheVariants.{Binary}
 use Rattle.sqlite_value.proofs.OrderLemmas.{then-Equal, value_cmp-Text, value_cmp_total}
-use Rattle.room_ace.specs.Lists.{is_utf8}
-use Rattle.room_ace.specs.Names.{is_name}
+use Rattle.room_entry.specs.Utf8.{is_utf8}
+use Rattle.room_entry.specs.Names.{is_name}
 use Rattle.store_tables.specs.Meaning.{name_in, name_of_text, pair_in}
 use Rattle.store_tables.specs.Paired.{Pair, pair_cmp}
 use Rattle.store_tables.specs.Shown.{IsRoom}

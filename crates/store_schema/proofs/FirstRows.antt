@@ -24,9 +24,9 @@ use Rattle.sqlite_tied.specs.Compute.{everything}
 use Rattle.sqlite_trees.specs.View.{IsShaped}
 use Rattle.sqlite_trees.specs.declared.store.Shape.TheVariants as Shape
 use Rattle.std.proofs.Common.{cond}
-use Rattle.room_ace.specs.Names.{is_name}
-use Rattle.room_ace.specs.Lists.{is_utf8}
-use Rattle.room_ace.specs.declared.parties.Owners.{Owners}
+use Rattle.room_entry.specs.Names.{is_name}
+use Rattle.room_entry.specs.Utf8.{is_utf8}
+use Rattle.room_entry.specs.declared.parties.Owners.{Owners}
 use Rattle.store_tables.specs.Tables.{meta, nodes, room_schema}
 use Rattle.store_schema.specs.Making.{HasEmpty, IsBare}
 use Rattle.store_schema.specs.NewRoom.{IsNewRoom, is_version, number_shown}

@@ -4,7 +4,7 @@ use Rattle.sqlite_trees.specs.View.{doubt}
 use Rattle.sqlite.specs.declared.error.Error.{Error}
 use Rattle.sqlite.specs.State.{State, HasCleanDisk, Shows, IsRolledBack, KeepsCounts}
 use Rattle.sqlite.specs.Steps.{FailsToCommit}
-use Rattle.room_ace.specs.declared.parties.Owners.{Owners}
+use Rattle.room_entry.specs.declared.parties.Owners.{Owners}
 use Rattle.store_tables.specs.Tables.{no_schema}
 use Rattle.store_schema.specs.declared.fault.CreateFault.{CreateFault}
 use Rattle.store_schema.specs.declared.fault.CreateFault.TheVariants.{Db}

@@ -2,18 +2,18 @@
 use Rattle.std.proofs.Common.{◌≡◌, ℕ, pos, List, [], ◌∷◌, ◌++◌, codes, Some, None, refl, ap, ◌∙◌, true}
 use Rattle.std.specs.Prelude.{IsTrue, false, Option, option_map, option_and_then, is_none, if◌then◌else◌}
 use Rattle.std.specs.List.{filter_map, cons_option}
-use Rattle.room_ace.specs.Ace.{Ace}
-use Rattle.room_ace.specs.declared.object.ObjKind.TheVariants.{Folder}
+use Rattle.room_entry.specs.Ace.{Ace}
+use Rattle.room_entry.specs.declared.object.ObjKind.TheVariants.{Folder}
 use Rattle.room_rows.specs.HeldList.{Held}
 use Rattle.room_rows.specs.declared.node.Node.{Node}
 use Rattle.room_rows.specs.declared.node.AuditRow.{AuditRow}
 use Rattle.room_rows.specs.Rows.{Rows}
 use Rattle.sqlite.specs.Effect.{Database}
-use Rattle.room_ace.specs.Bits.{all_bits}
+use Rattle.room_entry.specs.Bits.{all_bits}
 use Rattle.room_ace.specs.Column.{entries_of}
-use Rattle.room_ace.specs.Names.{is_name}
-use Rattle.room_ace.specs.Lists.{is_utf8}
-use Rattle.room_ace.specs.declared.parties.Owners.{Owners}
+use Rattle.room_entry.specs.Names.{is_name}
+use Rattle.room_entry.specs.Utf8.{is_utf8}
+use Rattle.room_entry.specs.declared.parties.Owners.{Owners}
 use Rattle.sqlite.specs.declared.types.Value.TheVariants.{Null, Int, Text}
 use Rattle.sqlite.specs.Order.{Row}
 use Rattle.store_tables.specs.Meaning.{audit_in, bodies_of, name_in, name_of_text, node_in, nodes_of, pairs_of, rows_of, unread_of}
@@ -24,7 +24,7 @@ abbrev pub owner_line : List ℕ
 owner_line = codes "A:fd:OWNER@:rwanNxDtThHdcCoy" ++ 10 ∷ []
 
 pub owner_line_is : entries_of owner_line ≡ Some (owner_entry ∷ [])
-unfolding all_bits Rattle.room_ace.specs.Text.mask_letters
+unfolding all_bits Rattle.room_entry.specs.Letters.mask_letters
 owner_line_is = refl
 
 pub no_line_is : entries_of [] ≡ Some []

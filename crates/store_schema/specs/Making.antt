@@ -13,7 +13,7 @@ use Rattle.store_tables.specs.Tables.{no_schema, room_schema}
 use Rattle.store_schema.specs.NewRoom.{IsNewRoom, meta_of}
 use Rattle.store_schema.specs.declared.fault.CreateFault.{CreateFault}
 use Rattle.store_schema.specs.declared.fault.CreateFault.TheVariants.{Memory, Db}
-use Rattle.room_ace.specs.declared.parties.Owners.{Owners}
+use Rattle.room_entry.specs.declared.parties.Owners.{Owners}
 
 -- the tables are these, and those of these trees have no row
 pub record HasEmpty (schema : Schema) (trees : List ℕ) (db : Database) : Type 0 where

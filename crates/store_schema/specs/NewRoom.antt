@@ -2,12 +2,12 @@
 use Rattle.std.specs.Prelude.{◌≡◌, ℤ, pos, Bool, true, false, List, [], ◌∷◌, Option, Some, None}
 use Rattle.std.specs.Prelude.{filter, map, codes}
 use Rattle.std.specs.Ordering.{is_eq}
-use Rattle.room_ace.specs.Ace.{Ace}
-use Rattle.room_ace.specs.Bits.{all_bits}
-use Rattle.room_ace.specs.declared.entry.EntryKind.TheVariants.{Allow}
-use Rattle.room_ace.specs.declared.entry.Who.TheVariants.{Owner}
-use Rattle.room_ace.specs.declared.object.ObjKind.TheVariants.{Folder}
-use Rattle.room_ace.specs.declared.parties.Owners.{Owners}
+use Rattle.room_entry.specs.Ace.{Ace}
+use Rattle.room_entry.specs.Bits.{all_bits}
+use Rattle.room_entry.specs.declared.entry.EntryKind.TheVariants.{Allow}
+use Rattle.room_entry.specs.declared.entry.Who.TheVariants.{Owner}
+use Rattle.room_entry.specs.declared.object.ObjKind.TheVariants.{Folder}
+use Rattle.room_entry.specs.declared.parties.Owners.{Owners}
 use Rattle.room_rows.specs.Sound.{AreSound}
 use Rattle.room_rows.specs.HeldList.{Held}
 use Rattle.room_rows.specs.declared.node.Node.{Node}

@@ -16,9 +16,9 @@ use Rattle.sqlite.specs.Order.{Row, column, value_cmp}
 use Rattle.sqlite_keyed.specs.Lists.{insert_sorted, sort_by}
 use Rattle.sqlite_trees.specs.Tree.{IsAscending}
 use Rattle.sqlite_value.proofs.OrderLemmas.{value_cmp-Null, value_cmp-Text, value_cmp-apart, value_cmp_total}
-use Rattle.room_ace.specs.Lists.{is_utf8}
-use Rattle.room_ace.specs.Names.{is_name}
-use Rattle.room_ace.specs.Pieces.{same_text}
+use Rattle.room_entry.specs.Utf8.{is_utf8}
+use Rattle.room_entry.specs.Names.{is_name}
+use Rattle.room_entry.specs.Pieces.{same_text}
 use Rattle.room_rows.specs.Content.{put_pair, set_of}
 use Rattle.room_rows.specs.Keep.{AreGroupsOf}
 use Rattle.store_tables.specs.Meaning.{name_in, name_of_text, pair_in, rows_of}

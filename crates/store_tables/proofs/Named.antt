@@ -16,8 +16,8 @@ use Rattle.sqlite.specs.Effect.{Database}
 use Rattle.sqlite.proofs.Callers.{one_permutation}
 use Rattle.sqlite_rules.specs.Lists.{Has}
 use Rattle.sqlite_value.proofs.OrderLemmas.{value_cmp-Null, value_cmp-Text, value_cmp-Int}
-use Rattle.room_ace.specs.Lists.{is_utf8}
-use Rattle.room_ace.specs.Pieces.{same_text}
+use Rattle.room_entry.specs.Utf8.{is_utf8}
+use Rattle.room_entry.specs.Pieces.{same_text}
 use Rattle.room_rows.specs.declared.node.Node.{Node}
 use Rattle.room_rows.specs.Content.{has_parent}
 use Rattle.room_rows.specs.Keep.{IsChildOf, IsUnreadable}

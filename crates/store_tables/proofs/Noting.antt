@@ -6,8 +6,8 @@ use Rattle.std.proofs.lemmas.Bool.{cond-true}
 use Rattle.std.proofs.lemmas.List.Elements.{filter_map-append}
 use Rattle.sqlite.specs.declared.types.Value.TheVariants.{Int, Text}
 use Rattle.sqlite.specs.Effect.{Database}
-use Rattle.room_ace.specs.Bits.{bits_of, number_of}
-use Rattle.room_ace.specs.Names.{is_name}
+use Rattle.room_entry.specs.Bits.{bits_of, number_of}
+use Rattle.room_entry.specs.Names.{is_name}
 use Rattle.room_rows.specs.declared.node.AuditRow.{AuditRow}
 use Rattle.store_tables.specs.declared.columns.Record.{Record}
 use Rattle.store_tables.specs.Columns.{Recalls, record_values}

@@ -15,7 +15,7 @@ use Rattle.sqlite.specs.Order.{Row, value_cmp}
 use Rattle.sqlite.specs.Tree.{rowid, has_rowid, IsTable}
 use Rattle.sqlite_trees.proofs.TreeLemmas.{later_rowids}
 use Rattle.sqlite_value.proofs.OrderLemmas.{value_cmp-Int, value_cmp_total}
-use Rattle.room_ace.specs.Pieces.{is_among}
+use Rattle.room_entry.specs.Pieces.{is_among}
 use Rattle.room_rows.specs.Content.{is_rising}
 use Rattle.room_rows.proofs.Lookups.{find_yes, find_no, each-weaker}
 

@@ -3,15 +3,15 @@ use Rattle.std.specs.Prelude.{ℕ, zero, suc, ℤ, pos, negsuc, ◌+◌, ◌||�
 use Rattle.std.specs.Prelude.{List, [], ◌∷◌, Option, Some, None, Result, Ok, Err, option_map}
 use Rattle.std.specs.Prelude.{option_and_then, is_none, nat_lt, if◌then◌else◌, map}
 use Rattle.std.specs.List.{filter_map}
-use Rattle.room_ace.specs.Ace.{Ace}
+use Rattle.room_entry.specs.Ace.{Ace}
 use Rattle.room_ace.specs.Column.{entries_of}
-use Rattle.room_ace.specs.Bits.{bits_of, number_of}
-use Rattle.room_ace.specs.Names.{is_name}
-use Rattle.room_ace.specs.Lists.{is_utf8}
-use Rattle.room_ace.specs.declared.flags.ListFlags.{ListFlags}
-use Rattle.room_ace.specs.declared.object.ObjKind.{ObjKind}
-use Rattle.room_ace.specs.declared.object.ObjKind.TheVariants.{Document, Folder}
-use Rattle.room_ace.specs.declared.parties.Owners.{Owners}
+use Rattle.room_entry.specs.Bits.{bits_of, number_of}
+use Rattle.room_entry.specs.Names.{is_name}
+use Rattle.room_entry.specs.Utf8.{is_utf8}
+use Rattle.room_entry.specs.declared.flags.ListFlags.{ListFlags}
+use Rattle.room_entry.specs.declared.object.ObjKind.{ObjKind}
+use Rattle.room_entry.specs.declared.object.ObjKind.TheVariants.{Document, Folder}
+use Rattle.room_entry.specs.declared.parties.Owners.{Owners}
 use Rattle.room_rows.specs.HeldList.{Held}
 use Rattle.room_rows.specs.declared.node.Node.{Node}
 use Rattle.room_rows.specs.declared.node.AuditRow.{AuditRow}

@@ -25,7 +25,7 @@ use Rattle.sqlite_rules.specs.Lists.{Has}
 use Rattle.sqlite_rules.proofs.ListLemmas.{some_has}
 use Rattle.sqlite_rules.proofs.RuleLemmas.{keeps_at}
 use Rattle.sqlite_tied.specs.Compute.{everything}
-use Rattle.room_ace.specs.Pieces.{is_among}
+use Rattle.room_entry.specs.Pieces.{is_among}
 use Rattle.room_rows.specs.declared.node.Node.{Node}
 use Rattle.room_rows.specs.Content.{node_at, set_of}
 use Rattle.room_rows.specs.Rows.{AreRows, numbers_of, put_number, put_numbers}

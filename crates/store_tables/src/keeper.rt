@@ -7,7 +7,7 @@ ghost use Rattle.room_rows.specs.Held.{with_held};
 ghost use Rattle.room_rows.specs.Keep.{capped, with_inh, with_owners, with_place, writes_after};
 ghost use Rattle.store_tables.specs.Meaning.{rows_of};
 ghost use Rattle.store_tables.specs.Columns.{IsInserted};
-ghost use Rattle.room_ace.specs.Valid.{is_document};
+ghost use Rattle.room_entry.specs.Valid.{is_document};
 ghost use Rattle.store_tables.specs.Shown.{GetsBytes, Stays};
 ghost use Rattle.store_tables.specs.Trust.{Alters, HasNoted, IsTrusted, Puts};
 ghost use Rattle.store_tables.specs.Trust.{stays_itself};

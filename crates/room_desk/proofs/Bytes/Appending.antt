@@ -3,7 +3,7 @@ use Rattle.std.proofs.Common.{◌≡◌, ℕ, ◌+◌, ◌==◌, Bool, true, fal
 use Rattle.std.specs.Prelude.{unwrap_or, nat_lt, nat_le}
 use Rattle.std.proofs.lemmas.Bool.{eqb-true, ltb-false, le-leb}
 use Rattle.std.proofs.lemmas.List.{append-nil}
-use Rattle.room_ace.specs.Rights.{append_data}
+use Rattle.room_entry.specs.Rights.{append_data}
 use Rattle.room_rows.specs.declared.node.Node.{Node}
 use Rattle.room_rows.specs.Content.{node_at, body_of, with_body}
 use Rattle.room_rows.specs.Keep.{IsDamaged, SetsBody, reading}

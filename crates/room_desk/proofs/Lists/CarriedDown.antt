@@ -1,6 +1,6 @@
 -- What carrying down answers, as a call of a request.
 use Rattle.std.proofs.Common.{◌≡◌, ℕ, Ok, Err, refl, sym, subst, inl, inr}
-use Rattle.room_ace.specs.declared.object.Which.{Which}
+use Rattle.room_entry.specs.declared.object.Which.{Which}
 use Rattle.room_rows.specs.declared.keep.KeepFault.{KeepFault}
 use Rattle.room_rows.specs.Keep.{IsUnreadable}
 use Rattle.room_rows.specs.Rows.{Rows}

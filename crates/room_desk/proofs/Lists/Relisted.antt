@@ -5,8 +5,8 @@ use Rattle.std.specs.List.{list_all, list_any}
 use Rattle.std.specs.Option.{option_map, option_map_or}
 use Rattle.std.proofs.lemmas.Bool.{and_parts, and_from}
 use Rattle.std.proofs.lemmas.List.{length-map}
-use Rattle.room_ace.specs.declared.object.Which.{Which}
-use Rattle.room_ace.specs.declared.object.Which.TheVariants.{Dacl, Sacl}
+use Rattle.room_entry.specs.declared.object.Which.{Which}
+use Rattle.room_entry.specs.declared.object.Which.TheVariants.{Dacl, Sacl}
 use Rattle.room_rows.specs.HeldList.{Held}
 use Rattle.room_rows.specs.declared.node.Node.{Node}
 use Rattle.room_rows.specs.Content.{Content, node_at, parent_of, is_root, is_folder, has_folder_above, reaches_root, is_linked_in, with_each}
@@ -130,7 +130,7 @@ module _ (which : Which) (lists : Node → Held) where
     parent_relisted node = ap (Rattle.std.specs.Prelude.option_and_then (node_at relisted)) (parent_kept node) ∙ parent_of-with_each rows relist places_kept node
 
     folder_kept : (node : Node) → is_folder (relist node) ≡ is_folder node
-    folder_kept node = ap (λ k. not (Rattle.room_ace.specs.Valid.is_document k)) (kind_kept node)
+    folder_kept node = ap (λ k. not (Rattle.room_entry.specs.Valid.is_document k)) (kind_kept node)
 
     root_kept : (node : Node) → is_root (relist node) ≡ is_root node
     root_kept node = ap is_none (parent_kept node)
@@ -159,7 +159,7 @@ module _ (which : Which) (lists : Node → Held) where
     reach_kept node = ap (λ n. reaches_root n relisted (relist node).parent) (length-map rows.nodes relist) ∙ ap (reaches_root (length rows.nodes) relisted) (parent_kept node) ∙ reaches_kept (length rows.nodes) node.parent
 
     abbrev placed : Option ℕ → List ℕ → ℕ → Node → Bool
-    placed parent name id node = nat_lt node.id id && (Rattle.room_rows.specs.Content.same_parent node.parent parent && Rattle.room_ace.specs.Pieces.same_text node.name name)
+    placed parent name id node = nat_lt node.id id && (Rattle.room_rows.specs.Content.same_parent node.parent parent && Rattle.room_entry.specs.Pieces.same_text node.name name)
 
     sound_name_kept : (node : Node) → has_sound_name relisted (relist node) ≡ has_sound_name rows node
     sound_name_kept node =
@@ -171,9 +171,9 @@ module _ (which : Which) (lists : Node → Held) where
       where
         one : (x : Node) → placed node.parent node.name node.id (relist x) ≡ placed node.parent node.name node.id x
         one x =
-            ap (λ n. nat_lt n node.id && (Rattle.room_rows.specs.Content.same_parent (relist x).parent node.parent && Rattle.room_ace.specs.Pieces.same_text (relist x).name node.name)) (number_kept x)
-            ∙ ap (λ o. nat_lt x.id node.id && (Rattle.room_rows.specs.Content.same_parent o node.parent && Rattle.room_ace.specs.Pieces.same_text (relist x).name node.name)) (parent_kept x)
-            ∙ ap (λ s. nat_lt x.id node.id && (Rattle.room_rows.specs.Content.same_parent x.parent node.parent && Rattle.room_ace.specs.Pieces.same_text s node.name)) (name_kept x)
+            ap (λ n. nat_lt n node.id && (Rattle.room_rows.specs.Content.same_parent (relist x).parent node.parent && Rattle.room_entry.specs.Pieces.same_text (relist x).name node.name)) (number_kept x)
+            ∙ ap (λ o. nat_lt x.id node.id && (Rattle.room_rows.specs.Content.same_parent o node.parent && Rattle.room_entry.specs.Pieces.same_text (relist x).name node.name)) (parent_kept x)
+            ∙ ap (λ s. nat_lt x.id node.id && (Rattle.room_rows.specs.Content.same_parent x.parent node.parent && Rattle.room_entry.specs.Pieces.same_text s node.name)) (name_kept x)
 
     body_kept : (node : Node) → has_sound_body relisted (relist node) ≡ has_sound_body rows node
     body_kept node = ap (λ k. Rattle.room_rows.specs.Sound.fits_kind k (Rattle.room_rows.specs.Content.body_of rows (relist node).id)) (kind_kept node) ∙ ap (λ n. Rattle.room_rows.specs.Sound.fits_kind node.kind (Rattle.room_rows.specs.Content.body_of rows n)) (number_kept node)
@@ -189,8 +189,8 @@ module _ (which : Which) (lists : Node → Held) where
         ∙ ap (λ h. agreed (held_of (other which) node) h (relist node).kind) (other_kept above)
         ∙ ap (λ k. agreed (held_of (other which) node) (held_of (other which) above) k) (kind_kept node)
       where
-        agreed : Held → Held → Rattle.room_ace.specs.declared.object.ObjKind.ObjKind → Bool
-        agreed held up kind = not (is_linked held (Some up)) || Rattle.room_ace.specs.Same.same_entries held.inh (Rattle.room_rows.specs.Pass.pass kind (Rattle.room_rows.specs.Held.full_of up))
+        agreed : Held → Held → Rattle.room_entry.specs.declared.object.ObjKind.ObjKind → Bool
+        agreed held up kind = not (is_linked held (Some up)) || Rattle.room_entry.specs.Same.same_entries held.inh (Rattle.room_rows.specs.Pass.pass kind (Rattle.room_rows.specs.Held.full_of up))
 
     other_agrees : (node : Node) → agrees relisted (other which) (relist node) ≡ agrees rows (other which) node
     other_agrees node = ap (λ o. option_map_or (agrees_with (other which) (relist node)) o true) (parent_relisted node) ∙ on (parent_of rows node)

@@ -1,7 +1,7 @@
 -- The way of a reset: what is refused, by where the walk comes to.
 use Rattle.std.proofs.Common.{◌≡◌, ℕ, zero, suc, ◌-◌, ◌&&◌, true, false, cond, not, List, [], ◌∷◌, ◌++◌, filter, length, take, Option, Some, None, refl, sym, ap, ◌∙◌, append_assoc, arith, length-append}
 use Rattle.std.specs.Option.{option_map_or}
-use Rattle.room_ace.specs.declared.parties.Caller.{Caller}
+use Rattle.room_entry.specs.declared.parties.Caller.{Caller}
 use Rattle.room_rows.specs.declared.node.Node.{Node}
 use Rattle.room_rows.specs.declared.node.Walk.{Walk}
 use Rattle.room_rows.specs.Content.{Content, child_of, is_empty, is_folder}
@@ -16,8 +16,8 @@ use Rattle.room_machine.specs.Step.{is_refusal}
 use Rattle.room_judge.specs.Stored.{stored_from, stored_site}
 use Rattle.std.proofs.Math.Seq.{take-append_seam}
 use Rattle.std.proofs.lemmas.List.{append-nil}
-use Rattle.room_ace.specs.declared.object.ObjKind.{ObjKind}
-use Rattle.room_ace.specs.declared.object.ObjKind.TheVariants.{Document, Folder}
+use Rattle.room_entry.specs.declared.object.ObjKind.{ObjKind}
+use Rattle.room_entry.specs.declared.object.ObjKind.TheVariants.{Document, Folder}
 use Rattle.room_rows.specs.Content.{node_at}
 use Rattle.room_rows.proofs.Frames.{Rises, child_of-is_there}
 use Rattle.room_desk.specs.Setting.{ended_at}
@@ -99,7 +99,7 @@ module _ (rows : Content) (rises : Rises rows) (caller : Caller) (items : Site �
   comes (name ∷ names) p path node there is =
       on (child_of rows node.id name) refl (λ child found. comes names (p ++ name ∷ []) path child (child_of-is_there rows rises node.id name child found) (is ∙ sym (append_assoc p (name ∷ []) names)))
     where
-      ends : (kind : ObjKind) → or_else (cond (not (not (Rattle.room_ace.specs.Valid.is_document kind))) (Some (Refused p NotFolder)) None) (Some (Refused (p ++ name ∷ []) NoSuch)) ≡ Some (ended_at path kind (suc (length names)))
+      ends : (kind : ObjKind) → or_else (cond (not (not (Rattle.room_entry.specs.Valid.is_document kind))) (Some (Refused p NotFolder)) None) (Some (Refused (p ++ name ∷ []) NoSuch)) ≡ Some (ended_at path kind (suc (length names)))
       ends Document = ap (λ q. Some (Refused q NotFolder)) (sym (ap (λ whole. take (length whole - suc (length names)) whole) is ∙ front_is p (name ∷ names) (suc (length names)) refl))
       ends Folder =
           ap (λ q. Some (Refused q NoSuch))

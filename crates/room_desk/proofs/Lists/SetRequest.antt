@@ -3,11 +3,11 @@ use Rattle.std.proofs.Common.{◌≡◌, ℕ, true, false, List, [], ◌∷◌, 
 use Rattle.std.specs.Prelude.{option_and_then}
 use Rattle.std.specs.Option.{option_map, option_map_or}
 use Rattle.std.proofs.lemmas.List.{append-nil}
-use Rattle.room_ace.specs.Rights.{write_acl}
+use Rattle.room_entry.specs.Rights.{write_acl}
 use Rattle.room_ace.specs.Sent.{Sent}
-use Rattle.room_ace.specs.Valid.{first_bad_entry}
-use Rattle.room_ace.specs.declared.fault.EntryFault.{EntryFault}
-use Rattle.room_ace.specs.declared.object.Which.{Which}
+use Rattle.room_entry.specs.Valid.{first_bad_entry}
+use Rattle.room_entry.specs.declared.fault.EntryFault.{EntryFault}
+use Rattle.room_entry.specs.declared.object.Which.{Which}
 use Rattle.room_rows.specs.declared.node.Node.{Node}
 use Rattle.room_rows.specs.Content.{node_at, parent_of, root_of}
 use Rattle.room_rows.proofs.Frames.{root_of-parent}

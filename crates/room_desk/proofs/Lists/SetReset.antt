@@ -3,10 +3,10 @@ use Rattle.std.proofs.Common.{◌≡◌, ◌||◌, ℕ, zero, suc, true, false, 
 use Rattle.std.specs.Prelude.{◌-◌, is_none, option_and_then, slice_get}
 use Rattle.std.specs.Option.{option_map_or}
 use Rattle.room_ace.specs.Sent.{Sent}
-use Rattle.room_ace.specs.Valid.{first_bad_entry}
-use Rattle.room_ace.specs.declared.fault.EntryFault.{EntryFault}
-use Rattle.room_ace.specs.declared.object.Which.{Which}
-use Rattle.room_ace.specs.declared.parties.Caller.{Caller}
+use Rattle.room_entry.specs.Valid.{first_bad_entry}
+use Rattle.room_entry.specs.declared.fault.EntryFault.{EntryFault}
+use Rattle.room_entry.specs.declared.object.Which.{Which}
+use Rattle.room_entry.specs.declared.parties.Caller.{Caller}
 use Rattle.room_rows.specs.declared.node.Node.{Node}
 use Rattle.room_rows.specs.declared.node.Walk.{Walk}
 use Rattle.room_rows.specs.Content.{Content, child_of, has_folder_above, is_folder, node_at, parent_of}

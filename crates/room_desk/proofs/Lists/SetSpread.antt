@@ -3,12 +3,12 @@ use Rattle.std.proofs.Common.{◌≡◌, ℕ, zero, suc, ◌==◌, ◌&&◌, ◌
 use Rattle.std.specs.List.{AllByRecursion, list_all}
 use Rattle.std.specs.Option.{option_map, option_map_or}
 use Rattle.std.proofs.lemmas.Bool.{and_parts, and_from, cases_Bool, cond-true, false≢true, or_left, or_right}
-use Rattle.room_ace.specs.Ace.{Ace}
-use Rattle.room_ace.specs.Same.{same_entries}
+use Rattle.room_entry.specs.Ace.{Ace}
+use Rattle.room_entry.specs.Same.{same_entries}
 use Rattle.room_ace.specs.Sent.{Sent, inherited_of}
-use Rattle.room_ace.specs.declared.object.ObjKind.{ObjKind}
-use Rattle.room_ace.specs.declared.object.Which.{Which}
-use Rattle.room_ace.proofs.Same.{entries_equal}
+use Rattle.room_entry.specs.declared.object.ObjKind.{ObjKind}
+use Rattle.room_entry.specs.declared.object.Which.{Which}
+use Rattle.room_entry.proofs.Same.{entries_equal}
 use Rattle.room_rows.specs.HeldList.{Held}
 use Rattle.room_rows.specs.declared.node.Node.{Node}
 use Rattle.room_rows.specs.Content.{Content, node_at, parent_of, has_parent, is_linked_in, reaches_root}

@@ -5,13 +5,13 @@ use Rattle.std.specs.List.{list_all}
 use Rattle.std.specs.Option.{option_map, option_map_or}
 use Rattle.std.proofs.lemmas.Bool.{and_from, and_parts, false≢true, le-leb, ltb-false}
 use Rattle.std.proofs.lemmas.List.{map-id}
-use Rattle.room_ace.specs.Ace.{Ace}
+use Rattle.room_entry.specs.Ace.{Ace}
 use Rattle.room_ace.specs.Sent.{Sent, inherited_of, limit_fault, own_of}
-use Rattle.room_ace.specs.Valid.{entry_fault, first_bad_entry}
-use Rattle.room_ace.specs.declared.fault.ListFault.{ListFault}
-use Rattle.room_ace.specs.declared.fault.ListFault.TheVariants.{TooManyEntries, TooManyOwn}
-use Rattle.room_ace.specs.declared.object.ObjKind.{ObjKind}
-use Rattle.room_ace.specs.declared.object.Which.{Which}
+use Rattle.room_entry.specs.Valid.{entry_fault, first_bad_entry}
+use Rattle.room_entry.specs.declared.fault.ListFault.{ListFault}
+use Rattle.room_entry.specs.declared.fault.ListFault.TheVariants.{TooManyEntries, TooManyOwn}
+use Rattle.room_entry.specs.declared.object.ObjKind.{ObjKind}
+use Rattle.room_entry.specs.declared.object.Which.{Which}
 use Rattle.room_rows.specs.HeldList.{Held}
 use Rattle.room_rows.specs.declared.node.Node.{Node}
 use Rattle.room_rows.specs.Content.{Content, node_at, parent_of, has_folder_above, has_parent, is_linked_in, with_each}

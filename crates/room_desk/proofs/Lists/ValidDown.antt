@@ -4,13 +4,13 @@ use Rattle.std.specs.Prelude.{is_none, nat_le, option_and_then}
 use Rattle.std.specs.List.{list_all, cons_option}
 use Rattle.std.specs.Option.{option_map, option_map_or}
 use Rattle.std.proofs.lemmas.Bool.{and_parts, and_from, cases_Bool, false≢true}
-use Rattle.room_ace.specs.Ace.{Ace}
-use Rattle.room_ace.specs.Valid.{entry_fault, is_document}
-use Rattle.room_ace.specs.declared.flags.EntryFlags.{EntryFlags}
-use Rattle.room_ace.specs.declared.object.ObjKind.{ObjKind}
-use Rattle.room_ace.specs.declared.object.ObjKind.TheVariants.{Document, Folder}
-use Rattle.room_ace.specs.declared.object.Which.{Which}
-use Rattle.room_ace.proofs.Same.{entries_equal}
+use Rattle.room_entry.specs.Ace.{Ace}
+use Rattle.room_entry.specs.Valid.{entry_fault, is_document}
+use Rattle.room_entry.specs.declared.flags.EntryFlags.{EntryFlags}
+use Rattle.room_entry.specs.declared.object.ObjKind.{ObjKind}
+use Rattle.room_entry.specs.declared.object.ObjKind.TheVariants.{Document, Folder}
+use Rattle.room_entry.specs.declared.object.Which.{Which}
+use Rattle.room_entry.proofs.Same.{entries_equal}
 use Rattle.room_rows.specs.HeldList.{Held}
 use Rattle.room_rows.specs.declared.node.Node.{Node}
 use Rattle.room_rows.specs.Content.{Content, node_at, parent_of, is_folder, has_folder_above, reaches_root, is_linked_in}

@@ -1,7 +1,7 @@
 -- The folder that a walk came to is there, and is one, and what isn't found under it isn't there.
 use Rattle.std.proofs.Common.{◌≡◌, ℕ, ◌<◌, Bool, true, false, cond, not, List, [], ◌∷◌, ◌++◌, length, Option, Some, None, refl, ap, ◌∙◌}
 use Rattle.std.specs.Prelude.{is_none}
-use Rattle.room_ace.specs.Rights.{execute}
+use Rattle.room_entry.specs.Rights.{execute}
 use Rattle.room_rows.specs.declared.node.Node.{Node}
 use Rattle.room_rows.specs.Content.{node_at, child_of, is_folder}
 use Rattle.room_rows.specs.Rows.{Rows, AreRows}

@@ -3,8 +3,8 @@ use Rattle.std.proofs.Common.{◌≡◌, ℕ, ◌<◌, Bool, true, cond, List, [
 use Rattle.std.specs.Prelude.{is_none, is_some}
 use Rattle.std.specs.Option.{option_map}
 use Rattle.std.proofs.lemmas.Bool.{false≢true}
-use Rattle.room_ace.specs.Rights.{append_data}
-use Rattle.room_ace.specs.declared.object.ObjKind.TheVariants.{Folder}
+use Rattle.room_entry.specs.Rights.{append_data}
+use Rattle.room_entry.specs.declared.object.ObjKind.TheVariants.{Folder}
 use Rattle.room_rows.specs.declared.node.Node.{Node}
 use Rattle.room_rows.specs.Content.{child_of, with_node}
 use Rattle.room_rows.specs.Meaning.{meaning}

@@ -2,10 +2,10 @@
 use Rattle.std.proofs.Common.{◌≡◌, ℕ, true, cond, List, length, Option, Some, None, refl, sym, ap, subst, ◌∙◌}
 use Rattle.std.specs.Prelude.{is_none, nat_le}
 use Rattle.std.specs.Option.{option_map}
-use Rattle.room_ace.specs.Valid.{is_document}
-use Rattle.room_ace.specs.declared.object.ObjKind.{ObjKind}
-use Rattle.room_ace.specs.declared.object.ObjKind.TheVariants.{Document, Folder}
-use Rattle.room_ace.specs.declared.parties.Caller.{Caller}
+use Rattle.room_entry.specs.Valid.{is_document}
+use Rattle.room_entry.specs.declared.object.ObjKind.{ObjKind}
+use Rattle.room_entry.specs.declared.object.ObjKind.TheVariants.{Document, Folder}
+use Rattle.room_entry.specs.declared.parties.Caller.{Caller}
 use Rattle.room_rows.specs.declared.node.AuditRow.{AuditRow}
 use Rattle.room_rows.specs.declared.node.NewNode.{NewNode}
 use Rattle.room_rows.specs.declared.node.Node.{Node}

@@ -5,9 +5,9 @@ use Rattle.std.specs.Option.{option_map_or}
 use Rattle.std.proofs.lemmas.Bool.{false≢true, ltb-false, le-leb}
 use Rattle.std.proofs.Math.Seq.{take-length}
 use Rattle.std.specs.List.{find}
-use Rattle.room_ace.specs.Rights.{write_data}
-use Rattle.room_ace.specs.Valid.{is_document}
-use Rattle.room_ace.specs.declared.object.ObjKind.TheVariants.{Document}
+use Rattle.room_entry.specs.Rights.{write_data}
+use Rattle.room_entry.specs.Valid.{is_document}
+use Rattle.room_entry.specs.declared.object.ObjKind.TheVariants.{Document}
 use Rattle.room_rows.specs.declared.node.Node.{Node}
 use Rattle.room_rows.specs.Content.{node_at, child_of, is_folder, is_root, with_body, with_node}
 use Rattle.room_rows.specs.Keep.{SetsBody, reading}

@@ -1,6 +1,6 @@
 -- What is judged before an object is changed or made, in terms of the calls.
 use Rattle.std.proofs.Common.{◌≡◌, ℕ, ◌+◌, Bool, true, false, cond, List, [], ◌∷◌, ◌++◌, length, Option, Some, None, nat_lt, refl, sym, ap, subst, ◌∙◌, inl, arith, length-append}
-use Rattle.room_ace.specs.Rights.{write_data}
+use Rattle.room_entry.specs.Rights.{write_data}
 use Rattle.room_rows.specs.declared.node.NewNode.{NewNode}
 use Rattle.room_rows.specs.Keep.{IsDamaged, IsUnreadable, SetsBody}
 use Rattle.room_rows.specs.Paths.{is_object_name}

@@ -6,9 +6,9 @@ use Rattle.std.specs.Option.{option_map_or}
 use Rattle.std.proofs.lemmas.Bool.{and_from, and_parts, eq-eqb, eqb-true, false≢true, and_right, or_cases, or_left, or_right}
 use Rattle.std.proofs.lemmas.List.{append-nil, drop_more, get_or_read}
 use Rattle.std.proofs.Math.Seq.{drop-length}
-use Rattle.room_ace.specs.Pieces.{same_text}
-use Rattle.room_ace.proofs.Alike.{text_itself}
-use Rattle.room_ace.proofs.RoundTrip.{same_text-true}
+use Rattle.room_entry.specs.Pieces.{same_text}
+use Rattle.room_entry.proofs.Alike.{text_itself}
+use Rattle.room_entry.proofs.Texts.{same_text-true}
 use Rattle.room_rows.specs.declared.node.Node.{Node}
 use Rattle.room_rows.specs.Content.{Content, child_of, node_at, root_of}
 use Rattle.room_rows.proofs.Frames.{Rises, child_of-is_there, child_of-name, child_of-parent, root_of-is_there, root_of-parent}

@@ -2,9 +2,9 @@
 use Rattle.std.proofs.Common.{◌≡◌, ℕ, ◌==◌, Bool, true, false, cond, List, [], map, Some, refl, sym, ap, ◌∙◌, inl, inr}
 use Rattle.std.specs.Option.{option_map}
 use Rattle.std.proofs.lemmas.Bool.{cases_Bool, eqb-true, eqb-false}
-use Rattle.room_ace.specs.Ace.{Ace}
-use Rattle.room_ace.specs.declared.object.Which.{Which}
-use Rattle.room_ace.specs.declared.object.Which.TheVariants.{Dacl, Sacl}
+use Rattle.room_entry.specs.Ace.{Ace}
+use Rattle.room_entry.specs.declared.object.Which.{Which}
+use Rattle.room_entry.specs.declared.object.Which.TheVariants.{Dacl, Sacl}
 use Rattle.room_rows.specs.HeldList.{Held}
 use Rattle.room_rows.specs.declared.node.Node.{Node}
 use Rattle.room_rows.specs.Content.{Content, node_at, is_linked_in, with_node}

@@ -5,10 +5,10 @@ use Rattle.std.specs.Prelude.{option_and_then}
 use Rattle.std.specs.List.{list_all}
 use Rattle.std.specs.Option.{option_map}
 use Rattle.std.proofs.lemmas.List.Folds.{list_all-map}
-use Rattle.room_ace.specs.Ace.{Ace}
-use Rattle.room_ace.specs.declared.flags.ListFlags.{ListFlags}
-use Rattle.room_ace.specs.declared.object.Which.{Which}
-use Rattle.room_ace.specs.declared.object.Which.TheVariants.{Dacl, Sacl}
+use Rattle.room_entry.specs.Ace.{Ace}
+use Rattle.room_entry.specs.declared.flags.ListFlags.{ListFlags}
+use Rattle.room_entry.specs.declared.object.Which.{Which}
+use Rattle.room_entry.specs.declared.object.Which.TheVariants.{Dacl, Sacl}
 use Rattle.room_rows.specs.HeldList.{Held}
 use Rattle.room_rows.specs.declared.node.Node.{Node}
 use Rattle.room_rows.specs.Content.{Content, node_at, parent_of, with_each}

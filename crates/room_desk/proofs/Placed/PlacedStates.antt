@@ -4,9 +4,9 @@ use Rattle.std.proofs.Common.{◌≡◌, ℕ, zero, suc, ◌==◌, true, false, 
 use Rattle.std.specs.Option.{option_map, option_map_or}
 use Rattle.std.specs.Prelude.{IsTrue}
 use Rattle.std.proofs.lemmas.Bool.{cases_Bool, and_parts, false≢true, eqb-true, eqb-false, eq-eqb, false_from_ne_true}
-use Rattle.room_ace.specs.Ace.{Ace}
-use Rattle.room_ace.specs.declared.object.Which.{Which}
-use Rattle.room_ace.specs.declared.object.Which.TheVariants.{Dacl, Sacl}
+use Rattle.room_entry.specs.Ace.{Ace}
+use Rattle.room_entry.specs.declared.object.Which.{Which}
+use Rattle.room_entry.specs.declared.object.Which.TheVariants.{Dacl, Sacl}
 use Rattle.room_rows.specs.HeldList.{Held}
 use Rattle.room_rows.specs.declared.node.Node.{Node}
 use Rattle.room_rows.specs.Content.{Content, node_at, parent_of, is_linked_in, is_rising}
@@ -17,7 +17,7 @@ use Rattle.room_rows.proofs.Frames.{with_each-with_each}
 use Rattle.room_rows.proofs.Lookups.{put-replaces, replaced, replaced_here, replaced_elsewhere}
 use Rattle.room_rows.specs.Law.{agrees, agrees_with, AllAgree}
 use Rattle.room_rows.specs.Pass.{pass}
-use Rattle.room_ace.specs.Same.{same_entries}
+use Rattle.room_entry.specs.Same.{same_entries}
 use Rattle.room_rows.specs.Sound.{keeps_law}
 use Rattle.room_inherit.specs.Spread.{with_lists}
 use Rattle.room_inherit.proofs.Children.{each_found, each_there}

@@ -5,13 +5,13 @@ use Rattle.std.specs.List.{find, list_all, list_any}
 use Rattle.std.specs.Option.{option_map, option_map_or}
 use Rattle.std.proofs.lemmas.Bool.{cases_Bool, and_parts, and_from, and_left, and_right, or_left, or_right, false≢true, eqb-true, eq-eqb, ltb-true, false_from_ne_true}
 use Rattle.std.proofs.lemmas.List.Folds.{list_all-map}
-use Rattle.room_ace.specs.Ace.{Ace}
-use Rattle.room_ace.specs.Pieces.{is_among, same_text}
-use Rattle.room_ace.specs.Valid.{is_document}
-use Rattle.room_ace.specs.declared.object.Which.{Which}
-use Rattle.room_ace.specs.declared.object.Which.TheVariants.{Dacl, Sacl}
-use Rattle.room_ace.proofs.Alike.{text_itself}
-use Rattle.room_ace.proofs.RoundTrip.{same_text-true}
+use Rattle.room_entry.specs.Ace.{Ace}
+use Rattle.room_entry.specs.Pieces.{is_among, same_text}
+use Rattle.room_entry.specs.Valid.{is_document}
+use Rattle.room_entry.specs.declared.object.Which.{Which}
+use Rattle.room_entry.specs.declared.object.Which.TheVariants.{Dacl, Sacl}
+use Rattle.room_entry.proofs.Alike.{text_itself}
+use Rattle.room_entry.proofs.Texts.{same_text-true}
 use Rattle.room_rows.specs.declared.node.Node.{Node}
 use Rattle.room_rows.specs.Content.{Content, node_at, parent_of, has_parent, is_root, is_folder, has_folder_above, same_parent, reaches_root, body_of, with_each}
 use Rattle.room_rows.specs.Held.{held_of}

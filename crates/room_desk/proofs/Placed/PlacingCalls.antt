@@ -1,8 +1,8 @@
 -- The calls that give an object another place.
 use Rattle.std.proofs.Common.{◌≡◌, ℕ, true, false, List, Some, refl, sym, ap, subst, ◌∙◌, inl, inr}
-use Rattle.room_ace.specs.Ace.{Ace}
-use Rattle.room_ace.specs.declared.object.Which.{Which}
-use Rattle.room_ace.specs.declared.object.Which.TheVariants.{Dacl, Sacl}
+use Rattle.room_entry.specs.Ace.{Ace}
+use Rattle.room_entry.specs.declared.object.Which.{Which}
+use Rattle.room_entry.specs.declared.object.Which.TheVariants.{Dacl, Sacl}
 use Rattle.room_rows.specs.declared.node.Node.{Node}
 use Rattle.room_rows.specs.Content.{with_node}
 use Rattle.room_rows.specs.Held.{held_of, full_of, is_linked}
@@ -69,7 +69,7 @@ module _ (target folder : Node) (name : List ℕ) where
   Stays old mid = CanGo target folder name old → (mid.unreadable ≡ old.unreadable) × IsRooted target.id mid
 
   stays_unread : (old mid : Rows) (at : ℕ) → Stays old mid → FailsToRenew target mid at → FailsToPlace target folder name old at
-  stays_unread old mid at stays fails can = let rooted = stays can in subst (λ (l : List ℕ). Rattle.std.specs.Prelude.IsTrue (Rattle.room_ace.specs.Pieces.is_among l at)) rooted.0 (fails rooted.1)
+  stays_unread old mid at stays fails can = let rooted = stays can in subst (λ (l : List ℕ). Rattle.std.specs.Prelude.IsTrue (Rattle.room_entry.specs.Pieces.is_among l at)) rooted.0 (fails rooted.1)
 
   placed_stays : (old mid : Rows) → Places target.id folder.id name old mid → Stays old mid
   placed_stays old mid places can =

@@ -4,11 +4,11 @@ use Rattle.std.specs.Prelude.{option_and_then}
 use Rattle.std.specs.List.{list_all}
 use Rattle.std.specs.Option.{option_map, option_map_or}
 use Rattle.std.proofs.lemmas.Bool.{cases_Bool, and_parts, or_left, or_right, false≢true, eqb-true, eqb-false, false_from_ne_true}
-use Rattle.room_ace.specs.Ace.{Ace}
-use Rattle.room_ace.specs.Same.{same_entries}
-use Rattle.room_ace.specs.declared.object.Which.{Which}
-use Rattle.room_ace.proofs.Alike.{equal_entries}
-use Rattle.room_ace.proofs.Same.{entries_equal}
+use Rattle.room_entry.specs.Ace.{Ace}
+use Rattle.room_entry.specs.Same.{same_entries}
+use Rattle.room_entry.specs.declared.object.Which.{Which}
+use Rattle.room_entry.proofs.Alike.{equal_entries}
+use Rattle.room_entry.proofs.Same.{entries_equal}
 use Rattle.room_rows.specs.HeldList.{Held}
 use Rattle.room_rows.specs.declared.node.Node.{Node}
 use Rattle.room_rows.specs.Content.{Content, node_at, parent_of, has_folder_above, has_parent, is_linked_in, with_each}

@@ -3,7 +3,7 @@ use Rattle.std.proofs.Common.{◌≡◌, ℕ, zero, suc, ◌==◌, Bool, true, f
 use Rattle.std.specs.Prelude.{IsTrue}
 use Rattle.std.specs.Option.{option_map, option_map_or}
 use Rattle.std.proofs.lemmas.Bool.{and_parts, cases_Bool, eqb-false, eqb-true, false≢true}
-use Rattle.room_ace.specs.declared.object.Which.{Which}
+use Rattle.room_entry.specs.declared.object.Which.{Which}
 use Rattle.room_rows.specs.declared.node.Node.{Node}
 use Rattle.room_rows.specs.Content.{Content, is_rising, node_at, reaches_root, with_each, with_node}
 use Rattle.room_rows.specs.Keep.{Changes, IsUnreadable, reading, with_inh}
@@ -130,7 +130,7 @@ rooted_unread id rows at rooted (inr loop) = absurd (rooted_no_loop rows.read id
 
 -- nothing else became unreadable
 pub unread_first : (id : ℕ) (old mid : Rows) (at : ℕ) → KeepsRoot id old mid → IsUnreadable mid at → IsUnreadable old at
-unread_first id old mid at keeps h = subst (λ (l : List ℕ). IsTrue (Rattle.room_ace.specs.Pieces.is_among l at)) keeps.unreadable h
+unread_first id old mid at keeps h = subst (λ (l : List ℕ). IsTrue (Rattle.room_entry.specs.Pieces.is_among l at)) keeps.unreadable h
 
 -- what is carried down from an object that gets another list
 pub changed_unread : (id : ℕ) (old mid : Rows) (at : ℕ) (change : Node → Node) → ((n : Node) → (change n).id ≡ n.id) → ((n : Node) → (change n).parent ≡ n.parent) → Changes id change old mid → HasLoop id mid at → IsRooted id old → IsUnreadable old at

@@ -2,12 +2,12 @@
 use Rattle.std.proofs.Common.{◌≡◌, ℕ, Bool, true, false, cond, not, List, [], ◌∷◌, ◌++◌, map, Option, Some, None, refl, sym, ap, subst, ◌∙◌, inl, inr}
 use Rattle.std.specs.Prelude.{unwrap_or}
 use Rattle.std.specs.Option.{option_map_or}
-use Rattle.room_ace.specs.Rights.{read_data, read_acl, read_attributes}
-use Rattle.room_ace.specs.Valid.{is_document}
-use Rattle.room_ace.specs.declared.object.ObjKind.{ObjKind}
-use Rattle.room_ace.specs.declared.object.ObjKind.TheVariants.{Document, Folder}
-use Rattle.room_ace.specs.declared.object.Which.{Which}
-use Rattle.room_ace.specs.declared.object.Which.TheVariants.{Dacl, Sacl}
+use Rattle.room_entry.specs.Rights.{read_data, read_acl, read_attributes}
+use Rattle.room_entry.specs.Valid.{is_document}
+use Rattle.room_entry.specs.declared.object.ObjKind.{ObjKind}
+use Rattle.room_entry.specs.declared.object.ObjKind.TheVariants.{Document, Folder}
+use Rattle.room_entry.specs.declared.object.Which.{Which}
+use Rattle.room_entry.specs.declared.object.Which.TheVariants.{Dacl, Sacl}
 use Rattle.room_eval.specs.Verdict.{ruling_of}
 use Rattle.room_rows.specs.declared.node.Node.{Node}
 use Rattle.room_rows.specs.Held.{held_of, full_of}
@@ -176,7 +176,7 @@ along_there content rises path site is = on (root_of content) (λ root found. ro
     on None known is = absurd (let wrong : ⊥ = cc in wrong)
     on (Some root) known is = site_there content rises [] path root site (known root refl) is
 
-pub folder_fails : (caller : Rattle.room_ace.specs.declared.parties.Caller.Caller) (site : Site) → None ≡ failure caller (no_folder site) → is_document site.node.kind ≡ true
+pub folder_fails : (caller : Rattle.room_entry.specs.declared.parties.Caller.Caller) (site : Site) → None ≡ failure caller (no_folder site) → is_document site.node.kind ≡ true
 folder_fails caller site passes = on (is_document site.node.kind) passes
   where
     on : (t : Bool) → None ≡ cond (not t) (Some (Rattle.room_machine.specs.declared.reply.Reply.TheVariants.Refused site.path Rattle.room_machine.specs.declared.reply.Reason.TheVariants.WrongKind)) None → t ≡ true

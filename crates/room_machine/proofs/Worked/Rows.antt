@@ -1,12 +1,12 @@
 -- Worked rows: what the room machine does at written examples.
 use Rattle.std.proofs.Common.{ℕ, ◌≡◌, List, [], ◌∷◌, ◌++◌, Some, None, refl, true, false, Bool, codes}
 use Rattle.std.specs.Prelude.{pos, if◌then◌else◌}
-use Rattle.room_ace.specs.declared.parties.Owners.{Owners}
-use Rattle.room_ace.specs.Ace.{Ace}
-use Rattle.room_ace.specs.declared.entry.EntryKind.TheVariants.{Allow, Deny, Audit, Alarm}
-use Rattle.room_ace.specs.declared.entry.Who.TheVariants.{Owner, Everyone, Anonymous, Authenticated, User}
-use Rattle.room_ace.specs.declared.object.Which.TheVariants.{Dacl}
-use Rattle.room_ace.specs.declared.object.ObjKind.TheVariants.{Document, Folder}
+use Rattle.room_entry.specs.declared.parties.Owners.{Owners}
+use Rattle.room_entry.specs.Ace.{Ace}
+use Rattle.room_entry.specs.declared.entry.EntryKind.TheVariants.{Allow, Deny, Audit, Alarm}
+use Rattle.room_entry.specs.declared.entry.Who.TheVariants.{Owner, Everyone, Anonymous, Authenticated, User}
+use Rattle.room_entry.specs.declared.object.Which.TheVariants.{Dacl}
+use Rattle.room_entry.specs.declared.object.ObjKind.TheVariants.{Document, Folder}
 use Rattle.room_rows.specs.HeldList.{Held}
 use Rattle.room_rows.specs.declared.node.Node.{Node}
 use Rattle.room_rows.specs.Content.{Content}
@@ -14,7 +14,7 @@ use Rattle.room_machine.specs.declared.request.Request.TheVariants.{Read, Put, A
 use Rattle.room_machine.specs.declared.reply.Reply.TheVariants.{Bytes, Lists, Attr, Rulings, Made, Done, Denied, Refused}
 use Rattle.room_machine.specs.declared.reply.Reason.TheVariants.{NoSuch, NotFolder, WrongKind, Exists, NotEmpty, Root, Loop, BadList}
 use Rattle.room_ace.specs.Sent.{Sent}
-use Rattle.room_ace.specs.declared.fault.ListFault.TheVariants.{InheritOnlyAlone}
+use Rattle.room_entry.specs.declared.fault.ListFault.TheVariants.{InheritOnlyAlone}
 use Rattle.room_eval.specs.declared.outcome.Ruling.TheVariants.{Allowed, Denied as DeniedAt, Silent}
 use Rattle.room_rows.specs.declared.node.AuditRow.{AuditRow}
 use Rattle.room_rows.specs.declared.node.RecordKind.TheVariants.{Audit as AuditRecord, Alarm as AlarmRecord}

@@ -8,8 +8,8 @@ use Rattle.clap.specs.declared.error.kind.ErrorKind.{ErrorKind}
 use Rattle.clap.specs.declared.error.kind.ErrorKind.TheVariants as kinds
 use Rattle.clap.specs.declared.parser.matches.ArgMatches.{ArgMatches}
 use Rattle.clap.proofs.OnLiterals.{clap_on_literals}
-use Rattle.room_ace.specs.declared.failure.Failure.{Failure}
-use Rattle.room_ace.specs.declared.failure.Failure.TheVariants.{OutOfMemory, Fault}
+use Rattle.room_entry.specs.declared.failure.Failure.{Failure}
+use Rattle.room_entry.specs.declared.failure.Failure.TheVariants.{OutOfMemory, Fault}
 use Rattle.cli_words.proofs.Named.{has_name}
 use Rattle.cli_words.proofs.reading.read_command.Goals as goal
 use Rattle.cli_words.specs.Command.{HasName, IsCommand, IsRefused, IsTold}

@@ -1,6 +1,6 @@
 use Rattle.std.proofs.Common.{ℕ, List, [], ◌∷◌, subst}
-use Rattle.room_ace.specs.Rights.{append_data}
-use Rattle.room_ace.specs.declared.object.ObjKind.TheVariants.{Folder as FolderKind}
+use Rattle.room_entry.specs.Rights.{append_data}
+use Rattle.room_entry.specs.declared.object.ObjKind.TheVariants.{Folder as FolderKind}
 use Rattle.room_machine.specs.declared.reply.Reason.TheVariants.{Exists}
 use Rattle.room_desk.specs.Made.{MakesChild, new_child}
 use Rattle.room_judge.specs.Stored.{found_site}

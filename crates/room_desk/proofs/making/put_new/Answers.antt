@@ -1,7 +1,7 @@
 use Rattle.std.proofs.Common.{ℕ, ◌≡◌, ◌≤◌, false, [], ◌∷◌, nat_lt, length, subst}
 use Rattle.std.proofs.lemmas.Bool.{le-ltb}
-use Rattle.room_ace.specs.Rights.{write_data}
-use Rattle.room_ace.specs.declared.object.ObjKind.TheVariants.{Document as DocumentKind}
+use Rattle.room_entry.specs.Rights.{write_data}
+use Rattle.room_entry.specs.declared.object.ObjKind.TheVariants.{Document as DocumentKind}
 use Rattle.room_machine.specs.declared.reply.Reason.TheVariants.{TooLarge}
 use Rattle.room_desk.specs.Made.{new_child}
 use Rattle.room_judge.specs.Stored.{found_site}

@@ -7,7 +7,7 @@ use Rattle.room_desk.proofs.Steps.Serving.{CheckAt, reached_as, reached_damaged,
 use Rattle.room_desk.proofs.Owned.OwnersSet.{owners_set}
 use Rattle.room_judge.specs.declared.arrival.Arrival.TheVariants.{At, Ended}
 use Rattle.room_machine.specs.declared.request.Request.TheVariants.{SetOwners}
-use Rattle.room_ace.specs.Rights.{write_owner}
+use Rattle.room_entry.specs.Rights.{write_owner}
 use Rattle.room_desk.proofs.owning.set_owners.Goals as goal
 
 pub returns-in_err-arrival : goal.returns-in_err-arrival

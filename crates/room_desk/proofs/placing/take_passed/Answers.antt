@@ -1,5 +1,5 @@
 use Rattle.std.proofs.Common.{sym, ap, ◌∙◌, inl}
-use Rattle.room_ace.proofs.Same.{entries_equal}
+use Rattle.room_entry.proofs.Same.{entries_equal}
 use Rattle.room_rows.specs.HeldList.{Held}
 use Rattle.room_judge.proofs.Calls.{none_done, tail, fails, finish, done, of_write}
 use Rattle.room_desk.proofs.Placed.PlacingCalls.{passed_unread, taken_as, unrenewed}

@@ -4,7 +4,7 @@ use Rattle.room_desk.proofs.Sound.Blamed.{rootless_damaged}
 use Rattle.room_desk.proofs.Steps.Serving.{DocumentAt, bytes_answered, no_bytes, not_served, reached_as}
 use Rattle.room_judge.specs.declared.arrival.Arrival.TheVariants.{At, Ended}
 use Rattle.room_machine.specs.declared.request.Request.TheVariants.{Read}
-use Rattle.room_ace.specs.Rights.{read_data}
+use Rattle.room_entry.specs.Rights.{read_data}
 use Rattle.room_desk.proofs.reading.read.Goals as goal
 
 pub returns-in_err-arrival : goal.returns-in_err-arrival

@@ -7,7 +7,7 @@ use Rattle.room_desk.proofs.Sound.Blamed.{rootless_damaged}
 use Rattle.room_desk.proofs.Steps.Serving.{CheckAt, reached_as, not_served, served_list}
 use Rattle.room_judge.specs.declared.arrival.Arrival.TheVariants.{At, Ended}
 use Rattle.room_machine.specs.declared.request.Request.TheVariants.{ReadList}
-use Rattle.room_ace.specs.Rights.{read_acl}
+use Rattle.room_entry.specs.Rights.{read_acl}
 use Rattle.room_desk.proofs.reading.read_list.Goals as goal
 
 pub returns-in_err-arrival : goal.returns-in_err-arrival

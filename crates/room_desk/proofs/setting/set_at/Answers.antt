@@ -1,5 +1,5 @@
 use Rattle.std.proofs.Common.{List, ap, ◌∙◌}
-use Rattle.room_ace.specs.Ace.{Ace}
+use Rattle.room_entry.specs.Ace.{Ace}
 use Rattle.room_judge.proofs.Calls.{none_done, memory, tail_known}
 use Rattle.room_desk.specs.Setting.{sent_with}
 use Rattle.room_desk.proofs.Lists.SettingCalls.{fails_before, no_answer, set_from}

@@ -1,5 +1,5 @@
 use Rattle.std.proofs.Common.{Bool, refl, sym, ap, subst, ◌∙◌}
-use Rattle.room_ace.specs.declared.flags.ListFlags.{ListFlags}
+use Rattle.room_entry.specs.declared.flags.ListFlags.{ListFlags}
 use Rattle.room_judge.proofs.Calls.{none_done, finish, fails, tail, done, of_write}
 use Rattle.room_desk.specs.Carrying.{GoesDown}
 use Rattle.room_desk.proofs.Lists.SettingCalls.{carried_fails, unread_before}

@@ -1,5 +1,5 @@
 use Rattle.std.proofs.Common.{List, ap, ◌∙◌}
-use Rattle.room_ace.specs.Ace.{Ace}
+use Rattle.room_entry.specs.Ace.{Ace}
 use Rattle.room_judge.proofs.Calls.{none_done, tail}
 use Rattle.room_desk.specs.Setting.{list_of}
 use Rattle.room_desk.proofs.Lists.SettingCalls.{fails_before, written_as}

@@ -4,7 +4,7 @@ use Rattle.room_desk.proofs.Bytes.Appending.{append_ended, append_done, append_b
 use Rattle.room_desk.proofs.Sound.Blamed.{rootless_damaged}
 use Rattle.room_desk.proofs.Steps.Serving.{DocumentAt, reached_as}
 use Rattle.room_judge.specs.declared.arrival.Arrival.TheVariants.{At, Ended}
-use Rattle.room_ace.specs.Rights.{append_data}
+use Rattle.room_entry.specs.Rights.{append_data}
 use Rattle.room_desk.proofs.writing.append.Goals as goal
 
 pub returns-in_err-arrival : goal.returns-in_err-arrival

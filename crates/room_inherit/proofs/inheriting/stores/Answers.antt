@@ -1,5 +1,5 @@
 use Rattle.std.proofs.Common.{ap, ◌∙◌}
-use Rattle.room_ace.specs.Same.{same_entries}
+use Rattle.room_entry.specs.Same.{same_entries}
 use Rattle.room_inherit.proofs.Comparing.{swapped}
 use Rattle.room_inherit.proofs.inheriting.stores.Goals as goal
 

@@ -1,5 +1,5 @@
 use Rattle.std.proofs.Common.{◌≡◌, List, ap, ◌∙◌, length, arith}
-use Rattle.room_ace.specs.Ace.{Ace}
+use Rattle.room_entry.specs.Ace.{Ace}
 use Rattle.room_eval.specs.Events.{events_of}
 use Rattle.room_judge.proofs.Calls.{none_done, then, finish, fails, memory, done, of_write}
 use Rattle.room_judge.proofs.Noting.{notes_none, notes_one, notes_all}

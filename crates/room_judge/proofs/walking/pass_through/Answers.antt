@@ -4,9 +4,9 @@ use Rattle.room_judge.specs.Stored.{found_site}
 use Rattle.room_judge.specs.Judged.{IsJudged}
 use Rattle.room_machine.specs.Plan.{Check}
 use Rattle.room_judge.proofs.Judging.{refuses, passes_on}
-use Rattle.room_ace.specs.Rights.{execute}
-use Rattle.room_ace.specs.declared.object.ObjKind.{ObjKind}
-use Rattle.room_ace.specs.Valid.{is_document}
+use Rattle.room_entry.specs.Rights.{execute}
+use Rattle.room_entry.specs.declared.object.ObjKind.{ObjKind}
+use Rattle.room_entry.specs.Valid.{is_document}
 use Rattle.room_machine.specs.declared.reply.Reason.TheVariants.{NotFolder}
 use Rattle.room_judge.proofs.walking.pass_through.Goals as goal
 

@@ -5,7 +5,7 @@ use Rattle.std.proofs.lemmas.Iterator.Consumers.{YieldsList-turn, YieldsList-end
 use Rattle.std.proofs.lemmas.Iterator.Splits.{YieldsList-from_str_split}
 use Rattle.std.proofs.lemmas.List.{length_push, take_all, take_more}
 use Rattle.std.proofs.lemmas.List.Folds.{list_all-append, list_all_at}
-use Rattle.room_ace.specs.Pieces.{pieces}
+use Rattle.room_entry.specs.Pieces.{pieces}
 use Rattle.room_rows.specs.Paths.{is_object_name}
 use Rattle.room_rows.proofs.Cutting.{bad_name, good_names, read_is_path}
 use Rattle.room_rows.proofs.path.read_rest.Goals as goal

@@ -3,7 +3,7 @@ use Rattle.std.proofs.Math.Facts.{to_z-of_z}
 use Rattle.std.specs.Prelude.{string_bytes}
 use Rattle.sqlite.specs.declared.types.Value.TheVariants.{Int, Text}
 use Rattle.sqlite.specs.Held.{state}
-use Rattle.room_ace.specs.declared.object.Which.TheVariants.{Sacl}
+use Rattle.room_entry.specs.declared.object.Which.TheVariants.{Sacl}
 use Rattle.store_tables.specs.Shown.{Stays, holding}
 use Rattle.store_tables.specs.Trust.{stays_itself}
 use Rattle.store_tables.proofs.Asked.{writes}

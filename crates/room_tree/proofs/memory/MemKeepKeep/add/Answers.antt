@@ -1,5 +1,5 @@
 use Rattle.std.proofs.Common.{◌≡◌, ◌∙◌, ◌+◌, ap, refl, arith, if◌then◌else◌}
-use Rattle.room_ace.specs.Valid.{is_document}
+use Rattle.room_entry.specs.Valid.{is_document}
 use Rattle.room_rows.specs.declared.keep.KeepFault.TheVariants.{Memory}
 use Rattle.room_rows.specs.Content.{put_body, put_node}
 use Rattle.room_rows.specs.Finding.{find_id}

@@ -1,6 +1,6 @@
 use Rattle.std.proofs.Common.{◌∙◌, false, sym, ap}
 use Rattle.std.specs.Option.{option_copied, option_map_or}
-use Rattle.room_ace.specs.Valid.{is_document}
+use Rattle.room_entry.specs.Valid.{is_document}
 use Rattle.room_rows.specs.declared.node.Node.{Node}
 use Rattle.room_tree.proofs.Tying.{found_at}
 use Rattle.room_tree.proofs.objects.Objects.has_document.Goals as goal

@@ -1,5 +1,0 @@
-use Rattle.room_ace.proofs.ListsBack.{name_text}
-use Rattle.room_ace.proofs.laws.names_are_text.Goals as goal
-
-pub returns : goal.returns
-returns c = λ name holds. name_text name holds

@@ -1,0 +1,67 @@
+-- A text cut at a separator, and names by their parts.
+use Rattle.std.proofs.Common.{ℕ, ◌+◌, ◌<◌, ◌≤◌, ◌≡◌, Bool, false, cond, ◌&&◌, eqb, List, [], ◌∷◌, Some, None, refl, sym, ap, ◌∙◌, inl, inr, arith, length, take, drop}
+use Rattle.std.specs.Prelude.{◌==◌, nat_lt}
+use Rattle.std.specs.List.{slice_split, position, position_or_len}
+use Rattle.std.proofs.lemmas.Bool.{cases_Bool, ltb-true, ltb-false}
+use Rattle.std.proofs.lemmas.List.Splits.{slice_split_first, length-slice_split}
+use Rattle.room_entry.specs.Pieces.{pieces}
+use Rattle.room_entry.specs.Names.{is_name, is_part, is_local_byte, is_domain_byte, are_name_parts}
+
+-- what `position` gives, as the place and its bound
+pub place_of : (n m i : ℕ) → cond (nat_lt n m) (Some n) None ≡ Some i → (n < m) × (n ≡ i)
+place_of n m i found =
+    elim (cases_Bool (nat_lt n m)) [
+      | inl e ↦ (let known : Some n ≡ Some i = rw e at found in (ltb-true n m e, cc))
+      | inr e ↦ (let known : None ≡ Some i = rw e at found in absurd (cc))
+    ]
+
+pub none_of : (n m : ℕ) → cond (nat_lt n m) (Some n) None ≡ None → m ≤ n
+none_of n m found =
+    elim (cases_Bool (nat_lt n m)) [
+      | inl e ↦ (let known : Some n ≡ None = rw e at found in absurd (cc))
+      | inr e ↦ ltb-false n m e
+    ]
+
+-- where no byte is the separator, the text is the one piece
+pub pieces_whole : (p : ℕ → Bool) (xs : List ℕ) → length xs ≤ position_or_len p xs → slice_split p xs ≡ xs ∷ []
+pieces_whole p [] whole = refl
+pieces_whole p (x ∷ xs) whole =
+    elim (cases_Bool (p x)) [
+      | inl e ↦ (let wrong = rw e at whole in absurd (omega arith))
+      | inr e ↦ (let rest = rw e at whole in rw (e, pieces_whole p xs (omega arith)) refl)
+    ]
+
+-- no separator stands in the bytes
+pub not_cut : (c : ℕ) (bytes : List ℕ) → None ≡ position (λ byte. byte == c) bytes → pieces c bytes ≡ bytes ∷ []
+not_cut c bytes none = pieces_whole (λ byte. byte == c) bytes (none_of (position_or_len (λ byte. byte == c) bytes) (length bytes) (sym none))
+
+-- the first separator stands at this place
+pub cut_at : (c : ℕ) (bytes : List ℕ) (i : ℕ) → Some i ≡ position (λ byte. byte == c) bytes → (i < length bytes) × (pieces c bytes ≡ take i bytes ∷ pieces c (drop (i + 1) bytes))
+cut_at c bytes i found =
+    let place = place_of (position_or_len (λ byte. byte == c) bytes) (length bytes) i (sym found) in (
+      omega (arith, place.0, place.1),
+      slice_split_first (λ byte. byte == c) bytes 0 place.0 ∙ ap (λ n. take n bytes ∷ pieces c (drop (n + 1) bytes)) place.1,
+    )
+
+-- there is at least one piece
+pub length-pieces : (c : ℕ) (bs : List ℕ) → 0 < length (pieces c bs)
+length-pieces c bs = let e = length-slice_split (λ b. eqb b c) bs in omega arith
+
+-- ---- names
+
+pub name_alone : (text : List ℕ) → pieces 64 text ≡ text ∷ [] → is_name text ≡ is_part is_local_byte text
+unfolding is_name
+name_alone text e = ap are_name_parts e
+
+pub name_with_domain : (text local rest : List ℕ) → pieces 64 text ≡ local ∷ pieces 64 rest → pieces 64 rest ≡ rest ∷ [] → is_name text ≡ (is_part is_local_byte local && is_part is_domain_byte rest)
+unfolding is_name
+name_with_domain text local rest e f = ap are_name_parts (e ∙ ap (λ (ps : List (List ℕ)). local ∷ ps) f)
+
+three_parts : (a b : List ℕ) (ps : List (List ℕ)) → 0 < length ps → are_name_parts (a ∷ b ∷ ps) ≡ false
+three_parts a b [] some = absurd (omega arith)
+three_parts a b (p ∷ ps) some = refl
+
+pub no_name : (text local rest domain more : List ℕ) → pieces 64 text ≡ local ∷ pieces 64 rest → pieces 64 rest ≡ domain ∷ pieces 64 more → is_name text ≡ false
+unfolding is_name
+no_name text local rest domain more e f =
+    ap are_name_parts (e ∙ ap (λ (ps : List (List ℕ)). local ∷ ps) f) ∙ three_parts local domain (pieces 64 more) (length-pieces 64 more)

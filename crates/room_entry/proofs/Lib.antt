@@ -1,0 +1,10 @@
+pub mod Texts
+pub mod Back
+pub mod Visible
+pub mod Letters
+pub mod Same
+pub mod Cuts
+pub mod MaskLetters
+pub mod Singles
+pub mod Alike
+pub mod Rising

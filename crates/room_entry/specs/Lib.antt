@@ -1,0 +1,16 @@
+pub mod Gives
+pub mod Rights
+pub mod Bits
+pub mod Single
+pub mod BitLaws
+pub mod Pieces
+pub mod Utf8
+pub mod Names
+pub mod Rising
+pub mod Ace
+pub mod Matching
+pub mod Faults
+pub mod Letters
+pub mod Valid
+pub mod Same
+pub mod Laws
