@@ -33,7 +33,7 @@ use Rattle.room_store.specs.declared.fault.StoreFault.TheVariants as store
 use Rattle.store_tables.specs.Meaning.{rows_of}
 use Rattle.cli_act.specs.Outcome.{not_opened}
 use Rattle.cli_outcome.specs.declared.fault.Fault.TheVariants.{Database, Memory}
-use Rattle.cli_act.specs.declared.outcome.Answer.TheVariants as answer
+use Rattle.cli_act.specs.declared.outcome.TaskAnswer.TheVariants as answer
 use Rattle.cli_act.specs.declared.outcome.Outcome.{Outcome}
 use Rattle.cli_act.specs.declared.outcome.Outcome.TheVariants.{Answer, Bytes, Failed}
 use Rattle.cli_tasks.specs.declared.judging.Task.{Task}

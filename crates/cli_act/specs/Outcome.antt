@@ -10,8 +10,8 @@ use Rattle.store_schema.specs.declared.fault.OpenFault.TheVariants as opening
 use Rattle.cli_outcome.specs.Ending.{no_room_text}
 use Rattle.cli_outcome.specs.declared.fault.Fault.TheVariants as fault
 use Rattle.cli_outcome.specs.declared.no_room.NoRoom.TheVariants as no_room
-use Rattle.cli_act.specs.declared.outcome.Answer.{Answer}
-use Rattle.cli_act.specs.declared.outcome.Answer.TheVariants as answer
+use Rattle.cli_act.specs.declared.outcome.TaskAnswer.{TaskAnswer}
+use Rattle.cli_act.specs.declared.outcome.TaskAnswer.TheVariants as answer
 use Rattle.cli_act.specs.declared.outcome.Outcome.{Outcome}
 use Rattle.cli_act.specs.declared.outcome.Outcome.TheVariants as outcome
 use Rattle.cli_outcome.specs.declared.status.Status.{Status}
@@ -19,7 +19,7 @@ use Rattle.cli_outcome.specs.declared.status.Status.TheVariants as status
 
 -- ---- the exit status
 
-abbrev pub answer_status : Answer → Status
+abbrev pub answer_status : TaskAnswer → Status
 answer_status answer.Made = status.Done
 answer_status (answer.Replaced groups members) = status.Done
 answer_status answer.ListSet = status.Done
@@ -58,7 +58,7 @@ reason_line path (reason.BadList place why) =
     ++ (decimal place ++ (codes ": " ++ (list_fault_text why ++ codes "\n")))
 reason_line path why = refusal_at path why
 
-abbrev pub answer_line : Answer → List ℕ
+abbrev pub answer_line : TaskAnswer → List ℕ
 answer_line answer.Made = codes "ready\n"
 answer_line (answer.Replaced groups members) =
     codes "groups " ++ (decimal groups ++ (codes ", members " ++ (decimal members ++ codes "\n")))

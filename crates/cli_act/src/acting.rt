@@ -3,7 +3,7 @@ ghost use Rattle.std.specs.Prelude.{◌≡◌, false};
 ghost use Rattle.sqlite.specs.Held.{state};
 ghost use Rattle.cli_act.specs.Acting.{Acts};
 
-use crate::doing::carry_out;
+use crate::doing::do_task;
 use crate::telling::tell;
 use cli_tasks::Task;
 use sqlite::{Alter, Connection};
@@ -27,7 +27,7 @@ pub fn act<S: Alter + Drop, O: Write, E: Write>(
         result.1 }
     ensures ended { result.0.in_transaction ≡ false }
 {
-    let (conn, outcome) = carry_out(alloc, conn, task);
+    let (conn, outcome) = do_task(alloc, conn, task);
     let status = tell(alloc, &outcome, out, err);
     (conn, status)
 }

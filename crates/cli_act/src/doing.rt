@@ -5,7 +5,7 @@ ghost use Rattle.cli_act.specs.Doing.{DoesTask, IsWork, MakesRoom};
 ghost use Rattle.cli_act.specs.Doing.{RaisesRoom, after_create, after_migrate};
 
 use crate::opened::work;
-use crate::outcome::{Answer, Outcome};
+use crate::outcome::{Outcome, TaskAnswer};
 use cli_outcome::Fault;
 use cli_tasks::Task;
 use room_ace::Owners;
@@ -24,12 +24,12 @@ fn not_made(fault: CreateFault) -> Outcome
     }
 }
 
-fn make<S: Alter>(conn: Connection<S>, owners: &Owners) -> (Connection<S>, Outcome)
+fn make_room<S: Alter>(conn: Connection<S>, owners: &Owners) -> (Connection<S>, Outcome)
     requires { conn.in_transaction ≡ false }
     ensures { MakesRoom owners.now (state S.Store conn) result.1 (state S.Store result.0) }
 {
     match Store::create(conn, owners) {
-        Ok(store) => (store.into_conn(), Outcome::Answer(Answer::Made)),
+        Ok(store) => (store.into_conn(), Outcome::Answer(TaskAnswer::Made)),
         Err((conn, fault)) => (conn, not_made(fault)),
     }
 }
@@ -40,7 +40,7 @@ fn not_raised(fault: MigrateFault) -> Outcome
 {
     match fault {
         MigrateFault::Opening(fault) => Outcome::not_opened(fault),
-        MigrateFault::Unsound { path, why } => Outcome::Answer(Answer::Unsound { path, why }),
+        MigrateFault::Unsound { path, why } => Outcome::Answer(TaskAnswer::Unsound { path, why }),
     }
 }
 
@@ -49,7 +49,7 @@ fn raise<S: Alter>(alloc: Global, conn: Connection<S>) -> (Connection<S>, Outcom
     ensures { RaisesRoom (state S.Store conn) result.1 (state S.Store result.0) }
 {
     match Store::migrate(alloc, conn) {
-        Ok(store) => (store.into_conn(), Outcome::Answer(Answer::Raised)),
+        Ok(store) => (store.into_conn(), Outcome::Answer(TaskAnswer::Raised)),
         Err((conn, fault)) => (conn, not_raised(fault)),
     }
 }
@@ -76,7 +76,7 @@ fn open_and_work<S: Alter>(
 
 /// Does a task on a database, and answers its outcome. The connection is returned, outside of any
 /// transaction.
-pub(crate) fn carry_out<S: Alter>(
+pub(crate) fn do_task<S: Alter>(
     alloc: Global,
     conn: Connection<S>,
     task: &Task,
@@ -85,7 +85,7 @@ pub(crate) fn carry_out<S: Alter>(
     ensures { DoesTask (state S.Store) task.now conn result.1 result.0 }
 {
     match task {
-        Task::Init(owners) => make(conn, owners),
+        Task::Init(owners) => make_room(conn, owners),
         Task::Migrate => raise(alloc, conn),
         Task::Groups(_)
         | Task::GroupsOut

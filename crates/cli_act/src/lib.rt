@@ -10,5 +10,5 @@ mod outcome;
 mod telling;
 
 pub use acting::act;
-pub use outcome::{Answer, Outcome};
+pub use outcome::{Outcome, TaskAnswer};
 pub use telling::tell;

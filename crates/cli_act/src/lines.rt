@@ -2,7 +2,7 @@
 ghost use Rattle.std.specs.Prelude.{◌≡◌, IfOk, string_bytes};
 ghost use Rattle.cli_act.specs.Outcome.{answer_line, reason_text, refusal_at, reason_line};
 
-use crate::outcome::Answer;
+use crate::outcome::TaskAnswer;
 use room_machine::Reason;
 use room_rows::Path;
 use std::alloc::{AllocError, Global};
@@ -47,28 +47,28 @@ fn refusal_line(alloc: Global, at: &Path, why: &Reason) -> Result<String, AllocE
     }
 }
 
-impl Answer {
+impl TaskAnswer {
     /// The line of the answer, with its end.
     pub fn line(&self, alloc: Global) -> Result<String, AllocError>
         ensures { IfOk result (λ text. string_bytes text ≡ answer_line self.now) }
     {
         match self {
-            Answer::Made => String::from_str(alloc, "ready\n"),
-            Answer::Replaced { groups, members } => {
+            TaskAnswer::Made => String::from_str(alloc, "ready\n"),
+            TaskAnswer::Replaced { groups, members } => {
                 let groups = *groups;
                 let members = *members;
                 format!(in alloc; "groups {groups}, members {members}\n")
             }
-            Answer::ListSet => String::from_str(alloc, "done\n"),
-            Answer::ListRefused { at, why } => refusal_line(alloc, at, why),
-            Answer::Sound => String::from_str(alloc, "sound\n"),
-            Answer::Unsound { path, why } => {
+            TaskAnswer::ListSet => String::from_str(alloc, "done\n"),
+            TaskAnswer::ListRefused { at, why } => refusal_line(alloc, at, why),
+            TaskAnswer::Sound => String::from_str(alloc, "sound\n"),
+            TaskAnswer::Unsound { path, why } => {
                 let path = path.as_str();
                 let why = why.as_str();
                 format!(in alloc; "fault {path} {why}\n")
             }
-            Answer::Raised => String::from_str(alloc, "migrated\n"),
-            Answer::NoRoom(why) => {
+            TaskAnswer::Raised => String::from_str(alloc, "migrated\n"),
+            TaskAnswer::NoRoom(why) => {
                 let why = *why;
                 format!(in alloc; "refused: {why}\n")
             }

@@ -19,7 +19,7 @@ ghost use Rattle.cli_act.specs.Doing.{
 ghost use Rattle.room_import.specs.Exports.{groups_text, records_text};
 
 use crate::counting::count_groups;
-use crate::outcome::{Answer, Outcome};
+use crate::outcome::{Outcome, TaskAnswer};
 use cli_outcome::Fault;
 use cli_tasks::Task;
 use room_ace::{Name, SentList, Which};
@@ -54,7 +54,7 @@ fn put<S: Alter>(
         (state S.Store store.new.conn) }
 {
     match store.replace_members(alloc, pairs) {
-        Ok(()) => Outcome::Answer(Answer::Replaced {
+        Ok(()) => Outcome::Answer(TaskAnswer::Replaced {
             groups,
             members: pairs.len(),
         }),
@@ -139,8 +139,8 @@ fn after_reply(reply: Reply) -> Outcome
     ensures { result ≡ after_reply reply }
 {
     match reply {
-        Reply::Done => Outcome::Answer(Answer::ListSet),
-        Reply::Refused { at, why } => Outcome::Answer(Answer::ListRefused { at, why }),
+        Reply::Done => Outcome::Answer(TaskAnswer::ListSet),
+        Reply::Refused { at, why } => Outcome::Answer(TaskAnswer::ListRefused { at, why }),
         Reply::Bytes(_)
         | Reply::Names(_)
         | Reply::Lists(..)
@@ -156,8 +156,8 @@ fn after_report(report: Report) -> Outcome
     ensures { result ≡ after_report report }
 {
     match report {
-        Report::Sound => Outcome::Answer(Answer::Sound),
-        Report::Fault { path, why } => Outcome::Answer(Answer::Unsound { path, why }),
+        Report::Sound => Outcome::Answer(TaskAnswer::Sound),
+        Report::Fault { path, why } => Outcome::Answer(TaskAnswer::Unsound { path, why }),
     }
 }
 

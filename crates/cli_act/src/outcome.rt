@@ -10,7 +10,7 @@ use store_schema::OpenFault;
 
 /// What is answered in one line.
 #[derive(Drop)]
-pub enum Answer {
+pub enum TaskAnswer {
     /// A room was made.
     Made,
     /// The members were replaced by this many pairs of this many groups.
@@ -33,27 +33,27 @@ pub enum Answer {
 #[derive(Drop)]
 pub enum Outcome {
     /// It is answered in one line.
-    Answer(Answer),
+    Answer(TaskAnswer),
     /// These bytes were asked for, and are printed as they stand.
     Bytes(Bytes),
     /// It failed.
     Failed(Fault),
 }
 
-impl Answer {
+impl TaskAnswer {
     /// How a subcommand with this answer ended.
     pub fn status(&self) -> Status
         ensures { result ≡ answer_status self.now }
     {
         match self {
-            Answer::Made => Status::Done,
-            Answer::Replaced { .. } => Status::Done,
-            Answer::ListSet => Status::Done,
-            Answer::ListRefused { .. } => Status::Refused,
-            Answer::Sound => Status::Done,
-            Answer::Unsound { .. } => Status::Found,
-            Answer::Raised => Status::Done,
-            Answer::NoRoom(_) => Status::Refused,
+            TaskAnswer::Made => Status::Done,
+            TaskAnswer::Replaced { .. } => Status::Done,
+            TaskAnswer::ListSet => Status::Done,
+            TaskAnswer::ListRefused { .. } => Status::Refused,
+            TaskAnswer::Sound => Status::Done,
+            TaskAnswer::Unsound { .. } => Status::Found,
+            TaskAnswer::Raised => Status::Done,
+            TaskAnswer::NoRoom(_) => Status::Refused,
         }
     }
 }
@@ -75,9 +75,13 @@ impl Outcome {
         ensures { result ≡ not_opened fault }
     {
         match fault {
-            OpenFault::NotRooms => Outcome::Answer(Answer::NoRoom(NoRoom::NotRooms)),
-            OpenFault::OldVersion(number) => Outcome::Answer(Answer::NoRoom(NoRoom::Old(number))),
-            OpenFault::NewVersion(number) => Outcome::Answer(Answer::NoRoom(NoRoom::New(number))),
+            OpenFault::NotRooms => Outcome::Answer(TaskAnswer::NoRoom(NoRoom::NotRooms)),
+            OpenFault::OldVersion(number) => Outcome::Answer(TaskAnswer::NoRoom(NoRoom::Old(
+                number,
+            ))),
+            OpenFault::NewVersion(number) => Outcome::Answer(TaskAnswer::NoRoom(NoRoom::New(
+                number,
+            ))),
             OpenFault::Db => Outcome::Failed(Fault::Database),
             OpenFault::Memory => Outcome::Failed(Fault::Memory),
         }

@@ -3,12 +3,17 @@ ghost use Rattle.cli_act.specs.Outcome.{answer_status, answer_line};
 ghost use Rattle.cli_act.specs.Telling.{PrintsOutcome};
 ghost use Rattle.cli_outcome.specs.Written.{PrintsText};
 
-use crate::outcome::{Answer, Outcome};
+use crate::outcome::{Outcome, TaskAnswer};
 use cli_outcome::{Fault, Status, tell_fault, tell_text};
 use std::alloc::Global;
 use std::io::Write;
 
-fn tell_answer<O: Write, E: Write>(alloc: Global, answer: &Answer, out: &mut O, err: &mut E) -> u8
+fn tell_answer<O: Write, E: Write>(
+    alloc: Global,
+    answer: &TaskAnswer,
+    out: &mut O,
+    err: &mut E,
+) -> u8
     ensures { PrintsText (answer_line answer.now) (answer_status answer.now)
         (O.contents out.old) (O.contents out.new)
         (E.contents err.old) (E.contents err.new) result }

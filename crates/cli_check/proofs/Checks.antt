@@ -6,11 +6,11 @@ use Rattle.room_entry.specs.Bits.{all_bits}
 use Rattle.room_entry.specs.Names.{is_name}
 use Rattle.room_entry.specs.Letters.{mask_letters}
 use Rattle.cli_check.specs.Check.{judged}
-use Rattle.cli_check.specs.Reply.{reply_text}
+use Rattle.cli_check.specs.Reply.{judged_text}
 
 -- the text that is printed for lines
 abbrev told : List (List ℕ) → List ℕ
-told lines = reply_text (judged (flat_map (λ line. line ++ 10 ∷ []) lines))
+told lines = judged_text (judged (flat_map (λ line. line ++ 10 ∷ []) lines))
 
 abbrev of_anonymous : List ℕ → List (List ℕ)
 of_anonymous entry = codes "caller:" ∷ codes "groups:" ∷ codes "owners: root:staff" ∷ codes "ask: r" ∷ codes "list:" ∷ entry ∷ []

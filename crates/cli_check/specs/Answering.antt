@@ -1,16 +1,17 @@
 -- What is written of the answer to an input, on one writer or on two (own).
 use Rattle.std.specs.Prelude.{◌≡◌, ◌⊎◌, ℕ, List, [], ◌∷◌, ◌++◌, Option, Result, Ok, Err}
 use Rattle.std.specs.Io.KnownBytes.{Appends}
+use Rattle.room_entry.specs.Bytes.{line_feed}
 use Rattle.cli_outcome.specs.Ending.{IsOfStream}
 use Rattle.cli_outcome.specs.Reading.{IsInput}
 use Rattle.cli_outcome.specs.Written.{PrintsFault, PrintsLine, WritesSome}
 use Rattle.cli_outcome.specs.declared.fault.Fault.{Fault}
 use Rattle.cli_check.specs.Check.{judged}
-use Rattle.cli_check.specs.Reply.{reply_status, reply_text}
+use Rattle.cli_check.specs.Reply.{reply_status, judged_text}
 
 -- the line that answers an input
 abbrev pub reply_line : List ℕ → List ℕ
-reply_line input = reply_text (judged input) ++ 10 ∷ []
+reply_line input = judged_text (judged input) ++ line_feed ∷ []
 
 -- The line was written, and the status is that of the input; or a beginning of the line, which is
 -- nothing where the reader fails.

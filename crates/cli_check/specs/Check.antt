@@ -4,6 +4,7 @@ use Rattle.std.specs.Prelude.{Option, Some, None, Result, Ok, Err, if◌then◌e
 use Rattle.std.specs.Prelude.{codes}
 use Rattle.std.specs.List.{list_all, enumerate_from, starts_with}
 use Rattle.std.specs.Option.{option_map_or, ok_or}
+use Rattle.room_entry.specs.Bytes.{colon, comma, space}
 use Rattle.room_entry.specs.Pieces.{pieces}
 use Rattle.room_entry.specs.Names.{is_name}
 use Rattle.room_entry.specs.Letters.{mask_of}
@@ -29,7 +30,7 @@ use Rattle.cli_check.specs.declared.judging.Judged.TheVariants.{Says, TooLong, A
 
 abbrev pub without_spaces : List ℕ → List ℕ
 without_spaces [] = []
-without_spaces (byte ∷ bytes) = if byte == 32 then without_spaces bytes else byte ∷ bytes
+without_spaces (byte ∷ bytes) = if byte == space then without_spaces bytes else byte ∷ bytes
 
 -- what stands after the word that the line begins with
 abbrev pub value_of : List ℕ → List ℕ → Result (List ℕ) InputWhy
@@ -37,8 +38,8 @@ value_of word line =
     if starts_with nat_eq line word then Ok (without_spaces (drop (length word) line))
     else Err BadHeader
 
-abbrev pub name_in : List ℕ → Result (List ℕ) InputWhy
-name_in value = if is_name value then Ok value else Err BadName
+abbrev pub checked_name : List ℕ → Result (List ℕ) InputWhy
+checked_name value = if is_name value then Ok value else Err BadName
 
 -- without a value the caller is anonymous
 abbrev pub user_of : List ℕ → Result (Option (List ℕ)) InputWhy
@@ -46,14 +47,14 @@ user_of [] = Ok None
 user_of (byte ∷ bytes) = if is_name (byte ∷ bytes) then Ok (Some (byte ∷ bytes)) else Err BadName
 
 -- each of the parts is a name
-abbrev pub names_in : List (List ℕ) → Result (List (List ℕ)) InputWhy
-names_in parts = if list_all is_name parts then Ok parts else Err BadName
+abbrev pub checked_names : List (List ℕ) → Result (List (List ℕ)) InputWhy
+checked_names parts = if list_all is_name parts then Ok parts else Err BadName
 
 -- an anonymous caller has no groups
-abbrev pub groups_of : Option (List ℕ) → List ℕ → Result (List (List ℕ)) InputWhy
-groups_of user [] = Ok []
-groups_of None (byte ∷ bytes) = Err BadName
-groups_of (Some user) (byte ∷ bytes) = names_in (pieces 44 (byte ∷ bytes))
+abbrev pub checked_groups : Option (List ℕ) → List ℕ → Result (List (List ℕ)) InputWhy
+checked_groups user [] = Ok []
+checked_groups None (byte ∷ bytes) = Err BadName
+checked_groups (Some user) (byte ∷ bytes) = checked_names (pieces comma (byte ∷ bytes))
 
 abbrev pub owners_of_parts : List (List ℕ) → Result Owners InputWhy
 owners_of_parts (owner ∷ group ∷ []) =
@@ -62,10 +63,10 @@ owners_of_parts (owner ∷ group ∷ []) =
 owners_of_parts _ = Err BadName
 
 abbrev pub owners_of : List ℕ → Result Owners InputWhy
-owners_of value = owners_of_parts (pieces 58 value)
+owners_of value = owners_of_parts (pieces colon value)
 
-abbrev pub asked_of : List ℕ → Result (List ℕ) InputWhy
-asked_of value = ok_or (mask_of value) (Text (Entry BadMask))
+abbrev pub checked_mask : List ℕ → Result (List ℕ) InputWhy
+checked_mask value = ok_or (mask_of value) (Text (Entry BadMask))
 
 -- ---- lines in order, up to the first fault
 
@@ -95,13 +96,13 @@ caller_line lines = header 1 (codes "caller:") user_of lines
 
 abbrev pub groups_line : Option (List ℕ) → List (List ℕ)
     → Result (List (List ℕ) × List (List ℕ)) InputFault
-groups_line user lines = header 2 (codes "groups:") (groups_of user) lines
+groups_line user lines = header 2 (codes "groups:") (checked_groups user) lines
 
 abbrev pub owners_line : List (List ℕ) → Result (Owners × List (List ℕ)) InputFault
 owners_line lines = header 3 (codes "owners:") owners_of lines
 
 abbrev pub ask_line : List (List ℕ) → Result (List ℕ × List (List ℕ)) InputFault
-ask_line lines = header 4 (codes "ask:") asked_of lines
+ask_line lines = header 4 (codes "ask:") checked_mask lines
 
 -- ---- the list
 

@@ -39,12 +39,12 @@ verdict_text entries Granted = codes "granted"
 verdict_text entries (Denied bits place) =
     codes "denied bits " ++ (mask_text bits ++ place_text entries place)
 
-abbrev pub reply_text : Judged → List ℕ
-reply_text (Says list verdict) = verdict_text list.entries verdict
-reply_text TooLong = codes "refused: input too long"
-reply_text (AtLine fault) =
+abbrev pub judged_text : Judged → List ℕ
+judged_text (Says list verdict) = verdict_text list.entries verdict
+judged_text TooLong = codes "refused: input too long"
+judged_text (AtLine fault) =
     codes "refused: line " ++ (decimal fault.line ++ (codes ": " ++ input_why_text fault.why))
-reply_text (AtEntry fault) =
+judged_text (AtEntry fault) =
     codes "refused: entry " ++ (decimal fault.place ++ (codes ": " ++ list_fault_text fault.why))
 
 abbrev pub verdict_status : Verdict → ℕ

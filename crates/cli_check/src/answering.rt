@@ -1,6 +1,7 @@
 //! An input read from a reader, and its answer written to a writer.
 ghost use Rattle.std.specs.Prelude.{◌≡◌, ◌++◌, ◌∷◌, [], ℕ, List, IfOk, OnErr, OnOk, string_bytes};
 ghost use Rattle.std.specs.Io.KnownBytes.{Appends};
+ghost use Rattle.room_entry.specs.Bytes.{line_feed};
 ghost use Rattle.cli_outcome.specs.Reading.{IsInput};
 ghost use Rattle.cli_outcome.specs.Written.{WritesSome};
 ghost use Rattle.cli_check.specs.Answering.{Answers, TellsCheck, reply_line};
@@ -69,7 +70,7 @@ fn line_for<R: Read + Drop>(alloc: Global, reader: R) -> io::Result<CheckReply>
 
 // The text as a line.
 fn with_end(text: String) -> Result<String, AllocError>
-    ensures { IfOk result (λ line. string_bytes line ≡ string_bytes text ++ 10 ∷ []) }
+    ensures { IfOk result (λ line. string_bytes line ≡ string_bytes text ++ line_feed ∷ []) }
 {
     let mut line = text;
     line.push('\n')?;

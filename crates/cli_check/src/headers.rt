@@ -2,14 +2,16 @@
 ghost use Rattle.std.specs.Prelude.{◌≡◌, ◌==◌, ℕ, ◌<◌, ◌≤◌, [], ◌∷◌, Result, Ok, Err, length};
 ghost use Rattle.std.specs.Prelude.{MatchOption};
 ghost use Rattle.std.specs.List.{position};
+ghost use Rattle.room_entry.specs.Bytes.{comma};
 ghost use Rattle.room_entry.specs.Gives.{Gives};
 ghost use Rattle.room_ace.specs.Lists.{lines_of};
 ghost use Rattle.room_entry.specs.Pieces.{pieces};
 ghost use Rattle.cli_check.specs.declared.fault.InputWhy.{InputWhy};
 ghost use Rattle.cli_check.specs.declared.fault.InputWhy.TheVariants.{BadHeader};
 ghost use Rattle.cli_check.specs.Given.{GivesBy};
-ghost use Rattle.cli_check.specs.Check.{ask_line, asked_of, at_line, caller_line, cut_header};
-ghost use Rattle.cli_check.specs.Check.{groups_line, groups_of, name_in, names_in, owners_line};
+ghost use Rattle.cli_check.specs.Check.{ask_line, checked_mask, at_line, caller_line, cut_header};
+ghost use Rattle.cli_check.specs.Check.{groups_line, checked_groups, checked_name, checked_names};
+ghost use Rattle.cli_check.specs.Check.{owners_line};
 ghost use Rattle.cli_check.specs.Check.{owners_of, user_of, value_of, without_spaces};
 
 use crate::fault::{InputFault, InputWhy};
@@ -30,7 +32,7 @@ pub fn read_caller(alloc: Global, rest: &mut &[u8]) -> Result<Option<Name>, Fail
 }
 
 /// The caller's groups in the first of the lines. The lines below are left.
-pub fn read_groups(
+pub fn read_groups_line(
     alloc: Global,
     user: &Option<Name>,
     rest: &mut &[u8],
@@ -125,8 +127,8 @@ fn without_spaces(bytes: &[u8]) -> &[u8]
 }
 
 // The name that the bytes are.
-fn name_in(alloc: Global, value: &[u8]) -> Result<Name, Failure<InputWhy>>
-    ensures { Gives result (name_in value.now) }
+fn checked_name(alloc: Global, value: &[u8]) -> Result<Name, Failure<InputWhy>>
+    ensures { Gives result (checked_name value.now) }
 {
     names_are_text();
     let text = match text_of(value) {
@@ -147,35 +149,35 @@ fn user_in(alloc: Global, value: &[u8]) -> Result<Option<Name>, Failure<InputWhy
     if value.is_empty() {
         return Ok(None);
     }
-    let name = name_in(alloc, value)?;
+    let name = checked_name(alloc, value)?;
     Ok(Some(name))
 }
 
 // The caller's groups, which an anonymous caller can't have.
 fn groups_in(alloc: Global, user: &Option<Name>, value: &[u8]) -> Result<Names, Failure<InputWhy>>
-    ensures { Gives result (groups_of user.now value.now) }
+    ensures { Gives result (checked_groups user.now value.now) }
 {
     if value.is_empty() {
         return Ok(Names::new(alloc));
     }
     match user {
         None => Err(Failure::Fault(InputWhy::BadName)),
-        Some(_) => names_in(alloc, value),
+        Some(_) => checked_names(alloc, value),
     }
 }
 
 // The names between commas.
-fn names_in(alloc: Global, value: &[u8]) -> Result<Names, Failure<InputWhy>>
-    ensures { Gives result (names_in (pieces 44 value.now)) }
+fn checked_names(alloc: Global, value: &[u8]) -> Result<Names, Failure<InputWhy>>
+    ensures { Gives result (checked_names (pieces comma value.now)) }
 {
     let mut names = Names::new(alloc);
     let mut rest = value;
     while let Some((part, behind)) = cut_at(b',', rest) {
-        let name = name_in(alloc, part)?;
+        let name = checked_name(alloc, part)?;
         names.push(name)?;
         rest = behind;
     }
-    let name = name_in(alloc, rest)?;
+    let name = checked_name(alloc, rest)?;
     names.push(name)?;
     Ok(names)
 }
@@ -191,8 +193,8 @@ fn owners_in(alloc: Global, value: &[u8]) -> Result<Owners, Failure<InputWhy>>
     match cut_at(b':', group) {
         Some(_) => Err(Failure::Fault(InputWhy::BadName)),
         None => {
-            let owner = name_in(alloc, owner)?;
-            let group = name_in(alloc, group)?;
+            let owner = checked_name(alloc, owner)?;
+            let group = checked_name(alloc, group)?;
             Ok(Owners { owner, group })
         }
     }
@@ -200,7 +202,7 @@ fn owners_in(alloc: Global, value: &[u8]) -> Result<Owners, Failure<InputWhy>>
 
 // The bits that the letters spell.
 fn asked_in(value: &[u8]) -> Result<Mask, Failure<InputWhy>>
-    ensures { Gives result (asked_of value.now) }
+    ensures { Gives result (checked_mask value.now) }
 {
     let bad = Failure::Fault(InputWhy::Text(Why::Entry(TextFault::BadMask)));
     match text_of(value) {

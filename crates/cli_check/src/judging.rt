@@ -2,7 +2,7 @@
 ghost use Rattle.std.specs.Prelude.{◌≡◌, IfOk, length, nat_lt, string_bytes};
 ghost use Rattle.room_entry.specs.Letters.{mask_text};
 ghost use Rattle.cli_check.specs.Check.{judged};
-ghost use Rattle.cli_check.specs.Reply.{place_text, reply_status, reply_text, text_at};
+ghost use Rattle.cli_check.specs.Reply.{place_text, reply_status, judged_text, text_at};
 ghost use Rattle.cli_check.specs.Reply.{verdict_status, verdict_text};
 
 use crate::fault::InputFault;
@@ -37,7 +37,7 @@ pub struct CheckReply {
 /// is 0 where all is granted, 1 where the list denies, and 2 where the input is refused.
 pub fn check(alloc: Global, input: &[u8]) -> Result<CheckReply, AllocError>
     ensures { IfOk result (λ reply.
-        (string_bytes reply.text ≡ reply_text (judged input.now))
+        (string_bytes reply.text ≡ judged_text (judged input.now))
         × (reply.status ≡ reply_status (judged input.now))) }
 {
     let told = judge(alloc, input)?;
@@ -68,7 +68,7 @@ impl Judged {
     // The line that is printed, and the exit status.
     fn reply(&self, alloc: Global) -> Result<CheckReply, AllocError>
         ensures { IfOk result (λ reply.
-            (string_bytes reply.text ≡ reply_text self.now)
+            (string_bytes reply.text ≡ judged_text self.now)
             × (reply.status ≡ reply_status self.now)) }
     {
         Ok(CheckReply {
@@ -79,7 +79,7 @@ impl Judged {
 
     // The text that is printed, without the end of its line.
     fn text(&self, alloc: Global) -> Result<String, AllocError>
-        ensures { IfOk result (λ text. string_bytes text ≡ reply_text self.now) }
+        ensures { IfOk result (λ text. string_bytes text ≡ judged_text self.now) }
     {
         match self {
             Judged::Says(list, verdict) => verdict_text(alloc, list.entries().as_slice(), *verdict),

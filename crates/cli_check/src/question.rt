@@ -6,7 +6,7 @@ ghost use Rattle.cli_check.specs.Check.{answer_of, list_below, question_of};
 ghost use Rattle.room_eval.specs.Verdict.{verdict};
 
 use crate::fault::{InputFault, InputWhy};
-use crate::headers::{read_asked, read_caller, read_groups, read_owners};
+use crate::headers::{read_asked, read_caller, read_groups_line, read_owners};
 use crate::judging::Judged;
 use room_ace::{
     Caller, Entry, Failure, MOST_BYTES, Mask, ObjKind, Owners, SentList, Which, first_bad_entry,
@@ -39,7 +39,7 @@ pub fn read_question(alloc: Global, bytes: &[u8]) -> Result<Question, Failure<In
 {
     let mut rest = bytes;
     let user = read_caller(alloc, &mut rest)?;
-    let groups = read_groups(alloc, &user, &mut rest)?;
+    let groups = read_groups_line(alloc, &user, &mut rest)?;
     let owners = read_owners(alloc, &mut rest)?;
     let asked = read_asked(&mut rest)?;
     let list = list_in(alloc, rest)?;

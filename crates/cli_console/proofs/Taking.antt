@@ -12,11 +12,11 @@ use Rattle.room_import.specs.Groups.{groups_in}
 use Rattle.cli_outcome.specs.Ending.{IsOfStream}
 use Rattle.cli_outcome.specs.Reading.{IsInput}
 use Rattle.cli_outcome.specs.declared.fault.Fault.{Fault as StreamFault}
-use Rattle.cli_tasks.specs.Tasks.{goes_on, pairs_in, path_in, refused_by, reset_of, sent_in, task_of}
+use Rattle.cli_tasks.specs.Tasks.{goes_on, pairs_in, task_path, refused_by, reset_of, sent_in, task_of}
 use Rattle.cli_tasks.specs.declared.judging.Task.{Task}
 use Rattle.cli_tasks.specs.declared.judging.Task.TheVariants as task
-use Rattle.cli_tasks.specs.declared.refusal.Refusal.{Refusal}
-use Rattle.cli_tasks.specs.declared.refusal.Refusal.TheVariants as refusal
+use Rattle.cli_tasks.specs.declared.refusal.TaskRefusal.{TaskRefusal}
+use Rattle.cli_tasks.specs.declared.refusal.TaskRefusal.TheVariants as refusal
 use Rattle.cli_words.specs.Asked.{input_of}
 use Rattle.cli_words.specs.declared.command.Command.{Command}
 use Rattle.cli_words.specs.declared.command.Command.TheVariants as command
@@ -53,12 +53,12 @@ task-take command.Check input = refl
 task-take (command.Init file owner group) input = refl
 task-take (command.Serve file port count) input = refl
 task-take (command.Groups file csv) input =
-    ap (λ (read : Result (List (List ℕ × List ℕ)) Refusal). Some (goes_on read (λ pairs. Ok (task.Groups pairs)))) (pairs-take input)
+    ap (λ (read : Result (List (List ℕ × List ℕ)) TaskRefusal). Some (goes_on read (λ pairs. Ok (task.Groups pairs)))) (pairs-take input)
 task-take (command.GroupsOut file) input = refl
 task-take (command.Audit file) input = refl
 task-take (command.Dump file) input = refl
 task-take (command.Reset file path which) input =
-    ap (λ (read : Result Sent Refusal). Some (goes_on (path_in path.now) (λ path. goes_on read (λ list. Ok (task.Reset path which list))))) (sent-take input)
+    ap (λ (read : Result Sent TaskRefusal). Some (goes_on (task_path path.now) (λ path. goes_on read (λ list. Ok (task.Reset path which list))))) (sent-take input)
 task-take (command.Verify file) input = refl
 task-take (command.Migrate file) input = refl
 
@@ -68,7 +68,7 @@ pub whole : (asked : Command) (known : Option (List ℕ)) (bytes : List ℕ) (mo
 whole asked None bytes most result is front told = (bytes, tt, told)
 whole asked (Some input) bytes most result is front told =
     let due : task_of asked bytes ≡ task_of asked input = rw (front, is) (task-take asked input) in
-    let P : Option (Result Task Refusal) → Type 0 = λ due. IsTask due result in
+    let P : Option (Result Task TaskRefusal) → Type 0 = λ due. IsTask due result in
     (input, refl, subst P due told)
 
 -- nothing could be read
@@ -77,12 +77,12 @@ unread asked None why is = ([], tt, is)
 unread asked (Some input) why is = (input, refl, is)
 
 -- the task that is due
-pub taken : (due : Option (Result Task Refusal)) (task : Task) → IsSome due → IfSome due (Gives {F = Refusal} (Ok task)) → IsTask due (Ok task)
+pub taken : (due : Option (Result Task TaskRefusal)) (task : Task) → IsSome due → IfSome due (Gives {F = TaskRefusal} (Ok task)) → IsTask due (Ok task)
 taken None task is gives = absurd (false≢true is)
 taken (Some told) task is gives = ap Some gives
 
 -- or why there is none
-pub refused : (due : Option (Result Task Refusal)) (failure : Failure Refusal) → IsSome due → IfSome due (Gives {A = Task} (Err failure)) → IsTask due (Err (stop_of_refusal failure))
+pub refused : (due : Option (Result Task TaskRefusal)) (failure : Failure TaskRefusal) → IsSome due → IfSome due (Gives {A = Task} (Err failure)) → IsTask due (Err (stop_of_refusal failure))
 refused None failure is gives = absurd (false≢true is)
 refused (Some told) OutOfMemory is gives = inl refl
 refused (Some told) (Fault why) is gives = ap Some gives

@@ -4,7 +4,7 @@ use Rattle.cli_outcome.specs.Ending.{IsOfStream}
 use Rattle.cli_outcome.specs.Reading.{IsInput}
 use Rattle.cli_tasks.specs.Tasks.{task_of}
 use Rattle.cli_tasks.specs.declared.judging.Task.{Task}
-use Rattle.cli_tasks.specs.declared.refusal.Refusal.{Refusal}
+use Rattle.cli_tasks.specs.declared.refusal.TaskRefusal.{TaskRefusal}
 use Rattle.cli_words.specs.declared.command.Command.{Command}
 use Rattle.cli_words.specs.declared.command.Input.{Input}
 use Rattle.cli_words.specs.declared.command.Input.TheVariants as input
@@ -18,7 +18,7 @@ most_of input.Standard = 1048577
 most_of (input.File name) = 8388609
 
 -- The task or the refusal that is due, or a stream or memory fails.
-abbrev pub IsTask : Option (Result Task Refusal) → Result Task Stop → Type 0
+abbrev pub IsTask : Option (Result Task TaskRefusal) → Result Task Stop → Type 0
 IsTask due (Ok task) = due ≡ Some (Ok task)
 IsTask due (Err (stop.Refused why)) = due ≡ Some (Err why)
 IsTask due (Err (stop.Failed why)) = IsOfStream why

@@ -2,6 +2,7 @@
 use Rattle.std.specs.Prelude.{◌≡◌, ℕ, List, [], ◌∷◌, ◌++◌, Option, codes, string_bytes}
 use Rattle.std.specs.Io.KnownBytes.{Keeps}
 use Rattle.std.specs.declared.io.ErrorKind.{ErrorKind}
+use Rattle.room_entry.specs.Bytes.{line_feed}
 use Rattle.room_entry.specs.declared.failure.Failure.{Failure}
 use Rattle.room_entry.specs.declared.failure.Failure.TheVariants.{OutOfMemory, Fault}
 use Rattle.cli_outcome.specs.Ending.{fault_line, fault_of_kind}
@@ -11,7 +12,7 @@ use Rattle.cli_outcome.specs.declared.status.Status.TheVariants as status
 use Rattle.cli_console.specs.declared.stop.Stop.{Stop}
 use Rattle.cli_console.specs.declared.stop.Stop.TheVariants as stop
 use Rattle.cli_tasks.specs.Tasks.{refusal_text}
-use Rattle.cli_tasks.specs.declared.refusal.Refusal.{Refusal}
+use Rattle.cli_tasks.specs.declared.refusal.TaskRefusal.{TaskRefusal}
 use Rattle.cli_words.specs.declared.command.CliFault.{CliFault}
 
 -- ---- why it ends
@@ -26,7 +27,7 @@ stop_of_words OutOfMemory = stop.Failed fault.Memory
 stop_of_words (Fault why) = stop.Words why
 
 -- the words or the input are refused, or there is no memory for them
-abbrev pub stop_of_refusal : Failure Refusal → Stop
+abbrev pub stop_of_refusal : Failure TaskRefusal → Stop
 stop_of_refusal OutOfMemory = stop.Failed fault.Memory
 stop_of_refusal (Fault why) = stop.Refused why
 
@@ -39,7 +40,7 @@ abbrev pub TellsStop : Stop → Option (List ℕ) → Option (List ℕ) → Opti
 TellsStop (stop.Failed fault) out out' err err' code =
     Keeps out out' × WritesSome err err' (fault_line fault) × (code ≡ 3)
 TellsStop (stop.Refused why) out out' err err' code =
-    PrintsText (refusal_text why ++ 10 ∷ []) status.Refused out out' err err' code
+    PrintsText (refusal_text why ++ line_feed ∷ []) status.Refused out out' err err' code
 TellsStop stop.Exists out out' err err' code =
     PrintsText (codes "refused: file exists\n") status.Refused out out' err err' code
 TellsStop stop.NotRooms out out' err err' code =

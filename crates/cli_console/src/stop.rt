@@ -6,7 +6,7 @@ ghost use Rattle.cli_console.specs.declared.stop.Stop.TheVariants.{Failed};
 ghost use Rattle.cli_console.specs.Stops.{stop_of_kind, stop_of_refusal, stop_of_words};
 
 use cli_outcome::Fault;
-use cli_tasks::Refusal;
+use cli_tasks::TaskRefusal;
 use cli_words::CliFault;
 use room_ace::Failure;
 use std::alloc::AllocError;
@@ -18,7 +18,7 @@ pub enum Stop {
     /// Something failed.
     Failed(Fault),
     /// The words or the input are refused.
-    Refused(Refusal),
+    Refused(TaskRefusal),
     /// The file to be made is there already.
     Exists,
     /// The file is empty.
@@ -56,10 +56,10 @@ impl From<Failure<CliFault>> for Stop {
     }
 }
 
-impl From<Failure<Refusal>> for Stop {
+impl From<Failure<TaskRefusal>> for Stop {
     ghost from_gives = { λ failure stop. stop ≡ stop_of_refusal failure };
 
-    fn from(failure: Failure<Refusal>) -> Stop {
+    fn from(failure: Failure<TaskRefusal>) -> Stop {
         match failure {
             Failure::OutOfMemory => Stop::Failed(Fault::Memory),
             Failure::Fault(why) => Stop::Refused(why),

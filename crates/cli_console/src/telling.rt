@@ -1,5 +1,6 @@
 //! Prints why the program ends on its two writers.
 ghost use Rattle.std.specs.Prelude.{◌≡◌, ◌++◌, ◌∷◌, [], IfOk, string_bytes};
+ghost use Rattle.room_entry.specs.Bytes.{line_feed};
 ghost use Rattle.cli_outcome.specs.Written.{PrintsText, WritesSome};
 ghost use Rattle.cli_outcome.specs.declared.status.Status.TheVariants.{Refused};
 ghost use Rattle.cli_tasks.specs.Tasks.{refusal_text};
@@ -7,7 +8,7 @@ ghost use Rattle.cli_console.specs.Stops.{TellsStop};
 
 use crate::stop::Stop;
 use cli_outcome::{Fault, Status, tell_fault, tell_if_possible, tell_text};
-use cli_tasks::Refusal;
+use cli_tasks::TaskRefusal;
 use std::alloc::{AllocError, Global};
 use std::io::Write;
 
@@ -28,8 +29,13 @@ pub fn tell_stop<O: Write, E: Write>(alloc: Global, stop: &Stop, out: &mut O, er
     }
 }
 
-fn tell_refusal<O: Write, E: Write>(alloc: Global, why: &Refusal, out: &mut O, err: &mut E) -> u8
-    ensures { PrintsText (refusal_text why.now ++ 10 ∷ []) Refused
+fn tell_refusal<O: Write, E: Write>(
+    alloc: Global,
+    why: &TaskRefusal,
+    out: &mut O,
+    err: &mut E,
+) -> u8
+    ensures { PrintsText (refusal_text why.now ++ line_feed ∷ []) Refused
         (O.contents out.old) (O.contents out.new) (E.contents err.old) (E.contents err.new)
         result }
 {
@@ -39,8 +45,8 @@ fn tell_refusal<O: Write, E: Write>(alloc: Global, why: &Refusal, out: &mut O, e
     }
 }
 
-fn line_of(alloc: Global, why: &Refusal) -> Result<String, AllocError>
-    ensures { IfOk result (λ line. string_bytes line ≡ refusal_text why.now ++ 10 ∷ []) }
+fn line_of(alloc: Global, why: &TaskRefusal) -> Result<String, AllocError>
+    ensures { IfOk result (λ line. string_bytes line ≡ refusal_text why.now ++ line_feed ∷ []) }
 {
     format!(in alloc; "{why}\n")
 }

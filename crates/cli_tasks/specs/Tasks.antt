@@ -1,5 +1,6 @@
 -- The task of a subcommand and its input, or the first reason to refuse it (own).
-use Rattle.std.specs.Prelude.{ℕ, List, ◌++◌, Option, Some, None, Result, Ok, Err, codes, if◌then◌else◌, length, nat_lt}
+use Rattle.std.specs.Prelude.{ℕ, List, ◌++◌, Option, Some, None, Result, Ok, Err, codes}
+use Rattle.std.specs.Prelude.{if◌then◌else◌, length, nat_lt}
 use Rattle.room_ace.specs.Faults.{line_fault_text}
 use Rattle.room_entry.specs.Faults.{text_fault_text}
 use Rattle.room_ace.specs.Lists.{sent_of}
@@ -12,13 +13,13 @@ use Rattle.room_rows.specs.Faults.{path_fault_text}
 use Rattle.room_rows.specs.Paths.{path_of}
 use Rattle.cli_tasks.specs.declared.judging.Task.{Task}
 use Rattle.cli_tasks.specs.declared.judging.Task.TheVariants as task
-use Rattle.cli_tasks.specs.declared.refusal.Refusal.{Refusal}
-use Rattle.cli_tasks.specs.declared.refusal.Refusal.TheVariants as refusal
+use Rattle.cli_tasks.specs.declared.refusal.TaskRefusal.{TaskRefusal}
+use Rattle.cli_tasks.specs.declared.refusal.TaskRefusal.TheVariants as refusal
 use Rattle.cli_words.specs.declared.command.Command.{Command}
 use Rattle.cli_words.specs.declared.command.Command.TheVariants as command
 
 -- the line that is printed of a refusal
-abbrev pub refusal_text : Refusal → List ℕ
+abbrev pub refusal_text : TaskRefusal → List ℕ
 refusal_text (refusal.Name why) = codes "refused: " ++ text_fault_text why
 refusal_text (refusal.Path why) = codes "refused: " ++ path_fault_text why
 refusal_text refusal.TooLong = codes "refused: input too long"
@@ -26,44 +27,45 @@ refusal_text (refusal.Line fault) = codes "refused: " ++ line_fault_text fault
 refusal_text (refusal.Row fault) = codes "refused: " ++ csv_fault_text fault
 
 -- an answer, or why it is refused
-abbrev pub refused_by : {A F : Type 0} → (F → Refusal) → Result A F → Result A Refusal
+abbrev pub refused_by : {A F : Type 0} → (F → TaskRefusal) → Result A F → Result A TaskRefusal
 refused_by why (Ok answer) = Ok answer
 refused_by why (Err fault) = Err (why fault)
 
-abbrev pub goes_on : {A B : Type 0} → Result A Refusal → (A → Result B Refusal) → Result B Refusal
+abbrev pub goes_on : {A B : Type 0} → Result A TaskRefusal → (A → Result B TaskRefusal)
+    → Result B TaskRefusal
 goes_on (Ok answer) next = next answer
 goes_on (Err why) next = Err why
 
-abbrev pub name_in : List ℕ → Result (List ℕ) Refusal
-name_in text = refused_by refusal.Name (name_of text)
+abbrev pub task_name : List ℕ → Result (List ℕ) TaskRefusal
+task_name text = refused_by refusal.Name (name_of text)
 
-abbrev pub path_in : List ℕ → Result (List (List ℕ)) Refusal
-path_in text = refused_by refusal.Path (path_of text)
+abbrev pub task_path : List ℕ → Result (List (List ℕ)) TaskRefusal
+task_path text = refused_by refusal.Path (path_of text)
 
 -- the list in at most 2^20 bytes
-abbrev pub sent_in : List ℕ → Result Sent Refusal
+abbrev pub sent_in : List ℕ → Result Sent TaskRefusal
 sent_in input =
     if nat_lt 1048576 (length input) then Err refusal.TooLong
     else refused_by refusal.Line (sent_of input)
 
 -- the pairs in a group file of at most 2^23 bytes
-abbrev pub pairs_in : List ℕ → Result (List (List ℕ × List ℕ)) Refusal
+abbrev pub pairs_in : List ℕ → Result (List (List ℕ × List ℕ)) TaskRefusal
 pairs_in input =
     if nat_lt 8388608 (length input) then Err refusal.TooLong
     else refused_by refusal.Row (groups_in input)
 
-abbrev pub new_room : List ℕ → List ℕ → Result Task Refusal
-new_room owner group = goes_on (name_in owner) (λ owner. goes_on (name_in group) (λ group.
+abbrev pub init_task : List ℕ → List ℕ → Result Task TaskRefusal
+init_task owner group = goes_on (task_name owner) (λ owner. goes_on (task_name group) (λ group.
     Ok (task.Init (record { owner = owner; group = group }))))
 
-abbrev pub reset_of : List ℕ → Which → List ℕ → Result Task Refusal
-reset_of path which input = goes_on (path_in path) (λ path. goes_on (sent_in input) (λ list.
+abbrev pub reset_of : List ℕ → Which → List ℕ → Result Task TaskRefusal
+reset_of path which input = goes_on (task_path path) (λ path. goes_on (sent_in input) (λ list.
     Ok (task.Reset path which list)))
 
 -- `check` and `serve` are none of these tasks.
-abbrev pub task_of : Command → List ℕ → Option (Result Task Refusal)
+abbrev pub task_of : Command → List ℕ → Option (Result Task TaskRefusal)
 task_of command.Check input = None
-task_of (command.Init file owner group) input = Some (new_room owner.now group.now)
+task_of (command.Init file owner group) input = Some (init_task owner.now group.now)
 task_of (command.Serve file port count) input = None
 task_of (command.Groups file csv) input =
     Some (goes_on (pairs_in input) (λ pairs. Ok (task.Groups pairs)))

@@ -1,10 +1,11 @@
 //! Validates a subcommand's words and input.
 ghost use Rattle.std.specs.Prelude.{IfSome, IsSome};
 ghost use Rattle.room_entry.specs.Gives.{Gives};
-ghost use Rattle.cli_tasks.specs.Tasks.{name_in, new_room, pairs_in, path_in, reset_of, sent_in};
+ghost use Rattle.cli_tasks.specs.Tasks.{task_name, init_task, pairs_in, task_path, reset_of};
+ghost use Rattle.cli_tasks.specs.Tasks.{sent_in};
 ghost use Rattle.cli_tasks.specs.Tasks.{task_of};
 
-use crate::refusal::Refusal;
+use crate::refusal::TaskRefusal;
 use cli_words::Command;
 use room_ace::{Failure, MOST_BYTES, Name, Owners, SentList, Which, read_list, read_name};
 use room_import::{Pairs, read_groups};
@@ -38,12 +39,16 @@ pub enum Task {
 /// The task of a subcommand and its input, which is the bytes of its list or of its CSV file. The
 /// error is the first reason to refuse it, or that memory ran out: names are validated first, next
 /// the path, then the input.
-pub fn judge(alloc: Global, command: &Command<'_>, input: &[u8]) -> Result<Task, Failure<Refusal>>
+pub fn judge(
+    alloc: Global,
+    command: &Command<'_>,
+    input: &[u8],
+) -> Result<Task, Failure<TaskRefusal>>
     requires { IsSome (task_of command.now input.now) }
     ensures { IfSome (task_of command.now input.now) (Gives result) }
 {
     match command {
-        Command::Init { owner, group, .. } => new_room(alloc, owner, group),
+        Command::Init { owner, group, .. } => init_task(alloc, owner, group),
         Command::Groups { .. } => Ok(Task::Groups(pairs_in(alloc, input)?)),
         Command::GroupsOut { .. } => Ok(Task::GroupsOut),
         Command::Audit { .. } => Ok(Task::Audit),
@@ -55,64 +60,69 @@ pub fn judge(alloc: Global, command: &Command<'_>, input: &[u8]) -> Result<Task,
     }
 }
 
-fn new_room(alloc: Global, owner: &str, group: &str) -> Result<Task, Failure<Refusal>>
-    ensures { Gives result (new_room owner.now group.now) }
+fn init_task(alloc: Global, owner: &str, group: &str) -> Result<Task, Failure<TaskRefusal>>
+    ensures { Gives result (init_task owner.now group.now) }
 {
-    let owner = name_in(alloc, owner)?;
-    let group = name_in(alloc, group)?;
+    let owner = task_name(alloc, owner)?;
+    let group = task_name(alloc, group)?;
     Ok(Task::Init(Owners { owner, group }))
 }
 
-fn name_in(alloc: Global, text: &str) -> Result<Name, Failure<Refusal>>
-    ensures { Gives result (name_in text.now) }
+fn task_name(alloc: Global, text: &str) -> Result<Name, Failure<TaskRefusal>>
+    ensures { Gives result (task_name text.now) }
 {
     match read_name(alloc, text) {
         Ok(name) => Ok(name),
-        Err(Failure::Fault(why)) => Err(Failure::Fault(Refusal::Name(why))),
+        Err(Failure::Fault(why)) => Err(Failure::Fault(TaskRefusal::Name(why))),
         Err(Failure::OutOfMemory) => Err(Failure::OutOfMemory),
     }
 }
 
-fn pairs_in(alloc: Global, input: &[u8]) -> Result<Pairs, Failure<Refusal>>
+fn pairs_in(alloc: Global, input: &[u8]) -> Result<Pairs, Failure<TaskRefusal>>
     ensures { Gives result (pairs_in input.now) }
 {
     if input.len() > MOST_GROUP_BYTES {
-        return Err(Failure::Fault(Refusal::TooLong));
+        return Err(Failure::Fault(TaskRefusal::TooLong));
     }
     match read_groups(alloc, input) {
         Ok(pairs) => Ok(pairs),
-        Err(Failure::Fault(fault)) => Err(Failure::Fault(Refusal::Row(fault))),
+        Err(Failure::Fault(fault)) => Err(Failure::Fault(TaskRefusal::Row(fault))),
         Err(Failure::OutOfMemory) => Err(Failure::OutOfMemory),
     }
 }
 
-fn reset_of(alloc: Global, path: &str, which: Which, input: &[u8]) -> Result<Task, Failure<Refusal>>
+fn reset_of(
+    alloc: Global,
+    path: &str,
+    which: Which,
+    input: &[u8],
+) -> Result<Task, Failure<TaskRefusal>>
     ensures { Gives result (reset_of path.now which input.now) }
 {
-    let path = path_in(alloc, path)?;
+    let path = task_path(alloc, path)?;
     let list = sent_in(alloc, input)?;
     Ok(Task::Reset(path, which, list))
 }
 
-fn path_in(alloc: Global, text: &str) -> Result<Path, Failure<Refusal>>
-    ensures { Gives result (path_in text.now) }
+fn task_path(alloc: Global, text: &str) -> Result<Path, Failure<TaskRefusal>>
+    ensures { Gives result (task_path text.now) }
 {
     match read_path(alloc, text.as_bytes()) {
         Ok(path) => Ok(path),
-        Err(Failure::Fault(why)) => Err(Failure::Fault(Refusal::Path(why))),
+        Err(Failure::Fault(why)) => Err(Failure::Fault(TaskRefusal::Path(why))),
         Err(Failure::OutOfMemory) => Err(Failure::OutOfMemory),
     }
 }
 
-fn sent_in(alloc: Global, input: &[u8]) -> Result<SentList, Failure<Refusal>>
+fn sent_in(alloc: Global, input: &[u8]) -> Result<SentList, Failure<TaskRefusal>>
     ensures { Gives result (sent_in input.now) }
 {
     if input.len() > MOST_BYTES {
-        return Err(Failure::Fault(Refusal::TooLong));
+        return Err(Failure::Fault(TaskRefusal::TooLong));
     }
     match read_list(alloc, input) {
         Ok(list) => Ok(list),
-        Err(Failure::Fault(fault)) => Err(Failure::Fault(Refusal::Line(fault))),
+        Err(Failure::Fault(fault)) => Err(Failure::Fault(TaskRefusal::Line(fault))),
         Err(Failure::OutOfMemory) => Err(Failure::OutOfMemory),
     }
 }

@@ -5,4 +5,4 @@ mod judging;
 mod refusal;
 
 pub use judging::{MOST_GROUP_BYTES, Task, judge};
-pub use refusal::Refusal;
+pub use refusal::TaskRefusal;

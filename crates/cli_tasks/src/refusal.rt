@@ -10,7 +10,7 @@ use std::fmt;
 /// Why words or an input are refused. It is displayed as it is printed, as
 /// `refused: P1 bad object name`.
 #[derive(Clone, Copy, Debug, PartialEq, Eq)]
-pub enum Refusal {
+pub enum TaskRefusal {
     /// An owner or an owning group is no name.
     Name(TextFault),
     /// A path is invalid.
@@ -23,20 +23,20 @@ pub enum Refusal {
     Row(CsvFault),
 }
 
-impl fmt::Display for Refusal {
+impl fmt::Display for TaskRefusal {
     ghost use Rattle.std.specs.Prelude.{Some};
 
     ghost output = { λ refusal. Some (refusal_text refusal) };
 
     fn fmt<W: fmt::Write>(&self, f: &mut fmt::Formatter<W>) -> fmt::Result {
         match self {
-            Refusal::Name(why) => write!(f, "refused: {why}"),
-            Refusal::Path(why) => write!(f, "refused: {why}"),
-            Refusal::TooLong => f.write_str("refused: input too long"),
-            Refusal::Line(fault) => write!(f, "refused: {fault}"),
-            Refusal::Row(fault) => write!(f, "refused: {fault}"),
+            TaskRefusal::Name(why) => write!(f, "refused: {why}"),
+            TaskRefusal::Path(why) => write!(f, "refused: {why}"),
+            TaskRefusal::TooLong => f.write_str("refused: input too long"),
+            TaskRefusal::Line(fault) => write!(f, "refused: {fault}"),
+            TaskRefusal::Row(fault) => write!(f, "refused: {fault}"),
         }
     }
 }
 
-impl Error for Refusal {}
+impl Error for TaskRefusal {}

@@ -1,7 +1,9 @@
 -- The subcommands with their arguments, as `clap` reads them (own).
-use Rattle.std.specs.Prelude.{◌≡◌, ◌∷◌, List, [], Option, Some, Bool, true, false, codes, map, pos, fold}
+use Rattle.std.specs.Prelude.{◌≡◌, ◌∷◌, List, [], Option, Some, Bool, true, false, codes, map, pos}
+use Rattle.std.specs.Prelude.{fold}
 use Rattle.std.specs.Borrow.{Bor}
-use Rattle.clap.specs.Words.{App, Rule, Shape, Text, app_of, new_app, new_rule, rule_of, with_rule, with_subcommand}
+use Rattle.clap.specs.Words.{App, Rule, Shape, Text, app_of, new_app, new_rule, rule_of, with_rule}
+use Rattle.clap.specs.Words.{with_subcommand}
 use Rattle.clap.specs.declared.builder.arg.Arg.{Arg}
 use Rattle.clap.specs.declared.builder.command.Command.{Command}
 use Rattle.clap.specs.declared.builder.command.Command.TheViews.{out-Command}

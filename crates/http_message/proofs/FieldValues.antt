@@ -4,40 +4,40 @@ use Rattle.std.specs.Str.{str_eq_ignore_ascii_case}
 use Rattle.std.proofs.lemmas.List.{append-nil, take_more}
 use Rattle.http_message.specs.declared.fields.Values.{Values}
 use Rattle.http_message.specs.declared.head.Field.{Field}
-use Rattle.http_message.specs.Fields.{values_of}
+use Rattle.http_message.specs.Fields.{field_values}
 use Rattle.http_message.specs.Values.{AreValues}
 
 if-append : (b : Bool) (name : List ℕ) (f : Field) (fs gs : List Field)
-    → values_of name (fs ++ gs) ≡ values_of name fs ++ values_of name gs
-    → (if b then f.value ∷ values_of name (fs ++ gs) else values_of name (fs ++ gs))
-    ≡ (if b then f.value ∷ values_of name fs else values_of name fs) ++ values_of name gs
+    → field_values name (fs ++ gs) ≡ field_values name fs ++ field_values name gs
+    → (if b then f.value ∷ field_values name (fs ++ gs) else field_values name (fs ++ gs))
+    ≡ (if b then f.value ∷ field_values name fs else field_values name fs) ++ field_values name gs
 if-append true name f fs gs ih = ap (λ t. f.value ∷ t) ih
 if-append false name f fs gs ih = ih
 
-values_of-append : (name : List ℕ) (fs : List Field) (gs : List Field)
-    → values_of name (fs ++ gs) ≡ values_of name fs ++ values_of name gs
-values_of-append name [] gs = refl
-values_of-append name (f ∷ fs) gs =
-    if-append (str_eq_ignore_ascii_case f.name name) name f fs gs (values_of-append name fs gs)
+field_values-append : (name : List ℕ) (fs : List Field) (gs : List Field)
+    → field_values name (fs ++ gs) ≡ field_values name fs ++ field_values name gs
+field_values-append name [] gs = refl
+field_values-append name (f ∷ fs) gs =
+    if-append (str_eq_ignore_ascii_case f.name name) name f fs gs (field_values-append name fs gs)
 
 -- the fields up to the next one
 values-then : (name : List ℕ) (fields : List Field) (i : ℕ) (f : Field) → i < length fields → f ≡ get_or fields i f
-    → values_of name (take (i + 1) fields) ≡ values_of name (take i fields) ++ values_of name (f ∷ [])
+    → field_values name (take (i + 1) fields) ≡ field_values name (take i fields) ++ field_values name (f ∷ [])
 values-then name fields i f lt is =
-    ap (values_of name) (take_more fields i f lt ∙ ap (λ x. take i fields ++ x ∷ []) (sym is))
-    ∙ values_of-append name (take i fields) (f ∷ [])
+    ap (field_values name) (take_more fields i f lt ∙ ap (λ x. take i fields ++ x ∷ []) (sym is))
+    ∙ field_values-append name (take i fields) (f ∷ [])
 
 -- a field of another name, read through a copy of its name
 pub values-other : (name read : List ℕ) (same : Bool) (fields : List Field) (i : ℕ) (f : Field) (found : Values)
     → i < length fields → f ≡ get_or fields i f → read ≡ f.name → same ≡ str_eq_ignore_ascii_case read name → same ≡ false
-    → AreValues (values_of name (take i fields)) found
-    → AreValues (values_of name (take (i + 1) fields)) found
+    → AreValues (field_values name (take i fields)) found
+    → AreValues (field_values name (take (i + 1) fields)) found
 values-other name read same fields i f found lt is reads tests off have =
-    let before = values_of name (take i fields) in
+    let before = field_values name (take i fields) in
     let other : str_eq_ignore_ascii_case f.name name ≡ false =
     ap (λ t. str_eq_ignore_ascii_case t name) (sym reads) ∙ sym tests ∙ off in
-    let one : values_of name (f ∷ []) ≡ [] = ap (λ (b : Bool). if b then f.value ∷ [] else []) other in
-    let all : values_of name (take (i + 1) fields) ≡ before =
+    let one : field_values name (f ∷ []) ≡ [] = ap (λ (b : Bool). if b then f.value ∷ [] else []) other in
+    let all : field_values name (take (i + 1) fields) ≡ before =
     values-then name fields i f lt is ∙ ap (λ t. before ++ t) one ∙ append-nil before in
     subst (λ t. AreValues t found) (sym all) have
 
@@ -45,14 +45,14 @@ values-other name read same fields i f found lt is reads tests off have =
 pub values-same : (name read value : List ℕ) (same : Bool) (fields : List Field) (i : ℕ) (f : Field) (next : Values)
     → i < length fields → f ≡ get_or fields i f → read ≡ f.name → same ≡ str_eq_ignore_ascii_case read name → same ≡ true
     → value ≡ f.value
-    → AreValues (values_of name (take i fields) ++ value ∷ []) next
-    → AreValues (values_of name (take (i + 1) fields)) next
+    → AreValues (field_values name (take i fields) ++ value ∷ []) next
+    → AreValues (field_values name (take (i + 1) fields)) next
 values-same name read value same fields i f next lt is reads tests on valued have =
-    let before = values_of name (take i fields) in
+    let before = field_values name (take i fields) in
     let alike : str_eq_ignore_ascii_case f.name name ≡ true =
     ap (λ t. str_eq_ignore_ascii_case t name) (sym reads) ∙ sym tests ∙ on in
-    let one : values_of name (f ∷ []) ≡ f.value ∷ [] = ap (λ (b : Bool). if b then f.value ∷ [] else []) alike in
-    let all : values_of name (take (i + 1) fields) ≡ before ++ f.value ∷ [] =
+    let one : field_values name (f ∷ []) ≡ f.value ∷ [] = ap (λ (b : Bool). if b then f.value ∷ [] else []) alike in
+    let all : field_values name (take (i + 1) fields) ≡ before ++ f.value ∷ [] =
     values-then name fields i f lt is ∙ ap (λ t. before ++ t) one in
     let V : List ℕ → Type 0 = λ v. AreValues (before ++ v ∷ []) next in
     subst (λ t. AreValues t next) (sym all) (subst V valued have)

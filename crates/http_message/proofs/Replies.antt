@@ -28,7 +28,7 @@ unknown_method : fault_text HttpFault.UnknownMethod false
 unfolding reply_form digits
 unknown_method = refl
 
-bad_list : fault_text (HttpFault.BadList (record { line = 1; why = Why.NoListLine })) false
+bad_list_text : fault_text (HttpFault.BadList (record { line = 1; why = Why.NoListLine })) false
     ≡ codes "HTTP/1.1 422 Unprocessable Entity\r\nContent-Type: application/json\r\nContent-Length: 30\r\n\r\n{\"line\":1,\"why\":\"bad-list A6\"}"
 unfolding reply_form digits serde_json_on_literals
-bad_list = refl
+bad_list_text = refl

@@ -17,7 +17,7 @@ use Rattle.http_message.specs.declared.word.Action.{Action}
 use Rattle.http_message.specs.Words.{verb_of, action_of}
 use Rattle.http_message.specs.Target.{is_target, path_part, query_part, named_path}
 use Rattle.http_message.specs.Routes.{word_of}
-use Rattle.http_message.specs.Fields.{values_of, trimmed}
+use Rattle.http_message.specs.Fields.{field_values, trimmed}
 use Rattle.http_message.specs.Json.{text_under}
 
 -- a test, and those after it
@@ -36,8 +36,8 @@ told words (Ok value) = Ok value
 told words (Err fault) = Err (words fault)
 
 -- 7 and 8: the route, and the methods of its word
-abbrev pub asked_of : Verb → List ℕ → Result (Word × Action) HttpFault
-asked_of verb path =
+abbrev pub asked_action : Verb → List ℕ → Result (Word × Action) HttpFault
+asked_action verb path =
     and_then (or_fault (word_of path) HttpFault.NoRoute) (λ word.
     and_then (or_fault (action_of word verb) (HttpFault.OtherMethod word)) (λ action.
     Ok (word, action)))
@@ -47,40 +47,40 @@ abbrev pub target_path : Word → List ℕ → Result (List (List ℕ)) HttpFaul
 target_path word path = told HttpFault.BadPath (path_of (named_path word path))
 
 -- 10: the mask, which /can/ alone has
-abbrev pub mask_in : List ℕ → Result (List ℕ) HttpFault
-mask_in query = told (λ fault. HttpFault.BadMask) (read_mask_of query)
+abbrev pub asked_bits : List ℕ → Result (List ℕ) HttpFault
+asked_bits query = told (λ fault. HttpFault.BadMask) (read_mask_of query)
 
 abbrev pub asked_mask : Action → List ℕ → Result (List ℕ) HttpFault
-asked_mask Action.Can query = mask_in query
+asked_mask Action.Can query = asked_bits query
 asked_mask action query = Ok []
 
 -- 11: at most one caller, who has a name
-abbrev pub user_in : List ℕ → Result (Option (List ℕ)) HttpFault
-user_in text = if is_name text then Ok (Some text) else Err HttpFault.BadUser
+abbrev pub asked_user : List ℕ → Result (Option (List ℕ)) HttpFault
+asked_user text = if is_name text then Ok (Some text) else Err HttpFault.BadUser
 
-abbrev pub caller_in : List (List ℕ) → Result (Option (List ℕ)) HttpFault
-caller_in [] = Ok None
-caller_in (value ∷ []) = user_in (trimmed value)
-caller_in (value ∷ other ∷ values) = Err HttpFault.BadUser
+abbrev pub asked_caller : List (List ℕ) → Result (Option (List ℕ)) HttpFault
+asked_caller [] = Ok None
+asked_caller (value ∷ []) = asked_user (trimmed value)
+asked_caller (value ∷ other ∷ values) = Err HttpFault.BadUser
 
 abbrev pub caller_of : List Field → Result (Option (List ℕ)) HttpFault
-caller_of fields = caller_in (values_of (codes "room-user") fields)
+caller_of fields = asked_caller (field_values (codes "room-user") fields)
 
 -- 12: the body. A text under a key of a JSON body is a path or a name.
-abbrev pub path_in : List ℕ → Result (List (List ℕ)) HttpFault
-path_in text = told (λ fault. HttpFault.BadBody) (path_of text)
+abbrev pub asked_path : List ℕ → Result (List (List ℕ)) HttpFault
+asked_path text = told (λ fault. HttpFault.BadBody) (path_of text)
 
-abbrev pub name_in : List ℕ → Result (List ℕ) HttpFault
-name_in text = told (λ fault. HttpFault.BadBody) (name_of text)
+abbrev pub asked_name : List ℕ → Result (List ℕ) HttpFault
+asked_name text = told (λ fault. HttpFault.BadBody) (name_of text)
 
 abbrev pub path_under : List ℕ → List ℕ → Result (List (List ℕ)) HttpFault
-path_under key body = and_then (or_fault (text_under key body) HttpFault.BadBody) path_in
+path_under key body = and_then (or_fault (text_under key body) HttpFault.BadBody) asked_path
 
 abbrev pub name_under : List ℕ → List ℕ → Result (List ℕ) HttpFault
-name_under key body = and_then (or_fault (text_under key body) HttpFault.BadBody) name_in
+name_under key body = and_then (or_fault (text_under key body) HttpFault.BadBody) asked_name
 
-abbrev pub owners_in : List ℕ → Result Owners HttpFault
-owners_in body =
+abbrev pub asked_owners : List ℕ → Result Owners HttpFault
+asked_owners body =
     and_then (name_under (codes "owner") body) (λ owner.
     and_then (name_under (codes "group") body) (λ group.
     Ok (record { owner = owner; group = group })))
@@ -102,30 +102,30 @@ request_in (Action.SetList which) path mask body =
     and_then (list_in body) (λ list. Ok (Request.SetList path which list))
 request_in Action.ReadAttr path mask body = Ok (Request.ReadAttr path)
 request_in Action.SetOwners path mask body =
-    and_then (owners_in body) (λ owners. Ok (Request.SetOwners path owners))
+    and_then (asked_owners body) (λ owners. Ok (Request.SetOwners path owners))
 request_in Action.Can path mask body = Ok (Request.Can path mask)
 
 -- 11 and 12, once there are a path and a mask
-abbrev pub Message : Type 0
-Message = Option (List ℕ) × Request
+abbrev pub UserRequest : Type 0
+UserRequest = Option (List ℕ) × Request
 
 abbrev pub asked_on :
-    Action → List (List ℕ) → List ℕ → List Field → List ℕ → Result Message HttpFault
+    Action → List (List ℕ) → List ℕ → List Field → List ℕ → Result UserRequest HttpFault
 asked_on action path mask fields body =
     and_then (caller_of fields) (λ caller.
     and_then (request_in action path mask body) (λ request. Ok (caller, request)))
 
 -- 9 to 12
 abbrev pub asked_at :
-    Word → Action → List ℕ → List ℕ → List Field → List ℕ → Result Message HttpFault
+    Word → Action → List ℕ → List ℕ → List Field → List ℕ → Result UserRequest HttpFault
 asked_at word action path query fields body =
     and_then (target_path word path) (λ names.
     and_then (asked_mask action query) (λ mask. asked_on action names mask fields body))
 
 -- 7 to 12
-abbrev pub asked_by : Verb → List ℕ → List ℕ → List Field → List ℕ → Result Message HttpFault
+abbrev pub asked_by : Verb → List ℕ → List ℕ → List Field → List ℕ → Result UserRequest HttpFault
 asked_by verb path query fields body =
-    and_then (asked_of verb path) (λ asked. asked_at asked.0 asked.1 path query fields body)
+    and_then (asked_action verb path) (λ asked. asked_at asked.0 asked.1 path query fields body)
 
 -- 5: a method that some word has. 6: a target that begins with a slash and is text
 abbrev pub method_of : List ℕ → Result Verb HttpFault
@@ -135,7 +135,7 @@ abbrev pub target_of : List ℕ → Result (List ℕ) HttpFault
 target_of target = if is_target target then Ok target else Err HttpFault.BadTarget
 
 -- Who asks, and what, or the first test that fails.
-unfoldable pub request_of : Head → List ℕ → Result Message HttpFault
+unfoldable pub request_of : Head → List ℕ → Result UserRequest HttpFault
 request_of head body =
     and_then (method_of head.method) (λ verb.
     and_then (target_of head.target) (λ target.

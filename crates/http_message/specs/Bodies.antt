@@ -25,17 +25,17 @@ bad_line TextFault.BadWho = codes "bad-list A3"
 bad_line TextFault.BadMask = codes "bad-list A4"
 bad_line TextFault.NotFourParts = codes "bad-list A5"
 
-abbrev pub bad_list : ListFault → List ℕ
-bad_list ListFault.TooManyEntries = codes "bad-list A7"
-bad_list ListFault.TooManyOwn = codes "bad-list A8"
-bad_list ListFault.WrongKind = codes "bad-list A9"
-bad_list ListFault.AccessFlag = codes "bad-list A10"
-bad_list ListFault.InheritOnlyAlone = codes "bad-list A11"
-bad_list ListFault.InheritanceOnDocument = codes "bad-list A12"
+abbrev pub bad_list_text : ListFault → List ℕ
+bad_list_text ListFault.TooManyEntries = codes "bad-list A7"
+bad_list_text ListFault.TooManyOwn = codes "bad-list A8"
+bad_list_text ListFault.WrongKind = codes "bad-list A9"
+bad_list_text ListFault.AccessFlag = codes "bad-list A10"
+bad_list_text ListFault.InheritOnlyAlone = codes "bad-list A11"
+bad_list_text ListFault.InheritanceOnDocument = codes "bad-list A12"
 
 abbrev pub bad_text : Why → List ℕ
 bad_text (Why.Entry fault) = bad_line fault
-bad_text (Why.List fault) = bad_list fault
+bad_text (Why.List fault) = bad_list_text fault
 bad_text Why.NoListLine = codes "bad-list A6"
 bad_text Why.NotUtf8 = codes "bad-list A13"
 
@@ -52,7 +52,7 @@ reason_word Reason.Exists = codes "exists"
 reason_word Reason.NotEmpty = codes "not-empty"
 reason_word Reason.Root = codes "root"
 reason_word Reason.Loop = codes "loop"
-reason_word (Reason.BadList place fault) = bad_list fault
+reason_word (Reason.BadList place fault) = bad_list_text fault
 reason_word Reason.TooLarge = codes "too-large"
 
 -- ---- objects
@@ -76,7 +76,7 @@ at_data at why =
     object (member (codes "at") (string at) (member (codes "why") (string why) no_members))
 
 abbrev pub refused_data : List (List ℕ) → Reason → Data
-refused_data at (Reason.BadList place fault) = place_data (path_text at) place (bad_list fault)
+refused_data at (Reason.BadList place fault) = place_data (path_text at) place (bad_list_text fault)
 refused_data at why = at_data (path_text at) (reason_word why)
 
 -- null, where there is none

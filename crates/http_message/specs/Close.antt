@@ -2,6 +2,7 @@
 use Rattle.std.specs.Prelude.{ℕ, ◌==◌, ◌&&◌, ◌||◌, Bool, List, codes}
 use Rattle.std.specs.List.{list_any}
 use Rattle.std.specs.Str.{str_eq_ignore_ascii_case}
+use Rattle.room_entry.specs.Bytes.{comma}
 use Rattle.room_entry.specs.Pieces.{pieces}
 use Rattle.http_message.specs.declared.head.Field.{Field}
 use Rattle.http_message.specs.declared.head.Head.{Head}
@@ -15,7 +16,7 @@ is_close token = str_eq_ignore_ascii_case (trimmed token) (codes "close")
 abbrev pub lists_close : Field → Bool
 lists_close field =
     str_eq_ignore_ascii_case field.name (codes "connection")
-    && list_any is_close (pieces 44 field.value)
+    && list_any is_close (pieces comma field.value)
 
 -- A message of version 1.0 asks for it, and one with a field Connection that lists the token.
 abbrev pub asks_close : Head → Bool

@@ -10,6 +10,7 @@ use Rattle.percent_encoding.specs.Percent.{percent_encode}
 use Rattle.percent_encoding.specs.declared.ascii_set.AsciiSet.{AsciiSet}
 use Rattle.serde_json.specs.Data.{Members, no_members, member, string}
 use Rattle.serde_json.specs.Find.{get_member}
+use Rattle.room_entry.specs.Bytes.{slash}
 use Rattle.room_entry.specs.Utf8.{is_utf8}
 use Rattle.room_entry.specs.Letters.{mask_text}
 use Rattle.room_eval.specs.declared.outcome.Ruling.{Ruling}
@@ -35,29 +36,29 @@ abbrev pub every_verb : List Verb
 every_verb = Verb.Delete ∷ Verb.Get ∷ Verb.Post ∷ Verb.Put ∷ []
 
 -- texts with a comma and a space between them
-abbrev pub listed : List (List ℕ) → List ℕ
-listed [] = []
-listed (text ∷ []) = text
-listed (text ∷ next ∷ texts) = text ++ codes ", " ++ listed (next ∷ texts)
+abbrev pub comma_list : List (List ℕ) → List ℕ
+comma_list [] = []
+comma_list (text ∷ []) = text
+comma_list (text ∷ next ∷ texts) = text ++ codes ", " ++ comma_list (next ∷ texts)
 
 -- The field Allow of a word lists the methods that ask something of it, in order.
 abbrev pub AllowsWhatIsAsked : Type 0
 AllowsWhatIsAsked =
     (word : Word)
     → allow_text word
-    ≡ listed (map verb_text (filter (λ verb. is_some (action_of word verb)) every_verb))
+    ≡ comma_list (map verb_text (filter (λ verb. is_some (action_of word verb)) every_verb))
 
 -- The field Allow of an unknown method lists all methods, and each of them is known by its text.
 abbrev pub EveryMethodIsListed : Type 0
 EveryMethodIsListed =
-    (every_method ≡ listed (map verb_text every_verb))
+    (every_method ≡ comma_list (map verb_text every_verb))
     × ((verb : Verb) → verb_of (verb_text verb) ≡ Some verb)
 
 -- ---- routes
 
 -- what a path begins with that has this word
 abbrev pub word_start : Word → List ℕ
-word_start word = 47 ∷ word_text word ++ codes "/"
+word_start word = slash ∷ word_text word ++ codes "/"
 
 -- A path has a word exactly where it begins with a slash, the word and a slash.
 abbrev pub WordsBeginPaths : Type 0
@@ -71,7 +72,7 @@ WordsBeginPaths =
 -- The target of a path: a slash, the word, and the text of the path. In its names a byte stands as
 -- `%` and two hexadecimal digits where it is outside ASCII or in the set, and else as itself.
 abbrev pub target_to : AsciiSet → Word → List (List ℕ) → List ℕ
-target_to set word names = 47 ∷ word_text word ++ path_text (map (percent_encode set) names)
+target_to set word names = slash ∷ word_text word ++ path_text (map (percent_encode set) names)
 
 -- A target passes its test, and is read as this word, path and query.
 pub record IsReadAs (target : List ℕ) (word : Word) (names : List (List ℕ)) (query : List ℕ)

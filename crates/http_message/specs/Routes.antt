@@ -1,6 +1,7 @@
 -- The table of routes, and the word of a path, by `matchit`'s definitions.
 use Rattle.std.specs.Prelude.{◌≡◌, ℕ, List, [], ◌∷◌, ◌++◌, Option, None, option_map, Result, Ok}
 use Rattle.std.specs.Prelude.{Err, codes, ⊤}
+use Rattle.room_entry.specs.Bytes.{slash}
 use Rattle.matchit.specs.Rows.{RowsOf}
 use Rattle.matchit.specs.Order.{placed}
 use Rattle.matchit.specs.Route.{Scan, parse_route}
@@ -25,10 +26,10 @@ with_route text word table = with_scan (parse_route text) word table
 
 -- each word W has the routes /W/ and /W/{*path}
 abbrev pub folder_route : Word → List ℕ
-folder_route word = 47 ∷ word_text word ++ codes "/"
+folder_route word = slash ∷ word_text word ++ codes "/"
 
 abbrev pub below_route : Word → List ℕ
-below_route word = 47 ∷ word_text word ++ codes "/{*path}"
+below_route word = slash ∷ word_text word ++ codes "/{*path}"
 
 abbrev pub with_word : Table → Word → Table
 with_word table word =

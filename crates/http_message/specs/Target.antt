@@ -2,6 +2,7 @@
 use Rattle.std.specs.Prelude.{ℕ, ◌+◌, ◌==◌, ◌&&◌, Bool, List, ◌∷◌, length, drop, nat_eq, codes}
 use Rattle.std.specs.List.{starts_with, before_first, after_first}
 use Rattle.percent_encoding.specs.Percent.{percent_decode}
+use Rattle.room_entry.specs.Bytes.{question_mark, slash}
 use Rattle.room_entry.specs.Utf8.{is_utf8}
 use Rattle.http_message.specs.declared.word.Word.{Word}
 use Rattle.http_message.specs.Words.{word_text}
@@ -11,7 +12,7 @@ abbrev pub is_target : List ℕ → Bool
 is_target target = starts_with nat_eq target (codes "/") && is_utf8 target
 
 abbrev pub is_mark : ℕ → Bool
-is_mark byte = byte == 63
+is_mark byte = byte == question_mark
 
 -- what stands before the first question mark, or all
 abbrev pub path_part : List ℕ → List ℕ
@@ -23,4 +24,4 @@ query_part target = after_first is_mark target
 
 -- the bytes of the path that a target names: a slash, and what stands after /W/, decoded
 abbrev pub named_path : Word → List ℕ → List ℕ
-named_path word path = 47 ∷ percent_decode (drop (length (word_text word) + 2) path)
+named_path word path = slash ∷ percent_decode (drop (length (word_text word) + 2) path)

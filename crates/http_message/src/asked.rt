@@ -1,11 +1,12 @@
 //! What a message asks: the tests of a whole message, in their order.
 ghost use Rattle.std.specs.Prelude.{◌≡◌, [], IfOk};
 ghost use Rattle.room_entry.specs.Gives.{Gives};
-ghost use Rattle.http_message.specs.Asked.{asked_by, asked_mask, asked_of, asked_on, list_in};
-ghost use Rattle.http_message.specs.Asked.{mask_in, method_of, request_in, request_of, target_path};
+ghost use Rattle.http_message.specs.Asked.{asked_by, asked_mask, asked_action, asked_on, list_in};
+ghost use Rattle.http_message.specs.Asked.{asked_bits, method_of, request_in, request_of};
+ghost use Rattle.http_message.specs.Asked.{target_path};
 ghost use Rattle.http_message.specs.declared.word.Action.{Action};
 
-use crate::body::{owners_in, path_under};
+use crate::body::{asked_owners, path_under};
 use crate::fault::HttpFault;
 use crate::fields::caller_of;
 use crate::head::{Field, Head};
@@ -57,15 +58,19 @@ fn asked_by(
     ensures { Gives result
         (asked_by verb parts.entry.0.now parts.entry.1.now fields.now body.now) }
 {
-    let (word, action) = asked_of(routes, verb, parts.0)?;
+    let (word, action) = asked_action(routes, verb, parts.0)?;
     let names = target_path(alloc, word, parts.0)?;
     let mask = asked_mask(action, parts.1)?;
     asked_on(alloc, action, names, mask, fields, body)
 }
 
 // The word of the route, and what it asks by the method.
-fn asked_of(routes: &Routes, verb: Verb, path: &str) -> Result<(Word, Action), Failure<HttpFault>>
-    ensures { Gives result (asked_of verb path.now) }
+fn asked_action(
+    routes: &Routes,
+    verb: Verb,
+    path: &str,
+) -> Result<(Word, Action), Failure<HttpFault>>
+    ensures { Gives result (asked_action verb path.now) }
 {
     match routes.word_of(path) {
         None => Err(Failure::Fault(HttpFault::NoRoute)),
@@ -93,7 +98,7 @@ fn asked_mask(action: Action, query: &str) -> Result<Mask, Failure<HttpFault>>
     ensures { Gives result (asked_mask action query.now) }
 {
     match action {
-        Action::Can => mask_in(query),
+        Action::Can => asked_bits(query),
         Action::Read | Action::List | Action::Write | Action::Append => Ok(Mask::empty()),
         Action::MakeFolder | Action::Remove | Action::Move => Ok(Mask::empty()),
         Action::ReadList(_) | Action::SetList(_) => Ok(Mask::empty()),
@@ -102,8 +107,8 @@ fn asked_mask(action: Action, query: &str) -> Result<Mask, Failure<HttpFault>>
 }
 
 // The mask of these letters.
-fn mask_in(query: &str) -> Result<Mask, Failure<HttpFault>>
-    ensures { Gives result (mask_in query.now) }
+fn asked_bits(query: &str) -> Result<Mask, Failure<HttpFault>>
+    ensures { Gives result (asked_bits query.now) }
 {
     match read_mask(query) {
         Ok(mask) => Ok(mask),
@@ -189,7 +194,7 @@ fn set_list_in(
 fn set_owners_in(alloc: Global, path: Path, body: &[u8]) -> Result<Request, Failure<HttpFault>>
     ensures { Gives result (request_in Action.SetOwners path [] body.now) }
 {
-    let owners = owners_in(alloc, body)?;
+    let owners = asked_owners(alloc, body)?;
     Ok(Request::SetOwners(path, owners))
 }
 

@@ -1,7 +1,8 @@
 //! The texts in a JSON body.
 ghost use Rattle.std.specs.Prelude.{◌≡◌, IfOk};
 ghost use Rattle.room_entry.specs.Gives.{Gives};
-ghost use Rattle.http_message.specs.Asked.{name_in, name_under, owners_in, path_in, path_under};
+ghost use Rattle.http_message.specs.Asked.{asked_name, name_under, asked_owners, asked_path};
+ghost use Rattle.http_message.specs.Asked.{path_under};
 ghost use Rattle.http_message.specs.Json.{text_under};
 
 use crate::fault::HttpFault;
@@ -46,13 +47,13 @@ pub(crate) fn path_under(alloc: Global, key: &str, body: &[u8]) -> Result<Path, 
 {
     match text_under(alloc, key, body)? {
         None => Err(Failure::Fault(HttpFault::BadBody)),
-        Some(text) => path_in(alloc, text.as_str()),
+        Some(text) => asked_path(alloc, text.as_str()),
     }
 }
 
 // The path that a text in a body is.
-fn path_in(alloc: Global, text: &str) -> Result<Path, Failure<HttpFault>>
-    ensures { Gives result (path_in text.now) }
+fn asked_path(alloc: Global, text: &str) -> Result<Path, Failure<HttpFault>>
+    ensures { Gives result (asked_path text.now) }
 {
     match read_path(alloc, text.as_bytes()) {
         Ok(path) => Ok(path),
@@ -67,13 +68,13 @@ fn name_under(alloc: Global, key: &str, body: &[u8]) -> Result<Name, Failure<Htt
 {
     match text_under(alloc, key, body)? {
         None => Err(Failure::Fault(HttpFault::BadBody)),
-        Some(text) => name_in(alloc, text.as_str()),
+        Some(text) => asked_name(alloc, text.as_str()),
     }
 }
 
 // The name that a text in a body is.
-fn name_in(alloc: Global, text: &str) -> Result<Name, Failure<HttpFault>>
-    ensures { Gives result (name_in text.now) }
+fn asked_name(alloc: Global, text: &str) -> Result<Name, Failure<HttpFault>>
+    ensures { Gives result (asked_name text.now) }
 {
     match read_name(alloc, text) {
         Ok(name) => Ok(name),
@@ -83,8 +84,8 @@ fn name_in(alloc: Global, text: &str) -> Result<Name, Failure<HttpFault>>
 }
 
 // The owners that a body says.
-pub(crate) fn owners_in(alloc: Global, body: &[u8]) -> Result<Owners, Failure<HttpFault>>
-    ensures { Gives result (owners_in body.now) }
+pub(crate) fn asked_owners(alloc: Global, body: &[u8]) -> Result<Owners, Failure<HttpFault>>
+    ensures { Gives result (asked_owners body.now) }
 {
     let owner = name_under(alloc, "owner", body)?;
     let group = name_under(alloc, "group", body)?;

@@ -1,6 +1,7 @@
 //! Whether a message asks that the connection ends.
 ghost use Rattle.std.specs.Prelude.{◌≡◌, ◌==◌, ◌<◌, [], ◌∷◌, length, MatchOption};
 ghost use Rattle.std.specs.List.{list_any, position};
+ghost use Rattle.room_entry.specs.Bytes.{comma};
 ghost use Rattle.room_entry.specs.Pieces.{pieces};
 ghost use Rattle.http_message.specs.Close.{asks_close, is_close, lists_close};
 
@@ -29,7 +30,7 @@ fn lists_close(field: &Field) -> bool
 
 // Whether a token between the commas is `close`.
 fn has_close(value: &[u8]) -> bool
-    ensures { result ≡ list_any is_close (pieces 44 value.now) }
+    ensures { result ≡ list_any is_close (pieces comma value.now) }
 {
     let mut rest = value;
     'tokens: while let Some((token, behind)) = cut_at_comma(rest) {
@@ -43,8 +44,8 @@ fn has_close(value: &[u8]) -> bool
 
 // The bytes before the first comma, and those after it.
 fn cut_at_comma(bytes: &[u8]) -> Option<(&[u8], &[u8])>
-    ensures { MatchOption result (pieces 44 bytes.now ≡ bytes.now ∷ [])
-        (λ cut. (pieces 44 bytes.now ≡ cut.0.now ∷ pieces 44 cut.1.now)
+    ensures { MatchOption result (pieces comma bytes.now ≡ bytes.now ∷ [])
+        (λ cut. (pieces comma bytes.now ≡ cut.0.now ∷ pieces comma cut.1.now)
         × (length cut.1.now < length bytes.now)) }
 {
     match comma_in(bytes) {
@@ -55,7 +56,7 @@ fn cut_at_comma(bytes: &[u8]) -> Option<(&[u8], &[u8])>
 
 // Where the first comma stands.
 fn comma_in(bytes: &[u8]) -> Option<usize>
-    ensures { result ≡ position (λ byte. byte == 44) bytes.now }
+    ensures { result ≡ position (λ byte. byte == comma) bytes.now }
 {
     bytes.iter().position(|byte| *byte == b',')
 }

@@ -10,7 +10,7 @@ ghost use Rattle.http_message.specs.Bodies.{number_or_null, place_data, refused_
 ghost use Rattle.http_message.specs.Bodies.{rulings_data, text_or_null, why_data};
 ghost use Rattle.http_message.specs.Form.{data_tokens};
 
-use crate::words::{bad_list, kind_word};
+use crate::words::{bad_list_text, kind_word};
 use json::Writer;
 use room_ace::{Entry, Mask, ObjKind, Owners, print_entry};
 use room_eval::Ruling;
@@ -75,7 +75,7 @@ pub(crate) fn push_refused(
     let text = at.to_text(alloc)?;
     match why {
         Reason::BadList { place, fault } => {
-            push_place(out, text.as_str(), *place, bad_list(*fault))
+            push_place(out, text.as_str(), *place, bad_list_text(*fault))
         }
         Reason::NoSuch => push_at(out, text.as_str(), "no-such"),
         Reason::NotFolder => push_at(out, text.as_str(), "not-folder"),

@@ -2,8 +2,8 @@
 ghost use Rattle.std.specs.Prelude.{◌≡◌, ℕ, List, [], ◌∷◌, ◌++◌, reverse};
 ghost use Rattle.std.specs.Str.{str_eq_ignore_ascii_case};
 ghost use Rattle.room_entry.specs.Gives.{Gives};
-ghost use Rattle.http_message.specs.Asked.{caller_of, user_in};
-ghost use Rattle.http_message.specs.Fields.{is_blank, trimmed, values_of, without_blanks};
+ghost use Rattle.http_message.specs.Asked.{caller_of, asked_user};
+ghost use Rattle.http_message.specs.Fields.{is_blank_byte, trimmed, field_values, without_blanks};
 ghost use Rattle.http_message.specs.Values.{AreValues};
 
 use crate::fault::HttpFault;
@@ -24,7 +24,7 @@ pub enum Values<'a> {
 
 /// The values of the fields with this name, in any case.
 pub fn values_under<'a>(fields: &'a [Field], name: &[u8]) -> Values<'a>
-    ensures { AreValues (values_of name.now fields.now) result }
+    ensures { AreValues (field_values name.now fields.now) result }
 {
     let mut found = Values::Zero;
     for field in fields {
@@ -66,7 +66,7 @@ fn without_front(bytes: &[u8]) -> &[u8]
     ensures { result.now ≡ without_blanks bytes.now }
 {
     for (index, byte) in bytes.iter().enumerate() {
-        if !is_blank(*byte) {
+        if !is_blank_byte(*byte) {
             return &bytes[index..];
         }
     }
@@ -79,7 +79,7 @@ fn without_end(bytes: &[u8]) -> &[u8]
 {
     let mut rest = bytes;
     'ends: while let Some((last, front)) = rest.split_last() {
-        if !is_blank(*last) {
+        if !is_blank_byte(*last) {
             return rest;
         }
         rest = front;
@@ -87,8 +87,8 @@ fn without_end(bytes: &[u8]) -> &[u8]
     rest
 }
 
-fn is_blank(byte: u8) -> bool
-    ensures { result ≡ is_blank byte }
+fn is_blank_byte(byte: u8) -> bool
+    ensures { result ≡ is_blank_byte byte }
 {
     byte == b' ' || byte == b'\t'
 }
@@ -99,14 +99,14 @@ pub(crate) fn caller_of(alloc: Global, fields: &[Field]) -> Result<Option<Name>,
 {
     match values_under(fields, b"room-user") {
         Values::Zero => Ok(None),
-        Values::One(value) => user_in(alloc, trimmed(value)),
+        Values::One(value) => asked_user(alloc, trimmed(value)),
         Values::Many => Err(Failure::Fault(HttpFault::BadUser)),
     }
 }
 
 // The caller whose name the bytes are.
-fn user_in(alloc: Global, bytes: &[u8]) -> Result<Option<Name>, Failure<HttpFault>>
-    ensures { Gives result (user_in bytes.now) }
+fn asked_user(alloc: Global, bytes: &[u8]) -> Result<Option<Name>, Failure<HttpFault>>
+    ensures { Gives result (asked_user bytes.now) }
 {
     let bad = Failure::Fault(HttpFault::BadUser);
     names_are_text();

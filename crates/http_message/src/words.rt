@@ -1,6 +1,6 @@
 //! The words of replies.
 ghost use Rattle.std.specs.Prelude.{◌≡◌};
-ghost use Rattle.http_message.specs.Bodies.{bad_line, bad_list, bad_path, bad_text, kind_word};
+ghost use Rattle.http_message.specs.Bodies.{bad_line, bad_list_text, bad_path, bad_text, kind_word};
 
 use room_ace::{ListFault, ObjKind, TextFault, Why};
 use room_rows::PathFault;
@@ -28,8 +28,8 @@ fn bad_line(fault: TextFault) -> &'static str
 }
 
 // Why a list, or an entry of it, is refused.
-pub(crate) fn bad_list(fault: ListFault) -> &'static str
-    ensures { result.now ≡ bad_list fault }
+pub(crate) fn bad_list_text(fault: ListFault) -> &'static str
+    ensures { result.now ≡ bad_list_text fault }
 {
     match fault {
         ListFault::TooManyEntries => "bad-list A7",
@@ -47,7 +47,7 @@ pub(crate) fn bad_text(why: Why) -> &'static str
 {
     match why {
         Why::Entry(fault) => bad_line(fault),
-        Why::List(fault) => bad_list(fault),
+        Why::List(fault) => bad_list_text(fault),
         Why::NoListLine => "bad-list A6",
         Why::NotUtf8 => "bad-list A13",
     }

@@ -2,6 +2,7 @@
 use Rattle.std.specs.Prelude.{ℕ, ◌+◌, ◌||◌, not, List, filter, Option, Some, None, Result, Ok, Err}
 use Rattle.std.specs.Prelude.{if◌then◌else◌, codes}
 use Rattle.std.specs.List.{enumerate_from, list_all}
+use Rattle.room_entry.specs.Bytes.{letter_a, letter_p}
 use Rattle.room_entry.specs.Pieces.{is_among}
 use Rattle.room_entry.specs.Ace.{Ace}
 use Rattle.room_ace.specs.Text.{entry_of}
@@ -27,7 +28,7 @@ lines_after passed text =
 abbrev pub list_flags : List ℕ → Option ListFlags
 list_flags letters =
     if list_all (is_among (codes "ap")) letters
-    then Some (record { auto = is_among letters 97; protect = is_among letters 112 })
+    then Some (record { auto = is_among letters letter_a; protect = is_among letters letter_p })
     else None
 
 -- the value, unless there is a fault

@@ -2,9 +2,11 @@
 ghost use Rattle.std.specs.Prelude.{◌≡◌, ◌++◌, ◌∷◌, [], IfOk, OnOk, MatchOption, Err, string_bytes};
 ghost use Rattle.std.specs.Prelude.{codes, ◌<◌};
 ghost use Rattle.std.specs.List.{list_all};
+ghost use Rattle.room_entry.specs.Bytes.{colon, line_feed};
 ghost use Rattle.room_entry.specs.Gives.{Gives};
 ghost use Rattle.room_entry.specs.Pieces.{is_among, pieces, same_text};
-ghost use Rattle.room_entry.specs.Letters.{flag_letters, flags_in, flags_of, flags_text, kind_of};
+ghost use Rattle.room_entry.specs.Letters.{flag_letters, flags_among, flags_of, flags_text};
+ghost use Rattle.room_entry.specs.Letters.{kind_of};
 ghost use Rattle.room_entry.specs.Letters.{kind_text, letter_if};
 ghost use Rattle.room_ace.specs.Text.{entry_of, entry_of_parts, entry_text, who_of, who_text};
 
@@ -41,7 +43,7 @@ pub(crate) fn entry_from(alloc: Global, bytes: &[u8]) -> Result<Entry, Failure<T
 
 fn four_parts(bytes: &[u8]) -> Option<Parts<'_>>
     ensures { MatchOption result (entry_of bytes.now ≡ Err TextFault.NotFourParts) (λ parts.
-        pieces 58 bytes.now
+        pieces colon bytes.now
         ≡ parts.kind.now ∷ parts.flags.now ∷ parts.who.now ∷ parts.mask.now ∷ []) }
 {
     let (kind, rest) = cut(bytes, &b':')?;
@@ -105,15 +107,15 @@ fn flags_of(letters: &[u8]) -> Option<EntryFlags>
     ensures { result ≡ flags_of letters.now }
 {
     if are_flag_letters(letters) {
-        Some(flags_in(letters))
+        Some(flags_among(letters))
     } else {
         None
     }
 }
 
 // The flags whose letters come.
-fn flags_in(letters: &[u8]) -> EntryFlags
-    ensures { result ≡ flags_in letters.now }
+fn flags_among(letters: &[u8]) -> EntryFlags
+    ensures { result ≡ flags_among letters.now }
 {
     EntryFlags {
         file_inherit: letters.contains(&b'f'),
@@ -178,7 +180,8 @@ pub fn print_entry(alloc: Global, entry: &Entry) -> Result<String, AllocError>
 /// Adds the printed form of the entry and LF.
 pub(crate) fn write_line(text: &mut String, entry: &Entry) -> Result<(), AllocError>
     ensures { OnOk result
-        (string_bytes text.new ≡ string_bytes text.old ++ (entry_text entry.now ++ 10 ∷ [])) }
+        (string_bytes text.new
+        ≡ string_bytes text.old ++ (entry_text entry.now ++ line_feed ∷ [])) }
 {
     write_entry(text, entry)?;
     text.push('\n')?;

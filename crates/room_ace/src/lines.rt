@@ -1,6 +1,7 @@
 //! The lines of bytes, and their text.
 ghost use Rattle.std.specs.Prelude.{◌≡◌, ◌==◌, ◌∷◌, ◌<◌, [], true, false, length, MatchOption};
 ghost use Rattle.std.specs.List.{position};
+ghost use Rattle.room_entry.specs.Bytes.{line_feed};
 ghost use Rattle.room_ace.specs.Lists.{after_line, lines_of, without_return};
 ghost use Rattle.room_entry.specs.Utf8.{is_utf8};
 
@@ -33,7 +34,7 @@ pub fn text_of(bytes: &[u8]) -> Option<&str>
 
 // Where the first LF stands.
 fn line_end(bytes: &[u8]) -> Option<usize>
-    ensures { result ≡ position (λ byte. byte == 10) bytes.now }
+    ensures { result ≡ position (λ byte. byte == line_feed) bytes.now }
 {
     bytes.iter().position(|byte| *byte == b'\n')
 }

@@ -9,18 +9,18 @@ use Rattle.room_machine.specs.declared.reply.Reply.{Reply}
 use Rattle.room_machine.specs.Run.{Event, Run, Asked as HasAsked}
 
 -- what happens where the requests have these replies, in turn
-abbrev pub events_of : List Asked → List Reply → List Event
-events_of [] replies = []
-events_of (asked ∷ others) [] = []
-events_of (asked ∷ others) (reply ∷ replies) =
-    HasAsked asked.user asked.at asked.request reply ∷ events_of others replies
+abbrev pub asked_events : List Asked → List Reply → List Event
+asked_events [] replies = []
+asked_events (asked ∷ others) [] = []
+asked_events (asked ∷ others) (reply ∷ replies) =
+    HasAsked asked.user asked.at asked.request reply ∷ asked_events others replies
 
 -- Each request has a reply, and from sound rows a run of the machine leads from what they mean to
 -- what the new ones mean, and these are sound.
 pub record IsRunOfRows (asked : List Asked) (old : Rows) (replies : List Reply)
     (new : Rows) : Type 0 where
   pub each : length replies ≡ length asked
-  pub run : Run (meaning old.read) (events_of asked replies) (meaning new.read)
+  pub run : Run (meaning old.read) (asked_events asked replies) (meaning new.read)
   pub sound : AreSound new
 
 -- What `perform_all` promises.

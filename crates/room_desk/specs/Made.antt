@@ -50,15 +50,15 @@ passed_held kind parent = record {
 }
 
 -- owned by the caller, or as the parent is where the caller has no name
-abbrev pub new_owners : Option (List ℕ) → Owners → Owners
-new_owners user parent = record { owner = unwrap_or user parent.owner; group = parent.group }
+abbrev pub owners_under : Option (List ℕ) → Owners → Owners
+owners_under user parent = record { owner = unwrap_or user parent.owner; group = parent.group }
 
 abbrev pub new_child : Caller → ObjKind → Node → List ℕ → List ℕ → NewNode
 new_child caller kind parent name bytes = record {
   parent = Some parent.id;
   name = name;
   kind = kind;
-  owners = new_owners caller.user parent.owners;
+  owners = owners_under caller.user parent.owners;
   dacl = passed_held kind parent.dacl;
   sacl = passed_held kind parent.sacl;
   bytes = bytes;
@@ -83,7 +83,7 @@ Ends served Becomes None old reply new = (reply ≡ served) × Becomes old new
 Ends served Becomes (Some refusal) old reply new = (reply ≡ refusal) × (new ≡ old)
 
 -- The items are judged as they come, and what follows is done.
-pub record IsServed (asker : Asker) (items : List Item) (served : Reply)
+pub record IsJudgedAndDone (asker : Asker) (items : List Item) (served : Reply)
     (Becomes : Rows → Rows → Type 0) (old : Rows) (reply : Reply) (new : Rows) : Type 0 where
   pub answer : Option Reply
   pub mid : Rows

@@ -176,7 +176,7 @@ pub record CanRenew (which : Which) (target folder : Node) (rows : Rows) : Type 
       → agrees rows.read which node ≡ true
 
 -- Only linked lists have changed, and the law holds everywhere.
-pub record IsRenewed (which : Which) (old new : Rows) : Type 0 where
+pub record HasRenewedLists (which : Which) (old new : Rows) : Type 0 where
   pub lists : Node → List Ace
   pub becomes : new ≡ reading old (with_lists which lists old.read)
   pub kept : (node : Node) → node_at old.read node.id ≡ Some node → is_linked_in old.read which node
@@ -190,7 +190,7 @@ pub record KeepsRoot (id : ℕ) (old new : Rows) : Type 0 where
 
 pub record Renews (which : Which) (target folder : Node) (old : Rows) (answer : Unit {0})
     (new : Rows) : Type 0 where
-  pub renewed : CanRenew which target folder old → IsRenewed which old new
+  pub renewed : CanRenew which target folder old → HasRenewedLists which old new
   pub keeps : IsRooted target.id old → KeepsRoot target.id old new
 
 -- The object stores these entries, which are carried down, unless it did already.

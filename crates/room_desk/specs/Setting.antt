@@ -93,8 +93,8 @@ abbrev pub list_of : ListFlags → List Ace → List Ace → Held
 list_of flags own inh = record { flags = flags; own = own; inh = inh }
 
 -- the sent list with these inherited entries
-abbrev pub sent_with : Sent → List Ace → Held
-sent_with sent inh = list_of sent.flags (own_of sent.entries) inh
+abbrev pub held_with : Sent → List Ace → Held
+held_with sent inh = list_of sent.flags (own_of sent.entries) inh
 
 -- The sent flags and own entries. A linked list inherits what the parent's stored list passes, and
 -- any other the sent entries with INHERITED.

@@ -10,7 +10,7 @@ use std::alloc::Global;
 
 /// Carries a change of a list down from the object. Where that is its own ancestor, the error is
 /// `Damaged`.
-pub(crate) fn carry_down<K: Keep>(
+pub(crate) fn carry_below<K: Keep>(
     alloc: Global,
     keep: &mut K,
     id: u64,

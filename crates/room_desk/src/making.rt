@@ -9,11 +9,11 @@ ghost use Rattle.room_rows.specs.Keep.{IsDamaged, IsUnreadable, SetsBody};
 ghost use Rattle.room_judge.specs.Judged.{CarriesOut, Does};
 ghost use Rattle.room_desk.specs.Made.{
   IsNameOf,
-  IsServed,
+  IsJudgedAndDone,
   IsMade,
   MakesChild,
   new_child,
-  new_owners,
+  owners_under,
   passed_held,
 };
 ghost use Rattle.room_machine.specs.Plan.{Check, Refusal, no_folder, not_over};
@@ -81,7 +81,7 @@ fn put_there<K: Keep>(
     bytes: &Bytes,
 ) -> Result<Reply, KeepFault>
     ensures done { Does K.Keep keep.old keep.new result IsUnreadable
-        (IsServed asker.now (no_folder (found_site path.now target.now) ∷ Check
+        (IsJudgedAndDone asker.now (no_folder (found_site path.now target.now) ∷ Check
         (found_site path.now target.now) (write_data ∷ []) ∷ not_over path.now (length bytes.now)
         ∷ []) Done (SetsBody target.now.node.id bytes.now)) }
 {
@@ -111,7 +111,7 @@ fn put_new<K: Keep>(
     bytes: &Bytes,
 ) -> Result<Reply, KeepFault>
     ensures done { Does K.Keep keep.old keep.new result IsUnreadable
-        (IsServed asker.now (Check (found_site path.now folder.now) (write_data ∷ [])
+        (IsJudgedAndDone asker.now (Check (found_site path.now folder.now) (write_data ∷ [])
         ∷ not_over path.now (length bytes.now) ∷ []) Made
         (IsMade (new_child asker.now.caller DocumentKind folder.now.node name.now bytes.now))) }
 {
@@ -184,7 +184,7 @@ fn make_new<K: Keep>(
     is_there: bool,
 ) -> Result<Reply, KeepFault>
     ensures done { Does K.Keep keep.old keep.new result IsUnreadable
-        (IsServed asker.now (Check (found_site path.now folder.now) (append_data ∷ [])
+        (IsJudgedAndDone asker.now (Check (found_site path.now folder.now) (append_data ∷ [])
         ∷ Refusal path.now Exists is_there ∷ []) Made
         (IsMade (new_child asker.now.caller FolderKind folder.now.node name.now []))) }
 {
@@ -263,7 +263,7 @@ fn copied(alloc: Global, bytes: &Bytes) -> Result<Bytes, AllocError>
 
 // The owners of what the caller makes under an object with these owners.
 fn owners_of(user: &Option<Name>, parent: &Owners) -> Result<Owners, AllocError>
-    ensures { IfOk result (λ owners. owners ≡ new_owners user.now parent.now) }
+    ensures { IfOk result (λ owners. owners ≡ owners_under user.now parent.now) }
 {
     let owner = owner_of(user, &parent.owner)?;
     Ok(Owners {

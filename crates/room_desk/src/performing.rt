@@ -7,7 +7,7 @@ use crate::asking::can;
 use crate::making::{make_folder, put};
 use crate::moving::move_object;
 use crate::owning::set_owners;
-use crate::reading::{list, read, read_attr, read_list};
+use crate::reading::{list, read, read_attr, read_full_list};
 use crate::removing::remove;
 use crate::setting::set_list;
 use crate::writing::append;
@@ -34,11 +34,11 @@ pub fn perform<K: Keep>(
 {
     let caller = caller_of(alloc, keep, user)?;
     let asker = Asker { caller, at };
-    carry_out(alloc, keep, &asker, request)
+    perform_for(alloc, keep, &asker, request)
 }
 
 // Carries out one request of a caller whose groups are known.
-fn carry_out<K: Keep>(
+fn perform_for<K: Keep>(
     alloc: Global,
     keep: &mut K,
     asker: &Asker,
@@ -55,7 +55,7 @@ fn carry_out<K: Keep>(
         Request::MakeFolder(path) => make_folder(alloc, keep, asker, path),
         Request::Remove(path) => remove(alloc, keep, asker, path),
         Request::Move(path, to) => move_object(alloc, keep, asker, path, to),
-        Request::ReadList(path, which) => read_list(alloc, keep, asker, path, *which),
+        Request::ReadList(path, which) => read_full_list(alloc, keep, asker, path, *which),
         Request::SetList(path, which, sent) => set_list(alloc, keep, asker, path, *which, sent),
         Request::ReadAttr(path) => read_attr(alloc, keep, asker, path),
         Request::SetOwners(path, owners) => set_owners(alloc, keep, asker, path, owners),

@@ -17,7 +17,7 @@ ghost use Rattle.room_desk.specs.Moving.{
 };
 ghost use Rattle.room_machine.specs.Site.{front};
 
-use crate::carrying::carry_down;
+use crate::carrying::carry_below;
 use room_ace::{Entries, Which};
 use room_inherit::{pass, takes_from};
 use room_judge::{Found, refused};
@@ -134,5 +134,5 @@ fn take_passed<K: Keep>(
         return Ok(());
     }
     keep.set_inh(target.id, which, passed.as_slice())?;
-    carry_down(alloc, keep, target.id, which)
+    carry_below(alloc, keep, target.id, which)
 }

@@ -56,7 +56,7 @@ fn read_at<K: Keep>(keep: &mut K, id: u64) -> Result<Reply, KeepFault>
 }
 
 /// The flags and the full list of an object.
-pub(crate) fn read_list<K: Keep>(
+pub(crate) fn read_full_list<K: Keep>(
     alloc: Global,
     keep: &mut K,
     asker: &Asker,

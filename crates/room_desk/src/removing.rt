@@ -3,7 +3,7 @@ ghost use Rattle.std.specs.Prelude.{◌≡◌, [], ◌∷◌, ◌<◌, length};
 ghost use Rattle.room_rows.specs.Keep.{IsDamaged, IsUnreadable, Removes};
 ghost use Rattle.room_judge.specs.Judged.{CarriesOut, Does};
 ghost use Rattle.room_machine.specs.Plan.{Deletion};
-ghost use Rattle.room_desk.specs.Made.{IsServed};
+ghost use Rattle.room_desk.specs.Made.{IsJudgedAndDone};
 ghost use Rattle.room_desk.specs.Removed.{RemovesChildless, has_children};
 ghost use Rattle.room_judge.specs.Stored.{found_site};
 ghost use Rattle.room_machine.specs.declared.reply.Reply.TheVariants.{Done};
@@ -59,7 +59,7 @@ fn remove_from<K: Keep>(
     folder: &Found,
 ) -> Result<Reply, KeepFault>
     ensures done { Does K.Keep keep.old keep.new result IsUnreadable
-        (λ old reply new. old.unreadable ≡ [] → IsServed asker.now (Deletion
+        (λ old reply new. old.unreadable ≡ [] → IsJudgedAndDone asker.now (Deletion
         (found_site path.now target.now) (found_site path.now folder.now)
         ∷ has_children path.now old target.now.node.id ∷ []) Done (Removes target.now.node.id)
         old reply new) }

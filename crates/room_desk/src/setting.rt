@@ -19,11 +19,11 @@ ghost use Rattle.room_desk.specs.Setting.{
   inh_under,
   list_of,
   marked,
-  sent_with,
+  held_with,
 };
 ghost use Rattle.room_machine.specs.declared.request.Request.TheVariants.{SetList};
 
-use crate::carrying::carry_down;
+use crate::carrying::carry_below;
 use room_ace::{Entries, Entry, ListFlags, Mask, ObjKind, SentList, Which, first_bad_entry};
 use room_inherit::pass;
 use room_judge::{Asker, Found, Pair, check, refused, walk_to_pair};
@@ -164,8 +164,8 @@ fn store_list<K: Keep>(
     inh: &Entries,
 ) -> Result<(), KeepFault>
     ensures done { Does K.Keep keep.old keep.new result (IsUnreadableIfRooted node.now.id)
-        (Stores which node.now (sent_with sent.now inh.now)) }
-    ensures quiet { sent_with sent.now inh.now ≡ held_of which node.now → IfOk result
+        (Stores which node.now (held_with sent.now inh.now)) }
+    ensures quiet { held_with sent.now inh.now ≡ held_of which node.now → IfOk result
         (λ _. K.writes keep.new ≡ K.writes keep.old) }
 {
     let flags = sent.flags();
@@ -206,7 +206,7 @@ fn write_list<K: Keep>(
 {
     keep.set_held(id, which, held)?;
     if held.flags().auto {
-        carry_down(alloc, keep, id, which)
+        carry_below(alloc, keep, id, which)
     } else {
         Ok(())
     }

@@ -11,7 +11,7 @@ use Rattle.room_rows.specs.Finding.{find_id}
 use Rattle.room_rows.specs.Rows.{AreRows, Rows, numbers_of, put_number, put_numbers}
 use Rattle.room_rows.specs.Keep.{IsDamaged}
 use Rattle.room_dump.specs.declared.dumping.Waiting.{Waiting}
-use Rattle.room_dump.specs.Dump.{HasAllBytes, all_of, has_bytes, itself, lines_of, objects_text, path_below, tree_of}
+use Rattle.room_dump.specs.Dump.{HasAllBytes, all_of, has_bytes, itself, object_lines, objects_text, path_below, tree_of}
 use Rattle.room_dump.specs.Telling.{Begins, IsUntellable}
 use Rattle.room_dump.specs.Waiting.{waiting_below, waiting_children, waiting_root}
 use Rattle.room_dump.proofs.Counting.{Each, count, count_all, count_append, count_found, count_map, count_parts, count_reverse, count_sorted, each_always, each_append, each_both, each_filter, each_found, each_front, each_last, each_map, each_reverse, each_sorted, each_weaker, filter_weaker, none_counted, one_if}
@@ -109,7 +109,7 @@ any_waits wait = true
 -- The rest wasn't reached yet. All children of what waits and of the rest are among it.
 pub record Turning (rows : Rows) (waiting : List Waiting) (most turn : ℕ) (before text : List ℕ) : Type 0 where
   pub rest : List Node
-  pub told : text ++ texts (lines_of rows.read) most rows.read waiting ≡ before ++ objects_text rows
+  pub told : text ++ texts (object_lines rows.read) most rows.read waiting ≡ before ++ objects_text rows
   -- those that were told of, of which each document has bytes
   pub met : List Node
   pub meets : met ++ texts itself most rows.read waiting ≡ all_of itself rows
@@ -145,7 +145,7 @@ begins_alone rows are root is text =
     let found = λ (p : Node → Bool). count_found p (λ (n : Node). is_none n.parent) nodes root is in
     record {
       rest = rest;
-      told = ap (λ (t : List ℕ). text ++ t) (sym (told_from (lines_of rows.read) rows root is));
+      told = ap (λ (t : List ℕ). text ++ t) (sym (told_from (object_lines rows.read) rows root is));
       met = [];
       meets = sym (told_from itself rows root is);
       filled = refl;
@@ -219,7 +219,7 @@ told_on {X} tell content waits object most text whole goes told =
 -- one object is written, and its children wait
 pub turns_on : (rows : Rows) → AreRows rows → (waits : List Waiting) (object : Waiting) (most turn : ℕ) (before text : List ℕ) → Turning rows (waits ++ object ∷ []) most turn before text
     → has_bytes rows.read object.node ≡ true
-    → Turning rows (waits ++ waiting_children object.path (children_of rows.read object.node.id)) most (turn + 1) before (text ++ lines_of rows.read object.path object.node)
+    → Turning rows (waits ++ waiting_children object.path (children_of rows.read object.node.id)) most (turn + 1) before (text ++ object_lines rows.read object.path object.node)
 turns_on rows are waits object most turn before text t bytes =
     let content = rows.read in
     let node = object.node in
@@ -250,7 +250,7 @@ turns_on rows are waits object most turn before text t bytes =
     let low = rest_below (count any_waits waits) (count always rest) turn most fewer in
     record {
       rest = left;
-      told = told_on (lines_of content) content waits object most text _ (goes_on (lines_of content) most content rest object.path node all t.rests alone low) t.told;
+      told = told_on (object_lines content) content waits object most text _ (goes_on (object_lines content) most content rest object.path node all t.rests alone low) t.told;
       met = t.met ++ node ∷ [];
       meets = told_on itself content waits object most t.met _ (goes_on itself most content rest object.path node all t.rests alone low) t.meets;
       filled = one_passes (has_bytes content) t.met node t.filled bytes;

@@ -1,7 +1,7 @@
 -- The text of a room is the whole of it.
 use Rattle.std.proofs.Common.{ℕ, ◌+◌, ◌<◌, ◌≤◌, [], length, sym, ◌∙◌, arith}
 use Rattle.room_rows.specs.Rows.{numbers_of}
-use Rattle.room_dump.specs.Dump.{lines_of}
+use Rattle.room_dump.specs.Dump.{object_lines}
 use Rattle.room_dump.specs.Laws.{TextIsWhole}
 use Rattle.room_dump.proofs.Counting.{count}
 use Rattle.room_dump.proofs.Depth.{always, deep_enough}
@@ -14,6 +14,6 @@ pub whole : TextIsWhole
 whole rows are root is depth deep =
     let most = length (numbers_of rows) in
     let t = begins_alone rows are root is [] in
-    deep_enough (lines_of rows.read) depth most rows.read t.rest [] root t.waits.0.0 t.rests t.once
+    deep_enough (object_lines rows.read) depth most rows.read t.rest [] root t.waits.0.0 t.rests t.once
     (below_both (count always t.rest) most depth t.fewer deep) (below_both (count always t.rest) most most t.fewer (omega arith))
-    ∙ sym (told_from (lines_of rows.read) rows root is)
+    ∙ sym (told_from (object_lines rows.read) rows root is)

@@ -3,6 +3,7 @@ use Rattle.std.specs.Prelude.{◌≡◌, ℕ, zero, suc, Bool, true, List, [], �
 use Rattle.std.specs.Prelude.{codes, is_some}
 use Rattle.std.specs.List.{flat_map, list_all}
 use Rattle.std.specs.Option.{option_map_or}
+use Rattle.room_entry.specs.Bytes.{slash}
 use Rattle.room_entry.specs.declared.object.ObjKind.{ObjKind}
 use Rattle.room_rows.specs.declared.node.Node.{Node}
 use Rattle.room_rows.specs.Content.{Content, body_of, children_of, root_of}
@@ -24,7 +25,7 @@ shown [] = codes "/"
 shown (byte ∷ bytes) = byte ∷ bytes
 
 abbrev pub path_below : List ℕ → Node → List ℕ
-path_below above node = above ++ 47 ∷ node.name
+path_below above node = above ++ slash ∷ node.name
 
 -- What is printed of an object, and after it of its children with all that is below them, in order
 -- of name, no deeper than the number says.
@@ -40,14 +41,14 @@ all_of tell rows =
     option_map_or (tree_of tell (length (numbers_of rows)) rows.read []) (root_of rows.read) []
 
 -- the lines of an object
-abbrev pub lines_of : Content → List ℕ → Node → List ℕ
-lines_of content path node = object_text (shown path) node (size_of content node)
+abbrev pub object_lines : Content → List ℕ → Node → List ℕ
+object_lines content path node = object_text (shown path) node (size_of content node)
 
 abbrev pub tree_text : ℕ → Content → List ℕ → Node → List ℕ
-tree_text depth content = tree_of (lines_of content) depth content
+tree_text depth content = tree_of (object_lines content) depth content
 
 abbrev pub objects_text : Rows → List ℕ
-objects_text rows = all_of (lines_of rows.read) rows
+objects_text rows = all_of (object_lines rows.read) rows
 
 -- the object itself
 abbrev pub itself : List ℕ → Node → List Node
@@ -66,8 +67,8 @@ abbrev pub HasAllBytes : Rows → Type 0
 HasAllBytes rows = list_all (has_bytes rows.read) (all_of itself rows) ≡ true
 
 -- the text of all objects, of which each document has bytes
-abbrev pub IsText : Rows → List ℕ → Type 0
-IsText rows text = (text ≡ objects_text rows) × HasAllBytes rows
+abbrev pub IsDumpText : Rows → List ℕ → Type 0
+IsDumpText rows text = (text ≡ objects_text rows) × HasAllBytes rows
 
 -- A whole room: all objects, followed by the pairs, which rows have in order of group and then of
 -- user.

@@ -7,9 +7,9 @@ use Rattle.room_rows.specs.Held.{full_of}
 use Rattle.room_rows.specs.declared.node.Node.{Node}
 
 -- a document is named with the number of its bytes
-abbrev pub kind_text : ObjKind → List ℕ
-kind_text ObjKind.Folder = codes "folder "
-kind_text ObjKind.Document = codes "document "
+abbrev pub kind_label : ObjKind → List ℕ
+kind_label ObjKind.Folder = codes "folder "
+kind_label ObjKind.Document = codes "document "
 
 abbrev pub size_text : ObjKind → ℕ → List ℕ
 size_text ObjKind.Folder size = []
@@ -21,7 +21,7 @@ owners_text owner group = owner ++ (codes " " ++ (group ++ codes " "))
 -- kind, owner, group, the size of a document, and the path
 abbrev pub heading : List ℕ → Node → ℕ → List ℕ
 heading path node size =
-    kind_text node.kind
+    kind_label node.kind
     ++ (owners_text node.owners.owner node.owners.group
     ++ (size_text node.kind size ++ (path ++ codes "\n")))
 

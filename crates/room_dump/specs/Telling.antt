@@ -6,7 +6,7 @@ use Rattle.room_rows.specs.Content.{body_of, children_of, root_of}
 use Rattle.room_rows.specs.Rows.{Rows, is_unreadable, numbers_of}
 use Rattle.room_rows.specs.Keep.{IsDamaged}
 use Rattle.room_dump.specs.declared.dumping.Waiting.{Waiting}
-use Rattle.room_dump.specs.Dump.{HasAllBytes, has_bytes, lines_of, objects_text, size_of}
+use Rattle.room_dump.specs.Dump.{HasAllBytes, has_bytes, object_lines, objects_text, size_of}
 use Rattle.room_dump.specs.Waiting.{waiting_children, waiting_root}
 
 -- there are no bytes of this number
@@ -32,7 +32,7 @@ IsSize node rows size = (size ≡ size_of rows.read node) × (has_bytes rows.rea
 abbrev pub AddsOne : Waiting → List Waiting → List Waiting → List ℕ → List ℕ
     → Rows → Unit {0} → Type 0
 AddsOne object before after text more rows answer =
-    (more ≡ text ++ lines_of rows.read object.path object.node)
+    (more ≡ text ++ object_lines rows.read object.path object.node)
     × (after ≡ before ++ waiting_children object.path (children_of rows.read object.node.id))
     × (has_bytes rows.read object.node ≡ true)
 

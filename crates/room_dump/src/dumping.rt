@@ -1,8 +1,9 @@
 //! All objects of a room, one after the other.
 ghost use Rattle.std.specs.Prelude.{◌≡◌, ◌∷◌, ◌++◌, [], IfOk, OnOk, string_bytes};
+ghost use Rattle.room_entry.specs.Bytes.{slash};
 ghost use Rattle.room_rows.specs.Calls.{Reads};
 ghost use Rattle.room_rows.specs.Keep.{IsDamaged};
-ghost use Rattle.room_dump.specs.Dump.{IsText, shown};
+ghost use Rattle.room_dump.specs.Dump.{IsDumpText, shown};
 ghost use Rattle.room_dump.specs.Telling.{
   AddsAll,
   AddsOne,
@@ -33,7 +34,7 @@ struct Waiting {
 /// that can't be read or a document without bytes, or is 0 where there is no root.
 pub fn dump<K: Keep>(alloc: Global, keep: &mut K) -> Result<String, KeepFault>
     ensures read { Reads K.Keep keep.old keep.new result IsDamaged
-        (λ rows text. IsText rows (string_bytes text)) }
+        (λ rows text. IsDumpText rows (string_bytes text)) }
 {
     let most = keep.ids()?.len();
     let root = keep.root()?;
@@ -171,7 +172,7 @@ fn push_child(
 }
 
 fn path_below(alloc: Global, above: &str, name: &str) -> Result<Text, AllocError>
-    ensures { IfOk result (λ path. path ≡ above.now ++ 47 ∷ name.now) }
+    ensures { IfOk result (λ path. path ≡ above.now ++ slash ∷ name.now) }
 {
     Ok(Text::from_string(format!(in alloc; "{above}/{name}")?))
 }

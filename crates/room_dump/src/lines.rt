@@ -3,7 +3,7 @@ ghost use Rattle.std.specs.Prelude.{◌≡◌, ◌++◌, OnOk, string_bytes};
 ghost use Rattle.room_dump.specs.Lines.{
   heading,
   held_text,
-  kind_text,
+  kind_label,
   object_text,
   owners_text,
   size_text,
@@ -44,7 +44,7 @@ fn push_heading(text: &mut String, path: &str, node: &Node, size: usize) -> Resu
 }
 
 fn push_kind(text: &mut String, kind: ObjKind) -> Result<(), AllocError>
-    ensures { OnOk result (string_bytes text.new ≡ string_bytes text.old ++ kind_text kind) }
+    ensures { OnOk result (string_bytes text.new ≡ string_bytes text.old ++ kind_label kind) }
 {
     match kind {
         ObjKind::Folder => text.push_str("folder "),

@@ -2,7 +2,7 @@
 use Rattle.std.proofs.Common.{ℕ, ◌≡◌, Bool, true, false, ◌&&◌, ◌||◌, List, [], ◌∷◌, ◌++◌, Some, refl}
 use Rattle.std.specs.Prelude.{◌==◌}
 use Rattle.room_entry.specs.Pieces.{is_among}
-use Rattle.room_entry.specs.Letters.{kind_text, kind_of, letter_if, flags_text, flags_in}
+use Rattle.room_entry.specs.Letters.{kind_text, kind_of, letter_if, flags_text, flags_among}
 use Rattle.room_entry.specs.declared.entry.EntryKind.{EntryKind}
 use Rattle.room_entry.specs.declared.entry.EntryKind.TheVariants.{Allow, Deny, Audit, Alarm}
 use Rattle.room_entry.specs.declared.flags.EntryFlags.{EntryFlags}
@@ -41,7 +41,7 @@ or_none : (t : Bool) → (t || false) ≡ t
 or_none true = refl
 or_none false = refl
 
-pub flags_back : (f : EntryFlags) → flags_in (flags_text f) ≡ f
+pub flags_back : (f : EntryFlags) → flags_among (flags_text f) ≡ f
 flags_back f =
     let file : is_among (flags_text f) 102 ≡ f.file_inherit = simp (among-append, among_letter, and_true, and_none, or_none) in
     let directory : is_among (flags_text f) 100 ≡ f.directory_inherit = simp (among-append, among_letter, and_true, and_none, or_none) in

@@ -5,7 +5,7 @@ use Rattle.std.specs.Cmp.Lexicographic.{same_text as text_equal}
 use Rattle.room_entry.specs.Pieces.{same_text}
 use Rattle.room_entry.specs.Ace.{Ace}
 use Rattle.room_entry.specs.Same.{who_key, same_entry, same_entries}
-use Rattle.room_entry.specs.Letters.{kind_text, kind_of, flags_text, flags_in}
+use Rattle.room_entry.specs.Letters.{kind_text, kind_of, flags_text, flags_among}
 use Rattle.room_entry.specs.declared.entry.EntryKind.{EntryKind}
 use Rattle.room_entry.specs.declared.flags.EntryFlags.{EntryFlags}
 use Rattle.room_entry.specs.declared.entry.Who.{Who}
@@ -16,7 +16,7 @@ kind_equal : (a b : EntryKind) → kind_text a ≡ kind_text b → a ≡ b
 kind_equal a b same = let known : Some a ≡ Some b = sym (kind_back a) ∙ ap kind_of same ∙ kind_back b in cc
 
 pub flags_equal : (a b : EntryFlags) → flags_text a ≡ flags_text b → a ≡ b
-flags_equal a b same = sym (flags_back a) ∙ ap flags_in same ∙ flags_back b
+flags_equal a b same = sym (flags_back a) ∙ ap flags_among same ∙ flags_back b
 
 -- the who of a key
 abbrev who_in : List ℕ → Who

@@ -43,8 +43,8 @@ flags_text flags =
     ++ letter_if flags.successful_access 83 ++ letter_if flags.failed_access 70
     ++ letter_if flags.identifier_group 103 ++ letter_if flags.inherited 73
 
-abbrev pub flags_in : List ℕ → EntryFlags
-flags_in text = record {
+abbrev pub flags_among : List ℕ → EntryFlags
+flags_among text = record {
   file_inherit = is_among text 102;
   directory_inherit = is_among text 100;
   no_propagate_inherit = is_among text 110;
@@ -56,7 +56,7 @@ flags_in text = record {
 }
 
 abbrev pub flags_of : List ℕ → Option EntryFlags
-flags_of text = if list_all (is_among flag_letters) text then Some (flags_in text) else None
+flags_of text = if list_all (is_among flag_letters) text then Some (flags_among text) else None
 
 -- ---- the mask, as letters in any order, repeated at will
 

@@ -1,3 +1,4 @@
+pub mod Bytes
 pub mod Gives
 pub mod Rights
 pub mod Bits

@@ -3,6 +3,7 @@ use Rattle.std.specs.Prelude.{ℕ, ◌&&◌, ◌||◌, Bool, false, List, [], �
 use Rattle.std.specs.Prelude.{codes, Result, Ok, Err, if◌then◌else◌}
 use Rattle.std.specs.List.{list_all}
 use Rattle.std.specs.Char.{is_ascii_alphanumeric}
+use Rattle.room_entry.specs.Bytes.{at_sign}
 use Rattle.room_entry.specs.declared.limits.TheConstants.{LONGEST_PART}
 use Rattle.room_entry.specs.Pieces.{pieces, is_among}
 use Rattle.room_entry.specs.declared.fault.TextFault.{TextFault}
@@ -29,7 +30,7 @@ are_name_parts (local ∷ domain ∷ other ∷ rest) = false
 
 -- the text is the name of a user or a group
 unfoldable pub is_name : List ℕ → Bool
-is_name text = are_name_parts (pieces 64 text)
+is_name text = are_name_parts (pieces at_sign text)
 
 -- the name that the text is
 abbrev pub name_of : List ℕ → Result (List ℕ) TextFault

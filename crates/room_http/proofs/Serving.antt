@@ -8,7 +8,7 @@ use Rattle.room_http.proofs.Runs.{Leads-then, Runs-none}
 use Rattle.room_http.specs.declared.ended.Cause.{Cause}
 use Rattle.room_http.specs.declared.ended.Ended.{Ended}
 use Rattle.room_http.specs.declared.ended.ServeFault.{ServeFault}
-use Rattle.room_http.specs.declared.server.Stop.{Stop}
+use Rattle.room_http.specs.declared.server.Halt.{Halt}
 use Rattle.room_http.specs.Limits.{max_messages}
 use Rattle.room_http.specs.Message.{print_message}
 use Rattle.room_http.specs.Stream.{Exchange, IsOpen, exchange_text, bytes_of, texts_of, last_text, Last, last_exchange, RunsExchanges, EndsStream}
@@ -100,7 +100,7 @@ Serves-from so_far one all at n old mid new buf ended a f s t =
       faults = subst F a.faults t.faults;
     }
 
-pub Stops-from : (so_far one all : Type 0) (at : ℤ) (n : ℕ) (old mid new : Seen) (buf : List ℕ) (stop : Stop) (fault : ServeFault)
+pub Stops-from : (so_far one all : Type 0) (at : ℤ) (n : ℕ) (old mid new : Seen) (buf : List ℕ) (stop : Halt) (fault : ServeFault)
     → fault.answered ≡ n → fault.acted ≡ stop.acted → fault.cause ≡ stop.cause
     → Along so_far at n old mid buf → (all → so_far) → (all → one) → TurnsStop one at n mid new buf stop
     → Stops all at old new fault

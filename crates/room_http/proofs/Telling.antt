@@ -7,12 +7,12 @@ use Rattle.http_message.specs.declared.fault.HttpFault.{HttpFault}
 use Rattle.http_message.specs.Asked as message
 use Rattle.http_message.specs.Reply.{reply_text, fault_text}
 use Rattle.room_http.specs.Message.{Asked}
-use Rattle.room_http.specs.Answer.{Stepped, ActedIf, AnswersMessage, Delivers, Joins, KeepsContent, Responds, SendsRefusal, TellsReply, Rose}
+use Rattle.room_http.specs.Answer.{Stepped, ActedIf, AnswersMessage, Delivers, JoinsText, KeepsContent, Responds, SendsRefusal, TellsReply, Rose}
 use Rattle.room_http.specs.declared.told.Answer.{Answer}
 use Rattle.room_http.specs.declared.told.Response.{Response}
 use Rattle.room_http.specs.declared.told.Lost.{Lost}
 use Rattle.room_rows.specs.Content.{Content}
-use Rattle.room_http.specs.Stream.{Agrees, IsRequest, answer_text, events_from, Runs}
+use Rattle.room_http.specs.Stream.{Agrees, IsRequest, answer_text, events_at, Runs}
 use Rattle.room_http.specs.Text.{store_text}
 use Rattle.room_http.specs.Serve.{Seen, BlamesText, BlamesWriter}
 use Rattle.room_http.specs.Turn.{WritesPart}
@@ -20,7 +20,7 @@ use Rattle.room_http.specs.Tell.{Replies, Begun, IsBegun, StopsFault, StopsWithi
 use Rattle.room_http.specs.declared.ended.Cause.{Cause}
 use Rattle.room_http.proofs.KnownBytes.{Appends-none}
 
-pub asks-of : (asked : Asked) (call : message.Message) → asked ≡ Ok call → IsRequest asked
+pub asks-of : (asked : Asked) (call : message.UserRequest) → asked ≡ Ok call → IsRequest asked
 asks-of asked call e = subst IsRequest (sym e) tt
 
 rose-by : (old new : ℕ) → (old < 2 ^ 64 - 1) ⊎ (2 ^ 64 - 1 ≤ old) → new ≡ min (old + 1) (2 ^ 64 - 1) → Rose old new
@@ -44,7 +44,7 @@ responds-by holds at close asked old new before after reply s same (Err lost) d 
 -- the same where the text is put together
 pub joined-answers : (holds : Type 0) (at : ℤ) (close : Bool) (asked : Asked) (old new : Content → Type 0) (before after : ℕ) (text : List ℕ)
     → TellsReply holds at close asked old new text × (after ≡ before)
-    → (result : Result Answer Lost) → Joins text result → AnswersMessage holds at close asked old new before after result
+    → (result : Result Answer Lost) → JoinsText text result → AnswersMessage holds at close asked old new before after result
 joined-answers holds at close asked old new before after text tells (Ok (Answer.Text whole)) j =
     (inr (tells.0.0, tells.0.1, j ∙ tells.0.2), tells.1)
 joined-answers holds at close asked old new before after text tells (Ok Answer.Fault) j = absurd j
@@ -56,7 +56,7 @@ pub replies-refused : (holds : Type 0) (at : ℤ) (asked : Asked) (old new : See
     → asked ≡ Err fault → KeepsContent old.content new.content → new.faults ≡ old.faults → Replies holds at asked old new None
 replies-refused holds at asked old new fault e same faults =
     let A : Asked → Type 0 = λ a. Agrees a None in
-    let R : Asked → Type 0 = λ a. Runs old.content (events_from at a None) new.content in
+    let R : Asked → Type 0 = λ a. Runs old.content (events_at at a None) new.content in
     record { agrees = subst A (sym e) tt; run = λ s. subst R (sym e) (λ room is. (room, refl, same room is)); faults = faults }
 
 -- of the desk
@@ -64,7 +64,7 @@ pub replies-stepped : (holds : Type 0) (at : ℤ) (asked : Asked) (old new : See
     → Stepped holds at old.content new.content asked reply → new.faults ≡ old.faults → Replies holds at asked old new (Some reply)
 replies-stepped holds at asked old new reply s faults =
     let A : Asked → Type 0 = λ a. Agrees a (Some reply) in
-    let R : Asked → Type 0 = λ a. Runs old.content (events_from at a (Some reply)) new.content in
+    let R : Asked → Type 0 = λ a. Runs old.content (events_at at a (Some reply)) new.content in
     record {
       agrees = subst A (sym s.asks) tt;
       run = λ q. subst R (sym s.asks) (λ room is. let one = s.step q room is in (one.0, (one.0, one.1, refl), one.2));
@@ -74,7 +74,7 @@ replies-stepped holds at asked old new reply s faults =
 pub text-refused : (close : Bool) (asked : Asked) (fault : HttpFault) → asked ≡ Err fault → fault_text fault close ≡ answer_text close asked None
 text-refused close asked fault e = ap (λ a. answer_text close a None) (sym e)
 
-pub text-stepped : (close : Bool) (asked : Asked) (call : message.Message) (reply : Reply) → asked ≡ Ok call
+pub text-stepped : (close : Bool) (asked : Asked) (call : message.UserRequest) (reply : Reply) → asked ≡ Ok call
     → reply_text reply close ≡ answer_text close asked (Some reply)
 text-stepped close asked call reply e = ap (λ a. answer_text close a (Some reply)) (sym e)
 

@@ -14,12 +14,12 @@ use Rattle.http_message.specs.Close.{asks_close}
 use Rattle.room_http.proofs.Runs.{Runs-none}
 use Rattle.room_http.specs.declared.next.NextMessage.{NextMessage}
 use Rattle.room_http.specs.declared.ended.Ended.{Ended}
-use Rattle.room_http.specs.declared.server.Stop.{Stop}
+use Rattle.room_http.specs.declared.server.Halt.{Halt}
 use Rattle.room_http.specs.declared.ended.Cause.{Cause}
 use Rattle.room_http.specs.Limits.{max_messages, read_size}
 use Rattle.room_http.specs.Message.{Message, print_message, IsRefusedHead, IsPart, asked, closes, head_of}
 use Rattle.room_http.specs.Text.{store_text, refusal_reply}
-use Rattle.room_http.specs.Stream.{Last, answer_text, events_from, Runs, RunsExchanges, says_close}
+use Rattle.room_http.specs.Stream.{Last, answer_text, events_at, Runs, RunsExchanges, says_close}
 use Rattle.room_http.specs.Spans.{Came, StopsReading}
 use Rattle.room_http.specs.Serve.{Seen, Next, BlamesBefore, IsNearHead}
 use Rattle.room_http.specs.Turn.{TurnsOpen, TurnsLast, TurnsStop, Turns, WholeNext}
@@ -56,11 +56,11 @@ not-last n few off =
 
 -- one exchange of a run
 leads-one : (at : ℤ) (old new : Content → Type 0) (m : Message) (reply : Option Reply)
-    → Runs old (events_from at (asked m) reply) new
+    → Runs old (events_at at (asked m) reply) new
     → RunsExchanges old at (record { message = m; reply = reply } ∷ []) new
 leads-one at old new m reply run =
     subst (λ (events : List Event). Runs old events new)
-    (sym (append-nil (events_from at (asked m) reply))) run
+    (sym (append-nil (events_at at (asked m) reply))) run
 
 pub take-open : (holds : Type 0) (at : ℤ) (n : ℕ) (old new : Seen) (buf after : List ℕ) (next : NextMessage) (w : WholeNext buf next)
     (reply : Option Reply) → n < max_messages → length buf < next.end + read_size → new.left ≡ old.left → says_close w.message n ≡ false
@@ -140,7 +140,7 @@ take-failed holds at n old new buf next w near same f wrote =
     }
 
 pub take-stop : (holds : Type 0) (at : ℤ) (n : ℕ) (old new : Seen) (buf : List ℕ) (next : NextMessage) (w : WholeNext buf next)
-    (close : Bool) (stop : Stop) (begun : Begun) → length buf < next.end + read_size → new.left ≡ old.left → says_close w.message n ≡ close
+    (close : Bool) (stop : Halt) (begun : Begun) → length buf < next.end + read_size → new.left ≡ old.left → says_close w.message n ≡ close
     → IsBegun holds at close (asked w.message) old new stop.acted stop.cause begun
     → TurnsStop holds at n old new buf stop
 take-stop holds at n old new buf next w close stop Begun.Nothing near same e b =
@@ -186,7 +186,7 @@ take-stop holds at n old new buf next w close stop Begun.Failing near same e b =
 
 -- a turn after more bytes came
 pub shift : (holds : Type 0) (at : ℤ) (n : ℕ) (left mid sent : Option (List ℕ)) (content : Content → Type 0) (faults : ℕ) (new : Seen)
-    (buf came after : List ℕ) (result : Result (Option Ended) Stop)
+    (buf came after : List ℕ) (result : Result (Option Ended) Halt)
     → Came left mid buf came
     → Turns holds at n (record { left = mid; sent = sent; content = content; faults = faults }) new came after result
     → Turns holds at n (record { left = left; sent = sent; content = content; faults = faults }) new buf after result
@@ -235,7 +235,7 @@ some-same : {A : Type 0} (x y : A) → Some x ≡ Some y → x ≡ y
 some-same x y e = ap (λ o. unwrap_or o x) e
 
 pub turn-refused : (holds : Type 0) (at : ℤ) (n : ℕ) (left mid sent wrote : Option (List ℕ)) (content : Content → Type 0) (faults : ℕ)
-    (buf came after : List ℕ) (reason : Refusal) (result : Result (Option Ended) Stop)
+    (buf came after : List ℕ) (reason : Refusal) (result : Result (Option Ended) Halt)
     → Came left mid buf came → IsRefusedHead came reason → IsNearHead came
     → IfOk result (λ ended. (ended ≡ Some Ended.Closed) × Appends sent wrote (refusal_reply reason))
     → IfErr result (λ stop. (stop.acted ≡ false) × StopsWithin sent wrote (refusal_reply reason) stop.cause)

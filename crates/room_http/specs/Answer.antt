@@ -21,7 +21,7 @@ KeepsContent old new = (room : Content) → old room → new room
 -- the desk took the step that the message asks for, and replied so
 pub record Stepped (holds : Type 0) (at : ℤ) (old new : Content → Type 0) (asked : Asked)
     (reply : Reply) : Type 0 where
-  pub call : message.Message
+  pub call : message.UserRequest
   pub asks : asked ≡ Ok call
   pub step : holds → Steps {E = DeskFault} old call.0 at call.1 (Ok reply) new
 
@@ -77,10 +77,10 @@ Delivers reply close (Ok Response.Fault) = ⊥
 Delivers reply close (Err lost) = lost.acted ≡ true
 
 -- the text in one piece, where there is memory for it
-abbrev pub Joins : List ℕ → Result Answer Lost → Type 0
-Joins text (Ok (Answer.Text whole)) = whole.items ≡ text
-Joins text (Ok Answer.Fault) = ⊥
-Joins text (Err lost) = lost.acted ≡ true
+abbrev pub JoinsText : List ℕ → Result Answer Lost → Type 0
+JoinsText text (Ok (Answer.Text whole)) = whole.items ≡ text
+JoinsText text (Ok Answer.Fault) = ⊥
+JoinsText text (Err lost) = lost.acted ≡ true
 
 -- What the answer to a message says of the text and of the desk, between two moments. Its steps are
 -- promised where `holds`.

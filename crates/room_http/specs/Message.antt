@@ -10,7 +10,7 @@ use Rattle.httparse.specs.Grammar.{NeverHasRequest, MayBecomeRequest, ReadsReque
 use Rattle.httparse.specs.Spans.{name_and_value, RequestExceeds, RequestOverflows}
 use Rattle.http_message.specs.declared.head.Head.{Head}
 use Rattle.http_message.specs.declared.head.Field.{Field}
-use Rattle.http_message.specs.Fields.{values_of, trimmed}
+use Rattle.http_message.specs.Fields.{field_values, trimmed}
 use Rattle.http_message.specs.Asked as message
 use Rattle.http_message.specs.Close.{asks_close}
 use Rattle.http_message.specs.declared.fault.HttpFault.{HttpFault}
@@ -63,8 +63,8 @@ length_unless (coding ∷ codings) length = Err Refusal.TransferCoding
 -- how many bytes of body follow a head with these fields, or why it is refused
 abbrev pub body_size : List Field → Result ℕ Refusal
 body_size fields =
-    length_unless (values_of (codes "transfer-encoding") fields)
-    (length_from (values_of (codes "content-length") fields))
+    length_unless (field_values (codes "transfer-encoding") fields)
+    (length_from (field_values (codes "content-length") fields))
 
 abbrev pub body_size_of : RequestHead → Result ℕ Refusal
 body_size_of h = body_size (head_of h).fields
@@ -86,7 +86,7 @@ pub record IsMessage (m : Message) : Type 0 where
 
 -- who asks, and what; or the first of the tests 5 to 12 that fails
 abbrev pub Asked : Type 0
-Asked = Result message.Message HttpFault
+Asked = Result message.UserRequest HttpFault
 
 abbrev pub asked : Message → Asked
 asked m = message.request_of (head_of m.head) m.body

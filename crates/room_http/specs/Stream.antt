@@ -41,13 +41,13 @@ abbrev pub exchange_text : Bool → Exchange → List ℕ
 exchange_text close x = answer_text close (asked x.message) x.reply
 
 -- what happens at the desk, at this moment
-abbrev pub events_from : ℤ → Asked → Option Reply → List Event
-events_from at (Ok call) (Some reply) = Event.Asked call.0 at call.1 reply ∷ []
-events_from at (Ok call) None = []
-events_from at (Err fault) reply = []
+abbrev pub events_at : ℤ → Asked → Option Reply → List Event
+events_at at (Ok call) (Some reply) = Event.Asked call.0 at call.1 reply ∷ []
+events_at at (Ok call) None = []
+events_at at (Err fault) reply = []
 
 abbrev pub event_at : ℤ → Exchange → List Event
-event_at at x = events_from at (asked x.message) x.reply
+event_at at x = events_at at (asked x.message) x.reply
 
 -- these events are a run from what the desk kept to what it keeps then
 abbrev pub Runs : (Content → Type 0) → List Event → (Content → Type 0) → Type 0

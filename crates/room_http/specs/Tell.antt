@@ -3,12 +3,12 @@ use Rattle.std.specs.Prelude.{◌≡◌, ℤ, Bool, false, List, ℕ, [], Option
 use Rattle.std.specs.Io.KnownBytes.{Appends}
 use Rattle.room_machine.specs.declared.reply.Reply.{Reply}
 use Rattle.room_http.specs.declared.ended.Cause.{Cause}
-use Rattle.room_http.specs.declared.server.Stop.{Stop}
+use Rattle.room_http.specs.declared.server.Halt.{Halt}
 use Rattle.room_http.specs.declared.server.Told.{Told}
 use Rattle.room_http.specs.Message.{Asked}
 use Rattle.room_http.specs.Text.{store_text}
 use Rattle.room_http.specs.Answer.{KeepsContent, Failed}
-use Rattle.room_http.specs.Stream.{Agrees, answer_text, events_from, Runs}
+use Rattle.room_http.specs.Stream.{Agrees, answer_text, events_at, Runs}
 use Rattle.room_http.specs.Serve.{Seen, BlamesText, BlamesWriter}
 use Rattle.room_http.specs.Turn.{WritesSome}
 
@@ -16,7 +16,7 @@ use Rattle.room_http.specs.Turn.{WritesSome}
 pub record Replies (holds : Type 0) (at : ℤ) (asked : Asked) (old new : Seen)
     (reply : Option Reply) : Type 0 where
   pub agrees : Agrees asked reply
-  pub run : holds → Runs old.content (events_from at asked reply) new.content
+  pub run : holds → Runs old.content (events_at at asked reply) new.content
   pub faults : new.faults ≡ old.faults
 
 -- the desk failed, and what it keeps is as it was
@@ -49,7 +49,7 @@ IsBegun holds at close asked old new acted cause (Begun.Telling reply) =
 IsBegun holds at close asked old new acted cause Begun.Failing =
     Fails holds asked old new × StopsFault old.sent new.sent cause × (acted ≡ false)
 
-abbrev pub SendsReply : Type 0 → ℤ → Bool → Asked → Seen → Seen → Result Told Stop → Type 0
+abbrev pub SendsReply : Type 0 → ℤ → Bool → Asked → Seen → Seen → Result Told Halt → Type 0
 SendsReply holds at close asked old new (Ok Told.Answered) =
     (reply : Option Reply) × Replies holds at asked old new reply
     × Appends old.sent new.sent (answer_text close asked reply)

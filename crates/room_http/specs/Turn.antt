@@ -3,7 +3,7 @@ use Rattle.std.specs.Prelude.{◌≡◌, ℕ, ℤ, ◌+◌, ◌<◌, ◌≤◌, 
 use Rattle.std.specs.Prelude.{slice_range, Option, Some, None, Result, Ok, Err, ⊤}
 use Rattle.std.specs.Io.KnownBytes.{Appends, Consumes, IsAtEnd}
 use Rattle.room_http.specs.declared.ended.Ended.{Ended}
-use Rattle.room_http.specs.declared.server.Stop.{Stop}
+use Rattle.room_http.specs.declared.server.Halt.{Halt}
 use Rattle.room_http.specs.declared.next.NextMessage.{NextMessage}
 use Rattle.room_http.specs.declared.next.Upcoming.{Upcoming}
 use Rattle.room_http.specs.Limits.{max_messages, read_size}
@@ -78,7 +78,7 @@ pub record TurnsLast (holds : Type 0) (at : ℤ) (n : ℕ) (old new : Seen) (buf
   pub faults : FaultsRose last old.faults new.faults
 
 pub record TurnsStop (holds : Type 0) (at : ℤ) (n : ℕ) (old new : Seen) (buf : List ℕ)
-    (stop : Stop) : Type 0 where
+    (stop : Halt) : Type 0 where
   pub next : Next
   pub rest : List ℕ
   pub came : Came old.left new.left buf rest
@@ -90,7 +90,7 @@ pub record TurnsStop (holds : Type 0) (at : ℤ) (n : ℕ) (old new : Seen) (buf
   pub run : holds → RunsExchanges old.content at (next_exchange next) new.content
   pub faults : NextRose next old.faults new.faults
 
-abbrev pub Turns : Type 0 → ℤ → ℕ → Seen → Seen → List ℕ → List ℕ → Result (Option Ended) Stop
+abbrev pub Turns : Type 0 → ℤ → ℕ → Seen → Seen → List ℕ → List ℕ → Result (Option Ended) Halt
     → Type 0
 Turns holds at n old new buf_old buf_new (Ok None) = TurnsOpen holds at n old new buf_old buf_new
 Turns holds at n old new buf_old buf_new (Ok (Some ended)) =

@@ -2,7 +2,8 @@
 ghost use Rattle.std.specs.Option.{option_copied};
 ghost use Rattle.std.specs.Prelude.{Ok};
 ghost use Rattle.http_message.specs.Asked.{request_of};
-ghost use Rattle.room_http.specs.Answer.{AnswersMessage, Delivers, Joins, RefusesMessage, Responds};
+ghost use Rattle.room_http.specs.Answer.{AnswersMessage, Delivers, JoinsText, RefusesMessage};
+ghost use Rattle.room_http.specs.Answer.{Responds};
 
 use crate::told::{Answer, Lost, Response};
 use http_message::{Head, HttpFault, ReplyText, Routes, fault_bytes, reply_text, request_of};
@@ -38,7 +39,7 @@ pub fn answer<D: Desk>(
 
 // The text of the desk's reply, in one piece.
 fn joined(text: ReplyText) -> Result<Answer, Lost>
-    ensures { Joins text result }
+    ensures { JoinsText text result }
 {
     let Ok(text) = text.into_vec() else {
         return Err(Lost { acted: true });

@@ -29,7 +29,7 @@ const MAX_MESSAGES: u64 = 10_000;
 
 // What stopped a turn.
 #[derive(Clone, Copy)]
-pub(crate) struct Stop {
+pub(crate) struct Halt {
     pub acted: bool,
     pub cause: Cause,
 }
@@ -53,7 +53,7 @@ fn tell<W: Write, D: Desk>(
     head: &Head,
     body: &[u8],
     close: bool,
-) -> Result<Told, Stop>
+) -> Result<Told, Halt>
     ensures tells { (left : Option (List ℕ)) → SendsReply (D.trusted desk.new × D.sound desk.old) at
         close (request_of head.now body.now)
         (record {
@@ -74,23 +74,23 @@ fn tell<W: Write, D: Desk>(
     match respond(alloc, routes, desk, at, head, body, close) {
         Ok(Response::Refused(text)) => match write_text(w, text.as_slice()) {
             Ok(()) => Ok(Told::Answered),
-            Err(cause) => Err(Stop {
+            Err(cause) => Err(Halt {
                 acted: false,
                 cause,
             }),
         },
         Ok(Response::Replied(text)) => match write_reply(w, &text) {
             Ok(()) => Ok(Told::Answered),
-            Err(cause) => Err(Stop { acted: true, cause }),
+            Err(cause) => Err(Halt { acted: true, cause }),
         },
         Ok(Response::Fault) => match write_text(w, store_bytes()) {
             Ok(()) => Ok(Told::Failed),
-            Err(cause) => Err(Stop {
+            Err(cause) => Err(Halt {
                 acted: false,
                 cause,
             }),
         },
-        Err(lost) => Err(Stop {
+        Err(lost) => Err(Halt {
             acted: lost.acted,
             cause: Cause::Memory,
         }),
@@ -116,7 +116,7 @@ fn take_message<W: Write, D: Desk>(
     buf: &mut Vec<u8>,
     next: NextMessage,
     answered: u64,
-) -> Result<Option<Ended>, Stop>
+) -> Result<Option<Ended>, Halt>
     requires few { answered < max_messages }
     requires next { WholeNext buf.old.items next }
     ensures turn { (left : Option (List ℕ)) → length buf.old.items < next.end + read_size
@@ -164,21 +164,21 @@ fn behind_reply(buf: &mut Vec<u8>, end: usize, close: bool) -> Option<Ended>
 }
 
 // Writes the reply to what is refused.
-fn refuse<W: Write>(alloc: Global, w: &mut W, refusal: Refusal) -> Result<Option<Ended>, Stop>
+fn refuse<W: Write>(alloc: Global, w: &mut W, refusal: Refusal) -> Result<Option<Ended>, Halt>
     ensures ok { IfOk result (λ ended. (ended ≡ Some Ended.Closed)
         × Appends (W.contents w.old) (W.contents w.new) (refusal_reply refusal)) }
     ensures err { IfErr result (λ stop. (stop.acted ≡ false)
         × StopsWithin (W.contents w.old) (W.contents w.new) (refusal_reply refusal) stop.cause) }
 {
     let Ok(text) = refusal_bytes(alloc, refusal) else {
-        return Err(Stop {
+        return Err(Halt {
             acted: false,
             cause: Cause::Memory,
         });
     };
     match write_text(w, text.as_slice()) {
         Ok(()) => Ok(Some(Ended::Closed)),
-        Err(cause) => Err(Stop {
+        Err(cause) => Err(Halt {
             acted: false,
             cause,
         }),
@@ -197,7 +197,7 @@ fn turn<R: Read, W: Write, D: Desk>(
     spans: &mut [HeaderSpan],
     chunk: &mut [u8],
     answered: u64,
-) -> Result<Option<Ended>, Stop>
+) -> Result<Option<Ended>, Halt>
     requires few { answered < max_messages }
     requires room { length spans.old ≡ max_fields }
     requires chunk { length chunk.old ≡ read_size }
@@ -222,7 +222,7 @@ fn turn<R: Read, W: Write, D: Desk>(
     let next = match next_message(alloc, r, buf, spans, chunk) {
         Ok(next) => next,
         Err(cause) => {
-            return Err(Stop {
+            return Err(Halt {
                 acted: false,
                 cause,
             });

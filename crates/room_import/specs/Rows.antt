@@ -20,11 +20,11 @@ use Rattle.room_import.specs.declared.rows.NextRow.TheVariants.{End, NotText, Te
 use Rattle.room_import.specs.Groups.{fault_at, pairs_after, pairs_of_rows, with_pair}
 
 -- a reader of bytes in memory
-abbrev pub Rows : Type 0
-Rows = Reader (Bor (List ℕ))
+abbrev pub ByteReader : Type 0
+ByteReader = Reader (Bor (List ℕ))
 
 -- the bytes that it hasn't read
-abbrev pub unread : Rows → Option (List ℕ)
+abbrev pub unread : ByteReader → Option (List ℕ)
 unread reader = source_of (λ bytes. Some bytes.now) reader
 
 abbrev pub rows_from : State → Option (List ℕ) → List (List (List ℕ))
@@ -32,7 +32,7 @@ rows_from state None = []
 rows_from state (Some bytes) = records_from default_config (length bytes + 1) state bytes
 
 -- the rows that are still to come
-abbrev pub rows_left : Rows → List (List (List ℕ))
+abbrev pub rows_left : ByteReader → List (List (List ℕ))
 rows_left reader = rows_from (reader_state reader) (unread reader)
 
 -- a state between two records
@@ -40,14 +40,14 @@ abbrev pub IsBetween : State → Type 0
 IsBetween state = (state ≡ st.StartRecord) ⊎ (state ≡ st.AfterCr)
 
 -- the reader answers the next row as it stands in the text
-abbrev pub ReadsNextRow : Rows → Type 0
+abbrev pub ReadsNextRow : ByteReader → Type 0
 ReadsNextRow reader =
     (reader_trim reader ≡ trim.None) × Ready reader × (reader_config reader ≡ default_config)
     × IsBetween (reader_state reader)
     × (is_flexible reader ≡ true) × (bytes : List ℕ) × (unread reader ≡ Some bytes)
 
 -- what was found of the rows before, and the rows after it
-abbrev pub ReadsRow : Rows → Rows → List (List ℕ) → NextRow → Type 0
+abbrev pub ReadsRow : ByteReader → ByteReader → List (List ℕ) → NextRow → Type 0
 ReadsRow before after fields End = rows_left before ≡ []
 ReadsRow before after fields NotText =
     (row : List (List ℕ)) × (rest : List (List (List ℕ))) × (rows_left before ≡ row ∷ rest)
@@ -66,14 +66,15 @@ abbrev pub named : ℕ → List ℕ → Result (List ℕ) CsvFault
 named number field = if is_name field then Ok field else fault_at number BadName
 
 -- what reading the header means for the pairs of all rows
-abbrev pub HeaderTaken : Rows → Rows → Result (Unit {0}) (Failure CsvFault) → Type 0
+abbrev pub HeaderTaken : ByteReader → ByteReader → Result (Unit {0}) (Failure CsvFault) → Type 0
 HeaderTaken before after (Ok done) =
     (pairs_of_rows (rows_left before) ≡ pairs_after [] 2 (rows_left after)) × ReadsNextRow after
 HeaderTaken before after (Err OutOfMemory) = Unit {0}
 HeaderTaken before after (Err (Fault fault)) = pairs_of_rows (rows_left before) ≡ Err fault
 
 -- what reading the row of this number means for the pairs of the rows from it on
-abbrev pub PairTaken : ℕ → Rows → Rows → Result (Option (List ℕ × List ℕ)) (Failure CsvFault)
+abbrev pub PairTaken : ℕ → ByteReader → ByteReader
+    → Result (Option (List ℕ × List ℕ)) (Failure CsvFault)
     → Type 0
 PairTaken number before after (Ok None) = rows_left before ≡ []
 PairTaken number before after (Ok (Some pair)) =

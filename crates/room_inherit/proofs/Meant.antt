@@ -11,7 +11,7 @@ use Rattle.room_entry.specs.declared.object.Which.{Which}
 use Rattle.room_entry.specs.declared.object.Which.TheVariants.{Dacl, Sacl}
 use Rattle.room_rows.specs.HeldList.{Held}
 use Rattle.room_rows.specs.declared.node.Node.{Node}
-use Rattle.room_rows.specs.Content.{Content, are_names_apart, body_in, body_of, has_folder_above, is_empty, is_folder, is_linked_in, is_rising, is_root, keeps_none_linked, parent_of, root_of, same_parent}
+use Rattle.room_rows.specs.Content.{Content, are_names_apart, body_at, body_of, has_folder_above, is_empty, is_folder, is_linked_in, is_rising, is_root, keeps_none_linked, parent_of, root_of, same_parent}
 use Rattle.room_rows.specs.Finding.{find_id}
 use Rattle.room_rows.specs.Held.{held_of, is_linked}
 use Rattle.room_rows.specs.Meaning.{kept_held, kept_node, meaning}
@@ -261,11 +261,11 @@ among_passing q k (x ∷ xs) rises id = on (q x) refl (x.id == id) refl (among_p
     on false is true here rest = not_among x.id (ids_of (filter q xs)) id (filter_rises q x.id xs up x.id (omega arith)) (let e = eqb-true x.id id here in omega (arith, e)) ∙ sym is
     on false is false here rest = rest
 
-among_bodies : (bodies : List (ℕ × List ℕ)) (id : ℕ) → is_among (map (λ row. row.0) bodies) id ≡ is_some (body_in bodies id)
+among_bodies : (bodies : List (ℕ × List ℕ)) (id : ℕ) → is_among (map (λ row. row.0) bodies) id ≡ is_some (body_at bodies id)
 among_bodies [] id = refl
 among_bodies (x ∷ xs) id = on (x.0 == id) (among_bodies xs id)
   where
-    on : (t : Bool) → is_among (map (λ row. row.0) xs) id ≡ is_some (body_in xs id) → (t || is_among (map (λ row. row.0) xs) id) ≡ is_some (cond t (Some x.1) (body_in xs id))
+    on : (t : Bool) → is_among (map (λ row. row.0) xs) id ≡ is_some (body_at xs id) → (t || is_among (map (λ row. row.0) xs) id) ≡ is_some (cond t (Some x.1) (body_at xs id))
     on true rest = refl
     on false rest = rest
 

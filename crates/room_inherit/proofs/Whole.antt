@@ -9,7 +9,7 @@ use Rattle.room_entry.specs.Pieces.{is_among}
 use Rattle.room_rows.specs.declared.node.Node.{Node}
 use Rattle.room_rows.specs.Content.{node_at}
 use Rattle.room_rows.specs.Rows.{Rows, AreRows, is_unreadable, numbers_of, put_number, put_numbers}
-use Rattle.room_inherit.specs.Reading.{IsBadAt, IsFree}
+use Rattle.room_inherit.specs.Reading.{IsBadAt, IsUnused}
 use Rattle.room_rows.specs.Sound.{first_bad_list, has_bad_list}
 use Rattle.room_inherit.proofs.Numbers.{ids_of, each_found}
 
@@ -46,7 +46,7 @@ among_found (x ∷ xs) id = on (x.id == id) (among_found xs id)
     on false rest = rest
 
 -- a number that is listed is in use
-pub not_free : (rows : Rows) (ids : List ℕ) (i : ℕ) (at : ℕ) → ids ≡ numbers_of rows → i < length ids → IsFree (get_or ids i 0) rows at → ⊥
+pub not_free : (rows : Rows) (ids : List ℕ) (i : ℕ) (at : ℕ) → ids ≡ numbers_of rows → i < length ids → IsUnused (get_or ids i 0) rows at → ⊥
 not_free rows ids i at are below free =
     let id = get_or ids i 0 in
     let listed : is_among ids id ≡ true = or_at (λ l. is_among l id) (λ other. other == id) refl (λ _ _. refl) ids i 0 below (eq-eqb id id refl) in

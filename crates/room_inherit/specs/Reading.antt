@@ -15,12 +15,12 @@ use Rattle.room_rows.specs.declared.report.Report.TheVariants.{Sound}
 use Rattle.room_rows.specs.Sound.{first_bad_list, has_bad_list, has_sound_body, report_of}
 
 -- the number isn't in use
-abbrev pub IsFree : ℕ → Rows → ℕ → Type 0
-IsFree id rows at = (node_at rows.read id ≡ None) × (is_unreadable rows id ≡ false)
+abbrev pub IsUnused : ℕ → Rows → ℕ → Type 0
+IsUnused id rows at = (node_at rows.read id ≡ None) × (is_unreadable rows id ≡ false)
 
 -- the row of the number can't be read, its lists aren't sound, or the number isn't in use
 abbrev pub IsBadAt : ℕ → Rows → ℕ → Type 0
-IsBadAt id rows at = (at ≡ id) × ((has_bad_list rows id ≡ true) ⊎ IsFree id rows id)
+IsBadAt id rows at = (at ≡ id) × ((has_bad_list rows id ≡ true) ⊎ IsUnused id rows id)
 
 -- the object of the number, whose lists are sound
 abbrev pub IsSoundAt : ℕ → Rows → Node → Type 0

@@ -6,11 +6,8 @@ ghost use Rattle.room_inherit.specs.Reading.{IsBadBody};
 ghost use Rattle.room_rows.specs.Sound.{fits_kind};
 
 use crate::objects::Objects;
-use room_ace::ObjKind;
+use room_ace::{MOST_BYTES, ObjKind};
 use room_rows::{Bytes, Keep, KeepFault, Node};
-
-/// The most bytes that a document has.
-const MOST_BYTES: usize = 1_048_576;
 
 /// The first object that is a document without bytes or with too many, or a folder with bytes.
 pub(crate) fn first_bad_body<'a, K: Keep>(

@@ -4,11 +4,8 @@ ghost use Rattle.std.specs.List.{list_all};
 ghost use Rattle.room_entry.specs.Valid.{entry_fault};
 ghost use Rattle.room_rows.specs.Sound.{has_sound_lists, is_sound_held};
 
-use room_ace::{Entry, ObjKind, Which, valid};
+use room_ace::{Entry, MOST_OWN, ObjKind, Which, valid};
 use room_rows::{Held, Node};
-
-/// The most entries of its own that a list has.
-const MOST_OWN: usize = 64;
 
 /// Whether both lists are within the limit, with INHERITED on the inherited entries alone, and with
 /// entries that may stand there.

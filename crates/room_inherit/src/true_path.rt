@@ -1,6 +1,7 @@
 //! The names that lead to an object.
 ghost use Rattle.std.specs.Prelude.{◌≡◌, ◌∷◌, ◌++◌, IfOk, OnOk, length, reverse, string_bytes};
 ghost use Rattle.std.specs.List.{flat_map};
+ghost use Rattle.room_entry.specs.Bytes.{slash};
 ghost use Rattle.room_rows.specs.Paths.{path_text};
 ghost use Rattle.room_inherit.specs.Objects.{only};
 ghost use Rattle.room_rows.specs.Sound.{names_up, true_path};
@@ -59,7 +60,7 @@ fn path_down(alloc: Global, names: Vec<Text>) -> Result<Text, AllocError>
 // Adds the names, each after a `/`, from the last one to the first.
 fn push_down(text: &mut String, names: Vec<Text>) -> Result<(), AllocError>
     ensures { OnOk result (string_bytes text.new
-        ≡ string_bytes text.old ++ flat_map (λ name. 47 ∷ name) (reverse names.items)) }
+        ≡ string_bytes text.old ++ flat_map (λ name. slash ∷ name) (reverse names.items)) }
 {
     let mut left = names;
     'names: while let Some(name) = left.pop() {

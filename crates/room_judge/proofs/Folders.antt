@@ -25,7 +25,7 @@ use Rattle.room_machine.specs.Plan.{Item, Refusal, way, where_found}
 use Rattle.room_machine.specs.Judge.{first_failure, or_else, records_of_plan}
 use Rattle.room_judge.specs.Stored.{stored_site, stored_along, found_site, to_stored}
 use Rattle.room_judge.specs.Judged.{IsJudged, IsReached, name_after, noted, through}
-use Rattle.room_judge.specs.Spot.{IsSpotIn, IsSpotted, IsPaired, SpotsAfter, SpotsUnder, pair_in, pair_of}
+use Rattle.room_judge.specs.Spot.{IsSpotIn, IsSpotted, IsPaired, SpotsAfter, SpotsUnder, pair_at_spot, pair_with}
 use Rattle.room_judge.proofs.Judging.{failure_of_parts, records_of_parts, fails_first, passes_first, refuses, passes_on, judged_none}
 use Rattle.room_judge.proofs.Ways.{plain_way}
 use Rattle.room_judge.proofs.Spots.{below_of, missing, last_look, stem, way_along, folder_along, folder_found, target_found, folder_path, path_parts, take_front, name_is_last}
@@ -206,7 +206,7 @@ module _ (asker : Asker) (path : List (List ℕ)) (some : 0 < length path) where
 -- ---- in terms of the calls
 
 -- what has to be there is found, or the walk is refused
-pub paired_as : (asker : Asker) (path : List (List ℕ)) (some : 0 < length path) (old new : Rows) (folder : Found) (child : Option Node) (pair : Pair) → pair ≡ pair_of path folder child → IsSpotted asker path old (Under folder child) new → IsPaired asker path old pair new
+pub paired_as : (asker : Asker) (path : List (List ℕ)) (some : 0 < length path) (old new : Rows) (folder : Found) (child : Option Node) (pair : Pair) → pair ≡ pair_with path folder child → IsSpotted asker path old (Under folder child) new → IsPaired asker path old pair new
 paired_as asker path some old new folder (Some node) pair is spotted = subst (λ (p : Pair). IsPaired asker path old p new) (sym is) (pair_found asker path some old new folder node (length path) refl spotted)
 paired_as asker path some old new folder None pair is spotted = subst (λ (p : Pair). IsPaired asker path old p new) (sym is) (pair_missing asker path some old new folder (length path) (Refused path NoSuch) refl (ap (λ p. Refused p NoSuch) (sym (take-length path))) spotted)
 
@@ -238,7 +238,7 @@ spot_follows asker path depth deep (Ended reply) old mid new spot reached spots 
     (spot_ends asker path some old new reply (subst (λ (r : Rows). IsReached asker (front path) (λ _. []) old (Ended reply) r) (sym spots.1) (walked_front asker path depth (Ended reply) old mid deep reached)))
 
 -- what was found has to be there
-pub paired_in : (asker : Asker) (path : List (List ℕ)) (some : 0 < length path) (old new : Rows) (spot : Spot) (pair : Pair) → pair ≡ pair_in path spot → IsSpotted asker path old spot new → IsPaired asker path old pair new
+pub paired_in : (asker : Asker) (path : List (List ℕ)) (some : 0 < length path) (old new : Rows) (spot : Spot) (pair : Pair) → pair ≡ pair_at_spot path spot → IsSpotted asker path old spot new → IsPaired asker path old pair new
 paired_in asker path some old new (Under folder child) pair is spotted = paired_as asker path some old new folder child pair is spotted
 paired_in asker path some old new (Barred reply) pair is spotted = subst (λ (p : Pair). IsPaired asker path old p new) (sym is) (pair_barred asker path some old new reply spotted)
 

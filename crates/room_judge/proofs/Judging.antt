@@ -17,7 +17,7 @@ use Rattle.room_entry.specs.declared.object.ObjKind.{ObjKind}
 use Rattle.room_entry.specs.declared.object.ObjKind.TheVariants.{Document, Folder}
 use Rattle.room_machine.specs.Site.{Site}
 use Rattle.room_machine.specs.Plan.{Item, Check, Deletion, Refusal}
-use Rattle.room_machine.specs.Judge.{by_adding, failure, passes, or_else, first_failure, records_of, records_of_checks, checks_of, records_of_plan}
+use Rattle.room_machine.specs.Judge.{is_by_adding, failure, passes, or_else, first_failure, records_of, records_of_checks, checks_of, records_of_plan}
 use Rattle.room_judge.specs.Judged.{IsJudged, noted, of_kind, is_other}
 
 -- ---- records after records
@@ -99,7 +99,7 @@ module _ (asker : Asker) where
     notes = notes ∙ ap (λ o. noted old (records_of asker.caller asker.at (is_none o) (site, bits))) is ∙ ap (noted old) (sym (records_of_check asker.caller asker.at site bits));
   }
 
-  pub judged_deletion : (target parent : Site) (second : List ℕ) (old new : Rows) (answer : Option Reply) → answer ≡ failure asker.caller (Deletion target parent) → second ≡ cond (by_adding asker.caller target parent) write_data delete_child ∷ []
+  pub judged_deletion : (target parent : Site) (second : List ℕ) (old new : Rows) (answer : Option Reply) → answer ≡ failure asker.caller (Deletion target parent) → second ≡ cond (is_by_adding asker.caller target parent) write_data delete_child ∷ []
       → new ≡ noted old (records_of_checks asker.caller asker.at (is_none answer) ((target, delete ∷ []) ∷ (parent, second) ∷ [])) → IsJudged asker (Deletion target parent ∷ []) old answer new
   judged_deletion target parent second old new answer is rights notes = record {
     answers = is ∙ sym (or_else_none (failure asker.caller (Deletion target parent)));
@@ -110,7 +110,7 @@ module _ (asker : Asker) where
       of_both : Bool → List ℕ → List AuditRow
       of_both t bits = records_of_checks asker.caller asker.at t ((target, delete ∷ []) ∷ (parent, bits) ∷ [])
 
-      plain : (t : Bool) → of_both t (cond (by_adding asker.caller target parent) write_data delete_child ∷ []) ++ cond t [] [] ≡ of_both t (cond (by_adding asker.caller target parent) write_data delete_child ∷ [])
+      plain : (t : Bool) → of_both t (cond (is_by_adding asker.caller target parent) write_data delete_child ∷ []) ++ cond t [] [] ≡ of_both t (cond (is_by_adding asker.caller target parent) write_data delete_child ∷ [])
       plain true = append-nil _
       plain false = append-nil _
 

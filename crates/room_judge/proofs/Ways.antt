@@ -18,7 +18,7 @@ use Rattle.room_machine.specs.declared.reply.Reason.TheVariants.{NoSuch}
 use Rattle.room_machine.specs.Site.{Site, site_at}
 use Rattle.room_machine.specs.Plan.{Item, Refusal, way, where_found}
 use Rattle.room_judge.specs.Stored.{stored_site, stored_from, stored_along, found_site, to_stored}
-use Rattle.room_judge.specs.Judged.{FromRoot, IsJudged, IsStepDown, IsReached, FindsNext, GoesOn, IfAt, StepsOn, ended, name_after, through, arrival_of}
+use Rattle.room_judge.specs.Judged.{FromRoot, IsJudged, IsStepDown, IsReached, FindsNext, GoesOn, IfAt, StepsOn, ending_reply, name_after, through, arrival_of}
 use Rattle.room_judge.proofs.Judging.{SoFar, fails_first, passes_first, judged_none, refuses, passes_on, so_far_none, so_far_as, so_far_on, so_far_fails, so_far_last}
 
 -- ---- one step
@@ -45,8 +45,8 @@ module _ (asker : Asker) (path : List (List ℕ)) (from : Found) (below : from.d
   step_goes_on old mid new arrival judged finds =
       let same_child : child_of mid.read from.node.id name ≡ child_of old.read from.node.id name = ap (λ (r : Rows). child_of r.read from.node.id name) judged.notes in
       record {
-        judged = passes_first asker (through site) (Refusal (site.path ++ name ∷ []) NoSuch (is_none (child_of old.read from.node.id name)) ∷ []) old mid new (ended arrival) judged
-            (refusal_alone asker (site.path ++ name ∷ []) (is_none (child_of old.read from.node.id name)) mid new (ended arrival)
+        judged = passes_first asker (through site) (Refusal (site.path ++ name ∷ []) NoSuch (is_none (child_of old.read from.node.id name)) ∷ []) old mid new (ending_reply arrival) judged
+            (refusal_alone asker (site.path ++ name ∷ []) (is_none (child_of old.read from.node.id name)) mid new (ending_reply arrival)
             (finds.answers ∙ ap (λ (o : Option Node). cond (is_none o) (Some (Refused (take (from.depth + 1) path) NoSuch)) None) same_child
             ∙ ap (λ (p : List (List ℕ)). cond (is_none (child_of old.read from.node.id name)) (Some (Refused p NoSuch)) None) (one_name_more path from.depth below))
             finds.same);
@@ -232,7 +232,7 @@ step_of_front asker path n from old new arrival below step =
     let begin : take from.depth path ≡ take from.depth (take n path) = sym (take-take from.depth n path (omega arith)) in
     let named : name_after path from.depth ≡ name_after (take n path) from.depth = sym (get_or-take n path from.depth [] below) in
     record {
-      judged = subst (λ list. IsJudged asker list old (ended arrival) new) (ap (λ p. items p (name_after path from.depth)) begin ∙ ap (items (take from.depth (take n path))) named) step.judged;
+      judged = subst (λ list. IsJudged asker list old (ending_reply arrival) new) (ap (λ p. items p (name_after path from.depth)) begin ∙ ap (items (take from.depth (take n path))) named) step.judged;
       found = subst (λ name. IfAt arrival (λ next. child_of old.read from.node.id name ≡ Some next)) named step.found;
     }
   where

@@ -92,9 +92,9 @@ second_right (AtParent bits place) = bits
 
 -- ---- the way
 
-abbrev pub ended : Arrival → Option Reply
-ended (At node) = None
-ended (Ended reply) = Some reply
+abbrev pub ending_reply : Arrival → Option Reply
+ending_reply (At node) = None
+ending_reply (Ended reply) = Some reply
 
 abbrev pub IfAt : Arrival → (Node → Type 0) → Type 0
 IfAt (At node) P = P node
@@ -127,7 +127,7 @@ step_items path from rows = let site = found_site path from in
 pub record FindsNext (path : List (List ℕ)) (from : Found) (old : Rows) (arrival : Arrival)
     (new : Rows) : Type 0 where
   pub same : new ≡ old
-  pub answers : ended arrival
+  pub answers : ending_reply arrival
       ≡ (if is_none (child_below path from old) then Some (no_such path from) else None)
   pub found : IfAt arrival (λ next. child_below path from old ≡ Some next)
 
@@ -139,7 +139,7 @@ GoesOn path from (Some reply) old arrival new = (arrival ≡ Ended reply) × (ne
 -- One step down the way: it passes through the object, and finds the child of the next name.
 pub record IsStepDown (asker : Asker) (path : List (List ℕ)) (from : Found) (old : Rows)
     (arrival : Arrival) (new : Rows) : Type 0 where
-  pub judged : IsJudged asker (step_items path from old) old (ended arrival) new
+  pub judged : IsJudged asker (step_items path from old) old (ending_reply arrival) new
   pub found : IfAt arrival (λ next. child_below path from old ≡ Some next)
 
 -- One more step of a walk that has come past n names. A walk that has ended stays where it is.
@@ -151,7 +151,7 @@ StepsOn asker path depth (Ended reply) old next new = (next ≡ Ended reply) × 
 -- The way to the target of a path and the items at it, and then the target itself.
 pub record IsReached (asker : Asker) (path : List (List ℕ)) (items : Site → List Item) (old : Rows)
     (arrival : Arrival) (new : Rows) : Type 0 where
-  pub judged : IsJudged asker (to_stored old.read path items) old (ended arrival) new
+  pub judged : IsJudged asker (to_stored old.read path items) old (ending_reply arrival) new
   pub found : IfAt arrival
       (λ target. site_at (stored_along old.read path) path ≡ Some (stored_site path target))
 

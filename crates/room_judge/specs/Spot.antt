@@ -73,11 +73,11 @@ abbrev pub IsSpotIn : List (List ℕ) → Found → Rows → Spot → Type 0
 IsSpotIn path from rows spot = spot ≡ Under from (child_below path from rows)
 
 -- the folder and the object at the path, or the refusal where there is none
-abbrev pub pair_of : List (List ℕ) → Found → Option Node → Pair
-pair_of path folder (Some node) = Both folder (record { node = node; depth = length path })
-pair_of path folder None = Halted (Refused path NoSuch)
+abbrev pub pair_with : List (List ℕ) → Found → Option Node → Pair
+pair_with path folder (Some node) = Both folder (record { node = node; depth = length path })
+pair_with path folder None = Halted (Refused path NoSuch)
 
 -- the same for what was found at the spot
-abbrev pub pair_in : List (List ℕ) → Spot → Pair
-pair_in path (Under folder child) = pair_of path folder child
-pair_in path (Barred reply) = Halted reply
+abbrev pub pair_at_spot : List (List ℕ) → Spot → Pair
+pair_at_spot path (Under folder child) = pair_with path folder child
+pair_at_spot path (Barred reply) = Halted reply

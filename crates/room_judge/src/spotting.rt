@@ -9,8 +9,8 @@ ghost use Rattle.room_judge.specs.Spot.{
   IsSpotted,
   SpotsAfter,
   SpotsUnder,
-  pair_in,
-  pair_of,
+  pair_at_spot,
+  pair_with,
 };
 
 use crate::arrival::{Arrival, Found, Pair, Spot};
@@ -50,7 +50,7 @@ pub fn walk_to_pair<K: Keep>(
     ensures done { Does K.Keep keep.old keep.new result HasNoRoot (IsPaired asker.now path.now) }
 {
     let spot = walk_to_spot(alloc, keep, asker, path)?;
-    Ok(pair_in(alloc, path, spot)?)
+    Ok(pair_at_spot(alloc, path, spot)?)
 }
 
 /// As `walk_to_pair`, from a root that was read already. The error is the keeper's, or that memory
@@ -71,12 +71,12 @@ pub fn walk_to_pair_from<K: Keep>(
     let depth = path.names().len() - 1;
     let arrival = walk_from(alloc, keep, asker, path, depth, root)?;
     let spot = spot_after(alloc, keep, asker, path, depth, arrival)?;
-    Ok(pair_in(alloc, path, spot)?)
+    Ok(pair_at_spot(alloc, path, spot)?)
 }
 
 // What is at the spot has to be there.
-fn pair_in(alloc: Global, path: &Path, spot: Spot) -> Result<Pair, AllocError>
-    ensures { IfOk result (λ pair. pair ≡ pair_in path.now spot) }
+fn pair_at_spot(alloc: Global, path: &Path, spot: Spot) -> Result<Pair, AllocError>
+    ensures { IfOk result (λ pair. pair ≡ pair_at_spot path.now spot) }
 {
     match spot {
         Spot::Barred(reply) => Ok(Pair::Halted(reply)),
@@ -91,7 +91,7 @@ fn pair_under(
     folder: Found,
     child: Option<Node>,
 ) -> Result<Pair, AllocError>
-    ensures { IfOk result (λ pair. pair ≡ pair_of path.now folder child) }
+    ensures { IfOk result (λ pair. pair ≡ pair_with path.now folder child) }
 {
     let depth = path.names().len();
     match child {

@@ -68,8 +68,8 @@ first_failure caller (item ∷ items) = or_else (failure caller item) (first_fai
 -- ---- records
 
 -- ADD_FILE decided a deletion where neither list ruled
-abbrev pub by_adding : Caller → Site → Site → Bool
-by_adding caller target parent =
+abbrev pub is_by_adding : Caller → Site → Site → Bool
+is_by_adding caller target parent =
     is_silent (ruling_of (full_at Dacl target) caller target.node.owners delete)
     && is_silent (ruling_of (full_at Dacl parent) caller parent.node.owners delete_child)
 
@@ -77,7 +77,7 @@ by_adding caller target parent =
 abbrev pub checks_of : Caller → Item → List (Site × List ℕ)
 checks_of caller (Check site bits) = (site, bits) ∷ []
 checks_of caller (Deletion target parent) =
-    let second = if by_adding caller target parent then write_data else delete_child in
+    let second = if is_by_adding caller target parent then write_data else delete_child in
     (target, delete ∷ []) ∷ (parent, second ∷ []) ∷ []
 checks_of caller (Refusal at why holds) = []
 

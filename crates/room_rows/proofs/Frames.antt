@@ -14,7 +14,7 @@ use Rattle.room_entry.specs.declared.parties.Owners.{Owners}
 use Rattle.room_rows.specs.declared.node.AuditRow.{AuditRow}
 use Rattle.room_rows.specs.HeldList.{Held}
 use Rattle.room_rows.specs.declared.node.Node.{Node}
-use Rattle.room_rows.specs.Content.{Content, node_at, has_parent, root_of, child_of, children_of, parent_of, body_in, body_of, groups_of, put_body, with_node, with_body, with_each, without_node, with_records, is_rising, sorted_by_name}
+use Rattle.room_rows.specs.Content.{Content, node_at, has_parent, root_of, child_of, children_of, parent_of, body_at, body_of, groups_of, put_body, with_node, with_body, with_each, without_node, with_records, is_rising, sorted_by_name}
 use Rattle.room_rows.specs.Held.{held_of, with_held}
 use Rattle.room_rows.specs.Keep.{with_inh, with_owners, with_place, reading}
 use Rattle.room_rows.specs.Rows.{Rows, AreRows, numbers_of, put_numbers}
@@ -315,11 +315,11 @@ node_at-with_body content id bytes at = refl
 pub node_at-with_records : (content : Content) (rows : List AuditRow) (at : ℕ) → node_at (with_records content rows) at ≡ node_at content at
 node_at-with_records content rows at = refl
 
-body_yes : (row : ℕ × List ℕ) (rows : List (ℕ × List ℕ)) (id : ℕ) → (row.0 == id) ≡ true → body_in (row ∷ rows) id ≡ Some row.1
-body_yes row rows id is = cond-true (row.0 == id) (Some row.1) (body_in rows id) is
+body_yes : (row : ℕ × List ℕ) (rows : List (ℕ × List ℕ)) (id : ℕ) → (row.0 == id) ≡ true → body_at (row ∷ rows) id ≡ Some row.1
+body_yes row rows id is = cond-true (row.0 == id) (Some row.1) (body_at rows id) is
 
-body_no : (row : ℕ × List ℕ) (rows : List (ℕ × List ℕ)) (id : ℕ) → (row.0 == id) ≡ false → body_in (row ∷ rows) id ≡ body_in rows id
-body_no row rows id isnt = cond-false (row.0 == id) (Some row.1) (body_in rows id) isnt
+body_no : (row : ℕ × List ℕ) (rows : List (ℕ × List ℕ)) (id : ℕ) → (row.0 == id) ≡ false → body_at (row ∷ rows) id ≡ body_at rows id
+body_no row rows id isnt = cond-false (row.0 == id) (Some row.1) (body_at rows id) isnt
 
 bytes_behind : (id : ℕ) (bytes : List ℕ) (row : ℕ × List ℕ) (rows : List (ℕ × List ℕ)) → row.0 < id → put_body id bytes (row ∷ rows) ≡ row ∷ put_body id bytes rows
 bytes_behind id bytes row rows below = cond-true _ _ _ (lt-ltb row.0 id below)
@@ -330,28 +330,28 @@ bytes_here id bytes row rows e = cond-false _ _ _ (le-ltb row.0 id (omega (arith
 bytes_before : (id : ℕ) (bytes : List ℕ) (row : ℕ × List ℕ) (rows : List (ℕ × List ℕ)) → id < row.0 → put_body id bytes (row ∷ rows) ≡ (id, bytes) ∷ row ∷ rows
 bytes_before id bytes row rows above = cond-false _ _ _ (le-ltb row.0 id (omega (arith, above))) ∙ cond-false _ _ _ (ne_eqb row.0 id (λ e. absurd (omega (arith, above, e))))
 
-bytes_put : (id : ℕ) (bytes : List ℕ) (rows : List (ℕ × List ℕ)) → body_in (put_body id bytes rows) id ≡ Some bytes
+bytes_put : (id : ℕ) (bytes : List ℕ) (rows : List (ℕ × List ℕ)) → body_at (put_body id bytes rows) id ≡ Some bytes
 bytes_put id bytes [] = body_yes (id, bytes) [] id (eq-eqb id id refl)
 bytes_put id bytes (row ∷ rows) = elim (cases_order row.0 id) [
-  | inl e ↦ ap (λ (l : List (ℕ × List ℕ)). body_in l id) (bytes_here id bytes row rows e) ∙ body_yes (id, bytes) rows id (eq-eqb id id refl)
+  | inl e ↦ ap (λ (l : List (ℕ × List ℕ)). body_at l id) (bytes_here id bytes row rows e) ∙ body_yes (id, bytes) rows id (eq-eqb id id refl)
   | inr apart ↦ elim apart [
-    | inl below ↦ ap (λ (l : List (ℕ × List ℕ)). body_in l id) (bytes_behind id bytes row rows below) ∙ body_no row (put_body id bytes rows) id (ne_eqb row.0 id (λ e. absurd (omega (arith, below, e)))) ∙ bytes_put id bytes rows
-    | inr above ↦ ap (λ (l : List (ℕ × List ℕ)). body_in l id) (bytes_before id bytes row rows above) ∙ body_yes (id, bytes) (row ∷ rows) id (eq-eqb id id refl)
+    | inl below ↦ ap (λ (l : List (ℕ × List ℕ)). body_at l id) (bytes_behind id bytes row rows below) ∙ body_no row (put_body id bytes rows) id (ne_eqb row.0 id (λ e. absurd (omega (arith, below, e)))) ∙ bytes_put id bytes rows
+    | inr above ↦ ap (λ (l : List (ℕ × List ℕ)). body_at l id) (bytes_before id bytes row rows above) ∙ body_yes (id, bytes) (row ∷ rows) id (eq-eqb id id refl)
   ]
 ]
 
-bytes_put-other : (id : ℕ) (bytes : List ℕ) (rows : List (ℕ × List ℕ)) (at : ℕ) → (at ≡ id → ⊥) → body_in (put_body id bytes rows) at ≡ body_in rows at
+bytes_put-other : (id : ℕ) (bytes : List ℕ) (rows : List (ℕ × List ℕ)) (at : ℕ) → (at ≡ id → ⊥) → body_at (put_body id bytes rows) at ≡ body_at rows at
 bytes_put-other id bytes [] at other = body_no (id, bytes) [] at (ne_eqb id at (λ e. other (sym e)))
 bytes_put-other id bytes (row ∷ rows) at other =
     let fails : (id == at) ≡ false = ne_eqb id at (λ e. other (sym e)) in
     elim (cases_order row.0 id) [
-      | inl e ↦ ap (λ (l : List (ℕ × List ℕ)). body_in l at) (bytes_here id bytes row rows e) ∙ body_no (id, bytes) rows at fails ∙ sym (body_no row rows at (ne_eqb row.0 at (λ e'. other (sym e' ∙ e))))
+      | inl e ↦ ap (λ (l : List (ℕ × List ℕ)). body_at l at) (bytes_here id bytes row rows e) ∙ body_no (id, bytes) rows at fails ∙ sym (body_no row rows at (ne_eqb row.0 at (λ e'. other (sym e' ∙ e))))
       | inr apart ↦ elim apart [
-        | inl below ↦ ap (λ (l : List (ℕ × List ℕ)). body_in l at) (bytes_behind id bytes row rows below) ∙ (elim (cases_Bool (row.0 == at)) [
+        | inl below ↦ ap (λ (l : List (ℕ × List ℕ)). body_at l at) (bytes_behind id bytes row rows below) ∙ (elim (cases_Bool (row.0 == at)) [
           | inl is ↦ body_yes row (put_body id bytes rows) at is ∙ sym (body_yes row rows at is)
           | inr isnt ↦ body_no row (put_body id bytes rows) at isnt ∙ bytes_put-other id bytes rows at other ∙ sym (body_no row rows at isnt)
         ])
-        | inr above ↦ ap (λ (l : List (ℕ × List ℕ)). body_in l at) (bytes_before id bytes row rows above) ∙ body_no (id, bytes) (row ∷ rows) at fails
+        | inr above ↦ ap (λ (l : List (ℕ × List ℕ)). body_at l at) (bytes_before id bytes row rows above) ∙ body_no (id, bytes) (row ∷ rows) at fails
       ]
     ]
 
@@ -367,7 +367,7 @@ body_of-with_body-other content id bytes at other = bytes_put-other id bytes con
 pub with_node-there : (content : Content) → Rises content → (node : Node) → node_at content node.id ≡ Some node → with_node content node ≡ content
 with_node-there content rises node there = ap (λ (nodes : List Node). record content { nodes = nodes }) (put_there 0 content.nodes node rises there)
 
-body_above : (k id : ℕ) (bytes : List ℕ) (rows : List (ℕ × List ℕ)) → is_rising (k ∷ map (λ row. row.0) rows) ≡ true → body_in rows id ≡ Some bytes → k < id
+body_above : (k id : ℕ) (bytes : List ℕ) (rows : List (ℕ × List ℕ)) → is_rising (k ∷ map (λ row. row.0) rows) ≡ true → body_at rows id ≡ Some bytes → k < id
 body_above k id bytes [] rises found = absurd (not_none bytes found)
 body_above k id bytes (row ∷ rows) rises found =
     let parts = and_parts (nat_lt k row.0) (is_rising (row.0 ∷ map (λ r. r.0) rows)) rises in
@@ -377,7 +377,7 @@ body_above k id bytes (row ∷ rows) rises found =
       | inr isnt ↦ let next = body_above row.0 id bytes rows parts.1 (sym (body_no row rows id isnt) ∙ found) in omega (arith, up, next)
     ]
 
-bytes_there : (k id : ℕ) (bytes : List ℕ) (rows : List (ℕ × List ℕ)) → is_rising (k ∷ map (λ row. row.0) rows) ≡ true → body_in rows id ≡ Some bytes → put_body id bytes rows ≡ rows
+bytes_there : (k id : ℕ) (bytes : List ℕ) (rows : List (ℕ × List ℕ)) → is_rising (k ∷ map (λ row. row.0) rows) ≡ true → body_at rows id ≡ Some bytes → put_body id bytes rows ≡ rows
 bytes_there k id bytes [] rises found = absurd (not_none bytes found)
 bytes_there k id bytes (row ∷ rows) rises found =
     let parts = and_parts (nat_lt k row.0) (is_rising (row.0 ∷ map (λ r. r.0) rows)) rises in

@@ -57,12 +57,12 @@ sorted_by_name (node ∷ nodes) = put_by_name node (sorted_by_name nodes)
 abbrev pub children_of : Content → ℕ → List Node
 children_of content id = sorted_by_name (filter (has_parent id) content.nodes)
 
-abbrev pub body_in : List (ℕ × List ℕ) → ℕ → Option (List ℕ)
-body_in [] id = None
-body_in (row ∷ rows) id = if row.0 == id then Some row.1 else body_in rows id
+abbrev pub body_at : List (ℕ × List ℕ) → ℕ → Option (List ℕ)
+body_at [] id = None
+body_at (row ∷ rows) id = if row.0 == id then Some row.1 else body_at rows id
 
 abbrev pub body_of : Content → ℕ → Option (List ℕ)
-body_of content id = body_in content.bodies id
+body_of content id = body_at content.bodies id
 
 -- the groups that are paired with the user, in order
 abbrev pub groups_of : Content → List ℕ → List (List ℕ)

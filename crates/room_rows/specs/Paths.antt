@@ -2,6 +2,7 @@
 use Rattle.std.specs.Prelude.{ℕ, ◌==◌, ◌&&◌, Bool, not, List, [], ◌∷◌, length, Result, Ok, Err}
 use Rattle.std.specs.Prelude.{if◌then◌else◌, nat_lt, nat_le, codes}
 use Rattle.std.specs.List.{list_all, flat_map}
+use Rattle.room_entry.specs.Bytes.{slash}
 use Rattle.room_entry.specs.Pieces.{pieces, same_text}
 use Rattle.room_entry.specs.Utf8.{is_utf8}
 use Rattle.room_rows.specs.declared.fault.PathFault.{PathFault}
@@ -9,7 +10,7 @@ use Rattle.room_rows.specs.declared.fault.PathFault.TheVariants.{BadName, TooLon
 
 -- neither a control character nor `/`
 abbrev pub is_name_byte : ℕ → Bool
-is_name_byte byte = nat_le 0x20 byte && not (byte == 0x7F) && not (byte == 47)
+is_name_byte byte = nat_le 0x20 byte && not (byte == 0x7F) && not (byte == slash)
 
 abbrev pub is_object_name : List ℕ → Bool
 is_object_name name =
@@ -19,7 +20,7 @@ is_object_name name =
 -- a `/` before each name; the root's path is `/` alone
 abbrev pub path_text : List (List ℕ) → List ℕ
 path_text [] = codes "/"
-path_text (name ∷ names) = flat_map (λ n. 47 ∷ n) (name ∷ names)
+path_text (name ∷ names) = flat_map (λ n. slash ∷ n) (name ∷ names)
 
 -- the names of a path
 abbrev pub is_path : List (List ℕ) → Bool
@@ -40,4 +41,4 @@ names_in _ = Err BadName
 abbrev pub path_of : List ℕ → Result (List (List ℕ)) PathFault
 path_of bytes =
     if nat_lt 4096 (length bytes) then Err TooLong else
-    if is_utf8 bytes then names_in (pieces 47 bytes) else Err NotUtf8
+    if is_utf8 bytes then names_in (pieces slash bytes) else Err NotUtf8

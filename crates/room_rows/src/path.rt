@@ -17,6 +17,7 @@ ghost use Rattle.std.specs.Prelude.{
   take,
 };
 ghost use Rattle.std.specs.List.{list_all};
+ghost use Rattle.room_entry.specs.Bytes.{slash};
 ghost use Rattle.room_entry.specs.Gives.{Gives};
 ghost use Rattle.room_entry.specs.Pieces.{pieces};
 ghost use Rattle.room_rows.specs.Paths.{
@@ -169,7 +170,7 @@ pub fn read_path(alloc: Global, bytes: &[u8]) -> Result<Path, Failure<PathFault>
 // The path that a text spells which isn't too long.
 fn read_names(alloc: Global, text: &str) -> Result<Path, Failure<PathFault>>
     requires { length text.now ≤ 4096 }
-    ensures { Gives result (names_in (pieces 47 text.now)) }
+    ensures { Gives result (names_in (pieces slash text.now)) }
 {
     let Some(rest) = text.strip_prefix('/') else {
         return Err(Failure::Fault(PathFault::BadName));
@@ -183,7 +184,7 @@ fn read_names(alloc: Global, text: &str) -> Result<Path, Failure<PathFault>>
 // The path whose text is a `/` and these names.
 fn read_rest(alloc: Global, rest: &str) -> Result<Path, Failure<PathFault>>
     requires { length rest.now < 4096 }
-    ensures { Gives result (object_names (pieces 47 rest.now)) }
+    ensures { Gives result (object_names (pieces slash rest.now)) }
 {
     let mut names = Vec::new(alloc);
     'names: for name in rest.split('/') {

@@ -13,7 +13,7 @@ use Rattle.std.proofs.lemmas.Map.Keys.{sorted_head, sorted_tail}
 use Rattle.room_entry.specs.Pieces.{is_among}
 use Rattle.room_rows.specs.declared.node.Node.{Node}
 use Rattle.room_rows.specs.declared.node.AuditRow.{AuditRow}
-use Rattle.room_rows.specs.Content.{body_in, is_rising, put_body, put_node, set_of}
+use Rattle.room_rows.specs.Content.{body_at, is_rising, put_body, put_node, set_of}
 use Rattle.room_rows.specs.Finding.{find_id}
 use Rattle.room_tree.specs.Memory.{memory_rows}
 use Rattle.room_rows.specs.Rows.{AreRows}
@@ -22,7 +22,7 @@ use Rattle.room_tree.proofs.Numbered.{is_key, cmp_less, cmp_equal, cmp_greater, 
 
 -- ---- bytes at numbers
 
-pub body_at : (id : ℕ) (es : List (ℕ × List ℕ)) → lookup (λ k. is_eq (nat_cmp id k)) es ≡ body_in es id
+pub body_at : (id : ℕ) (es : List (ℕ × List ℕ)) → lookup (λ k. is_eq (nat_cmp id k)) es ≡ body_at es id
 body_at id [] = refl
 body_at id (e ∷ es) = ap (λ b. if b then Some e.1 else lookup (λ k. is_eq (nat_cmp id k)) es) (is_key id e.0) ∙ ap (λ o. if e.0 == id then Some e.1 else o) (body_at id es)
 

@@ -14,7 +14,7 @@ use Rattle.room_entry.specs.declared.object.ObjKind.{ObjKind}
 use Rattle.room_rows.specs.declared.node.Node.{Node}
 use Rattle.room_rows.specs.Content.{put_node, is_rising, has_parent, sorted_by_name}
 use Rattle.room_rows.specs.Finding.{find_id, find_named}
-use Rattle.room_tree.specs.Objects.{AreTied, StandsAsBefore, greatest, is_numbered, named_kind, place_of}
+use Rattle.room_tree.specs.Objects.{AreTied, StandsAsBefore, greatest, has_object, named_kind, place_of}
 use Rattle.room_tree.specs.Places.{text_place, standing, standing_under, is_same_place, id_at, places_under, Lists, KeepsOtherPlaces}
 use Rattle.room_tree.proofs.Found.{same_object, found_id, found_above, found_put, found_without, some_passes, put_rises, filter_rises, failing}
 use Rattle.room_tree.proofs.Listed.{same_bytes, same_itself, parent_has, all_listed, named_none, named_some, children_are, place_cmp}
@@ -207,7 +207,7 @@ module _ {Y : Type 0} where
   pub there : (es : List (ℕ × Node)) (places : List ((ℕ × String Y) × ℕ)) (nodes : List Node) (id : ℕ) → AreTied es places → values_of es ≡ nodes → is_some (find_id id nodes) ≡ true → lookup (λ k. is_eq (nat_cmp id k)) es ≡ None → ⊥
   there es places nodes id tied view is none = false≢true (ap is_some (found_at id es places nodes None tied view (sym none)) ∙ is)
 
-  pub still_there : (es : List (ℕ × Node)) (places : List ((ℕ × String Y) × ℕ)) (nodes : List Node) (id : ℕ) → AreTied es places → values_of es ≡ nodes → is_some (find_id id nodes) ≡ true → is_numbered id es ≡ true
+  pub still_there : (es : List (ℕ × Node)) (places : List ((ℕ × String Y) × ℕ)) (nodes : List Node) (id : ℕ) → AreTied es places → values_of es ≡ nodes → is_some (find_id id nodes) ≡ true → has_object id es ≡ true
   still_there es places nodes id tied view is = ap is_some (found_at id es places nodes _ tied view refl) ∙ is
 
   above_zero : (es : List (ℕ × Node)) (places : List ((ℕ × String Y) × ℕ)) (nodes : List Node) (id : ℕ) → AreTied es places → values_of es ≡ nodes → is_some (find_id id nodes) ≡ true → 0 < id

@@ -32,8 +32,8 @@ abbrev pub named_kind : Node → List ℕ × ObjKind
 named_kind node = (node.name, node.kind)
 
 -- whether an object stands at the number
-abbrev pub is_numbered : ℕ → List (ℕ × Node) → Bool
-is_numbered id numbered = is_some (lookup (λ key. is_eq (nat_cmp id key)) numbered)
+abbrev pub has_object : ℕ → List (ℕ × Node) → Bool
+has_object id numbered = is_some (lookup (λ key. is_eq (nat_cmp id key)) numbered)
 
 abbrev pub place_of : Node → Option (ℕ × List ℕ)
 place_of node = option_map (λ parent. (parent, node.name)) node.parent

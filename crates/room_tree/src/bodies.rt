@@ -1,7 +1,7 @@
 //! The bytes of documents.
 ghost use Rattle.std.specs.Prelude.{◌≡◌, [], IfOk, OnOk, OnErr, filter, not, ◌==◌, if◌then◌else◌};
 ghost use Rattle.room_entry.specs.Valid.{is_document};
-ghost use Rattle.room_rows.specs.Content.{body_in, put_body};
+ghost use Rattle.room_rows.specs.Content.{body_at, put_body};
 
 use room_entry::ObjKind;
 use room_rows::Bytes;
@@ -48,7 +48,7 @@ impl Bodies {
 
     /// A copy of the bytes of this number.
     pub(crate) fn at(&self, id: u64) -> Result<Option<Bytes>, AllocError>
-        ensures { IfOk result (λ found. found ≡ body_in self.now id) }
+        ensures { IfOk result (λ found. found ≡ body_at self.now id) }
     {
         match self.items.get(&id) {
             Some(bytes) => Ok(Some(bytes.copy()?)),

@@ -39,7 +39,7 @@ ghost use Rattle.room_rows.specs.Finding.{find_id, find_named, first_root};
 ghost use Rattle.room_tree.specs.Objects.{
   StandsAsBefore,
   greatest,
-  is_numbered,
+  has_object,
   named_kind,
   place_of,
 };
@@ -54,12 +54,12 @@ use std::marker::Model;
 
 /// Objects by their numbers. A contract sees the list of them, in rising order of their numbers.
 #[derive(Drop)]
-pub(crate) struct Objects {
+pub(crate) struct ObjectMap {
     by_number: BTreeMap<u64, Node>,
     places: Places,
 }
 
-impl Model for Objects {
+impl Model for ObjectMap {
     ghost use Rattle.std.specs.Prelude.{List};
     ghost use Rattle.std.specs.BTreeMap.{values};
     ghost use Rattle.room_rows.specs.declared.node.Node.{Node};
@@ -113,7 +113,7 @@ fn push_named(found: &mut Vec<(Text, ObjKind)>, node: Option<&Node>) -> Result<(
 
 // Puts the object in the place of the one of its number, which takes no memory.
 fn put_in(by_number: &mut BTreeMap<u64, Node>, node: Node)
-    requires { IsTrue (is_numbered node.id by_number.old.entries) }
+    requires { IsTrue (has_object node.id by_number.old.entries) }
     ensures entries { by_number.new.entries ≡
         insert_entry nat_cmp by_number.old.entries node.id node }
     ensures ordered { IsOrdered nat_cmp by_number.new }
@@ -121,26 +121,26 @@ fn put_in(by_number: &mut BTreeMap<u64, Node>, node: Node)
     let _ = by_number.insert(node.id, node);
 }
 
-impl Objects {
+impl ObjectMap {
     /// The objects of which this one, without a parent, is the only one.
-    pub(crate) fn new(alloc: Global, root: Node) -> Result<Objects, AllocError>
+    pub(crate) fn new(alloc: Global, root: Node) -> Result<ObjectMap, AllocError>
         requires number { 0 < root.id }
         requires parent { root.parent ≡ None }
         ensures { IfOk result (λ objects. objects ≡ root ∷ []) }
     {
         let mut by_number = BTreeMap::new(alloc);
         by_number.insert(root.id, root)?;
-        Ok(Objects {
+        Ok(ObjectMap {
             by_number,
             places: Places::new(alloc),
         })
     }
 
     /// A copy.
-    pub(crate) fn copy(&self) -> Result<Objects, AllocError>
+    pub(crate) fn copy(&self) -> Result<ObjectMap, AllocError>
         ensures { IfOk result (λ copy. copy ≡ self.now) }
     {
-        Ok(Objects {
+        Ok(ObjectMap {
             by_number: self.by_number.clone()?,
             places: self.places.copy()?,
         })

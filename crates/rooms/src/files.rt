@@ -19,7 +19,7 @@ const OWNER_ALONE: u32 = 0o600;
 
 /// Makes an empty file where there is none, and answers the path of the log that it will have. The
 /// error is `Exists` where there is a file of this name, or the log of an earlier one.
-pub fn make(rt: &HostRuntime, file: &str) -> Result<String, Stop> {
+pub fn make_file(rt: &HostRuntime, file: &str) -> Result<String, Stop> {
     let log = log_of(rt, file)?;
     if is_there(rt, log.as_str())? {
         return Err(Stop::Exists);

@@ -2,7 +2,7 @@
 ghost use Rattle.std.specs.Prelude.{◌≡◌, ℕ, List, IsSome, false};
 ghost use Rattle.cli_tasks.specs.Tasks.{task_of};
 
-use crate::files::{FileConnection, close, connect, make, open, take_away};
+use crate::files::{FileConnection, close, connect, make_file, open, take_away};
 use cli_act::act;
 use cli_console::{Stop, read_task};
 use cli_serve::{NetPorts, host};
@@ -38,7 +38,7 @@ fn task_for(rt: &HostRuntime, command: &Command<'_>) -> Result<Task, Stop>
 
 // Makes the file and the room in it. Where that fails, the file is removed again.
 fn begin<S: Start>(rt: &HostRuntime, start: S, file: &str, task: &Task) -> Result<u8, Stop> {
-    let log = make(rt, file)?;
+    let log = make_file(rt, file)?;
     let status = begin_at(rt, start, file, task);
     if !matches!(status, Ok(0)) {
         take_away(rt, file, log.as_str());

@@ -4,7 +4,7 @@ use Rattle.std.specs.Global.{Global}
 use Rattle.sqlite.specs.State.{State}
 use Rattle.room_rows.specs.declared.keep.KeepFault.{KeepFault}
 use Rattle.room_rows.specs.Keep.{HasCause, IfSeen, IsDamaged}
-use Rattle.room_dump.specs.Dump.{IsText}
+use Rattle.room_dump.specs.Dump.{IsDumpText}
 use Rattle.store_tables.specs.Meaning.{rows_of}
 use Rattle.store_tables.specs.Shown.{Stays}
 use Rattle.store_tables.specs.Trust.{IsTrusted}
@@ -14,7 +14,7 @@ use Rattle.store_admin.specs.Dump.{HasDamagedRow, TellsObjects}
 -- the text of all objects, by the keeper
 pub told_objects : (begun mid : State) (result : Result (String Global) KeepFault) (before after : ℕ) → Stays begun mid
     → (IsTrusted begun mid → IfSeen result (rows_of mid.now ≡ rows_of begun.now))
-    → (IsTrusted begun mid → IfOk result (λ text. IsText (rows_of begun.now) (string_bytes text)))
+    → (IsTrusted begun mid → IfOk result (λ text. IsDumpText (rows_of begun.now) (string_bytes text)))
     → IfErr result (HasCause before after (λ at. IsTrusted begun mid → IsDamaged (rows_of begun.now) at))
     → CallsInside begun mid result HasDamagedRow TellsObjects
 told_objects begun mid (Ok text) before after stays same answers fault = record {

@@ -3,7 +3,7 @@ use Rattle.std.specs.Prelude.{◌≡◌, ℕ, List, ◌++◌, String, string_byt
 use Rattle.std.specs.Global.{Global}
 use Rattle.sqlite.specs.Effect.{Database}
 use Rattle.room_rows.specs.Keep.{IsDamaged}
-use Rattle.room_dump.specs.Dump.{HasAllBytes, IsText, room_text}
+use Rattle.room_dump.specs.Dump.{HasAllBytes, IsDumpText, room_text}
 use Rattle.room_dump.specs.Members.{members_text}
 use Rattle.store_tables.specs.Meaning.{rows_of}
 
@@ -21,7 +21,7 @@ HasDamagedRow db = (at : ℕ) × IsDamaged (rows_of db) at
 -- the text of all objects, and the rows are as they were
 abbrev pub TellsObjects : Database → String Global → Database → Type 0
 TellsObjects old text new =
-    IsText (rows_of old) (string_bytes text) × (rows_of new ≡ rows_of old)
+    IsDumpText (rows_of old) (string_bytes text) × (rows_of new ≡ rows_of old)
 
 -- the lines of the pairs are added after the text
 abbrev pub AddsMembers : List ℕ → List ℕ → Database → Unit {0} → Type 0

@@ -15,17 +15,20 @@ use Rattle.room_rows.specs.Content.{set_of, with_members}
 use Rattle.room_rows.specs.Keep.{reading}
 use Rattle.room_rows.specs.Rows.{Rows}
 use Rattle.store_tables.specs.Meaning.{audit_in, name_in, pair_in, pairs_of, rows_of}
+use Rattle.store_tables.specs.Trees as tree
+use Rattle.store_tables.specs.PairCells as pair
+use Rattle.store_tables.specs.RecordCells as record_cell
 
 abbrev pub AreMembers : Database → List (List ℕ × List ℕ) → Type 0
 AreMembers db pairs = pairs ≡ (rows_of db).read.members
 
 -- some row of audits can't be read as a record
 abbrev pub HasUnreadRecord : Database → Type 0
-HasUnreadRecord db = list_all (λ r. is_some (audit_in r)) (db.trees 7) ≡ false
+HasUnreadRecord db = list_all (λ r. is_some (audit_in r)) (db.trees tree.audits) ≡ false
 
 -- each row of audits, read as a record
 pub record AreRecords (db : Database) (records : List AuditRow) : Type 0 where
-  pub all_read : list_all (λ r. is_some (audit_in r)) (db.trees 7) ≡ true
+  pub all_read : list_all (λ r. is_some (audit_in r)) (db.trees tree.audits) ≡ true
   pub are : records ≡ (rows_of db).read.audits
 
 abbrev pub ReplacesMembers : List (List ℕ × List ℕ) → Rows → Unit {0} → Rows → Type 0
@@ -37,7 +40,7 @@ are_pairs rows = list_all (λ r. is_some (pair_in r)) rows
 
 -- each row of members is a pair
 abbrev pub HasPairsAlone : Database → Type 0
-HasPairsAlone db = are_pairs (db.trees 3) ≡ true
+HasPairsAlone db = are_pairs (db.trees tree.members) ≡ true
 
 -- The pairs are replaced by these, and no other row is left.
 abbrev pub ExchangesMembers : List (List ℕ × List ℕ) → Database → Unit {0} → Database → Type 0
@@ -48,16 +51,17 @@ ExchangesMembers pairs old answer new =
 
 -- a row of members as it is shown
 abbrev pub shown_pair : Row → Row
-shown_pair r = column r 1 ∷ column r 2 ∷ []
+shown_pair r = column r pair.group ∷ column r pair.user ∷ []
 
 -- two rows of members, by group and then by user
 abbrev pub by_pair : Row → Row → Ordering
 by_pair a b =
-    ordering_then (value_cmp (column a 1) (column b 1)) (value_cmp (column a 2) (column b 2))
+    ordering_then (value_cmp (column a pair.group) (column b pair.group))
+    (value_cmp (column a pair.user) (column b pair.user))
 
 -- all rows, in order of group and then of user
 abbrev pub ShowsMembers : Trees → List Row → Type 0
-ShowsMembers db rows = rows ≡ map shown_pair (sort_by by_pair (db 3))
+ShowsMembers db rows = rows ≡ map shown_pair (sort_by by_pair (db tree.members))
 
 abbrev pub pair_seen : Row → Option (List ℕ × List ℕ)
 pair_seen r = option_and_then (λ group. option_map (λ user. (group, user)) (name_in (column r 1)))
@@ -69,10 +73,11 @@ pairs_seen rows = filter_map pair_seen rows
 
 -- a row of audits as it is shown
 abbrev pub shown_record : Row → Row
-shown_record r = column r 2 ∷ column r 3 ∷ column r 4 ∷ column r 5 ∷ column r 6 ∷ column r 7 ∷ []
+shown_record r = column r record_cell.at ∷ column r record_cell.user ∷ column r record_cell.path
+    ∷ column r record_cell.bits ∷ column r record_cell.granted ∷ column r record_cell.place ∷ []
 
 abbrev pub HasRecords : Trees → List Row → Type 0
-HasRecords db rows = rows ≡ map shown_record (db 7)
+HasRecords db rows = rows ≡ map shown_record (db tree.audits)
 
 -- a shown row lacks the two columns before the moment
 abbrev pub record_seen : Row → Option AuditRow
@@ -82,10 +87,10 @@ record_seen r = audit_in (Null ∷ Null ∷ r)
 
 -- The rows of members become these, and the other tables of rows are as they were.
 pub record Exchanges (rows : List Row) (db next : Trees) : Type 0 where
-  pub nodes : next 0 ≡ db 0
-  pub bodies : next 2 ≡ db 2
-  pub members : next 3 ≡ rows
-  pub audits : next 7 ≡ db 7
+  pub nodes : next tree.nodes ≡ db tree.nodes
+  pub bodies : next tree.bodies ≡ db tree.bodies
+  pub members : next tree.members ≡ rows
+  pub audits : next tree.audits ≡ db tree.audits
 
 -- a row of members as it is stored
 abbrev pub stored_pair : ℤ → List ℕ → List ℕ → Row
@@ -94,20 +99,20 @@ stored_pair id group user = Int id ∷ Text group ∷ Text user ∷ []
 -- A row with this pair, of a number that none had, is put in.
 pub record Joins (group user : List ℕ) (db next : Trees) : Type 0 where
   pub id : ℤ
-  pub fresh : is_taken (db 3) (stored_pair id group user) ≡ false
-  pub puts : Exchanges (put_row (stored_pair id group user) (db 3)) db next
+  pub fresh : is_taken (db tree.members) (stored_pair id group user) ≡ false
+  pub puts : Exchanges (put_row (stored_pair id group user) (db tree.members)) db next
 
 -- The rows of members mean the set of these pairs, and the other tables of rows are as they were.
 pub record HoldsPairs (pairs : List (List ℕ × List ℕ)) (db next : Trees) : Type 0 where
-  pub nodes : next 0 ≡ db 0
-  pub bodies : next 2 ≡ db 2
-  pub members : pairs_of (next 3) ≡ set_of pairs
-  pub audits : next 7 ≡ db 7
+  pub nodes : next tree.nodes ≡ db tree.nodes
+  pub bodies : next tree.bodies ≡ db tree.bodies
+  pub members : pairs_of (next tree.members) ≡ set_of pairs
+  pub audits : next tree.audits ≡ db tree.audits
   -- where each row was a pair, each still is
-  pub only : are_pairs (db 3) ≡ true → are_pairs (next 3) ≡ true
+  pub only : are_pairs (db tree.members) ≡ true → are_pairs (next tree.members) ≡ true
 
 -- From the set of some pairs to that of others.
 abbrev pub Gathers : List (List ℕ × List ℕ) → List (List ℕ × List ℕ)
     → Database → Unit {0} → Database → Type 0
 Gathers before after old answer new =
-    pairs_of (old.trees 3) ≡ set_of before → HoldsPairs after old.trees new.trees
+    pairs_of (old.trees tree.members) ≡ set_of before → HoldsPairs after old.trees new.trees

@@ -18,7 +18,7 @@ use Rattle.sqlite.specs.declared.types.Value.TheVariants.{Null, Int, Text}
 use Rattle.sqlite.specs.Order.{Row}
 use Rattle.store_tables.specs.Meaning.{audit_in, bodies_of, name_in, name_of_text, node_in, nodes_of, pairs_of, rows_of, unread_of}
 use Rattle.store_tables.specs.Shown.{shown_node}
-use Rattle.store_schema.specs.NewRoom.{owner_entry, new_room, new_root}
+use Rattle.store_schema.specs.NewRoom.{owner_entry, rows_of_root, new_root}
 
 abbrev pub owner_line : List ℕ
 owner_line = codes "A:fd:OWNER@:rwanNxDtThHdcCoy" ++ 10 ∷ []
@@ -62,7 +62,7 @@ abbrev rows_by : List Node → List ℕ → List (ℕ × List ℕ) → List (Lis
 rows_by nodes unreadable bodies members audits = record { read = record { nodes = nodes; bodies = bodies; members = members; audits = audits }; unreadable = unreadable }
 
 pub room_read : (db : Database) (owners : Owners) → IsTrue (is_name owners.owner) → IsTrue (is_name owners.group) → IsTrue (is_utf8 owners.owner) → IsTrue (is_utf8 owners.group)
-    → db.trees 0 ≡ root_row owners.owner owners.group ∷ [] → db.trees 2 ≡ [] → db.trees 3 ≡ [] → db.trees 7 ≡ [] → rows_of db ≡ new_room owners
+    → db.trees 0 ≡ root_row owners.owner owners.group ∷ [] → db.trees 2 ≡ [] → db.trees 3 ≡ [] → db.trees 7 ≡ [] → rows_of db ≡ rows_of_root owners
 room_read db owners one two three four nodes bodies members audits =
     let root = root_read owners one two three four in
     let read : nodes_of (db.trees 0) ≡ new_root owners ∷ [] = ap nodes_of nodes ∙ ap (λ o. cons_option o []) root in

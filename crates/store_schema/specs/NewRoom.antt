@@ -18,11 +18,13 @@ use Rattle.sqlite.specs.Order.{Row, column, value_cmp}
 use Rattle.sqlite.specs.Effect.{Database}
 use Rattle.store_tables.specs.Meaning.{rows_of}
 use Rattle.store_tables.specs.Shown.{IsRoom}
+use Rattle.store_tables.specs.Trees as tree
+use Rattle.store_tables.specs.MetaCells as meta_cell
 
 -- ---- the schema's number
 
 abbrev pub is_version : Row → Bool
-is_version r = is_eq (value_cmp (column r 1) (Text (codes "rooms")))
+is_version r = is_eq (value_cmp (column r meta_cell.key) (Text (codes "rooms")))
 
 abbrev pub whole_in : Value → Option ℤ
 whole_in (Int n) = Some n
@@ -35,7 +37,8 @@ number_shown _ = None
 
 -- the whole number that `meta` has under the key `rooms`
 abbrev pub meta_of : Database → Option ℤ
-meta_of db = number_shown (map (λ r. column r 2 ∷ []) (filter is_version (db.trees 5)))
+meta_of db = number_shown (map (λ r. column r meta_cell.value ∷ [])
+    (filter is_version (db.trees tree.meta)))
 
 -- ---- a new room
 
@@ -73,17 +76,17 @@ new_root owners = record {
 }
 
 -- the root alone
-abbrev pub new_room : Owners → Rows
-new_room owners = record {
+abbrev pub rows_of_root : Owners → Rows
+rows_of_root owners = record {
   read = record { nodes = new_root owners ∷ []; bodies = []; members = []; audits = [] };
   unreadable = [];
 }
 
 -- It is sound, whoever owns it.
 abbrev pub NewRoomIsSound : Type 0
-NewRoomIsSound = (owners : Owners) → AreSound (new_room owners)
+NewRoomIsSound = (owners : Owners) → AreSound (rows_of_root owners)
 
 pub record IsNewRoom (owners : Owners) (db : Database) : Type 0 where
   pub room : IsRoom db
   pub version : meta_of db ≡ Some (pos 2)
-  pub rows : rows_of db ≡ new_room owners
+  pub rows : rows_of db ≡ rows_of_root owners

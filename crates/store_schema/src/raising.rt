@@ -13,7 +13,7 @@ use std::alloc::Global;
 use store_tables::{Keeper, RecentLists};
 
 // Carries all lists down.
-fn carry_down<K: Keep>(alloc: Global, keep: &mut K) -> Result<(), KeepFault>
+fn carry_all<K: Keep>(alloc: Global, keep: &mut K) -> Result<(), KeepFault>
     ensures carries { CarriesAll K.Keep keep.old keep.new result }
 {
     match spread_all(alloc, keep) {
@@ -28,7 +28,7 @@ fn raise_rows<K: Keep>(alloc: Global, keep: &mut K) -> Result<Report, KeepFault>
     ensures raises { Raises K.Keep keep.old keep.new result }
 {
     match verify_kept(alloc, keep) {
-        Ok(Report::Sound) => match carry_down(alloc, keep) {
+        Ok(Report::Sound) => match carry_all(alloc, keep) {
             Ok(()) => Ok(Report::Sound),
             Err(fault) => Err(fault),
         },

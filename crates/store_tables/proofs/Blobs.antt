@@ -22,12 +22,12 @@ use Rattle.store_tables.proofs.Rowids.{alone_in, at_most_one, has_found, of_each
 abbrev Blobbed : Type 0
 Blobbed = ℕ × List ℕ
 
-pub found_bytes : (id : ℕ) (rows : List Blobbed) → content.body_in rows id ≡ option_map (λ (x : Blobbed). x.1) (find (λ (x : Blobbed). x.0 == id) rows)
+pub found_bytes : (id : ℕ) (rows : List Blobbed) → content.body_at rows id ≡ option_map (λ (x : Blobbed). x.1) (find (λ (x : Blobbed). x.0 == id) rows)
 found_bytes id [] = refl
 found_bytes id (row ∷ rows) = by (row.0 == id) (found_bytes id rows)
   where
-    by : (b : Bool) → content.body_in rows id ≡ option_map (λ (x : Blobbed). x.1) (find (λ (x : Blobbed). x.0 == id) rows)
-        → (if b then Some row.1 else content.body_in rows id) ≡ option_map (λ (x : Blobbed). x.1) (cond b (Some row) (find (λ (x : Blobbed). x.0 == id) rows))
+    by : (b : Bool) → content.body_at rows id ≡ option_map (λ (x : Blobbed). x.1) (find (λ (x : Blobbed). x.0 == id) rows)
+        → (if b then Some row.1 else content.body_at rows id) ≡ option_map (λ (x : Blobbed). x.1) (cond b (Some row) (find (λ (x : Blobbed). x.0 == id) rows))
     by true more = refl
     by false more = more
 

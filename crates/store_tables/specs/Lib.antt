@@ -1,3 +1,9 @@
+pub mod RecordCells
+pub mod MetaCells
+pub mod PairCells
+pub mod BodyCells
+pub mod NodeCells
+pub mod Trees
 pub mod Tables
 pub mod Shown
 pub mod Statements

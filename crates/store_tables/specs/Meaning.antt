@@ -24,6 +24,10 @@ use Rattle.sqlite.specs.declared.types.Value.TheVariants.{Null, Int, Text, Blob}
 use Rattle.sqlite.specs.Order.{Row, column}
 use Rattle.sqlite.specs.Effect.{Database}
 use Rattle.store_tables.specs.Shown.{shown_node}
+use Rattle.store_tables.specs.Trees as tree
+use Rattle.store_tables.specs.BodyCells as body
+use Rattle.store_tables.specs.PairCells as pair
+use Rattle.store_tables.specs.RecordCells as record_cell
 
 -- ---- one value
 
@@ -127,11 +131,12 @@ body_row (Some id) (Blob bytes) = Some (id, bytes)
 body_row _ _ = None
 
 abbrev pub body_in : Row → Option (ℕ × List ℕ)
-body_in r = body_row (number_in (column r 0)) (column r 2)
+body_in r = body_row (number_in (column r body.number)) (column r body.bytes)
 
 abbrev pub pair_in : Row → Option (List ℕ × List ℕ)
-pair_in r = option_and_then (λ group. option_map (λ user. (group, user)) (name_in (column r 2)))
-    (name_in (column r 1))
+pair_in r = option_and_then
+    (λ group. option_map (λ user. (group, user)) (name_in (column r pair.user)))
+    (name_in (column r pair.group))
 
 -- ---- all of them
 
@@ -185,12 +190,12 @@ place_in _ = None
 
 abbrev pub audit_in : Row → Option AuditRow
 audit_in r =
-    given (moment_in (column r 2)) (λ at.
-    given (user_in (column r 3)) (λ user.
-    given (path_in (column r 4)) (λ path.
-    given (mask_in (column r 5)) (λ bits.
-    given (granted_in (column r 6)) (λ granted.
-    giving (place_in (column r 7)) (λ place.
+    given (moment_in (column r record_cell.at)) (λ at.
+    given (user_in (column r record_cell.user)) (λ user.
+    given (path_in (column r record_cell.path)) (λ path.
+    given (mask_in (column r record_cell.bits)) (λ bits.
+    given (granted_in (column r record_cell.granted)) (λ granted.
+    giving (place_in (column r record_cell.place)) (λ place.
     let a : AuditRow = record {
       at = at;
       user = user;
@@ -204,10 +209,10 @@ audit_in r =
 abbrev pub rows_of : Database → Rows
 rows_of db = record {
   read = record {
-    nodes = nodes_of (db.trees 0);
-    bodies = bodies_of (db.trees 2);
-    members = pairs_of (db.trees 3);
-    audits = filter_map audit_in (db.trees 7);
+    nodes = nodes_of (db.trees tree.nodes);
+    bodies = bodies_of (db.trees tree.bodies);
+    members = pairs_of (db.trees tree.members);
+    audits = filter_map audit_in (db.trees tree.audits);
   };
-  unreadable = unread_of (db.trees 0);
+  unreadable = unread_of (db.trees tree.nodes);
 }

@@ -14,15 +14,20 @@ use Rattle.sqlite.specs.Effect.{Database, IsDatabase}
 use Rattle.sqlite.specs.State.{State, HasCleanDisk}
 use Rattle.sqlite.specs.Edit.{next_rowid, is_taken}
 use Rattle.store_tables.specs.Tables.{nodes, room_schema}
+use Rattle.store_tables.specs.Trees as tree
+use Rattle.store_tables.specs.NodeCells as cell
+use Rattle.store_tables.specs.PairCells as pair
 
 -- a row of nodes as it is shown: all its columns, and its number first
 abbrev pub shown_node : Row → Row
-shown_node r = column r 0 ∷ column r 2 ∷ column r 3 ∷ column r 4 ∷ column r 5 ∷ column r 6
-    ∷ column r 7 ∷ column r 8 ∷ column r 9 ∷ column r 10 ∷ column r 11 ∷ column r 12 ∷ []
+shown_node r = column r cell.number ∷ column r cell.parent ∷ column r cell.name
+    ∷ column r cell.kind ∷ column r cell.owner ∷ column r cell.group
+    ∷ column r cell.dacl_flags ∷ column r cell.sacl_flags ∷ column r cell.dacl_own
+    ∷ column r cell.dacl_inh ∷ column r cell.sacl_own ∷ column r cell.sacl_inh ∷ []
 
 -- the pair of this user
 abbrev pub is_user_row : List ℕ → Row → Bool
-is_user_row user r = is_eq (value_cmp (column r 2) (Text user))
+is_user_row user r = is_eq (value_cmp (column r pair.user) (Text user))
 
 -- the row's number is from 1 on
 abbrev pub is_numbered : Row → Bool
@@ -30,31 +35,31 @@ is_numbered r = not (is_lt (value_cmp (rowid r) (Int (pos 1))))
 
 -- a numbered row without a parent
 abbrev pub is_top : Row → Bool
-is_top r = is_eq (value_cmp (column r 2) Null) && is_numbered r
+is_top r = is_eq (value_cmp (column r cell.parent) Null) && is_numbered r
 
 abbrev pub is_child : ℤ → Row → Bool
-is_child parent r = is_eq (value_cmp (column r 2) (Int parent)) && is_numbered r
+is_child parent r = is_eq (value_cmp (column r cell.parent) (Int parent)) && is_numbered r
 
 abbrev pub is_child_named : ℤ → List ℕ → Row → Bool
-is_child_named parent name r = is_eq (value_cmp (column r 2) (Int parent)) &&
-    (is_eq (value_cmp (column r 3) (Text name)) && is_numbered r)
+is_child_named parent name r = is_eq (value_cmp (column r cell.parent) (Int parent)) &&
+    (is_eq (value_cmp (column r cell.name) (Text name)) && is_numbered r)
 
 -- the tables are those that `create` makes, in the order of their rowids
 pub record IsRoom (db : Database) : Type 0 where
   pub schema : db.schema ≡ room_schema
   pub sound : IsDatabase db
-  pub nodes : IsShaped Table (db.trees 0)
-  pub bodies : IsShaped Table (db.trees 2)
-  pub members : IsShaped Table (db.trees 3)
-  pub audits : IsShaped Table (db.trees 7)
+  pub nodes : IsShaped Table (db.trees tree.nodes)
+  pub bodies : IsShaped Table (db.trees tree.bodies)
+  pub members : IsShaped Table (db.trees tree.members)
+  pub audits : IsShaped Table (db.trees tree.audits)
 
 -- the same, without that they obey their schema, which the connection ensures
 pub record HasTables (db : Database) : Type 0 where
   pub schema : db.schema ≡ room_schema
-  pub nodes : IsShaped Table (db.trees 0)
-  pub bodies : IsShaped Table (db.trees 2)
-  pub members : IsShaped Table (db.trees 3)
-  pub audits : IsShaped Table (db.trees 7)
+  pub nodes : IsShaped Table (db.trees tree.nodes)
+  pub bodies : IsShaped Table (db.trees tree.bodies)
+  pub members : IsShaped Table (db.trees tree.members)
+  pub audits : IsShaped Table (db.trees tree.audits)
 
 pub room_of : {db : Database} → HasTables db → IsDatabase db → IsRoom db
 room_of has sound = record {
@@ -77,10 +82,10 @@ tables_of room = record {
 
 -- the four tables that rows are read from are as they were
 pub record KeepsAll (db next : Trees) : Type 0 where
-  pub nodes : next 0 ≡ db 0
-  pub bodies : next 2 ≡ db 2
-  pub members : next 3 ≡ db 3
-  pub audits : next 7 ≡ db 7
+  pub nodes : next tree.nodes ≡ db tree.nodes
+  pub bodies : next tree.bodies ≡ db tree.bodies
+  pub members : next tree.members ≡ db tree.members
+  pub audits : next tree.audits ≡ db tree.audits
 
 -- what any call leaves, whatever it answers
 pub record Stays (old new : State) : Type 0 where
@@ -96,10 +101,10 @@ pub record Stays (old new : State) : Type 0 where
 
 -- an object is taken out of the tables, with its bytes
 pub record RemovesRow (id : ℤ) (db next : Trees) : Type 0 where
-  pub nodes : next 0 ≡ without_rowid id (db 0)
-  pub bodies : next 2 ≡ without_rowid id (db 2)
-  pub members : next 3 ≡ db 3
-  pub audits : next 7 ≡ db 7
+  pub nodes : next tree.nodes ≡ without_rowid id (db tree.nodes)
+  pub bodies : next tree.bodies ≡ without_rowid id (db tree.bodies)
+  pub members : next tree.members ≡ db tree.members
+  pub audits : next tree.audits ≡ db tree.audits
 
 -- a row of nodes as it is stored: its number, and what the other columns are given
 abbrev pub stored_node : ℤ → Row → Row
@@ -107,38 +112,50 @@ stored_node id values = Int id ∷ Null ∷ values
 
 -- the row of this number is replaced by this one
 pub record Replaces (id : ℤ) (values : Row) (db next : Trees) : Type 0 where
-  pub nodes : next 0 ≡ put_row (stored_node id values) (without_rowid id (db 0))
-  pub bodies : next 2 ≡ db 2
-  pub members : next 3 ≡ db 3
-  pub audits : next 7 ≡ db 7
+  pub nodes : next tree.nodes ≡ put_row (stored_node id values) (without_rowid id (db tree.nodes))
+  pub bodies : next tree.bodies ≡ db tree.bodies
+  pub members : next tree.members ≡ db tree.members
+  pub audits : next tree.audits ≡ db tree.audits
 
 -- the cells of a row of nodes after its number, with this text for what a list inherits
 abbrev pub inheriting : Which → List ℕ → Row → Row
-inheriting Dacl text r = column r 2 ∷ column r 3 ∷ column r 4 ∷ column r 5 ∷ column r 6
-    ∷ column r 7 ∷ column r 8 ∷ column r 9 ∷ Text text ∷ column r 11 ∷ column r 12 ∷ []
-inheriting Sacl text r = column r 2 ∷ column r 3 ∷ column r 4 ∷ column r 5 ∷ column r 6
-    ∷ column r 7 ∷ column r 8 ∷ column r 9 ∷ column r 10 ∷ column r 11 ∷ Text text ∷ []
+inheriting Dacl text r = column r cell.parent ∷ column r cell.name ∷ column r cell.kind
+    ∷ column r cell.owner ∷ column r cell.group
+    ∷ column r cell.dacl_flags ∷ column r cell.sacl_flags ∷ column r cell.dacl_own ∷ Text text
+    ∷ column r cell.sacl_own ∷ column r cell.sacl_inh ∷ []
+inheriting Sacl text r = column r cell.parent ∷ column r cell.name ∷ column r cell.kind
+    ∷ column r cell.owner ∷ column r cell.group
+    ∷ column r cell.dacl_flags ∷ column r cell.sacl_flags ∷ column r cell.dacl_own
+    ∷ column r cell.dacl_inh ∷ column r cell.sacl_own ∷ Text text ∷ []
 
 -- the same, with these flags and these texts for a list
 abbrev pub holding : Which → ℤ → List ℕ → List ℕ → Row → Row
-holding Dacl flags own inh r = column r 2 ∷ column r 3 ∷ column r 4 ∷ column r 5 ∷ column r 6
-    ∷ Int flags ∷ column r 8 ∷ Text own ∷ Text inh ∷ column r 11 ∷ column r 12 ∷ []
-holding Sacl flags own inh r = column r 2 ∷ column r 3 ∷ column r 4 ∷ column r 5 ∷ column r 6
-    ∷ column r 7 ∷ Int flags ∷ column r 9 ∷ column r 10 ∷ Text own ∷ Text inh ∷ []
+holding Dacl flags own inh r = column r cell.parent ∷ column r cell.name ∷ column r cell.kind
+    ∷ column r cell.owner ∷ column r cell.group
+    ∷ Int flags ∷ column r cell.sacl_flags ∷ Text own ∷ Text inh ∷ column r cell.sacl_own
+    ∷ column r cell.sacl_inh ∷ []
+holding Sacl flags own inh r = column r cell.parent ∷ column r cell.name ∷ column r cell.kind
+    ∷ column r cell.owner ∷ column r cell.group
+    ∷ column r cell.dacl_flags ∷ Int flags ∷ column r cell.dacl_own ∷ column r cell.dacl_inh
+    ∷ Text own ∷ Text inh ∷ []
 
 -- the same, with these owners
 abbrev pub owning : List ℕ → List ℕ → Row → Row
-owning owner group r = column r 2 ∷ column r 3 ∷ column r 4 ∷ Text owner ∷ Text group ∷ column r 7
-    ∷ column r 8 ∷ column r 9 ∷ column r 10 ∷ column r 11 ∷ column r 12 ∷ []
+owning owner group r = column r cell.parent ∷ column r cell.name ∷ column r cell.kind ∷ Text owner
+    ∷ Text group ∷ column r cell.dacl_flags
+    ∷ column r cell.sacl_flags ∷ column r cell.dacl_own ∷ column r cell.dacl_inh
+    ∷ column r cell.sacl_own ∷ column r cell.sacl_inh ∷ []
 
 -- the same, with this parent and this name
 abbrev pub lying : ℤ → List ℕ → Row → Row
-lying parent name r = Int parent ∷ Text name ∷ column r 4 ∷ column r 5 ∷ column r 6 ∷ column r 7
-    ∷ column r 8 ∷ column r 9 ∷ column r 10 ∷ column r 11 ∷ column r 12 ∷ []
+lying parent name r = Int parent ∷ Text name ∷ column r cell.kind ∷ column r cell.owner
+    ∷ column r cell.group ∷ column r cell.dacl_flags
+    ∷ column r cell.sacl_flags ∷ column r cell.dacl_own ∷ column r cell.dacl_inh
+    ∷ column r cell.sacl_own ∷ column r cell.sacl_inh ∷ []
 
 -- the row of this number is replaced by one of these cells, as the columns make them
 abbrev pub Recasts : (Row → Row) → ℤ → Trees → Trees → Type 0
-Recasts change id db next = (r : Row) → find (has_rowid id) (db 0) ≡ Some r
+Recasts change id db next = (r : Row) → find (has_rowid id) (db tree.nodes) ≡ Some r
     → Replaces id (cast_all (drop 1 nodes.columns) (change r)) db next
 
 -- a row of bytes as it is stored
@@ -147,27 +164,27 @@ stored_body id bytes = Int id ∷ Null ∷ Blob bytes ∷ []
 
 -- the bytes of this number are replaced
 pub record Fills (id : ℤ) (bytes : List ℕ) (db next : Trees) : Type 0 where
-  pub nodes : next 0 ≡ db 0
-  pub bodies : next 2 ≡ put_row (stored_body id bytes) (without_rowid id (db 2))
-  pub members : next 3 ≡ db 3
-  pub audits : next 7 ≡ db 7
+  pub nodes : next tree.nodes ≡ db tree.nodes
+  pub bodies : next tree.bodies ≡ put_row (stored_body id bytes) (without_rowid id (db tree.bodies))
+  pub members : next tree.members ≡ db tree.members
+  pub audits : next tree.audits ≡ db tree.audits
 
 -- a row with this number, which none had, is put in
 pub record AddsRow (id : ℤ) (values : Row) (db next : Trees) : Type 0 where
-  pub number : id ≡ next_rowid (db 0)
-  pub fresh : is_taken (db 0) (stored_node id values) ≡ false
-  pub nodes : next 0 ≡ put_row (stored_node id values) (db 0)
-  pub bodies : next 2 ≡ db 2
-  pub members : next 3 ≡ db 3
-  pub audits : next 7 ≡ db 7
+  pub number : id ≡ next_rowid (db tree.nodes)
+  pub fresh : is_taken (db tree.nodes) (stored_node id values) ≡ false
+  pub nodes : next tree.nodes ≡ put_row (stored_node id values) (db tree.nodes)
+  pub bodies : next tree.bodies ≡ db tree.bodies
+  pub members : next tree.members ≡ db tree.members
+  pub audits : next tree.audits ≡ db tree.audits
 
 -- bytes with this number, which had none, are put in
 pub record Bodies (id : ℤ) (bytes : List ℕ) (db next : Trees) : Type 0 where
-  pub fresh : is_taken (db 2) (stored_body id bytes) ≡ false
-  pub nodes : next 0 ≡ db 0
-  pub bodies : next 2 ≡ put_row (stored_body id bytes) (db 2)
-  pub members : next 3 ≡ db 3
-  pub audits : next 7 ≡ db 7
+  pub fresh : is_taken (db tree.bodies) (stored_body id bytes) ≡ false
+  pub nodes : next tree.nodes ≡ db tree.nodes
+  pub bodies : next tree.bodies ≡ put_row (stored_body id bytes) (db tree.bodies)
+  pub members : next tree.members ≡ db tree.members
+  pub audits : next tree.audits ≡ db tree.audits
 
 -- a document gets these bytes, and another object none
 abbrev pub GetsBytes : Bool → ℤ → List ℕ → Database → Database → Type 0
@@ -181,7 +198,7 @@ stored_record seq values = Int seq ∷ Null ∷ values
 -- a record is put in after the others
 pub record AddsRecordRow (values : Row) (db next : Trees) : Type 0 where
   pub seq : ℤ
-  pub nodes : next 0 ≡ db 0
-  pub bodies : next 2 ≡ db 2
-  pub members : next 3 ≡ db 3
-  pub audits : next 7 ≡ db 7 ++ stored_record seq values ∷ []
+  pub nodes : next tree.nodes ≡ db tree.nodes
+  pub bodies : next tree.bodies ≡ db tree.bodies
+  pub members : next tree.members ≡ db tree.members
+  pub audits : next tree.audits ≡ db tree.audits ++ stored_record seq values ∷ []

@@ -11,6 +11,10 @@ use Rattle.std.specs.declared.cmp.Ordering.{Ordering}
 use Rattle.sqlite.specs.Edit.{next_rowid}
 use Rattle.store_tables.specs.Shown.{AddsRow, IsRoom, Stays, shown_node, is_child, is_child_named}
 use Rattle.store_tables.specs.Shown.{is_numbered, is_top, is_user_row}
+use Rattle.store_tables.specs.Trees as tree
+use Rattle.store_tables.specs.NodeCells as cell
+use Rattle.store_tables.specs.BodyCells as body
+use Rattle.store_tables.specs.PairCells as pair
 
 -- ---- queries
 
@@ -24,24 +28,25 @@ pub record QueriesSql (Shows : Trees → List Row → Type 0) (old new : State)
 
 -- the row of this number
 abbrev pub HasNode : ℤ → Trees → List Row → Type 0
-HasNode id db rows = IsPermutation (map shown_node (filter (has_rowid id) (db 0))) rows
+HasNode id db rows = IsPermutation (map shown_node (filter (has_rowid id) (db tree.nodes))) rows
 
 -- the rows of this parent and this name
 abbrev pub HasChild : ℤ → List ℕ → Trees → List Row → Type 0
 HasChild parent name db rows =
-    IsPermutation (map shown_node (filter (is_child_named parent name) (db 0))) rows
+    IsPermutation (map shown_node (filter (is_child_named parent name) (db tree.nodes))) rows
 
 abbrev pub shown_number : Row → Row
-shown_number r = column r 0 ∷ []
+shown_number r = column r cell.number ∷ []
 
 -- the number of one of the rows of this parent, if there are any
 abbrev pub HasSome : ℤ → Trees → List Row → Type 0
 HasSome parent db rows = (all : List Row)
-    × IsPermutation (map shown_number (filter (is_child parent) (db 0))) all × (rows ≡ take 1 all)
+    × IsPermutation (map shown_number (filter (is_child parent) (db tree.nodes))) all
+    × (rows ≡ take 1 all)
 
 -- the row without a parent of the least number
 abbrev pub HasTop : Trees → List Row → Type 0
-HasTop db rows = rows ≡ take 1 (map shown_node (filter is_top (db 0)))
+HasTop db rows = rows ≡ take 1 (map shown_node (filter is_top (db tree.nodes)))
 
 abbrev pub by_column : ℕ → Row → Row → Ordering
 by_column place a b = value_cmp (column a place) (column b place)
@@ -49,34 +54,35 @@ by_column place a b = value_cmp (column a place) (column b place)
 -- the rows of this parent, in order of name
 abbrev pub HasUnder : ℤ → Trees → List Row → Type 0
 HasUnder parent db rows =
-    rows ≡ map shown_node (sort_by (by_column 3) (filter (is_child parent) (db 0)))
+    rows ≡ map shown_node (sort_by (by_column cell.name) (filter (is_child parent) (db tree.nodes)))
 
 abbrev pub shown_name : Row → Row
-shown_name r = column r 0 ∷ column r 3 ∷ column r 4 ∷ []
+shown_name r = column r cell.number ∷ column r cell.name ∷ column r cell.kind ∷ []
 
 -- the numbers, names and kinds of the rows of this parent, in order of name
 abbrev pub HasNames : ℤ → Trees → List Row → Type 0
 HasNames parent db rows =
-    rows ≡ map shown_name (sort_by (by_column 3) (filter (is_child parent) (db 0)))
+    rows ≡ map shown_name (sort_by (by_column cell.name) (filter (is_child parent) (db tree.nodes)))
 
 abbrev pub shown_group : Row → Row
-shown_group r = column r 1 ∷ []
+shown_group r = column r pair.group ∷ []
 
 -- the groups of this user, in order
 abbrev pub HasGroups : List ℕ → Trees → List Row → Type 0
 HasGroups user db rows =
-    rows ≡ map shown_group (sort_by (by_column 1) (filter (is_user_row user) (db 3)))
+    rows
+    ≡ map shown_group (sort_by (by_column pair.group) (filter (is_user_row user) (db tree.members)))
 
 -- all numbers, rising
 abbrev pub HasNumbers : Trees → List Row → Type 0
-HasNumbers db rows = rows ≡ map shown_number (filter is_numbered (db 0))
+HasNumbers db rows = rows ≡ map shown_number (filter is_numbered (db tree.nodes))
 
 abbrev pub shown_bytes : Row → Row
-shown_bytes r = column r 2 ∷ []
+shown_bytes r = column r body.bytes ∷ []
 
 -- the bytes of this number
 abbrev pub HasBytes : ℤ → Trees → List Row → Type 0
-HasBytes id db rows = IsPermutation (map shown_bytes (filter (has_rowid id) (db 2))) rows
+HasBytes id db rows = IsPermutation (map shown_bytes (filter (has_rowid id) (db tree.bodies))) rows
 
 -- ---- changes
 
@@ -96,8 +102,9 @@ OfAny Becomes count old new = Becomes old.now.trees new.now.trees
 
 -- a row of nodes is put in with the next number, which the connection then answers
 abbrev pub PutsNode : Row → State → State → Type 0
-PutsNode values old new = AddsRow (next_rowid (old.now.trees 0)) values old.now.trees new.now.trees
-    × (new.last_rowid ≡ next_rowid (old.now.trees 0))
+PutsNode values old new =
+    AddsRow (next_rowid (old.now.trees tree.nodes)) values old.now.trees new.now.trees
+    × (new.last_rowid ≡ next_rowid (old.now.trees tree.nodes))
 
 abbrev pub OfNode : Row → ℕ → State → State → Type 0
 OfNode values count old new = PutsNode values old new

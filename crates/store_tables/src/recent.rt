@@ -9,7 +9,7 @@ use std::marker::Model;
 // How many texts are remembered, and how many bytes each has at most.
 const MOST_TEXTS: usize = 64;
 
-const MOST_BYTES: usize = 4096;
+const LONGEST_TEXT: usize = 4096;
 
 // A text that was read, and what it spells. A contract sees the text.
 #[derive(Drop)]
@@ -64,7 +64,7 @@ impl RecentLists {
     pub(crate) fn read(&mut self, alloc: Global, text: &[u8]) -> Result<Option<Entries>, AllocError>
         ensures { IfOk result (λ entries. entries ≡ entries_of text.now) }
     {
-        if text.is_empty() || text.len() > MOST_BYTES {
+        if text.is_empty() || text.len() > LONGEST_TEXT {
             return read_entries(alloc, text);
         }
         if let Some(entries) = self.find(text)? {

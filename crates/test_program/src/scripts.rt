@@ -1,6 +1,6 @@
 //! Subcommands one after another on a database in memory.
 use cli_act::act;
-use cli_tasks::{Refusal, Task, judge};
+use cli_tasks::{Task, TaskRefusal, judge};
 use cli_words::Command;
 use room_ace::{Failure, Which};
 use sqlite::{Connection, MemStore};
@@ -58,7 +58,7 @@ pub fn fails(before: &'static str, ask: Ask, err: &'static str) -> Step {
     }
 }
 
-pub fn task_of(alloc: Global, ask: Ask) -> Result<Task, Failure<Refusal>> {
+pub fn task_of(alloc: Global, ask: Ask) -> Result<Task, Failure<TaskRefusal>> {
     let file = "room.db";
     match ask {
         Ask::Init => {
@@ -76,7 +76,7 @@ pub fn task_of(alloc: Global, ask: Ask) -> Result<Task, Failure<Refusal>> {
     }
 }
 
-fn is_refused(alloc: Global, refusal: &Refusal, step: &Step) -> Result<(), Fail> {
+fn is_refused(alloc: Global, refusal: &TaskRefusal, step: &Step) -> Result<(), Fail> {
     let line = format!(in alloc; "{refusal}\n")?;
     if line.as_str() == step.out && step.status == 2 {
         Ok(())

@@ -4,7 +4,7 @@ use Rattle.std.specs.List.{find, AllByRecursion}
 use Rattle.std.specs.Option.{option_map_or}
 use Rattle.std.proofs.lemmas.Bool.{cases_Bool, false≢true, true≢false, eqb-true}
 use Rattle.room_rows.specs.declared.node.Node.{Node}
-use Rattle.room_rows.specs.Content.{Content, body_in, children_of, has_parent, is_before, is_empty, put_by_name, sorted_by_name}
+use Rattle.room_rows.specs.Content.{Content, body_at, children_of, has_parent, is_before, is_empty, put_by_name, sorted_by_name}
 use Rattle.room_rows.specs.Finding.{find_id}
 use Rattle.room_rows.specs.Sound.{has_sound_lists}
 
@@ -69,15 +69,15 @@ chosen_kept p keep (x ∷ xs) each = on (keep x) (p x) refl refl (chosen_kept p 
     on false false kept is rest = rest
 
 -- the bytes of others stay
-pub body_kept : (id other : ℕ) → (other ≡ id → ⊥) → (bodies : List (ℕ × List ℕ)) → body_in (filter (λ row. not (row.0 == id)) bodies) other ≡ body_in bodies other
+pub body_kept : (id other : ℕ) → (other ≡ id → ⊥) → (bodies : List (ℕ × List ℕ)) → body_at (filter (λ row. not (row.0 == id)) bodies) other ≡ body_at bodies other
 body_kept id other isnt [] = refl
 body_kept id other isnt (row ∷ rows) = on (row.0 == id) refl (body_kept id other isnt rows)
   where
-    on : (t : Bool) → (row.0 == id) ≡ t → body_in (filter (λ r. not (r.0 == id)) rows) other ≡ body_in rows other
-        → body_in (cond (not t) (row ∷ filter (λ r. not (r.0 == id)) rows) (filter (λ r. not (r.0 == id)) rows)) other ≡ cond (row.0 == other) (Some row.1) (body_in rows other)
+    on : (t : Bool) → (row.0 == id) ≡ t → body_at (filter (λ r. not (r.0 == id)) rows) other ≡ body_at rows other
+        → body_at (cond (not t) (row ∷ filter (λ r. not (r.0 == id)) rows) (filter (λ r. not (r.0 == id)) rows)) other ≡ cond (row.0 == other) (Some row.1) (body_at rows other)
     on true is rest = rest ∙ elim (cases_Bool (row.0 == other)) [
       | inl same ↦ absurd (isnt (sym (eqb-true row.0 other same) ∙ eqb-true row.0 id is))
-      | inr apart ↦ sym (ap (λ t. cond t (Some row.1) (body_in rows other)) apart)
+      | inr apart ↦ sym (ap (λ t. cond t (Some row.1) (body_at rows other)) apart)
     ]
     on false is rest = ap (λ o. cond (row.0 == other) (Some row.1) o) rest
 

@@ -25,7 +25,7 @@ use Rattle.room_machine.specs.Effect.{with_site}
 use Rattle.room_judge.specs.Stored.{found_site, stored_along, stored_from, stored_site}
 use Rattle.room_judge.specs.Judged.{CarriesOut, IsJudged, IsStepOfRows, NotSound}
 use Rattle.room_judge.specs.Spot.{IsPaired}
-use Rattle.room_desk.specs.Made.{Ends, IsServed}
+use Rattle.room_desk.specs.Made.{Ends, IsJudgedAndDone}
 use Rattle.room_desk.specs.Removed.{has_children}
 use Rattle.room_judge.proofs.Judging.{fails_first, passes_first, passes_on, refuses}
 use Rattle.room_desk.proofs.Sound.SoundParts.{root_there, seen_noted, sound_noted, sound_parts}
@@ -151,7 +151,7 @@ module _ (asker : Asker) (path : List (List ℕ)) where
         (ap (λ (r : Rows). meaning r.read) (removes may) ∙ ap (λ (r : Rows). meaning (without_node r.read id)) all.notes ∙ ap (λ (c : Content). with_records c records) (removed_means old.read id can))
         (subst AreSound (sym (removes may ∙ ap (λ (r : Rows). reading r (without_node r.read id)) all.notes)) (sound_noted (reading old (without_node old.read id)) records (sound_removed old id sound can)))
 
-    removed_as : (new : Rows) (reply : Reply) → IsServed asker (removal mid (found_site path target)) Done (Removes id) mid reply new → CarriesOut asker (Remove path) old reply new
+    removed_as : (new : Rows) (reply : Reply) → IsJudgedAndDone asker (removal mid (found_site path target)) Done (Removes id) mid reply new → CarriesOut asker (Remove path) old reply new
     removed_as new reply acts known sound = on acts.answer acts.judged acts.ends
       where
         on : (answer : Option Reply) → IsJudged asker (removal mid (found_site path target)) mid answer acts.mid → Ends Done (Removes id) answer acts.mid reply new → IsStepOfRows asker.caller.user asker.at (Remove path) old reply new
@@ -160,7 +160,7 @@ module _ (asker : Asker) (path : List (List ℕ)) where
             (judged_all new (Some reply) sound (subst (λ (r : Rows). IsJudged asker (removal mid (found_site path target)) mid (Some reply) r) (sym after.1) (subst (λ (r : Reply). IsJudged asker (removal mid (found_site path target)) mid (Some r) acts.mid) (sym after.0) judged)))
         on None judged after = subst (λ (r : Reply). IsStepOfRows asker.caller.user asker.at (Remove path) old r new) (sym after.0) (removed acts.mid new sound judged after.1 known)
 
-    pub remove_done : (new : Rows) (reply : Reply) → (mid.unreadable ≡ [] → IsServed asker (removal mid (found_site path target)) Done (Removes id) mid reply new) → CarriesOut asker (Remove path) old reply new
+    pub remove_done : (new : Rows) (reply : Reply) → (mid.unreadable ≡ [] → IsJudgedAndDone asker (removal mid (found_site path target)) Done (Removes id) mid reply new) → CarriesOut asker (Remove path) old reply new
     remove_done new reply acts known sound = removed_as new reply (acts (seen_noted old mid _ paired.judged.notes sound)) known sound
 
 -- ---- the root

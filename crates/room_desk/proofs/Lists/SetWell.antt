@@ -26,7 +26,7 @@ use Rattle.room_inherit.specs.Spread.{IsSpread, with_lists}
 use Rattle.room_inherit.proofs.Folders.{law_carried}
 use Rattle.room_inherit.proofs.Kinship.{with_own}
 use Rattle.room_inherit.proofs.NoFault.{no_fault}
-use Rattle.room_desk.specs.Setting.{IsNewInh, IsSet, IsSetWell, Stores, fault_in, reason_of, sent_with, stored_held}
+use Rattle.room_desk.specs.Setting.{IsNewInh, IsSet, IsSetWell, Stores, fault_in, reason_of, held_with, stored_held}
 use Rattle.room_desk.specs.Carrying.{GoesDown}
 use Rattle.room_desk.proofs.Lists.Relisted.{all_implied, folders_kept, held_relisted, one_agrees, relist}
 use Rattle.room_desk.proofs.Lists.SetHeld.{base, base_here, each_same, ends, ends_is, final, links, mid, mid_is, other_links, own_held, same_node, same_object, set_sound}
@@ -188,10 +188,10 @@ module _ (which : Which) (sent : Sent) (node : Node) (old : Rows) (are : AreRows
 
 module _ (which : Which) (sent : Sent) (node : Node) (inh : List Ace) (old new : Rows) (are : AreRows old) (is : IsNewInh which sent node (parent_of old.read node) inh) where
   abbrev held : Held
-  held = sent_with sent inh
+  held = held_with sent inh
 
   stored : held ≡ stored_held which sent node.kind (parent_of old.read node)
-  stored = ap (sent_with sent) is
+  stored = ap (held_with sent) is
 
   pub well_stored : Stores which node held old tt new → IsSet which sent node old new
   well_stored (inl stays) there valid few sound = set_same which sent node old are there sound held stored valid few new stays.0 stays.1

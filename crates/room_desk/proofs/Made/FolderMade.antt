@@ -23,7 +23,7 @@ use Rattle.room_machine.specs.Effect.{new_node, with_site}
 use Rattle.room_machine.specs.Judge.{failure, first_failure, records_of_plan}
 use Rattle.room_judge.specs.Stored.{stored_site, stored_along, found_site}
 use Rattle.room_judge.specs.Judged.{IsJudged, CarriesOut}
-use Rattle.room_desk.specs.Made.{Ends, IsMade, IsNameOf, IsServed, new_child}
+use Rattle.room_desk.specs.Made.{Ends, IsMade, IsNameOf, IsJudgedAndDone, new_child}
 use Rattle.room_judge.specs.Spot.{IsSpotted}
 use Rattle.room_judge.proofs.Judging.{fails_first, passes_first, refuses}
 use Rattle.room_desk.proofs.Steps.Serving.{none_both}
@@ -90,6 +90,6 @@ module _ (asker : Asker) (path : List (List ℕ)) where
         (subst (λ (r : Rows). IsJudged asker (plan_of (meaning old.read) (MakeFolder path)) old (Some refusal) r) (sym ends.1)
         (plan_judged last (Some refusal) sound judged)))
 
-    pub make_in : (there : Bool) → there ≡ is_some child → (new : Rows) (reply : Reply) → IsServed asker (making path there (found_site path folder)) Made (IsMade (new_child asker.caller Folder folder.node name [])) mid reply new
+    pub make_in : (there : Bool) → there ≡ is_some child → (new : Rows) (reply : Reply) → IsJudgedAndDone asker (making path there (found_site path folder)) Made (IsMade (new_child asker.caller Folder folder.node name [])) mid reply new
         → CarriesOut asker (MakeFolder path) old reply new
     make_in there is new reply served = made_on served.answer served.mid new reply (subst (λ t. IsJudged asker (making path t (found_site path folder)) mid served.answer served.mid) is served.judged) served.ends

@@ -16,7 +16,7 @@ use Rattle.room_entry.proofs.Alike.{entries_themselves}
 use Rattle.room_rows.specs.HeldList.{Held}
 use Rattle.room_rows.specs.declared.node.Node.{Node}
 use Rattle.room_rows.specs.Held.{held_of, full_of, is_linked}
-use Rattle.room_rows.specs.Content.{Content, node_at, child_of, is_folder, put_node, put_body, body_in}
+use Rattle.room_rows.specs.Content.{Content, node_at, child_of, is_folder, put_node, put_body, body_at}
 use Rattle.room_rows.specs.Finding.{find_id}
 use Rattle.room_rows.specs.Keep.{node_of, reading}
 use Rattle.room_rows.specs.Meaning.{kept_held, kept_node, meaning}
@@ -55,13 +55,13 @@ child_sound caller kind parent name bytes id folder valid =
 
 -- ---- bytes belong to a number in use
 
-no_bytes_in : (numbers : List ℕ) (bodies : List (ℕ × List ℕ)) (id : ℕ) → is_among numbers id ≡ false → list_all (λ (row : ℕ × List ℕ). is_among numbers row.0) bodies ≡ true → body_in bodies id ≡ None
+no_bytes_in : (numbers : List ℕ) (bodies : List (ℕ × List ℕ)) (id : ℕ) → is_among numbers id ≡ false → list_all (λ (row : ℕ × List ℕ). is_among numbers row.0) bodies ≡ true → body_at bodies id ≡ None
 no_bytes_in numbers [] id unused all = refl
 no_bytes_in numbers (row ∷ rows) id unused all =
     let parts = and_parts (is_among numbers row.0) (list_all (λ (r : ℕ × List ℕ). is_among numbers r.0) rows) all in
     on (row.0 == id) (λ same. absurd (false≢true (sym unused ∙ ap (is_among numbers) (sym (eqb-true row.0 id same)) ∙ parts.0))) (no_bytes_in numbers rows id unused parts.1)
   where
-    on : (t : Bool) → (t ≡ true → ⊥) → body_in rows id ≡ None → cond t (Some row.1) (body_in rows id) ≡ None
+    on : (t : Bool) → (t ≡ true → ⊥) → body_at rows id ≡ None → cond t (Some row.1) (body_at rows id) ≡ None
     on true other rest = absurd (other refl)
     on false other rest = rest
 
@@ -73,7 +73,7 @@ not_listed (x ∷ xs) id none = on (x.id == id) (not_listed xs id) none
     on true rest none = absurd (let wrong : ⊥ = cc in wrong)
     on false rest none = rest none
 
-no_bytes_unused : (rows : Rows) → AreRows rows → AreSound rows → (id : ℕ) → node_at rows.read id ≡ None → body_in rows.read.bodies id ≡ None
+no_bytes_unused : (rows : Rows) → AreRows rows → AreSound rows → (id : ℕ) → node_at rows.read id ≡ None → body_at rows.read.bodies id ≡ None
 no_bytes_unused rows are sound id unused =
     no_bytes_in (numbers_of rows) rows.read.bodies id
     (ap (λ l. is_among (put_numbers l (ids_of rows.read.nodes)) id) (none_unreadable rows (sound_parts rows sound).lists) ∙ not_listed rows.read.nodes id unused)
@@ -84,11 +84,11 @@ no_bytes_unused rows are sound id unused =
 abbrev pub bodies_then : ObjKind → ℕ → List ℕ → List (ℕ × List ℕ) → List (ℕ × List ℕ)
 bodies_then kind id bytes bodies = cond (is_document kind) (put_body id bytes bodies) bodies
 
-new_fits : (kind : ObjKind) (id : ℕ) (bytes : List ℕ) (content : Content) → body_in content.bodies id ≡ None → (is_document kind ≡ true → nat_le (length bytes) 1048576 ≡ true) → fits_kind kind (body_in (bodies_then kind id bytes content.bodies) id) ≡ true
+new_fits : (kind : ObjKind) (id : ℕ) (bytes : List ℕ) (content : Content) → body_at content.bodies id ≡ None → (is_document kind ≡ true → nat_le (length bytes) 1048576 ≡ true) → fits_kind kind (body_at (bodies_then kind id bytes content.bodies) id) ≡ true
 new_fits Document id bytes content none few = ap (fits_kind Document) (body_of-with_body content id bytes) ∙ few refl
 new_fits Folder id bytes content none few = ap (fits_kind Folder) none
 
-same_bytes : (kind : ObjKind) (id : ℕ) (bytes : List ℕ) (content : Content) (at : ℕ) → (at ≡ id → ⊥) → body_in (bodies_then kind id bytes content.bodies) at ≡ body_in content.bodies at
+same_bytes : (kind : ObjKind) (id : ℕ) (bytes : List ℕ) (content : Content) (at : ℕ) → (at ≡ id → ⊥) → body_at (bodies_then kind id bytes content.bodies) at ≡ body_at content.bodies at
 same_bytes Document id bytes content at other = body_of-with_body-other content id bytes at other
 same_bytes Folder id bytes content at other = refl
 

@@ -27,7 +27,7 @@ use Rattle.room_machine.specs.Effect.{new_node, put_bytes}
 use Rattle.room_machine.specs.Judge.{failure, first_failure, records_of_plan}
 use Rattle.room_judge.specs.Stored.{stored_site, stored_from, stored_along, found_site}
 use Rattle.room_judge.specs.Judged.{IsJudged, CarriesOut}
-use Rattle.room_desk.specs.Made.{Ends, IsMade, IsNameOf, IsServed, new_child}
+use Rattle.room_desk.specs.Made.{Ends, IsMade, IsNameOf, IsJudgedAndDone, new_child}
 use Rattle.room_judge.specs.Spot.{IsSpotted}
 use Rattle.room_judge.proofs.Judging.{fails_first, passes_first, refuses}
 use Rattle.room_desk.proofs.Steps.Serving.{none_both, along_there, folder_fails}
@@ -140,7 +140,7 @@ module _ (asker : Asker) (path : List (List ℕ)) (bytes : List ℕ) where
         (subst (λ (r : Rows). IsJudged asker (plan_of (meaning old.read) (Put path bytes)) old (Some refusal) r) (sym ends.1)
         (judged_behind old mid last (there_items (stored_site path node)) (Some refusal) are sound spotted.judged items_there judged)))
 
-    pub put_on : (depth : ℕ) → depth ≡ length path → (new : Rows) (reply : Reply) → IsServed asker (there_items (found_site path (record { node = node; depth = depth }))) Done (SetsBody node.id bytes) mid reply new → CarriesOut asker (Put path bytes) old reply new
+    pub put_on : (depth : ℕ) → depth ≡ length path → (new : Rows) (reply : Reply) → IsJudgedAndDone asker (there_items (found_site path (record { node = node; depth = depth }))) Done (SetsBody node.id bytes) mid reply new → CarriesOut asker (Put path bytes) old reply new
     put_on depth deep new reply served =
         let here : take depth path ≡ path = ap (λ (d : ℕ). take d path) deep ∙ take-length path in
         on_answer served.answer served.mid new reply (subst (λ p. IsJudged asker (there_items (stored_site p node)) mid served.answer served.mid) here served.judged) served.ends
@@ -180,5 +180,5 @@ module _ (asker : Asker) (path : List (List ℕ)) (bytes : List ℕ) where
         (subst (λ (r : Rows). IsJudged asker (plan_of (meaning old.read) (Put path bytes)) old (Some refusal) r) (sym ends.1)
         (judged_behind old mid last (new_items (found_site path folder)) (Some refusal) are sound spotted.judged items_new judged)))
 
-    pub put_in : (new : Rows) (reply : Reply) → IsServed asker (new_items (found_site path folder)) Made (IsMade (new_child asker.caller Document folder.node name bytes)) mid reply new → CarriesOut asker (Put path bytes) old reply new
+    pub put_in : (new : Rows) (reply : Reply) → IsJudgedAndDone asker (new_items (found_site path folder)) Made (IsMade (new_child asker.caller Document folder.node name bytes)) mid reply new → CarriesOut asker (Put path bytes) old reply new
     put_in new reply served = new_on served.answer served.mid new reply served.judged served.ends

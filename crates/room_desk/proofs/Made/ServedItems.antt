@@ -14,7 +14,7 @@ use Rattle.room_machine.specs.declared.reply.Reason.TheVariants.{TooLarge}
 use Rattle.room_machine.specs.Site.{Site, last_name}
 use Rattle.room_machine.specs.Plan.{Check, Item, Refusal, no_folder, not_over}
 use Rattle.room_judge.specs.Judged.{IsJudged}
-use Rattle.room_desk.specs.Made.{IsMade, IsNameOf, IsServed}
+use Rattle.room_desk.specs.Made.{IsMade, IsNameOf, IsJudgedAndDone}
 use Rattle.room_judge.specs.Spot.{IsSpotted}
 use Rattle.room_desk.specs.Written.{IsPut, TakesBytes}
 use Rattle.room_judge.proofs.Judging.{blames_first, judged_none, passes_first, passes_on, refuses}
@@ -36,7 +36,7 @@ module _ (asker : Asker) where
 
   -- a check passed, and what a refusal asks for isn't so
   pub added_behind : (site : Site) (mask bits : List ℕ) (at : List (List ℕ)) (why : Reason) (holds : Bool) (node : NewNode) (old mid new : Rows) (answer : Option Reply) (reply : Reply) → mask ≡ bits → answer ≡ None → holds ≡ false
-      → IsJudged asker (Check site mask ∷ []) old answer mid → (reply ≡ Made) × IsMade node mid new → IsServed asker (Check site bits ∷ Refusal at why holds ∷ []) Made (IsMade node) old reply new
+      → IsJudged asker (Check site mask ∷ []) old answer mid → (reply ≡ Made) × IsMade node mid new → IsJudgedAndDone asker (Check site bits ∷ Refusal at why holds ∷ []) Made (IsMade node) old reply new
   added_behind site mask bits at why holds node old mid new answer reply same passes isnt judged made = record {
     answer = None;
     mid = mid;
@@ -48,14 +48,14 @@ module _ (asker : Asker) where
 
   -- a document that is there passed, and gets the bytes if there aren't too many
   pub put_behind : (site : Site) (mask : List ℕ) (path : List (List ℕ)) (id : ℕ) (bytes given : List ℕ) (old mid new : Rows) (answer : Option Reply) (reply : Reply) → mask ≡ write_data ∷ [] → answer ≡ None → given ≡ bytes
-      → IsJudged asker (no_folder site ∷ Check site mask ∷ []) old answer mid → IsPut path id given mid reply new → IsServed asker (no_folder site ∷ Check site (write_data ∷ []) ∷ not_over path (length bytes) ∷ []) Done (SetsBody id bytes) old reply new
+      → IsJudged asker (no_folder site ∷ Check site mask ∷ []) old answer mid → IsPut path id given mid reply new → IsJudgedAndDone asker (no_folder site ∷ Check site (write_data ∷ []) ∷ not_over path (length bytes) ∷ []) Done (SetsBody id bytes) old reply new
   put_behind site mask path id bytes given old mid new answer reply same passes are judged put =
       let first = subst (λ (b : List ℕ). IsJudged asker (no_folder site ∷ Check site b ∷ []) old None mid) same (subst (λ (o : Option Reply). IsJudged asker (no_folder site ∷ Check site mask ∷ []) old o mid) passes judged) in
       let done = subst (λ (b : List ℕ). IsPut path id b mid reply new) are put in
       on (nat_lt 1048576 (length bytes)) refl first done.replies done.becomes
     where
       on : (t : Bool) → nat_lt 1048576 (length bytes) ≡ t → IsJudged asker (no_folder site ∷ Check site (write_data ∷ []) ∷ []) old None mid → reply ≡ cond t (Refused path TooLarge) Done → TakesBytes t id bytes mid new
-          → IsServed asker (no_folder site ∷ Check site (write_data ∷ []) ∷ not_over path (length bytes) ∷ []) Done (SetsBody id bytes) old reply new
+          → IsJudgedAndDone asker (no_folder site ∷ Check site (write_data ∷ []) ∷ not_over path (length bytes) ∷ []) Done (SetsBody id bytes) old reply new
       on true many first replies takes = record {
         answer = Some (Refused path TooLarge);
         mid = mid;

@@ -9,7 +9,7 @@ use Rattle.std.proofs.lemmas.Slice.Eq.{bytes_eq-Decides}
 use Rattle.room_entry.specs.Pieces.{is_among, same_text}
 use Rattle.room_entry.specs.declared.object.Which.TheVariants.{Dacl, Sacl}
 use Rattle.room_rows.specs.declared.node.Node.{Node}
-use Rattle.room_rows.specs.Content.{Content, node_at, child_of, parent_of, has_parent, has_folder_above, is_folder, is_root, same_parent, put_node, reaches_root, body_in}
+use Rattle.room_rows.specs.Content.{Content, node_at, child_of, parent_of, has_parent, has_folder_above, is_folder, is_root, same_parent, put_node, reaches_root, body_at}
 use Rattle.room_rows.specs.Finding.{find_id}
 use Rattle.room_rows.specs.Keep.{reading}
 use Rattle.room_rows.specs.Paths.{is_object_name}
@@ -167,7 +167,7 @@ module _ (old : Rows) (are : AreRows old) (were : AreSound old) (new folder : No
     -- ---- all
 
     pub sound_added : has_sound_lists new ≡ true → agrees_with Dacl new folder ≡ true → agrees_with Sacl new folder ≡ true
-        → ((n : Node) → node_at old.read n.id ≡ Some n → body_in bodies n.id ≡ body_in old.read.bodies n.id) → fits_kind new.kind (body_in bodies new.id) ≡ true
+        → ((n : Node) → node_at old.read n.id ≡ Some n → body_at bodies n.id ≡ body_at old.read.bodies n.id) → fits_kind new.kind (body_at bodies new.id) ≡ true
         → AreSound (reading old (after old are new bodies unused))
     sound_added valid dacl sacl bytes fits = sound (reading old (after old are new bodies unused)) (record {
       lists = lists_of (after old are new bodies unused) old.unreadable none_bad

@@ -23,7 +23,7 @@ use Rattle.room_inherit.specs.Spread.{with_lists}
 use Rattle.room_inherit.proofs.Children.{each_found, each_there}
 use Rattle.room_inherit.proofs.Ends.{each_all}
 use Rattle.room_inherit.proofs.Renewing.{map_agree, map_map}
-use Rattle.room_desk.specs.Moving.{CanPlace, CanRenew, IsPlaced, IsRenewed, goes_past}
+use Rattle.room_desk.specs.Moving.{CanPlace, CanRenew, IsPlaced, HasRenewedLists, goes_past}
 use Rattle.room_desk.proofs.Placed.Climbing.{past_reaches}
 use Rattle.room_desk.proofs.Placed.PlacedLinks.{linked_any}
 use Rattle.room_desk.proofs.Placed.PlacedMeaning.{means_placed}
@@ -135,7 +135,7 @@ module _ (old : Rows) (target folder : Node) (name : List ℕ) (can : CanPlace t
   pub second_sacl : (l : Node → List Ace) (d s : Node → List Ace) → reading (state d s) (with_lists Sacl l (state d s).read) ≡ state d (λ n. l (moved d s n))
   second_sacl l d s = ap (reading old) (with_each-with_each before (moved d s) (λ n. with_inh Sacl (l n) n))
 
-  module _ (mid last : Rows) (first : IsRenewed Dacl (state own_dacl own_sacl) mid) where
+  module _ (mid last : Rows) (first : HasRenewedLists Dacl (state own_dacl own_sacl) mid) where
     abbrev new_dacl : Node → List Ace
     new_dacl n = first.lists (moved own_dacl own_sacl n)
 
@@ -145,7 +145,7 @@ module _ (old : Rows) (target folder : Node) (name : List ℕ) (can : CanPlace t
     pub can_renew_sacl : CanRenew Sacl target folder mid
     can_renew_sacl = subst (λ (r : Rows). CanRenew Sacl target folder r) (sym mid_is) (can_renew Sacl new_dacl own_sacl (λ n. refl))
 
-    module _ (second : IsRenewed Sacl (state new_dacl own_sacl) last) where
+    module _ (second : HasRenewedLists Sacl (state new_dacl own_sacl) last) where
       abbrev new_sacl : Node → List Ace
       new_sacl n = second.lists (moved new_dacl own_sacl n)
 

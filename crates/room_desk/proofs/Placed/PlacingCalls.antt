@@ -12,7 +12,7 @@ use Rattle.room_rows.proofs.Frames.{place-with_inh}
 use Rattle.room_rows.specs.Pass.{pass}
 use Rattle.room_machine.specs.declared.reply.Reply.TheVariants.{Done}
 use Rattle.room_desk.specs.Carrying.{HasLoop, IsCarriedDown, IsRooted}
-use Rattle.room_desk.specs.Moving.{CanGo, CanPlace, CanRenew, FailsToPlace, FailsToRenew, IsRenewed, KeepsRoot, PlacesAt, Renews, TakesPassed}
+use Rattle.room_desk.specs.Moving.{CanGo, CanPlace, CanRenew, FailsToPlace, FailsToRenew, HasRenewedLists, KeepsRoot, PlacesAt, Renews, TakesPassed}
 use Rattle.room_desk.proofs.Sound.Anchored.{changed_unread, here_after, past_up, rises_after, rooted_changed, rooted_spread}
 use Rattle.room_desk.proofs.Placed.PlacedStates.{can_renew, can_renew_sacl, first_state, is_placed, mid_is, own_dacl, own_sacl, state}
 use Rattle.room_desk.proofs.Placed.Relinked.{not_linked, renewed, stored_already}
@@ -25,14 +25,14 @@ keeps_all id old new same rooted = record { unreadable = ap (λ (r : Rows). r.un
 
 pub unlinked_renews : (which : Which) (target folder : Node) (old new : Rows) → is_linked (held_of which target) (Some (held_of which folder)) ≡ false → new ≡ old → Renews which target folder old tt new
 unlinked_renews which target folder old new isnt same = record {
-  renewed = λ can. subst (λ (r : Rows). IsRenewed which old r) (sym same) (not_linked which target folder old can isnt);
+  renewed = λ can. subst (λ (r : Rows). HasRenewedLists which old r) (sym same) (not_linked which target folder old can isnt);
   keeps = keeps_all target.id old new same;
 }
 
 taken : (which : Which) (target folder : Node) (passed : List Ace) (old new : Rows) → is_linked (held_of which target) (Some (held_of which folder)) ≡ true → passed ≡ pass target.kind (full_of (held_of which folder))
     → TakesPassed which target passed old tt new → Renews which target folder old tt new
 taken which target folder passed old new linked is (inl stays) = record {
-  renewed = λ can. subst (λ (r : Rows). IsRenewed which old r) (sym stays.1) (stored_already which target folder old can passed is stays.0);
+  renewed = λ can. subst (λ (r : Rows). HasRenewedLists which old r) (sym stays.1) (stored_already which target folder old can passed is stays.0);
   keeps = keeps_all target.id old new stays.1;
 }
 taken which target folder passed old new linked is (inr takes) = record {
@@ -95,7 +95,7 @@ module _ (target folder : Node) (name : List ℕ) where
 
   -- the object is at its place, and its dacl is handed down
   pub record FirstDone (old mid : Rows) : Type 0 where
-    pub renewed : (can : CanPlace target folder name old) → IsRenewed Dacl (state old target folder name can (own_dacl old target folder name can) (own_sacl old target folder name can)) mid
+    pub renewed : (can : CanPlace target folder name old) → HasRenewedLists Dacl (state old target folder name can (own_dacl old target folder name can) (own_sacl old target folder name can)) mid
     pub stays : Stays old mid
 
   renews_dacl : (old mid : Rows) → Places target.id folder.id name old mid → CanPlace target folder name old → CanRenew Dacl target folder mid
@@ -110,7 +110,7 @@ module _ (target folder : Node) (name : List ℕ) where
 
   pub first_done : (old mid new : Rows) → Places target.id folder.id name old mid → Renews Dacl target folder mid tt new → FirstDone old new
   first_done old mid new places renews = record {
-    renewed = λ can. subst (λ (r : Rows). IsRenewed Dacl r new) (first_state old target folder name can mid places) (renews.renewed (renews_dacl old mid places can));
+    renewed = λ can. subst (λ (r : Rows). HasRenewedLists Dacl r new) (first_state old target folder name can mid places) (renews.renewed (renews_dacl old mid places can));
     stays = renewed_stays Dacl old mid new (placed_stays old mid places) renews;
   }
 
@@ -122,5 +122,5 @@ module _ (target folder : Node) (name : List ℕ) where
     refl,
     λ can.
         is_placed old target folder name can mid new (first.renewed can)
-        (subst (λ (r : Rows). IsRenewed Sacl r new) (mid_is old target folder name can mid new (first.renewed can)) (renews.renewed (can_renew_sacl old target folder name can mid new (first.renewed can)))),
+        (subst (λ (r : Rows). HasRenewedLists Sacl r new) (mid_is old target folder name can mid new (first.renewed can)) (renews.renewed (can_renew_sacl old target folder name can mid new (first.renewed can)))),
   )

@@ -27,7 +27,7 @@ use Rattle.room_inherit.proofs.Kinship.{same_id, same_name, same_parent, same_ki
 use Rattle.room_inherit.proofs.Members.{all_each}
 use Rattle.room_inherit.proofs.Renewing.{map_agree, map_map}
 use Rattle.room_inherit.proofs.Unmoved.{all_kept, folder_above}
-use Rattle.room_desk.specs.Moving.{CanRenew, IsRenewed}
+use Rattle.room_desk.specs.Moving.{CanRenew, HasRenewedLists}
 use Rattle.room_desk.proofs.Placed.Climbing.{same_some}
 use Rattle.room_desk.proofs.Placed.PlacedParts.{all_after, apart, change_there, linked_above, linked_flags, parent_after}
 
@@ -67,7 +67,7 @@ module _ (which : Which) (target folder : Node) (old : Rows) (can : CanRenew whi
   agrees_there = agrees content which can.there
 
   -- nothing changes where the object agrees
-  stays : agrees_there ≡ true → IsRenewed which old old
+  stays : agrees_there ≡ true → HasRenewedLists which old old
   stays holds = record {
     lists = own_lists which;
     becomes = ap (reading old) (sym (with_own_lists which content));
@@ -78,7 +78,7 @@ module _ (which : Which) (target folder : Node) (old : Rows) (can : CanRenew whi
     ]));
   }
 
-  pub not_linked : is_linked (held_of which target) (Some (held_of which folder)) ≡ false → IsRenewed which old old
+  pub not_linked : is_linked (held_of which target) (Some (held_of which folder)) ≡ false → HasRenewedLists which old old
   not_linked isnt = stays unlinked_agrees
     where
       unlinked_agrees : agrees content which can.there ≡ true
@@ -88,7 +88,7 @@ module _ (which : Which) (target folder : Node) (old : Rows) (can : CanRenew whi
           (ap not (ap (λ (h : Held). is_linked h (Some (held_of which can.above))) can.there_held ∙ ap (λ (h : Held). is_linked (held_of which target) (Some h)) can.above_held ∙ isnt))
 
   -- it stores already what the folder passes
-  pub stored_already : (passed : List Ace) → passed ≡ pass target.kind (full_of (held_of which folder)) → passed ≡ (held_of which target).inh → IsRenewed which old old
+  pub stored_already : (passed : List Ace) → passed ≡ pass target.kind (full_of (held_of which folder)) → passed ≡ (held_of which target).inh → HasRenewedLists which old old
   stored_already passed is stored =
       stays
       (ap (λ o. option_map_or (agrees_with which can.there) o true) (ap (option_and_then (node_at content)) can.there_parent ∙ can.above_is)
@@ -217,7 +217,7 @@ module _ (which : Which) (target folder : Node) (old : Rows) (can : CanRenew whi
     abbrev linked_to_folder : Bool
     linked_to_folder = is_linked (held_of which target) (Some (held_of which folder))
 
-    pub renewed : linked_to_folder ≡ true → (mid new : Rows) (changed : ℕ) → Changes target.id (with_inh which entries) old mid → IsSpread which target.id mid new changed → IsRenewed which old new
+    pub renewed : linked_to_folder ≡ true → (mid new : Rows) (changed : ℕ) → Changes target.id (with_inh which entries) old mid → IsSpread which target.id mid new changed → HasRenewedLists which old new
     renewed linked mid new changed changes spread =
         let stored : mid ≡ reading old after = stored_given mid changes in
         let down : IsSpread which target.id (reading old after) new changed = subst (λ (r : Rows). IsSpread which target.id r new changed) stored spread in

@@ -11,7 +11,7 @@ use Rattle.room_judge.specs.declared.asker.Asker.{Asker}
 use Rattle.room_machine.specs.declared.reply.Reply.{Reply}
 use Rattle.room_machine.specs.declared.request.Request.{Request}
 use Rattle.room_desk.specs.declared.running.Asked.{Asked}
-use Rattle.room_desk.specs.InTurn.{AreFirst, IsDamagedAfter, IsRunOfRows, RunsAll, events_of}
+use Rattle.room_desk.specs.InTurn.{AreFirst, IsDamagedAfter, IsRunOfRows, RunsAll, asked_events}
 use Rattle.room_judge.specs.Judged.{CarriesOut, IsKnown, IsStepOfRows, Performs}
 use Rattle.room_machine.proofs.Meeting.{meet}
 use Rattle.room_desk.proofs.Sound.Blamed.{sound_undamaged}
@@ -31,7 +31,7 @@ carried user moment asker request old mid new reply at both carries sound =
 
 -- ---- several requests
 
-events_more : (asked : List Asked) (replies : List Reply) (one : Asked) (reply : Reply) → length replies ≡ length asked → events_of (asked ++ one ∷ []) (replies ++ reply ∷ []) ≡ events_of asked replies ++ HasAsked one.user one.at one.request reply ∷ []
+events_more : (asked : List Asked) (replies : List Reply) (one : Asked) (reply : Reply) → length replies ≡ length asked → asked_events (asked ++ one ∷ []) (replies ++ reply ∷ []) ≡ asked_events asked replies ++ HasAsked one.user one.at one.request reply ∷ []
 events_more [] [] one reply each = refl
 events_more [] (r ∷ replies) one reply each = absurd (omega (arith, each))
 events_more (a ∷ asked) [] one reply each = absurd (omega (arith, each))
@@ -47,7 +47,7 @@ run_more asked one replies reply old mid new sofar more sound =
     record {
       each = omega (arith, before.each, length-append asked (one ∷ []), length-append replies (reply ∷ []));
       run = subst (λ (events : List Event). Run (meaning old.read) events (meaning new.read)) (sym (events_more asked replies one reply before.each))
-          (meet (meaning old.read) (meaning mid.read) (meaning new.read) (events_of asked replies) (HasAsked one.user one.at one.request reply ∷ []) before.run (meaning new.read, step.step, refl));
+          (meet (meaning old.read) (meaning mid.read) (meaning new.read) (asked_events asked replies) (HasAsked one.user one.at one.request reply ∷ []) before.run (meaning new.read, step.step, refl));
       sound = step.sound;
     }
 

@@ -26,7 +26,7 @@ returns g c =
     let k = g.K.Keep in
     let m = g.met.K.Keep in
     record {
-      done = tail m.laws (done (of_write c.in_ok-set_inh.ensures.written)) c.carry_down.ensures.done
+      done = tail m.laws (done (of_write c.in_ok-set_inh.ensures.written)) c.carry_below.ensures.done
           (λ old mid at changes h. passed_unread c.args.which c.args.target.now c.as_slice.result.now old mid at changes h)
           (λ old mid x new changes down. taken_as c.args.which c.args.target.now c.as_slice.result.now c.args.passed.now old mid new c.as_slice.ensures changes down);
     }

@@ -1,7 +1,7 @@
 use Rattle.std.proofs.Common.{List, ap, ◌∙◌}
 use Rattle.room_entry.specs.Ace.{Ace}
 use Rattle.room_judge.proofs.Calls.{none_done, memory, tail_known}
-use Rattle.room_desk.specs.Setting.{sent_with}
+use Rattle.room_desk.specs.Setting.{held_with}
 use Rattle.room_desk.proofs.Lists.SettingCalls.{fails_before, no_answer, set_from}
 use Rattle.room_desk.proofs.setting.set_at.Goals as goal
 
@@ -22,5 +22,5 @@ returns g c =
       done = tail_known m.laws (none_done m.laws c.args.keep.now) c.store_list.ensures.done
           (λ old mid at are same h. fails_before c.args.node.now.id old mid at same h)
           (λ old mid x new are same stores. set_from c.args.which c.args.sent.now c.args.node.now _ c.in_ok-inh.inh old mid new are c.in_ok-inh.ensures same stores);
-      quiet = λ same. c.store_list.ensures.quiet (ap (λ (l : List Ace). sent_with c.args.sent.now l) c.in_ok-inh.ensures ∙ same);
+      quiet = λ same. c.store_list.ensures.quiet (ap (λ (l : List Ace). held_with c.args.sent.now l) c.in_ok-inh.ensures ∙ same);
     }

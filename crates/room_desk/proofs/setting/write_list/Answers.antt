@@ -16,7 +16,7 @@ returns-then-flags g c =
     let k = g.K.Keep in
     let m = g.met.K.Keep in
     record {
-      done = tail m.laws (done (of_write c.in_ok-set_held.ensures.written)) c.carry_down.ensures.done
+      done = tail m.laws (done (of_write c.in_ok-set_held.ensures.written)) c.carry_below.ensures.done
           (λ old mid at changes h. carried_fails c.args.which c.args.id c.args.held.now old mid at changes h)
           (λ old mid x new changes down. record { mid = mid; writes = changes; goes = subst (λ (t : Bool). GoesDown t c.args.which c.args.id mid new) (sym c.if-flags.true ∙ ap (λ (f : ListFlags). f.auto) c.flags.ensures) down });
     }

@@ -27,5 +27,5 @@ returns g c =
     record {
       done = finish m.laws _ {Before = λ old new. root_of old.read ≡ Some c.args.root.now.node → IsSpotted asker path old c.in_ok-spot.spot new} (then m.laws (done c.in_ok-arrival.ensures.done) (done c.in_ok-spot.ensures.done) (λ old mid new reached spots is.
           spot_follows asker path depth deep c.in_ok-arrival.arrival old mid new c.in_ok-spot.spot (reached is) spots))
-          (λ old new are spotted is. paired_in asker path c.requires.some old new c.in_ok-spot.spot c.in_ok-pair_in.field-0 c.in_ok-pair_in.ensures (spotted is));
+          (λ old new are spotted is. paired_in asker path c.requires.some old new c.in_ok-spot.spot c.in_ok-pair_at_spot.field-0 c.in_ok-pair_at_spot.ensures (spotted is));
     }

@@ -1,6 +1,0 @@
-use Rattle.std.proofs.Common.{refl}
-use Rattle.http_message.proofs.NoText.{no_text_no_name}
-use Rattle.http_message.proofs.fields.user_in.Goals as goal
-
-pub returns-in-None : goal.returns-in-None
-returns-in-None c = rw (no_text_no_name c.names_are_text.ensures c.args.bytes.now c.in-None.ensures) refl

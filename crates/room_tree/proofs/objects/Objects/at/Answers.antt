@@ -1,9 +1,0 @@
-use Rattle.std.proofs.Common.{◌∙◌}
-use Rattle.std.proofs.lemmas.Result.{IfOk-weaker}
-use Rattle.room_tree.proofs.Tying.{found_at}
-use Rattle.std.specs.Option.{option_copied}
-use Rattle.room_tree.proofs.objects.Objects.at.Goals as goal
-
-pub returns : goal.returns
-returns c =
-    IfOk-weaker c.copy_of.result _ _ (λ x e. e ∙ found_at c.args.id c.self.inside.by_number.entries c.self.inside.places.ids.entries c.args.self.now (option_copied c.get.result) c.self.invariant c.self.view_is c.get.ensures.value) c.copy_of.ensures
