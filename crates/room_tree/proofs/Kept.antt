@@ -22,9 +22,9 @@ use Rattle.room_tree.proofs.Numbered.{is_key, cmp_less, cmp_equal, cmp_greater, 
 
 -- ---- bytes at numbers
 
-pub body_at : (id : ℕ) (es : List (ℕ × List ℕ)) → lookup (λ k. is_eq (nat_cmp id k)) es ≡ body_at es id
-body_at id [] = refl
-body_at id (e ∷ es) = ap (λ b. if b then Some e.1 else lookup (λ k. is_eq (nat_cmp id k)) es) (is_key id e.0) ∙ ap (λ o. if e.0 == id then Some e.1 else o) (body_at id es)
+pub body_kept : (id : ℕ) (es : List (ℕ × List ℕ)) → lookup (λ k. is_eq (nat_cmp id k)) es ≡ body_at es id
+body_kept id [] = refl
+body_kept id (e ∷ es) = ap (λ b. if b then Some e.1 else lookup (λ k. is_eq (nat_cmp id k)) es) (is_key id e.0) ∙ ap (λ o. if e.0 == id then Some e.1 else o) (body_kept id es)
 
 pub body_put : (id : ℕ) (bytes : List ℕ) (es : List (ℕ × List ℕ)) → insert_entry nat_cmp es id bytes ≡ put_body id bytes es
 body_put id bytes [] = refl
