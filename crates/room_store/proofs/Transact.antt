@@ -9,9 +9,10 @@ use Rattle.room_rows.specs.declared.keep.KeepFault.{KeepFault}
 use Rattle.room_rows.specs.declared.keep.KeepFault.TheVariants as keep
 use Rattle.room_rows.specs.Rows.{Rows}
 use Rattle.store_tables.specs.Meaning.{rows_of}
-use Rattle.store_tables.specs.Shown.{HasTables, IsRoom, Stays, room_of, tables_of}
+use Rattle.store_tables.specs.Shown.{HasTables, IsRoom, Retains, Stays, room_of, tables_of}
 use Rattle.store_tables.specs.Trust.{IsTrusted}
 use Rattle.store_tables.specs.Seeing.{wants_memory}
+use Rattle.store_tables.proofs.Calls.{retains_same}
 use Rattle.std.proofs.lemmas.Bool.{cases_Bool}
 use Rattle.room_store.specs.declared.fault.StoreFault.{StoreFault}
 use Rattle.room_store.specs.declared.fault.StoreFault.TheVariants.{Memory, Db, Damaged}
@@ -61,6 +62,7 @@ refused old Blames Becomes = record {
   step = λ _. tt;
   kept = λ _ _. refl;
   tables = λ premise _. premise.tables;
+  retains = λ _ _. retains_same old.now old.now refl;
   damaged = λ _ _ is. absurd (no_damage Db refl is);
 }
 
@@ -92,6 +94,7 @@ module _ (old begun mid end : State) (begins : Begins old begun) (stays : Stays 
     trusted : IsTrusted begun mid
     committed : mid.committed ≡ old.now
     room : IsRoom mid.now
+    retains : Retains old.now.trees mid.now.trees
 
   made : HasCleanDisk end → IsTrue mid.is_open → HasTables old.now → Made
   made now open' tables =
@@ -101,7 +104,7 @@ module _ (old begun mid end : State) (begins : Begins old begun) (stays : Stays 
       let one = subst IsRoom (sym begins.now) room in
       let two = subst IsRoom (sym begins.committed) (subst IsRoom same room) in
       let kept = stays.kept (clean_mid now) open' two one in
-      record { same = same; trusted = record { clean = clean_mid now; is_open = open'; now = one; committed = two }; committed = kept.0 ∙ begins.committed ∙ sym same; room = kept.1 }
+      record { same = same; trusted = record { clean = clean_mid now; is_open = open'; now = one; committed = two }; committed = kept.0 ∙ begins.committed ∙ sym same; room = kept.1; retains = subst (λ (db : Database). Retains db.trees mid.now.trees) (kept.0 ∙ begins.committed ∙ sym same) (stays.retains (clean_mid now) open' two one (retains_same _ _ (begins.now ∙ same ∙ sym begins.committed))) }
 
   leaves : (HasCleanDisk end → IsTrue end.is_open → IsTrue mid.is_open) → LeavesOpen old end
   leaves was = record { ended = λ _. ended; clean = old_clean; was_open = λ now open'. old_open now (was now open') }
@@ -144,6 +147,9 @@ module _ (old begun mid end : State) (begins : Begins old begun) (stays : Stays 
       tables = λ premise _.
           let s = shows premise.disk in
           subst HasTables (sym s.now_is) (tables_of (made premise.disk s.was_open premise.tables).room);
+      retains = λ premise _.
+          let s = shows premise.disk in
+          subst (λ (db : Database). Retains old.now.trees db.trees) (sym s.now_is) (made premise.disk s.was_open premise.tables).retains;
       damaged = λ _ _ is. absurd (let e = is in cc);
     }
 
@@ -156,6 +162,7 @@ module _ (old begun mid end : State) (begins : Begins old begun) (stays : Stays 
       step = λ _. tt;
       kept = λ premise open'. left premise.disk open' premise.tables;
       tables = λ premise open'. subst HasTables (sym (left premise.disk open' premise.tables)) premise.tables;
+      retains = λ premise open'. retains_same old.now end.now (left premise.disk open' premise.tables);
       damaged = λ premise open' is. damaged premise open' (same_fault is);
     }
 
@@ -177,6 +184,7 @@ module _ (old begun mid end : State) (begins : Begins old begun) (stays : Stays 
       step = λ premise. absurd (ends premise.disk);
       kept = λ _ _. tt;
       tables = λ premise _. absurd (ends premise.disk);
+      retains = λ premise _. absurd (ends premise.disk);
       damaged = λ premise _ _. absurd (ends premise.disk);
     }
     ran (Err why) (Err fault) carries ends =

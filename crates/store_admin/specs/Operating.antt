@@ -85,6 +85,7 @@ pub record Exchanges (rows : List Row) (db next : Trees) : Type 0 where
   pub nodes : next 0 ≡ db 0
   pub bodies : next 2 ≡ db 2
   pub members : next 3 ≡ rows
+  pub meta : next 5 ≡ db 5
   pub audits : next 7 ≡ db 7
 
 -- a row of members as it is stored
@@ -102,6 +103,7 @@ pub record HoldsPairs (pairs : List (List ℕ × List ℕ)) (db next : Trees) : 
   pub nodes : next 0 ≡ db 0
   pub bodies : next 2 ≡ db 2
   pub members : pairs_of (next 3) ≡ set_of pairs
+  pub meta : next 5 ≡ db 5
   pub audits : next 7 ≡ db 7
   -- where each row was a pair, each still is
   pub only : are_pairs (db 3) ≡ true → are_pairs (next 3) ≡ true

@@ -75,12 +75,20 @@ tables_of room = record {
   audits = room.audits;
 }
 
--- the four tables that rows are read from are as they were
+-- the four tables that rows are read from are as they were, and so is `meta`
 pub record KeepsAll (db next : Trees) : Type 0 where
   pub nodes : next 0 ≡ db 0
   pub bodies : next 2 ≡ db 2
   pub members : next 3 ≡ db 3
+  pub meta : next 5 ≡ db 5
   pub audits : next 7 ≡ db 7
+
+-- What no request takes away: `meta` is as it was, and each row of `audits` is there with its
+-- number. New rows come after them.
+pub record Retains (db next : Trees) : Type 0 where
+  pub meta : next 5 ≡ db 5
+  pub more : List Row
+  pub audits : next 7 ≡ db 7 ++ more
 
 -- what any call leaves, whatever it answers
 pub record Stays (old new : State) : Type 0 where
@@ -89,6 +97,9 @@ pub record Stays (old new : State) : Type 0 where
   -- inside a transaction over these tables
   pub kept : HasCleanDisk new → IsTrue new.is_open → IsRoom old.committed → IsRoom old.now
       → (new.committed ≡ old.committed) × IsRoom new.now
+  -- what is seen retains what was committed
+  pub retains : HasCleanDisk new → IsTrue new.is_open → IsRoom old.committed → IsRoom old.now
+      → Retains old.committed.trees old.now.trees → Retains new.committed.trees new.now.trees
   -- where no transaction is open, what is seen is what was committed
   pub settled : HasCleanDisk new → IsTrue new.is_open → IsRoom old.committed → IsRoom old.now
       → (old.in_transaction ≡ false → old.now ≡ old.committed) → new.in_transaction ≡ false
@@ -99,6 +110,7 @@ pub record RemovesRow (id : ℤ) (db next : Trees) : Type 0 where
   pub nodes : next 0 ≡ without_rowid id (db 0)
   pub bodies : next 2 ≡ without_rowid id (db 2)
   pub members : next 3 ≡ db 3
+  pub meta : next 5 ≡ db 5
   pub audits : next 7 ≡ db 7
 
 -- a row of nodes as it is stored: its number, and what the other columns are given
@@ -110,6 +122,7 @@ pub record Replaces (id : ℤ) (values : Row) (db next : Trees) : Type 0 where
   pub nodes : next 0 ≡ put_row (stored_node id values) (without_rowid id (db 0))
   pub bodies : next 2 ≡ db 2
   pub members : next 3 ≡ db 3
+  pub meta : next 5 ≡ db 5
   pub audits : next 7 ≡ db 7
 
 -- the cells of a row of nodes after its number, with this text for what a list inherits
@@ -150,6 +163,7 @@ pub record Fills (id : ℤ) (bytes : List ℕ) (db next : Trees) : Type 0 where
   pub nodes : next 0 ≡ db 0
   pub bodies : next 2 ≡ put_row (stored_body id bytes) (without_rowid id (db 2))
   pub members : next 3 ≡ db 3
+  pub meta : next 5 ≡ db 5
   pub audits : next 7 ≡ db 7
 
 -- a row with this number, which none had, is put in
@@ -159,6 +173,7 @@ pub record AddsRow (id : ℤ) (values : Row) (db next : Trees) : Type 0 where
   pub nodes : next 0 ≡ put_row (stored_node id values) (db 0)
   pub bodies : next 2 ≡ db 2
   pub members : next 3 ≡ db 3
+  pub meta : next 5 ≡ db 5
   pub audits : next 7 ≡ db 7
 
 -- bytes with this number, which had none, are put in
@@ -167,6 +182,7 @@ pub record Bodies (id : ℤ) (bytes : List ℕ) (db next : Trees) : Type 0 where
   pub nodes : next 0 ≡ db 0
   pub bodies : next 2 ≡ put_row (stored_body id bytes) (db 2)
   pub members : next 3 ≡ db 3
+  pub meta : next 5 ≡ db 5
   pub audits : next 7 ≡ db 7
 
 -- a document gets these bytes, and another object none
@@ -184,4 +200,5 @@ pub record AddsRecordRow (values : Row) (db next : Trees) : Type 0 where
   pub nodes : next 0 ≡ db 0
   pub bodies : next 2 ≡ db 2
   pub members : next 3 ≡ db 3
+  pub meta : next 5 ≡ db 5
   pub audits : next 7 ≡ db 7 ++ stored_record seq values ∷ []
