@@ -1,7 +1,7 @@
 -- Calls in a transaction that is committed or rolled back.
 use Rattle.std.proofs.Common.{◌≡◌, ◌≤◌, ℕ, Result, Ok, Err, IsTrue, IfOk, OnOk, inl, inr, refl, sym, ap, subst, subst₂, ◌∙◌, true, false, arith}
 use Rattle.sqlite_trees.specs.View.{doubt}
-use Rattle.sqlite.specs.Effect.{Database, IsDatabase}
+use Rattle.sqlite.specs.Effect.{Database}
 use Rattle.sqlite.specs.declared.error.Error.{Error}
 use Rattle.sqlite.specs.State.{State, HasCleanDisk, Shows, IsRolledBack}
 use Rattle.sqlite.specs.Steps.{FailsToCommit}
@@ -19,17 +19,7 @@ use Rattle.room_store.specs.declared.fault.StoreFault.TheVariants.{Memory, Db, D
 use Rattle.room_store.specs.Premise.{StorePremise}
 use Rattle.room_store.specs.Ran.{LeavesOpen, Looked, Ran}
 use Rattle.store_admin.specs.Carries.{AnswersOpen, ByRows, CallsInside, OnRows, Reading}
-use Rattle.room_store.specs.Turn.{Finishes, GivesUp, commit_fault, fault_as}
-
--- a transaction begins
-pub record Begins (old begun : State) : Type 0 where
-  pub now : begun.now ≡ old.now
-  pub committed : begun.committed ≡ old.committed
-  pub same_open : begun.is_open ≡ old.is_open
-  pub same_clean : begun.is_clean ≡ old.is_clean
-  pub mode : begun.in_transaction ≡ true
-  pub settled : IsTrue old.is_open → old.now ≡ old.committed
-  pub sound : IsTrue old.is_open → IsDatabase old.now
+use Rattle.room_store.specs.Turn.{Begins, Finishes, GivesUp, commit_fault, fault_as}
 
 -- a commit that fails is no damage
 never_damage : (why : Error) → commit_fault why ≡ Damaged → ⊥

@@ -1,6 +1,7 @@
 -- How the transaction around the calls of a keeper begins and ends.
-use Rattle.std.specs.Prelude.{◌≡◌, Result, Ok, Err, IsTrue, false, if◌then◌else◌}
+use Rattle.std.specs.Prelude.{◌≡◌, Result, Ok, Err, IsTrue, true, false, if◌then◌else◌}
 use Rattle.sqlite.specs.declared.error.Error.{Error}
+use Rattle.sqlite.specs.Effect.{IsDatabase}
 use Rattle.sqlite.specs.State.{State, IsRolledBack, Shows}
 use Rattle.sqlite.specs.Steps.{FailsToCommit}
 use Rattle.room_rows.specs.declared.keep.KeepFault.{KeepFault}
@@ -8,6 +9,17 @@ use Rattle.room_rows.specs.declared.keep.KeepFault.TheVariants as keep
 use Rattle.store_tables.specs.Seeing.{wants_memory}
 use Rattle.room_store.specs.declared.fault.StoreFault.{StoreFault}
 use Rattle.room_store.specs.declared.fault.StoreFault.TheVariants.{Memory, Db, Damaged}
+
+-- A transaction begins. While the connection is open, nothing waited to be committed, and the tables
+-- obey their schema.
+pub record Begins (old begun : State) : Type 0 where
+  pub now : begun.now ≡ old.now
+  pub committed : begun.committed ≡ old.committed
+  pub same_open : begun.is_open ≡ old.is_open
+  pub same_clean : begun.is_clean ≡ old.is_clean
+  pub mode : begun.in_transaction ≡ true
+  pub settled : IsTrue old.is_open → old.now ≡ old.committed
+  pub sound : IsTrue old.is_open → IsDatabase old.now
 
 -- the fault of a store for that of its keeper
 abbrev pub fault_as : KeepFault → StoreFault
