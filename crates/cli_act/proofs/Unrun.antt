@@ -7,6 +7,7 @@ use Rattle.room_store.specs.declared.fault.StoreFault.{StoreFault}
 use Rattle.room_store.specs.declared.fault.StoreFault.TheVariants.{Memory, Damaged}
 use Rattle.room_store.specs.Leads.{Leads}
 use Rattle.room_store.specs.Ran.{Ran}
+use Rattle.store_tables.proofs.Calls.{retains_same}
 
 no_damage : {X : Type 0} → ◌≡◌ {A = Result X StoreFault} (Err Memory) (Err Damaged) → ⊥
 no_damage {X} damaged = absurd (let e = fault_in damaged in cc)
@@ -23,6 +24,7 @@ unrun old Blames Becomes = record {
   step = λ _. tt;
   kept = λ _ _. refl;
   tables = λ premise _. premise.tables;
+  retains = λ _ _. retains_same old.now old.now refl;
   damaged = λ _ _ is. absurd (no_damage is);
 }
 

@@ -18,6 +18,7 @@ module _ (sql : List ℕ) (old new : State) (clean : doubt old.is_clean ≤ doub
     clean = clean;
     was_open = λ now. (unchanged_stays old new clean (ok now)).was_open now;
     kept = λ now. (unchanged_stays old new clean (ok now)).kept now;
+    retains = λ now. (unchanged_stays old new clean (ok now)).retains now;
     settled = λ now. (unchanged_stays old new clean (ok now)).settled now;
   }
 
@@ -30,6 +31,7 @@ module _ (sql : List ℕ) (old new : State) (clean : doubt old.is_clean ≤ doub
     clean = clean;
     was_open = λ now. (at now).was_open now;
     kept = λ now. (at now).kept now;
+    retains = λ now. (at now).retains now;
     settled = λ now. (at now).settled now;
   }
     where

@@ -1,7 +1,7 @@
 -- Calls in a transaction that is committed or rolled back.
 use Rattle.std.proofs.Common.{◌≡◌, ◌≤◌, ℕ, Result, Ok, Err, IsTrue, IfOk, OnOk, inl, inr, refl, sym, ap, subst, subst₂, ◌∙◌, true, false, arith}
 use Rattle.sqlite_trees.specs.View.{doubt}
-use Rattle.sqlite.specs.Effect.{Database, IsDatabase}
+use Rattle.sqlite.specs.Effect.{Database}
 use Rattle.sqlite.specs.declared.error.Error.{Error}
 use Rattle.sqlite.specs.State.{State, HasCleanDisk, Shows, IsRolledBack}
 use Rattle.sqlite.specs.Steps.{FailsToCommit}
@@ -9,26 +9,17 @@ use Rattle.room_rows.specs.declared.keep.KeepFault.{KeepFault}
 use Rattle.room_rows.specs.declared.keep.KeepFault.TheVariants as keep
 use Rattle.room_rows.specs.Rows.{Rows}
 use Rattle.store_tables.specs.Meaning.{rows_of}
-use Rattle.store_tables.specs.Shown.{HasTables, IsRoom, Stays, room_of, tables_of}
+use Rattle.store_tables.specs.Shown.{HasTables, IsRoom, Retains, Stays, room_of, tables_of}
 use Rattle.store_tables.specs.Trust.{IsTrusted}
 use Rattle.store_tables.specs.Seeing.{wants_memory}
+use Rattle.store_tables.proofs.Calls.{retains_same}
 use Rattle.std.proofs.lemmas.Bool.{cases_Bool}
 use Rattle.room_store.specs.declared.fault.StoreFault.{StoreFault}
 use Rattle.room_store.specs.declared.fault.StoreFault.TheVariants.{Memory, Db, Damaged}
 use Rattle.room_store.specs.Premise.{StorePremise}
 use Rattle.room_store.specs.Ran.{LeavesOpen, Looked, Ran}
 use Rattle.store_admin.specs.Carries.{AnswersOpen, ByRows, CallsInside, OnRows, Reading}
-use Rattle.room_store.specs.Turn.{Finishes, GivesUp, commit_fault, fault_as}
-
--- a transaction begins
-pub record Begins (old begun : State) : Type 0 where
-  pub now : begun.now ≡ old.now
-  pub committed : begun.committed ≡ old.committed
-  pub same_open : begun.is_open ≡ old.is_open
-  pub same_clean : begun.is_clean ≡ old.is_clean
-  pub mode : begun.in_transaction ≡ true
-  pub settled : IsTrue old.is_open → old.now ≡ old.committed
-  pub sound : IsTrue old.is_open → IsDatabase old.now
+use Rattle.room_store.specs.Turn.{Begins, Finishes, GivesUp, commit_fault, fault_as}
 
 -- a commit that fails is no damage
 never_damage : (why : Error) → commit_fault why ≡ Damaged → ⊥
@@ -61,6 +52,7 @@ refused old Blames Becomes = record {
   step = λ _. tt;
   kept = λ _ _. refl;
   tables = λ premise _. premise.tables;
+  retains = λ _ _. retains_same old.now old.now refl;
   damaged = λ _ _ is. absurd (no_damage Db refl is);
 }
 
@@ -92,6 +84,7 @@ module _ (old begun mid end : State) (begins : Begins old begun) (stays : Stays 
     trusted : IsTrusted begun mid
     committed : mid.committed ≡ old.now
     room : IsRoom mid.now
+    retains : Retains old.now.trees mid.now.trees
 
   made : HasCleanDisk end → IsTrue mid.is_open → HasTables old.now → Made
   made now open' tables =
@@ -101,7 +94,7 @@ module _ (old begun mid end : State) (begins : Begins old begun) (stays : Stays 
       let one = subst IsRoom (sym begins.now) room in
       let two = subst IsRoom (sym begins.committed) (subst IsRoom same room) in
       let kept = stays.kept (clean_mid now) open' two one in
-      record { same = same; trusted = record { clean = clean_mid now; is_open = open'; now = one; committed = two }; committed = kept.0 ∙ begins.committed ∙ sym same; room = kept.1 }
+      record { same = same; trusted = record { clean = clean_mid now; is_open = open'; now = one; committed = two }; committed = kept.0 ∙ begins.committed ∙ sym same; room = kept.1; retains = subst (λ (db : Database). Retains db.trees mid.now.trees) (kept.0 ∙ begins.committed ∙ sym same) (stays.retains (clean_mid now) open' two one (retains_same _ _ (begins.now ∙ same ∙ sym begins.committed))) }
 
   leaves : (HasCleanDisk end → IsTrue end.is_open → IsTrue mid.is_open) → LeavesOpen old end
   leaves was = record { ended = λ _. ended; clean = old_clean; was_open = λ now open'. old_open now (was now open') }
@@ -144,6 +137,9 @@ module _ (old begun mid end : State) (begins : Begins old begun) (stays : Stays 
       tables = λ premise _.
           let s = shows premise.disk in
           subst HasTables (sym s.now_is) (tables_of (made premise.disk s.was_open premise.tables).room);
+      retains = λ premise _.
+          let s = shows premise.disk in
+          subst (λ (db : Database). Retains old.now.trees db.trees) (sym s.now_is) (made premise.disk s.was_open premise.tables).retains;
       damaged = λ _ _ is. absurd (let e = is in cc);
     }
 
@@ -156,6 +152,7 @@ module _ (old begun mid end : State) (begins : Begins old begun) (stays : Stays 
       step = λ _. tt;
       kept = λ premise open'. left premise.disk open' premise.tables;
       tables = λ premise open'. subst HasTables (sym (left premise.disk open' premise.tables)) premise.tables;
+      retains = λ premise open'. retains_same old.now end.now (left premise.disk open' premise.tables);
       damaged = λ premise open' is. damaged premise open' (same_fault is);
     }
 
@@ -177,6 +174,7 @@ module _ (old begun mid end : State) (begins : Begins old begun) (stays : Stays 
       step = λ premise. absurd (ends premise.disk);
       kept = λ _ _. tt;
       tables = λ premise _. absurd (ends premise.disk);
+      retains = λ premise _. absurd (ends premise.disk);
       damaged = λ premise _ _. absurd (ends premise.disk);
     }
     ran (Err why) (Err fault) carries ends =

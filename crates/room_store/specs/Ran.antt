@@ -7,7 +7,7 @@ use Rattle.room_rows.specs.Rows.{Rows}
 use Rattle.room_store.specs.declared.fault.StoreFault.{StoreFault}
 use Rattle.room_store.specs.declared.fault.StoreFault.TheVariants.{Damaged}
 use Rattle.store_tables.specs.Meaning.{rows_of}
-use Rattle.store_tables.specs.Shown.{HasTables}
+use Rattle.store_tables.specs.Shown.{HasTables, Retains}
 use Rattle.room_store.specs.Premise.{StorePremise}
 
 -- what any call leaves of the connection
@@ -34,6 +34,10 @@ pub record Ran {X : Type 0} (old new : State) (result : Result X StoreFault)
   pub kept : StorePremise old new → IsTrue new.is_open → OnErr result (new.now ≡ old.now)
   -- They are still those of a room.
   pub tables : StorePremise old new → IsTrue new.is_open → HasTables new.now
+  -- `meta` is as it was, so that the file can be opened again, and no record is gone. Since rows
+  -- stand in the order of their numbers, the number of a record is never given again.
+  pub retains : StorePremise old new → IsTrue new.is_open
+      → Retains old.now.trees new.now.trees
   -- `Damaged` comes for rows that the relation names.
   pub damaged : StorePremise old new → IsTrue new.is_open → result ≡ Err Damaged
       → Blames (rows_of old.now)

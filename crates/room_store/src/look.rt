@@ -9,7 +9,7 @@ ghost use Rattle.room_store.specs.Turn.{GivesUp};
 use crate::fault::{StoreFault, fault_of};
 use room_rows::KeepFault;
 use sqlite::{Alter, Transaction};
-use store_tables::wants_memory;
+use store_tables::fault_for;
 
 /// Rolls the transaction back, whatever is answered.
 pub(crate) fn give_up<X: Drop, S: Alter>(
@@ -43,7 +43,6 @@ pub(crate) fn test_open<S: Alter>(tx: &mut Transaction<'_, S>) -> Result<(), Kee
             drop(statement);
             Ok(())
         }
-        Err(error) if wants_memory(error) => Err(KeepFault::Memory),
-        Err(_) => Err(KeepFault::Store),
+        Err(error) => Err(fault_for(error)),
     }
 }

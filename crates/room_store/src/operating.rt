@@ -15,7 +15,7 @@ ghost use Rattle.store_admin.specs.Operating.{
 
 use crate::fault::StoreFault;
 use crate::look::give_up;
-use crate::turn::finish;
+use crate::turn::{begin, finish};
 use room_ace::Name;
 use room_rows::AuditRow;
 use sqlite::{Alter, Connection};
@@ -33,8 +33,7 @@ pub(crate) fn members_on<S: Alter>(
     if !conn.is_autocommit() {
         return Err(StoreFault::Db);
     }
-    let _schema = conn.schema();
-    let mut tx = conn.transaction();
+    let mut tx = begin(conn);
     let done = all_members(alloc, &mut tx);
     give_up(tx, done)
 }
@@ -50,8 +49,7 @@ pub(crate) fn audits_on<S: Alter>(
     if !conn.is_autocommit() {
         return Err(StoreFault::Db);
     }
-    let _schema = conn.schema();
-    let mut tx = conn.transaction();
+    let mut tx = begin(conn);
     let done = all_records(alloc, &mut tx);
     give_up(tx, done)
 }
@@ -70,8 +68,7 @@ pub(crate) fn replace_on<S: Alter>(
     if !conn.is_autocommit() {
         return Err(StoreFault::Db);
     }
-    let _schema = conn.schema();
-    let mut tx = conn.transaction();
+    let mut tx = begin(conn);
     let done = put_members(alloc, &mut tx, pairs);
     finish(tx, done)
 }
@@ -87,8 +84,7 @@ pub(crate) fn dump_on<S: Alter>(
     if !conn.is_autocommit() {
         return Err(StoreFault::Db);
     }
-    let _schema = conn.schema();
-    let mut tx = conn.transaction();
+    let mut tx = begin(conn);
     let done = dump_all(alloc, &mut tx);
     give_up(tx, done)
 }

@@ -6,7 +6,7 @@ ghost use Rattle.room_store.specs.Ran.{HasDamage, Ran};
 ghost use Rattle.store_admin.specs.Carries.{ByRows, CallsInside, OnRows};
 
 use crate::fault::StoreFault;
-use crate::turn::finish;
+use crate::turn::{begin, finish};
 use room_ace::{SentList, Which};
 use room_desk::reset;
 use room_machine::Reply;
@@ -69,8 +69,7 @@ pub(crate) fn reset_on<S: Alter>(
     if !conn.is_autocommit() {
         return Err(StoreFault::Db);
     }
-    let _schema = conn.schema();
-    let mut tx = conn.transaction();
+    let mut tx = begin(conn);
     let done = reset_inside(alloc, &mut tx, path, which, sent);
     finish(tx, done)
 }

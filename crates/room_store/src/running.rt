@@ -7,7 +7,7 @@ ghost use Rattle.room_store.specs.Ran.{HasDamage, Ran};
 ghost use Rattle.store_admin.specs.Carries.{ByRows, CallsInside, OnRows};
 
 use crate::fault::StoreFault;
-use crate::turn::finish;
+use crate::turn::{begin, finish};
 use room_ace::Name;
 use room_desk::perform;
 use room_machine::{Reply, Request};
@@ -71,8 +71,7 @@ pub(crate) fn run_on<S: Alter>(
     if !conn.is_autocommit() {
         return Err(StoreFault::Db);
     }
-    let _schema = conn.schema();
-    let mut tx = conn.transaction();
+    let mut tx = begin(conn);
     let done = perform_inside(alloc, &mut tx, lists, caller, at, request);
     finish(tx, done)
 }

@@ -33,6 +33,7 @@ use Rattle.store_admin.specs.Operating.{Exchanges, stored_pair}
 use Rattle.store_tables.specs.Shown.{IsRoom}
 use Rattle.store_tables.specs.Tables.{members, room_schema}
 use Rattle.store_tables.proofs.Answers.{shows, selected}
+use Rattle.store_tables.proofs.Calls.{retains_by}
 use Rattle.store_tables.proofs.Executed.{WritesRoom}
 use Rattle.store_tables.proofs.Inserts.{fresh_alone}
 use Rattle.store_tables.proofs.Rowids.{each_of, has_itself, of_each}
@@ -162,6 +163,7 @@ emptied old new count room h =
         nodes = at 0 ∙ applies.tables.0 (λ e. let e' : 0 ≡ 3 = e in omega (arith, e'));
         bodies = at 2 ∙ applies.tables.1.0 (λ e. let e' : 2 ≡ 3 = e in omega (arith, e'));
         members = at 3 ∙ applies.rows ∙ none_left (ids_of asked.0) (db 3) (all_among (db 3) asked.0 room.members.1 all);
+        meta = at 5 ∙ applies.tables.1.1.1.0 (λ e. let e' : 5 ≡ 3 = e in omega (arith, e'));
         audits = at 7 ∙ applies.tables.1.1.1.1.0 (λ e. let e' : 7 ≡ 3 = e in omega (arith, e'));
       };
       shown = w.shown;
@@ -213,6 +215,7 @@ joined group user old new count has h =
           nodes = at 0 ∙ applies.tables.0 (λ e. let e' : 0 ≡ 3 = e in omega (arith, e'));
           bodies = at 2 ∙ applies.tables.1.0 (λ e. let e' : 2 ≡ 3 = e in omega (arith, e'));
           members = at 3 ∙ applies.rows ∙ ap (put_all (db 3)) news;
+          meta = at 5 ∙ applies.tables.1.1.1.0 (λ e. let e' : 5 ≡ 3 = e in omega (arith, e'));
           audits = at 7 ∙ applies.tables.1.1.1.1.0 (λ e. let e' : 7 ≡ 3 = e in omega (arith, e'));
         };
         shown = w.shown;
@@ -233,6 +236,7 @@ still_room rows old new inside room shaped d = (
     audits = subst (IsShaped Shape.Table) (sym d.puts.audits) room.audits;
   },
   d.shown.mode ∙ inside,
+  retains_by _ _ d.puts.meta d.puts.audits,
 )
 
 pub empty_room : (old new : State) → IsTrue old.in_transaction → (count : ℕ) → Executes empty_text [] old new (Ok count) → IsRoom old.now → WritesRoom old new

@@ -23,6 +23,7 @@ gathered a b c before mid after (Ok done) p q = record {
         bodies = two.bodies ∙ one.bodies;
         members = two.members;
         only = λ all. two.only (one.only all);
+        meta = two.meta ∙ one.meta;
         audits = two.audits ∙ one.audits;
       };
   blames = λ trust id is. absurd (let e = is in cc);

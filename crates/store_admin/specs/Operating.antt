@@ -90,6 +90,7 @@ pub record Exchanges (rows : List Row) (db next : Trees) : Type 0 where
   pub nodes : next tree.nodes ≡ db tree.nodes
   pub bodies : next tree.bodies ≡ db tree.bodies
   pub members : next tree.members ≡ rows
+  pub meta : next tree.meta ≡ db tree.meta
   pub audits : next tree.audits ≡ db tree.audits
 
 -- a row of members as it is stored
@@ -107,6 +108,7 @@ pub record HoldsPairs (pairs : List (List ℕ × List ℕ)) (db next : Trees) : 
   pub nodes : next tree.nodes ≡ db tree.nodes
   pub bodies : next tree.bodies ≡ db tree.bodies
   pub members : pairs_of (next tree.members) ≡ set_of pairs
+  pub meta : next tree.meta ≡ db tree.meta
   pub audits : next tree.audits ≡ db tree.audits
   -- where each row was a pair, each still is
   pub only : are_pairs (db tree.members) ≡ true → are_pairs (next tree.members) ≡ true

@@ -18,7 +18,7 @@ use room_rows::KeepFault;
 use sqlite::{Alter, Error, Row, Transaction, params};
 use std::alloc::{AllocError, Global};
 use std::cmp::Ordering;
-use store_tables::{name_of, value_at, wants_memory};
+use store_tables::{fault_for, name_of, value_at};
 
 // All pairs, in order.
 fn select_members<S: Alter>(tx: &mut Transaction<'_, S>) -> Result<Vec<Row>, Error>
@@ -111,8 +111,7 @@ pub fn all_members<S: Alter>(
 {
     let rows = match select_members(tx) {
         Ok(rows) => rows,
-        Err(error) if wants_memory(error) => return Err(KeepFault::Memory),
-        Err(_) => return Err(KeepFault::Store),
+        Err(error) => return Err(fault_for(error)),
     };
     Ok(see_pairs(alloc, rows.as_slice())?)
 }

@@ -15,7 +15,7 @@ use room_ace::{Name, names_are_text};
 use room_rows::KeepFault;
 use sqlite::{Alter, Error, Transaction};
 use std::alloc::{AllocError, Global};
-use store_tables::wants_memory;
+use store_tables::fault_for;
 
 // The pairs in order, so that those which are the same stand side by side.
 fn in_order<'a>(
@@ -77,8 +77,7 @@ fn insert_at<S: Alter>(
     is_read_back(pair);
     match insert_pair(tx, pair) {
         Ok(_) => Ok(()),
-        Err(error) if wants_memory(error) => Err(KeepFault::Memory),
-        Err(_) => Err(KeepFault::Store),
+        Err(error) => Err(fault_for(error)),
     }
 }
 
@@ -110,8 +109,7 @@ pub fn put_members<S: Alter>(
     let order = in_order(alloc, pairs)?;
     match delete_members(tx) {
         Ok(_) => {}
-        Err(error) if wants_memory(error) => return Err(KeepFault::Memory),
-        Err(_) => return Err(KeepFault::Store),
+        Err(error) => return Err(fault_for(error)),
     }
     insert_each(tx, order.as_slice())
 }

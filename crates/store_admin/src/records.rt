@@ -20,7 +20,7 @@ use room_rows::{AuditRow, KeepFault, RecordKind, Text, read_path};
 use sqlite::types::ValueRef;
 use sqlite::{Alter, Error, Row, Transaction, params};
 use std::alloc::{AllocError, Global};
-use store_tables::{name_of, text_at, value_at, wants_memory};
+use store_tables::{fault_for, name_of, text_at, value_at};
 
 // All records, in the order in which they were added.
 fn select_records<S: Alter>(tx: &mut Transaction<'_, S>) -> Result<Vec<Row>, Error>
@@ -179,8 +179,7 @@ pub fn all_records<S: Alter>(
 {
     let rows = match select_records(tx) {
         Ok(rows) => rows,
-        Err(error) if wants_memory(error) => return Err(KeepFault::Memory),
-        Err(_) => return Err(KeepFault::Store),
+        Err(error) => return Err(fault_for(error)),
     };
     match see_records(alloc, rows.as_slice())? {
         Some(records) => Ok(records),

@@ -23,6 +23,7 @@ use Rattle.store_tables.proofs.Answers.{shows}
 use Rattle.sqlite.specs.State.{State, Executes}
 use Rattle.sqlite.specs.declared.error.Error.{Error}
 use Rattle.store_tables.proofs.Texts.{delete_text}
+use Rattle.store_tables.proofs.Calls.{retains_by}
 use Rattle.store_tables.proofs.Executed.{WritesRoom}
 use Rattle.sqlite_trees.proofs.TreeLemmas.{IsShaped-filter}
 use Rattle.std.proofs.Common.{not, IfOk, if◌then◌else◌}
@@ -79,6 +80,7 @@ pub record Follows (id : ℤ) (first next : Trees) : Type 0 where
   pub nodes : next 0 ≡ first 0
   pub bodies : next 2 ≡ without_rowid id (first 2)
   pub members : next 3 ≡ first 3
+  pub meta : next 5 ≡ first 5
   pub audits : next 7 ≡ first 7
 
 -- the row is the parent's, so it is a child of the row that is taken out
@@ -146,7 +148,7 @@ module _ (id : ℤ) (cells : Row) (first : Trees) (ints : AllByRecursion (λ r. 
   taken n next [] are h =
       let same = left n first next h in
       let at = λ (tree : ℕ). ap (λ (t : Trees). t tree) (sym same) in
-      record { nodes = at 0; bodies = at 2 ∙ sym (nothing_there are); members = at 3; audits = at 7 }
+      record { nodes = at 0; bodies = at 2 ∙ sym (nothing_there are); members = at 3; meta = at 5; audits = at 7 }
   taken n next (x ∷ ids) are (inl refused) = absurd (let e = refused.2 in cc)
   taken n next (x ∷ ids) are (inr (inl big)) = absurd (let e = big.3 in cc)
   taken n next (x ∷ ids) are (inr (inr went)) =
@@ -158,6 +160,7 @@ module _ (id : ℤ) (cells : Row) (first : Trees) (ints : AllByRecursion (λ r. 
         nodes = at 0 ∙ other.0 (λ e. let e' : 0 ≡ 2 = e in omega (arith, e'));
         bodies = at 2 ∙ went.1.rows ∙ ap (without_all (first 2)) one;
         members = at 3 ∙ other.1.1.0 (λ e. let e' : 3 ≡ 2 = e in omega (arith, e'));
+        meta = at 5 ∙ other.1.1.1.0 (λ e. let e' : 5 ≡ 2 = e in omega (arith, e'));
         audits = at 7 ∙ other.1.1.1.1.0 (λ e. let e' : 7 ≡ 2 = e in omega (arith, e'));
       }
 
@@ -186,6 +189,7 @@ module _ (id : ℤ) (db next : Trees) (rows : List Row) (bodies : IsShaped Shape
         nodes = done.nodes ∙ went.1.rows ∙ ap (λ l. edited db (delete_edit db l)) one;
         bodies = done.bodies ∙ ap (without_rowid id) same;
         members = done.members ∙ other.1.1.0 (λ e. let e' : 3 ≡ 0 = e in omega (arith, e'));
+        meta = done.meta ∙ other.1.1.1.0 (λ e. let e' : 5 ≡ 0 = e in omega (arith, e'));
         audits = done.audits ∙ other.1.1.1.1.0 (λ e. let e' : 7 ≡ 0 = e in omega (arith, e'));
       }
 
@@ -204,6 +208,7 @@ module _ (id : ℤ) (db next : Trees) (rows : List Row) (bodies : IsShaped Shape
         nodes = at 0 ∙ went.1.rows ∙ ap (λ l. edited db (delete_edit db l)) none;
         bodies = at 2 ∙ other.1.0 (λ e. let e' : 2 ≡ 0 = e in omega (arith, e'));
         members = at 3 ∙ other.1.1.0 (λ e. let e' : 3 ≡ 0 = e in omega (arith, e'));
+        meta = at 5 ∙ other.1.1.1.0 (λ e. let e' : 5 ≡ 0 = e in omega (arith, e'));
         audits = at 7 ∙ other.1.1.1.1.0 (λ e. let e' : 7 ≡ 0 = e in omega (arith, e'));
       }
 
@@ -252,6 +257,7 @@ delete_room id old new inside count h room =
         }
       ],
       d.shown.mode ∙ inside,
+      elim (deletes id old new count room d) [ inl same ↦ retains_by _ _ same.1.meta same.1.audits | inr gone ↦ retains_by _ _ gone.meta gone.audits ],
     )
 
 -- one row was deleted

@@ -21,6 +21,7 @@ use Rattle.sqlite_trees.proofs.TreeLemmas.{IsShaped-put_row}
 use Rattle.store_tables.specs.Shown.{Bodies, IsRoom, stored_body}
 use Rattle.store_tables.specs.Tables.{room_schema}
 use Rattle.store_tables.proofs.Actions.{bodies_table}
+use Rattle.store_tables.proofs.Calls.{retains_by}
 use Rattle.store_tables.proofs.Executed.{WritesRoom}
 use Rattle.store_tables.proofs.Filled.{cast_body, one_off}
 use Rattle.store_tables.proofs.Inserts.{fresh_alone}
@@ -66,6 +67,7 @@ bodied id bytes old new count has h =
         bodies = at 2 ∙ applies.rows ∙ ap (put_all (db 2)) news;
         nodes = at 0 ∙ applies.tables.0 (λ e. let e' : 0 ≡ 2 = e in omega (arith, e'));
         members = at 3 ∙ applies.tables.1.1.0 (λ e. let e' : 3 ≡ 2 = e in omega (arith, e'));
+        meta = at 5 ∙ applies.tables.1.1.1.0 (λ e. let e' : 5 ≡ 2 = e in omega (arith, e'));
         audits = at 7 ∙ applies.tables.1.1.1.1.0 (λ e. let e' : 7 ≡ 2 = e in omega (arith, e'));
       };
       shown = w.shown;
@@ -84,4 +86,5 @@ put_room id bytes old new inside count h room =
         bodies = subst (IsShaped Shape.Table) (sym d.puts.bodies) (IsShaped-put_row (stored_body id bytes) _ refl room.bodies);
       },
       d.shown.mode ∙ inside,
+      retains_by _ _ d.puts.meta d.puts.audits,
     )

@@ -1,10 +1,13 @@
 -- What a read or a failure leaves of a connection.
-use Rattle.std.proofs.Common.{◌≡◌, ℕ, ◌≤◌, List, [], Result, Ok, Err, None, Some, Option, IsTrue, inl, inr, ◌⊎◌, map, filter, sym, subst, ◌∙◌, false, IfOk, OnOk, IfErr, Vec, Global}
+use Rattle.std.proofs.Common.{◌≡◌, ℕ, ◌≤◌, List, [], ◌++◌, Result, Ok, Err, None, Some, Option, IsTrue, inl, inr, ◌⊎◌, map, filter, refl, sym, ap, subst, ◌∙◌, false, IfOk, OnOk, IfErr, Vec, Global}
+use Rattle.std.proofs.lemmas.List.{append-nil, append_assoc}
 use Rattle.std.specs.List.Sorted.{IsPermutation}
 use Rattle.sqlite.specs.declared.types.Value.TheVariants.{Null}
 use Rattle.sqlite.specs.Order.{Row}
 use Rattle.sqlite_trees.specs.View.{doubt}
+use Rattle.sqlite.specs.Effect.{Database}
 use Rattle.sqlite.specs.Program.{overlay}
+use Rattle.sqlite.specs.Tree.{Trees}
 use Rattle.sqlite.specs.Term.{Term}
 use Rattle.sqlite_value.specs.declared.keys.Key.{Key}
 use Rattle.sqlite.specs.declared.error.Error.{Error}
@@ -14,16 +17,32 @@ use Rattle.sqlite_resolve.specs.declared.compiled.Compiled.{Compiled}
 use Rattle.sqlite_schema.specs.declared.command.Returning.{Returning}
 use Rattle.sqlite.proofs.Callers.{IsPlain, command_of, reads_as}
 use Rattle.store_tables.specs.Tables.{room_schema}
-use Rattle.store_tables.specs.Shown.{IsRoom, Stays}
+use Rattle.store_tables.specs.Shown.{IsRoom, Retains, Stays}
 use Rattle.store_tables.proofs.Texts.{query_of, selects}
 use Rattle.store_tables.proofs.Answers.{passes, shows, selected}
 
+-- ---- what is retained
+
+pub retains_by : (db next : Trees) → next 5 ≡ db 5 → next 7 ≡ db 7 → Retains db next
+retains_by db next meta audits = record { meta = meta; more = []; audits = audits ∙ sym (append-nil (db 7)) }
+
+pub retains_on : (a b c : Trees) → Retains a b → Retains b c → Retains a c
+retains_on a b c p q = record { meta = q.meta ∙ p.meta; more = p.more ++ q.more; audits = q.audits ∙ ap (λ l. l ++ q.more) p.audits ∙ append_assoc (a 7) p.more q.more }
+
+pub retains_same : (db next : Database) → next ≡ db → Retains db.trees next.trees
+retains_same db next same = subst (λ (d : Database). Retains db.trees d.trees) (sym same) (retains_by db.trees db.trees refl refl)
+
+retains_at : (a b c d : Database) → c ≡ a → d ≡ b → Retains a.trees b.trees → Retains c.trees d.trees
+retains_at a b c d one two h = subst (λ (x : Database). Retains x.trees d.trees) (sym one) (subst (λ (x : Database). Retains a.trees x.trees) (sym two) h)
+
+-- ---- calls
+
 module _ (old new : State) (clean : doubt old.is_clean ≤ doubt new.is_clean) where
   pub unchanged_stays : IsUnchanged old new → Stays old new
-  unchanged_stays h = record { clean = clean; was_open = λ _ _. h.0.was_open; kept = λ _ _ _ room. (h.0.committed_is, subst IsRoom (sym h.0.now_is) room); settled = λ _ _ _ _ was now. h.0.now_is ∙ was (sym h.0.mode ∙ now) ∙ sym h.0.committed_is }
+  unchanged_stays h = record { clean = clean; was_open = λ _ _. h.0.was_open; kept = λ _ _ _ room. (h.0.committed_is, subst IsRoom (sym h.0.now_is) room); retains = λ _ _ _ _ was. retains_at _ _ _ _ h.0.committed_is h.0.now_is was; settled = λ _ _ _ _ was now. h.0.now_is ∙ was (sym h.0.mode ∙ now) ∙ sym h.0.committed_is }
 
   pub rolled_back_stays : IsRolledBack old new → Stays old new
-  rolled_back_stays h = record { clean = clean; was_open = λ _. h.was_open; kept = λ _ open' room _. ((h.undone open').1, subst IsRoom (sym (h.undone open').0) room); settled = λ _ open' _ _ _ _. (h.undone open').0 ∙ sym (h.undone open').1 }
+  rolled_back_stays h = record { clean = clean; was_open = λ _. h.was_open; kept = λ _ open' room _. ((h.undone open').1, subst IsRoom (sym (h.undone open').0) room); retains = λ _ open' _ _ _. retains_same _ _ ((h.undone open').0 ∙ sym (h.undone open').1); settled = λ _ open' _ _ _ _. (h.undone open').0 ∙ sym (h.undone open').1 }
 
 not_shown : (sql : List ℕ) (c : Compiled) (full : Row) (old new : State) (e : Error) (r : Option Returning) → FailsToShow old new sql c full e r → IsUnchanged old new ⊎ IsRolledBack old new
 not_shown sql c full old new e None f = inl f.3
@@ -59,6 +78,7 @@ module _ (sql : List ℕ) (params : Row) (old new : State) (plain : IsPlain (und
     was_open = λ _ _. shown_open sql params old new rows h;
     kept = λ _ _ _ room. let same = shown_same sql params old new rows (subst (λ s. IsPlain (understood s sql)) (sym room.schema) plain) h in
         (same.0.committed_is, subst IsRoom (sym same.0.now_is) room);
+    retains = λ now open' one room. (unchanged_stays old new clean (shown_same sql params old new rows (subst (λ s. IsPlain (understood s sql)) (sym room.schema) plain) h)).retains now open' one room;
     settled = λ now open' one room. (unchanged_stays old new clean (shown_same sql params old new rows (subst (λ s. IsPlain (understood s sql)) (sym room.schema) plain) h)).settled now open' one room;
   }
 
@@ -86,11 +106,13 @@ query_stays sql params old new (Ok rows) plain clean ok err = record {
   clean = clean;
   was_open = λ now. (shown_stays sql params old new plain clean rows.items (ok now)).was_open now;
   kept = λ now. (shown_stays sql params old new plain clean rows.items (ok now)).kept now;
+  retains = λ now. (shown_stays sql params old new plain clean rows.items (ok now)).retains now;
   settled = λ now. (shown_stays sql params old new plain clean rows.items (ok now)).settled now;
 }
 query_stays sql params old new (Err e) plain clean ok err = record {
   clean = clean;
   was_open = λ now. (failed_stays sql params old new plain clean e (err now)).was_open now;
   kept = λ now. (failed_stays sql params old new plain clean e (err now)).kept now;
+  retains = λ now. (failed_stays sql params old new plain clean e (err now)).retains now;
   settled = λ now. (failed_stays sql params old new plain clean e (err now)).settled now;
 }

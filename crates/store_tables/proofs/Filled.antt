@@ -25,6 +25,7 @@ use Rattle.store_tables.specs.Shown.{Fills, IsRoom, KeepsAll, stored_body}
 use Rattle.store_tables.specs.Tables.{room_schema}
 use Rattle.store_tables.proofs.Actions.{bodies_table}
 use Rattle.store_tables.proofs.Answers.{selected, shows}
+use Rattle.store_tables.proofs.Calls.{retains_by}
 use Rattle.store_tables.proofs.Executed.{WritesRoom}
 use Rattle.store_tables.proofs.Rowids.{alone_in, at_most_one, has_found, of_each, only_one, rowid_is}
 use Rattle.store_tables.proofs.Tests.{filter_same, passes_id}
@@ -88,6 +89,7 @@ record Left (old new : State) (rows : List Row) : Type 0 where
   pub nodes : new.now.trees 0 ≡ old.now.trees 0
   pub bodies : new.now.trees 2 ≡ edited old.now.trees (fill_edit old.now.trees rows)
   pub members : new.now.trees 3 ≡ old.now.trees 3
+  pub meta : new.now.trees 5 ≡ old.now.trees 5
   pub audits : new.now.trees 7 ≡ old.now.trees 7
 
 left : (id : ℤ) (bytes : List ℕ) (old new : State) (count : ℕ) (d : Filled id bytes old new count)
@@ -99,6 +101,7 @@ left id bytes old new count d none =
       bodies = at 2 ∙ applies.rows;
       nodes = at 0 ∙ applies.tables.0 (λ e. let e' : 0 ≡ 2 = e in omega (arith, e'));
       members = at 3 ∙ applies.tables.1.1.0 (λ e. let e' : 3 ≡ 2 = e in omega (arith, e'));
+      meta = at 5 ∙ applies.tables.1.1.1.0 (λ e. let e' : 5 ≡ 2 = e in omega (arith, e'));
       audits = at 7 ∙ applies.tables.1.1.1.1.0 (λ e. let e' : 7 ≡ 2 = e in omega (arith, e'));
     }
 
@@ -113,7 +116,7 @@ fills id bytes old new count room d = go (at_most_one id (old.now.trees 2) room.
         let it = left id bytes old new count d (ap (λ l. works room_schema Enforced 0 2 (taken_by db (fill_edit db l)) (fill_edit db l).news) rows ∙ none_off []) in
         inl (
           d.counted ∙ ap (λ l. length (fill_edit db l).news) rows,
-          record { nodes = it.nodes; bodies = it.bodies ∙ ap (λ l. edited db (fill_edit db l)) rows; members = it.members; audits = it.audits },
+          record { nodes = it.nodes; bodies = it.bodies ∙ ap (λ l. edited db (fill_edit db l)) rows; members = it.members; meta = it.meta; audits = it.audits },
         )
     go (inr (r, one)) =
         let there = only_one (has_rowid id) (old.now.trees 2) r one in
@@ -127,6 +130,7 @@ fills id bytes old new count room d = go (at_most_one id (old.now.trees 2) room.
           nodes = it.nodes;
           bodies = it.bodies ∙ ap (λ l. edited old.now.trees (fill_edit old.now.trees l)) rows' ∙ ap (λ r. put_row r (without_rowid id (old.now.trees 2))) (cast_body id bytes);
           members = it.members;
+          meta = it.meta;
           audits = it.audits;
         })
 
@@ -153,6 +157,7 @@ fill_room id bytes old new inside count h room =
         }
       ],
       d.shown.mode ∙ inside,
+      elim (fills id bytes old new count room d) [ inl same ↦ retains_by _ _ same.1.meta same.1.audits | inr put ↦ retains_by _ _ put.meta put.audits ],
     )
 
 pub fill_one : (id : ℤ) (bytes : List ℕ) (old new : State) (count : ℕ) → IsRoom old.now → Executes fill_text (Int id ∷ Blob bytes ∷ []) old new (Ok count) → count ≡ 1 → Fills id bytes old.now.trees new.now.trees

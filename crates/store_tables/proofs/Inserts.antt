@@ -24,6 +24,7 @@ use Rattle.store_tables.specs.Tables.{room_schema}
 use Rattle.store_tables.specs.Shown.{IsRoom, AddsRow, stored_node}
 use Rattle.store_tables.proofs.Texts.{insert_text, insert_is, insert_terms, plain_texts}
 use Rattle.store_tables.proofs.Writes.{went, same_value, nodes_table}
+use Rattle.store_tables.proofs.Calls.{retains_by}
 use Rattle.store_tables.proofs.Executed.{WritesRoom}
 use Rattle.store_tables.proofs.Updates.{Columns, values, cast_null, cast_int}
 
@@ -83,6 +84,7 @@ inserted c old new count has h =
         nodes = at 0 ∙ applies.rows ∙ ap (Rattle.sqlite.specs.Edit.put_all (db 0)) news;
         bodies = at 2 ∙ applies.tables.1.0 (λ e. let e' : 2 ≡ 0 = e in omega (arith, e'));
         members = at 3 ∙ applies.tables.1.1.0 (λ e. let e' : 3 ≡ 0 = e in omega (arith, e'));
+        meta = at 5 ∙ applies.tables.1.1.1.0 (λ e. let e' : 5 ≡ 0 = e in omega (arith, e'));
         audits = at 7 ∙ applies.tables.1.1.1.1.0 (λ e. let e' : 7 ≡ 0 = e in omega (arith, e'));
       };
       last = w.last_rowid ∙ ap (λ (p : Tally × Database). unwrap_or p.0.last old.last_rowid) concluded ∙ ap (λ (it : Written). unwrap_or it.last old.last_rowid) wrote
@@ -103,4 +105,5 @@ insert_room c old new inside count h room =
         bodies = subst (IsShaped Shape.Table) (sym d.adds.bodies) room.bodies;
       },
       d.shown.mode ∙ inside,
+      retains_by _ _ d.adds.meta d.adds.audits,
     )

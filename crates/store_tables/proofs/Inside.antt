@@ -23,6 +23,7 @@ query_inside sql params old new (Err e) plain clean ok err = record {
   clean = clean;
   was_open = λ now. (late_or sql params old new e plain clean (err now)).was_open now;
   kept = λ now. (late_or sql params old new e plain clean (err now)).kept now;
+  retains = λ now. (late_or sql params old new e plain clean (err now)).retains now;
   settled = λ now. (late_or sql params old new e plain clean (err now)).settled now;
 }
 
@@ -34,6 +35,7 @@ inside_only sql params old new (Err e) clean writes h = record {
   clean = clean;
   was_open = λ now. (go (h now)).was_open now;
   kept = λ now. (go (h now)).kept now;
+  retains = λ now. (go (h now)).retains now;
   settled = λ now. (go (h now)).settled now;
 }
   where

@@ -1,6 +1,7 @@
 pub mod Texts
 pub mod Answers
 pub mod Calls
+pub mod Changed
 pub mod Tests
 pub mod Writes
 pub mod Rowids

@@ -106,6 +106,7 @@ record Same (db now : Trees) : Type 0 where
   pub nodes : now 0 ≡ db 0
   pub bodies : now 2 ≡ db 2
   pub members : now 3 ≡ db 3
+  pub meta : now 5 ≡ db 5
   pub audits : now 7 ≡ db 7
 
 counted_edit : (db now : Trees) (top : ℤ) (counter : Option Row) → Edited room_schema Enforced db (counting db audits_table counters_table top counter) (Ok now) → Same db now
@@ -119,6 +120,7 @@ counted_edit db now top counter did = by counter did
           nodes = applies.tables.0 (λ e. let e' : 0 ≡ 8 = e in omega (arith, e'));
           bodies = applies.tables.1.0 (λ e. let e' : 2 ≡ 8 = e in omega (arith, e'));
           members = applies.tables.1.1.0 (λ e. let e' : 3 ≡ 8 = e in omega (arith, e'));
+          meta = applies.tables.1.1.1.0 (λ e. let e' : 5 ≡ 8 = e in omega (arith, e'));
           audits = applies.tables.1.1.1.1.0 (λ e. let e' : 7 ≡ 8 = e in omega (arith, e'));
         }
 
@@ -141,7 +143,7 @@ counts_keep limit params db now counter top counts = by (is_lt (int_cmp (count_o
     by true did = counted_edit db now top counter (subst (λ t. CountsIn (note_task limit params) db counter top t (Ok now)) counters_are did)
     by false is =
         let same : now ≡ db = same_value is in
-        record { nodes = ap (λ (t : Trees). t 0) same; bodies = ap (λ (t : Trees). t 2) same; members = ap (λ (t : Trees). t 3) same; audits = ap (λ (t : Trees). t 7) same }
+        record { nodes = ap (λ (t : Trees). t 0) same; bodies = ap (λ (t : Trees). t 2) same; members = ap (λ (t : Trees). t 3) same; meta = ap (λ (t : Trees). t 5) same; audits = ap (λ (t : Trees). t 7) same }
 
 abbrev note_terms : List Term
 note_terms = lit Null ∷ lit Null ∷ col 0 0 ∷ col 0 1 ∷ col 0 2 ∷ col 0 3 ∷ col 0 4 ∷ col 0 5 ∷ []
@@ -153,6 +155,7 @@ pub record Noted (r : Record) (old new : State) : Type 0 where
   pub nodes : new.now.trees 0 ≡ old.now.trees 0
   pub bodies : new.now.trees 2 ≡ old.now.trees 2
   pub members : new.now.trees 3 ≡ old.now.trees 3
+  pub meta : new.now.trees 5 ≡ old.now.trees 5
   pub audits : new.now.trees 7 ≡ put_row (stored_record seq (record_values r)) (old.now.trees 7)
   pub last : IsRoom old.now → AllByRecursion (λ x. value_cmp (rowid x) (Int seq) ≡ Less) (old.now.trees 7)
   pub shown : Shows old new new.now (if old.in_transaction then old.committed else new.now) old.in_transaction
@@ -189,6 +192,7 @@ noted r old new count has h =
       nodes = at 0 ∙ kept.nodes ∙ applies.tables.0 (λ e. let e' : 0 ≡ 7 = e in omega (arith, e'));
       bodies = at 2 ∙ kept.bodies ∙ applies.tables.1.0 (λ e. let e' : 2 ≡ 7 = e in omega (arith, e'));
       members = at 3 ∙ kept.members ∙ applies.tables.1.1.0 (λ e. let e' : 3 ≡ 7 = e in omega (arith, e'));
+      meta = at 5 ∙ kept.meta ∙ applies.tables.1.1.1.0 (λ e. let e' : 5 ≡ 7 = e in omega (arith, e'));
       audits = at 7 ∙ kept.audits ∙ applies.rows ∙ ap (put_all (db 7)) news;
       last = λ room. all_before last (db 7) room.audits.0 room.audits.1;
       shown = w.shown;
@@ -202,6 +206,7 @@ notes r old new count room h =
       nodes = d.nodes;
       bodies = d.bodies;
       members = d.members;
+      meta = d.meta;
       audits = d.audits ∙ put_last (stored_record d.seq (record_values r)) (old.now.trees 7) (d.last room);
     }
 
@@ -218,4 +223,5 @@ note_room r old new inside count h room =
         audits = subst (IsShaped Shape.Table) (sym d.audits) (IsShaped-put_row (stored_record d.seq (record_values r)) _ refl room.audits);
       },
       d.shown.mode ∙ inside,
+      (let added = notes r old new count room h in record { meta = added.meta; more = _; audits = added.audits }),
     )

@@ -27,6 +27,7 @@ use Rattle.store_tables.proofs.Texts.{matches_parameter, updates_nodes}
 use Rattle.store_tables.proofs.Answers.{shows, selected}
 use Rattle.store_tables.proofs.Tests.{filter_same, passes_id}
 use Rattle.store_tables.proofs.Writes.{went, same_value, nodes_table}
+use Rattle.store_tables.proofs.Calls.{retains_by}
 use Rattle.store_tables.proofs.Executed.{WritesRoom}
 use Rattle.store_tables.proofs.Rowids.{at_most_one, only_one, has_found, cells_of, alone_in, rowid_is, of_each}
 use Rattle.store_tables.proofs.Actions.{ends, sets_off_none}
@@ -90,6 +91,7 @@ module _ (id : ℤ) (db next : Trees) (rows : List Row) where
         nodes = at 0 ∙ went.1.rows ∙ ap (λ l. edited db (update_edit db l)) one ∙ ap (λ r. put_row r (without_rowid id (db 0))) (cast_head id cells);
         bodies = at 2 ∙ other.1.0 (λ e. let e' : 2 ≡ 0 = e in omega (arith, e'));
         members = at 3 ∙ other.1.1.0 (λ e. let e' : 3 ≡ 0 = e in omega (arith, e'));
+        meta = at 5 ∙ other.1.1.1.0 (λ e. let e' : 5 ≡ 0 = e in omega (arith, e'));
         audits = at 7 ∙ other.1.1.1.1.0 (λ e. let e' : 7 ≡ 0 = e in omega (arith, e'));
       }
 
@@ -107,6 +109,7 @@ module _ (id : ℤ) (db next : Trees) (rows : List Row) where
         nodes = at 0 ∙ went.1.rows ∙ ap (λ l. edited db (update_edit db l)) none;
         bodies = at 2 ∙ other.1.0 (λ e. let e' : 2 ≡ 0 = e in omega (arith, e'));
         members = at 3 ∙ other.1.1.0 (λ e. let e' : 3 ≡ 0 = e in omega (arith, e'));
+        meta = at 5 ∙ other.1.1.1.0 (λ e. let e' : 5 ≡ 0 = e in omega (arith, e'));
         audits = at 7 ∙ other.1.1.1.1.0 (λ e. let e' : 7 ≡ 0 = e in omega (arith, e'));
       }
 
@@ -161,6 +164,7 @@ module _ (text : List ℕ) (terms : List Term) (is : command_of (understood room
           }
         ],
         d.shown.mode ∙ inside,
+        elim (did terms id given change gives old new count room d) [ inl same ↦ retains_by _ _ same.1.meta same.1.audits | inr put ↦ retains_by _ _ put.2.meta put.2.audits ],
       )
 
   pub recast_one : (old new : State) (count : ℕ) → IsRoom old.now → Executes text (Int id ∷ given) old new (Ok count) → count ≡ 1 → Recasts change id old.now.trees new.now.trees

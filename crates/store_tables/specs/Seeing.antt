@@ -1,14 +1,14 @@
 -- What rows are read as, and what a call answers for them.
 use Rattle.std.specs.List.{filter_map}
 use Rattle.std.specs.Prelude.{◌≡◌, ℕ, option_map, List, [], ◌∷◌, ◌++◌, Option, Some, None, Result}
-use Rattle.std.specs.Prelude.{Ok, Err, Bool, true, false}
+use Rattle.std.specs.Prelude.{Ok, Err, Bool, true, false, ◌==◌, if◌then◌else◌}
 use Rattle.sqlite.specs.declared.error.Error.{Error}
 use Rattle.sqlite.specs.declared.error.Error.TheVariants.{SqliteFailure}
 use Rattle.sqlite.specs.declared.error.ErrorCode.TheVariants.{OutOfMemory}
 use Rattle.sqlite.specs.declared.types.Value.{Value}
 use Rattle.sqlite.specs.Order.{Row, column}
 use Rattle.room_rows.specs.declared.keep.KeepFault.{KeepFault}
-use Rattle.room_rows.specs.declared.keep.KeepFault.TheVariants.{Store, Damaged}
+use Rattle.room_rows.specs.declared.keep.KeepFault.TheVariants.{Memory, Store, Damaged}
 use Rattle.room_rows.specs.declared.node.Node.{Node}
 use Rattle.room_rows.specs.Keep.{HasCause}
 use Rattle.store_tables.specs.declared.seen.Seen.{Seen}
@@ -71,6 +71,15 @@ names_seen rows = filter_map (λ r. name_in (column r 0)) rows
 abbrev pub wants_memory : Error → Bool
 wants_memory (SqliteFailure OutOfMemory) = true
 wants_memory other = false
+
+-- a keeper's fault for an error of the database
+abbrev pub fault_for : Error → KeepFault
+fault_for why = if wants_memory why then Memory else Store
+
+-- the answer of a statement that has to change one row
+abbrev pub one_changed : Result ℕ Error → Result (Unit {0}) KeepFault
+one_changed (Ok count) = if count == 1 then Ok tt else Err Store
+one_changed (Err why) = Err (fault_for why)
 
 abbrev pub result_of_seen : {X : Type 0} → Seen X → Result X KeepFault
 result_of_seen Foreign = Err Store

@@ -80,12 +80,20 @@ tables_of room = record {
   audits = room.audits;
 }
 
--- the four tables that rows are read from are as they were
+-- the four tables that rows are read from are as they were, and so is `meta`
 pub record KeepsAll (db next : Trees) : Type 0 where
   pub nodes : next tree.nodes ≡ db tree.nodes
   pub bodies : next tree.bodies ≡ db tree.bodies
   pub members : next tree.members ≡ db tree.members
+  pub meta : next tree.meta ≡ db tree.meta
   pub audits : next tree.audits ≡ db tree.audits
+
+-- What no request takes away: `meta` is as it was, and each row of `audits` is there with its
+-- number. New rows come after them.
+pub record Retains (db next : Trees) : Type 0 where
+  pub meta : next tree.meta ≡ db tree.meta
+  pub more : List Row
+  pub audits : next tree.audits ≡ db tree.audits ++ more
 
 -- what any call leaves, whatever it answers
 pub record Stays (old new : State) : Type 0 where
@@ -94,6 +102,9 @@ pub record Stays (old new : State) : Type 0 where
   -- inside a transaction over these tables
   pub kept : HasCleanDisk new → IsTrue new.is_open → IsRoom old.committed → IsRoom old.now
       → (new.committed ≡ old.committed) × IsRoom new.now
+  -- what is seen retains what was committed
+  pub retains : HasCleanDisk new → IsTrue new.is_open → IsRoom old.committed → IsRoom old.now
+      → Retains old.committed.trees old.now.trees → Retains new.committed.trees new.now.trees
   -- where no transaction is open, what is seen is what was committed
   pub settled : HasCleanDisk new → IsTrue new.is_open → IsRoom old.committed → IsRoom old.now
       → (old.in_transaction ≡ false → old.now ≡ old.committed) → new.in_transaction ≡ false
@@ -104,6 +115,7 @@ pub record RemovesRow (id : ℤ) (db next : Trees) : Type 0 where
   pub nodes : next tree.nodes ≡ without_rowid id (db tree.nodes)
   pub bodies : next tree.bodies ≡ without_rowid id (db tree.bodies)
   pub members : next tree.members ≡ db tree.members
+  pub meta : next tree.meta ≡ db tree.meta
   pub audits : next tree.audits ≡ db tree.audits
 
 -- a row of nodes as it is stored: its number, and what the other columns are given
@@ -115,6 +127,7 @@ pub record Replaces (id : ℤ) (values : Row) (db next : Trees) : Type 0 where
   pub nodes : next tree.nodes ≡ put_row (stored_node id values) (without_rowid id (db tree.nodes))
   pub bodies : next tree.bodies ≡ db tree.bodies
   pub members : next tree.members ≡ db tree.members
+  pub meta : next tree.meta ≡ db tree.meta
   pub audits : next tree.audits ≡ db tree.audits
 
 -- the cells of a row of nodes after its number, with this text for what a list inherits
@@ -167,6 +180,7 @@ pub record Fills (id : ℤ) (bytes : List ℕ) (db next : Trees) : Type 0 where
   pub nodes : next tree.nodes ≡ db tree.nodes
   pub bodies : next tree.bodies ≡ put_row (stored_body id bytes) (without_rowid id (db tree.bodies))
   pub members : next tree.members ≡ db tree.members
+  pub meta : next tree.meta ≡ db tree.meta
   pub audits : next tree.audits ≡ db tree.audits
 
 -- a row with this number, which none had, is put in
@@ -176,6 +190,7 @@ pub record AddsRow (id : ℤ) (values : Row) (db next : Trees) : Type 0 where
   pub nodes : next tree.nodes ≡ put_row (stored_node id values) (db tree.nodes)
   pub bodies : next tree.bodies ≡ db tree.bodies
   pub members : next tree.members ≡ db tree.members
+  pub meta : next tree.meta ≡ db tree.meta
   pub audits : next tree.audits ≡ db tree.audits
 
 -- bytes with this number, which had none, are put in
@@ -184,6 +199,7 @@ pub record Bodies (id : ℤ) (bytes : List ℕ) (db next : Trees) : Type 0 where
   pub nodes : next tree.nodes ≡ db tree.nodes
   pub bodies : next tree.bodies ≡ put_row (stored_body id bytes) (db tree.bodies)
   pub members : next tree.members ≡ db tree.members
+  pub meta : next tree.meta ≡ db tree.meta
   pub audits : next tree.audits ≡ db tree.audits
 
 -- a document gets these bytes, and another object none
@@ -201,4 +217,5 @@ pub record AddsRecordRow (values : Row) (db next : Trees) : Type 0 where
   pub nodes : next tree.nodes ≡ db tree.nodes
   pub bodies : next tree.bodies ≡ db tree.bodies
   pub members : next tree.members ≡ db tree.members
+  pub meta : next tree.meta ≡ db tree.meta
   pub audits : next tree.audits ≡ db tree.audits ++ stored_record seq values ∷ []

@@ -46,6 +46,7 @@ stays_itself a = record {
   clean = omega arith;
   was_open = λ _ h. h;
   kept = λ _ _ _ room. (refl, room);
+  retains = λ _ _ _ _ h. h;
   settled = λ _ _ _ _ h. h;
 }
 
@@ -60,6 +61,12 @@ stays_on a b c p q = record {
       let before = p.kept (clean_before b c q.clean clean) (q.was_open clean open') committed now in
       let after = q.kept clean open' (subst IsRoom (sym before.0) committed) before.1 in
       (after.0 ∙ before.0, after.1);
+  retains = λ clean open' committed now h.
+      let clean' = clean_before b c q.clean clean in
+      let open'' = q.was_open clean open' in
+      let before = p.kept clean' open'' committed now in
+      q.retains clean open' (subst IsRoom (sym before.0) committed) before.1
+      (p.retains clean' open'' committed now h);
   settled = λ clean open' committed now h.
       let clean' = clean_before b c q.clean clean in
       let open'' = q.was_open clean open' in

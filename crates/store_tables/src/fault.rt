@@ -1,7 +1,9 @@
 //! Why the database failed.
-ghost use Rattle.std.specs.Prelude.{◌≡◌};
-ghost use Rattle.store_tables.specs.Seeing.{wants_memory};
+ghost use Rattle.std.specs.Prelude.{◌≡◌, ◌≤◌, ℕ, IfErr, OnOk, true};
+ghost use Rattle.room_rows.specs.Keep.{HasCause, capped};
+ghost use Rattle.store_tables.specs.Seeing.{Nowhere, fault_for, one_changed, wants_memory};
 
+use room_rows::{KeepFault, failed};
 use sqlite::{Error, ErrorCode};
 
 /// Whether memory for the database's own work ran out, which is no fault of the database.
@@ -11,5 +13,45 @@ pub fn wants_memory(error: Error) -> bool
     match error {
         Error::SqliteFailure(ErrorCode::OutOfMemory) => true,
         _ => false,
+    }
+}
+
+/// A keeper's fault for an error of the database. It blames no row.
+pub fn fault_for(error: Error) -> KeepFault
+    ensures fault { result ≡ fault_for error }
+    ensures unblamed { (id : ℕ) → result ≡ KeepFault.Damaged id → ⊥ }
+{
+    if wants_memory(error) {
+        KeepFault::Memory
+    } else {
+        KeepFault::Store
+    }
+}
+
+/// The same, counted as a failure unless memory ran out.
+pub(crate) fn blamed(error: Error, failures: &mut u64) -> KeepFault
+    ensures fault { result ≡ fault_for error }
+    ensures cause { HasCause (capped failures.old) (capped failures.new) Nowhere result }
+    ensures uncounted { wants_memory error ≡ true → failures.new ≡ failures.old }
+    ensures no_less { failures.old ≤ failures.new }
+{
+    if wants_memory(error) {
+        KeepFault::Memory
+    } else {
+        failed(failures)
+    }
+}
+
+/// What came of a statement that had to change one row.
+pub(crate) fn wrote_one(done: Result<usize, Error>, failures: &mut u64) -> Result<(), KeepFault>
+    ensures answer { result ≡ one_changed done }
+    ensures cause { IfErr result (HasCause (capped failures.old) (capped failures.new) Nowhere) }
+    ensures unfailed { OnOk result (failures.new ≡ failures.old) }
+    ensures no_less { failures.old ≤ failures.new }
+{
+    match done {
+        Ok(count) if count == 1 => Ok(()),
+        Ok(_) => Err(failed(failures)),
+        Err(error) => Err(blamed(error, failures)),
     }
 }

@@ -15,7 +15,7 @@ ghost use Rattle.store_tables.specs.Trust.{stays_on, trusted_first, trusted_last
 ghost use Rattle.store_tables.specs.RoomRows.{room_rows};
 
 use crate::columns::{columns_of, held_columns, name_is_kept, record_of, text_is_kept};
-use crate::fault::wants_memory;
+use crate::fault::{blamed, wrote_one};
 use crate::reading::number_of;
 use crate::recent::RecentLists;
 use crate::seen::{
@@ -72,11 +72,7 @@ fn put_held<S: Alter>(
     let list = held_columns(keeper.alloc, held)?;
     let done = update_held(keeper.tx, at, which, &list);
     drop(list);
-    match done {
-        Ok(count) if count == 1 => {}
-        Err(error) if wants_memory(error) => return Err(KeepFault::Memory),
-        _ => return Err(failed(&mut keeper.failures)),
-    }
+    wrote_one(done, &mut keeper.failures)?;
     count_one(&mut keeper.writes);
     Ok(())
 }
@@ -100,11 +96,7 @@ fn put_owners<S: Alter>(
     name_is_kept(&owners.owner);
     name_is_kept(&owners.group);
     let done = update_owners(keeper.tx, at, owners.owner.as_str(), owners.group.as_str());
-    match done {
-        Ok(count) if count == 1 => {}
-        Err(error) if wants_memory(error) => return Err(KeepFault::Memory),
-        _ => return Err(failed(&mut keeper.failures)),
-    }
+    wrote_one(done, &mut keeper.failures)?;
     count_one(&mut keeper.writes);
     Ok(())
 }
@@ -131,11 +123,7 @@ fn put_place<S: Alter>(
     };
     text_is_kept(name);
     let done = update_place(keeper.tx, at, under, name);
-    match done {
-        Ok(count) if count == 1 => {}
-        Err(error) if wants_memory(error) => return Err(KeepFault::Memory),
-        _ => return Err(failed(&mut keeper.failures)),
-    }
+    wrote_one(done, &mut keeper.failures)?;
     count_one(&mut keeper.writes);
     Ok(())
 }
@@ -160,11 +148,7 @@ fn put_inh<S: Alter>(
     let text = print_entries(keeper.alloc, entries)?;
     let done = update_inh(keeper.tx, at, which, text.as_str());
     drop(text);
-    match done {
-        Ok(count) if count == 1 => {}
-        Err(error) if wants_memory(error) => return Err(KeepFault::Memory),
-        _ => return Err(failed(&mut keeper.failures)),
-    }
+    wrote_one(done, &mut keeper.failures)?;
     count_one(&mut keeper.writes);
     Ok(())
 }
@@ -185,8 +169,7 @@ fn put_new<S: Alter>(keeper: &mut Keeper<'_, '_, S>, node: &Node) -> Result<u64,
     drop(columns);
     match done {
         Ok(_) => {}
-        Err(error) if wants_memory(error) => return Err(KeepFault::Memory),
-        Err(_) => return Err(failed(&mut keeper.failures)),
+        Err(error) => return Err(blamed(error, &mut keeper.failures)),
     }
     match number_of(ValueRef::Int(keeper.tx.last_insert_rowid())) {
         Some(id) => Ok(id),
@@ -216,8 +199,7 @@ fn put_bytes<S: Alter>(
     };
     match insert_bytes(keeper.tx, at, bytes) {
         Ok(_) => Ok(()),
-        Err(error) if wants_memory(error) => Err(KeepFault::Memory),
-        Err(_) => Err(failed(&mut keeper.failures)),
+        Err(error) => Err(blamed(error, &mut keeper.failures)),
     }
 }
 
@@ -237,8 +219,7 @@ fn put_record<S: Alter>(keeper: &mut Keeper<'_, '_, S>, row: &AuditRow) -> Resul
     drop(record);
     match done {
         Ok(_) => {}
-        Err(error) if wants_memory(error) => return Err(KeepFault::Memory),
-        Err(_) => return Err(failed(&mut keeper.failures)),
+        Err(error) => return Err(blamed(error, &mut keeper.failures)),
     }
     count_one(&mut keeper.writes);
     Ok(())
@@ -274,8 +255,7 @@ impl<'a, 'conn, S: Alter> Keep for Keeper<'a, 'conn, S> {
     fn root(&mut self) -> Result<Node, KeepFault> {
         let rows = match select_top(self.tx) {
             Ok(rows) => rows,
-            Err(error) if wants_memory(error) => return Err(KeepFault::Memory),
-            Err(_) => return Err(failed(&mut self.failures)),
+            Err(error) => return Err(blamed(error, &mut self.failures)),
         };
         let seen = see_only(self.alloc, self.lists, rows.as_slice())?;
         answer_top(seen, &mut self.failures)
@@ -284,8 +264,7 @@ impl<'a, 'conn, S: Alter> Keep for Keeper<'a, 'conn, S> {
     fn ids(&mut self) -> Result<Numbers, KeepFault> {
         let rows = match select_numbers(self.tx) {
             Ok(rows) => rows,
-            Err(error) if wants_memory(error) => return Err(KeepFault::Memory),
-            Err(_) => return Err(failed(&mut self.failures)),
+            Err(error) => return Err(blamed(error, &mut self.failures)),
         };
         let ids = see_numbers(self.alloc, rows.as_slice())?;
         Ok(ids)
@@ -297,8 +276,7 @@ impl<'a, 'conn, S: Alter> Keep for Keeper<'a, 'conn, S> {
         };
         let rows = match select_node(self.tx, at) {
             Ok(rows) => rows,
-            Err(error) if wants_memory(error) => return Err(KeepFault::Memory),
-            Err(_) => return Err(failed(&mut self.failures)),
+            Err(error) => return Err(blamed(error, &mut self.failures)),
         };
         let seen = see_only(self.alloc, self.lists, rows.as_slice())?;
         answer(seen, &mut self.failures)
@@ -310,8 +288,7 @@ impl<'a, 'conn, S: Alter> Keep for Keeper<'a, 'conn, S> {
         };
         let rows = match select_child(self.tx, at, name) {
             Ok(rows) => rows,
-            Err(error) if wants_memory(error) => return Err(KeepFault::Memory),
-            Err(_) => return Err(failed(&mut self.failures)),
+            Err(error) => return Err(blamed(error, &mut self.failures)),
         };
         let seen = see_only(self.alloc, self.lists, rows.as_slice())?;
         answer(seen, &mut self.failures)
@@ -323,8 +300,7 @@ impl<'a, 'conn, S: Alter> Keep for Keeper<'a, 'conn, S> {
         };
         let rows = match select_under(self.tx, at) {
             Ok(rows) => rows,
-            Err(error) if wants_memory(error) => return Err(KeepFault::Memory),
-            Err(_) => return Err(failed(&mut self.failures)),
+            Err(error) => return Err(blamed(error, &mut self.failures)),
         };
         let seen = see_all(self.alloc, self.lists, rows.as_slice())?;
         answer(seen, &mut self.failures)
@@ -336,8 +312,7 @@ impl<'a, 'conn, S: Alter> Keep for Keeper<'a, 'conn, S> {
         };
         let rows = match select_names(self.tx, at) {
             Ok(rows) => rows,
-            Err(error) if wants_memory(error) => return Err(KeepFault::Memory),
-            Err(_) => return Err(failed(&mut self.failures)),
+            Err(error) => return Err(blamed(error, &mut self.failures)),
         };
         let seen = see_listing(self.alloc, rows.as_slice())?;
         answer(seen, &mut self.failures)
@@ -349,8 +324,7 @@ impl<'a, 'conn, S: Alter> Keep for Keeper<'a, 'conn, S> {
         };
         match select_some(self.tx, at) {
             Ok(rows) => Ok(!rows.as_slice().is_empty()),
-            Err(error) if wants_memory(error) => Err(KeepFault::Memory),
-            Err(_) => Err(failed(&mut self.failures)),
+            Err(error) => Err(blamed(error, &mut self.failures)),
         }
     }
 
@@ -360,8 +334,7 @@ impl<'a, 'conn, S: Alter> Keep for Keeper<'a, 'conn, S> {
         };
         let rows = match select_bytes(self.tx, at) {
             Ok(rows) => rows,
-            Err(error) if wants_memory(error) => return Err(KeepFault::Memory),
-            Err(_) => return Err(failed(&mut self.failures)),
+            Err(error) => return Err(blamed(error, &mut self.failures)),
         };
         let seen = see_bytes(self.alloc, rows.as_slice())?;
         answer(seen, &mut self.failures)
@@ -372,8 +345,7 @@ impl<'a, 'conn, S: Alter> Keep for Keeper<'a, 'conn, S> {
         user.is_known();
         let rows = match select_groups(self.tx, user.as_str()) {
             Ok(rows) => rows,
-            Err(error) if wants_memory(error) => return Err(KeepFault::Memory),
-            Err(_) => return Err(failed(&mut self.failures)),
+            Err(error) => return Err(blamed(error, &mut self.failures)),
         };
         let names = see_names(self.alloc, rows.as_slice())?;
         Ok(names)
@@ -411,11 +383,7 @@ impl<'a, 'conn, S: Alter> Keep for Keeper<'a, 'conn, S> {
         let Some(at) = rowid_of(id) else {
             return Err(failed(&mut self.failures));
         };
-        match delete_node(self.tx, at) {
-            Ok(1) => {}
-            Err(error) if wants_memory(error) => return Err(KeepFault::Memory),
-            _ => return Err(failed(&mut self.failures)),
-        }
+        wrote_one(delete_node(self.tx, at), &mut self.failures)?;
         count_one(&mut self.writes);
         Ok(())
     }
@@ -424,11 +392,7 @@ impl<'a, 'conn, S: Alter> Keep for Keeper<'a, 'conn, S> {
         let Some(at) = rowid_of(id) else {
             return Err(failed(&mut self.failures));
         };
-        match update_bytes(self.tx, at, bytes) {
-            Ok(1) => {}
-            Err(error) if wants_memory(error) => return Err(KeepFault::Memory),
-            _ => return Err(failed(&mut self.failures)),
-        }
+        wrote_one(update_bytes(self.tx, at, bytes), &mut self.failures)?;
         count_one(&mut self.writes);
         Ok(())
     }

@@ -9,7 +9,7 @@ mod recent;
 mod seen;
 mod statements;
 
-pub use crate::fault::wants_memory;
+pub use crate::fault::{fault_for, wants_memory};
 pub use crate::keeper::Keeper;
 pub use crate::reading::{name_of, text_at, value_at};
 pub use crate::recent::RecentLists;

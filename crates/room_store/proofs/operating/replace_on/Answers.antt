@@ -1,10 +1,10 @@
-use Rattle.std.proofs.Common.{rules, ◌≡◌, refl, subst, IsTrue, OnOk}
+use Rattle.std.proofs.Common.{rules, ◌≡◌, subst, OnOk}
 use Rattle.sqlite.specs.Held.{state}
 use Rattle.store_admin.specs.Operating.{HasPairsAlone, ReplacesMembers}
 use Rattle.room_store.proofs.Exchanged.{of_rows, pairs_alone}
 use Rattle.room_store.specs.Premise.{StorePremise}
 use Rattle.room_store.specs.Ran.{Ran}
-use Rattle.room_store.proofs.Transact.{Begins, after, ran}
+use Rattle.room_store.proofs.Transact.{after, ran}
 use Rattle.room_store.proofs.operating.replace_on.Goals as goal
 
 pub returns : goal.returns
@@ -12,10 +12,9 @@ returns g c =
     let end = c.finish.new.tx.0 in
     let same : end ≡ c.conn-1.given.0 = search rules in
     let old = state g.S.Store c.args.conn.now in
-    let begun = state g.S.Store c.transaction-tx.result.conn.now in
+    let begun = state g.S.Store c.begin-tx.result.conn.now in
     let mid = state g.S.Store c.put_members-done.new.tx.conn.now in
-    let alone : IsTrue c.is_autocommit.result = search rules in
-    let begins : Begins old begun = rw c.transaction-tx.ensures.begun (record { now = refl; committed = refl; same_open = refl; same_clean = refl; mode = refl; settled = c.is_autocommit.ensures.settled alone; sound = λ open'. (c.schema-schema.ensures.live open').0 }) in
+    let begins = c.begin-tx.ensures.begun in
     let Step = ReplacesMembers c.args.pairs.now in
     let carries = c.put_members-done.ensures.carries in
     let whole = of_rows c.args.pairs.now begun mid c.put_members-done.result carries in

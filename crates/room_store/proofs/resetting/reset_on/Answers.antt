@@ -1,8 +1,8 @@
-use Rattle.std.proofs.Common.{rules, ◌≡◌, refl, subst, IsTrue}
+use Rattle.std.proofs.Common.{rules, ◌≡◌, subst}
 use Rattle.sqlite.specs.Held.{state}
 use Rattle.room_judge.specs.Judged.{Resets}
 use Rattle.room_store.specs.Ran.{HasDamage, Ran}
-use Rattle.room_store.proofs.Transact.{Begins, ran}
+use Rattle.room_store.proofs.Transact.{ran}
 use Rattle.room_store.proofs.resetting.reset_on.Goals as goal
 
 pub returns : goal.returns
@@ -10,10 +10,9 @@ returns g c =
     let end = c.finish.new.tx.0 in
     let same : end ≡ c.conn-1.given.0 = search rules in
     let old = state g.S.Store c.args.conn.now in
-    let begun = state g.S.Store c.transaction-tx.result.conn.now in
+    let begun = state g.S.Store c.begin-tx.result.conn.now in
     let mid = state g.S.Store c.reset_inside-done.new.tx.conn.now in
-    let alone : IsTrue c.is_autocommit.result = search rules in
-    let begins : Begins old begun = rw c.transaction-tx.ensures.begun (record { now = refl; committed = refl; same_open = refl; same_clean = refl; mode = refl; settled = c.is_autocommit.ensures.settled alone; sound = λ open'. (c.schema-schema.ensures.live open').0 }) in
+    let begins = c.begin-tx.ensures.begun in
     let Step = Resets c.args.path.now c.args.which c.args.sent.now in
     let done = ran old begun mid (state g.S.Store end) begins c.reset_inside-done.ensures.carries.stays c.finish.ensures.ended c.finish.ensures.clean HasDamage Step c.reset_inside-done.result c.finish.result c.reset_inside-done.ensures.carries c.finish.ensures.finishes in
     record { ran = subst (λ h. Ran old (state g.S.Store h) c.finish.result HasDamage Step) same done }

@@ -1,10 +1,10 @@
-use Rattle.std.proofs.Common.{rules, ◌≡◌, refl, subst, w64, IsTrue}
+use Rattle.std.proofs.Common.{rules, ◌≡◌, subst, w64}
 use Rattle.std.proofs.lemmas.Int.{to_z-of_z}
 use Rattle.std.specs.Option.{option_copied}
 use Rattle.sqlite.specs.Held.{state}
 use Rattle.room_judge.specs.Judged.{Performs}
 use Rattle.room_store.specs.Ran.{HasDamage, Ran}
-use Rattle.room_store.proofs.Transact.{Begins, ran}
+use Rattle.room_store.proofs.Transact.{ran}
 use Rattle.room_store.proofs.running.run_on.Goals as goal
 
 pub returns : goal.returns
@@ -12,10 +12,9 @@ returns g c =
     let end = c.finish.new.tx.0 in
     let same : end ≡ c.conn-1.given.0 = search rules in
     let old = state g.S.Store c.args.conn.now in
-    let begun = state g.S.Store c.transaction-tx.result.conn.now in
+    let begun = state g.S.Store c.begin-tx.result.conn.now in
     let mid = state g.S.Store c.perform_inside-done.new.tx.conn.now in
-    let alone : IsTrue c.is_autocommit.result = search rules in
-    let begins : Begins old begun = rw c.transaction-tx.ensures.begun (record { now = refl; committed = refl; same_open = refl; same_clean = refl; mode = refl; settled = c.is_autocommit.ensures.settled alone; sound = λ open'. (c.schema-schema.ensures.live open').0 }) in
+    let begins = c.begin-tx.ensures.begun in
     let Step = Performs (option_copied c.args.caller) c.args.at c.args.request.now in
     let done = subst (λ at. Ran old (state g.S.Store end) c.finish.result HasDamage (Performs (option_copied c.args.caller) at c.args.request.now)) (to_z-of_z w64 c.args.at c.ranges.at)
     (ran old begun mid (state g.S.Store end) begins c.perform_inside-done.ensures.carries.stays c.finish.ensures.ended c.finish.ensures.clean HasDamage _ c.perform_inside-done.result c.finish.result c.perform_inside-done.ensures.carries c.finish.ensures.finishes) in

@@ -1,9 +1,10 @@
-use Rattle.std.proofs.Common.{◌≡◌, refl, ap, subst, ◌∙◌, pos, arith, to_z, of_z, w64}
+use Rattle.std.proofs.Common.{◌≡◌, ap, subst, ◌∙◌, pos, to_z, of_z, w64}
 use Rattle.std.proofs.Math.Facts.{to_z-of_z}
 use Rattle.std.specs.Prelude.{string_bytes}
 use Rattle.sqlite.specs.Held.{state}
 use Rattle.store_tables.specs.RoomRows.{number_in-low}
 use Rattle.store_tables.specs.Shown.{Recasts, holding}
+use Rattle.store_tables.proofs.Changed.{of_one}
 use Rattle.store_tables.proofs.Altered.{held_rows}
 use Rattle.store_tables.proofs.keeper.put_held.Goals as goal
 
@@ -16,10 +17,10 @@ returns-clause-puts g c =
     let at : to_z w64 (of_z w64 c.in-Some.at) ≡ pos c.args.id = ap (λ z. to_z w64 (of_z w64 z)) c.in-Some.ensures.1 ∙ to_z-of_z c.in-Some.ensures.0 in
     record {
       stays = c.update_held-done.ensures.writes.stays;
-      no_less = omega arith;
-      unfailed = refl;
+      no_less = c.in_ok-wrote_one.ensures.no_less;
+      unfailed = c.in_ok-wrote_one.ensures.unfailed;
       fault = tt;
       becomes = λ trust.
-          let put = c.in-Ok.ensures.writes.leaves trust.clean trust.now c.if-count-eq1.true in
+          let put = of_one c.update_held-done.result _ _ c.in_ok-wrote_one.ensures.answer (c.update_held-done.ensures.writes.leaves trust.clean trust.now) in
           held_rows old.now new.now c.args.id trust.now (number_in-low c.args.id c.in-Some.ensures.2) c.args.which list.flags (string_bytes list.own) (string_bytes list.inh) c.args.held.now stores.flags stores.own stores.inh (subst (λ z. Recasts (holding c.args.which list.flags (string_bytes list.own) (string_bytes list.inh)) z old.now.trees new.now.trees) at put);
     }

@@ -1,10 +1,11 @@
-use Rattle.std.proofs.Common.{◌≡◌, Some, refl, sym, ap, subst, ◌∙◌, pos, arith, to_z, of_z, w64}
+use Rattle.std.proofs.Common.{◌≡◌, Some, sym, ap, subst, ◌∙◌, pos, to_z, of_z, w64}
 use Rattle.std.proofs.Math.Facts.{to_z-of_z}
 use Rattle.sqlite.specs.declared.types.Value.TheVariants.{Int}
 use Rattle.store_tables.specs.Meaning.{parent_in}
 use Rattle.sqlite.specs.Held.{state}
 use Rattle.store_tables.specs.RoomRows.{number_in-low}
 use Rattle.store_tables.specs.Shown.{Recasts, lying}
+use Rattle.store_tables.proofs.Changed.{of_one}
 use Rattle.store_tables.proofs.Altered.{placed_rows}
 use Rattle.store_tables.proofs.keeper.put_place.Goals as goal
 
@@ -17,10 +18,10 @@ returns-clause-puts g c =
     let at : to_z w64 (of_z w64 c.in-Some.at) ≡ pos c.args.id = ap (λ z. to_z w64 (of_z w64 z)) c.in-Some.ensures.1 ∙ to_z-of_z c.in-Some.ensures.0 in
     record {
       stays = c.update_place-done.ensures.writes.stays;
-      no_less = omega arith;
-      unfailed = refl;
+      no_less = c.in_ok-wrote_one.ensures.no_less;
+      unfailed = c.in_ok-wrote_one.ensures.unfailed;
       fault = tt;
       becomes = λ trust.
-          let put = c.in-Ok.ensures.writes.leaves trust.clean trust.now c.if-count-eq1.true in
+          let put = of_one c.update_place-done.result _ _ c.in_ok-wrote_one.ensures.answer (c.update_place-done.ensures.writes.leaves trust.clean trust.now) in
           placed_rows old.now new.now c.args.id trust.now (number_in-low c.args.id c.in-Some.ensures.2) (to_z w64 (of_z w64 c.in-Some-rowid_of.under)) c.args.name.now c.args.parent c.args.name.now lies c.text_is_kept.ensures (subst (λ z. Recasts (lying (to_z w64 (of_z w64 c.in-Some-rowid_of.under)) c.args.name.now) z old.now.trees new.now.trees) at put);
     }

@@ -1,4 +1,4 @@
-use Rattle.std.proofs.Common.{◌≡◌, ℕ, List, pos, sym, ap, subst, ◌∙◌, arith}
+use Rattle.std.proofs.Common.{◌≡◌, ℕ, List, pos, sym, ap, subst, ◌∙◌, arith, rules}
 use Rattle.sqlite.specs.Held.{state}
 use Rattle.room_entry.specs.Valid.{is_document}
 use Rattle.room_rows.specs.declared.node.Node.{Node}
@@ -36,3 +36,10 @@ returns g c =
         fault = tt;
       };
     }
+
+pub returns-in_err-done : goal.returns-in_err-done
+returns-in_err-done g c =
+    let first = c.in_ok-id.ensures in
+    let second = c.in_err-done.ensures in
+    let stays = stays_on (state g.S.Store c.args.self.now.tx.now.conn.now) (state g.S.Store c.put_new.new.keeper.tx.now.conn.now) (state g.S.Store c.put_bytes-done.new.keeper.tx.now.conn.now) first.puts.stays second.puts.stays in
+    search (rules, stays)

@@ -1,9 +1,11 @@
-use Rattle.std.proofs.Common.{◌≡◌, refl, ap, subst, ◌∙◌, pos, arith}
+use Rattle.std.proofs.Common.{◌≡◌, refl, ap, subst, ◌∙◌, pos}
 use Rattle.std.proofs.Common.{to_z, of_z, w64}
 use Rattle.std.proofs.Math.Facts.{to_z-of_z}
 use Rattle.sqlite.specs.Held.{state}
+use Rattle.room_rows.specs.Keep.{capped}
 use Rattle.store_tables.specs.Shown.{RemovesRow}
 use Rattle.store_tables.proofs.Removed.{removed_rows}
+use Rattle.store_tables.proofs.Changed.{of_one}
 use Rattle.store_tables.proofs.keeper.KeeperKeep.remove.Goals as goal
 
 pub returns : goal.returns
@@ -13,10 +15,10 @@ returns g c =
     let at : to_z w64 (of_z w64 c.in-Some.at) ≡ pos c.args.id = ap (λ z. to_z w64 (of_z w64 z)) c.in-Some.ensures.1 ∙ to_z-of_z c.in-Some.ensures.0 in
     record {
       written = record {
-        follows = (refl, c.in-Ok-eq1.ensures.same_reference, c.in-Ok-eq1.ensures.writes.stays, omega arith);
+        follows = (refl, c.delete_node.ensures.same_reference, c.delete_node.ensures.writes.stays, c.in_ok-wrote_one.ensures.no_less);
         written = c.count_one.ensures.capped;
-        becomes = λ trust can. let gone = c.in-Ok-eq1.ensures.writes.leaves trust.clean trust.now c.in-Ok-eq1.field-0-test in removed_rows old.now new.now c.args.id trust.now (subst (λ z. RemovesRow z old.now.trees new.now.trees) at gone) can;
-        unfailed = refl;
+        becomes = λ trust can. let gone = of_one c.delete_node.result _ _ c.in_ok-wrote_one.ensures.answer (c.delete_node.ensures.writes.leaves trust.clean trust.now) in removed_rows old.now new.now c.args.id trust.now (subst (λ z. RemovesRow z old.now.trees new.now.trees) at gone) can;
+        unfailed = ap capped c.in_ok-wrote_one.ensures.unfailed;
         fault = tt;
       };
     }

@@ -1,8 +1,10 @@
-use Rattle.std.proofs.Common.{◌≡◌, refl, ap, subst, ◌∙◌, pos, arith, to_z, of_z, w64}
+use Rattle.std.proofs.Common.{◌≡◌, refl, ap, subst, ◌∙◌, pos, to_z, of_z, w64}
 use Rattle.std.proofs.Math.Facts.{to_z-of_z}
 use Rattle.sqlite.specs.Held.{state}
+use Rattle.room_rows.specs.Keep.{capped}
 use Rattle.store_tables.specs.Shown.{Fills}
 use Rattle.store_tables.proofs.Filling.{filled_rows}
+use Rattle.store_tables.proofs.Changed.{of_one}
 use Rattle.store_tables.proofs.keeper.KeeperKeep.set_body.Goals as goal
 
 pub returns : goal.returns
@@ -12,12 +14,12 @@ returns g c =
     let at : to_z w64 (of_z w64 c.in-Some.at) ≡ pos c.args.id = ap (λ z. to_z w64 (of_z w64 z)) c.in-Some.ensures.1 ∙ to_z-of_z c.in-Some.ensures.0 in
     record {
       written = record {
-        follows = (refl, c.in-Ok-eq1.ensures.same_reference, c.in-Ok-eq1.ensures.writes.stays, omega arith);
+        follows = (refl, c.update_bytes.ensures.same_reference, c.update_bytes.ensures.writes.stays, c.in_ok-wrote_one.ensures.no_less);
         written = c.count_one.ensures.capped;
         becomes = λ trust document.
-            let put = c.in-Ok-eq1.ensures.writes.leaves trust.clean trust.now c.in-Ok-eq1.field-0-test in
+            let put = of_one c.update_bytes.result _ _ c.in_ok-wrote_one.ensures.answer (c.update_bytes.ensures.writes.leaves trust.clean trust.now) in
             filled_rows old.now new.now c.args.id c.args.bytes.now trust.now c.in-Some.ensures.2 (subst (λ z. Fills z c.args.bytes.now old.now.trees new.now.trees) at put);
-        unfailed = refl;
+        unfailed = ap capped c.in_ok-wrote_one.ensures.unfailed;
         fault = tt;
       };
     }
