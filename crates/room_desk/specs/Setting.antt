@@ -108,17 +108,19 @@ stored_held which sent kind parent = record {
 
 -- ---- stored
 
--- the object has this list, which is carried down where it passes entries on
-pub record IsWrittenDown (which : Which) (id : ℕ) (held : Held) (old : Rows) (answer : Unit {0})
-    (new : Rows) : Type 0 where
+-- The object has this list. Where it stood in the rows, the list is carried down if it passes
+-- entries on.
+pub record IsWrittenDown (which : Which) (node : Node) (held : Held) (old : Rows)
+    (answer : Unit {0}) (new : Rows) : Type 0 where
   pub mid : Rows
-  pub writes : Changes id (with_held which held) old mid
-  pub goes : GoesDown held.flags.auto which id mid new
+  pub writes : Changes node.id (with_held which held) old mid
+  pub goes : node_at old.read node.id ≡ Some node
+      → GoesDown held.flags.auto which node.id mid new
 
 -- the object had this list already, or has it now
 abbrev pub Stores : Which → Node → Held → Rows → Unit {0} → Rows → Type 0
 Stores which node held old answer new =
-    ((held ≡ held_of which node) × (new ≡ old)) ⊎ IsWrittenDown which node.id held old answer new
+    ((held ≡ held_of which node) × (new ≡ old)) ⊎ IsWrittenDown which node held old answer new
 
 -- ---- the whole
 

@@ -1,11 +1,12 @@
 //! A change of a list carried down.
 ghost use Rattle.std.specs.Prelude.{◌≡◌};
 ghost use Rattle.room_judge.specs.Judged.{Does};
-ghost use Rattle.room_desk.specs.Carrying.{HasLoop, IsCarriedDown, keeper_fault};
+ghost use Rattle.room_desk.specs.Carrying.{HasLoop, HasLoopFrom, IsCarriedDown, IsCarriedFrom};
+ghost use Rattle.room_desk.specs.Carrying.{keeper_fault};
 
 use room_ace::Which;
-use room_inherit::{SpreadFault, spread};
-use room_rows::{Keep, KeepFault};
+use room_inherit::{SpreadFault, spread, spread_from};
+use room_rows::{Keep, KeepFault, Node};
 use std::alloc::Global;
 
 /// Carries a change of a list down from the object. Where that is its own ancestor, the error is
@@ -22,6 +23,23 @@ pub(crate) fn carry_below<K: Keep>(
     match outcome {
         Ok(_) => Ok(()),
         Err(fault) => Err(keeper_fault(id, fault)),
+    }
+}
+
+/// The same from an object that was read, and stands so in the rows.
+pub(crate) fn carry_from<K: Keep>(
+    alloc: Global,
+    keep: &mut K,
+    start: &Node,
+    which: Which,
+) -> Result<(), KeepFault>
+    ensures done { Does K.Keep keep.old keep.new result (HasLoopFrom start.now)
+        (IsCarriedFrom which start.now) }
+{
+    let outcome = spread_from(alloc, keep, start, which);
+    match outcome {
+        Ok(_) => Ok(()),
+        Err(fault) => Err(keeper_fault(start.id, fault)),
     }
 }
 

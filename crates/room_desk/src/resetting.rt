@@ -2,7 +2,7 @@
 ghost use Rattle.std.specs.Option.{option_copied};
 ghost use Rattle.room_rows.specs.Keep.{IsDamaged};
 ghost use Rattle.room_judge.specs.Judged.{Does, Resets};
-ghost use Rattle.room_desk.specs.Carrying.{IsUnreadableIfRooted};
+ghost use Rattle.room_desk.specs.Carrying.{IsUnreadableIfHeld};
 ghost use Rattle.room_desk.specs.Setting.{Beneath, IsResetAtEnd};
 
 use crate::setting::set_found;
@@ -48,7 +48,7 @@ fn reset_at_end<K: Keep>(
     which: Which,
     sent: &SentList,
 ) -> Result<Reply, KeepFault>
-    ensures done { Does K.Keep keep.old keep.new result (IsUnreadableIfRooted last.now.id)
+    ensures done { Does K.Keep keep.old keep.new result (IsUnreadableIfHeld last.now)
         (Beneath (option_copied above.entry) last.now
         (IsResetAtEnd path.now which sent.now last.now rest)) }
 {

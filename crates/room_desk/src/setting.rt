@@ -1,10 +1,10 @@
 //! The request that sets a list.
 ghost use Rattle.std.specs.Prelude.{◌≡◌, ◌↔◌, IfOk, IsTrue, []};
 ghost use Rattle.std.specs.Option.{option_copied};
-ghost use Rattle.room_rows.specs.Held.{held_of};
+ghost use Rattle.room_rows.specs.Held.{held_of, with_held};
 ghost use Rattle.room_rows.specs.Keep.{IsDamaged};
 ghost use Rattle.room_judge.specs.Judged.{CarriesOut, Does};
-ghost use Rattle.room_desk.specs.Carrying.{IsUnreadableIfRooted};
+ghost use Rattle.room_desk.specs.Carrying.{HasLoopFrom, IsCarriedFrom, IsUnreadableIfHeld};
 ghost use Rattle.room_desk.specs.Setting.{
   Beneath,
   FailsToSet,
@@ -23,7 +23,7 @@ ghost use Rattle.room_desk.specs.Setting.{
 };
 ghost use Rattle.room_machine.specs.declared.request.Request.TheVariants.{SetList};
 
-use crate::carrying::carry_below;
+use crate::carrying::carry_from;
 use room_ace::{Entries, Entry, ListFlags, Mask, ObjKind, SentList, Which, first_bad_entry};
 use room_inherit::pass;
 use room_judge::{Asker, Found, Pair, check, refused, walk_to_pair};
@@ -107,7 +107,7 @@ pub(crate) fn set_found<K: Keep>(
     which: Which,
     sent: &SentList,
 ) -> Result<Reply, KeepFault>
-    ensures done { Does K.Keep keep.old keep.new result (IsUnreadableIfRooted node.now.id)
+    ensures done { Does K.Keep keep.old keep.new result (IsUnreadableIfHeld node.now)
         (Beneath (option_copied above.entry) node.now
         (IsSetOrRefused path.now which sent.now node.now)) }
 {
@@ -144,7 +144,7 @@ fn set_at<K: Keep>(
     which: Which,
     sent: &SentList,
 ) -> Result<(), KeepFault>
-    ensures done { Does K.Keep keep.old keep.new result (IsUnreadableIfRooted node.now.id)
+    ensures done { Does K.Keep keep.old keep.new result (IsUnreadableIfHeld node.now)
         (Beneath (option_copied above.entry) node.now
         (λ old _ new. IsSet which sent.now node.now old new)) }
     ensures quiet { IsStored which sent.now node.now (option_copied above.entry) → IfOk result
@@ -163,7 +163,7 @@ fn store_list<K: Keep>(
     sent: &SentList,
     inh: &Entries,
 ) -> Result<(), KeepFault>
-    ensures done { Does K.Keep keep.old keep.new result (IsUnreadableIfRooted node.now.id)
+    ensures done { Does K.Keep keep.old keep.new result (IsUnreadableIfHeld node.now)
         (Stores which node.now (held_with sent.now inh.now)) }
     ensures quiet { held_with sent.now inh.now ≡ held_of which node.now → IfOk result
         (λ _. K.writes keep.new ≡ K.writes keep.old) }
@@ -173,43 +173,60 @@ fn store_list<K: Keep>(
     if is_same_list(node.held(which), flags, &own, inh) {
         return Ok(());
     }
-    write_parts(alloc, keep, node.id, which, flags, own, inh)
+    write_parts(alloc, keep, node, which, flags, own, inh)
 }
 
 // Writes the list of these flags and entries.
 fn write_parts<K: Keep>(
     alloc: Global,
     keep: &mut K,
-    id: u64,
+    node: &Node,
     which: Which,
     flags: ListFlags,
     own: Entries,
     inh: &Entries,
 ) -> Result<(), KeepFault>
-    ensures done { Does K.Keep keep.old keep.new result (IsUnreadableIfRooted id)
-        (IsWrittenDown which id (list_of flags own inh.now)) }
+    ensures done { Does K.Keep keep.old keep.new result (IsUnreadableIfHeld node.now)
+        (IsWrittenDown which node.now (list_of flags own inh.now)) }
 {
     let held = Held::new(flags, own, inh.as_slice())?;
-    write_list(alloc, keep, id, which, &held)
+    write_list(alloc, keep, node, which, held)
 }
 
 // Writes the list, and carries it down where it passes entries on.
 fn write_list<K: Keep>(
     alloc: Global,
     keep: &mut K,
-    id: u64,
+    node: &Node,
     which: Which,
-    held: &Held,
+    held: Held,
 ) -> Result<(), KeepFault>
-    ensures done { Does K.Keep keep.old keep.new result (IsUnreadableIfRooted id)
-        (IsWrittenDown which id held.now) }
+    ensures done { Does K.Keep keep.old keep.new result (IsUnreadableIfHeld node.now)
+        (IsWrittenDown which node.now held) }
 {
-    keep.set_held(id, which, held)?;
+    keep.set_held(node.id, which, &held)?;
     if held.flags().auto {
-        carry_below(alloc, keep, id, which)
+        carry_on(alloc, keep, node, which, held)
     } else {
         Ok(())
     }
+}
+
+// Carries the list down that the object has now.
+fn carry_on<K: Keep>(
+    alloc: Global,
+    keep: &mut K,
+    node: &Node,
+    which: Which,
+    held: Held,
+) -> Result<(), KeepFault>
+    ensures done { Does K.Keep keep.old keep.new result
+        (HasLoopFrom (with_held which held node.now))
+        (IsCarriedFrom which (with_held which held node.now)) }
+{
+    let mut start = node.copy()?;
+    start.set_held(which, held);
+    carry_from(alloc, keep, &start, which)
 }
 
 // Whether a list has these flags and entries.

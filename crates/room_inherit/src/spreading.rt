@@ -10,8 +10,9 @@ use std::alloc::Global;
 
 /// Brings the stored inherited entries below the object up to date, for one of the lists: each
 /// object that is linked there, through linked ones, stores what its parent's list passes to it. An
-/// object that stores it already isn't written, and nothing below it is read. The error is `Loop`
-/// where the object is its own ancestor, and else the keeper's.
+/// object that stores it already isn't written, and nothing below it is read. Nothing is read below
+/// a document either, since nothing lies there in sound rows. The error is `Loop` where the object
+/// is its own ancestor, and else the keeper's.
 pub fn spread<K: Keep>(
     alloc: Global,
     keep: &mut K,
@@ -45,8 +46,8 @@ pub fn spread_from<K: Keep>(
 
 /// Brings the stored inherited entries of every linked object up to date, for both lists, from the
 /// root down. Before, the first six tests of `verify` have to find no fault; it is enough that the
-/// rows are a tree: one object has no parent, and the parents of each lead to it. `changed` counts
-/// the lists that changed. The error is never `Loop`.
+/// rows are a tree: one object has no parent, each other one stands in a folder, and the parents of
+/// each lead to it. `changed` counts the lists that changed. The error is never `Loop`.
 pub fn spread_all<K: Keep>(alloc: Global, keep: &mut K) -> Result<Spread, SpreadFault>
     ensures spread { SpreadsAll K.Keep keep.old keep.new result }
 {

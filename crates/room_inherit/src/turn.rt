@@ -14,8 +14,8 @@ use room_rows::{Keep, Node};
 use std::alloc::{AllocError, Global};
 
 /// Renews the outdated children of an object, answers how many they are, and adds the folders that
-/// it goes on to after the ones that wait. The error is `Loop` where the object at which it began is
-/// among the linked children, before anything is written.
+/// it goes on to after the ones that wait. The error is `Loop` where the object at which it began
+/// is among the linked children, before anything is written.
 pub(crate) fn visit<K: Keep>(
     alloc: Global,
     keep: &mut K,

@@ -2,13 +2,15 @@
 use Rattle.std.proofs.Common.{◌≡◌, ℕ, Ok, Err, refl, sym, subst, inl, inr}
 use Rattle.room_entry.specs.declared.object.Which.{Which}
 use Rattle.room_rows.specs.declared.keep.KeepFault.{KeepFault}
-use Rattle.room_rows.specs.Keep.{IsUnreadable}
+use Rattle.room_rows.specs.declared.keep.KeepFault.TheVariants.{Memory, Store, Damaged}
+use Rattle.room_rows.specs.declared.node.Node.{Node}
+use Rattle.room_rows.specs.Keep.{HasCause, IsUnreadable}
 use Rattle.room_rows.specs.Rows.{Rows}
-use Rattle.room_inherit.specs.Spread.{IsCarried, IsOwnAncestor, IsSpread}
+use Rattle.room_inherit.specs.Spread.{HasSpreadCause, Holds, IsCarried, IsOwnAncestor, IsSpread}
 use Rattle.room_inherit.specs.declared.outcome.Spread.{Spread}
 use Rattle.room_inherit.specs.declared.outcome.SpreadFault.{SpreadFault}
 use Rattle.room_inherit.specs.declared.outcome.SpreadFault.TheVariants.{Keeper, Loop}
-use Rattle.room_desk.specs.Carrying.{HasLoop, IsCarriedDown, keeper_fault}
+use Rattle.room_desk.specs.Carrying.{HasLoop, HasLoopFrom, IsCarriedDown, IsCarriedFrom, keeper_fault}
 use Rattle.room_judge.specs.Judged.{IsDone}
 use Rattle.room_judge.proofs.Calls.{as_well}
 
@@ -26,3 +28,24 @@ module _ {S : Type 0} {rows : S → Rows} {failures writes : S → ℕ} {Follows
   carried_err Loop e is carried =
       let known : IsDone rows failures Follows IsTrusted {X = Unit {0}} a b (Err (keeper_fault id Loop)) (HasLoop id) (IsCarriedDown which id) = record { follows = carried.follows; becomes = λ t. tt; fault = λ t. inr (refl, carried.fault t) } in
       subst (λ (k : KeepFault). IsDone rows failures Follows IsTrusted {X = Unit {0}} a b (Err k) (HasLoop id) (IsCarriedDown which id)) (sym is) known
+
+-- the same from an object, where it stands so in the rows
+module _ {S : Type 0} {rows : S → Rows} {failures writes : S → ℕ} {Follows IsTrusted : S → S → Type 0} {a b : S} (which : Which) (start : Node) where
+  pub given_ok : (spread : Spread) → IsCarried rows failures writes Follows (λ first last. IsTrusted first last × Holds start (rows first)) {X = Spread} (λ spread. spread.changed) a b (Ok spread) (λ r. IsOwnAncestor r.read start.id) (λ old spread new. IsSpread which start.id old new spread.changed)
+      → IsDone rows failures Follows IsTrusted {X = Unit {0}} a b (Ok tt) (HasLoopFrom start) (IsCarriedFrom which start)
+  given_ok spread carried = record { follows = carried.follows; becomes = λ t there. (spread.changed, carried.becomes (t, there)); fault = tt }
+
+  pub given_err : (fault : SpreadFault) (e : KeepFault) → e ≡ keeper_fault start.id fault → IsCarried rows failures writes Follows (λ first last. IsTrusted first last × Holds start (rows first)) {X = Spread} (λ spread. spread.changed) a b (Err fault) (λ r. IsOwnAncestor r.read start.id) (λ old spread new. IsSpread which start.id old new spread.changed)
+      → IsDone rows failures Follows IsTrusted {X = Unit {0}} a b (Err e) (HasLoopFrom start) (IsCarriedFrom which start)
+  given_err fault e is carried =
+      subst (λ (k : KeepFault). IsDone rows failures Follows IsTrusted {X = Unit {0}} a b (Err k) (HasLoopFrom start) (IsCarriedFrom which start)) (sym is) (record { follows = carried.follows; becomes = λ t. tt; fault = cause fault carried.fault })
+    where
+      kept : (f : KeepFault) → HasCause (failures a) (failures b) (λ at. IsTrusted a b × Holds start (rows a) → IsUnreadable (rows a) at) f → HasCause (failures a) (failures b) (λ at. IsTrusted a b → HasLoopFrom start (rows a) at) f
+      kept Memory h = h
+      kept Store h = h
+      kept (Damaged id) h = λ t there. inl (h (t, there))
+
+      cause : (fault : SpreadFault) → HasSpreadCause (failures a) (failures b) (λ at. IsTrusted a b × Holds start (rows a) → IsUnreadable (rows a) at) (IsTrusted a b × Holds start (rows a) → IsOwnAncestor (rows a).read start.id) fault
+          → HasCause (failures a) (failures b) (λ at. IsTrusted a b → HasLoopFrom start (rows a) at) (keeper_fault start.id fault)
+      cause (Keeper f) h = kept f h
+      cause Loop h = λ t there. inr (refl, h (t, there))

@@ -31,7 +31,7 @@ use Rattle.room_judge.specs.Spot.{IsPaired}
 use Rattle.room_judge.proofs.Folders.{pair_reached}
 use Rattle.room_judge.proofs.Ways.{not_reached, reaches_with, root_reached}
 use Rattle.room_machine.specs.Plan.{Check, Item, bad_list, plan_of, way, where_found}
-use Rattle.room_desk.specs.Carrying.{IsRooted, IsUnreadableIfRooted}
+use Rattle.room_desk.specs.Carrying.{IsRooted, IsUnreadableIfHeld}
 use Rattle.room_desk.proofs.Sound.Blamed.{noted_unread}
 use Rattle.room_desk.proofs.Moves.MovingPlan.{along_noted}
 use Rattle.room_desk.proofs.Sound.RootedWays.{rooted_along}
@@ -118,10 +118,10 @@ module _ (asker : Asker) (path : List (List ℕ)) (which : Which) (sent : Sent) 
     pub set_done : (new : Rows) (reply : Reply) → IsSetOrRefused path which sent node mid reply new → CarriesOut asker (SetList path which sent) old reply new
     set_done new reply said = on_faults (first_bad_entry 1 which node.kind sent.entries) new reply refl said said.replies said.becomes
 
-    pub set_blames : (at : ℕ) → IsUnreadableIfRooted node.id mid at → IsDamaged old at
+    pub set_blames : (at : ℕ) → IsUnreadableIfHeld node mid at → IsDamaged old at
     set_blames at fails =
         let rooted : IsRooted node.id (noted old records) = rooted_along (noted old records) are.numbers path path node (ap (λ sites. site_at sites path) (along_noted old.read records path) ∙ reached.found) in
-        noted_unread old mid records at reached.judged.notes (fails (subst (IsRooted node.id) (sym reached.judged.notes) rooted))
+        noted_unread old mid records at reached.judged.notes (fails there_mid (subst (IsRooted node.id) (sym reached.judged.notes) rooted))
       where
         records : List AuditRow
         records = records_of_plan asker.caller asker.at (to_stored old.read path (CheckAt (write_acl ∷ [])))
@@ -144,7 +144,7 @@ module _ (asker : Asker) (path : List (List ℕ)) (which : Which) (sent : Sent) 
         let reached = checked end bits refusal None same comes judged in
         set_done asker path which sent old end target.node found.are reached new reply (said (ap (λ (r : Rows). parent_of r.read target.node) reached.judged.notes ∙ found.parent))
 
-    pub allowed_blames : (at : ℕ) → IsUnreadableIfRooted target.node.id end at → IsDamaged old at
+    pub allowed_blames : (at : ℕ) → IsUnreadableIfHeld target.node end at → IsDamaged old at
     allowed_blames at fails = set_blames asker path which sent old end target.node found.are (checked end bits refusal None same comes judged) at fails
 
 -- ---- where the walk comes to

@@ -24,9 +24,9 @@ use Rattle.room_machine.specs.Effect.{effect}
 use Rattle.room_machine.specs.Judge.{first_failure, or_else}
 use Rattle.room_judge.specs.Judged.{Resets}
 use Rattle.room_machine.specs.Plan.{Item, Check, Deletion, Refusal, bad_list, plan_of, way, where_found}
-use Rattle.room_desk.specs.Carrying.{IsRooted, IsUnreadableIfRooted}
+use Rattle.room_desk.specs.Carrying.{IsRooted, IsUnreadableIfHeld}
 use Rattle.room_desk.proofs.Sound.Blamed.{unread_damaged}
-use Rattle.room_desk.proofs.Sound.RootedWays.{above_end, rooted_last}
+use Rattle.room_desk.proofs.Sound.RootedWays.{above_end, rooted_last, stands_last}
 use Rattle.room_desk.specs.Setting.{Beneath, IsResetAtEnd, IsSetOrRefused, SetUnless, reason_of}
 use Rattle.room_machine.specs.Site.{Site, site_at, sites_along}
 use Rattle.room_machine.specs.Step.{answered, is_refusal, reset}
@@ -132,5 +132,7 @@ module _ (path : List (List ℕ)) (which : Which) (sent : Sent) (old mid : Rows)
       let came = came_to old are sound path which sent walk front last is chain in
       at_end old are sound path which sent last new reply walk.rest came.stands came.comes (subst (λ (r : Rows). IsResetAtEnd path which sent last walk.rest r reply new) same said) sound
 
-  pub reset_blames : (at : ℕ) → AreRows old → IsUnreadableIfRooted last.id mid at → IsDamaged old at
-  reset_blames at are fails = unread_damaged old mid at same (fails (subst (IsRooted last.id) (sym same) (rooted_last old are.numbers path walk front last is chain)))
+  pub reset_blames : (at : ℕ) → AreRows old → IsUnreadableIfHeld last mid at → IsDamaged old at
+  reset_blames at are fails =
+      unread_damaged old mid at same
+      (fails (ap (λ (r : Rows). node_at r.read last.id) same ∙ stands_last old are.numbers path walk front last is chain) (subst (IsRooted last.id) (sym same) (rooted_last old are.numbers path walk front last is chain)))

@@ -195,7 +195,7 @@ module _ (which : Which) (sent : Sent) (node : Node) (inh : List Ace) (old new :
 
   pub well_stored : Stores which node held old tt new → IsSet which sent node old new
   well_stored (inl stays) there valid few sound = set_same which sent node old are there sound held stored valid few new stays.0 stays.1
-  well_stored (inr written) there valid few sound = on sent.flags.auto refl written.goes
+  well_stored (inr written) there valid few sound = on sent.flags.auto refl (written.goes there)
     where
       on : (t : Bool) → sent.flags.auto ≡ t → GoesDown t which node.id written.mid new → IsSetWell which sent node old new
       on true is goes = set_spread which sent node old are there sound held stored valid few written.mid new goes.0 (written.writes node there) goes.1

@@ -140,6 +140,10 @@ rooted_along rows rises path at node is = rooted_up rows rises node (up_along ro
 pub rooted_last : (rows : Rows) → Rises rows.read → (path : List (List ℕ)) (walk : Walk) (front : List Node) (last : Node) → walk ≡ walk_of rows.read path → walk.chain ≡ front ++ last ∷ [] → IsRooted last.id rows
 rooted_last rows rises path walk front last is chain = rooted_up rows rises last (last_up rows.read rises path front last (sym (ap (λ (w : Walk). w.chain) is) ∙ chain))
 
+-- and it stands so in the rows
+pub stands_last : (rows : Rows) → Rises rows.read → (path : List (List ℕ)) (walk : Walk) (front : List Node) (last : Node) → walk ≡ walk_of rows.read path → walk.chain ≡ front ++ last ∷ [] → node_at rows.read last.id ≡ Some last
+stands_last rows rises path walk front last is chain = (last_up rows.read rises path front last (sym (ap (λ (w : Walk). w.chain) is) ∙ chain)).there
+
 -- a walk that finds nothing
 pub no_walk : (path : List (List ℕ)) (old : Rows) (walk : Walk) → walk ≡ walk_of old.read path → walk.chain ≡ [] → IsDamaged old 0
 no_walk path old walk is none = on (root_of old.read) refl (sym (ap (λ (w : Walk). w.chain) is) ∙ none)

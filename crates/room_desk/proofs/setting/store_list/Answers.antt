@@ -22,7 +22,7 @@ returns g c =
     let sent = list_sent c.args.sent.now c.flags-flags.result c.in_ok-own.own c.args.inh.now c.flags-flags.ensures c.in_ok-own.ensures in
     record {
       done = tail m.laws (none_done m.laws c.args.keep.now) c.write_parts.ensures.done
-          (λ old mid at same h. fails_before c.args.node.now.id old mid at same h)
-          (λ old mid x new same written. inr (written_as c.args.which c.args.node.now.id (list_of c.flags-flags.result c.in_ok-own.own c.args.inh.now) _ old mid new sent same written));
+          (λ old mid at same h. fails_before c.args.node.now old mid at same h)
+          (λ old mid x new same written. inr (written_as c.args.which c.args.node.now (list_of c.flags-flags.result c.in_ok-own.own c.args.inh.now) _ old mid new sent same written));
       quiet = λ same. absurd (false≢true (sym c.if-is_same_list.false ∙ c.is_same_list.ensures.1 (sent ∙ same ∙ sym c.held.ensures)));
     }
