@@ -1,6 +1,7 @@
 -- What a message asks, or the first of its tests that fails (own). Tests 1 to 4 work on the stream.
 use Rattle.std.specs.Prelude.{ℕ, List, [], ◌∷◌, Option, Some, None, Result, Ok, Err, if◌then◌else◌}
 use Rattle.std.specs.Prelude.{codes}
+use Rattle.serde_json.specs.Data.{Data}
 use Rattle.room_entry.specs.Names.{is_name, name_of}
 use Rattle.room_entry.specs.Letters.{read_mask_of}
 use Rattle.room_ace.specs.Lists.{sent_of}
@@ -18,7 +19,7 @@ use Rattle.http_message.specs.Words.{verb_of, action_of}
 use Rattle.http_message.specs.Target.{is_target, path_part, query_part, named_path}
 use Rattle.http_message.specs.Routes.{word_of}
 use Rattle.http_message.specs.Fields.{field_values, trimmed}
-use Rattle.http_message.specs.Json.{text_under}
+use Rattle.http_message.specs.Json.{json_of, text_under}
 
 -- a test, and those after it
 abbrev pub and_then : {A B F : Type 0} → Result A F → (A → Result B F) → Result B F
@@ -73,16 +74,16 @@ asked_path text = told (λ fault. HttpFault.BadBody) (path_of text)
 abbrev pub asked_name : List ℕ → Result (List ℕ) HttpFault
 asked_name text = told (λ fault. HttpFault.BadBody) (name_of text)
 
-abbrev pub path_under : List ℕ → List ℕ → Result (List (List ℕ)) HttpFault
-path_under key body = and_then (or_fault (text_under key body) HttpFault.BadBody) asked_path
+abbrev pub path_under : List ℕ → Option Data → Result (List (List ℕ)) HttpFault
+path_under key value = and_then (or_fault (text_under key value) HttpFault.BadBody) asked_path
 
-abbrev pub name_under : List ℕ → List ℕ → Result (List ℕ) HttpFault
-name_under key body = and_then (or_fault (text_under key body) HttpFault.BadBody) asked_name
+abbrev pub name_under : List ℕ → Option Data → Result (List ℕ) HttpFault
+name_under key value = and_then (or_fault (text_under key value) HttpFault.BadBody) asked_name
 
-abbrev pub asked_owners : List ℕ → Result Owners HttpFault
-asked_owners body =
-    and_then (name_under (codes "owner") body) (λ owner.
-    and_then (name_under (codes "group") body) (λ group.
+abbrev pub asked_owners : Option Data → Result Owners HttpFault
+asked_owners value =
+    and_then (name_under (codes "owner") value) (λ owner.
+    and_then (name_under (codes "group") value) (λ group.
     Ok (record { owner = owner; group = group })))
 
 abbrev pub list_in : List ℕ → Result Sent HttpFault
@@ -96,13 +97,13 @@ request_in Action.Append path mask body = Ok (Request.Append path body)
 request_in Action.MakeFolder path mask body = Ok (Request.MakeFolder path)
 request_in Action.Remove path mask body = Ok (Request.Remove path)
 request_in Action.Move path mask body =
-    and_then (path_under (codes "to") body) (λ to. Ok (Request.Move path to))
+    and_then (path_under (codes "to") (json_of body)) (λ to. Ok (Request.Move path to))
 request_in (Action.ReadList which) path mask body = Ok (Request.ReadList path which)
 request_in (Action.SetList which) path mask body =
     and_then (list_in body) (λ list. Ok (Request.SetList path which list))
 request_in Action.ReadAttr path mask body = Ok (Request.ReadAttr path)
 request_in Action.SetOwners path mask body =
-    and_then (asked_owners body) (λ owners. Ok (Request.SetOwners path owners))
+    and_then (asked_owners (json_of body)) (λ owners. Ok (Request.SetOwners path owners))
 request_in Action.Can path mask body = Ok (Request.Can path mask)
 
 -- 11 and 12, once there are a path and a mask

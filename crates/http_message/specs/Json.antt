@@ -6,9 +6,9 @@ use Rattle.serde_json.specs.Read.{read}
 use Rattle.serde_json.specs.Find.{get, as_str}
 
 -- the value that the bytes are
-abbrev pub json_of : List ℕ → Option Data
+unfoldable pub json_of : List ℕ → Option Data
 json_of body = if is_utf8 body then read body else None
 
--- the text under a key of the object that the bytes are
-unfoldable pub text_under : List ℕ → List ℕ → Option (List ℕ)
-text_under key body = option_and_then as_str (option_and_then (get key) (json_of body))
+-- the text under a key of an object
+abbrev pub text_under : List ℕ → Option Data → Option (List ℕ)
+text_under key value = option_and_then as_str (option_and_then (get key) value)

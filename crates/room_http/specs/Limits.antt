@@ -13,9 +13,13 @@ max_fields = 64
 abbrev pub max_body : ℕ
 max_body = 1048576
 
--- the most bytes that are read at once
+-- the most bytes that are read at once of a head, or of what follows a body
 abbrev pub read_size : ℕ
 read_size = 16384
+
+-- the most bytes of a body that are read at once
+abbrev pub chunk_size : ℕ
+chunk_size = 65536
 
 -- the most messages of a connection
 abbrev pub max_messages : ℕ

@@ -1,8 +1,8 @@
 //! The bytes of a reader, read until a head or a body is whole.
 ghost use Rattle.std.specs.Prelude.{◌≡◌, ◌+◌, ◌<◌, ◌≤◌, length, drop, true, false, Ok, IfErr};
-ghost use Rattle.std.specs.Prelude.{IfOk, OnOk, OnErr};
+ghost use Rattle.std.specs.Prelude.{IfOk, OnOk, OnErr, max};
 ghost use Rattle.std.specs.Io.KnownBytes.{IsAtEnd};
-ghost use Rattle.room_http.specs.Limits.{max_fields, max_head, read_size};
+ghost use Rattle.room_http.specs.Limits.{chunk_size, max_fields, max_head, read_size};
 ghost use Rattle.room_http.specs.Spans.{Came, HeadCame, HeadNear, Loses, Scans, ScansWindow};
 ghost use Rattle.room_http.specs.Spans.{StopsBody, StopsReading};
 
@@ -12,25 +12,30 @@ use httparse::spans::{HeaderSpan, RequestSpans, parse_request};
 use httparse::{Error, Status};
 use std::io::Read;
 
-pub(crate) const READ_SIZE: usize = 16_384;
+const READ_SIZE: usize = 16_384;
+
+pub(crate) const CHUNK_SIZE: usize = 65_536;
 
 const MAX_HEAD: usize = 16_384;
 
-// Reads once, by way of the chunk, and adds what came. Nothing comes only at the end of the input.
-fn fill<R: Read>(r: &mut R, buf: &mut Vec<u8>, chunk: &mut [u8]) -> Result<bool, Cause>
-    requires { length chunk.old ≡ read_size }
+// Reads `room` bytes at most, by way of the chunk, and adds what came. Nothing comes only at the
+// end of the input.
+fn fill<R: Read>(r: &mut R, buf: &mut Vec<u8>, chunk: &mut [u8], room: usize) -> Result<bool, Cause>
+    requires some { 0 < room }
+    requires within { room ≤ length chunk.old }
     ensures came { IfOk result (λ some. Came
         (R.remaining r.old) (R.remaining r.new) buf.old.items buf.new.items) }
     ensures more { result ≡ Ok true → length buf.old.items < length buf.new.items }
     ensures end { result ≡ Ok false
         → (buf.new.items ≡ buf.old.items) × IsAtEnd (R.remaining r.new) }
-    ensures size { length buf.new.items ≤ length buf.old.items + read_size }
+    ensures size { length buf.new.items ≤ length buf.old.items + room }
     ensures lost { IfErr result (Loses (R.remaining r.old) (R.remaining r.new)) }
     ensures err { OnErr result (buf.new.items ≡ buf.old.items) }
 {
-    match r.read(chunk) {
+    let place = &mut chunk[..room];
+    match r.read(place) {
         Ok(count) => {
-            let piece = &chunk[..count];
+            let piece = &place[..count];
             if piece.is_empty() {
                 return Ok(false);
             }
@@ -100,7 +105,7 @@ pub(crate) fn read_head<R: Read>(
     chunk: &mut [u8],
 ) -> Result<HeadRead, Cause>
     requires room { length spans.old ≡ max_fields }
-    requires chunk { length chunk.old ≡ read_size }
+    requires chunk { length chunk.old ≡ chunk_size }
     ensures came { OnOk result
         (Came (R.remaining r.old) (R.remaining r.new) buf.old.items buf.new.items) }
     ensures lost { IfErr result
@@ -114,12 +119,22 @@ pub(crate) fn read_head<R: Read>(
             HeadScan::Refused(refusal) => return Ok(HeadRead::NotHead(refusal)),
             HeadScan::Part => {}
         }
-        match fill(r, buf, chunk) {
+        match fill(r, buf, chunk, READ_SIZE) {
             Ok(true) => {}
             Ok(false) => return Ok(HeadRead::Ended),
             Err(cause) => return Err(cause),
         }
     }
+}
+
+// How many bytes are read at once where so many are wanting. What comes after a body may come with
+// it, but not more of that than one read for a head takes.
+fn room_for(wanting: usize) -> usize
+    ensures some { 0 < result }
+    ensures within { result ≤ chunk_size }
+    ensures near { result ≤ max read_size wanting }
+{
+    wanting.max(READ_SIZE).min(CHUNK_SIZE)
 }
 
 // Reads until `total` bytes are there, or the input ends.
@@ -129,7 +144,7 @@ pub(crate) fn read_body<R: Read>(
     chunk: &mut [u8],
     total: usize,
 ) -> Result<bool, Cause>
-    requires { length chunk.old ≡ read_size }
+    requires { length chunk.old ≡ chunk_size }
     ensures came { OnOk result
         (Came (R.remaining r.old) (R.remaining r.new) buf.old.items buf.new.items) }
     ensures lost { IfErr result
@@ -143,7 +158,7 @@ pub(crate) fn read_body<R: Read>(
     // Without this room the buffer grows step by step.
     let _ = buf.reserve(total.saturating_sub(buf.len()));
     'reading: while buf.len() < total {
-        match fill(r, buf, chunk) {
+        match fill(r, buf, chunk, room_for(total - buf.len())) {
             Ok(true) => {}
             Ok(false) => return Ok(false),
             Err(cause) => return Err(cause),

@@ -89,7 +89,7 @@ fn copied_fields(alloc: Global, bytes: &[u8], spans: &[HeaderSpan]) -> Result<Fi
     ensures { IfOk result (λ fields. fields
         ≡ map field_of (map (header_bytes bytes.now) spans.now)) }
 {
-    let mut fields = Vec::new(alloc);
+    let mut fields = Vec::with_capacity(alloc, spans.len())?;
     for span in spans {
         let field = copied_field(alloc, span.name.of(bytes), span.value.of(bytes))?;
         fields.push(field)?;

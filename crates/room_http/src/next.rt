@@ -1,6 +1,6 @@
 //! The next message of a stream.
 ghost use Rattle.std.specs.Prelude.{◌≡◌, ◌+◌, ◌<◌, length, OnOk, IfErr, IfOk};
-ghost use Rattle.room_http.specs.Limits.{max_fields, read_size};
+ghost use Rattle.room_http.specs.Limits.{chunk_size, max_fields, read_size};
 ghost use Rattle.room_http.specs.Spans.{Came, SpansHead, StopsReading};
 ghost use Rattle.room_http.specs.Turn.{ComesNear, Coming};
 
@@ -39,7 +39,7 @@ pub(crate) fn next_message<R: Read>(
     chunk: &mut [u8],
 ) -> Result<Upcoming, Cause>
     requires room { length spans.old ≡ max_fields }
-    requires chunk { length chunk.old ≡ read_size }
+    requires chunk { length chunk.old ≡ chunk_size }
     ensures near { length buf.old.items < read_size → IfOk result (ComesNear buf.new.items) }
     ensures came { OnOk result
         (Came (R.remaining r.old) (R.remaining r.new) buf.old.items buf.new.items) }
@@ -66,7 +66,7 @@ fn next_behind<R: Read>(
     at: RequestSpans,
 ) -> Result<Upcoming, Cause>
     requires head { SpansHead buf.old.items spans.now at }
-    requires chunk { length chunk.old ≡ read_size }
+    requires chunk { length chunk.old ≡ chunk_size }
     ensures near { length buf.old.items < at.len + read_size
         → IfOk result (ComesNear buf.new.items) }
     ensures came { OnOk result

@@ -4,13 +4,13 @@ ghost use Rattle.std.specs.Prelude.{Option, true, false, IfOk, IfErr};
 ghost use Rattle.std.specs.Io.KnownBytes.{Appends};
 ghost use Rattle.http_message.specs.Asked.{request_of};
 ghost use Rattle.http_message.specs.Close.{asks_close};
-ghost use Rattle.room_http.specs.Limits.{max_fields, max_messages, read_size};
+ghost use Rattle.room_http.specs.Limits.{chunk_size, max_fields, max_messages, read_size};
 ghost use Rattle.room_http.specs.Text.{refusal_reply};
 ghost use Rattle.room_http.specs.Serve.{Connects, Seen, Serves, Stops};
 ghost use Rattle.room_http.specs.Turn.{Turns, WholeNext};
 ghost use Rattle.room_http.specs.Tell.{StopsWithin, SendsReply};
 
-use crate::cut::{READ_SIZE, drop_front};
+use crate::cut::{CHUNK_SIZE, drop_front};
 use crate::ended::{Cause, Ended, ServeFault};
 use crate::next::{NextMessage, Upcoming, next_message};
 use crate::refusal::{Refusal, refusal_bytes, store_bytes};
@@ -200,7 +200,7 @@ fn turn<R: Read, W: Write, D: Desk>(
 ) -> Result<Option<Ended>, Halt>
     requires few { answered < max_messages }
     requires room { length spans.old ≡ max_fields }
-    requires chunk { length chunk.old ≡ read_size }
+    requires chunk { length chunk.old ≡ chunk_size }
     ensures turn { length buf.old.items < read_size
         → Turns (D.trusted desk.new × D.sound desk.old) at answered
         (record {
@@ -291,7 +291,7 @@ pub fn serve<R: Read, W: Write, D: Desk>(
 {
     let mut buf = Vec::new(alloc);
     let mut spans = [EMPTY_HEADER_SPAN; MAX_FIELDS];
-    let mut chunk = [0; READ_SIZE];
+    let mut chunk = [0; CHUNK_SIZE];
     for answered in 0..MAX_MESSAGES {
         let ended = match turn(
             alloc, routes, desk, at, r, w, &mut buf, &mut spans, &mut chunk, answered,
