@@ -53,6 +53,21 @@ fn push_answer(
     }
 }
 
+/// Takes the operator's step of these words, and adds the answer.
+pub(crate) fn operate<S: Alter>(
+    alloc: Global,
+    store: &mut Store<S>,
+    words: &str,
+    told: &mut String,
+) -> Result<(), Fail> {
+    let (verb, rest) = cut(words);
+    match verb {
+        "Verify" => verify(alloc, store, told),
+        "Reset" => reset(alloc, store, rest, told),
+        _ => Err(Fail::new("no such step over a store")),
+    }
+}
+
 /// Makes the call of this word, and adds the answer.
 pub(crate) fn call<S: Alter>(
     alloc: Global,
@@ -62,11 +77,9 @@ pub(crate) fn call<S: Alter>(
     told: &mut String,
 ) -> Result<(), Fail> {
     match verb {
-        "Verify" => verify(alloc, store, told),
         "Dump" => dump(alloc, store, told),
         "Members" => members(alloc, store, told),
         "Audits" => audits(alloc, store, told),
-        "Reset" => reset(alloc, store, rest, told),
         "Import" => import(alloc, store, rest, told),
         _ => Err(Fail::new("no such call of a store")),
     }

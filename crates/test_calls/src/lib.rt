@@ -2,16 +2,16 @@
 //! answered.
 //!
 //! A line that begins with a caller is a request, as in the scripts of `test_player`. One that
-//! begins with `store` makes a call of the store or of its opening, one with `sql` runs statements
-//! on the tables, and one with `rows` asks them. In answers `|` stands for the end of a line. There
-//! are no tests here, so that the player is proved once for all crates of tests.
+//! begins with `operator` is what its operator asks, one with `store` makes any other call of the
+//! store or of its opening, one with `sql` runs statements on the tables, and one with `rows` asks
+//! them. In answers `|` stands for the end of a line. There are no tests here, so that the player
+//! is proved once for all that play.
 #![tactic(auto)]
 
 mod calling;
-pub mod examples;
 mod opening;
 mod scene;
 mod tables;
 mod words;
 
-pub use scene::{OPEN, Scene, plays, plays_in_empty, plays_in_nothing};
+pub use scene::{OPEN, Scene};

@@ -1,6 +1,6 @@
 //! A database that scripts are played on.
 
-use crate::calling::{ask, call};
+use crate::calling::{ask, call, operate};
 use crate::opening::{Opened, adopt, create, migrate};
 use crate::tables::{change, rows_of, show};
 use crate::words::cut;
@@ -12,31 +12,8 @@ use test_player::{agree, push};
 
 /// The lists of a room in which all may pass and root may do anything.
 pub const OPEN: &str = "\
-store Reset / dacl list:a / A::EVERYONE@:x / A:fd:root:ALL => done
+operator Reset / dacl list:a / A::EVERYONE@:x / A:fd:root:ALL => done
 ";
-
-const CREATED: &str = "store Create => done";
-
-/// Plays scripts one after the other on an empty database in memory.
-pub fn plays_in_nothing(alloc: Global, scripts: &[&str]) -> Result<(), Fail> {
-    play_both(alloc, &[], scripts)
-}
-
-/// The same in a new room, in which its owner may do anything.
-pub fn plays_in_empty(alloc: Global, scripts: &[&str]) -> Result<(), Fail> {
-    play_both(alloc, &[CREATED], scripts)
-}
-
-/// The same in a room in which all may pass and root may do anything.
-pub fn plays(alloc: Global, scripts: &[&str]) -> Result<(), Fail> {
-    play_both(alloc, &[CREATED, OPEN], scripts)
-}
-
-fn play_both(alloc: Global, first: &[&str], scripts: &[&str]) -> Result<(), Fail> {
-    let mut scene = Scene::over(Connection::open_in_memory(alloc)?);
-    scene.play_all(alloc, first)?;
-    scene.play_all(alloc, scripts)
-}
 
 /// A database with the store over it, if it was opened as a room; the moment of what is asked; and
 /// the rows that were marked.
@@ -99,6 +76,7 @@ impl<S: Alter + Drop> Scene<S> {
         let (who, words) = cut(asked);
         match who {
             "store" => self.step(alloc, words, told),
+            "operator" => operate(alloc, self.store(alloc)?, words, told),
             "sql" => change(self.conn()?, words, told),
             "rows" => show(self.conn()?, words, told),
             _ => {
@@ -123,7 +101,7 @@ impl<S: Alter + Drop> Scene<S> {
         }
     }
 
-    // Makes, opens or raises the room.
+    // Makes, opens or upgrades the room.
     fn open(&mut self, alloc: Global, verb: &str, told: &mut String) -> Result<(), Fail> {
         self.close();
         let conn = self.opened.conn.take().ok_or("no database")?;
@@ -142,8 +120,13 @@ impl<S: Alter + Drop> Scene<S> {
         }
     }
 
-    // The store. Where statements were run before, it is opened again.
-    fn store(&mut self, alloc: Global) -> Result<&mut Store<S>, Fail> {
+    /// The moment of what is asked.
+    pub fn at(&self) -> i64 {
+        self.at
+    }
+
+    /// The store. Where statements were run before, it is opened again.
+    pub fn store(&mut self, alloc: Global) -> Result<&mut Store<S>, Fail> {
         if self.opened.store.is_none() {
             let mut told = String::new(alloc);
             self.open(alloc, "Adopt", &mut told)?;

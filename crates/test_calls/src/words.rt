@@ -8,7 +8,7 @@ use std::test::Fail;
 use store_schema::{MigrateFault, OpenFault};
 use test_player::{push, push_all};
 
-/// The first word, and what stands behind it.
+/// The first word, and what comes after it.
 pub(crate) fn cut(text: &str) -> (&str, &str) {
     text.split_once(" ").unwrap_or((text, ""))
 }

@@ -12,6 +12,7 @@ mod grounds;
 mod lines;
 mod memory;
 mod playing;
+mod store;
 
 use crate::counts::Counts;
 use crate::files::play_words;

@@ -43,7 +43,7 @@ pub fn play_counted(alloc: Global, part: &str, place: &mut Place) -> Result<(), 
     play_lines(alloc, &mut tally, part, place)
 }
 
-// Behind ` # ` in a line stands how often it makes which calls.
+// After ` # ` in a line stands how often it makes which calls.
 impl Ground for Tally<MemKeep> {
     fn take(&mut self, alloc: Global, line: &str) -> Result<(), Fail> {
         if line.contains(" # ") {

@@ -1,6 +1,5 @@
 //! Rooms of a store in memory.
 use room_ace::{Owners, SentList, Which};
-use room_inherit::Report;
 use room_machine::Reply;
 use room_rows::Path;
 use room_store::{Store, StoreFault};
@@ -8,7 +7,6 @@ use sqlite::{Connection, MemStore};
 use std::alloc::Global;
 use std::test::Fail;
 use test_player::{owners_of, path_of, sent_of};
-use test_talk::play;
 
 // The lists of an open room's root: all may pass, and root may do anything.
 const OPEN: &str = "list:a / A::EVERYONE@:x / A:fd:root:ALL";
@@ -37,12 +35,8 @@ pub(crate) fn open_store(alloc: Global) -> Result<Store<MemStore>, Fail> {
     Ok(store)
 }
 
-/// Gives the root's dacl these lines, as the operator.
-pub(crate) fn reset_root(
-    alloc: Global,
-    store: &mut Store<MemStore>,
-    lines: &str,
-) -> Result<(), Fail> {
+// Gives the root's dacl these lines, as the operator.
+fn reset_root(alloc: Global, store: &mut Store<MemStore>, lines: &str) -> Result<(), Fail> {
     let root = path_of(alloc, "/")?;
     let sent = sent_of(alloc, lines)?;
     match reset_to(alloc, store, &root, &sent) {
@@ -60,21 +54,6 @@ fn reset_to(
     sent: &SentList,
 ) -> Result<Reply, StoreFault> {
     store.reset(alloc, path, Which::Dacl, sent)
-}
-
-/// That the rows are sound.
-pub(crate) fn sound(alloc: Global, store: &mut Store<MemStore>) -> Result<(), Fail> {
-    match store.verify(alloc)? {
-        Report::Sound => Ok(()),
-        Report::Fault { .. } => Err(Fail::new("the rows aren't sound")),
-    }
-}
-
-/// Plays a script in an open room of a store, whose rows are sound behind it.
-pub(crate) fn plays_in_store(alloc: Global, script: &str) -> Result<(), Fail> {
-    let mut store = open_store(alloc)?;
-    play(alloc, &mut store, script)?;
-    sound(alloc, &mut store)
 }
 
 /// Whether a line of the room's text says this.

@@ -1,5 +1,5 @@
-//! Streams that are cut into pieces, cut off, too long, or stopped by a reader or a writer.
-use crate::rooms::{has_line, open_store, plays_in_store};
+//! Streams that are cut into pieces, as long as they may be, or stopped by a reader or a writer.
+use crate::rooms::{has_line, open_store};
 use room_http::{Cause, Ended};
 use room_store::Store;
 use sqlite::MemStore;
@@ -9,20 +9,6 @@ use test_talk::{
     PUT_TWICE, Pieces, Sink, Stop, Talk, agrees, bytes_at, converse, is_short, play, stop_at_read,
     stop_at_write, stopped, tried,
 };
-
-pub(crate) const PUT_CUT_OFF: &str = "\
->PUT /doc/f HTTP/1.1|Room-User: root|Content-Length: 5||hello
-<HTTP/1.1 201 Created|Content-Length: 0||
->PUT /doc/f HTTP/1.1|Room-User: root|Content-Length: 5||hell
-=Cut
-";
-
-pub(crate) const TOO_LARGE_BODY: &str = "\
->PUT /doc/f HTTP/1.1|Room-User: root|Content-Length: 1048577||
-<HTTP/1.1 413 Payload Too Large|Content-Type: application/json|Content-Length: 19|Connection: close||{\"why\":\"too-large\"}
->hello
-=Closed
-";
 
 const REMOVED: &str = "\
 >DELETE /object/f HTTP/1.1|Room-User: root||
@@ -74,20 +60,9 @@ fn puts_in_all_pieces(
 
 #[test]
 fn put_twice(rt: HostRuntime) -> Result<(), Fail> {
-    plays_in_store(rt.alloc(), PUT_TWICE)?;
     let input = bytes_at(rt.alloc(), PUT_TWICE, ">")?;
     let mut store = open_store(rt.alloc())?;
     puts_in_all_pieces(rt.alloc(), &mut store, input.as_slice())
-}
-
-#[test]
-fn put_cut_off(rt: HostRuntime) -> Result<(), Fail> {
-    plays_in_store(rt.alloc(), PUT_CUT_OFF)
-}
-
-#[test]
-fn too_large_body(rt: HostRuntime) -> Result<(), Fail> {
-    plays_in_store(rt.alloc(), TOO_LARGE_BODY)
 }
 
 // Adds as many bytes as a document may have.
