@@ -26,7 +26,7 @@ use crate::statements::{
     select_groups, select_names, select_node, select_numbers, select_some, select_top,
     select_under, update_bytes, update_held, update_inh, update_owners, update_place,
 };
-use room_ace::{Entry, Name, Names, Owners, Which, names_are_text, print_entries};
+use room_ace::{Entry, Name, Names, Owners, Which, names_are_text};
 use room_rows::{
     AuditRow, Bytes, Held, Keep, KeepFault, Listing, NewNode, Node, Nodes, Numbers, count_one,
     failed,
@@ -145,7 +145,7 @@ fn put_inh<S: Alter>(
     let Some(at) = rowid_of(id) else {
         return Err(failed(&mut keeper.failures));
     };
-    let text = print_entries(keeper.alloc, entries)?;
+    let text = keeper.lists.print(keeper.alloc, entries)?;
     let done = update_inh(keeper.tx, at, which, text.as_str());
     drop(text);
     wrote_one(done, &mut keeper.failures)?;

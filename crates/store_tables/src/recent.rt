@@ -1,8 +1,9 @@
-//! Lists that were read lately, so that a text that stands in many rows is read once.
-ghost use Rattle.std.specs.Prelude.{◌≡◌, IfOk, IfSome, Some};
+//! Lists that were read or printed lately, so that a text that stands in many rows is read once, and
+//! printed once.
+ghost use Rattle.std.specs.Prelude.{◌≡◌, IfOk, IfSome, Some, string_bytes};
 ghost use Rattle.room_ace.specs.Column.{entries_of};
 
-use room_ace::{Entries, read_entries};
+use room_ace::{Entries, Entry, print_entries, read_entries};
 use std::alloc::{AllocError, Global};
 use std::marker::Model;
 
@@ -42,13 +43,61 @@ impl ReadText {
     }
 }
 
-/// The lists that were read last, by their texts. Equal texts spell equal entries whatever the rows
-/// are, so that nothing makes them wrong.
+// Entries that were printed, and their text. A contract sees the entries.
+#[derive(Drop)]
+struct PrintedText {
+    entries: Entries,
+    text: String,
+}
+
+impl Model for PrintedText {
+    ghost use Rattle.std.specs.Prelude.{◌≡◌, List, Some, string_bytes};
+    ghost use Rattle.room_entry.specs.Ace.{Ace};
+    ghost use Rattle.room_ace.specs.Column.{entries_of};
+
+    ghost Value = { List Ace };
+
+    ghost view = { λ p. p.entries };
+
+    ghost invariant = { λ p. entries_of (string_bytes p.text) ≡ Some p.entries };
+}
+
+impl PrintedText {
+    fn of(alloc: Global, entries: &[Entry], text: &str) -> Result<PrintedText, AllocError>
+        requires { entries_of text.now ≡ Some entries.now }
+        ensures { IfOk result (λ printed. printed ≡ entries.now) }
+    {
+        let text = String::from_str(alloc, text)?;
+        let mut copy = Entries::new(alloc);
+        copy.extend(entries)?;
+        Ok(PrintedText {
+            entries: copy,
+            text,
+        })
+    }
+
+    // A copy of its text, if it is that of these entries.
+    fn spelling(&self, alloc: Global, entries: &[Entry]) -> Result<Option<String>, AllocError>
+        ensures { IfOk result
+            (λ found. IfSome found (λ text. entries_of (string_bytes text) ≡ Some entries.now)) }
+    {
+        if self.entries.is_same(entries) {
+            return Ok(Some(String::from_str(alloc, self.text.as_str())?));
+        }
+        Ok(None)
+    }
+}
+
+/// The lists that were read last, by their texts, and the last two that were printed: what a folder
+/// passes to documents, and what it passes to folders. Equal texts spell equal entries whatever the
+/// rows are, so that nothing makes them wrong.
 #[derive(Drop)]
 pub struct RecentLists {
     texts: Option<Vec<ReadText>>,
     // which is replaced next, once there are as many as there may be
     next: usize,
+    last: Option<PrintedText>,
+    before: Option<PrintedText>,
 }
 
 impl RecentLists {
@@ -57,7 +106,36 @@ impl RecentLists {
         RecentLists {
             texts: None,
             next: 0,
+            last: None,
+            before: None,
         }
+    }
+
+    /// The text that spells the entries, as `print_entries` has it.
+    pub(crate) fn print(&mut self, alloc: Global, entries: &[Entry]) -> Result<String, AllocError>
+        ensures { IfOk result (λ text. entries_of (string_bytes text) ≡ Some entries.now) }
+    {
+        if let Some(text) = spelling_in(&self.last, alloc, entries)? {
+            return Ok(text);
+        }
+        if let Some(text) = spelling_in(&self.before, alloc, entries)? {
+            return Ok(text);
+        }
+        let text = print_entries(alloc, entries)?;
+        if text.len() <= LONGEST_TEXT {
+            // without memory for it, it is printed again the next time
+            let _ = self.keep(alloc, entries, text.as_str());
+        }
+        Ok(text)
+    }
+
+    fn keep(&mut self, alloc: Global, entries: &[Entry], text: &str) -> Result<(), AllocError>
+        requires { entries_of text.now ≡ Some entries.now }
+    {
+        let printed = PrintedText::of(alloc, entries, text)?;
+        self.before = self.last.take();
+        self.last = Some(printed);
+        Ok(())
     }
 
     /// The entries that the text spells, as `read_entries` has them.
@@ -131,4 +209,18 @@ fn find_among(texts: &mut [ReadText], text: &[u8]) -> Result<Option<Entries>, Al
         }
     }
     Ok(None)
+}
+
+fn spelling_in(
+    slot: &Option<PrintedText>,
+    alloc: Global,
+    entries: &[Entry],
+) -> Result<Option<String>, AllocError>
+    ensures { IfOk result
+        (λ found. IfSome found (λ text. entries_of (string_bytes text) ≡ Some entries.now)) }
+{
+    match slot {
+        None => Ok(None),
+        Some(printed) => printed.spelling(alloc, entries),
+    }
 }

@@ -14,7 +14,7 @@ returns-clause-puts g c =
     let old = state g.S.Store c.args.keeper.now.tx.now.conn.now in
     let new = state g.S.Store c.update_inh-done.new.tx.conn.now in
     let text = c.as_str.result.now in
-    let back : entries_in (Text text) ≡ Some c.args.entries.now = subst (λ t. entries_in (Text t) ≡ Some c.args.entries.now) (sym c.as_str.ensures.value) c.in_ok-text.ensures.back in
+    let back : entries_in (Text text) ≡ Some c.args.entries.now = subst (λ t. entries_in (Text t) ≡ Some c.args.entries.now) (sym c.as_str.ensures.value) c.in_ok-text.ensures in
     let at : to_z w64 (of_z w64 c.in-Some.at) ≡ pos c.args.id = ap (λ z. to_z w64 (of_z w64 z)) c.in-Some.ensures.1 ∙ to_z-of_z c.in-Some.ensures.0 in
     record {
       stays = c.update_inh-done.ensures.writes.stays;
