@@ -13,6 +13,7 @@ Appends-then (Some xs) None w a b x y = absurd x
 Appends-then (Some xs) (Some ys) None a b x y = y
 Appends-then (Some xs) (Some ys) (Some zs) a b x y = y ∙ ap (λ (t : List ℕ). t ++ b) x ∙ append_assoc xs a b
 
+-- a text was written, and then the bytes were left as they were
 pub Appends-kept : (u v w : Option (List ℕ)) (a : List ℕ) → Appends u v a → Keeps v w → Appends u w a
 Appends-kept None v w a x y = tt
 Appends-kept (Some xs) None w a x y = absurd x
@@ -30,6 +31,7 @@ pub WritesSome-at : (u v w : Option (List ℕ)) (text : List ℕ) (n : ℕ)
 WritesSome-at u v w text n x y =
     (take n text, drop n text, sym (take-append-drop n text), Appends-kept u v w (take n text) x y)
 
+-- n bytes of a text were written, and then m bytes of its rest: so its first n + m were
 pub Appends-at : (u v w : Option (List ℕ)) (text : List ℕ) (n m : ℕ)
     → Appends u v (take n text) → Appends v w (take m (take (length text - n) (drop n text))) → Appends u w (take (n + m) text)
 Appends-at u v w text n m x y =
@@ -45,6 +47,7 @@ Keeps-none None w x = tt
 Keeps-none (Some xs) None x = x
 Keeps-none (Some xs) (Some ys) x = x ∙ append-nil xs
 
+-- where a write took 0 bytes of a text, what was written before stays as it was
 pub Keeps-zero : (v w : Option (List ℕ)) (n : ℕ) (text : List ℕ) → n ≡ 0 → Appends v w (take n text) → Keeps v w
 Keeps-zero v w n text e x =
     let V : List ℕ → Type 0 = λ t. Appends v w t in

@@ -7,6 +7,7 @@ use Rattle.room_entry.specs.Ace.{Ace}
 use Rattle.room_entry.specs.Same.{who_key, same_entry, same_entries}
 use Rattle.room_entry.specs.Letters.{kind_text, flags_text}
 
+-- the test of the same texts gives true for a text and itself
 pub text_itself : (xs : List ℕ) → same_text xs xs ≡ true
 text_itself xs = (bytes_decides xs xs).1 refl
 
@@ -26,10 +27,12 @@ by_texts {A} text apart a b r says said = on r (same_text (text a) (text b)) ref
 entry_itself : (a : Ace) → same_entry a a ≡ true
 entry_itself a = and_from _ _ (text_itself (kind_text a.kind)) (and_from _ _ (text_itself (flags_text a.flags)) (and_from _ _ (text_itself (who_key a.who)) (text_itself a.mask)))
 
+-- a list of entries is the same as itself
 pub entries_themselves : (xs : List Ace) → same_entries xs xs ≡ true
 entries_themselves [] = refl
 entries_themselves (x ∷ xs) = and_from _ _ (entry_itself x) (entries_themselves xs)
 
+-- equal lists of entries pass `same_entries`, the other way from `entries_equal`
 pub equal_entries : (xs ys : List Ace) → xs ≡ ys → same_entries xs ys ≡ true
 equal_entries xs ys e = ap (same_entries xs) (sym e) ∙ entries_themselves xs
 

@@ -7,6 +7,7 @@ use Rattle.room_entry.specs.declared.entry.EntryKind.{EntryKind}
 use Rattle.room_entry.specs.declared.entry.EntryKind.TheVariants.{Allow, Deny, Audit, Alarm}
 use Rattle.room_entry.specs.declared.flags.EntryFlags.{EntryFlags}
 
+-- the letter of an entry's type is read back as that type
 pub kind_back : (k : EntryKind) → kind_of (kind_text k) ≡ Some k
 kind_back Allow = refl
 kind_back Deny = refl
@@ -41,6 +42,7 @@ or_none : (t : Bool) → (t || false) ≡ t
 or_none true = refl
 or_none false = refl
 
+-- the letters that are written for flags are read back as these flags
 pub flags_back : (f : EntryFlags) → flags_among (flags_text f) ≡ f
 flags_back f =
     let file : is_among (flags_text f) 102 ≡ f.file_inherit = simp (among-append, among_letter, and_true, and_none, or_none) in

@@ -15,6 +15,7 @@ place_of n m i found =
       | inr e ↦ (let known : None ≡ Some i = rw e at found in absurd (cc))
     ]
 
+-- where `position` gives none, the place isn't below the bound
 pub none_of : (n m : ℕ) → cond (nat_lt n m) (Some n) None ≡ None → m ≤ n
 none_of n m found =
     elim (cases_Bool (nat_lt n m)) [
@@ -49,10 +50,12 @@ length-pieces c bs = let e = length-slice_split (λ b. eqb b c) bs in omega arit
 
 -- ---- names
 
+-- a text without `@` is a name exactly if it is a local part
 pub name_alone : (text : List ℕ) → pieces 64 text ≡ text ∷ [] → is_name text ≡ is_part is_local_byte text
 unfolding is_name
 name_alone text e = ap are_name_parts e
 
+-- a text with one `@` is a name exactly if a local part is before it and a domain after it
 pub name_with_domain : (text local rest : List ℕ) → pieces 64 text ≡ local ∷ pieces 64 rest → pieces 64 rest ≡ rest ∷ [] → is_name text ≡ (is_part is_local_byte local && is_part is_domain_byte rest)
 unfolding is_name
 name_with_domain text local rest e f = ap are_name_parts (e ∙ ap (λ (ps : List (List ℕ)). local ∷ ps) f)
@@ -61,6 +64,7 @@ three_parts : (a b : List ℕ) (ps : List (List ℕ)) → 0 < length ps → are_
 three_parts a b [] some = absurd (omega arith)
 three_parts a b (p ∷ ps) some = refl
 
+-- a text with more than one `@` is no name
 pub no_name : (text local rest domain more : List ℕ) → pieces 64 text ≡ local ∷ pieces 64 rest → pieces 64 rest ≡ domain ∷ pieces 64 more → is_name text ≡ false
 unfolding is_name
 no_name text local rest domain more e f =

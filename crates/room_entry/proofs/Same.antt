@@ -15,6 +15,7 @@ use Rattle.room_entry.proofs.Back.{kind_back, flags_back}
 kind_equal : (a b : EntryKind) → kind_text a ≡ kind_text b → a ≡ b
 kind_equal a b same = let known : Some a ≡ Some b = sym (kind_back a) ∙ ap kind_of same ∙ kind_back b in cc
 
+-- flags with the same letters are equal
 pub flags_equal : (a b : EntryFlags) → flags_text a ≡ flags_text b → a ≡ b
 flags_equal a b same = sym (flags_back a) ∙ ap flags_among same ∙ flags_back b
 
@@ -52,6 +53,7 @@ entry_equal a b same =
     let mask = text_equal a.mask b.mask (sym third.1) in
     λ i. record { kind = kind i; flags = flags i; who = who i; mask = mask i }
 
+-- lists of entries that pass `same_entries` are equal
 pub entries_equal : (a b : List Ace) → same_entries a b ≡ true → a ≡ b
 entries_equal [] [] same = refl
 entries_equal [] (y ∷ ys) same = absurd (false≢true same)

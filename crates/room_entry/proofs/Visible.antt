@@ -15,9 +15,11 @@ use Rattle.room_entry.proofs.Texts.{all-append, all_imply, at_bit}
 abbrev is_between : ℕ → ℕ → ℕ → Bool
 is_between low high byte = nat_le low byte && nat_le byte high
 
+-- the visible bytes of ASCII are those from `!` to `~`, without the space
 abbrev pub is_visible : ℕ → Bool
 is_visible byte = is_between 33 126 byte
 
+-- each byte of the text is one of these
 abbrev pub are_visible : List ℕ → Bool
 are_visible text = list_all is_visible text
 
@@ -64,6 +66,7 @@ visible_parts (local ∷ domain ∷ []) holds =
     all-append is_visible local (64 ∷ domain) (visible_part is_local_byte local visible_local both.0) (visible_part is_domain_byte domain visible_domain both.1)
 visible_parts (local ∷ domain ∷ other ∷ rest) holds = absurd (false≢true holds)
 
+-- a name has visible bytes alone
 pub visible_name : (name : List ℕ) → is_name name ≡ true → are_visible name ≡ true
 unfolding is_name
 visible_name name holds = subst (λ (text : List ℕ). are_visible text ≡ true) (join_with_byte-slice_split 64 name) (visible_parts (pieces 64 name) holds)
@@ -78,15 +81,19 @@ ascii_byte byte shown =
 visible_ascii : (text : List ℕ) → are_visible text ≡ true → list_all (λ byte. nat_lt byte 128) text ≡ true
 visible_ascii text shown = all_imply is_visible (λ byte. nat_lt byte 128) text ascii_byte shown
 
+-- a text of visible bytes is UTF-8
 pub visible_utf8 : (text : List ℕ) → are_visible text ≡ true → is_utf8 text ≡ true
 visible_utf8 text shown = or_left (list_all (λ byte. nat_lt byte 128) text) _ (visible_ascii text shown)
 
+-- each byte of a name is below 128
 pub name_ascii : (name : List ℕ) → is_name name ≡ true → list_all (λ byte. nat_lt byte 128) name ≡ true
 name_ascii name holds = visible_ascii name (visible_name name holds)
 
+-- a name is UTF-8, so it can be kept as a text
 pub name_text : (name : List ℕ) → is_name name ≡ true → is_utf8 name ≡ true
 name_text name holds = visible_utf8 name (visible_name name holds)
 
+-- bytes that are tested to be below 128 are ASCII in the standard library's sense
 pub ascii : (bytes : List ℕ) → list_all (λ byte. nat_lt byte 128) bytes ≡ true → IsAscii bytes
 ascii [] all = IsAscii-nil
 ascii (byte ∷ bytes) all =

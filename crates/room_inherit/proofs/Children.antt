@@ -10,6 +10,7 @@ use Rattle.room_inherit.proofs.Members.{Each, each_weaker, each_filter, each_unf
 
 -- ---- by number
 
+-- whether an object of the list has this number
 abbrev pub has_id : ℕ → List Node → Bool
 has_id id nodes = list_any (λ (n : Node). n.id == id) nodes
 
@@ -18,6 +19,7 @@ abbrev pub Apart : List Node → Type 0
 Apart [] = Unit {0}
 Apart (x ∷ xs) = (has_id x.id xs ≡ false) × Apart xs
 
+-- the numbers of the objects, in the order of the list
 abbrev pub ids_of : List Node → List ℕ
 ids_of nodes = map (λ (n : Node). n.id) nodes
 
@@ -30,6 +32,7 @@ found_first id x xs is = rw is refl
 found_later : (id : ℕ) (x : Node) (xs : List Node) → (x.id == id) ≡ false → find_id id (x ∷ xs) ≡ find_id id xs
 found_later id x xs is = rw is refl
 
+-- what holds of each object of a list holds of the one that is found there by a number
 pub each_found : (P : Node → Type 0) (id : ℕ) (nodes : List Node) (node : Node) → Each P nodes → find_id id nodes ≡ Some node → P node
 each_found P id [] node all found = absurd (let wrong : ⊥ = cc in wrong)
 each_found P id (x ∷ xs) node all found = elim (cases_Bool (x.id == id)) [
@@ -37,6 +40,7 @@ each_found P id (x ∷ xs) node all found = elim (cases_Bool (x.id == id)) [
   | inr isnt ↦ each_found P id xs node all.1 (sym (found_later id x xs isnt) ∙ found)
 ]
 
+-- an object that is found by a number has it
 pub found_id : (id : ℕ) (nodes : List Node) (node : Node) → find_id id nodes ≡ Some node → node.id ≡ id
 found_id id [] node found = absurd (let wrong : ⊥ = cc in wrong)
 found_id id (x ∷ xs) node found = elim (cases_Bool (x.id == id)) [
@@ -81,6 +85,7 @@ any_here T x (y ∷ ys) apart found = elim (cases_Bool (y.id == x.id)) [
 
 -- ---- rising numbers
 
+-- where k and then the numbers rise, each object has a number above k
 pub each_above : (k : ℕ) (nodes : List Node) → is_rising (k ∷ ids_of nodes) ≡ true → Each (λ n. k < n.id) nodes
 each_above k [] rises = tt
 each_above k (x ∷ xs) rises =
@@ -88,6 +93,7 @@ each_above k (x ∷ xs) rises =
     let up = ltb-true k x.id parts.0 in
     (up, each_weaker (λ n. x.id < n.id) (λ n. k < n.id) (λ n above. omega (arith, up, above)) xs (each_above x.id xs parts.1))
 
+-- where the numbers rise, none comes twice
 pub apart_rising : (k : ℕ) (nodes : List Node) → is_rising (k ∷ ids_of nodes) ≡ true → Apart nodes
 apart_rising k [] rises = tt
 apart_rising k (x ∷ xs) rises =
@@ -171,6 +177,7 @@ apart_sorted : (xs : List Node) → Apart xs → Apart (sorted_by_name xs)
 apart_sorted [] apart = tt
 apart_sorted (x ∷ xs) apart = apart_put x (sorted_by_name xs) (any_sorted (λ (n : Node). n.id == x.id) xs ∙ apart.0) (apart_sorted xs apart.1)
 
+-- where no number comes twice, none does among the objects that pass a test
 pub apart_filter : (q : Node → Bool) (xs : List Node) → Apart xs → Apart (filter q xs)
 apart_filter q [] apart = tt
 apart_filter q (x ∷ xs) apart = on (q x) (apart_filter q xs apart.1)
@@ -179,6 +186,7 @@ apart_filter q (x ∷ xs) apart = on (q x) (apart_filter q xs apart.1)
     on true rest = (none_filter (λ (n : Node). n.id == x.id) q xs apart.0, rest)
     on false rest = rest
 
+-- nor does one come twice after a change of each object that leaves its number
 pub apart_map : (f : Node → Node) → ((n : Node) → (f n).id ≡ n.id) → (xs : List Node) → Apart xs → Apart (map f xs)
 apart_map f same [] apart = tt
 apart_map f same (x ∷ xs) apart = (has_map f same (f x).id xs ∙ ap (λ i. has_id i xs) (same x) ∙ apart.0, apart_map f same xs apart.1)
@@ -187,6 +195,7 @@ apart_map f same (x ∷ xs) apart = (has_map f same (f x).id xs ∙ ap (λ i. ha
     has_map g same i [] = refl
     has_map g same i (y ∷ ys) = ap (λ (j : ℕ). (j == i) || has_id i (map g ys)) (same y) ∙ ap (λ r. (y.id == i) || r) (has_map g same i ys)
 
+-- a change of each object that leaves its number leaves which numbers are in use
 pub has_id_map : (f : Node → Node) → ((n : Node) → (f n).id ≡ n.id) → (id : ℕ) (xs : List Node) → has_id id (map f xs) ≡ has_id id xs
 has_id_map f same id [] = refl
 has_id_map f same id (x ∷ xs) = ap (λ (j : ℕ). (j == id) || has_id id (map f xs)) (same x) ∙ ap (λ r. (x.id == id) || r) (has_id_map f same id xs)
@@ -215,13 +224,16 @@ module _ (g : Node → Node) (same_name : (n : Node) → (g n).name ≡ n.name) 
       on true rest = ap (λ (l : List Node). g x ∷ l) rest
       on false rest = rest
 
+  -- the children after the change are those before it, each changed, in the same order
   pub children_map : (rows : Content) (id : ℕ) → children_of (with_each rows g) id ≡ map g (children_of rows id)
   children_map rows id = ap sorted_by_name (filter_map id rows.nodes) ∙ sorted_map (filter (has_parent id) rows.nodes)
 
 module _ (rows : Content) (apart : Apart rows.nodes) where
+  -- what holds of each object that is there with this parent holds of each in its list of children
   pub each_child : (P : Node → Type 0) (id : ℕ) → ((n : Node) → node_at rows n.id ≡ Some n → has_parent id n ≡ true → P n) → Each P (children_of rows id)
   each_child P id all = each_sorted P (filter (has_parent id) rows.nodes) (each_filter P (has_parent id) rows.nodes (each_there (λ n. has_parent id n ≡ true → P n) rows.nodes apart all))
 
+  -- no two children of an object have the same number
   pub apart_children : (id : ℕ) → Apart (children_of rows id)
   apart_children id = apart_sorted (filter (has_parent id) rows.nodes) (apart_filter (has_parent id) rows.nodes apart)
 
@@ -238,10 +250,11 @@ module _ (rows : Content) (apart : Apart rows.nodes) where
       assoc true b c = refl
       assoc false b c = refl
 
-  -- whether an object is among the children, and how many there are
+  -- whether an object is among the children
   pub is_child : (id : ℕ) (n : Node) → node_at rows n.id ≡ Some n → has_id n.id (children_of rows id) ≡ has_parent id n
   is_child id n there = any_sorted (λ (m : Node). m.id == n.id) (filter (has_parent id) rows.nodes) ∙ any_filter (λ (m : Node). m.id == n.id) (has_parent id) rows.nodes ∙ any_here (has_parent id) n rows.nodes apart there
 
+  -- an object has as many children as there are objects with it as their parent
   pub length_children : (id : ℕ) → length (children_of rows id) ≡ count (has_parent id) rows.nodes
   length_children id = length_sorted (filter (has_parent id) rows.nodes) ∙ count_length (has_parent id) rows.nodes
 

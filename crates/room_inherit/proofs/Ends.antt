@@ -28,15 +28,18 @@ use Rattle.room_inherit.proofs.Frontier.{set, set_id, set_parent, set_held, find
 use Rattle.room_inherit.proofs.Outdated.{parent_is, same_above, parent_found, base_of}
 use Rattle.room_inherit.proofs.Folders.{in_folder_is, meets_both, set_above}
 
+-- where a test of all objects is passed, each object passes it
 pub each_all : (p : Node → Bool) (xs : List Node) → list_all p xs ≡ true → Each (λ x. p x ≡ true) xs
 each_all p [] all = tt
 each_all p (x ∷ xs) all = let parts = and_parts (p x) (list_all p xs) all in (parts.0, each_all p xs parts.1)
 
 -- ---- the lists as they are stored
 
+-- the inherited entries that an object stores before anything is carried down
 abbrev pub own_lists : Which → Node → List Ace
 own_lists which node = (held_of which node).inh
 
+-- objects that are given the lists they store leave the content as it is
 pub with_own_lists : (which : Which) (old : Content) → with_lists which (own_lists which) old ≡ old
 with_own_lists which old = ap (λ (ns : List Node). record old { nodes = ns }) (map_agree (set which (own_lists which)) (λ n. n) old.nodes (every old.nodes) ∙ map-id old.nodes)
   where
@@ -44,9 +47,11 @@ with_own_lists which old = ap (λ (ns : List Node). record old { nodes = ns }) (
     every [] = tt
     every (x ∷ xs) = (with_own which x, every xs)
 
+-- an object that is given the list it stores doesn't count as changed
 pub own_unchanged : (which : Which) (n : Node) → is_changed which (own_lists which) n ≡ false
 own_unchanged which n = ap not (entries_themselves (held_of which n).inh)
 
+-- so at the beginning the number of changed objects is 0
 pub count_own : (which : Which) (nodes : List Node) → count (is_changed which (own_lists which)) nodes ≡ 0
 count_own which [] = refl
 count_own which (x ∷ xs) = ap (λ t. one_if t + count (is_changed which (own_lists which)) xs) (own_unchanged which x) ∙ (let rest = count_own which xs in omega (arith, rest))
@@ -63,6 +68,7 @@ law_of_two which old n p there has link agree =
 module _ (which : Which) (start : ℕ) (old : Content) (rises : is_rising (0 ∷ ids_of old.nodes) ≡ true) where
   -- ---- the beginning
 
+  -- at the beginning the object itself is all that waits, and no list has changed
   pub frontier_first : (s : Node) → node_at old start ≡ Some s → Frontier which start old (own_lists which) (s ∷ [])
   frontier_first s found =
       let same : s.id ≡ start = found_id start old.nodes s found in
@@ -131,6 +137,7 @@ module _ (which : Which) (start : ℕ) (old : Content) (rises : is_rising (0 ∷
         on None up = refl
         on (Some p) up = ap (λ o. option_map_or (agrees_with which (set which f n)) o true) (find_set which f p old.nodes) ∙ found_or p (node_at old p) refl up
 
+    -- once no object waits any more, each object in a folder agrees with it by the new lists
     pub law_at_end : AgreesOrWaits which start old f [] → AllAgreeInFolders (with_lists which f old) which
     law_at_end law =
         all_each (agrees_in_folder (with_lists which f old) which) (map (set which f) old.nodes) (each_map (λ m. agrees_in_folder (with_lists which f old) which m ≡ true) (set which f) old.nodes
@@ -176,6 +183,7 @@ module _ (which : Which) (start : ℕ) (old : Content) (rises : is_rising (0 ∷
         on None goes is = absurd (false≢true is)
         on (Some q) goes is = goes q is
 
+    -- the first object, met again as a linked child of the last that waits, is its own ancestor
     pub loop_found : (rest : List Node) (w : Node) → Frontier which start old f (rest ++ w ∷ []) → meets_again which start w (children_of (with_lists which f old) w.id) ≡ true → IsOwnAncestor old start
     loop_found rest w front met = some_child (with_lists which f old) (apart_map (set which f) (set_id which f) old.nodes (apart_rising 0 old.nodes rises)) (is_met_again which start w) w.id (IsOwnAncestor old start) found met
       where
@@ -201,6 +209,7 @@ module _ (which : Which) (start : ℕ) (old : Content) (rises : is_rising (0 ∷
 
 -- ---- counts
 
+-- where an object that fails a test is found, fewer pass the test than there are objects
 pub count_less : (p : Node → Bool) (id : ℕ) (nodes : List Node) (s : Node) → find_id id nodes ≡ Some s → p s ≡ false → suc (count p nodes) ≤ length nodes
 count_less p id [] s found isnt = absurd (let wrong : ⊥ = cc in wrong)
 count_less p id (x ∷ xs) s found isnt = on (x.id == id) found (count_less p id xs s)
@@ -228,5 +237,6 @@ length_numbers : (more ids : List ℕ) → length ids ≤ length (put_numbers mo
 length_numbers [] ids = omega arith
 length_numbers (id ∷ more) ids = let e = length_put id (put_numbers more ids) in let r = length_numbers more ids in omega (arith, e, r)
 
+-- there are at least as many numbers in use as objects that can be read
 pub as_many_numbers : (rows : Rows) → length rows.read.nodes ≤ length (numbers_of rows)
 as_many_numbers rows = let e = length-map rows.read.nodes (λ (n : Node). n.id) in let r = length_numbers rows.unreadable (ids_of rows.read.nodes) in omega (arith, e, r)

@@ -97,5 +97,6 @@ enough most content fits n None up = refl
 enough zero content fits n (Some p) up = absurd (none_left content fits n p up)
 enough (suc most) content fits n (Some p) up = shorter most (enough most) n content fits n p (omega arith) up
 
+-- if there is a way to the root, as many steps as there are objects are enough for one
 pub enough_steps : EnoughSteps
 enough_steps rows n parent up = enough (length rows.nodes) rows (omega arith) n parent up

@@ -24,6 +24,7 @@ use Rattle.room_inherit.proofs.Unmoved.{all_map, folder_above}
 pub in_folder_is : (content : Content) (node parent : Node) → node_at content parent.id ≡ Some parent → has_parent parent.id node ≡ true → has_folder_above content node ≡ is_folder parent
 in_folder_is content node parent there has = λ i. is_none (parent_is parent.id node has i) || option_map_or is_folder (parent_found content parent node there has i) false
 
+-- what has to hold under a condition holds where the condition does
 pub meets_both : (t u : Bool) → t ≡ true → (not t || u) ≡ true → u ≡ true
 meets_both true u is either = either
 meets_both false u is either = absurd (false≢true is)
@@ -48,9 +49,11 @@ all_weaker p q r (x ∷ xs) all =
     on false true u is = is
     on false false u is = refl
 
+-- where all objects but the root stand in folders, the law in folders is the law of all
 pub law_in_folders : LawInFolders
 law_in_folders rows which folders law = all_of_those (has_folder_above rows) (agrees rows which) rows.nodes folders law
 
+-- where the law holds but for an object's children, it holds in folders but for these
 pub law_but : (rows : Content) (which : Which) (id : ℕ) → AllAgreeBut rows which id → AllAgreeInFoldersBut rows which id
 law_but rows which id but = all_weaker (has_parent id) (agrees rows which) (has_folder_above rows) rows.nodes but
 
@@ -64,6 +67,7 @@ module _ (which : Which) (f : Node → List Ace) (content : Content) where
   pub set_above : (n : Node) → has_folder_above (with_lists which f content) (set which f n) ≡ has_folder_above content n
   set_above n = folder_above content (set which f) place (λ m. same_kind which (f m) m) n
 
+  -- where every object but the root stood in a folder, every one does with the other lists
   pub folders_stay : list_all (has_folder_above content) content.nodes ≡ true → list_all (has_folder_above (with_lists which f content)) (with_lists which f content).nodes ≡ true
   folders_stay folders = all_map (has_folder_above (with_lists which f content)) (has_folder_above content) (set which f) set_above content.nodes ∙ folders
 

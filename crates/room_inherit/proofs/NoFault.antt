@@ -88,9 +88,11 @@ nothing_found rows law sound =
       none.6,
     )
 
+-- where the first six tests report no fault, all rows pass each of the six
 pub checked : (rows : Rows) → first_fault rows ≡ None → IsChecked rows
 checked rows unfaulted = (nothing_found rows None (ap (λ f. or_sound (or_else f None)) unfaulted)).0
 
+-- where all rows pass the six, the search for a bad list finds nothing
 pub list_checked : (rows : Rows) → IsChecked rows → first_bad_list rows ≡ None
 list_checked rows none = sym (unbad rows) ∙ none_fails (λ id. not (has_bad_list rows id)) (numbers_of rows) none.lists
 
@@ -100,6 +102,7 @@ unfaulted rows none =
     λ i. by_six (true_path tree) (list_checked rows none i) (none.root i) (none_fails (has_folder_above tree) tree.nodes none.parents i)
     (none_fails (reaches tree) tree.nodes none.reach i) (none_fails (has_sound_name tree) tree.nodes none.names i) (none_fails (has_sound_body tree) tree.nodes none.bodies i)
 
+-- rows that are reported to be sound pass all seven tests
 pub no_fault : (rows : Rows) → AreSound rows → HasNoFault rows
 no_fault rows sound =
     let none = nothing_found rows (first_failing (keeps_law rows.read) rows.read) sound in
@@ -118,29 +121,35 @@ pub last_passes : (rows : Rows) (test : Node → Bool) → first_fault rows ≡ 
     → or_sound (or_else (first_fault rows) (fault_of (true_path rows.read) BrokenLaw (first_failing test rows.read))) ≡ Sound
 last_passes rows test unfaulted law = λ i. or_sound (or_else (unfaulted i) (fault_of (true_path rows.read) BrokenLaw (none_fails test rows.read.nodes law i)))
 
+-- rows that pass all seven tests are reported to be sound
 pub sound : (rows : Rows) → HasNoFault rows → AreSound rows
 sound rows none =
     last_passes rows (keeps_law rows.read) (unfaulted rows (record { lists = none.lists; root = none.root; parents = none.parents; reach = none.reach; names = none.names; bodies = none.bodies })) none.law
 
+-- in rows without a fault no row is unreadable, and no object has a bad list
 pub none_bad : (rows : Rows) → HasNoFault rows → first_bad_list rows ≡ None
 none_bad rows none = sym (unbad rows) ∙ none_fails (λ id. not (has_bad_list rows id)) (numbers_of rows) none.lists
 
+-- to be reported sound and to pass the seven tests is the same
 pub sound_is_no_fault : SoundIsNoFault
 sound_is_no_fault rows = (no_fault rows, sound rows)
 
 -- ---- a tree, where all tests but the last find nothing
 
+-- where the root isn't bad, one object and no other has no parent
 pub root_alone : (roots : List Node) → bad_root roots ≡ None → length roots ≡ 1
 root_alone [] none = absurd (let wrong : ⊥ = cc in wrong)
 root_alone (root ∷ []) none = refl
 root_alone (root ∷ other ∷ others) none = absurd (let wrong : ⊥ = cc in wrong)
 
+-- rows that pass the six tests are a tree: one root, folders above all, and no loop
 pub checked_is_tree : CheckedIsTree
 checked_is_tree rows unfaulted =
     let none = checked rows unfaulted in record { one_root = root_alone (filter is_root rows.read.nodes) none.root; folders = none.parents; connected = none.reach }
 
 -- ---- rows that hold the kept entries alone
 
+-- of rows with the kept entries alone, the report is `Sound` exactly if no test finds a fault
 pub kept_is_no_fault : KeptIsNoFault
 kept_is_no_fault rows = (there, back)
   where

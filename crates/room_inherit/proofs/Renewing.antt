@@ -14,14 +14,17 @@ use Rattle.room_inherit.proofs.Kinship.{same_id, held_with}
 use Rattle.room_inherit.proofs.Members.{Each, each_weaker, each_filter, each_fails}
 use Rattle.room_inherit.proofs.Children.{has_id, Apart, ids_of, each_found, each_there, each_above, apart_rising, apart_filter, has_id_map, each_child, apart_children, is_such_child}
 
+-- two facts of each member, taken together, are one fact of each
 pub each_both : {A : Type 0} (P Q : A → Type 0) (xs : List A) → Each P xs → Each Q xs → Each (λ x. P x × Q x) xs
 each_both P Q [] ps qs = tt
 each_both P Q (x ∷ xs) ps qs = ((ps.0, qs.0), each_both P Q xs ps.1 qs.1)
 
+-- changes that do the same to each member of a list give the same list
 pub map_agree : {A B : Type 0} (f g : A → B) (xs : List A) → Each (λ x. f x ≡ g x) xs → map f xs ≡ map g xs
 map_agree f g [] all = refl
 map_agree f g (x ∷ xs) all = λ i. all.0 i ∷ map_agree f g xs all.1 i
 
+-- a list mapped by g and then by f is mapped once, by f after g
 pub map_map : {A B C : Type 0} (f : B → C) (g : A → B) (xs : List A) → map f (map g xs) ≡ map (λ x. f (g x)) xs
 map_map f g [] = refl
 map_map f g (x ∷ xs) = ap (λ ys. f (g x) ∷ ys) (map_map f g xs)
@@ -99,6 +102,7 @@ module _ (g : Node → Node) (same : (n : Node) → (g n).id ≡ n.id) where
         ap (λ (m : Node). cond (has_id m.id ks) (g m) m) (cond-false (n.id == (g k).id) (g k) n isnt) ∙ ap (λ t. cond (t || has_id n.id ks) (g n) n) (sym other)
   ]
 
+  -- to put objects of the rows once more, changed, is to change these where they stand and no other
   pub put_nodes_map : (ks nodes : List Node) → is_rising (0 ∷ ids_of nodes) ≡ true → Apart ks → Each (λ k. find_id k.id nodes ≡ Some k) ks
       → put_nodes (map g ks) nodes ≡ map (λ n. cond (has_id n.id ks) (g n) n) nodes
   put_nodes_map [] nodes rises apart there = sym (map-id nodes)

@@ -33,6 +33,7 @@ module _ (rows : Content) (id m : ℕ) (node : Node) (found : node_at rows id �
 same_node : (x y : Node) → Some x ≡ Some y → x ≡ y
 same_node x y e = cc
 
+-- an object whose parents lead to the root isn't below itself
 pub rooted_no_loop : RootedIsNoLoop
 rooted_no_loop rows id n node found reaches loop = on loop.2.0 loop.2.1
   where

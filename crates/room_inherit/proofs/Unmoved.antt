@@ -11,6 +11,7 @@ use Rattle.room_rows.proofs.Frames.{KeepsPlaces, keeps_places, node_at-with_each
 use Rattle.room_rows.proofs.Lookups.{IsSamePlace}
 use Rattle.room_rows.specs.Sound.{reaches}
 
+-- a test of all changed objects says what a test of all objects said before the change
 pub all_map : (p q : Node → Bool) (g : Node → Node) → ((n : Node) → p (g n) ≡ q n) → (xs : List Node) → list_all p (map g xs) ≡ list_all q xs
 all_map p q g same [] = refl
 all_map p q g same (x ∷ xs) = λ i. same x i && all_map p q g same xs i
@@ -23,12 +24,15 @@ module _ (rows : Content) (change : Node → Node) (place : (n : Node) → IsSam
   abbrev changed : Content
   changed = with_each rows change
 
+  -- no object of the rows gets another number, parent or name
   pub places : KeepsPlaces rows change
   places = keeps_places rows change place
 
+  -- the parent of a changed object is the parent that it had, changed
   pub above : (node : Node) → parent_of changed (change node) ≡ option_map change (parent_of rows node)
   above node = ap (option_and_then (node_at changed)) (place node).parent ∙ parent_of-with_each rows change places node
 
+  -- in at most n steps, parents lead to the root after the change exactly if they did before
   pub reach : (n : ℕ) (id : Option ℕ) → reaches_root n changed id ≡ reaches_root n rows id
   reach zero None = refl
   reach zero (Some id) = refl
@@ -39,9 +43,11 @@ module _ (rows : Content) (change : Node → Node) (place : (n : Node) → IsSam
       on None more = refl
       on (Some parent) more = more (change parent).parent ∙ ap (reaches_root n rows) (place parent).parent
 
+  -- a changed object's parents reach the root, in as many steps as objects, exactly if they did
   pub reach_all : (node : Node) → reaches changed (change node) ≡ reaches rows node
   reach_all node = ap (λ n. reaches_root n changed (change node).parent) (length-map rows.nodes change) ∙ reach (length rows.nodes) (change node).parent ∙ ap (reaches_root (length rows.nodes) rows) (place node).parent
 
+  -- where no kind changes, a changed object stands in a folder exactly if it did before
   pub folder_above : ((n : Node) → (change n).kind ≡ n.kind) → (node : Node) → has_folder_above changed (change node) ≡ has_folder_above rows node
   folder_above kinds node = (λ i. is_none ((place node).parent i) || option_map_or is_folder (above node i) false) ∙ ap (λ t. is_root node || t) (on (parent_of rows node))
     where

@@ -37,6 +37,7 @@ among_numbers : (more ids : List ℕ) (id : ℕ) → is_among (put_numbers more 
 among_numbers [] ids id = refl
 among_numbers (x ∷ xs) ids id = among_one_more x (put_numbers xs ids) id ∙ ap (λ t. (x == id) || t) (among_numbers xs ids id) ∙ or_group (x == id) (is_among xs id) (is_among ids id)
 
+-- a number is one of the objects' numbers exactly if an object is found by it
 pub among_found : (nodes : List Node) (id : ℕ) → is_among (ids_of nodes) id ≡ is_some (find (λ (n : Node). n.id == id) nodes)
 among_found [] id = refl
 among_found (x ∷ xs) id = on (x.id == id) (among_found xs id)
@@ -80,6 +81,7 @@ all_read rows (x ∷ xs) are none =
     let bad : has_bad_list rows x ≡ true = or_left (is_unreadable rows x) _ itself in
     absurd (false≢true (sym (none_found (has_bad_list rows) (numbers_of rows) none) ∙ any_at (has_bad_list rows) (numbers_of rows) x listed bad))
 
+-- where no number in use is bad, each row can be read
 pub none_unreadable : (rows : Rows) → first_bad_list rows ≡ None → rows.unreadable ≡ []
 none_unreadable rows none = all_read rows rows.unreadable refl none
 
@@ -100,6 +102,7 @@ module _ (rows : Rows) (ids : List ℕ) (i : ℕ) (below : i < length ids) where
   next_id : drop i ids ≡ get_or ids i 0 ∷ drop (i + 1) ids
   next_id = drop_more ids i 0 below
 
+  -- a bad number at i is the first bad one from there on
   pub bad_here : has_bad_list rows (get_or ids i 0) ≡ true → find (has_bad_list rows) (drop i ids) ≡ Some (get_or ids i 0)
   bad_here bad = ap (find (has_bad_list rows)) next_id ∙ cond-true _ _ _ bad
 
@@ -108,9 +111,11 @@ module _ (rows : Rows) (ids : List ℕ) (i : ℕ) (below : i < length ids) where
   bad_at at are same (is, inl bad) = ap (find (has_bad_list rows)) (sym are) ∙ sym same ∙ bad_here bad ∙ ap Some (sym is)
   bad_at at are same (is, inr free) = absurd (not_free rows ids i (get_or ids i 0) are below free)
 
+  -- where the number at i is not bad, the first bad one from there on comes after it
   pub sound_here : has_bad_list rows (get_or ids i 0) ≡ false → find (has_bad_list rows) (drop (i + 1) ids) ≡ find (has_bad_list rows) (drop i ids)
   sound_here sound = sym (ap (find (has_bad_list rows)) next_id ∙ cond-false _ _ _ sound)
 
+  -- with the object of the number at i pushed, those read and those still to be read are the same
   pub one_more_node : (nodes more : List Node) (node : Node) → node_at rows.read (get_or ids i 0) ≡ Some node → more ≡ nodes ++ node ∷ []
       → more ++ filter_map (node_at rows.read) (drop (i + 1) ids) ≡ nodes ++ filter_map (node_at rows.read) (drop i ids)
   one_more_node nodes more node there pushed =

@@ -14,7 +14,7 @@ pub record HasDone {S : Type 0} (rows : S → Rows) (Follows IsTrusted : S → S
   pub becomes : IsTrusted a b → Becomes (rows a) (rows b)
 
 module _ {S : Type 0} {rows : S → Rows} {failures : S → ℕ} {Follows IsTrusted : S → S → Type 0} where
-  -- a call that reads is such a call, and so is one that writes
+  -- a call that reads is such a call
   pub of_read : {writes : S → ℕ} {X : Type 0} {a b : S} {r : Result X KeepFault} {Blames : Rows → ℕ → Type 0} {Answers : Rows → X → Type 0}
       → IsRead rows failures writes Follows IsTrusted a b r Blames Answers → IsDone rows failures Follows IsTrusted a b r Blames (λ old x new. Answers old x × (new ≡ old))
   of_read {a = a} {b = b} {r = r} {Answers = Answers} read = record { follows = read.follows; becomes = λ t. both r (read.answers t) (read.same t); fault = read.fault }
@@ -23,6 +23,7 @@ module _ {S : Type 0} {rows : S → Rows} {failures : S → ℕ} {Follows IsTrus
       both (Ok x) answers same = (answers, same)
       both (Err e) answers same = tt
 
+  -- a call that writes, with what it made of the rows and the cause of its fault
   pub of_write : {writes : S → ℕ} {X : Type 0} {a b : S} {r : Result X KeepFault} {Blames : Rows → ℕ → Type 0} {Becomes : Rows → X → Rows → Type 0}
       → IsWrite rows failures writes Follows IsTrusted a b r Blames Becomes → IsDone rows failures Follows IsTrusted a b r Blames Becomes
   of_write write = record { follows = write.follows; becomes = write.becomes; fault = write.fault }
@@ -52,9 +53,11 @@ module _ {S : Type 0} {rows : S → Rows} {failures : S → ℕ} {Follows IsTrus
   done call = record { follows = call.follows; becomes = call.becomes }
 
   module _ {writes : S → ℕ} (laws : KeepLaws rows failures writes Follows IsTrusted) where
+    -- before the first call the rows are as they were
     pub none_done : (a : S) → HasDone rows Follows IsTrusted a a (λ old new. new ≡ old)
     none_done a = record { follows = laws.itself a; becomes = λ t. refl }
 
+    -- calls that answered and more that did are one run, with what both made of the rows joined
     pub then : {a b c : S} {Before After Becomes : Rows → Rows → Type 0} → HasDone rows Follows IsTrusted a b Before → HasDone rows Follows IsTrusted b c After
         → ((old mid new : Rows) → Before old mid → After mid new → Becomes old new) → HasDone rows Follows IsTrusted a c Becomes
     then {a = a} {b = b} {c = c} before after joins = record {

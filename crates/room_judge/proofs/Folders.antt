@@ -33,9 +33,11 @@ use Rattle.room_judge.proofs.Spots.{below_of, missing, last_look, stem, way_alon
 -- ---- the folder of the last name
 
 module _ (asker : Asker) (path : List (List ℕ)) (from : Found) where
+  -- a folder that is refused, as a document or without EXECUTE, bars the spot with that reply
   pub spot_barred : (old new : Rows) (reply : Reply) → IsJudged asker (through (found_site path from)) old (Some reply) new → SpotsUnder asker path from old (Barred reply) new
   spot_barred old new reply judged = record { judged = judged; folder = tt; child = tt }
 
+  -- where the folder is passed, the spot is the folder with what has the next name in it
   pub spot_found : (old mid new : Rows) (spot : Spot) → IsJudged asker (through (found_site path from)) old None mid → IsSpotIn path from mid spot → new ≡ mid → SpotsUnder asker path from old spot new
   spot_found old mid new spot judged is same = subst (λ (s : Spot). SpotsUnder asker path from old s new) (sym is) (record {
     judged = subst (λ (r : Rows). IsJudged asker (through (found_site path from)) old None r) (sym same) judged;
@@ -78,6 +80,7 @@ module _ (asker : Asker) (path : List (List ℕ)) (some : 0 < length path) where
       none_there None = refl
       none_there (Some site) = refl
 
+  -- a walk that ended before it came to the folder bars the spot with its reply
   pub spot_ends : (old new : Rows) (reply : Reply) → IsReached asker (front path) (λ _. []) old (Ended reply) new → IsSpotted asker path old (Barred reply) new
   spot_ends old new reply reached = record {
     judged = subst (λ items. IsJudged asker items old (Some reply) new) (sym (way_along old.read true path some))
@@ -108,6 +111,7 @@ module _ (asker : Asker) (path : List (List ℕ)) (some : 0 < length path) where
     look_is : last_look old.read true path ≡ Refusal ((found_site path from).path ++ last_name path ∷ []) NoSuch false ∷ []
     look_is = ap (λ o. where_found o (λ site. missing old.read true (last_name path) site ∷ [])) at_folder ∙ ap (λ t. Refusal ((found_site path from).path ++ last_name path ∷ []) NoSuch t ∷ []) (and_false (is_none (child_of old.read node.id (last_name path))))
 
+    -- a walk that came to the folder has the spot that is found there, barred or not
     pub spot_on : (new : Rows) (spot : Spot) → SpotsUnder asker path from mid spot new → IsSpotted asker path old spot new
     spot_on new (Barred reply) under = record {
       judged = subst (λ items. IsJudged asker items old (Some reply) new) (sym (way_along old.read true path some)) (fails_first asker (stem old.read path) (last_look old.read true path) old new reply (stem_judged new (Some reply) under.judged));
@@ -140,9 +144,11 @@ module _ (asker : Asker) (path : List (List ℕ)) (some : 0 < length path) where
         ∙ ap (λ t. stem old.read path ++ Refusal (site.path ++ last_name path ∷ []) NoSuch t ∷ []) (and_false (is_none (child_of old.read site.node.id (last_name path)))))
         judged)
 
+    -- where the last name may be absent, only the way to the folder and through it was judged
     pub stem_of : IsJudged asker (stem old.read path) old answer new
     stem_of = on_stem (folder_along old.read path) refl
 
+  -- where the spot is barred, the walk to the object and its folder halts with the same reply
   pub pair_barred : (old new : Rows) (reply : Reply) → IsSpotted asker path old (Barred reply) new → IsPaired asker path old (Halted reply) new
   pair_barred old new reply spotted = record {
     judged = subst (λ items. IsJudged asker items old (Some reply) new) (sym (way_along old.read false path some))
@@ -156,6 +162,7 @@ module _ (asker : Asker) (path : List (List ℕ)) (some : 0 < length path) where
     site : Site
     site = found_site path folder
 
+    -- the folder of the spot is what is found along all names of the path but the last
     pub folder_is : folder_along old.read path ≡ Some (found_site path folder)
     folder_is = sym (folder_found old.read path some) ∙ spotted.folder
 
@@ -171,6 +178,7 @@ module _ (asker : Asker) (path : List (List ℕ)) (some : 0 < length path) where
         on (Some x) None same = absurd (let wrong : ⊥ = cc in wrong)
         on (Some x) (Some y) same = refl
 
+    -- nothing in that folder has the last name exactly if the spot has no child
     pub lacks : is_none (child_of old.read folder.node.id (last_name path)) ≡ is_none child
     lacks = missing_is child
         (ap (λ p. option_map (stored_site p) (child_of old.read folder.node.id (last_name path))) (sym whole)
@@ -181,11 +189,13 @@ module _ (asker : Asker) (path : List (List ℕ)) (some : 0 < length path) where
         ∙ ap (λ (p : List (List ℕ)). Refusal p NoSuch (is_none (child_of old.read folder.node.id (last_name path)) && true) ∷ []) whole
         ∙ ap (λ t. Refusal path NoSuch (t && true) ∷ []) lacks
 
+    -- after the spot, to judge whether the last name is there is to have judged the whole way
     pub way_looks : (answer : Option Reply) → IsJudged asker (Refusal path NoSuch (is_none child && true) ∷ []) new answer new → IsJudged asker (way false (stored_along old.read path) path) old answer new
     way_looks answer judged =
         subst (λ items. IsJudged asker items old answer new) (sym (way_along old.read false path some ∙ ap (λ items. stem old.read path ++ items) look_says))
         (passes_first asker (stem old.read path) (Refusal path NoSuch (is_none child && true) ∷ []) old new new answer (stem_of old new None spotted.judged) judged)
 
+  -- a spot with a child gives the folder and that object, as deep as the path is long
   pub pair_found : (old new : Rows) (folder : Found) (node : Node) (depth : ℕ) → depth ≡ length path → IsSpotted asker path old (Under folder (Some node)) new → IsPaired asker path old (Both folder (record { node = node; depth = depth })) new
   pair_found old new folder node depth deep spotted = record {
     judged = way_looks old new folder (Some node) spotted None (passes_on asker path NoSuch false [] new new None refl (judged_none asker new new refl));
@@ -194,6 +204,7 @@ module _ (asker : Asker) (path : List (List ℕ)) (some : 0 < length path) where
     depth = deep;
   }
 
+  -- a spot with no child halts the walk with the refusal that nothing is at the path
   pub pair_missing : (old new : Rows) (folder : Found) (depth : ℕ) (reply : Reply) → depth ≡ length path → reply ≡ Refused (take depth path) NoSuch → IsSpotted asker path old (Under folder None) new → IsPaired asker path old (Halted reply) new
   pair_missing old new folder depth reply deep replies spotted = record {
     judged = way_looks old new folder None spotted (Some reply)
@@ -214,6 +225,7 @@ paired_as asker path some old new folder None pair is spotted = subst (λ (p : P
 pub walked_front : (asker : Asker) (path : List (List ℕ)) (depth : ℕ) (arrival : Arrival) (old new : Rows) → length path ≡ depth + 1 → IsReached asker (take depth path) (λ _. []) old arrival new → IsReached asker (front path) (λ _. []) old arrival new
 walked_front asker path depth arrival old new deep reached = subst (λ (p : List (List ℕ)). IsReached asker p (λ _. []) old arrival new) (take_front path depth deep) reached
 
+-- the same where the names that were walked are cut off a copy of the path
 pub reached_front : (asker : Asker) (path names begin : List (List ℕ)) (arrival place : Arrival) (old new : Rows) → 0 < length path → names ≡ path → begin ≡ take (length names - 1) path → arrival ≡ place
     → IsReached asker begin (λ _. []) old arrival new → IsReached asker (front path) (λ _. []) old place new
 reached_front asker path names begin arrival place old new some are is comes reached =
@@ -221,9 +233,11 @@ reached_front asker path names begin arrival place old new some are is comes rea
     let deep : length path ≡ (length names - 1) + 1 = omega arith in
     subst (λ (p : List (List ℕ)). IsReached asker p (λ _. []) old place new) (is ∙ take_front path (length names - 1) deep) (subst (λ (a : Arrival). IsReached asker begin (λ _. []) old a new) comes reached)
 
+-- a spot that was reached may be replaced by one that is equal to it
 pub spotted_as : (asker : Asker) (path : List (List ℕ)) (spot other : Spot) (old new : Rows) → spot ≡ other → IsSpotted asker path old spot new → IsSpotted asker path old other new
 spotted_as asker path spot other old new same spotted = subst (λ (s : Spot). IsSpotted asker path old s new) same spotted
 
+-- so may, in a spot under a folder, what has the last name there
 pub spotted_child : (asker : Asker) (path : List (List ℕ)) (folder : Found) (child other : Option Node) (old new : Rows) → child ≡ other → IsSpotted asker path old (Under folder child) new → IsSpotted asker path old (Under folder other) new
 spotted_child asker path folder child other old new same spotted = subst (λ (o : Option Node). IsSpotted asker path old (Under folder o) new) same spotted
 
@@ -247,6 +261,7 @@ abbrev pub target_in : Pair → Arrival
 target_in (Both folder target) = At target.node
 target_in (Halted reply) = Ended reply
 
+-- a walk to an object and its folder has reached the object, or ended with that reply
 pub pair_reached : (asker : Asker) (path : List (List ℕ)) (pair : Pair) (old new : Rows) → IsPaired asker path old pair new → IsReached asker path (λ _. []) old (target_in pair) new
 pair_reached asker path (Both folder target) old new paired = record { judged = subst (λ items. IsJudged asker items old None new) (sym (plain_way asker path old)) paired.judged; found = paired.target }
 pair_reached asker path (Halted reply) old new paired = record { judged = subst (λ items. IsJudged asker items old (Some reply) new) (sym (plain_way asker path old)) paired.judged; found = tt }

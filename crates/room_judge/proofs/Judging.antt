@@ -25,9 +25,11 @@ use Rattle.room_judge.specs.Judged.{IsJudged, noted, of_kind, is_other}
 abbrev with_audits : Rows → List AuditRow → Rows
 with_audits old audits = reading old (record old.read { audits = audits })
 
+-- rows with no records added are as they were
 pub noted_none : (old : Rows) → noted old [] ≡ old
 noted_none old = ap (with_audits old) (append-nil old.read.audits)
 
+-- records added after others are added as one list, the earlier ones first
 pub noted_more : (old : Rows) (first second : List AuditRow) → noted (noted old first) second ≡ noted old (first ++ second)
 noted_more old first second = ap (with_audits old) (append_assoc old.read.audits first second)
 
@@ -42,6 +44,7 @@ or_else_group None b c = refl
 or_else_group (Some reply) b c = refl
 
 module _ (caller : Caller) (moment : ℤ) where
+  -- the first failure of two lists in a row is that of the first, or else that of the second
   pub failure_of_parts : (items others : List Item) → first_failure caller (items ++ others) ≡ or_else (first_failure caller items) (first_failure caller others)
   failure_of_parts [] others = refl
   failure_of_parts (item ∷ items) others = ap (or_else (failure caller item)) (failure_of_parts items others) ∙ or_else_group (failure caller item) (first_failure caller items) (first_failure caller others)
@@ -89,9 +92,11 @@ none_is (Some x) false is = refl
 -- ---- judging in parts
 
 module _ (asker : Asker) where
+  -- where there is nothing to judge, nothing is refused, and no records are added
   pub judged_none : (old new : Rows) → new ≡ old → IsJudged asker [] old None new
   judged_none old new same = record { answers = refl; notes = same ∙ sym (noted_none old) }
 
+  -- one check is judged by whether it fails, with the records of that outcome added
   pub judged_check : (site : Site) (bits : List ℕ) (old new : Rows) (answer : Option Reply) → answer ≡ failure asker.caller (Check site bits)
       → new ≡ noted old (records_of asker.caller asker.at (is_none answer) (site, bits)) → IsJudged asker (Check site bits ∷ []) old answer new
   judged_check site bits old new answer is notes = record {
@@ -99,6 +104,7 @@ module _ (asker : Asker) where
     notes = notes ∙ ap (λ o. noted old (records_of asker.caller asker.at (is_none o) (site, bits))) is ∙ ap (noted old) (sym (records_of_check asker.caller asker.at site bits));
   }
 
+  -- a deletion is judged with the records of two checks, DELETE there and a right at the parent
   pub judged_deletion : (target parent : Site) (second : List ℕ) (old new : Rows) (answer : Option Reply) → answer ≡ failure asker.caller (Deletion target parent) → second ≡ cond (is_by_adding asker.caller target parent) write_data delete_child ∷ []
       → new ≡ noted old (records_of_checks asker.caller asker.at (is_none answer) ((target, delete ∷ []) ∷ (parent, second) ∷ [])) → IsJudged asker (Deletion target parent ∷ []) old answer new
   judged_deletion target parent second old new answer is rights notes = record {
@@ -114,6 +120,7 @@ module _ (asker : Asker) where
       plain true = append-nil _
       plain false = append-nil _
 
+  -- items judged with one answer are judged with any answer equal to it
   pub judged_as : (items : List Item) (answer other : Option Reply) (old new : Rows) → answer ≡ other → IsJudged asker items old answer new → IsJudged asker items old other new
   judged_as items answer other old new same judged = subst (λ (o : Option Reply). IsJudged asker items old o new) same judged
 
@@ -131,6 +138,7 @@ module _ (asker : Asker) where
       refusal : Bool → Option Reply
       refusal t = cond t (Some (Refused path why)) None
 
+  -- a refusal that does not hold leaves the answer and the records of the items after it
   pub passes_on : (path : List (List ℕ)) (why : Reason) (holds : Bool) (items : List Item) (old new : Rows) (answer : Option Reply) → holds ≡ false → IsJudged asker items old answer new → IsJudged asker (Refusal path why holds ∷ items) old answer new
   passes_on path why holds items old new answer isnt judged = record {
     answers = judged.answers ∙ ap (λ t. or_else (cond t (Some (Refused path why)) None) (first_failure asker.caller items)) (sym isnt);
@@ -140,7 +148,7 @@ module _ (asker : Asker) where
       refusal : Bool → Option Reply
       refusal t = cond t (Some (Refused path why)) None
 
-  -- what fails in a first part is the answer, and what passes leads to the second
+  -- what fails in a first part is the answer
   pub fails_first : (items others : List Item) (old new : Rows) (reply : Reply) → IsJudged asker items old (Some reply) new → IsJudged asker (items ++ others) old (Some reply) new
   fails_first items others old new reply judged = record {
     answers = sym (failure_of_parts asker.caller asker.at items others ∙ ap (λ o. or_else o (first_failure asker.caller others)) (sym judged.answers));
@@ -148,6 +156,7 @@ module _ (asker : Asker) where
         ∙ ap (λ o. records_of_plan asker.caller asker.at items ++ cond (is_none o) (records_of_plan asker.caller asker.at others) []) (sym judged.answers) ∙ append-nil _));
   }
 
+  -- where a first part passes, the second, judged from the rows it left, gives the answer to both
   pub passes_first : (items others : List Item) (old mid new : Rows) (answer : Option Reply) → IsJudged asker items old None mid → IsJudged asker others mid answer new → IsJudged asker (items ++ others) old answer new
   passes_first items others old mid new answer first second = record {
     answers = second.answers ∙ sym (failure_of_parts asker.caller asker.at items others ∙ ap (λ o. or_else o (first_failure asker.caller others)) (sym first.answers));
@@ -165,12 +174,15 @@ pub record SoFar (asker : Asker) (all rest : List Item) (old mid : Rows) : Type 
   pub judged : IsJudged asker front old None mid
 
 module _ (asker : Asker) where
+  -- at the beginning all items are left
   pub so_far_none : (all : List Item) (old new : Rows) → new ≡ old → SoFar asker all all old new
   so_far_none all old new same = record { front = []; parts = refl; judged = judged_none asker old new same }
 
+  -- the items that are left may be written as another list that is equal
   pub so_far_as : (all rest others : List Item) (old mid : Rows) → rest ≡ others → SoFar asker all rest old mid → SoFar asker all others old mid
   so_far_as all rest others old mid same sofar = record { front = sofar.front; parts = sofar.parts ∙ ap (λ items. sofar.front ++ items) same; judged = sofar.judged }
 
+  -- where the next of the items that are left pass, only those after them are left
   pub so_far_on : (all items rest : List Item) (old mid new : Rows) → SoFar asker all (items ++ rest) old mid → IsJudged asker items mid None new → SoFar asker all rest old new
   so_far_on all items rest old mid new sofar judged = record {
     front = sofar.front ++ items;
@@ -178,11 +190,13 @@ module _ (asker : Asker) where
     judged = passes_first asker sofar.front items old mid new None sofar.judged judged;
   }
 
+  -- where one of the next items fails, its reply is the answer to the whole list
   pub so_far_fails : (all items rest : List Item) (old mid new : Rows) (reply : Reply) → SoFar asker all (items ++ rest) old mid → IsJudged asker items mid (Some reply) new → IsJudged asker all old (Some reply) new
   so_far_fails all items rest old mid new reply sofar judged =
       subst (λ list. IsJudged asker list old (Some reply) new) (sym sofar.parts)
       (passes_first asker sofar.front (items ++ rest) old mid new (Some reply) sofar.judged (fails_first asker items rest mid new reply judged))
 
+  -- the answer to all items that are left is the answer to the whole list
   pub so_far_last : (all rest : List Item) (old mid new : Rows) (answer : Option Reply) → SoFar asker all rest old mid → IsJudged asker rest mid answer new → IsJudged asker all old answer new
   so_far_last all rest old mid new answer sofar judged =
       subst (λ list. IsJudged asker list old answer new) (sym sofar.parts) (passes_first asker sofar.front rest old mid new answer sofar.judged judged)

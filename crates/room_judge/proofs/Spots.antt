@@ -14,14 +14,17 @@ use Rattle.room_judge.specs.Judged.{name_after, through}
 
 -- ---- a path and its last name
 
+-- a name and those after it are their front, followed by the last of them
 pub front_and_last : (name : List ℕ) (names : List (List ℕ)) → front (name ∷ names) ++ last_name (name ∷ names) ∷ [] ≡ name ∷ names
 front_and_last name [] = refl
 front_and_last name (next ∷ names) = ap (λ l. name ∷ l) (front_and_last next names)
 
+-- a path of at least one name is its front and then its last name
 pub path_parts : (path : List (List ℕ)) → 0 < length path → front path ++ last_name path ∷ [] ≡ path
 path_parts [] some = absurd (let wrong : ⊥ = omega arith in wrong)
 path_parts (name ∷ names) some = front_and_last name names
 
+-- a name that is added after others is the last name
 pub last_of : (names : List (List ℕ)) (name : List ℕ) → last_name (names ++ name ∷ []) ≡ name
 last_of [] name = refl
 last_of (first ∷ []) name = refl
@@ -34,9 +37,11 @@ module _ (path : List (List ℕ)) (depth : ℕ) (deep : length path ≡ depth + 
   depth_is : depth ≡ length (front path)
   depth_is = let e : length (front path) + 1 ≡ length path = sym (length-append (front path) (last_name path ∷ [])) ∙ ap length parts in omega arith
 
+  -- in a path of depth + 1 names, the first `depth` names are all but the last
   pub take_front : take depth path ≡ front path
   take_front = ap (λ (n : ℕ). take n path) depth_is ∙ ap (λ (l : List (List ℕ)). take (length (front path)) l) (sym parts) ∙ take-append_seam (front path) (last_name path ∷ [])
 
+  -- the name that comes after `depth` others is the last name of such a path
   pub name_is_last : name_after path depth ≡ last_name path
   name_is_last = ap (λ (n : ℕ). name_after path n) depth_is ∙ ap (λ (l : List (List ℕ)). name_after l (length (front path))) (sym parts) ∙ get_or-append_seam (front path) (last_name path) [] []
 
@@ -51,6 +56,7 @@ module _ (rows : Content) where
   abbrev pub missing : Bool → List ℕ → Site → Item
   missing lack name site = Refusal (site.path ++ name ∷ []) NoSuch (is_none (child_of rows site.node.id name) && not lack)
 
+  -- the items at the folder of the last name: through it, and then whether it has that name
   abbrev pub last_items : Bool → List ℕ → Site → List Item
   last_items lack name site = through site ++ missing lack name site ∷ []
 
@@ -132,6 +138,7 @@ module _ (rows : Content) where
   abbrev pub folder_along : List (List ℕ) → Option Site
   folder_along path = site_at (stored_along rows (front path)) (front path)
 
+  -- the object above the end of a path is found along its names but the last
   pub folder_found : (path : List (List ℕ)) → 0 < length path → parent_at (stored_along rows path) path ≡ folder_along path
   folder_found [] some = absurd (let wrong : ⊥ = omega arith in wrong)
   folder_found (name ∷ names) some = on (root_of rows)
@@ -140,6 +147,7 @@ module _ (rows : Content) where
       on None = refl
       on (Some root) = folder_from names [] name root
 
+  -- the object at the end of a path is what has the last name in the folder of that name
   pub target_found : (path : List (List ℕ)) → 0 < length path → site_at (stored_along rows path) path ≡ option_and_then (below_of (last_name path)) (folder_along path)
   target_found [] some = absurd (let wrong : ⊥ = omega arith in wrong)
   target_found (name ∷ names) some = on (root_of rows)
@@ -149,6 +157,7 @@ module _ (rows : Content) where
       on None = refl
       on (Some root) = target_from names [] name root
 
+  -- the folder of the last name has the names before it as its path
   pub folder_path : (path : List (List ℕ)) (site : Site) → folder_along path ≡ Some site → site.path ≡ front path
   folder_path path site is = on (root_of rows) (λ root found. site_path_from (front path) [] root site found) is
     where
@@ -164,6 +173,7 @@ module _ (rows : Content) where
   abbrev pub last_look : Bool → List (List ℕ) → List Item
   last_look lack path = where_found (folder_along path) (λ site. missing lack (last_name path) site ∷ [])
 
+  -- the way along a path goes through the folder of its last name, and then looks for that name
   pub way_along : (lack : Bool) (path : List (List ℕ)) → 0 < length path → way lack (stored_along rows path) path ≡ stem path ++ last_look lack path
   way_along lack [] some = absurd (let wrong : ⊥ = omega arith in wrong)
   way_along lack (name ∷ names) some = on (root_of rows)

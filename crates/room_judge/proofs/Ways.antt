@@ -57,6 +57,7 @@ module _ (asker : Asker) (path : List (List ℕ)) (from : Found) (below : from.d
       moved (At next) h = sym (ap (λ (r : Rows). child_of r.read from.node.id name) judged.notes) ∙ h
       moved (Ended reply) h = tt
 
+  -- an object judged on the way, and what comes of that, are one step down, refused or not
   pub step_taken : (old mid new : Rows) (refusal : Option Reply) (arrival : Arrival) → IsJudged asker (through site) old refusal mid → GoesOn path from refusal mid arrival new → IsStepDown asker path from old arrival new
   step_taken old mid new None arrival judged goes = step_goes_on old mid new arrival judged goes
   step_taken old mid new (Some reply) arrival judged goes =
@@ -66,16 +67,19 @@ module _ (asker : Asker) (path : List (List ℕ)) (from : Found) (below : from.d
 pub name_read : (path names : List (List ℕ)) (i : ℕ) (name text : List ℕ) → names ≡ path → i < length path → name ≡ get_or names i name → text ≡ name → text ≡ name_after path i
 name_read path names i name text are below is same = same ∙ get_or_read path i name below (is ∙ ap (λ (l : List (List ℕ)). get_or l i name) are) []
 
+-- a row that can't be read after a walk to an object couldn't be read before it
 pub reached_blames : (asker : Asker) (path : List (List ℕ)) (items : Site → List Item) (arrival : Arrival) (old now : Rows) (at : ℕ) → IsReached asker path items old arrival now → IsUnreadable now at → IsUnreadable old at
 reached_blames asker path items arrival old now at reached h = subst (λ (r : Rows). IsUnreadable r at) reached.judged.notes h
 
 -- the check that the next name is there
 module _ (path : List (List ℕ)) (from : Found) where
+  -- where a child has the next name, the walk comes to it
   pub found_next : (old new : Rows) (name : List ℕ) (next : Node) → name ≡ name_after path from.depth → new ≡ old → Some next ≡ child_of old.read from.node.id name → FindsNext path from old (At next) new
   found_next old new name next named same is =
       let child : child_of old.read from.node.id (name_after path from.depth) ≡ Some next = ap (child_of old.read from.node.id) (sym named) ∙ sym is in
       record { same = same; answers = ap (λ (o : Option Node). cond (is_none o) (Some (Refused (take (from.depth + 1) path) NoSuch)) None) (sym child); found = child }
 
+  -- where no child has the next name, the walk ends, refused with the names as far as that one
   pub none_next : (old new : Rows) (name : List ℕ) (reply : Reply) → name ≡ name_after path from.depth → new ≡ old → None ≡ child_of old.read from.node.id name → reply ≡ Refused (take (from.depth + 1) path) NoSuch → FindsNext path from old (Ended reply) new
   none_next old new name reply named same is refusal =
       let child : child_of old.read from.node.id (name_after path from.depth) ≡ None = ap (child_of old.read from.node.id) (sym named) ∙ sym is in
@@ -116,9 +120,11 @@ module _ (asker : Asker) (path : List (List ℕ)) where
   abbrev all_of : Rows → List Item
   all_of old = way false (stored_along old.read path) path
 
+  -- a path with no items at its target is judged by the way to it alone
   pub plain_way : (old : Rows) → to_stored old.read path (λ _. []) ≡ all_of old
   plain_way old = ap (λ items. all_of old ++ items) (nothing_there (site_at (stored_along old.read path) path)) ∙ append-nil (all_of old)
 
+  -- at the root no step is done, and the whole way is left
   pub way_begins : (node : Node) (old now : Rows) → root_of old.read ≡ Some node → now ≡ old → IsOnWay asker path (record { node = node; depth = 0 }) old now
   way_begins node old now is same =
       let along : stored_along old.read path ≡ stored_from old.read [] node path = ap (λ o. option_map_or (λ root. stored_from old.read [] root path) o []) is in
@@ -150,6 +156,7 @@ module _ (asker : Asker) (path : List (List ℕ)) where
     at_first : (old now : Rows) → IsOnWay asker path from old now → step_items now ≡ step_items old
     at_first old now on_way = ap (λ (r : Rows). step_items r) on_way.so_far.judged.notes
 
+    -- a step that is refused ends the walk along the whole path with its reply
     pub way_ends : (old now new : Rows) (reply : Reply) → IsOnWay asker path from old now → IsStepDown asker path from now (Ended reply) new → IsReached asker path (λ _. []) old (Ended reply) new
     way_ends old now new reply on_way step = record {
       judged = subst (λ items. IsJudged asker items old (Some reply) new) (sym (plain_way old))
@@ -159,6 +166,7 @@ module _ (asker : Asker) (path : List (List ℕ)) where
       found = tt;
     }
 
+    -- a step that comes to a child leaves the rest of the way, from that child on
     pub way_goes_on : (old now new : Rows) (next : Found) → next.depth ≡ from.depth + 1 → IsOnWay asker path from old now → IsStepDown asker path from now (At next.node) new → IsOnWay asker path next old new
     way_goes_on old now new next deeper on_way step =
         let child : child_of old.read from.node.id next_name ≡ Some next.node = sym (ap (λ (r : Rows). child_of r.read from.node.id next_name) on_way.so_far.judged.notes) ∙ step.found in
@@ -195,6 +203,7 @@ module _ (asker : Asker) (path : List (List ℕ)) where
   -- ---- items at the target
 
   module _ (items : Site → List Item) where
+    -- a walk that ended before its target ends with that reply, whatever items are at the target
     pub not_reached : (old new : Rows) (reply : Reply) → IsReached asker path (λ _. []) old (Ended reply) new → IsReached asker path items old (Ended reply) new
     not_reached old new reply reached = record {
       judged = fails_first asker (all_of old) (where_found (site_at (stored_along old.read path) path) items) old new reply
@@ -210,9 +219,11 @@ module _ (asker : Asker) (path : List (List ℕ)) where
         (subst (λ list. IsJudged asker list old None mid) (plain_way old) reached.judged)
         (subst (λ list. IsJudged asker list mid answer new) (sym (ap (λ o. where_found o items) site)) judged)
 
+    -- a walk that came to its target ends there, with the reply for an item that fails
     pub target_refused : (old mid new : Rows) (target : Found) (reply : Reply) → target.depth ≡ length path → IsReached asker path (λ _. []) old (At target.node) mid → IsJudged asker (items (found_site path target)) mid (Some reply) new → IsReached asker path items old (Ended reply) new
     target_refused old mid new target reply deep reached judged = record { judged = at_target old mid new target (Some reply) deep reached judged; found = tt }
 
+    -- a walk that came to its target has reached it where all items there pass
     pub target_passed : (old mid new : Rows) (target : Found) → target.depth ≡ length path → IsReached asker path (λ _. []) old (At target.node) mid → IsJudged asker (items (found_site path target)) mid None new → IsReached asker path items old (At target.node) new
     target_passed old mid new target deep reached judged = record { judged = at_target old mid new target None deep reached judged; found = reached.found }
 
@@ -244,6 +255,7 @@ abbrev pub IsWalking : Asker → List (List ℕ) → ℕ → Arrival → Rows �
 IsWalking asker path depth (At node) old now = IsOnWay asker path (record { node = node; depth = depth }) old now
 IsWalking asker path depth (Ended reply) old now = IsReached asker path (λ _. []) old (Ended reply) now
 
+-- a row that can't be read n steps on, or after the walk ended, couldn't be read at the start
 pub walking_blames : (asker : Asker) (path : List (List ℕ)) (depth : ℕ) (arrival : Arrival) (old now : Rows) (at : ℕ) → IsWalking asker path depth arrival old now → IsUnreadable now at → IsUnreadable old at
 walking_blames asker path depth (At node) old now at walking h = way_blames asker path (record { node = node; depth = depth }) old now at walking h
 walking_blames asker path depth (Ended reply) old now at walking h = reached_blames asker path (λ _. []) (Ended reply) old now at walking h
@@ -252,6 +264,7 @@ module _ (asker : Asker) (path : List (List ℕ)) (n : ℕ) (within : n ≤ leng
   size : length (take n path) ≡ n
   size = length-take-le n path within
 
+  -- one more step of a walk comes to a child, is refused, or finds that the walk has ended
   pub walks_on : (depth : ℕ) (arrival next : Arrival) (old now new : Rows) → depth < n → IsWalking asker (take n path) depth arrival old now → StepsOn asker path depth arrival now next new → IsWalking asker (take n path) (depth + 1) next old new
   walks_on depth (At node) (At next) old now new below walking step =
       let from : Found = record { node = node; depth = depth } in
@@ -262,6 +275,7 @@ module _ (asker : Asker) (path : List (List ℕ)) (n : ℕ) (within : n ≤ leng
   walks_on depth (Ended reply) next old now new below walking step =
       subst (λ (a : Arrival). IsWalking asker (take n path) (depth + 1) a old new) (sym step.0) (subst (λ (r : Rows). IsReached asker (take n path) (λ _. []) old (Ended reply) r) (sym step.1) walking)
 
+  -- a walk past all n names has reached the object there, or has ended with a reply
   pub walk_done : (depth : ℕ) (arrival : Arrival) (old now : Rows) → depth ≡ n → IsWalking asker (take n path) depth arrival old now → IsReached asker (take n path) (λ _. []) old arrival now
   walk_done depth (At node) old now all walking = way_done asker (take n path) (record { node = node; depth = depth }) old now (all ∙ sym size) walking
   walk_done depth (Ended reply) old now all walking = walking

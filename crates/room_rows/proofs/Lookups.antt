@@ -10,15 +10,19 @@ use Rattle.room_rows.specs.Finding.{find_id}
 
 -- ---- the first that passes a test
 
+-- where the first member passes, it is found
 pub find_yes : {X : Type 0} (p : X → Bool) (x : X) (xs : List X) → p x ≡ true → find p (x ∷ xs) ≡ Some x
 find_yes p x xs is = cond-true (p x) (Some x) (find p xs) is
 
+-- where the first member fails, what is found is found among the others
 pub find_no : {X : Type 0} (p : X → Bool) (x : X) (xs : List X) → p x ≡ false → find p (x ∷ xs) ≡ find p xs
 find_no p x xs isnt = cond-false (p x) (Some x) (find p xs) isnt
 
+-- a search can't have found both nothing and something
 pub not_none : {X : Type 0} (x : X) → None ≡ Some x → ⊥
 not_none x e = false≢true (sym (ap is_none e))
 
+-- two things found by one search are the same
 pub same_some : {X : Type 0} (x y : X) → Some x ≡ Some y → x ≡ y
 same_some x y e = ap (λ o. option_map_or (λ n. n) o x) e
 
@@ -101,6 +105,7 @@ find-kept_all p q (y ∷ ys) kept =
 
 -- ---- facts of each that stay
 
+-- what holds of each member holds of those kept by a test, and these pass the test
 pub each-kept : {X : Type 0} (P : X → Type 0) (q : X → Bool) (xs : List X) → AllByRecursion P xs → AllByRecursion (λ x. P x × (q x ≡ true)) (filter q xs)
 each-kept P q [] each = tt
 each-kept P q (y ∷ ys) each = elim (cases_Bool (q y)) [
@@ -108,6 +113,7 @@ each-kept P q (y ∷ ys) each = elim (cases_Bool (q y)) [
   | inr goes ↦ subst (AllByRecursion (λ x. P x × (q x ≡ true))) (sym (keep_no q y ys goes)) (each-kept P q ys each.1)
 ]
 
+-- where Q follows from P, P of each member gives Q of each
 pub each-weaker : {X : Type 0} (P Q : X → Type 0) → ((x : X) → P x → Q x) → (xs : List X) → AllByRecursion P xs → AllByRecursion Q xs
 each-weaker P Q weaker [] each = tt
 each-weaker P Q weaker (y ∷ ys) each = (weaker y each.0, each-weaker P Q weaker ys each.1)
@@ -125,16 +131,19 @@ each-put_by_name P node (other ∷ others) here each = elim (cases_Bool (is_befo
   | inr isnt ↦ subst (AllByRecursion P) (sym (name_here node other others isnt)) (here, each)
 ]
 
+-- what holds of each object of a list holds of each when they are sorted by name
 pub each-sorted : (P : Node → Type 0) (nodes : List Node) → AllByRecursion P nodes → AllByRecursion P (sorted_by_name nodes)
 each-sorted P [] each = tt
 each-sorted P (node ∷ nodes) each = each-put_by_name P node (sorted_by_name nodes) each.0 (each-sorted P nodes each.1)
 
 -- ---- what stands in a list
 
+-- the object is a member of the list
 abbrev pub Stands : Node → List Node → Type 0
 Stands node [] = ⊥
 Stands node (other ∷ others) = (other ≡ node) ⊎ Stands node others
 
+-- an object that a test finds in a list is in it
 pub stands-found : (p : Node → Bool) (nodes : List Node) (node : Node) → find p nodes ≡ Some node → Stands node nodes
 stands-found p [] node found = absurd (not_none node found)
 stands-found p (y ∷ ys) node found = elim (cases_Bool (p y)) [
@@ -142,6 +151,7 @@ stands-found p (y ∷ ys) node found = elim (cases_Bool (p y)) [
   | inr isnt ↦ inr (stands-found p ys node (sym (find_no p y ys isnt) ∙ found))
 ]
 
+-- an object that passes a test is among those of the list that are kept by it
 pub stands-kept : (q : Node → Bool) (nodes : List Node) (node : Node) → Stands node nodes → q node ≡ true → Stands node (filter q nodes)
 stands-kept q [] node h kept = absurd h
 stands-kept q (y ∷ ys) node (inl it) kept = subst (Stands node) (sym (keep_yes q y ys (ap q it ∙ kept))) (inl it)
@@ -162,16 +172,19 @@ stands-put_by_name other (y ∷ ys) node h = elim (cases_Bool (is_before y.name 
   | inr isnt ↦ subst (Stands node) (sym (name_here other y ys isnt)) h
 ]
 
+-- an object of a list is in the list sorted by name
 pub stands-sorted : (nodes : List Node) (node : Node) → Stands node nodes → Stands node (sorted_by_name nodes)
 stands-sorted [] node h = absurd h
 stands-sorted (y ∷ ys) node (inl it) = stands-put_by_name y (sorted_by_name ys) node (inl it)
 stands-sorted (y ∷ ys) node (inr later) = stands-put_by_name y (sorted_by_name ys) node (inr (stands-sorted ys node later))
 
+-- what holds of each object of a list holds of one that is in it
 pub stands-each : (P : Node → Type 0) (nodes : List Node) (node : Node) → AllByRecursion P nodes → Stands node nodes → P node
 stands-each P [] node each h = absurd h
 stands-each P (y ∷ ys) node each (inl it) = subst P it each.0
 stands-each P (y ∷ ys) node each (inr later) = stands-each P ys node each.1 later
 
+-- an object of a list is contained in it as contracts say it, at some index
 pub contains-stands : (nodes : List Node) (node : Node) → Stands node nodes → Contains nodes node
 contains-stands [] node h = absurd h
 contains-stands (y ∷ ys) node (inl it) = (0, omega arith, it)
@@ -297,6 +310,7 @@ pub record IsSamePlace (a b : Node) : Type 0 where
   pub parent : a.parent ≡ b.parent
   pub name : a.name ≡ b.name
 
+-- an object has the same place as itself
 pub same_place : (a : Node) → IsSamePlace a a
 same_place a = record { number = refl; parent = refl; name = refl }
 
@@ -304,9 +318,11 @@ same_place a = record { number = refl; parent = refl; name = refl }
 abbrev pub replaced : Node → Node → Node
 replaced new node = if node.id == new.id then new else node
 
+-- an object of the same number is replaced by the new one
 pub replaced_here : (new node : Node) → node.id ≡ new.id → replaced new node ≡ new
 replaced_here new node e = cond-true _ _ _ (eq-eqb node.id new.id e)
 
+-- an object of another number is left
 pub replaced_elsewhere : (new node : Node) → (node.id ≡ new.id → ⊥) → replaced new node ≡ node
 replaced_elsewhere new node isnt = cond-false _ _ _ (ne_eqb node.id new.id isnt)
 
@@ -319,6 +335,7 @@ untouched k (x ∷ xs) new rises below =
     let rest = untouched x.id xs new parts.1 (omega (arith, up, below)) in
     ap (λ (n : Node). n ∷ map (replaced new) xs) same ∙ ap (λ (l : List Node). x ∷ l) rest
 
+-- where its number is in use, an object that is put replaces that one and leaves the others
 pub put-replaces : (k : ℕ) (nodes : List Node) (id : ℕ) (node new : Node) → is_rising (k ∷ map (λ (n : Node). n.id) nodes) ≡ true → find_id id nodes ≡ Some node → new.id ≡ id → put_node new nodes ≡ map (replaced new) nodes
 put-replaces k [] id node new rises found same = absurd (not_none node found)
 put-replaces k (x ∷ xs) id node new rises found same =
@@ -393,6 +410,7 @@ module _ (change : Node → Node) where
         | inr isnt ↦ find_no p (change x) (map change xs) (as_before ∙ isnt) ∙ find-changed p of_place xs same.1 ∙ sym (ap (option_map change) (find_no p x xs isnt))
       ]
 
+  -- a test of the place keeps those of the changed objects that it kept before the change
   pub filter-changed : (p : Node → Bool) → ((a b : Node) → IsSamePlace a b → p a ≡ p b) → (nodes : List Node) → AllByRecursion (λ (n : Node). IsSamePlace (change n) n) nodes → filter p (map change nodes) ≡ map change (filter p nodes)
   filter-changed p of_place [] same = refl
   filter-changed p of_place (x ∷ xs) same =
@@ -413,6 +431,7 @@ module _ (change : Node → Node) where
         | inr isnt ↦ name_here (change node) (change x) (map change xs) (as_before ∙ isnt) ∙ sym (ap (map change) (name_here node x xs isnt))
       ]
 
+  -- changed objects, sorted by name, stand in the order in which they stood before the change
   pub sorted-changed : (nodes : List Node) → AllByRecursion (λ (n : Node). IsSamePlace (change n) n) nodes → sorted_by_name (map change nodes) ≡ map change (sorted_by_name nodes)
   sorted-changed [] same = refl
   sorted-changed (x ∷ xs) same =

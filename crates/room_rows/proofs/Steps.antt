@@ -26,9 +26,11 @@ module _ {S : Type 0} (rows : S → Rows) (failures writes : S → ℕ) (Follows
     pub unfailed : failures b ≡ failures a
     pub same : IsTrusted a b → rows b ≡ rows a
 
+  -- before the first read nothing was written, nothing failed, and the rows are the same
   pub none_yet : KeepLaws rows failures writes Follows IsTrusted → (a : S) → HasRead a a
   none_yet laws a = record { follows = laws.itself a; unwritten = refl; unfailed = refl; same = λ _. refl }
 
+  -- a read that answered is by itself a run of reads, each of which answered
   pub seen : {X : Type 0} (a b : S) (x : X) {Blames : Rows → ℕ → Type 0} {Answers : Rows → X → Type 0} → IsRead rows failures writes Follows IsTrusted a b (Ok x) Blames Answers → HasRead a b
   seen a b x read = record { follows = read.follows; unwritten = read.unwritten; unfailed = read.unfailed; same = read.same }
 
@@ -90,5 +92,6 @@ module _ {S : Type 0} (rows : S → Rows) (failures writes : S → ℕ) (Follows
       cause Store h = h
       cause (Damaged id) h = λ t. weaker (rows a) id (h t)
 
+  -- after reads that answered, the call that made them may run out of memory, whatever the rows
   pub no_memory : {Y : Type 0} (a c : S) {Blames : Rows → ℕ → Type 0} {Answers : Rows → Y → Type 0} → HasRead a c → IsRead rows failures writes Follows IsTrusted {X = Y} a c (Err Memory) Blames Answers
   no_memory a c sofar = record { follows = sofar.follows; unwritten = sofar.unwritten; same = λ t. tt; answers = λ t. tt; unfailed = tt; fault = tt }

@@ -8,14 +8,17 @@ use Rattle.std.proofs.lemmas.List.{take_all}
 use Rattle.std.proofs.lemmas.Str.{IsUtf8-from_ascii, IsUtf8-from_is_utf8, IsUtf8-nil, is_utf8-from_IsUtf8, utf8_valid_len-IsUtf8, utf8_valid_len-IsValidUpTo}
 use Rattle.room_entry.specs.Utf8.{is_utf8}
 
+-- bytes that are UTF-8 pass the test
 pub passes_as_utf8 : (bytes : List ℕ) → IsUtf8 bytes → is_utf8 bytes ≡ true
 passes_as_utf8 bytes h = or_right (list_all (λ byte. nat_lt byte 128) bytes) (utf8_valid_len bytes == length bytes) (eq-eqb _ _ (utf8_valid_len-IsUtf8 bytes h))
 
+-- where all bytes are below 128, the byte at any place is, and so is the 0 past the end
 pub ascii_at : (bytes : List ℕ) → list_all (λ byte. nat_lt byte 128) bytes ≡ true → (i : ℕ) → get_or bytes i 0 < 128
 ascii_at [] h i = omega arith
 ascii_at (b ∷ bs) h zero = ltb-true b 128 (and_parts (nat_lt b 128) (list_all (λ byte. nat_lt byte 128) bs) h).0
 ascii_at (b ∷ bs) h (suc i) = ascii_at bs (and_parts (nat_lt b 128) (list_all (λ byte. nat_lt byte 128) bs) h).1 i
 
+-- bytes that are UTF-8 up to a place, and no further, fail the test
 pub fails_as_utf8 : (bytes : List ℕ) (n : ℕ) → ¬ (IsUtf8 bytes) → IsValidUpTo bytes n → is_utf8 bytes ≡ false
 fails_as_utf8 bytes n isnt upto =
     or_from (list_all (λ byte. nat_lt byte 128) bytes) (utf8_valid_len bytes == length bytes)
@@ -44,11 +47,13 @@ front_below bytes (suc k) within none = elim (cases_Bool (is_text (take k bytes)
     above : (a b : ℕ) → a ≤ b → (a == b) ≡ false → suc a ≤ b
     above a b at apart = grind arith
 
+-- bytes that aren't UTF-8 fail the test, with nothing known of such a place
 pub other_as_utf8 : (bytes : List ℕ) → ¬ (IsUtf8 bytes) → is_utf8 bytes ≡ false
 other_as_utf8 bytes isnt =
     let (n, up_to) = front_below bytes (length bytes) (omega arith) (λ m past is. isnt (subst IsUtf8 (take_all m bytes past) is)) in
     fails_as_utf8 bytes n isnt up_to
 
+-- bytes that pass the test are UTF-8
 pub text_from : (bytes : List ℕ) → is_utf8 bytes ≡ true → IsUtf8 bytes
 text_from bytes passed = elim (cases_Bool (is_text bytes)) [
   | inl holds ↦ IsUtf8-from_is_utf8 bytes holds

@@ -11,15 +11,19 @@ use Rattle.sqlite.specs.Term.{Term, Env, holds, eval_all}
 use Rattle.sqlite_value.specs.declared.keys.Key.{Key}
 use Rattle.store_tables.proofs.Texts.{query_of}
 
+-- whether a row of the table meets all tests of WHERE, with these parameters
 abbrev pub passes : List Term → Row → Row → Bool
 passes tests params r = list_all (holds (params ∷ r ∷ [])) tests
 
+-- the row of an answer that a query over one table makes of a row of that table, by its terms
 abbrev pub shows : List Term → Row → Row → Row
 shows terms params r = eval_all terms (params ∷ r ∷ [])
 
+-- where a term is evaluated: `col 0` reads the parameters, `col 1` the row of the one table
 abbrev pub way : Row → Row → Env
 way params r = params ∷ r ∷ []
 
+-- a query over one table goes through just the rows that pass its tests, in their order
 pub each_way : (lost : Value) (db : Trees) (tests : List Term) (params : Row) (rows : List Row)
     → flat_map (λ r. matches_as lost db tests end (way params r)) rows ≡ map (way params) (filter (passes tests params) rows)
 each_way lost db tests params [] = refl

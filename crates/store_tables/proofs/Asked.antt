@@ -15,6 +15,7 @@ use Rattle.store_tables.proofs.Executed.{WritesRoom}
 use Rattle.store_tables.proofs.Inside.{did_inside, query_inside, write_inside}
 use Rattle.store_tables.proofs.Tests.{if_ok}
 
+-- a query inside a transaction keeps `QueriesSql`, once it is known what its rows show of a room
 pub asks : (sql : List ℕ) (params : Row) (old new : State) (r : Result (Vec Row Global) Error) (Shows : Trees → List Row → Type 0) → IsPlain (understood room_schema sql) → doubt old.is_clean ≤ doubt new.is_clean
     → ((rows : List Row) → IsRoom old.now → Shown sql params old new rows → Shows old.now.trees rows) → (HasCleanDisk new → IfOk r (λ rows. Shown sql params old new rows.items))
     → (HasCleanDisk new → IfErr r (λ e. FailsToQuery sql params old new e ⊎ IsTooLate sql params old new e)) → QueriesSql Shows old new r
@@ -24,6 +25,7 @@ asks sql params old new r Shows plain clean shows ok err = record {
   stays = query_inside sql params old new r plain clean ok err;
 }
 
+-- a write inside a transaction keeps `ExecutesSql`, once it is known what it leaves by its count
 pub writes : (sql : List ℕ) (params : Row) (old new : State) (r : Result ℕ Error) (e : Error) (Leaves : ℕ → State → State → Type 0) → doubt old.is_clean ≤ doubt new.is_clean
     → (IsTrue old.in_transaction → (count : ℕ) → Executes sql params old new (Ok count) → IsRoom old.now → WritesRoom old new)
     → ((count : ℕ) → IsRoom old.now → Executes sql params old new (Ok count) → Leaves count old new) → (old.in_transaction ≡ false → (r ≡ Err e) × Stays old new)

@@ -23,12 +23,15 @@ use Rattle.store_tables.proofs.Answers.{passes, shows, selected}
 
 -- ---- what is retained
 
+-- where `meta` and `audits` are as they were, no record is lost
 pub retains_by : (db next : Trees) → next 5 ≡ db 5 → next 7 ≡ db 7 → Retains db next
 retains_by db next meta audits = record { meta = meta; more = []; audits = audits ∙ sym (append-nil (db 7)) }
 
+-- two changes, each of which keeps `meta` and all records, keep them together
 pub retains_on : (a b c : Trees) → Retains a b → Retains b c → Retains a c
 retains_on a b c p q = record { meta = q.meta ∙ p.meta; more = p.more ++ q.more; audits = q.audits ∙ ap (λ l. l ++ q.more) p.audits ∙ append_assoc (a 7) p.more q.more }
 
+-- a database that is as it was has `meta` and all its records
 pub retains_same : (db next : Database) → next ≡ db → Retains db.trees next.trees
 retains_same db next same = subst (λ (d : Database). Retains db.trees d.trees) (sym same) (retains_by db.trees db.trees refl refl)
 
@@ -38,9 +41,11 @@ retains_at a b c d one two h = subst (λ (x : Database). Retains x.trees d.trees
 -- ---- calls
 
 module _ (old new : State) (clean : doubt old.is_clean ≤ doubt new.is_clean) where
+  -- a call that leaves the state unchanged leaves all that any call has to
   pub unchanged_stays : IsUnchanged old new → Stays old new
   unchanged_stays h = record { clean = clean; was_open = λ _ _. h.0.was_open; kept = λ _ _ _ room. (h.0.committed_is, subst IsRoom (sym h.0.now_is) room); retains = λ _ _ _ _ was. retains_at _ _ _ _ h.0.committed_is h.0.now_is was; settled = λ _ _ _ _ was now. h.0.now_is ∙ was (sym h.0.mode ∙ now) ∙ sym h.0.committed_is }
 
+  -- so does one that undoes the transaction, after which what was committed is seen
   pub rolled_back_stays : IsRolledBack old new → Stays old new
   rolled_back_stays h = record { clean = clean; was_open = λ _. h.was_open; kept = λ _ open' room _. ((h.undone open').1, subst IsRoom (sym (h.undone open').0) room); retains = λ _ open' _ _ _. retains_same _ _ ((h.undone open').0 ∙ sym (h.undone open').1); settled = λ _ open' _ _ _ _. (h.undone open').0 ∙ sym (h.undone open').1 }
 
@@ -60,10 +65,12 @@ open_shown : (sql : List ℕ) (c : Compiled) (full : Row) (old new : State) (row
 open_shown sql c full old new rows None s = s.3.0.was_open
 open_shown sql c full old new rows (Some what) s = s.1.shown.was_open
 
+-- where a statement showed rows, the connection was open
 pub shown_open : (sql : List ℕ) (params : Row) (old new : State) (rows : List Row) → Shown sql params old new rows → IsTrue old.is_open
 unfolding Shown
 shown_open sql params old new rows h = open_shown sql h.0 _ old new rows h.0.returning h.2
 
+-- a statement with no RETURNING that showed rows left the connection unchanged
 pub shown_same : (sql : List ℕ) (params : Row) (old new : State) (rows : List Row) → IsPlain (understood old.now.schema sql) → Shown sql params old new rows → IsUnchanged old new
 unfolding Shown
 shown_same sql params old new rows plain h =
@@ -72,6 +79,7 @@ shown_same sql params old new rows plain h =
     it.3
 
 module _ (sql : List ℕ) (params : Row) (old new : State) (plain : IsPlain (understood room_schema sql)) (clean : doubt old.is_clean ≤ doubt new.is_clean) where
+  -- a query that showed its rows leaves what any call has to, as it changed nothing
   pub shown_stays : (rows : List Row) → Shown sql params old new rows → Stays old new
   shown_stays rows h = record {
     clean = clean;
@@ -82,6 +90,7 @@ module _ (sql : List ℕ) (params : Row) (old new : State) (plain : IsPlain (und
     settled = λ now open' one room. (unchanged_stays old new clean (shown_same sql params old new rows (subst (λ s. IsPlain (understood s sql)) (sym room.schema) plain) h)).settled now open' one room;
   }
 
+  -- a query that is refused or fails does, too, with its transaction undone or all unchanged
   pub failed_stays : (e : Error) → FailsToQuery sql params old new e → Stays old new
   failed_stays e h = elim (failed_query sql params old new e h) [ inl same ↦ unchanged_stays old new clean same | inr undone ↦ rolled_back_stays old new clean undone ]
 
@@ -94,6 +103,7 @@ selects_rows sql params old new tree tests terms order names is plain has rows h
     let read = reads_as sql params old new room_schema has _ is.0 plain is.1 rows h in
     selected Null tree tests terms order (overlay old.now.trees []) params rows (read.answer Null)
 
+-- over a room's schema, a query that answered Ok changed nothing; of an error nothing is said
 pub same_ok : (sql : List ℕ) (params : Row) (old new : State) (r : Result (Vec Row Global) Error) → IsPlain (understood room_schema sql) → old.now.schema ≡ room_schema
     → IfOk r (λ rows. Shown sql params old new rows.items) → OnOk r (IsUnchanged old new)
 same_ok sql params old new (Ok rows) plain has h = shown_same sql params old new rows.items (subst (λ s. IsPlain (understood s sql)) (sym has) plain) h

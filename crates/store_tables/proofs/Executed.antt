@@ -47,6 +47,7 @@ alone_failed old new sql c full e true h = inl h.1
 alone_failed old new sql c full e false (inl h) = inl h.1
 alone_failed old new sql c full e false (inr h) = inr h.3
 
+-- where the connection is open after a write that answered a count, it was open before
 pub ran_open : (sql : List ℕ) (params : Row) (old new : State) (count : ℕ) → Executes sql params old new (Ok count) → IsTrue new.is_open → IsTrue old.is_open
 unfolding ExecutesIn
 ran_open sql params old new count h = alone_open old new sql h.0 _ count (shows_rows false h.0) h.2
@@ -64,6 +65,7 @@ WritesRoom old new =
     (new.committed ≡ old.committed) × IsRoom new.now × (new.in_transaction ≡ true)
     × Retains old.now.trees new.now.trees
 
+-- a write leaves what every call leaves, if one that answers a count keeps to `WritesRoom`
 pub write_stays : (sql : List ℕ) (params : Row) (old new : State) (r : Result ℕ Error) → doubt old.is_clean ≤ doubt new.is_clean
     → ((count : ℕ) → Executes sql params old new (Ok count) → IsRoom old.now → WritesRoom old new) → (HasCleanDisk new → Executes sql params old new r) → Stays old new
 write_stays sql params old new (Ok count) clean writes h =

@@ -35,6 +35,7 @@ insert_edit db rows = edit_of db nodes_table [] Chosen 0 rows
 cast_new : (c : Columns) → cast_row nodes_table (Null ∷ Null ∷ values c) ≡ Null ∷ Null ∷ values c
 cast_new c = rw (cast_null, c.whole, cast_int c.kind, cast_int c.dacl_flags, cast_int c.sacl_flags) refl
 
+-- where one row is put in and its number is fresh, no row of the table has that number
 pub fresh_alone : (rows : List Row) (r : Row) → are_fresh rows (r ∷ []) ≡ true → is_taken rows r ≡ false
 fresh_alone rows r h = go (is_taken rows r) h
   where
@@ -46,6 +47,7 @@ new_sets_off_nothing : (r : Row) → works room_schema Enforced 0 0 [] (r ∷ []
 unfolding everything
 new_sets_off_nothing r = refl
 
+-- what the INSERT of an object leaves: one more row of `nodes`, with the next number
 pub record Inserted (c : Columns) (old new : State) : Type 0 where
   pub schema : new.now.schema ≡ room_schema
   pub sound : IsDatabase new.now
@@ -53,6 +55,7 @@ pub record Inserted (c : Columns) (old new : State) : Type 0 where
   pub last : new.last_rowid ≡ next_rowid (old.now.trees 0)
   pub shown : Shows old new new.now (if old.in_transaction then old.committed else new.now) old.in_transaction
 
+-- an INSERT into `nodes` that answered a count put in one row, with the next number
 pub inserted : (c : Columns) (old new : State) (count : ℕ) → old.now.schema ≡ room_schema → Executes insert_text (values c) old new (Ok count) → Inserted c old new
 inserted c old new count has h =
     let params = values c in
@@ -92,6 +95,7 @@ inserted c old new count has h =
       shown = w.shown;
     }
 
+-- inside a transaction, an INSERT into `nodes` leaves the tables of a room and commits nothing
 pub insert_room : (c : Columns) (old new : State) → IsTrue old.in_transaction → (count : ℕ) → Executes insert_text (values c) old new (Ok count) → IsRoom old.now → WritesRoom old new
 insert_room c old new inside count h room =
     let d = inserted c old new count room.schema h in (

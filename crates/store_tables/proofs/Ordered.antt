@@ -28,6 +28,7 @@ pub already_sorted : {X : Type 0} (cmp : X → X → Ordering) (xs : List X) →
 already_sorted cmp [] up = refl
 already_sorted cmp (x ∷ xs) up = ap (insert_sorted cmp x) (already_sorted cmp xs up.1) ∙ first_stays cmp x xs up.0
 
+-- the same query with this LIMIT
 abbrev pub cut_to : Term → Query → Query
 cut_to limit q = record q { limit = limit }
 

@@ -30,6 +30,7 @@ module _ {X : Type 0} (f : Row → Option X) (key : X → ℕ) (keyed : (r : Row
   stay_step id r rows (Some x) false is has more =
       ap (λ o. cons_option o (filter_map f (without_rowid (pos id) rows))) is ∙ ap (λ l. x ∷ l) more ∙ sym (cond-true _ _ _ (ap not (sym (has_key f key keyed id r x is) ∙ has)))
 
+  -- a table without the row of a number is read as before, less what was read of that number
   pub read_without : (id : ℕ) (rows : List Row) → filter_map f (without_rowid (pos id) rows) ≡ filter (λ x. not (key x == id)) (filter_map f rows)
   read_without id [] = refl
   read_without id (r ∷ rows) = stay_step id r rows (f r) (has_rowid (pos id) r) refl refl (read_without id rows)
@@ -57,10 +58,12 @@ readable db id n table there = by (find (has_rowid (pos id)) (db.trees 0)) refl
         unread_at_row db id table ∙ ap (λ o. is_some (option_and_then (λ r. unread_in (shown_node r)) o)) found
         ∙ seen (node_in (shown_node r)) (number_in (rowid r)) (sym (ap (option_and_then (λ r. node_in (shown_node r))) found) ∙ sym (node_at_row db id table) ∙ there)
 
+-- what is read of a file is equal where nodes, unreadable numbers, bytes, pairs and records are
 pub same_rows : {a b : List Node} {u v : List ℕ} {c d : List (ℕ × List ℕ)} {m k : List (List ℕ × List ℕ)} {x y : List AuditRow} → a ≡ b → u ≡ v → c ≡ d → m ≡ k → x ≡ y
     → ◌≡◌ {A = Rows} (record { read = record { nodes = a; bodies = c; members = m; audits = x }; unreadable = u }) (record { read = record { nodes = b; bodies = d; members = k; audits = y }; unreadable = v })
 same_rows p q r s t = cc
 
+-- where the row of an object went, what is read is as it was, without the object and its bytes
 pub removed_rows : (db next : Database) (id : ℕ) → IsRoom db → RemovesRow (pos id) db.trees next.trees → CanRemove id (rows_of db) → rows_of next ≡ reading (rows_of db) (without_node (rows_of db).read id)
 removed_rows db next id room gone can =
     let nodes : nodes_of (next.trees 0) ≡ filter (λ (n : Node). not (n.id == id)) (nodes_of (db.trees 0)) = ap nodes_of gone.nodes ∙ read_without (λ r. node_in (shown_node r)) (λ (n : Node). n.id) node_keyed id (db.trees 0) in

@@ -18,17 +18,21 @@ use Rattle.std.specs.FinMap.{int_cmp-IsAntisymmetric}
 use Rattle.std.specs.declared.cmp.Ordering.{Ordering}
 use Rattle.std.specs.declared.cmp.Ordering.TheVariants.{Less, Equal, Greater}
 
+-- an integer compares as equal to itself, so the row with this rowid is found by it
 pub has_itself : (id : ℤ) → is_eq (value_cmp (Int id) (Int id)) ≡ true
 has_itself id = ap is_eq (tied_itself value_cmp_total (Int id))
 
+-- of the three orderings only `Equal` says that two values are equal
 pub is_equal : (o : Ordering) → is_eq o ≡ true → o ≡ Equal
 is_equal Less h = absurd (let e = h in cc)
 is_equal Equal h = refl
 is_equal Greater h = absurd (let e = h in cc)
 
+-- integers that compare as equal, as values of a table, are the same integer
 pub same_int : (m n : ℤ) → is_eq (value_cmp (Int m) (Int n)) ≡ true → m ≡ n
 same_int m n h = int_cmp-IsAntisymmetric m n (is_equal _ (ap is_eq (sym (value_cmp-Int m n)) ∙ h))
 
+-- a row that is found by an integer has it as its rowid, where the rowid is an integer at all
 pub rowid_is : (id : ℤ) (r : Row) → IsTrue (is_int (rowid r)) → has_rowid id r ≡ true → rowid r ≡ Int id
 rowid_is id r int h = go (rowid r) int h
   where
@@ -44,32 +48,39 @@ first_step : {A : Type 0} (p : A → Bool) (y : A) (ys : List A) (x : A) (more :
 first_step p y ys x more true is later e = let same : y ≡ x = cc in (ap Some same, subst (λ z. p z ≡ true) same is)
 first_step p y ys x more false is later e = later e
 
+-- the first of the rows that pass a test is the one that `find` gives, and it passes
 pub first_one : {A : Type 0} (p : A → Bool) (xs : List A) (x : A) (more : List A) → filter p xs ≡ x ∷ more → (find p xs ≡ Some x) × (p x ≡ true)
 first_one p [] x more h = absurd (let e = h in cc)
 first_one p (y ∷ ys) x more h = first_step p y ys x more (p y) refl (first_one p ys x more) h
 
+-- where just one row passes a test, `find` gives it, and it passes
 pub only_one : {A : Type 0} (p : A → Bool) (xs : List A) (x : A) → filter p xs ≡ x ∷ [] → (find p xs ≡ Some x) × (p x ≡ true)
 only_one p xs x h = first_one p xs x [] h
 
+-- taking a number out changes nothing where it is known of each row that it has another
 pub none_taken : (id : ℤ) (rows : List Row) → AllByRecursion (λ r. has_rowid id r ≡ false) rows → without_rowid id rows ≡ rows
 none_taken id [] all = refl
 none_taken id (r ∷ rows) all = rw all.0 (ap (λ l. r ∷ l) (none_taken id rows all.1))
 
+-- a property of each row that a list has, as one of the whole list
 pub each_of : {X : Type 0} (P : X → Type 0) (rows : List X) → ((x : X) → Has rows x → P x) → AllByRecursion P rows
 each_of P [] h = tt
 each_of P (x ∷ rows) h = (h x (inl refl), each_of P rows (λ y there. h y (inr there)))
 
+-- the way back: from a property of a whole list of rows to one row of it
 pub of_each : {X : Type 0} (P : X → Type 0) (rows : List X) → AllByRecursion P rows → (x : X) → Has rows x → P x
 of_each P (y ∷ rows) all x (inl e) = subst P (sym e) all.0
 of_each P (y ∷ rows) all x (inr there) = of_each P rows all.1 x there
 of_each P [] all x there = absurd there
 
+-- of two steps that wait, the last is taken off the stack and the first still waits
 pub pop_two : {A : Type 0} (a b : A) (below : List A) (w : A) → a ∷ b ∷ [] ≡ below ++ w ∷ [] → (below ≡ a ∷ []) × (w ≡ b)
 pop_two a b [] w h = absurd (let e = h in cc)
 pop_two a b (x ∷ []) w h = (let e = h in cc, let e = h in cc)
 pop_two a b (x ∷ y ∷ []) w h = absurd (let e = h in cc)
 pop_two a b (x ∷ y ∷ z ∷ more) w h = absurd (let e = h in cc)
 
+-- of one step that waits, it is taken off the stack and nothing waits any more
 pub pop_one : {A : Type 0} (a : A) (below : List A) (w : A) → a ∷ [] ≡ below ++ w ∷ [] → (below ≡ []) × (w ≡ a)
 pop_one a [] w h = (refl, let e = h in cc)
 pop_one a (x ∷ []) w h = absurd (let e = h in cc)
@@ -94,6 +105,7 @@ at_most_one id (r ∷ rows) table = go (has_rowid id r) refl (at_most_one id row
     go true is more = inr (r, ap (λ l. r ∷ l) (none_pass _ rows (later_rowids (Int id) r rows (is_not_less _ is) table.0)))
     go false is more = more
 
+-- taking a number out changes nothing where the search for it comes back empty
 pub kept_all : (id : ℤ) (rows : List Row) → filter (has_rowid id) rows ≡ [] → without_rowid id rows ≡ rows
 kept_all id [] none = refl
 kept_all id (r ∷ rows) none = go (has_rowid id r) none (kept_all id rows)
@@ -103,6 +115,7 @@ kept_all id (r ∷ rows) none = go (has_rowid id r) none (kept_all id rows)
     go true e more = absurd (let x = e in cc)
     go false e more = ap (λ l. r ∷ l) (more e)
 
+-- a row that `find` gives stands in the list that was searched
 pub has_found : {A : Type 0} (p : A → Bool) (xs : List A) (x : A) → find p xs ≡ Some x → Has xs x
 has_found p [] x h = absurd (let e = h in cc)
 has_found p (y ∷ ys) x h = go (p y) h (has_found p ys x)
@@ -111,10 +124,12 @@ has_found p (y ∷ ys) x h = go (p y) h (has_found p ys x)
     go true e more = inl (let e' = e in cc)
     go false e more = inr (more e)
 
+-- a row whose rowid is known is that number and, after it, its other cells
 pub cells_of : (id : ℤ) (r : Row) → rowid r ≡ Int id → r ≡ Int id ∷ drop 1 r
 cells_of id [] h = absurd (let e = h in cc)
 cells_of id (v ∷ cells) h = ap (λ x. x ∷ cells) h
 
+-- an answer that has the rows of an empty list, in whatever order, is empty
 pub alone_in : {X : Type 0} (ys : List X) → IsPermutation [] ys → ys ≡ []
 alone_in [] h = refl
 alone_in (y ∷ ys) h = absurd (omega (arith, length_permutation [] (y ∷ ys) h))

@@ -28,10 +28,12 @@ either : (b : Bool) (x : Value) → cond b x x ≡ x
 either true x = refl
 either false x = refl
 
+-- an INTEGER column stores NULL as it is
 pub cast_null : cast kind.Integer Null ≡ Null
 unfolding unary
 cast_null = either _ Null
 
+-- an INTEGER column stores an integer as it is
 pub cast_int : (n : ℤ) → cast kind.Integer (Int n) ≡ Int n
 unfolding unary
 cast_int n = either _ (Int n)
@@ -42,6 +44,7 @@ IsWhole v = cast kind.Integer v ≡ v
 
 -- ---- the columns after the number
 
+-- the values of an object for the columns of `nodes` after the number, texts as their bytes
 pub record Columns : Type 0 where
   pub parent : Value
   pub whole : IsWhole parent
@@ -56,9 +59,11 @@ pub record Columns : Type 0 where
   pub sacl_own : List ℕ
   pub sacl_inh : List ℕ
 
+-- the cells of a row of `nodes` after its number, as they are bound to the INSERT of an object
 abbrev pub values : Columns → Row
 values c = c.parent ∷ Text c.name ∷ Int c.kind ∷ Text c.owner ∷ Text c.group ∷ Int c.dacl_flags ∷ Int c.sacl_flags ∷ Text c.dacl_own ∷ Text c.dacl_inh ∷ Text c.sacl_own ∷ Text c.sacl_inh ∷ []
 
+-- the edit of an UPDATE of `nodes`: the rows found go, and come back under the same numbers
 abbrev pub update_edit : Trees → List Row → Edit
 update_edit db rows = edit_of db nodes_table (ids_of rows) Given 1 rows
 
@@ -69,14 +74,17 @@ keeps_number id old new = let same = has_itself id in rw same refl
 
 -- ---- the columns as they are given
 
+-- a parent as it is given, NULL or an integer, is stored unchanged in its column
 pub parent_whole : (v : Value) → IsParent v → IsWhole v
 parent_whole v (inl e) = subst IsWhole (sym e) cast_null
 parent_whole v (inr (n, e)) = subst IsWhole (sym e) (cast_int n)
 
+-- a parent as it is given, NULL or an integer, is bound unchanged as a parameter
 pub bound_parent : (v : Value) → IsParent v → bound_value v ≡ v
 bound_parent v (inl e) = subst (λ w. bound_value w ≡ w) (sym e) refl
 bound_parent v (inr (n, e)) = subst (λ w. bound_value w ≡ w) (sym e) refl
 
+-- the columns that the program has of an object, with each text as its bytes
 abbrev pub columns_in : (c : stored.Columns) → IsParent c.parent → Columns
 columns_in c is = record {
   parent = c.parent;

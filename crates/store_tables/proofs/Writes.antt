@@ -30,6 +30,7 @@ pub went : {B E R : Type 0} {b : B} {Stops : E → Type 0} → ((stop : E) × St
 went (inl stopped) = absurd (let e = stopped.2 in cc)
 went (inr on) = on
 
+-- two Ok results that are equal have the same value
 pub same_value : {B E : Type 0} {a b : B} → ◌≡◌ {A = Result B E} (Ok a) (Ok b) → a ≡ b
 same_value e = cc
 
@@ -37,6 +38,7 @@ same_value e = cc
 abbrev pub nodes_table : Table
 nodes_table = record nodes { tree = 0 }
 
+-- the edit of a DELETE from `nodes`: the rows found go, and none is put in
 abbrev pub delete_edit : Trees → List Row → Edit
 delete_edit db rows = edit_of db nodes_table (ids_of rows) Given 0 []
 
@@ -51,6 +53,7 @@ pub record Deleted (id : ℤ) (old new : State) (count : ℕ) : Type 0 where
   pub sound : IsDatabase new.now
   pub shown : Shows old new new.now (if old.in_transaction then old.committed else new.now) old.in_transaction
 
+-- a DELETE by number that answered a count: it took out the rows with that rowid
 pub deleted : (id : ℤ) (old new : State) (count : ℕ) → old.now.schema ≡ room_schema → Executes delete_text (Int id ∷ []) old new (Ok count) → Deleted id old new count
 deleted id old new count has h =
     let params = Int id ∷ [] in

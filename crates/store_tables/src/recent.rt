@@ -1,5 +1,5 @@
-//! Lists that were read or printed lately, so that a text that stands in many rows is read once, and
-//! printed once.
+//! Lists that were read or printed lately, so that a text that stands in many rows is read once,
+//! and printed once.
 ghost use Rattle.std.specs.Prelude.{◌≡◌, IfOk, IfSome, Some, string_bytes};
 ghost use Rattle.room_ace.specs.Column.{entries_of};
 
