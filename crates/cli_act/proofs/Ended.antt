@@ -7,7 +7,8 @@ use Rattle.cli_act.specs.declared.outcome.Outcome.{Outcome}
 use Rattle.cli_tasks.specs.declared.judging.Task.{Task}
 use Rattle.cli_tasks.specs.declared.judging.Task.TheVariants as task
 
-work_ended : (work : Task) (old new : State) (outcome : Outcome) → Works work old outcome new → old.in_transaction ≡ false → new.in_transaction ≡ false
+work_ended : (work : Task) (old new : State) (outcome : Outcome) → Works work old outcome new
+    → old.in_transaction ≡ false → new.in_transaction ≡ false
 work_ended (task.Init owners) old new outcome works ended = absurd works
 work_ended (task.Groups pairs) old new outcome works ended = works.ran.leaves.ended ended
 work_ended task.GroupsOut old new outcome works ended = works.looked.leaves.ended ended
@@ -18,16 +19,21 @@ work_ended task.Verify old new outcome works ended = works.looked.leaves.ended e
 work_ended task.Migrate old new outcome works ended = absurd works
 
 module _ {S : Type 0} (shown : Held S → State) where
-  room_ended : (work : Task) (old new : Held S) (outcome : Outcome) → WorksOnRoom shown work old outcome new → (shown new).in_transaction ≡ false
-  room_ended work old new outcome (inl opened) = work_ended work (shown opened.mid) (shown new) outcome opened.works opened.opens.adopts.ended
+  room_ended : (work : Task) (old new : Held S) (outcome : Outcome)
+      → WorksOnRoom shown work old outcome new → (shown new).in_transaction ≡ false
+  room_ended work old new outcome (inl opened) =
+      work_ended work (shown opened.mid) (shown new) outcome opened.works opened.opens.adopts.ended
   room_ended work old new outcome (inr not) = not.opens.adopts.ended
 
-  pub does_ended : (work : Task) (old new : Held S) (outcome : Outcome) → DoesTask shown work old outcome new → (shown new).in_transaction ≡ false
+  pub does_ended : (work : Task) (old new : Held S) (outcome : Outcome)
+      → DoesTask shown work old outcome new → (shown new).in_transaction ≡ false
   does_ended (task.Init owners) old new outcome does = does.creates.founds.ended
-  does_ended (task.Groups pairs) old new outcome does = room_ended (task.Groups pairs) old new outcome does
+  does_ended (task.Groups pairs) old new outcome does =
+      room_ended (task.Groups pairs) old new outcome does
   does_ended task.GroupsOut old new outcome does = room_ended task.GroupsOut old new outcome does
   does_ended task.Audit old new outcome does = room_ended task.Audit old new outcome does
   does_ended task.Dump old new outcome does = room_ended task.Dump old new outcome does
-  does_ended (task.Reset path which sent) old new outcome does = room_ended (task.Reset path which sent) old new outcome does
+  does_ended (task.Reset path which sent) old new outcome does =
+      room_ended (task.Reset path which sent) old new outcome does
   does_ended task.Verify old new outcome does = room_ended task.Verify old new outcome does
   does_ended task.Migrate old new outcome does = does.migrates.ended

@@ -15,7 +15,8 @@ use Rattle.cli_act.specs.Counting.{groups_after, distinct_groups, with_group}
 
 -- the set has these texts, no others, and this many
 pub record HasSeen {A : Type 0} (seen : BTreeSet (String A)) (groups : List (List ℕ)) : Type 0 where
-  pub has : (key : String A) → contains string_cmp seen key ≡ list_any (same_text (string_bytes key)) groups
+  pub has : (key : String A)
+      → contains string_cmp seen key ≡ list_any (same_text (string_bytes key)) groups
   pub len : length seen.keys ≡ length groups
 
 agree : (a b : Bool) → (a ≡ true → b ≡ true) → (b ≡ true → a ≡ true) → a ≡ b
@@ -24,11 +25,16 @@ agree false true to from = from refl
 agree false false to from = refl
 
 same_text-sym : (a b : List ℕ) → same_text a b ≡ same_text b a
-same_text-sym a b = agree _ _ (λ e. (bytes_decides b a).1 (sym ((bytes_decides a b).0 e))) (λ e. (bytes_decides a b).1 (sym ((bytes_decides b a).0 e)))
+same_text-sym a b =
+    agree _ _ (λ e. (bytes_decides b a).1 (sym ((bytes_decides a b).0 e)))
+    (λ e. (bytes_decides a b).1 (sym ((bytes_decides b a).0 e)))
 
 -- two keys compare as equal where their texts are the same
-key_equal : {A : Type 0} (x y : String A) → is_eq (string_cmp x y) ≡ same_text (string_bytes y) (string_bytes x)
-key_equal x y = is_eq-slice_cmp (string_bytes x) (string_bytes y) ∙ same_text-sym (string_bytes x) (string_bytes y)
+key_equal : {A : Type 0} (x y : String A)
+    → is_eq (string_cmp x y) ≡ same_text (string_bytes y) (string_bytes x)
+key_equal x y =
+    is_eq-slice_cmp (string_bytes x) (string_bytes y)
+    ∙ same_text-sym (string_bytes x) (string_bytes y)
 
 one_more : (is : Bool) (before : Bool) → cond is true before ≡ (before || (is || false))
 one_more true true = refl
@@ -37,27 +43,39 @@ one_more false true = refl
 one_more false false = refl
 
 seen_more : {A : Type 0} (seen more : BTreeSet (String A)) (groups : List (List ℕ)) (key : String A)
-    → ((other : String A) → contains string_cmp seen other ≡ list_any (same_text (string_bytes other)) groups)
-    → ((other : String A) → contains string_cmp more other ≡ cond (is_eq (string_cmp key other)) true (contains string_cmp seen other))
-    → (other : String A) → contains string_cmp more other ≡ list_any (same_text (string_bytes other)) (groups ++ string_bytes key ∷ [])
+    → ((other : String A)
+    → contains string_cmp seen other ≡ list_any (same_text (string_bytes other)) groups)
+    → ((other : String A)
+    → contains string_cmp more other
+    ≡ cond (is_eq (string_cmp key other)) true (contains string_cmp seen other))
+    → (other : String A)
+    → contains string_cmp more other
+    ≡ list_any (same_text (string_bytes other)) (groups ++ string_bytes key ∷ [])
 seen_more seen more groups key has adds other =
     adds other
     ∙ ap (λ b. cond b true (contains string_cmp seen other)) (key_equal key other)
     ∙ ap (λ b. cond (same_text (string_bytes other) (string_bytes key)) true b) (has other)
-    ∙ one_more (same_text (string_bytes other) (string_bytes key)) (list_any (same_text (string_bytes other)) groups)
+    ∙ one_more (same_text (string_bytes other) (string_bytes key))
+    (list_any (same_text (string_bytes other)) groups)
     ∙ sym (list_any-append (same_text (string_bytes other)) groups (string_bytes key ∷ []))
 
-seen_by : {A : Type 0} (seen more : BTreeSet (String A)) (groups : List (List ℕ)) (key : String A) (is added : Bool)
+seen_by : {A : Type 0} (seen more : BTreeSet (String A)) (groups : List (List ℕ)) (key : String A)
+    (is added : Bool)
     → HasSeen seen groups → list_any (same_text (string_bytes key)) groups ≡ is → added ≡ not is
-    → ((other : String A) → contains string_cmp more other ≡ cond (is_eq (string_cmp key other)) true (contains string_cmp seen other))
-    → OnFalse added (more.keys ≡ seen.keys) → length more.keys ≡ length seen.keys + (if added then 1 else 0)
+    → ((other : String A)
+    → contains string_cmp more other
+    ≡ cond (is_eq (string_cmp key other)) true (contains string_cmp seen other))
+    → OnFalse added (more.keys ≡ seen.keys)
+    → length more.keys ≡ length seen.keys + (if added then 1 else 0)
     → HasSeen more (with_group groups (string_bytes key))
 seen_by {A} seen more groups key true added seen_so e was adds same len =
     let Q : Bool → Type 0 = λ b. OnFalse b (more.keys ≡ seen.keys) in
     let keys : more.keys ≡ seen.keys = subst Q was same in
     let P : List (List ℕ) → Type 0 = λ all. HasSeen {A = A} more all in
     subst P (sym (cond-true _ _ _ e)) (record {
-      has = λ other. ap (λ (ks : List (String A)). list_any (λ k. is_eq (string_cmp other k)) ks) keys ∙ seen_so.has other;
+      has =
+          λ other. ap (λ (ks : List (String A)). list_any (λ k. is_eq (string_cmp other k)) ks) keys
+          ∙ seen_so.has other;
       len = ap (λ (ks : List (String A)). length ks) keys ∙ seen_so.len;
     })
 seen_by {A} seen more groups key false added seen_so e was adds same len =
@@ -65,18 +83,26 @@ seen_by {A} seen more groups key false added seen_so e was adds same len =
     let one : (if added then 1 else 0) ≡ 1 = ap (λ (b : Bool). if b then 1 else 0) was in
     subst P (sym (cond-false _ _ _ e)) (record {
       has = seen_more seen more groups key seen_so.has adds;
-      len = len ∙ ap (λ n. length seen.keys + n) one ∙ ap (λ n. n + 1) seen_so.len ∙ sym (length-append groups (string_bytes key ∷ []));
+      len =
+          len ∙ ap (λ n. length seen.keys + n) one ∙ ap (λ n. n + 1) seen_so.len
+          ∙ sym (length-append groups (string_bytes key ∷ []));
     })
 
 -- a group of the next pair is new, or came before
-pub seen_next : {A : Type 0} (seen more : BTreeSet (String A)) (groups : List (List ℕ)) (key : String A) (name : List ℕ) (added : Bool)
+pub seen_next : {A : Type 0} (seen more : BTreeSet (String A)) (groups : List (List ℕ))
+    (key : String A) (name : List ℕ) (added : Bool)
     → HasSeen seen groups → string_bytes key ≡ name → added ≡ not (contains string_cmp seen key)
-    → ((other : String A) → contains string_cmp more other ≡ cond (is_eq (string_cmp key other)) true (contains string_cmp seen other))
-    → OnFalse added (more.keys ≡ seen.keys) → length more.keys ≡ length seen.keys + (if added then 1 else 0)
+    → ((other : String A)
+    → contains string_cmp more other
+    ≡ cond (is_eq (string_cmp key other)) true (contains string_cmp seen other))
+    → OnFalse added (more.keys ≡ seen.keys)
+    → length more.keys ≡ length seen.keys + (if added then 1 else 0)
     → HasSeen more (with_group groups name)
 seen_next {A} seen more groups key name added seen_so bytes was adds same len =
     let P : List ℕ → Type 0 = λ text. HasSeen {A = A} more (with_group groups text) in
-    subst P bytes (seen_by seen more groups key (list_any (same_text (string_bytes key)) groups) added seen_so refl (was ∙ ap not (seen_so.has key)) adds same len)
+    subst P bytes (seen_by seen more groups key
+    (list_any (same_text (string_bytes key)) groups) added seen_so refl
+    (was ∙ ap not (seen_so.has key)) adds same len)
 
 -- the set that is empty
 pub seen_none : {A : Type 0} (seen : BTreeSet (String A)) → seen.keys ≡ [] → HasSeen seen []
@@ -86,11 +112,15 @@ seen_none {A} seen e = record {
 }
 
 -- the groups so far and those of the pairs that are left are all
-pub after_next : (groups : List (List ℕ)) (pairs : List (List ℕ × List ℕ)) (i : ℕ) (pair default : List ℕ × List ℕ)
-    → i < length pairs → pair ≡ get_or pairs i default → groups_after groups (drop i pairs) ≡ distinct_groups pairs
+pub after_next : (groups : List (List ℕ)) (pairs : List (List ℕ × List ℕ)) (i : ℕ)
+    (pair default : List ℕ × List ℕ)
+    → i < length pairs → pair ≡ get_or pairs i default
+    → groups_after groups (drop i pairs) ≡ distinct_groups pairs
     → groups_after (with_group groups pair.0) (drop (i + 1) pairs) ≡ distinct_groups pairs
 after_next groups pairs i pair default h is e =
-    rw (is, add-one) (sym (ap (λ (xs : List (List ℕ × List ℕ)). groups_after groups xs) (drop-cons pairs i default h)) ∙ e)
+    rw (is, add-one)
+    (sym (ap (λ (xs : List (List ℕ × List ℕ)). groups_after groups xs)
+    (drop-cons pairs i default h)) ∙ e)
 
 pub after_all : (groups : List (List ℕ)) (pairs : List (List ℕ × List ℕ)) (i : ℕ) → length pairs ≤ i
     → groups_after groups (drop i pairs) ≡ distinct_groups pairs → groups ≡ distinct_groups pairs

@@ -12,11 +12,13 @@ use Rattle.store_tables.proofs.Calls.{retains_same}
 no_damage : {X : Type 0} → ◌≡◌ {A = Result X StoreFault} (Err Memory) (Err Damaged) → ⊥
 no_damage {X} damaged = absurd (let e = fault_in damaged in cc)
   where
-    fault_in : {X : Type 0} {a b : StoreFault} → ◌≡◌ {A = Result X StoreFault} (Err a) (Err b) → a ≡ b
+    fault_in : {X : Type 0} {a b : StoreFault} → ◌≡◌ {A = Result X StoreFault} (Err a) (Err b)
+        → a ≡ b
     fault_in e = cc
 
 -- Nothing is changed.
-pub unrun : {X : Type 0} (old : State) (Blames : Rows → Type 0) (Becomes : Rows → X → Rows → Type 0) → Ran {X = X} old old (Err Memory) Blames Becomes
+pub unrun : {X : Type 0} (old : State) (Blames : Rows → Type 0) (Becomes : Rows → X → Rows → Type 0)
+    → Ran {X = X} old old (Err Memory) Blames Becomes
 unrun old Blames Becomes = record {
   leaves = record { ended = λ h. h; clean = λ h. h; was_open = λ _ h. h };
   answers = λ _. tt;
@@ -30,4 +32,5 @@ unrun old Blames Becomes = record {
 
 -- Nothing happens.
 pub still : (old : State) → Leads old [] old
-still old = record { trusted = λ h. h; sound = λ _ h. h; run = λ _ _ room keeps. (room, refl, keeps) }
+still old =
+    record { trusted = λ h. h; sound = λ _ h. h; run = λ _ _ room keeps. (room, refl, keeps) }

@@ -7,7 +7,8 @@ use Rattle.cli_tasks.specs.declared.judging.Task.{Task}
 use Rattle.cli_tasks.specs.declared.judging.Task.TheVariants as task
 
 module _ {S : Type 0} (shown : Held S → State) where
-  pub does_work : (work : Task) (old new : Held S) (outcome : Outcome) → IsWork work → WorksOnRoom shown work old outcome new → DoesTask shown work old outcome new
+  pub does_work : (work : Task) (old new : Held S) (outcome : Outcome) → IsWork work
+      → WorksOnRoom shown work old outcome new → DoesTask shown work old outcome new
   does_work (task.Init owners) old new outcome is works = absurd is
   does_work (task.Groups pairs) old new outcome is works = works
   does_work task.GroupsOut old new outcome is works = works

@@ -15,7 +15,8 @@ is_ascii byte = nat_lt byte 128
 abbrev are_ascii : List ℕ → Bool
 are_ascii bytes = list_all is_ascii bytes
 
-among_ascii : (letters : List ℕ) (byte : ℕ) → are_ascii letters ≡ true → is_among letters byte ≡ true → is_ascii byte ≡ true
+among_ascii : (letters : List ℕ) (byte : ℕ) → are_ascii letters ≡ true
+    → is_among letters byte ≡ true → is_ascii byte ≡ true
 among_ascii [] byte all it = absurd (false≢true it)
 among_ascii (letter ∷ letters) byte all it =
     let parts = and_parts (is_ascii letter) (are_ascii letters) all in
@@ -24,10 +25,12 @@ among_ascii (letter ∷ letters) byte all it =
       | inr there ↦ among_ascii letters byte parts.1 there
     ]
 
-all_imply : (p q : ℕ → Bool) (xs : List ℕ) → ((x : ℕ) → p x ≡ true → q x ≡ true) → list_all p xs ≡ true → list_all q xs ≡ true
+all_imply : (p q : ℕ → Bool) (xs : List ℕ) → ((x : ℕ) → p x ≡ true → q x ≡ true)
+    → list_all p xs ≡ true → list_all q xs ≡ true
 all_imply p q [] each all = refl
 all_imply p q (x ∷ xs) each all =
-    let parts = and_parts (p x) (list_all p xs) all in and_from (q x) (list_all q xs) (each x parts.0) (all_imply p q xs each parts.1)
+    let parts = and_parts (p x) (list_all p xs) all in
+    and_from (q x) (list_all q xs) (each x parts.0) (all_imply p q xs each parts.1)
 
 letters_ascii : are_ascii mask_letters ≡ true
 unfolding mask_letters
@@ -37,9 +40,15 @@ letters_ascii = refl
 no_ascii : (bytes : List ℕ) → is_utf8 bytes ≡ false → are_ascii bytes ≡ true → ⊥
 no_ascii bytes none all = both_ways (is_utf8 bytes) none (or_left (are_ascii bytes) _ all)
 
-pub no_text_no_name : NamesAreText → (bytes : List ℕ) → is_utf8 bytes ≡ false → is_name bytes ≡ false
-no_text_no_name texts bytes none = false_from_ne_true (is_name bytes) (λ it. both_ways (is_utf8 bytes) none (texts bytes it))
+pub no_text_no_name : NamesAreText → (bytes : List ℕ) → is_utf8 bytes ≡ false
+    → is_name bytes ≡ false
+no_text_no_name texts bytes none =
+    false_from_ne_true (is_name bytes) (λ it. both_ways (is_utf8 bytes) none (texts bytes it))
 
-pub no_text_no_letters : (bytes : List ℕ) → is_utf8 bytes ≡ false → list_all (is_among mask_letters) bytes ≡ false
+pub no_text_no_letters : (bytes : List ℕ) → is_utf8 bytes ≡ false
+    → list_all (is_among mask_letters) bytes ≡ false
 no_text_no_letters bytes none =
-    false_from_ne_true (list_all (is_among mask_letters) bytes) (λ it. no_ascii bytes none (all_imply (is_among mask_letters) is_ascii bytes (λ byte. among_ascii mask_letters byte letters_ascii) it))
+    false_from_ne_true (list_all (is_among mask_letters) bytes)
+    (λ it. no_ascii bytes none
+    (all_imply (is_among mask_letters) is_ascii bytes
+    (λ byte. among_ascii mask_letters byte letters_ascii) it))

@@ -23,8 +23,11 @@ judged-take input =
     ]
 
 -- what is printed for the front is printed for all
-pub told_of : (known : Option (List ℕ)) (bytes line : List ℕ) (status : ℕ) → IfSome known (λ input. bytes ≡ take 1048577 input) → line ≡ reply_line bytes → status ≡ reply_status (judged bytes)
-    → (input : List ℕ) × IsInput known input × (line ≡ reply_line input) × (status ≡ reply_status (judged input))
+pub told_of : (known : Option (List ℕ)) (bytes line : List ℕ) (status : ℕ)
+    → IfSome known (λ input. bytes ≡ take 1048577 input) → line ≡ reply_line bytes
+    → status ≡ reply_status (judged bytes)
+    → (input : List ℕ) × IsInput known input × (line ≡ reply_line input)
+    × (status ≡ reply_status (judged input))
 told_of None bytes line status front said ends = (bytes, tt, said, ends)
 told_of (Some input) bytes line status front said ends =
     let same : judged bytes ≡ judged input = rw front (judged-take input) in

@@ -23,7 +23,9 @@ place_missing n m found =
       | inr e ↦ ltb-false n m e
     ]
 
-uncut : (separator : ℕ) (bytes : List ℕ) → length bytes ≤ position_or_len (λ byte. byte == separator) bytes → pieces separator bytes ≡ bytes ∷ []
+uncut : (separator : ℕ) (bytes : List ℕ)
+    → length bytes ≤ position_or_len (λ byte. byte == separator) bytes
+    → pieces separator bytes ≡ bytes ∷ []
 uncut separator [] past = refl
 uncut separator (byte ∷ bytes) past =
     elim (cases_Bool (byte == separator)) [
@@ -31,29 +33,42 @@ uncut separator (byte ∷ bytes) past =
       | inr e ↦ (let rest = rw e at past in rw (e, uncut separator bytes (omega arith)) refl)
     ]
 
-pub pieces-uncut : (separator : ℕ) (bytes : List ℕ) → None ≡ position (λ byte. byte == separator) bytes → pieces separator bytes ≡ bytes ∷ []
-pieces-uncut separator bytes none = uncut separator bytes (place_missing (position_or_len (λ byte. byte == separator) bytes) (length bytes) (sym none))
+pub pieces-uncut : (separator : ℕ) (bytes : List ℕ)
+    → None ≡ position (λ byte. byte == separator) bytes → pieces separator bytes ≡ bytes ∷ []
+pieces-uncut separator bytes none =
+    uncut separator bytes
+    (place_missing (position_or_len (λ byte. byte == separator) bytes) (length bytes) (sym none))
 
-pub pieces-cut : (separator : ℕ) (bytes rest : List ℕ) (i : ℕ) → Some i ≡ position (λ byte. byte == separator) bytes → rest ≡ drop (i + 1) bytes → (pieces separator bytes ≡ take i bytes ∷ pieces separator rest) × (length rest < length bytes)
+pub pieces-cut : (separator : ℕ) (bytes rest : List ℕ) (i : ℕ)
+    → Some i ≡ position (λ byte. byte == separator) bytes → rest ≡ drop (i + 1) bytes
+    → (pieces separator bytes ≡ take i bytes ∷ pieces separator rest) × (length rest < length bytes)
 pieces-cut separator bytes rest i found back =
-    let place = place_found (position_or_len (λ byte. byte == separator) bytes) (length bytes) i (sym found) in (
+    let place = place_found (position_or_len (λ byte. byte == separator) bytes) (length bytes) i
+    (sym found) in (
       slice_split_first (λ byte. byte == separator) bytes 0 place.0
           ∙ ap (λ n. take n bytes ∷ pieces separator (drop (n + 1) bytes)) place.1
           ∙ ap (λ (after : List ℕ). take i bytes ∷ pieces separator after) (sym back),
       omega (arith, ap length back, length-drop (i + 1) bytes),
     )
 
-pieces-some : (separator : ℕ) (bytes : List ℕ) → (first : List ℕ) × ((more : List (List ℕ)) × (pieces separator bytes ≡ first ∷ more))
+pieces-some : (separator : ℕ) (bytes : List ℕ) → (first : List ℕ)
+    × ((more : List (List ℕ)) × (pieces separator bytes ≡ first ∷ more))
 pieces-some separator [] = ([], ([], refl))
 pieces-some separator (byte ∷ bytes) =
     elim (cases_Bool (byte == separator)) [
       | inl e ↦ ([], (pieces separator bytes, rw e refl))
-      | inr e ↦ (let rest = pieces-some separator bytes in (byte ∷ rest.0, (rest.1.0, rw (e, rest.1.1) refl)))
+      | inr e ↦
+          (let rest = pieces-some separator bytes in
+          (byte ∷ rest.0, (rest.1.0, rw (e, rest.1.1) refl)))
     ]
 
 -- three pieces are no owners
-pub owners-three : (value owner group name more : List ℕ) → pieces 58 value ≡ owner ∷ pieces 58 group → pieces 58 group ≡ name ∷ pieces 58 more → owners_of value ≡ Err BadName
+pub owners-three : (value owner group name more : List ℕ)
+    → pieces 58 value ≡ owner ∷ pieces 58 group → pieces 58 group ≡ name ∷ pieces 58 more
+    → owners_of value ≡ Err BadName
 owners-three value owner group name more cut again =
     let third = pieces-some 58 more in
-    let parts : pieces 58 value ≡ owner ∷ (name ∷ (third.0 ∷ third.1.0)) = cut ∙ ap (λ (ps : List (List ℕ)). owner ∷ ps) (again ∙ ap (λ (ps : List (List ℕ)). name ∷ ps) third.1.1) in
+    let parts : pieces 58 value ≡ owner ∷ (name ∷ (third.0 ∷ third.1.0)) = cut
+    ∙ ap (λ (ps : List (List ℕ)). owner ∷ ps)
+    (again ∙ ap (λ (ps : List (List ℕ)). name ∷ ps) third.1.1) in
     ap owners_of_parts parts

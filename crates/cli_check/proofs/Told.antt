@@ -10,14 +10,18 @@ use Rattle.cli_check.specs.Check.{judged}
 use Rattle.cli_check.specs.Reply.{reply_status}
 
 -- nothing
-pub untold : {E : Type 0} (known old : Option (List ℕ)) (error : E) → Answers {E = E} known old old (Err error)
+pub untold : {E : Type 0} (known old : Option (List ℕ)) (error : E)
+    → Answers {E = E} known old old (Err error)
 untold None old error = ([], tt, writes_none old _)
 untold (Some bytes) old error = (bytes, refl, writes_none old _)
 
 -- all of it, or a beginning
-pub told : {E : Type 0} (known old new : Option (List ℕ)) (line : List ℕ) (status : ℕ) (sent : Result ℕ E)
-    → (input : List ℕ) × IsInput known input × (line ≡ reply_line input) × (status ≡ reply_status (judged input))
-    → OnOk sent (Appends old new line) → IfOk sent (λ code. code ≡ status) → OnErr sent (WritesSome old new line)
+pub told : {E : Type 0} (known old new : Option (List ℕ)) (line : List ℕ) (status : ℕ)
+    (sent : Result ℕ E)
+    → (input : List ℕ) × IsInput known input × (line ≡ reply_line input)
+    × (status ≡ reply_status (judged input))
+    → OnOk sent (Appends old new line) → IfOk sent (λ code. code ≡ status)
+    → OnErr sent (WritesSome old new line)
     → Answers known old new sent
 told known old new line status (Ok code) of ok ends err =
     let P : List ℕ → Type 0 = λ text. Appends old new text in

@@ -27,15 +27,18 @@ use Rattle.cli_console.specs.declared.stop.Stop.TheVariants as stop
 
 -- a test of the length, and then of the bytes
 limited : {A : Type 0} (most : ℕ) (long : A) (read : List ℕ → A) (input : List ℕ)
-    → (if nat_lt most (length (take (most + 1) input)) then long else read (take (most + 1) input)) ≡ (if nat_lt most (length input) then long else read input)
+    → (if nat_lt most (length (take (most + 1) input)) then long else read (take (most + 1) input))
+    ≡ (if nat_lt most (length input) then long else read input)
 limited most long read input =
     elim (cases_Bool (nat_lt most (length input))) [
       | inl over ↦ (
           let more = ltb-true most (length input) over in
           let least : most + 1 ≤ length input = omega arith in
-          let cut : length (take (most + 1) input) ≡ most + 1 = length-take-le (most + 1) input least in
+          let cut : length (take (most + 1) input) ≡ most + 1 = length-take-le
+          (most + 1) input least in
           let above : most < length (take (most + 1) input) = omega (arith, cut) in
-          cond-true _ _ _ (lt-ltb most (length (take (most + 1) input)) above) ∙ sym (cond-true _ _ _ over))
+          cond-true _ _ _ (lt-ltb most (length (take (most + 1) input)) above)
+          ∙ sym (cond-true _ _ _ over))
       | inr under ↦ (
           let below = ltb-false most (length input) under in
           let all : length input ≤ most + 1 = omega arith in
@@ -43,28 +46,36 @@ limited most long read input =
     ]
 
 pairs-take : (input : List ℕ) → pairs_in (take 8388609 input) ≡ pairs_in input
-pairs-take input = limited 8388608 (Err refusal.TooLong) (λ bytes. refused_by refusal.Row (groups_in bytes)) input
+pairs-take input =
+    limited 8388608 (Err refusal.TooLong) (λ bytes. refused_by refusal.Row (groups_in bytes)) input
 
 sent-take : (input : List ℕ) → sent_in (take 1048577 input) ≡ sent_in input
-sent-take input = limited 1048576 (Err refusal.TooLong) (λ bytes. refused_by refusal.Line (sent_of bytes)) input
+sent-take input =
+    limited 1048576 (Err refusal.TooLong) (λ bytes. refused_by refusal.Line (sent_of bytes)) input
 
-task-take : (asked : Command) (input : List ℕ) → task_of asked (take (most_of (input_of asked)) input) ≡ task_of asked input
+task-take : (asked : Command) (input : List ℕ)
+    → task_of asked (take (most_of (input_of asked)) input) ≡ task_of asked input
 task-take command.Check input = refl
 task-take (command.Init file owner group) input = refl
 task-take (command.Serve file port count) input = refl
 task-take (command.Groups file csv) input =
-    ap (λ (read : Result (List (List ℕ × List ℕ)) TaskRefusal). Some (goes_on read (λ pairs. Ok (task.Groups pairs)))) (pairs-take input)
+    ap (λ (read : Result (List (List ℕ × List ℕ)) TaskRefusal).
+    Some (goes_on read (λ pairs. Ok (task.Groups pairs)))) (pairs-take input)
 task-take (command.GroupsOut file) input = refl
 task-take (command.Audit file) input = refl
 task-take (command.Dump file) input = refl
 task-take (command.Reset file path which) input =
-    ap (λ (read : Result Sent TaskRefusal). Some (goes_on (task_path path.now) (λ path. goes_on read (λ list. Ok (task.Reset path which list))))) (sent-take input)
+    ap (λ (read : Result Sent TaskRefusal).
+    Some (goes_on (task_path path.now)
+    (λ path. goes_on read (λ list. Ok (task.Reset path which list))))) (sent-take input)
 task-take (command.Verify file) input = refl
 task-take (command.Migrate file) input = refl
 
 -- the task of what was read
-pub whole : (asked : Command) (known : Option (List ℕ)) (bytes : List ℕ) (most : ℕ) (result : Result Task Stop)
-    → most ≡ most_of (input_of asked) → IfSome known (λ input. bytes ≡ take most input) → IsTask (task_of asked bytes) result → ReadsTask asked known result
+pub whole : (asked : Command) (known : Option (List ℕ)) (bytes : List ℕ) (most : ℕ)
+    (result : Result Task Stop)
+    → most ≡ most_of (input_of asked) → IfSome known (λ input. bytes ≡ take most input)
+    → IsTask (task_of asked bytes) result → ReadsTask asked known result
 whole asked None bytes most result is front told = (bytes, tt, told)
 whole asked (Some input) bytes most result is front told =
     let due : task_of asked bytes ≡ task_of asked input = rw (front, is) (task-take asked input) in
@@ -72,17 +83,20 @@ whole asked (Some input) bytes most result is front told =
     (input, refl, subst P due told)
 
 -- nothing could be read
-pub unread : (asked : Command) (known : Option (List ℕ)) (why : StreamFault) → IsOfStream why → ReadsTask asked known (Err (stop.Failed why))
+pub unread : (asked : Command) (known : Option (List ℕ)) (why : StreamFault) → IsOfStream why
+    → ReadsTask asked known (Err (stop.Failed why))
 unread asked None why is = ([], tt, is)
 unread asked (Some input) why is = (input, refl, is)
 
 -- the task that is due
-pub taken : (due : Option (Result Task TaskRefusal)) (task : Task) → IsSome due → IfSome due (Gives {F = TaskRefusal} (Ok task)) → IsTask due (Ok task)
+pub taken : (due : Option (Result Task TaskRefusal)) (task : Task) → IsSome due
+    → IfSome due (Gives {F = TaskRefusal} (Ok task)) → IsTask due (Ok task)
 taken None task is gives = absurd (false≢true is)
 taken (Some told) task is gives = ap Some gives
 
 -- or why there is none
-pub refused : (due : Option (Result Task TaskRefusal)) (failure : Failure TaskRefusal) → IsSome due → IfSome due (Gives {A = Task} (Err failure)) → IsTask due (Err (stop_of_refusal failure))
+pub refused : (due : Option (Result Task TaskRefusal)) (failure : Failure TaskRefusal) → IsSome due
+    → IfSome due (Gives {A = Task} (Err failure)) → IsTask due (Err (stop_of_refusal failure))
 refused None failure is gives = absurd (false≢true is)
 refused (Some told) OutOfMemory is gives = inl refl
 refused (Some told) (Fault why) is gives = ap Some gives

@@ -47,7 +47,8 @@ rests {D} d old new same =
     })
 
 -- the same, where the port may have been printed
-pub rests_or : {D : Type 0} (d : Ghosts D) (old new : D) (out out' : Option (List ℕ)) → (new ≡ old) ⊎ TellsPort out out'
+pub rests_or : {D : Type 0} (d : Ghosts D) (old new : D) (out out' : Option (List ℕ)) → (new ≡ old)
+    ⊎ TellsPort out out'
     → Rests d old new ⊎ TellsPort out out'
 rests_or d old new out out' (inl same) = inl (rests d old new same)
 rests_or d old new out out' (inr tells) = inr tells
@@ -59,7 +60,8 @@ pub rested : (old new : State) → (HasCleanDisk new → HasCleanDisk old)
 rested old new trusted sound run = record { trusted = trusted; sound = sound; run = run }
 
 -- what a store served, in terms of its content
-pub served : (count : ℕ) (told told' : List ℤ → Type 0) (old new : State) (out out' : Option (List ℕ)) (status : ℕ)
+pub served : (count : ℕ) (told told' : List ℤ → Type 0) (old new : State)
+    (out out' : Option (List ℕ)) (status : ℕ)
     (visits : List Visit) (end : Result (Unit {0}) ServingFault)
     → length visits ≤ count → All IsServedVisit visits
     → ((before : List ℤ) → told before → told' (before ++ map moment_of visits))
@@ -68,18 +70,20 @@ pub served : (count : ℕ) (told told' : List ℤ → Type 0) (old new : State) 
     → (HasCleanDisk new → IsSound old → Runs (Keeps old) (requests_of visits) (Keeps new))
     → IsEnd count end (length visits) → status ≡ end_status end → OnOk end (TellsPort out out')
     → Leads old [] new ⊎ TellsPort out out' → IsServed count told told' old new out out' status
-served count told told' old new out out' status visits end few each moments trusted sound run says is tells first = record {
-  visits = visits;
-  few = few;
-  each = each;
-  moments = moments;
-  leads = record { trusted = trusted; sound = sound; run = run };
-  ends = ends end status out out' is tells;
-  first = first;
-  end = end;
-  end_is = is;
-  end_says = says;
-}
+served count told told' old new out out' status visits end few each moments trusted sound run says
+    is tells first =
+    record {
+      visits = visits;
+      few = few;
+      each = each;
+      moments = moments;
+      leads = record { trusted = trusted; sound = sound; run = run };
+      ends = ends end status out out' is tells;
+      first = first;
+      end = end;
+      end_is = is;
+      end_says = says;
+    }
 
 -- events after a step without events
 pub after : (old mid new : State) (events : List Event) → Leads old [] mid → Leads mid events new

@@ -4,7 +4,8 @@ use Rattle.clap.specs.Words.{AddsSubcommand, App, with_subcommand}
 use Rattle.clap.specs.declared.builder.command.Command.{Command}
 use Rattle.cli_words.specs.Line.{IsLine}
 
-pub added : {a b : App} {old sub new : Command} → IsLine a old → IsLine b sub → AddsSubcommand old sub new → IsLine (with_subcommand a b.top) new
+pub added : {a b : App} {old sub new : Command} → IsLine a old → IsLine b sub
+    → AddsSubcommand old sub new → IsLine (with_subcommand a b.top) new
 added is one adds = (
   adds.shape one.1 ∙ ap₂ with_subcommand is.0 (ap (λ (app : App). app.top) one.0),
   adds.globals ∙ ap₂ (λ x y. x || y) is.1 one.1,

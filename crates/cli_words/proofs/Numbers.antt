@@ -5,12 +5,15 @@ use Rattle.std.specs.Str.Parse.{ParsesUnsigned}
 use Rattle.clap.specs.Words.{ReadsOne}
 use Rattle.cli_words.specs.Command.{IsNumber}
 
-pub number_read : (E : Type 0) (G : List ℕ → Result ℕ E → Type 0) (bits default : ℕ) (text : Option (List ℕ)) (answer : Option ℕ)
+pub number_read : (E : Type 0) (G : List ℕ → Result ℕ E → Type 0) (bits default : ℕ)
+    (text : Option (List ℕ)) (answer : Option ℕ)
     → ((u : List ℕ) (x : Result ℕ E) → G u x → ParsesUnsigned bits 10 u x)
     → (text ≡ None → answer ≡ None) → ((t : List ℕ) → text ≡ Some t → ReadsOne G t answer)
     → IsNumber bits default text (unwrap_or answer default)
-number_read E G bits default None answer only none value = ap (λ (a : Option ℕ). unwrap_or a default) (none refl)
-number_read E G bits default (Some t) (Some v) only none value = λ numeral fits. (only t (Ok v) (value t refl)).1
+number_read E G bits default None answer only none value =
+    ap (λ (a : Option ℕ). unwrap_or a default) (none refl)
+number_read E G bits default (Some t) (Some v) only none value =
+    λ numeral fits. (only t (Ok v) (value t refl)).1
 number_read E G bits default (Some t) None only none value =
     let read = value t refl in
     λ numeral fits. absurd (only t (Err read.0) read.1 (numeral, fits))

@@ -12,12 +12,16 @@ ok-is-no-err {A} {E} e =
     let P : Result A E → Type 0 = λ r. elim r [ Ok x ↦ Unit {0} | Err y ↦ ⊥ ] in
     subst P e tt
 
-adds-scan : (scan : Result Scan InsertError) (word : Word) (old new : Table) (u : Unit {0}) → InsertsRead scan word old new (Ok u) → new ≡ with_scan scan word old
+adds-scan : (scan : Result Scan InsertError) (word : Word) (old new : Table) (u : Unit {0})
+    → InsertsRead scan word old new (Ok u) → new ≡ with_scan scan word old
 adds-scan (Ok s) word old new u h = h.1
-adds-scan (Err e) word old new u h = absurd (elim h.1 [ inl x ↦ ok-is-no-err x | inr y ↦ ok-is-no-err y ])
+adds-scan (Err e) word old new u h =
+    absurd (elim h.1 [ inl x ↦ ok-is-no-err x | inr y ↦ ok-is-no-err y ])
 
-pub adds-route : (text : List ℕ) (word : Word) (old new : Table) (result : Result (Unit {0}) InsertError)
-    → InsertsRead (parse_route text) word old new result → OnOk result (new ≡ with_route text word old)
+pub adds-route : (text : List ℕ) (word : Word) (old new : Table)
+    (result : Result (Unit {0}) InsertError)
+    → InsertsRead (parse_route text) word old new result
+    → OnOk result (new ≡ with_route text word old)
 unfolding with_route
 adds-route text word old new (Ok u) h = adds-scan (parse_route text) word old new u h
 adds-route text word old new (Err e) h = tt
@@ -25,8 +29,10 @@ adds-route text word old new (Err e) h = tt
 -- ---- a route that can be added is refused for memory alone
 
 by-scan : (scan : Result Scan InsertError) (word : Word) (old new : Table) (fault : InsertError)
-    → TakesScan scan old → InsertsRead scan word old new (Err fault) → fault ≡ InsertError.OutOfMemory
-by-scan (Ok s) word old new (InsertError.Conflict with) takes h = absurd (let none = sym takes ∙ h.1.1 in cc)
+    → TakesScan scan old → InsertsRead scan word old new (Err fault)
+    → fault ≡ InsertError.OutOfMemory
+by-scan (Ok s) word old new (InsertError.Conflict with) takes h =
+    absurd (let none = sym takes ∙ h.1.1 in cc)
 by-scan (Ok s) word old new InsertError.InvalidParamSegment takes h = absurd h.1
 by-scan (Ok s) word old new InsertError.InvalidParam takes h = absurd h.1
 by-scan (Ok s) word old new InsertError.InvalidCatchAll takes h = absurd h.1
@@ -34,7 +40,8 @@ by-scan (Ok s) word old new InsertError.OutOfMemory takes h = refl
 by-scan (Err e) word old new fault takes h = absurd takes
 
 pub only-memory : (text : List ℕ) (word : Word) (old new : Table) (fault : InsertError)
-    → TakesRoute text old → InsertsRead (parse_route text) word old new (Err fault) → fault ≡ InsertError.OutOfMemory
+    → TakesRoute text old → InsertsRead (parse_route text) word old new (Err fault)
+    → fault ≡ InsertError.OutOfMemory
 unfolding TakesRoute
 only-memory text word old new fault takes h = by-scan (parse_route text) word old new fault takes h
 
@@ -42,5 +49,13 @@ only-memory text word old new fault takes h = by-scan (parse_route text) word ol
 
 pub takes-every : TakesWords [] every_word
 unfolding TakesRoute with_route matchit_on_literals
-takes-every =
-    ((refl, refl), ((refl, refl), ((refl, refl), ((refl, refl), ((refl, refl), ((refl, refl), ((refl, refl), ((refl, refl), tt))))))))
+takes-every = (
+  (refl, refl),
+  (
+    (refl, refl),
+    (
+      (refl, refl),
+      ((refl, refl), ((refl, refl), ((refl, refl), ((refl, refl), ((refl, refl), tt))))),
+    ),
+  ),
+)

@@ -21,7 +21,9 @@ place_missing n m found =
       | inr e ↦ ltb-false n m e
     ]
 
-uncut : (separator : ℕ) (bytes : List ℕ) → length bytes ≤ position_or_len (λ byte. byte == separator) bytes → pieces separator bytes ≡ bytes ∷ []
+uncut : (separator : ℕ) (bytes : List ℕ)
+    → length bytes ≤ position_or_len (λ byte. byte == separator) bytes
+    → pieces separator bytes ≡ bytes ∷ []
 uncut separator [] past = refl
 uncut separator (byte ∷ bytes) past =
     elim (cases_Bool (byte == separator)) [
@@ -29,12 +31,18 @@ uncut separator (byte ∷ bytes) past =
       | inr e ↦ (let rest = rw e at past in rw (e, uncut separator bytes (omega arith)) refl)
     ]
 
-pub pieces-uncut : (separator : ℕ) (bytes : List ℕ) → None ≡ position (λ byte. byte == separator) bytes → pieces separator bytes ≡ bytes ∷ []
-pieces-uncut separator bytes none = uncut separator bytes (place_missing (position_or_len (λ byte. byte == separator) bytes) (length bytes) (sym none))
+pub pieces-uncut : (separator : ℕ) (bytes : List ℕ)
+    → None ≡ position (λ byte. byte == separator) bytes → pieces separator bytes ≡ bytes ∷ []
+pieces-uncut separator bytes none =
+    uncut separator bytes
+    (place_missing (position_or_len (λ byte. byte == separator) bytes) (length bytes) (sym none))
 
-pub pieces-cut : (separator : ℕ) (bytes rest : List ℕ) (i : ℕ) → Some i ≡ position (λ byte. byte == separator) bytes → rest ≡ drop (i + 1) bytes → (pieces separator bytes ≡ take i bytes ∷ pieces separator rest) × (length rest < length bytes)
+pub pieces-cut : (separator : ℕ) (bytes rest : List ℕ) (i : ℕ)
+    → Some i ≡ position (λ byte. byte == separator) bytes → rest ≡ drop (i + 1) bytes
+    → (pieces separator bytes ≡ take i bytes ∷ pieces separator rest) × (length rest < length bytes)
 pieces-cut separator bytes rest i found back =
-    let place = place_found (position_or_len (λ byte. byte == separator) bytes) (length bytes) i (sym found) in (
+    let place = place_found (position_or_len (λ byte. byte == separator) bytes) (length bytes) i
+    (sym found) in (
       slice_split_first (λ byte. byte == separator) bytes 0 place.0
           ∙ ap (λ n. take n bytes ∷ pieces separator (drop (n + 1) bytes)) place.1
           ∙ ap (λ (after : List ℕ). take i bytes ∷ pieces separator after) (sym back),

@@ -47,7 +47,8 @@ not_implemented_line = refl
 
 -- ---- targets
 
-query_behind_mark : (path_part (codes "/can/f?rq") ≡ codes "/can/f") × (query_part (codes "/can/f?rq") ≡ codes "rq")
+query_behind_mark : (path_part (codes "/can/f?rq") ≡ codes "/can/f")
+    × (query_part (codes "/can/f?rq") ≡ codes "rq")
 query_behind_mark = (refl, refl)
 
 empty_query : (query_part (codes "/can/f?") ≡ []) × (query_part (codes "/can/f") ≡ [])

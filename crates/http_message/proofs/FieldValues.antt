@@ -21,29 +21,36 @@ field_values-append name (f ∷ fs) gs =
     if-append (str_eq_ignore_ascii_case f.name name) name f fs gs (field_values-append name fs gs)
 
 -- the fields up to the next one
-values-then : (name : List ℕ) (fields : List Field) (i : ℕ) (f : Field) → i < length fields → f ≡ get_or fields i f
-    → field_values name (take (i + 1) fields) ≡ field_values name (take i fields) ++ field_values name (f ∷ [])
+values-then : (name : List ℕ) (fields : List Field) (i : ℕ) (f : Field) → i < length fields
+    → f ≡ get_or fields i f
+    → field_values name (take (i + 1) fields) ≡ field_values name (take i fields)
+    ++ field_values name (f ∷ [])
 values-then name fields i f lt is =
     ap (field_values name) (take_more fields i f lt ∙ ap (λ x. take i fields ++ x ∷ []) (sym is))
     ∙ field_values-append name (take i fields) (f ∷ [])
 
 -- a field of another name, read through a copy of its name
-pub values-other : (name read : List ℕ) (same : Bool) (fields : List Field) (i : ℕ) (f : Field) (found : Values)
-    → i < length fields → f ≡ get_or fields i f → read ≡ f.name → same ≡ str_eq_ignore_ascii_case read name → same ≡ false
+pub values-other : (name read : List ℕ) (same : Bool) (fields : List Field) (i : ℕ) (f : Field)
+    (found : Values)
+    → i < length fields → f ≡ get_or fields i f → read ≡ f.name
+    → same ≡ str_eq_ignore_ascii_case read name → same ≡ false
     → AreValues (field_values name (take i fields)) found
     → AreValues (field_values name (take (i + 1) fields)) found
 values-other name read same fields i f found lt is reads tests off have =
     let before = field_values name (take i fields) in
     let other : str_eq_ignore_ascii_case f.name name ≡ false =
     ap (λ t. str_eq_ignore_ascii_case t name) (sym reads) ∙ sym tests ∙ off in
-    let one : field_values name (f ∷ []) ≡ [] = ap (λ (b : Bool). if b then f.value ∷ [] else []) other in
+    let one : field_values name (f ∷ []) ≡ [] = ap
+    (λ (b : Bool). if b then f.value ∷ [] else []) other in
     let all : field_values name (take (i + 1) fields) ≡ before =
     values-then name fields i f lt is ∙ ap (λ t. before ++ t) one ∙ append-nil before in
     subst (λ t. AreValues t found) (sym all) have
 
 -- a field of this name
-pub values-same : (name read value : List ℕ) (same : Bool) (fields : List Field) (i : ℕ) (f : Field) (next : Values)
-    → i < length fields → f ≡ get_or fields i f → read ≡ f.name → same ≡ str_eq_ignore_ascii_case read name → same ≡ true
+pub values-same : (name read value : List ℕ) (same : Bool) (fields : List Field) (i : ℕ) (f : Field)
+    (next : Values)
+    → i < length fields → f ≡ get_or fields i f → read ≡ f.name
+    → same ≡ str_eq_ignore_ascii_case read name → same ≡ true
     → value ≡ f.value
     → AreValues (field_values name (take i fields) ++ value ∷ []) next
     → AreValues (field_values name (take (i + 1) fields)) next
@@ -51,7 +58,8 @@ values-same name read value same fields i f next lt is reads tests on valued hav
     let before = field_values name (take i fields) in
     let alike : str_eq_ignore_ascii_case f.name name ≡ true =
     ap (λ t. str_eq_ignore_ascii_case t name) (sym reads) ∙ sym tests ∙ on in
-    let one : field_values name (f ∷ []) ≡ f.value ∷ [] = ap (λ (b : Bool). if b then f.value ∷ [] else []) alike in
+    let one : field_values name (f ∷ []) ≡ f.value ∷ [] = ap
+    (λ (b : Bool). if b then f.value ∷ [] else []) alike in
     let all : field_values name (take (i + 1) fields) ≡ before ++ f.value ∷ [] =
     values-then name fields i f lt is ∙ ap (λ t. before ++ t) one in
     let V : List ℕ → Type 0 = λ v. AreValues (before ++ v ∷ []) next in

@@ -5,12 +5,16 @@ use Rattle.serde_json.specs.Data.{Data}
 use Rattle.serde_json.specs.Read.{read}
 use Rattle.http_message.specs.Json.{json_of}
 
-by-test : (body : List ℕ) (b : Bool) (d : Option Data) → is_utf8 body ≡ b → read body ≡ d → (if b then d else None) ≡ json_of body
+by-test : (body : List ℕ) (b : Bool) (d : Option Data) → is_utf8 body ≡ b → read body ≡ d
+    → (if b then d else None) ≡ json_of body
 unfolding json_of
-by-test body b d e f = ap (λ (x : Option Data). if b then x else None) (sym f) ∙ ap (λ (t : Bool). if t then read body else None) (sym e)
+by-test body b d e f =
+    ap (λ (x : Option Data). if b then x else None) (sym f)
+    ∙ ap (λ (t : Bool). if t then read body else None) (sym e)
 
 pub no-text : (body : List ℕ) → is_utf8 body ≡ false → None ≡ json_of body
 no-text body h = by-test body false (read body) h refl
 
-pub of-text : (body text : List ℕ) (d : Option Data) → text ≡ body → is_utf8 body ≡ true → read text ≡ d → d ≡ json_of body
+pub of-text : (body text : List ℕ) (d : Option Data) → text ≡ body → is_utf8 body ≡ true
+    → read text ≡ d → d ≡ json_of body
 of-text body text d e h r = by-test body true d h (ap read (sym e) ∙ r)

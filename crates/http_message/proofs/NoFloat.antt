@@ -11,16 +11,20 @@ use Rattle.http_message.specs.Bodies.{ruling_text, with_rulings, rulings_data}
 
 put-at : (o : Ordering) (k s l : List ℕ) (e : Data) (ms more : Members)
     → has_float e ≡ false → members_have_float ms ≡ false → members_have_float more ≡ false
-    → members_have_float (match_ordering o (member k (string s) (member l e ms)) (member l (string s) ms) (member l e more)) ≡ false
+    → members_have_float
+    (match_ordering o (member k (string s) (member l e ms)) (member l (string s) ms)
+    (member l e more)) ≡ false
 put-at Less k s l e ms more one all new = or_from (has_float e) (members_have_float ms) one all
 put-at Equal k s l e ms more one all new = all
 put-at Greater k s l e ms more one all new = or_from (has_float e) (members_have_float more) one new
 
-put-text : (k s : List ℕ) (ms : Members) → members_have_float ms ≡ false → members_have_float (put k (string s) ms) ≡ false
+put-text : (k s : List ℕ) (ms : Members) → members_have_float ms ≡ false
+    → members_have_float (put k (string s) ms) ≡ false
 put-text k s no_members none = refl
 put-text k s (member l e ms) none =
     let parts = or_parts (has_float e) (members_have_float ms) none in
-    put-at (slice_cmp nat_cmp k l) k s l e ms (put k (string s) ms) parts.0 parts.1 (put-text k s ms parts.1)
+    put-at (slice_cmp nat_cmp k l) k s l e ms (put k (string s) ms) parts.0 parts.1
+    (put-text k s ms parts.1)
 
 put-all : (ms : Members) (rulings : List (List ℕ × Ruling)) → members_have_float ms ≡ false
     → members_have_float (with_rulings ms rulings) ≡ false

@@ -11,7 +11,8 @@ use Rattle.http_message.specs.Form.{data_tokens}
 -- tokens are written, and then the rest
 pub before : (r : Result (Unit {0}) AllocError) (old new end front rest : List Token)
     → new ≡ old ++ front → OnOk r (end ≡ new ++ rest) → OnOk r (end ≡ old ++ (front ++ rest))
-before (Ok done) old new end front rest e h = h ∙ ap (λ (t : List Token). t ++ rest) e ∙ append_assoc old front rest
+before (Ok done) old new end front rest e h =
+    h ∙ ap (λ (t : List Token). t ++ rest) e ∙ append_assoc old front rest
 before (Err why) old new end front rest e h = tt
 
 -- what a buffer that was empty holds

@@ -26,20 +26,26 @@ unfolding seek
 seek_none k [] = refl
 seek_none (suc k) (b ∷ p) = seek_none k p
 seek_none {K} zero (b ∷ p) =
-    simp (seek_none {K = K} 0 p, param_none {K = K} (b ∷ p), seek_none {K = K} (((param_step {K = K} [] (b ∷ p)).0) - 1) p)
+    simp (
+      seek_none {K = K} 0 p,
+      param_none {K = K} (b ∷ p),
+      seek_none {K = K} (((param_step {K = K} [] (b ∷ p)).0) - 1) p,
+    )
 
 after_none : {K : Type 0} (rs : RowsOf K) (path p : List ℕ) → rs ≡ []
     → seek ((param_step rs path).0 - 1) (param_step rs path).1 p ≡ None
 after_none {K} rs path p none =
     ap (λ (rows : RowsOf K). seek ((param_step rows path).0 - 1) (param_step rows path).1 p) none
-    ∙ ap (λ (rows : RowsOf K). seek ((param_step {K = K} [] path).0 - 1) rows p) (param_none {K = K} path)
+    ∙ ap (λ (rows : RowsOf K). seek ((param_step {K = K} [] path).0 - 1) rows p)
+    (param_none {K = K} path)
     ∙ seek_none {K = K} ((param_step {K = K} [] path).0 - 1) p
 
 at_byte : {K : Type 0} (b : ℕ) (rs : RowsOf K) (p : List ℕ) → step param_token rs ≡ []
     → seek 0 rs (b ∷ p) ≡ or_else (seek 0 (step b rs) p) (own (step catch_all_token rs))
 unfolding seek
 at_byte {K} b rs p none =
-    ap (λ (x : Option K). or_else (seek 0 (step b rs) p) (or_else x (own (step catch_all_token rs))))
+    ap (λ (x : Option K). or_else (seek 0 (step b rs) p)
+    (or_else x (own (step catch_all_token rs))))
     (after_none (step param_token rs) (b ∷ p) p none)
 
 -- ---- a path with a word
@@ -48,12 +54,14 @@ abbrev steps : {K : Type 0} → List ℕ → RowsOf K → RowsOf K
 steps [] rs = rs
 steps (b ∷ w) rs = steps w (step b rs)
 
-found_first : {K : Type 0} (b : ℕ) (rs : RowsOf K) (p : List ℕ) (k : K) → seek 0 (step b rs) p ≡ Some k
+found_first : {K : Type 0} (b : ℕ) (rs : RowsOf K) (p : List ℕ) (k : K)
+    → seek 0 (step b rs) p ≡ Some k
     → seek 0 rs (b ∷ p) ≡ Some k
 unfolding seek
 found_first b rs p k is = rw is refl
 
-reaches : {K : Type 0} (w : List ℕ) (rs : RowsOf K) (p : List ℕ) (k : K) → seek 0 (steps w rs) p ≡ Some k
+reaches : {K : Type 0} (w : List ℕ) (rs : RowsOf K) (p : List ℕ) (k : K)
+    → seek 0 (steps w rs) p ≡ Some k
     → seek 0 rs (w ++ p) ≡ Some k
 reaches [] rs p k is = is
 reaches (b ∷ w) rs p k is = found_first b rs (w ++ p) k (reaches w (step b rs) p k is)
@@ -61,17 +69,22 @@ reaches (b ∷ w) rs p k is = found_first b rs (w ++ p) k (reaches w (step b rs)
 abbrev two_rows : {K : Type 0} → K → K → RowsOf K
 two_rows below here = (catch_all_token ∷ [], below) ∷ ([], here) ∷ []
 
-or_below : {K : Type 0} (x : Option K) (below : K) → (x ≡ None) ⊎ (x ≡ Some below) → or_else x (Some below) ≡ Some below
+or_below : {K : Type 0} (x : Option K) (below : K) → (x ≡ None) ⊎ (x ≡ Some below)
+    → or_else x (Some below) ≡ Some below
 or_below x below (inl none) = rw none refl
 or_below x below (inr some) = rw some refl
 
-one_row : {K : Type 0} (below : K) (p : List ℕ) → (seek 0 (([], below) ∷ []) p ≡ None) ⊎ (seek 0 (([], below) ∷ []) p ≡ Some below)
+one_row : {K : Type 0} (below : K) (p : List ℕ) → (seek 0 (([], below) ∷ []) p ≡ None)
+    ⊎ (seek 0 (([], below) ∷ []) p ≡ Some below)
 unfolding seek
 one_row below [] = inr refl
-one_row {K} below (c ∷ p) = inl (at_byte c (([], below) ∷ []) p refl ∙ ap (λ (x : Option K). or_else x None) (seek_none {K = K} 0 p))
+one_row {K} below (c ∷ p) =
+    inl (at_byte c (([], below) ∷ []) p refl
+    ∙ ap (λ (x : Option K). or_else x None) (seek_none {K = K} 0 p))
 
 past_row : {K : Type 0} (v : Bool) (below : K) (p : List ℕ)
-    → (seek 0 (cond v (([], below) ∷ []) []) p ≡ None) ⊎ (seek 0 (cond v (([], below) ∷ []) []) p ≡ Some below)
+    → (seek 0 (cond v (([], below) ∷ []) []) p ≡ None)
+    ⊎ (seek 0 (cond v (([], below) ∷ []) []) p ≡ Some below)
 past_row true below p = one_row below p
 past_row {K} false below p = inl (seek_none {K = K} 0 p)
 
@@ -81,13 +94,19 @@ unfolding seek
 at_two below here [] = inr refl
 at_two {K} below here (b ∷ p) =
     inl (at_byte b (two_rows below here) p refl
-    ∙ or_below (seek 0 (step b (two_rows below here)) p) below (past_row (catch_all_token == b) below p))
+    ∙ or_below (seek 0 (step b (two_rows below here)) p) below
+    (past_row (catch_all_token == b) below p))
 
-word_at : (w rest : List ℕ) (word : Word) (below here : RouteOf Word) → steps w routes ≡ two_rows below here
+word_at : (w rest : List ℕ) (word : Word) (below here : RouteOf Word)
+    → steps w routes ≡ two_rows below here
     → below.value ≡ word → here.value ≡ word → word_of (w ++ rest) ≡ Some word
 word_at w rest word below here rows b h = elim (at_two below here rest) [
-  | inl is ↦ ap (option_map (λ (route : RouteOf Word). route.value)) (reaches w routes rest below (ap (λ (rs : Table). seek 0 rs rest) rows ∙ is)) ∙ ap Some b
-  | inr is ↦ ap (option_map (λ (route : RouteOf Word). route.value)) (reaches w routes rest here (ap (λ (rs : Table). seek 0 rs rest) rows ∙ is)) ∙ ap Some h
+  | inl is ↦
+      ap (option_map (λ (route : RouteOf Word). route.value))
+      (reaches w routes rest below (ap (λ (rs : Table). seek 0 rs rest) rows ∙ is)) ∙ ap Some b
+  | inr is ↦
+      ap (option_map (λ (route : RouteOf Word). route.value))
+      (reaches w routes rest here (ap (λ (rs : Table). seek 0 rs rest) rows ∙ is)) ∙ ap Some h
 ]
 
 begins : (word : Word) (rest : List ℕ) → word_of (word_start word ++ rest) ≡ Some word
@@ -125,7 +144,8 @@ no_param : {K : Type 0} (rs : RowsOf K) → ArePlain rs → step param_token rs 
 no_param [] h = refl
 no_param (([], key) ∷ rs) h = no_param rs h.1
 no_param ((x ∷ t, key) ∷ rs) h =
-    let other : (x == param_token) ≡ false = not-true (x == param_token) (and_parts (not (x == param_token)) (plain t) h.0).0 in
+    let other : (x == param_token) ≡ false = not-true (x == param_token)
+    (and_parts (not (x == param_token)) (plain t) h.0).0 in
     rw other (no_param rs h.1)
 
 plain_step : {K : Type 0} (b : ℕ) (rs : RowsOf K) → ArePlain rs → ArePlain (step b rs)
@@ -141,11 +161,13 @@ plain_step {K} b ((x ∷ t, key) ∷ rs) h =
 
 -- one byte more on both sides
 cut_front : (v w : Bool) (x b : ℕ) (t p : List ℕ) → (x == b) ≡ true
-    → starts_with nat_eq (b ∷ p) (cond w [] (x ∷ front t)) ≡ false → starts_with nat_eq p (front t) ≡ false
+    → starts_with nat_eq (b ∷ p) (cond w [] (x ∷ front t)) ≡ false
+    → starts_with nat_eq p (front t) ≡ false
 cut_front v true x b t p same h = absurd (true≢false h)
 cut_front v false x b t p same h = rw same at h
 
-blocked_step : {K : Type 0} (b : ℕ) (rs : RowsOf K) (p : List ℕ) → Blocked rs (b ∷ p) → Blocked (step b rs) p
+blocked_step : {K : Type 0} (b : ℕ) (rs : RowsOf K) (p : List ℕ) → Blocked rs (b ∷ p)
+    → Blocked (step b rs) p
 blocked_step b [] p h = tt
 blocked_step b (([], key) ∷ rs) p h = blocked_step b rs p h.1
 blocked_step {K} b ((x ∷ t, key) ∷ rs) p h =
@@ -160,7 +182,8 @@ own_none [] h = refl
 own_none (([], key) ∷ rs) h = absurd (true≢false h.0)
 own_none ((x ∷ t, key) ∷ rs) h = own_none rs h.1
 
-catch_none : {K : Type 0} (rs : RowsOf K) (p : List ℕ) → Blocked rs p → own (step catch_all_token rs) ≡ None
+catch_none : {K : Type 0} (rs : RowsOf K) (p : List ℕ) → Blocked rs p
+    → own (step catch_all_token rs) ≡ None
 catch_none [] p h = refl
 catch_none (([], key) ∷ rs) p h = catch_none rs p h.1
 catch_none {K} ((x ∷ t, key) ∷ rs) p h = elim (cases_Bool (x == catch_all_token)) [
@@ -168,20 +191,40 @@ catch_none {K} ((x ∷ t, key) ∷ rs) p h = elim (cases_Bool (x == catch_all_to
   | inr other ↦ rw other (catch_none rs p h.1)
 ]
 
-blocked : {K : Type 0} (p : List ℕ) (rs : RowsOf K) → ArePlain rs → Blocked rs p → seek 0 rs p ≡ None
+blocked : {K : Type 0} (p : List ℕ) (rs : RowsOf K) → ArePlain rs → Blocked rs p
+    → seek 0 rs p ≡ None
 unfolding seek
 blocked [] rs plain h = own_none rs h
 blocked {K} (b ∷ p) rs plain h =
     at_byte b rs p (no_param rs plain)
-    ∙ ap (λ (x : Option K). or_else x (own (step catch_all_token rs))) (blocked p (step b rs) (plain_step b rs plain) (blocked_step b rs p h))
+    ∙ ap (λ (x : Option K). or_else x (own (step catch_all_token rs)))
+    (blocked p (step b rs) (plain_step b rs plain) (blocked_step b rs p h))
     ∙ catch_none rs (b ∷ p) h
 
 plain_routes : ArePlain routes
 unfolding routes with_route matchit_on_literals
-plain_routes =
-    (refl, (refl, (refl, (refl, (refl, (refl, (refl, (refl, (refl, (refl, (refl, (refl, (refl, (refl, (refl, (refl, tt))))))))))))))))
+plain_routes = (
+  refl,
+  (
+    refl,
+    (
+      refl,
+      (
+        refl,
+        (
+          refl,
+          (
+            refl,
+            (refl, (refl, (refl, (refl, (refl, (refl, (refl, (refl, (refl, (refl, tt)))))))))),
+          ),
+        ),
+      ),
+    ),
+  ),
+)
 
-blocked_routes : (path : List ℕ) → ((word : Word) → starts_with nat_eq path (word_start word) ≡ false) → Blocked routes path
+blocked_routes : (path : List ℕ)
+    → ((word : Word) → starts_with nat_eq path (word_start word) ≡ false) → Blocked routes path
 unfolding routes with_route matchit_on_literals
 blocked_routes path none =
     let attr = none Word.Attr in
@@ -191,12 +234,34 @@ blocked_routes path none =
     let folder = none Word.Folder in
     let move = none Word.Move in
     let object = none Word.Object in
-    let sacl = none Word.Sacl in
-    (attr, (attr, (can, (can, (dacl, (dacl, (doc, (doc, (folder, (folder, (move, (move, (object, (object, (sacl, (sacl, tt))))))))))))))))
+    let sacl = none Word.Sacl in (
+      attr,
+      (
+        attr,
+        (
+          can,
+          (
+            can,
+            (
+              dacl,
+              (
+                dacl,
+                (
+                  doc,
+                  (doc, (folder, (folder, (move, (move, (object, (object, (sacl, (sacl, tt))))))))),
+                ),
+              ),
+            ),
+          ),
+        ),
+      ),
+    )
 
-no_word : (path : List ℕ) → ((word : Word) → starts_with nat_eq path (word_start word) ≡ false) → word_of path ≡ None
+no_word : (path : List ℕ) → ((word : Word) → starts_with nat_eq path (word_start word) ≡ false)
+    → word_of path ≡ None
 no_word path none =
-    ap (option_map (λ (route : RouteOf Word). route.value)) (blocked path routes plain_routes (blocked_routes path none))
+    ap (option_map (λ (route : RouteOf Word). route.value))
+    (blocked path routes plain_routes (blocked_routes path none))
 
 pub words_begin : WordsBeginPaths
 words_begin = (begins, no_word)

@@ -41,7 +41,8 @@ chars_bytes : (cs : List ℕ) → scalars cs ≡ true → All IsByte (encodes cs
 chars_bytes [] all = All-nil IsByte
 chars_bytes (c ∷ cs) all =
     let parts = and_parts (scalar c) (scalars cs) all in
-    All-append IsByte (encode c) (encodes cs) (All-from_recursion IsByte (encode c) (char_bytes c parts.0)) (chars_bytes cs parts.1)
+    All-append IsByte (encode c) (encodes cs)
+    (All-from_recursion IsByte (encode c) (char_bytes c parts.0)) (chars_bytes cs parts.1)
 
 text_bytes : (bytes : List ℕ) → IsUtf8 bytes → All IsByte bytes
 text_bytes bytes is = subst (All IsByte) is.1.1 (chars_bytes is.0 is.1.0)
@@ -53,18 +54,23 @@ name_bytes name is = text_bytes name (text_from name (and_parts _ (is_utf8 name)
 
 decoded : (set : AsciiSet) (bytes rest : List ℕ) → contains set 37 ≡ true → All IsByte bytes
     → percent_decode (percent_encode set bytes ++ rest) ≡ bytes ++ percent_decode rest
-decoded set [] rest has small = ap (λ (l : List ℕ). percent_decode (l ++ rest)) (percent_encode-nil set)
+decoded set [] rest has small =
+    ap (λ (l : List ℕ). percent_decode (l ++ rest)) (percent_encode-nil set)
 decoded set (b ∷ bs) rest has small =
     let more = ap (λ (l : List ℕ). b ∷ l) (decoded set bs rest has (All-tail IsByte b bs small)) in
     elim (cases_Bool (should_percent_encode set b)) [
       | inl escaped ↦
           ap (λ (l : List ℕ). percent_decode (l ++ rest)) (percent_encode_escaped set b bs escaped)
           ∙ ap percent_decode (append_assoc (percent_encode_byte b) (percent_encode set bs) rest)
-          ∙ percent_decode-percent_encode_byte b (percent_encode set bs ++ rest) (All-head IsByte b bs small)
+          ∙ percent_decode-percent_encode_byte b (percent_encode set bs ++ rest)
+          (All-head IsByte b bs small)
           ∙ more
       | inr kept ↦
           ap (λ (l : List ℕ). percent_decode (l ++ rest)) (percent_encode_kept set b bs kept)
-          ∙ percent_decode_not_percent b (percent_encode set bs ++ rest) (λ percent. both_ways _ kept (subst (λ (x : ℕ). should_percent_encode set x ≡ true) (sym percent) (escaped_from_inside set 37 has)))
+          ∙ percent_decode_not_percent b (percent_encode set bs ++ rest)
+          (λ percent. both_ways _ kept
+          (subst (λ (x : ℕ). should_percent_encode set x ≡ true) (sym percent)
+          (escaped_from_inside set 37 has)))
           ∙ more
     ]
 
@@ -74,18 +80,23 @@ joined names = flat_map (λ name. 47 ∷ name) names
 no_percent : ◌≡◌ {A = ℕ} 47 37 → ⊥
 no_percent e = omega (arith, e)
 
-names_decoded : (set : AsciiSet) (names : List (List ℕ)) → contains set 37 ≡ true → list_all is_object_name names ≡ true
+names_decoded : (set : AsciiSet) (names : List (List ℕ)) → contains set 37 ≡ true
+    → list_all is_object_name names ≡ true
     → percent_decode (joined (map (percent_encode set) names)) ≡ joined names
 names_decoded set [] has good = percent_decode-nil
 names_decoded set (name ∷ names) has good =
     let parts = and_parts (is_object_name name) (list_all is_object_name names) good in
-    percent_decode_not_percent 47 (percent_encode set name ++ joined (map (percent_encode set) names)) no_percent
-    ∙ ap (λ (l : List ℕ). 47 ∷ l) (decoded set name (joined (map (percent_encode set) names)) has (name_bytes name parts.0)
+    percent_decode_not_percent 47
+    (percent_encode set name ++ joined (map (percent_encode set) names)) no_percent
+    ∙ ap (λ (l : List ℕ). 47 ∷ l)
+    (decoded set name (joined (map (percent_encode set) names)) has (name_bytes name parts.0)
     ∙ ap (λ (l : List ℕ). name ++ l) (names_decoded set names has parts.1))
 
-path_decoded : (set : AsciiSet) (names : List (List ℕ)) → contains set 37 ≡ true → list_all is_object_name names ≡ true
+path_decoded : (set : AsciiSet) (names : List (List ℕ)) → contains set 37 ≡ true
+    → list_all is_object_name names ≡ true
     → percent_decode (path_text (map (percent_encode set) names)) ≡ path_text names
-path_decoded set [] has good = percent_decode_not_percent 47 [] no_percent ∙ ap (λ (l : List ℕ). 47 ∷ l) percent_decode-nil
+path_decoded set [] has good =
+    percent_decode_not_percent 47 [] no_percent ∙ ap (λ (l : List ℕ). 47 ∷ l) percent_decode-nil
 path_decoded set (name ∷ names) has good = names_decoded set (name ∷ names) has good
 
 -- ---- the parts of a target
@@ -94,7 +105,8 @@ slash_begins : (names : List (List ℕ)) → path_text names ≡ 47 ∷ drop 1 (
 slash_begins [] = refl
 slash_begins (name ∷ names) = refl
 
-behind_word : (word : Word) (rest : List ℕ) → named_path word (47 ∷ word_text word ++ 47 ∷ rest) ≡ 47 ∷ percent_decode rest
+behind_word : (word : Word) (rest : List ℕ)
+    → named_path word (47 ∷ word_text word ++ 47 ∷ rest) ≡ 47 ∷ percent_decode rest
 behind_word Word.Doc rest = refl
 behind_word Word.Folder rest = refl
 behind_word Word.Object rest = refl
@@ -104,17 +116,20 @@ behind_word Word.Sacl rest = refl
 behind_word Word.Attr rest = refl
 behind_word Word.Can rest = refl
 
-named : (word : Word) (text : List ℕ) → text ≡ 47 ∷ drop 1 text → named_path word (47 ∷ word_text word ++ text) ≡ percent_decode text
+named : (word : Word) (text : List ℕ) → text ≡ 47 ∷ drop 1 text
+    → named_path word (47 ∷ word_text word ++ text) ≡ percent_decode text
 named word text first =
     ap (λ (l : List ℕ). named_path word (47 ∷ word_text word ++ l)) first
     ∙ behind_word word (drop 1 text)
     ∙ sym (percent_decode_not_percent 47 (drop 1 text) no_percent)
     ∙ ap percent_decode (sym first)
 
-worded : (word : Word) (text : List ℕ) → text ≡ 47 ∷ drop 1 text → word_of (47 ∷ word_text word ++ text) ≡ Some word
+worded : (word : Word) (text : List ℕ) → text ≡ 47 ∷ drop 1 text
+    → word_of (47 ∷ word_text word ++ text) ≡ Some word
 worded word text first =
     ap (λ (l : List ℕ). word_of (47 ∷ word_text word ++ l)) first
-    ∙ ap (λ (l : List ℕ). word_of (47 ∷ l)) (sym (append_assoc (word_text word) (codes "/") (drop 1 text)))
+    ∙ ap (λ (l : List ℕ). word_of (47 ∷ l))
+    (sym (append_assoc (word_text word) (codes "/") (drop 1 text)))
     ∙ words_begin.0 word (drop 1 text)
 
 -- ---- its bytes: ASCII, and no question mark
@@ -125,29 +140,37 @@ is_plain byte = nat_lt byte 128 && not (byte == 63)
 abbrev IsPlain : ℕ → Type 0
 IsPlain byte = is_plain byte ≡ true
 
-kept_is_plain : (set : AsciiSet) → contains set 63 ≡ true → (b : ℕ) → should_percent_encode set b ≡ false → IsPlain b
+kept_is_plain : (set : AsciiSet) → contains set 63 ≡ true → (b : ℕ)
+    → should_percent_encode set b ≡ false → IsPlain b
 kept_is_plain set has b kept =
     let ascii = lt-ltb b 128 (ascii_from_kept set b kept) in
     elim (cases_Bool (b == 63)) [
-      | inl mark ↦ (let same : b ≡ 63 = grind (arith, nat_tests) in absurd (both_ways _ (outside_from_kept set b kept) (subst (λ (x : ℕ). contains set x ≡ true) (sym same) has)))
+      | inl mark ↦
+          (let same : b ≡ 63 = grind (arith, nat_tests) in
+          absurd (both_ways _ (outside_from_kept set b kept)
+          (subst (λ (x : ℕ). contains set x ≡ true) (sym same) has)))
       | inr other ↦ and_from _ _ ascii (rw other refl)
     ]
 
 escape_is_plain : (b : ℕ) → IsEscapeByte b → IsPlain b
 escape_is_plain b is = grind (arith, nat_tests)
 
-encoded_is_plain : (set : AsciiSet) (bytes : List ℕ) → contains set 63 ≡ true → list_all is_plain (percent_encode set bytes) ≡ true
+encoded_is_plain : (set : AsciiSet) (bytes : List ℕ) → contains set 63 ≡ true
+    → list_all is_plain (percent_encode set bytes) ≡ true
 encoded_is_plain set bytes has =
-    list_all-from_AllPass is_plain (percent_encode set bytes) (All-percent_encode IsPlain set bytes (kept_is_plain set has) escape_is_plain)
+    list_all-from_AllPass is_plain (percent_encode set bytes)
+    (All-percent_encode IsPlain set bytes (kept_is_plain set has) escape_is_plain)
 
-both_plain : (xs ys : List ℕ) → list_all is_plain xs ≡ true → list_all is_plain ys ≡ true → list_all is_plain (xs ++ ys) ≡ true
+both_plain : (xs ys : List ℕ) → list_all is_plain xs ≡ true → list_all is_plain ys ≡ true
+    → list_all is_plain (xs ++ ys) ≡ true
 both_plain xs ys first second = list_all-append is_plain xs ys ∙ and_from _ _ first second
 
 joined_plain : (set : AsciiSet) (names : List (List ℕ)) → contains set 63 ≡ true
     → list_all is_plain (joined (map (percent_encode set) names)) ≡ true
 joined_plain set [] has = refl
 joined_plain set (name ∷ names) has =
-    both_plain (percent_encode set name) (joined (map (percent_encode set) names)) (encoded_is_plain set name has) (joined_plain set names has)
+    both_plain (percent_encode set name) (joined (map (percent_encode set) names))
+    (encoded_is_plain set name has) (joined_plain set names has)
 
 path_plain : (set : AsciiSet) (names : List (List ℕ)) → contains set 63 ≡ true
     → list_all is_plain (path_text (map (percent_encode set) names)) ≡ true
@@ -164,20 +187,27 @@ word_plain Word.Sacl = refl
 word_plain Word.Attr = refl
 word_plain Word.Can = refl
 
-target_plain : (set : AsciiSet) (word : Word) (names : List (List ℕ)) → contains set 63 ≡ true → list_all is_plain (target_to set word names) ≡ true
-target_plain set word names has = both_plain (word_text word) (path_text (map (percent_encode set) names)) (word_plain word) (path_plain set names has)
+target_plain : (set : AsciiSet) (word : Word) (names : List (List ℕ)) → contains set 63 ≡ true
+    → list_all is_plain (target_to set word names) ≡ true
+target_plain set word names has =
+    both_plain (word_text word) (path_text (map (percent_encode set) names)) (word_plain word)
+    (path_plain set names has)
 
-plain_ascii : (bytes : List ℕ) → list_all is_plain bytes ≡ true → AllByRecursion (λ b. b < 128) bytes
+plain_ascii : (bytes : List ℕ) → list_all is_plain bytes ≡ true
+    → AllByRecursion (λ b. b < 128) bytes
 plain_ascii [] all = tt
 plain_ascii (b ∷ bs) all =
     let parts = and_parts (is_plain b) (list_all is_plain bs) all in
     (ltb-true b 128 (and_parts (nat_lt b 128) (not (b == 63)) parts.0).0, plain_ascii bs parts.1)
 
 plain_text : (bytes : List ℕ) → list_all is_plain bytes ≡ true → IsUtf8 bytes
-plain_text bytes all = IsUtf8-from_ascii bytes (IsAscii-from_all bytes (All-from_recursion (λ b. b < 128) bytes (plain_ascii bytes all)))
+plain_text bytes all =
+    IsUtf8-from_ascii bytes
+    (IsAscii-from_all bytes (All-from_recursion (λ b. b < 128) bytes (plain_ascii bytes all)))
 
 past_one : (mark : Bool) (n b : ℕ) (bs : List ℕ) → mark ≡ false
-    → (take (cond (not mark) (1 + n) 0) (b ∷ bs) ≡ b ∷ take n bs) × (drop (cond (not mark) (1 + n) 0 + 1) (b ∷ bs) ≡ drop (n + 1) bs)
+    → (take (cond (not mark) (1 + n) 0) (b ∷ bs) ≡ b ∷ take n bs)
+    × (drop (cond (not mark) (1 + n) 0 + 1) (b ∷ bs) ≡ drop (n + 1) bs)
 past_one true n b bs other = absurd (true≢false other)
 past_one false n b bs other =
     let more : 1 + n ≡ suc n = omega arith in
@@ -185,7 +215,8 @@ past_one false n b bs other =
     (ap (λ (k : ℕ). take k (b ∷ bs)) more, ap (λ (k : ℕ). drop k (b ∷ bs)) most)
 
 cut_past : (bytes rest : List ℕ) → list_all is_plain bytes ≡ true
-    → (path_part (bytes ++ rest) ≡ bytes ++ path_part rest) × (query_part (bytes ++ rest) ≡ query_part rest)
+    → (path_part (bytes ++ rest) ≡ bytes ++ path_part rest)
+    × (query_part (bytes ++ rest) ≡ query_part rest)
 cut_past [] rest all = (refl, refl)
 cut_past (b ∷ bs) rest all =
     let parts = and_parts (is_plain b) (list_all is_plain bs) all in
@@ -198,30 +229,42 @@ cut_past (b ∷ bs) rest all =
 
 -- what follows the path: nothing, or a question mark and a query
 read_with : PathReadsBack → (set : AsciiSet) (word : Word) (names : List (List ℕ)) (rest : List ℕ)
-    → contains set 37 ≡ true → contains set 63 ≡ true → is_path names ≡ true → IsUtf8 rest → path_part rest ≡ []
+    → contains set 37 ≡ true → contains set 63 ≡ true → is_path names ≡ true → IsUtf8 rest
+    → path_part rest ≡ []
     → IsReadAs (target_to set word names ++ rest) word names (query_part rest)
 read_with reads set word names rest percent mark is utf8 last =
     let target = target_to set word names in
     let text = path_text (map (percent_encode set) names) in
     let plain = target_plain set word names mark in
     let cut = cut_past target rest plain in
-    let path : path_part (target ++ rest) ≡ target = cut.0 ∙ ap (λ (l : List ℕ). target ++ l) last ∙ append-nil target in
+    let path : path_part (target ++ rest) ≡ target = cut.0 ∙ ap (λ (l : List ℕ). target ++ l) last
+    ∙ append-nil target in
     let good = (and_parts (list_all is_object_name names) _ is).0 in
     let first = slash_begins (map (percent_encode set) names) in
-    let is_text = passes_as_utf8 (target ++ rest) (IsUtf8-append target rest (plain_text target plain) utf8) in
+    let is_text = passes_as_utf8 (target ++ rest)
+    (IsUtf8-append target rest (plain_text target plain) utf8) in
     record {
       passes = cond-true _ _ _ is_text;
       has_word = ap word_of path ∙ worded word text first;
-      has_path = ap (target_path word) path ∙ ap (λ (l : List ℕ). told HttpFault.BadPath (path_of l)) (named word text first ∙ path_decoded set names percent good) ∙ ap (told HttpFault.BadPath) (reads names is);
+      has_path =
+          ap (target_path word) path
+          ∙ ap (λ (l : List ℕ). told HttpFault.BadPath (path_of l))
+          (named word text first ∙ path_decoded set names percent good)
+          ∙ ap (told HttpFault.BadPath) (reads names is);
       has_query = cut.1;
     }
 
 one_mark : IsUtf8 (63 ∷ [])
-one_mark = IsUtf8-from_ascii (63 ∷ []) (IsAscii-from_all (63 ∷ []) (All-cons (λ b. b < 128) 63 [] (omega arith) (All-nil (λ b. b < 128))))
+one_mark =
+    IsUtf8-from_ascii (63 ∷ [])
+    (IsAscii-from_all (63 ∷ [])
+    (All-cons (λ b. b < 128) 63 [] (omega arith) (All-nil (λ b. b < 128))))
 
 pub has_target : PathReadsBack → EveryPathHasATarget
 has_target reads set word names percent mark is =
     let target = target_to set word names in (
-      subst (λ (l : List ℕ). IsReadAs l word names []) (append-nil target) (read_with reads set word names [] percent mark is (plain_text [] refl) refl),
-      λ query utf8. read_with reads set word names (63 ∷ query) percent mark is (IsUtf8-append (63 ∷ []) query one_mark (text_from query utf8)) refl,
+      subst (λ (l : List ℕ). IsReadAs l word names []) (append-nil target)
+          (read_with reads set word names [] percent mark is (plain_text [] refl) refl),
+      λ query utf8. read_with reads set word names (63 ∷ query) percent mark is
+          (IsUtf8-append (63 ∷ []) query one_mark (text_from query utf8)) refl,
     )

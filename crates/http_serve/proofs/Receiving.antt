@@ -27,7 +27,8 @@ runs_then old mid new events others first then room is =
     (b.0, run_then room a.0 b.0 events others a.1 b.1, b.2)
 
 -- what comes next is an exchange, if anything comes
-next_each : (left : List ℕ) (n : ℕ) (next : Next) → IsNext left n next → All IsExchange (next_exchange next)
+next_each : (left : List ℕ) (n : ℕ) (next : Next) → IsNext left n next
+    → All IsExchange (next_exchange next)
 next_each left n Next.Unknown is = All-nil IsExchange
 next_each left n (Next.Exchanging x close) is = All-from_recursion IsExchange (x ∷ []) (is.0, tt)
 next_each left n (Next.Refusing refusal) is = All-nil IsExchange
@@ -43,7 +44,8 @@ exchange_is : (x : Exchange) → IsOpen x → IsExchange x
 exchange_is x given = given.is
 
 -- an end before any connection came
-ends_fewer : (count less : ℕ) (end : Result (Unit {0}) ServingFault) → IsEnd less end 0 → IsEnd count end 0
+ends_fewer : (count less : ℕ) (end : Result (Unit {0}) ServingFault) → IsEnd less end 0
+    → IsEnd count end 0
 ends_fewer count less (Ok done) is = tt
 ends_fewer count less (Err ServingFault.Memory) is = refl
 ends_fewer count less (Err ServingFault.File) is = tt
@@ -57,7 +59,8 @@ ends_missing count visits fault is lt =
 
 module _ {D : Type 0} (d : Ghosts D) where
   -- no connection came
-  pub nobody : (count : ℕ) (told : List ℤ → Type 0) (desk : D) → Receives d count told told desk desk
+  pub nobody : (count : ℕ) (told : List ℤ → Type 0) (desk : D)
+      → Receives d count told told desk desk
   nobody count told desk = record {
     trusted = λ t. t;
     sound = λ t s. s;
@@ -96,7 +99,8 @@ module _ {D : Type 0} (d : Ghosts D) where
         let one = map moment_of first.visits in
         let two = map moment_of then.visits in
         let all : (before ++ one) ++ two ≡ before ++ map moment_of (first.visits ++ then.visits) =
-        append_assoc before one two ∙ ap (λ t. before ++ t) (sym (map-append moment_of first.visits then.visits)) in
+        append_assoc before one two
+        ∙ ap (λ t. before ++ t) (sym (map-append moment_of first.visits then.visits)) in
         subst told'' all (then.moments (before ++ one) (first.moments before is));
     run = λ t s.
         subst (λ (events : List Event). Runs (d.content old) events (d.content new))
@@ -107,14 +111,17 @@ module _ {D : Type 0} (d : Ghosts D) where
   }
 
   -- no connection came, and this was the end
-  pub unserved : (count : ℕ) (told : List ℤ → Type 0) (desk : D) (fault : ServingFault) → IsEnd 0 (Err fault) 0
+  pub unserved : (count : ℕ) (told : List ℤ → Type 0) (desk : D) (fault : ServingFault)
+      → IsEnd 0 (Err fault) 0
       → Served d count told told desk desk (Err fault)
   unfolding nobody
   unserved count told desk fault is = (nobody count told desk, ends_fewer count 0 (Err fault) is)
 
   -- the listener failed before all connections came
-  pub missing : (number count : ℕ) (told told' told'' : List ℤ → Type 0) (old mid new : D) (fault : ServingFault) → number < count
-      → Receives d number told told' old mid → (fault ≡ ServingFault.Net) × Receives d 0 told' told'' mid new
+  pub missing : (number count : ℕ) (told told' told'' : List ℤ → Type 0) (old mid new : D)
+      (fault : ServingFault) → number < count
+      → Receives d number told told' old mid → (fault ≡ ServingFault.Net)
+      × Receives d 0 told' told'' mid new
       → Served d count told told'' old new (Err fault)
   unfolding fewer
   missing number count told told' told'' old mid new fault more first end =
@@ -129,7 +136,12 @@ module _ {D : Type 0} (d : Ghosts D) where
       → z ≡ at → (d.trusted new → d.trusted old) → (d.trusted new → d.sound old → d.sound new)
       → Connects (d.trusted new × d.sound old) z
       (record { left = left; sent = sent; content = d.content old; faults = d.faults old })
-      (record { left = left_then; sent = sent_then; content = d.content new; faults = d.faults new })
+      (record {
+        left = left_then;
+        sent = sent_then;
+        content = d.content new;
+        faults = d.faults new;
+      })
       → Attends d at old new
   attends {z} at old new same trusted sound connects =
       let next = next_exchange connects.next in

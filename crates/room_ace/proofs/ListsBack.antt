@@ -53,8 +53,11 @@ visible_letters : list_all (λ bit. is_visible (letter_of bit)) all_bits ≡ tru
 unfolding all_bits mask_letters
 visible_letters = refl
 
-visible_mask : (mask : List ℕ) → filter (has mask) all_bits ≡ mask → are_visible (mask_text mask) ≡ true
-visible_mask mask known = all-map is_visible letter_of mask (of_known mask known (λ bit. is_visible (letter_of bit)) visible_letters)
+visible_mask : (mask : List ℕ) → filter (has mask) all_bits ≡ mask
+    → are_visible (mask_text mask) ≡ true
+visible_mask mask known =
+    all-map is_visible letter_of mask
+    (of_known mask known (λ bit. is_visible (letter_of bit)) visible_letters)
 
 visible_entry : (entry : Ace) → IsEntry entry → are_visible (entry_text entry) ≡ true
 visible_entry entry ok =
@@ -62,20 +65,26 @@ visible_entry entry ok =
     let flags = 58 ∷ flags_text entry.flags in
     let who = 58 ∷ who_text entry.who in
     let mask = 58 ∷ mask_text entry.mask in
-    all-append is_visible (kind ++ flags ++ who) mask (all-append is_visible (kind ++ flags) who (all-append is_visible kind flags
-    (visible_kind entry.kind) (all_flags is_visible entry.flags refl refl refl refl refl refl refl refl)) (visible_who entry.who ok.name)) (visible_mask entry.mask ok.mask)
+    all-append is_visible (kind ++ flags ++ who) mask
+    (all-append is_visible (kind ++ flags) who (all-append is_visible kind flags
+    (visible_kind entry.kind)
+    (all_flags is_visible entry.flags refl refl refl refl refl refl refl refl))
+    (visible_who entry.who ok.name)) (visible_mask entry.mask ok.mask)
 
 -- ---- what visible bytes are not
 
 other_byte : (c byte : ℕ) → is_visible c ≡ false → is_visible byte ≡ true → not (byte == c) ≡ true
 other_byte c byte hidden shown =
     elim (cases_Bool (byte == c)) [
-      | inl same ↦ absurd (false≢true (sym hidden ∙ ap is_visible (sym (eqb-true byte c same)) ∙ shown))
+      | inl same ↦
+          absurd (false≢true (sym hidden ∙ ap is_visible (sym (eqb-true byte c same)) ∙ shown))
       | inr other ↦ not_from_false (byte == c) other
     ]
 
-visible_apart : (c : ℕ) (text : List ℕ) → is_visible c ≡ false → are_visible text ≡ true → apart c text ≡ true
-visible_apart c text hidden shown = all_imply is_visible (λ byte. not (byte == c)) text (λ byte. other_byte c byte hidden) shown
+visible_apart : (c : ℕ) (text : List ℕ) → is_visible c ≡ false → are_visible text ≡ true
+    → apart c text ≡ true
+visible_apart c text hidden shown =
+    all_imply is_visible (λ byte. not (byte == c)) text (λ byte. other_byte c byte hidden) shown
 
 -- ---- lines of visible bytes
 
@@ -84,7 +93,8 @@ abbrev lines_text : List (List ℕ) → List ℕ
 lines_text texts = flat_map (λ text. text ++ 10 ∷ []) texts
 
 -- each text is a piece, and nothing stands after the last line feed
-pieces_of_texts : (texts : List (List ℕ)) → list_all are_visible texts ≡ true → pieces 10 (lines_text texts) ≡ texts ++ [] ∷ []
+pieces_of_texts : (texts : List (List ℕ)) → list_all are_visible texts ≡ true
+    → pieces 10 (lines_text texts) ≡ texts ++ [] ∷ []
 pieces_of_texts [] shown = refl
 pieces_of_texts (text ∷ texts) shown =
     let parts = and_parts (are_visible text) (list_all are_visible texts) shown in
@@ -94,19 +104,31 @@ pieces_of_texts (text ∷ texts) shown =
 
 without_return-same : (line : List ℕ) → apart 13 line ≡ true → without_return line ≡ line
 without_return-same [] none = refl
-without_return-same (byte ∷ []) none = cond-false (byte == 13) [] (byte ∷ []) (not-true (byte == 13) (and_parts (not (byte == 13)) true none).0)
-without_return-same (byte ∷ next ∷ line) none = ap (λ (bytes : List ℕ). byte ∷ bytes) (without_return-same (next ∷ line) (and_parts (not (byte == 13)) (apart 13 (next ∷ line)) none).1)
+without_return-same (byte ∷ []) none =
+    cond-false (byte == 13) [] (byte ∷ [])
+    (not-true (byte == 13) (and_parts (not (byte == 13)) true none).0)
+without_return-same (byte ∷ next ∷ line) none =
+    ap (λ (bytes : List ℕ). byte ∷ bytes)
+    (without_return-same (next ∷ line)
+    (and_parts (not (byte == 13)) (apart 13 (next ∷ line)) none).1)
 
-lines_of_texts : (texts : List (List ℕ)) → list_all are_visible texts ≡ true → lines_of_pieces (texts ++ [] ∷ []) ≡ texts
+lines_of_texts : (texts : List (List ℕ)) → list_all are_visible texts ≡ true
+    → lines_of_pieces (texts ++ [] ∷ []) ≡ texts
 lines_of_texts [] shown = refl
-lines_of_texts (text ∷ []) shown = ap (λ (line : List ℕ). line ∷ []) (without_return-same text (visible_apart 13 text refl (and_parts (are_visible text) true shown).0))
+lines_of_texts (text ∷ []) shown =
+    ap (λ (line : List ℕ). line ∷ [])
+    (without_return-same text
+    (visible_apart 13 text refl (and_parts (are_visible text) true shown).0))
 lines_of_texts (text ∷ next ∷ texts) shown =
     let parts = and_parts (are_visible text) (list_all are_visible (next ∷ texts)) shown in
-    ap (λ (line : List ℕ). line ∷ lines_of_pieces ((next ∷ texts) ++ [] ∷ [])) (without_return-same text (visible_apart 13 text refl parts.0))
+    ap (λ (line : List ℕ). line ∷ lines_of_pieces ((next ∷ texts) ++ [] ∷ []))
+    (without_return-same text (visible_apart 13 text refl parts.0))
     ∙ ap (λ (lines : List (List ℕ)). text ∷ lines) (lines_of_texts (next ∷ texts) parts.1)
 
-lines_back : (texts : List (List ℕ)) → list_all are_visible texts ≡ true → lines_of (lines_text texts) ≡ texts
-lines_back texts shown = ap lines_of_pieces (pieces_of_texts texts shown) ∙ lines_of_texts texts shown
+lines_back : (texts : List (List ℕ)) → list_all are_visible texts ≡ true
+    → lines_of (lines_text texts) ≡ texts
+lines_back texts shown =
+    ap lines_of_pieces (pieces_of_texts texts shown) ∙ lines_of_texts texts shown
 
 -- ---- lines that say something
 
@@ -117,19 +139,25 @@ says line = not (is_blank line || is_comment line)
 abbrev says_at : ℕ × List ℕ → Bool
 says_at line = says line.1
 
-filter_says : (n : ℕ) (texts : List (List ℕ)) → list_all says texts ≡ true → filter says_at (enumerate_from n texts) ≡ enumerate_from n texts
+filter_says : (n : ℕ) (texts : List (List ℕ)) → list_all says texts ≡ true
+    → filter says_at (enumerate_from n texts) ≡ enumerate_from n texts
 filter_says n [] said = refl
 filter_says n (text ∷ texts) said =
     let parts = and_parts (says text) (list_all says texts) said in
     let first : ℕ × List ℕ = (n, text) in
-    cond-true (says text) (first ∷ filter says_at (enumerate_from (n + 1) texts)) (filter says_at (enumerate_from (n + 1) texts)) parts.0
+    cond-true (says text) (first ∷ filter says_at (enumerate_from (n + 1) texts))
+    (filter says_at (enumerate_from (n + 1) texts)) parts.0
     ∙ ap (λ (lines : List (ℕ × List ℕ)). first ∷ lines) (filter_says (n + 1) texts parts.1)
 
-numbered_back : (texts : List (List ℕ)) → list_all are_visible texts ≡ true → list_all says texts ≡ true → numbered_lines (lines_text texts) ≡ enumerate_from 1 texts
-numbered_back texts shown said = ap (λ (lines : List (List ℕ)). filter says_at (enumerate_from 1 lines)) (lines_back texts shown) ∙ filter_says 1 texts said
+numbered_back : (texts : List (List ℕ)) → list_all are_visible texts ≡ true
+    → list_all says texts ≡ true → numbered_lines (lines_text texts) ≡ enumerate_from 1 texts
+numbered_back texts shown said =
+    ap (λ (lines : List (List ℕ)). filter says_at (enumerate_from 1 lines)) (lines_back texts shown)
+    ∙ filter_says 1 texts said
 
 -- a printed entry begins with its type's letter
-kind_says : (kind : EntryKind) (flags who mask : List ℕ) → says (kind_text kind ++ flags ++ who ++ mask) ≡ true
+kind_says : (kind : EntryKind) (flags who mask : List ℕ)
+    → says (kind_text kind ++ flags ++ who ++ mask) ≡ true
 kind_says Allow flags who mask = refl
 kind_says Deny flags who mask = refl
 kind_says Audit flags who mask = refl
@@ -153,7 +181,8 @@ front_says true false = refl
 front_says false true = refl
 front_says false false = refl
 
-front_flags : (auto protect : Bool) → flags_of_list (front auto protect) ≡ Some (record { auto = auto; protect = protect })
+front_flags : (auto protect : Bool)
+    → flags_of_list (front auto protect) ≡ Some (record { auto = auto; protect = protect })
 front_flags true true = refl
 front_flags true false = refl
 front_flags false true = refl
@@ -170,62 +199,93 @@ no_fault false true none = absurd (true≢false (ap is_some none))
 no_fault false false none = (refl, refl)
 
 -- both tests of the limits are false at what stands first
-limit_front : (first rest : List Ace) → limit_fault (first ++ rest) ≡ None → (nat_lt 4096 (length first) ≡ false) × (nat_lt 64 (length (own_of first)) ≡ false)
+limit_front : (first rest : List Ace) → limit_fault (first ++ rest) ≡ None
+    → (nat_lt 4096 (length first) ≡ false) × (nat_lt 64 (length (own_of first)) ≡ false)
 limit_front first rest none =
-    let parts = no_fault (nat_lt 4096 (length (first ++ rest))) (nat_lt 64 (length (own_of (first ++ rest)))) none in
+    let parts = no_fault (nat_lt 4096 (length (first ++ rest)))
+    (nat_lt 64 (length (own_of (first ++ rest)))) none in
     let many : length (first ++ rest) ≤ 4096 = ltb-false 4096 (length (first ++ rest)) parts.0 in
-    let own : length (own_of (first ++ rest)) ≤ 64 = ltb-false 64 (length (own_of (first ++ rest))) parts.1 in
-    let split : length (own_of (first ++ rest)) ≡ length (own_of first ++ own_of rest) = ap length (filter-append (λ (entry : Ace). not entry.flags.inherited) first rest) in
-    (le-ltb 4096 (length first) (omega (arith, length-append first rest)), le-ltb 64 (length (own_of first)) (omega (arith, length-append (own_of first) (own_of rest))))
+    let own : length (own_of (first ++ rest)) ≤ 64 = ltb-false 64
+    (length (own_of (first ++ rest))) parts.1 in
+    let split : length (own_of (first ++ rest)) ≡ length (own_of first ++ own_of rest) = ap length
+    (filter-append (λ (entry : Ace). not entry.flags.inherited) first rest) in (
+      le-ltb 4096 (length first) (omega (arith, length-append first rest)),
+      le-ltb 64 (length (own_of first)) (omega (arith, length-append (own_of first) (own_of rest))),
+    )
 
 -- ---- the entries
 
-with_entry_ok : (n : ℕ) (before : List Ace) (entry : Ace) (rest : List Ace) → limit_fault ((before ++ entry ∷ []) ++ rest) ≡ None → with_entry n before (Ok entry) ≡ Ok (before ++ entry ∷ [])
+with_entry_ok : (n : ℕ) (before : List Ace) (entry : Ace) (rest : List Ace)
+    → limit_fault ((before ++ entry ∷ []) ++ rest) ≡ None
+    → with_entry n before (Ok entry) ≡ Ok (before ++ entry ∷ [])
 with_entry_ok n before entry rest none =
     let parts = limit_front (before ++ entry ∷ []) rest none in
     rw (parts.0, parts.1) refl
 
-line_read : (n : ℕ) (before : List Ace) (entry : Ace) (rest : List Ace) → IsEntry entry → limit_fault ((before ++ entry ∷ []) ++ rest) ≡ None → (if is_utf8 (entry_text entry) then with_entry n before (entry_of (entry_text entry)) else fault_at n NotUtf8) ≡ Ok (before ++ entry ∷ [])
+line_read : (n : ℕ) (before : List Ace) (entry : Ace) (rest : List Ace) → IsEntry entry
+    → limit_fault ((before ++ entry ∷ []) ++ rest) ≡ None
+    → (if is_utf8 (entry_text entry) then with_entry n before
+    (entry_of (entry_text entry)) else fault_at n NotUtf8) ≡ Ok (before ++ entry ∷ [])
 line_read n before entry rest ok none =
-    cond-true (is_utf8 (entry_text entry)) _ _ (visible_utf8 (entry_text entry) (visible_entry entry ok))
+    cond-true (is_utf8 (entry_text entry)) _ _
+    (visible_utf8 (entry_text entry) (visible_entry entry ok))
     ∙ ap (with_entry n before) (reads_back entry ok)
     ∙ with_entry_ok n before entry rest none
 
-entries_back : (n : ℕ) (before entries : List Ace) → All IsEntry entries → limit_fault (before ++ entries) ≡ None → entries_after before (enumerate_from n (map entry_text entries)) ≡ Ok (before ++ entries)
+entries_back : (n : ℕ) (before entries : List Ace) → All IsEntry entries
+    → limit_fault (before ++ entries) ≡ None
+    → entries_after before (enumerate_from n (map entry_text entries)) ≡ Ok (before ++ entries)
 entries_back n before [] each none = ap (λ (found : List Ace). Ok found) (sym (append-nil before))
 entries_back n before (entry ∷ entries) each none =
-    let pushed : (before ++ entry ∷ []) ++ entries ≡ before ++ entry ∷ entries = append_assoc before (entry ∷ []) entries in
+    let pushed : (before ++ entry ∷ []) ++ entries ≡ before ++ entry ∷ entries = append_assoc before
+    (entry ∷ []) entries in
     let within = ap limit_fault pushed ∙ none in
-    ap (λ (found : Result (List Ace) LineFault). and_then found (λ others. entries_after others (enumerate_from (n + 1) (map entry_text entries)))) (line_read n before entry entries (All-head IsEntry entry entries each) within)
-    ∙ entries_back (n + 1) (before ++ entry ∷ []) entries (All-tail IsEntry entry entries each) within
+    ap (λ (found : Result (List Ace) LineFault). and_then found
+    (λ others. entries_after others (enumerate_from (n + 1) (map entry_text entries))))
+    (line_read n before entry entries (All-head IsEntry entry entries each) within)
+    ∙ entries_back (n + 1) (before ++ entry ∷ []) entries
+    (All-tail IsEntry entry entries each) within
     ∙ ap (λ (found : List Ace). Ok found) pushed
 
-entries_visible : (entries : List Ace) → All IsEntry entries → list_all are_visible (map entry_text entries) ≡ true
+entries_visible : (entries : List Ace) → All IsEntry entries
+    → list_all are_visible (map entry_text entries) ≡ true
 entries_visible [] each = refl
 entries_visible (entry ∷ entries) each =
-    and_from (are_visible (entry_text entry)) (list_all are_visible (map entry_text entries)) (visible_entry entry (All-head IsEntry entry entries each)) (entries_visible entries (All-tail IsEntry entry entries each))
+    and_from (are_visible (entry_text entry)) (list_all are_visible (map entry_text entries))
+    (visible_entry entry (All-head IsEntry entry entries each))
+    (entries_visible entries (All-tail IsEntry entry entries each))
 
 entries_say : (entries : List Ace) → list_all says (map entry_text entries) ≡ true
 entries_say [] = refl
 entries_say (entry ∷ entries) =
-    and_from (says (entry_text entry)) (list_all says (map entry_text entries)) (kind_says entry.kind (58 ∷ flags_text entry.flags) (58 ∷ who_text entry.who) (58 ∷ mask_text entry.mask)) (entries_say entries)
+    and_from (says (entry_text entry)) (list_all says (map entry_text entries))
+    (kind_says entry.kind (58 ∷ flags_text entry.flags) (58 ∷ who_text entry.who)
+    (58 ∷ mask_text entry.mask)) (entries_say entries)
 
 entry_lines-texts : (entries : List Ace) → entry_lines entries ≡ lines_text (map entry_text entries)
 entry_lines-texts [] = refl
-entry_lines-texts (entry ∷ entries) = ap (λ (rest : List ℕ). (entry_text entry ++ 10 ∷ []) ++ rest) (entry_lines-texts entries)
+entry_lines-texts (entry ∷ entries) =
+    ap (λ (rest : List ℕ). (entry_text entry ++ 10 ∷ []) ++ rest) (entry_lines-texts entries)
 
 -- ---- entries with no list line
 
 entry_read : (entry : Ace) → IsEntry entry → entry_in (entry_text entry) ≡ Some entry
-entry_read entry ok = cond-true (is_utf8 (entry_text entry)) _ _ (visible_utf8 (entry_text entry) (visible_entry entry ok)) ∙ ap some_of (reads_back entry ok)
+entry_read entry ok =
+    cond-true (is_utf8 (entry_text entry)) _ _
+    (visible_utf8 (entry_text entry) (visible_entry entry ok)) ∙ ap some_of (reads_back entry ok)
 
-entries_behind_back : (before entries : List Ace) → All IsEntry entries → entries_behind before (map entry_text entries) ≡ Some (before ++ entries)
+entries_behind_back : (before entries : List Ace) → All IsEntry entries
+    → entries_behind before (map entry_text entries) ≡ Some (before ++ entries)
 entries_behind_back before [] each = ap (λ (found : List Ace). Some found) (sym (append-nil before))
 entries_behind_back before (entry ∷ entries) each =
     let line = entry_text entry in
-    let says_it = kind_says entry.kind (58 ∷ flags_text entry.flags) (58 ∷ who_text entry.who) (58 ∷ mask_text entry.mask) in
-    cond-false (is_blank line || is_comment line) _ _ (says_something (is_blank line || is_comment line) says_it)
-    ∙ ap (λ (found : Option Ace). option_and_then (λ e. entries_behind (before ++ e ∷ []) (map entry_text entries)) found) (entry_read entry (All-head IsEntry entry entries each))
+    let says_it = kind_says entry.kind (58 ∷ flags_text entry.flags) (58 ∷ who_text entry.who)
+    (58 ∷ mask_text entry.mask) in
+    cond-false (is_blank line || is_comment line) _ _
+    (says_something (is_blank line || is_comment line) says_it)
+    ∙ ap (λ (found : Option Ace). option_and_then
+    (λ e. entries_behind (before ++ e ∷ []) (map entry_text entries)) found)
+    (entry_read entry (All-head IsEntry entry entries each))
     ∙ entries_behind_back (before ++ entry ∷ []) entries (All-tail IsEntry entry entries each)
     ∙ ap (λ (found : List Ace). Some found) (append_assoc before (entry ∷ []) entries)
   where
@@ -234,7 +294,8 @@ entries_behind_back before (entry ∷ entries) each =
     says_something false h = refl
 
 -- what is printed of entries is read back, however many they are
-pub entries_read_back : (entries : List Ace) → All IsEntry entries → entries_of (entry_lines entries) ≡ Some entries
+pub entries_read_back : (entries : List Ace) → All IsEntry entries
+    → entries_of (entry_lines entries) ≡ Some entries
 entries_read_back entries each =
     ap (λ (text : List ℕ). entries_behind [] (lines_of text)) (entry_lines-texts entries)
     ∙ ap (entries_behind []) (lines_back (map entry_text entries) (entries_visible entries each))
@@ -242,7 +303,8 @@ entries_read_back entries each =
 
 -- ---- a list
 
-module _ (sent : Sent) (each : All IsEntry sent.entries) (none : limit_fault sent.entries ≡ None) where
+module _ (sent : Sent) (each : All IsEntry sent.entries)
+    (none : limit_fault sent.entries ≡ None) where
   abbrev first_line : List ℕ
   first_line = front sent.flags.auto sent.flags.protect
 
@@ -257,16 +319,25 @@ module _ (sent : Sent) (each : All IsEntry sent.entries) (none : limit_fault sen
 
   numbered : numbered_lines (list_text sent.flags sent.entries) ≡ enumerate_from 1 texts
   numbered =
-      ap (λ (rest : List ℕ). numbered_lines (list_line sent.flags ++ rest)) (entry_lines-texts sent.entries)
-      ∙ numbered_back texts (and_from (are_visible first_line) (list_all are_visible (map entry_text sent.entries)) shown (entries_visible sent.entries each))
-      (and_from (says first_line) (list_all says (map entry_text sent.entries)) (front_says sent.flags.auto sent.flags.protect) (entries_say sent.entries))
+      ap (λ (rest : List ℕ). numbered_lines (list_line sent.flags ++ rest))
+      (entry_lines-texts sent.entries)
+      ∙ numbered_back texts
+      (and_from (are_visible first_line) (list_all are_visible (map entry_text sent.entries)) shown
+      (entries_visible sent.entries each))
+      (and_from (says first_line) (list_all says (map entry_text sent.entries))
+      (front_says sent.flags.auto sent.flags.protect) (entries_say sent.entries))
 
   read : (count : ℕ) → sent_of_lines count (enumerate_from 1 texts) ≡ Ok sent
   read count =
       cond-true (is_utf8 first_line) _ _ (visible_utf8 first_line shown)
-      ∙ ap (λ (flags : Option ListFlags). sent_with flags 1 entry_texts) (front_flags sent.flags.auto sent.flags.protect)
-      ∙ ap (λ (found : Result (List Ace) LineFault). and_then found (λ entries. Ok (record { flags = sent.flags; entries = entries }))) (entries_back 2 [] sent.entries each none)
+      ∙ ap (λ (flags : Option ListFlags). sent_with flags 1 entry_texts)
+      (front_flags sent.flags.auto sent.flags.protect)
+      ∙ ap (λ (found : Result (List Ace) LineFault). and_then found
+      (λ entries. Ok (record { flags = sent.flags; entries = entries })))
+      (entries_back 2 [] sent.entries each none)
 
 pub list_reads_back : ListReadsBack
 list_reads_back sent each none =
-    ap (sent_of_lines (length (lines_of (list_text sent.flags sent.entries)))) (numbered sent each none) ∙ read sent each none (length (lines_of (list_text sent.flags sent.entries)))
+    ap (sent_of_lines (length (lines_of (list_text sent.flags sent.entries))))
+    (numbered sent each none)
+    ∙ read sent each none (length (lines_of (list_text sent.flags sent.entries)))

@@ -28,7 +28,8 @@ abbrev are_ascii : List ℕ → Bool
 are_ascii text = list_all is_ascii text
 
 -- the text is the word, or the other words decide
-or_word : {A : Type 0} (text word : List ℕ) (value known : A) (others : Option A) → are_ascii word ≡ true → cond (same_text text word) (Some value) others ≡ Some known
+or_word : {A : Type 0} (text word : List ℕ) (value known : A) (others : Option A)
+    → are_ascii word ≡ true → cond (same_text text word) (Some value) others ≡ Some known
     → (others ≡ Some known → are_ascii text ≡ true) → are_ascii text ≡ true
 or_word text word value known others plain some rest =
     elim (cases_Bool (same_text text word)) [
@@ -37,7 +38,8 @@ or_word text word value known others plain some rest =
     ]
 
 -- what passes is there
-if_some : {A : Type 0} (b : Bool) (value known : A) → cond b (Some value) None ≡ Some known → b ≡ true
+if_some : {A : Type 0} (b : Bool) (value known : A) → cond b (Some value) None ≡ Some known
+    → b ≡ true
 if_some true value known some = refl
 if_some false value known some = absurd (cc)
 
@@ -48,16 +50,20 @@ kind_ascii text kind known =
     (λ u. or_word text (codes "U") Audit kind _ refl u
     (λ l. or_word text (codes "L") Alarm kind _ refl l (λ none. absurd (cc)))))
 
-flags_ascii : (text : List ℕ) (flags : EntryFlags) → flags_of text ≡ Some flags → are_ascii text ≡ true
+flags_ascii : (text : List ℕ) (flags : EntryFlags) → flags_of text ≡ Some flags
+    → are_ascii text ≡ true
 flags_ascii text flags known =
-    all_imply (is_among flag_letters) is_ascii text (λ byte. at_bit is_ascii flag_letters byte refl) (if_some (list_all (is_among flag_letters) text) _ flags known)
+    all_imply (is_among flag_letters) is_ascii text (λ byte. at_bit is_ascii flag_letters byte refl)
+    (if_some (list_all (is_among flag_letters) text) _ flags known)
 
 mask_ascii : (text : List ℕ) (mask : List ℕ) → mask_of text ≡ Some mask → are_ascii text ≡ true
 unfolding mask_letters
 mask_ascii text mask known =
-    all_imply (is_among mask_letters) is_ascii text (λ byte. at_bit is_ascii mask_letters byte refl) (if_some (list_all (is_among mask_letters) text) _ mask known)
+    all_imply (is_among mask_letters) is_ascii text (λ byte. at_bit is_ascii mask_letters byte refl)
+    (if_some (list_all (is_among mask_letters) text) _ mask known)
 
-who_ascii : (group : Bool) (text : List ℕ) (who : Who) → who_of group text ≡ Some who → are_ascii text ≡ true
+who_ascii : (group : Bool) (text : List ℕ) (who : Who) → who_of group text ≡ Some who
+    → are_ascii text ≡ true
 who_ascii group text who known =
     or_word text (codes "OWNER@") Owner who _ refl known
     (λ g. or_word text (codes "GROUP@") Group who _ refl g
@@ -67,12 +73,14 @@ who_ascii group text who known =
     (λ name. name_ascii text (if_some (is_name text) _ who name))))))
 
 -- a part that is well, and what comes after it
-part_ok : {A B C : Type 0} (read : Option A) (fault : TextFault) (rest : A → Result B TextFault) (all : B) → part read fault rest ≡ Ok all
+part_ok : {A B C : Type 0} (read : Option A) (fault : TextFault) (rest : A → Result B TextFault)
+    (all : B) → part read fault rest ≡ Ok all
     → ((value : A) → read ≡ Some value → rest value ≡ Ok all → C) → C
 part_ok None fault rest all well use_it = absurd (cc)
 part_ok (Some value) fault rest all well use_it = use_it value refl well
 
-parts_ascii : (parts : List (List ℕ)) (entry : Ace) → entry_of_parts parts ≡ Ok entry → are_ascii (join_with_byte 58 parts) ≡ true
+parts_ascii : (parts : List (List ℕ)) (entry : Ace) → entry_of_parts parts ≡ Ok entry
+    → are_ascii (join_with_byte 58 parts) ≡ true
 parts_ascii [] entry well = absurd (cc)
 parts_ascii (a ∷ []) entry well = absurd (cc)
 parts_ascii (a ∷ b ∷ []) entry well = absurd (cc)
@@ -85,11 +93,15 @@ parts_ascii (kind ∷ flags ∷ who ∷ mask ∷ []) entry well =
     part_ok (mask_of mask) _ _ entry after_who (λ m fourth after_mask.
     all-append is_ascii kind (58 ∷ (flags ++ (58 ∷ (who ++ (58 ∷ mask))))) (kind_ascii kind k first)
     (all-append is_ascii flags (58 ∷ (who ++ (58 ∷ mask))) (flags_ascii flags f second)
-    (all-append is_ascii who (58 ∷ mask) (who_ascii f.identifier_group who w third) (mask_ascii mask m fourth)))))))
+    (all-append is_ascii who (58 ∷ mask) (who_ascii f.identifier_group who w third)
+    (mask_ascii mask m fourth)))))))
 
 pub entry_utf8 : (line : List ℕ) (entry : Ace) → entry_of line ≡ Ok entry → is_utf8 line ≡ true
 entry_utf8 line entry well =
-    or_left (are_ascii line) _ (subst (λ (text : List ℕ). are_ascii text ≡ true) (join_with_byte-slice_split 58 line) (parts_ascii (pieces 58 line) entry well))
+    or_left (are_ascii line) _
+    (subst (λ (text : List ℕ). are_ascii text ≡ true) (join_with_byte-slice_split 58 line)
+    (parts_ascii (pieces 58 line) entry well))
 
 pub spelled : (line : List ℕ) (entry : Ace) → entry_of line ≡ Ok entry → Some entry ≡ entry_in line
-spelled line entry well = sym (cond-true (is_utf8 line) _ None (entry_utf8 line entry well) ∙ ap some_of well)
+spelled line entry well =
+    sym (cond-true (is_utf8 line) _ None (entry_utf8 line entry well) ∙ ap some_of well)

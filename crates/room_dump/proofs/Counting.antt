@@ -17,7 +17,8 @@ pub each_always : {A : Type 0} (P : A → Type 0) → ((x : A) → P x) → (xs 
 each_always P always [] = tt
 each_always P always (x ∷ xs) = (always x, each_always P always xs)
 
-pub each_append : {A : Type 0} (P : A → Type 0) (xs ys : List A) → Each P xs → Each P ys → Each P (xs ++ ys)
+pub each_append : {A : Type 0} (P : A → Type 0) (xs ys : List A) → Each P xs → Each P ys
+    → Each P (xs ++ ys)
 each_append P [] ys front back = back
 each_append P (x ∷ xs) ys front back = (front.0, each_append P xs ys front.1 back)
 
@@ -29,23 +30,30 @@ pub each_last : {A : Type 0} (P : A → Type 0) (xs : List A) (y : A) → Each P
 each_last P [] y all = all.0
 each_last P (x ∷ xs) y all = each_last P xs y all.1
 
-pub each_map : {A B : Type 0} (P : A → Type 0) (f : B → A) (xs : List B) → Each (λ x. P (f x)) xs → Each P (map f xs)
+pub each_map : {A B : Type 0} (P : A → Type 0) (f : B → A) (xs : List B) → Each (λ x. P (f x)) xs
+    → Each P (map f xs)
 each_map P f [] all = tt
 each_map P f (x ∷ xs) all = (all.0, each_map P f xs all.1)
 
 pub each_reverse : {A : Type 0} (P : A → Type 0) (xs : List A) → Each P xs → Each P (reverse xs)
 each_reverse P [] all = tt
-each_reverse P (x ∷ xs) all = subst (Each P) (sym (reverse-append (x ∷ []) xs)) (each_append P (reverse xs) (x ∷ []) (each_reverse P xs all.1) (all.0, tt))
+each_reverse P (x ∷ xs) all =
+    subst (Each P) (sym (reverse-append (x ∷ []) xs))
+    (each_append P (reverse xs) (x ∷ []) (each_reverse P xs all.1) (all.0, tt))
 
-pub each_weaker : {A : Type 0} (P Q : A → Type 0) → ((x : A) → P x → Q x) → (xs : List A) → Each P xs → Each Q xs
+pub each_weaker : {A : Type 0} (P Q : A → Type 0) → ((x : A) → P x → Q x) → (xs : List A)
+    → Each P xs → Each Q xs
 each_weaker P Q weaker [] all = tt
 each_weaker P Q weaker (x ∷ xs) all = (weaker x all.0, each_weaker P Q weaker xs all.1)
 
-pub each_both : {A : Type 0} (P Q R : A → Type 0) → ((x : A) → P x → Q x → R x) → (xs : List A) → Each P xs → Each Q xs → Each R xs
+pub each_both : {A : Type 0} (P Q R : A → Type 0) → ((x : A) → P x → Q x → R x) → (xs : List A)
+    → Each P xs → Each Q xs → Each R xs
 each_both P Q R joins [] all more = tt
-each_both P Q R joins (x ∷ xs) all more = (joins x all.0 more.0, each_both P Q R joins xs all.1 more.1)
+each_both P Q R joins (x ∷ xs) all more =
+    (joins x all.0 more.0, each_both P Q R joins xs all.1 more.1)
 
-pub each_filter : {A : Type 0} (P : A → Type 0) (q : A → Bool) (xs : List A) → Each P xs → Each P (filter q xs)
+pub each_filter : {A : Type 0} (P : A → Type 0) (q : A → Bool) (xs : List A) → Each P xs
+    → Each P (filter q xs)
 each_filter P q [] all = tt
 each_filter P q (x ∷ xs) all = on (q x) all.0 (each_filter P q xs all.1)
   where
@@ -53,19 +61,25 @@ each_filter P q (x ∷ xs) all = on (q x) all.0 (each_filter P q xs all.1)
     on true here rest = (here, rest)
     on false here rest = rest
 
-each_put : (P : Node → Type 0) (node : Node) (nodes : List Node) → P node → Each P nodes → Each P (put_by_name node nodes)
+each_put : (P : Node → Type 0) (node : Node) (nodes : List Node) → P node → Each P nodes
+    → Each P (put_by_name node nodes)
 each_put P node [] here all = (here, tt)
-each_put P node (other ∷ others) here all = on (is_before other.name node.name) (each_put P node others here all.1)
+each_put P node (other ∷ others) here all =
+    on (is_before other.name node.name) (each_put P node others here all.1)
   where
-    on : (t : Bool) → Each P (put_by_name node others) → Each P (cond t (other ∷ put_by_name node others) (node ∷ other ∷ others))
+    on : (t : Bool) → Each P (put_by_name node others)
+        → Each P (cond t (other ∷ put_by_name node others) (node ∷ other ∷ others))
     on true rest = (all.0, rest)
     on false rest = (here, all)
 
-pub each_sorted : (P : Node → Type 0) (nodes : List Node) → Each P nodes → Each P (sorted_by_name nodes)
+pub each_sorted : (P : Node → Type 0) (nodes : List Node) → Each P nodes
+    → Each P (sorted_by_name nodes)
 each_sorted P [] all = tt
-each_sorted P (node ∷ nodes) all = each_put P node (sorted_by_name nodes) all.0 (each_sorted P nodes all.1)
+each_sorted P (node ∷ nodes) all =
+    each_put P node (sorted_by_name nodes) all.0 (each_sorted P nodes all.1)
 
-pub each_found : {A : Type 0} (P : A → Type 0) (p : A → Bool) (xs : List A) (x : A) → Each P xs → find p xs ≡ Some x → P x
+pub each_found : {A : Type 0} (P : A → Type 0) (p : A → Bool) (xs : List A) (x : A) → Each P xs
+    → find p xs ≡ Some x → P x
 each_found P p [] x all found = absurd (let wrong : ⊥ = cc in wrong)
 each_found P p (y ∷ ys) x all found = on (p y) found (each_found P p ys x all.1)
   where
@@ -110,9 +124,12 @@ first_one a b c e = omega (arith, e)
 later_one : (a b c d : ℕ) → a + b ≤ d → a + (c + b) ≤ c + d
 later_one a b c d e = omega (arith, e)
 
-pub count_append : {A : Type 0} (p : A → Bool) (xs ys : List A) → count p (xs ++ ys) ≡ count p xs + count p ys
+pub count_append : {A : Type 0} (p : A → Bool) (xs ys : List A)
+    → count p (xs ++ ys) ≡ count p xs + count p ys
 count_append p [] ys = omega arith
-count_append p (x ∷ xs) ys = ap (λ (n : ℕ). one_if (p x) + n) (count_append p xs ys) ∙ sym (add_assoc (one_if (p x)) (count p xs) (count p ys))
+count_append p (x ∷ xs) ys =
+    ap (λ (n : ℕ). one_if (p x) + n) (count_append p xs ys)
+    ∙ sym (add_assoc (one_if (p x)) (count p xs) (count p ys))
 
 pub count_reverse : {A : Type 0} (p : A → Bool) (xs : List A) → count p (reverse xs) ≡ count p xs
 count_reverse p [] = refl
@@ -120,70 +137,99 @@ count_reverse p (x ∷ xs) =
     ap (count p) (reverse-append (x ∷ []) xs) ∙ count_append p (reverse xs) (x ∷ [])
     ∙ same_behind (count p (reverse xs)) (count p xs) (one_if (p x)) (count_reverse p xs)
 
-pub count_map : {A B : Type 0} (p : A → Bool) (f : B → A) (xs : List B) → count p (map f xs) ≡ count (λ x. p (f x)) xs
+pub count_map : {A B : Type 0} (p : A → Bool) (f : B → A) (xs : List B)
+    → count p (map f xs) ≡ count (λ x. p (f x)) xs
 count_map p f [] = refl
 count_map p f (x ∷ xs) = ap (λ (n : ℕ). one_if (p (f x)) + n) (count_map p f xs)
 
-count_put : (p : Node → Bool) (node : Node) (nodes : List Node) → count p (put_by_name node nodes) ≡ one_if (p node) + count p nodes
+count_put : (p : Node → Bool) (node : Node) (nodes : List Node)
+    → count p (put_by_name node nodes) ≡ one_if (p node) + count p nodes
 count_put p node [] = refl
 count_put p node (other ∷ others) = on (is_before other.name node.name) (count_put p node others)
   where
     on : (t : Bool) → count p (put_by_name node others) ≡ one_if (p node) + count p others
-        → count p (cond t (other ∷ put_by_name node others) (node ∷ other ∷ others)) ≡ one_if (p node) + (one_if (p other) + count p others)
-    on true rest = past_one (one_if (p other)) (one_if (p node)) (count p (put_by_name node others)) (count p others) rest
+        → count p (cond t (other ∷ put_by_name node others) (node ∷ other ∷ others))
+        ≡ one_if (p node) + (one_if (p other) + count p others)
+    on true rest =
+        past_one (one_if (p other)) (one_if (p node)) (count p (put_by_name node others))
+        (count p others) rest
     on false rest = refl
 
-pub count_sorted : (p : Node → Bool) (nodes : List Node) → count p (sorted_by_name nodes) ≡ count p nodes
+pub count_sorted : (p : Node → Bool) (nodes : List Node)
+    → count p (sorted_by_name nodes) ≡ count p nodes
 count_sorted p [] = refl
-count_sorted p (node ∷ nodes) = count_put p node (sorted_by_name nodes) ∙ ap (λ (n : ℕ). one_if (p node) + n) (count_sorted p nodes)
+count_sorted p (node ∷ nodes) =
+    count_put p node (sorted_by_name nodes)
+    ∙ ap (λ (n : ℕ). one_if (p node) + n) (count_sorted p nodes)
 
 -- those that pass another test, and those that fail it
-pub count_parts : {A : Type 0} (p q : A → Bool) (xs : List A) → count p (filter q xs) + count p (filter (λ x. not (q x)) xs) ≡ count p xs
+pub count_parts : {A : Type 0} (p q : A → Bool) (xs : List A)
+    → count p (filter q xs) + count p (filter (λ x. not (q x)) xs) ≡ count p xs
 count_parts p q [] = omega arith
 count_parts p q (x ∷ xs) = on (q x) (count_parts p q xs)
   where
     on : (t : Bool) → count p (filter q xs) + count p (filter (λ y. not (q y)) xs) ≡ count p xs
-        → count p (cond t (x ∷ filter q xs) (filter q xs)) + count p (cond (not t) (x ∷ filter (λ y. not (q y)) xs) (filter (λ y. not (q y)) xs)) ≡ one_if (p x) + count p xs
-    on true rest = after_one (one_if (p x)) (count p (filter q xs)) (count p (filter (λ y. not (q y)) xs)) (count p xs) rest
-    on false rest = before_one (one_if (p x)) (count p (filter q xs)) (count p (filter (λ y. not (q y)) xs)) (count p xs) rest
+        → count p (cond t (x ∷ filter q xs) (filter q xs)) + count p
+        (cond (not t) (x ∷ filter (λ y. not (q y)) xs) (filter (λ y. not (q y)) xs))
+        ≡ one_if (p x) + count p xs
+    on true rest =
+        after_one (one_if (p x)) (count p (filter q xs)) (count p (filter (λ y. not (q y)) xs))
+        (count p xs) rest
+    on false rest =
+        before_one (one_if (p x)) (count p (filter q xs)) (count p (filter (λ y. not (q y)) xs))
+        (count p xs) rest
 
 count_filter : {A : Type 0} (p q : A → Bool) (xs : List A) → count p (filter q xs) ≤ count p xs
 count_filter p q [] = omega arith
 count_filter p q (x ∷ xs) = on (q x) (count_filter p q xs)
   where
-    on : (t : Bool) → count p (filter q xs) ≤ count p xs → count p (cond t (x ∷ filter q xs) (filter q xs)) ≤ one_if (p x) + count p xs
+    on : (t : Bool) → count p (filter q xs) ≤ count p xs
+        → count p (cond t (x ∷ filter q xs) (filter q xs)) ≤ one_if (p x) + count p xs
     on true rest = kept_one (count p (filter q xs)) (count p xs) (one_if (p x)) rest
     on false rest = one_more (count p (filter q xs)) (count p xs) (one_if (p x)) rest
 
 -- what is found, and those that fail the test that found it
-pub count_found : {A : Type 0} (p q : A → Bool) (xs : List A) (x : A) → find q xs ≡ Some x → count p (x ∷ []) + count p (filter (λ y. not (q y)) xs) ≤ count p xs
+pub count_found : {A : Type 0} (p q : A → Bool) (xs : List A) (x : A) → find q xs ≡ Some x
+    → count p (x ∷ []) + count p (filter (λ y. not (q y)) xs) ≤ count p xs
 count_found p q [] x found = absurd (let wrong : ⊥ = cc in wrong)
-count_found p q (y ∷ ys) x found = on (q y) found (count_found p q ys x) (count_filter p (λ z. not (q z)) ys)
+count_found p q (y ∷ ys) x found =
+    on (q y) found (count_found p q ys x) (count_filter p (λ z. not (q z)) ys)
   where
     on : (t : Bool) → cond t (Some y) (find q ys) ≡ Some x
-        → (find q ys ≡ Some x → count p (x ∷ []) + count p (filter (λ z. not (q z)) ys) ≤ count p ys)
+        → (find q ys ≡ Some x
+        → count p (x ∷ []) + count p (filter (λ z. not (q z)) ys) ≤ count p ys)
         → count p (filter (λ z. not (q z)) ys) ≤ count p ys
-        → count p (x ∷ []) + count p (cond (not t) (y ∷ filter (λ z. not (q z)) ys) (filter (λ z. not (q z)) ys)) ≤ one_if (p y) + count p ys
+        → count p (x ∷ []) + count p
+        (cond (not t) (y ∷ filter (λ z. not (q z)) ys) (filter (λ z. not (q z)) ys))
+        ≤ one_if (p y) + count p ys
     on true is later less =
-        subst (λ z. count p (z ∷ []) + count p (filter (λ z. not (q z)) ys) ≤ one_if (p y) + count p ys) (ap (λ o. option_map_or (λ z. z) o y) is)
+        subst (λ z. count p (z ∷ []) + count p (filter (λ z. not (q z)) ys)
+        ≤ one_if (p y) + count p ys) (ap (λ o. option_map_or (λ z. z) o y) is)
         (first_one (one_if (p y)) (count p (filter (λ z. not (q z)) ys)) (count p ys) less)
-    on false is later less = later_one (count p (x ∷ [])) (count p (filter (λ z. not (q z)) ys)) (one_if (p y)) (count p ys) (later is)
+    on false is later less =
+        later_one (count p (x ∷ [])) (count p (filter (λ z. not (q z)) ys)) (one_if (p y))
+        (count p ys) (later is)
 
 -- each member is counted
-pub each_counted : {A : Type 0} (xs : List A) → Each (λ x. (p : A → Bool) → count p (x ∷ []) ≤ count p xs) xs
+pub each_counted : {A : Type 0} (xs : List A)
+    → Each (λ x. (p : A → Bool) → count p (x ∷ []) ≤ count p xs) xs
 each_counted [] = tt
 each_counted {A} (x ∷ xs) = (
   λ p. no_less (one_if (p x)) (count p xs),
-  each_weaker (λ (y : A). (p : A → Bool) → count p (y ∷ []) ≤ count p xs) (λ (y : A). (p : A → Bool) → count p (y ∷ []) ≤ count p (x ∷ xs))
-      (λ y less p. one_more (count p (y ∷ [])) (count p xs) (one_if (p x)) (less p)) xs (each_counted xs),
+  each_weaker (λ (y : A). (p : A → Bool) → count p (y ∷ []) ≤ count p xs)
+      (λ (y : A). (p : A → Bool) → count p (y ∷ []) ≤ count p (x ∷ xs))
+      (λ y less p. one_more (count p (y ∷ [])) (count p xs) (one_if (p x)) (less p)) xs
+      (each_counted xs),
 )
 
 -- where none is counted, none passes
-pub none_counted : {A : Type 0} (p : A → Bool) (xs : List A) → count p xs ≤ 0 → Each (λ x. p x ≡ false) xs
+pub none_counted : {A : Type 0} (p : A → Bool) (xs : List A) → count p xs ≤ 0
+    → Each (λ x. p x ≡ false) xs
 none_counted p [] none = tt
 none_counted p (x ∷ xs) none = on (p x) refl none (λ rest. none_counted p xs rest)
   where
-    on : (t : Bool) → p x ≡ t → one_if t + count p xs ≤ 0 → (count p xs ≤ 0 → Each (λ y. p y ≡ false) xs) → (p x ≡ false) × Each (λ y. p y ≡ false) xs
+    on : (t : Bool) → p x ≡ t → one_if t + count p xs ≤ 0
+        → (count p xs ≤ 0 → Each (λ y. p y ≡ false) xs) → (p x ≡ false) × Each (λ y. p y ≡ false) xs
     on true is none later = absurd (omega (arith, none))
     on false is none later = (is, later (omega (arith, none)))
 
@@ -193,16 +239,23 @@ count_all (x ∷ xs) = let rest = count_all xs in omega (arith, rest)
 
 -- ---- a test that implies another
 
-pub filter_weaker : {A : Type 0} (p q : A → Bool) → ((x : A) → p x ≡ true → q x ≡ true) → (xs : List A) → filter p (filter q xs) ≡ filter p xs
+pub filter_weaker : {A : Type 0} (p q : A → Bool) → ((x : A) → p x ≡ true → q x ≡ true)
+    → (xs : List A) → filter p (filter q xs) ≡ filter p xs
 filter_weaker p q weaker [] = refl
 filter_weaker p q weaker (x ∷ xs) = on (p x) (q x) refl refl (filter_weaker p q weaker xs)
   where
-    on : (s t : Bool) → p x ≡ s → q x ≡ t → filter p (filter q xs) ≡ filter p xs → filter p (cond t (x ∷ filter q xs) (filter q xs)) ≡ cond s (x ∷ filter p xs) (filter p xs)
-    on true true is passes rest = ap (λ b. cond b (x ∷ filter p (filter q xs)) (filter p (filter q xs))) is ∙ ap (λ l. x ∷ l) rest
+    on : (s t : Bool) → p x ≡ s → q x ≡ t → filter p (filter q xs) ≡ filter p xs
+        → filter p (cond t (x ∷ filter q xs) (filter q xs)) ≡ cond s (x ∷ filter p xs) (filter p xs)
+    on true true is passes rest =
+        ap (λ b. cond b (x ∷ filter p (filter q xs)) (filter p (filter q xs))) is
+        ∙ ap (λ l. x ∷ l) rest
     on true false is fails rest = absurd (false≢true (sym fails ∙ weaker x is))
-    on false true is passes rest = ap (λ b. cond b (x ∷ filter p (filter q xs)) (filter p (filter q xs))) is ∙ rest
+    on false true is passes rest =
+        ap (λ b. cond b (x ∷ filter p (filter q xs)) (filter p (filter q xs))) is ∙ rest
     on false false is fails rest = rest
 
-pub same_flat : {A B : Type 0} (f g : A → List B) (xs : List A) → Each (λ x. f x ≡ g x) xs → flat_map f xs ≡ flat_map g xs
+pub same_flat : {A B : Type 0} (f g : A → List B) (xs : List A) → Each (λ x. f x ≡ g x) xs
+    → flat_map f xs ≡ flat_map g xs
 same_flat f g [] all = refl
-same_flat f g (x ∷ xs) all = ap (λ l. l ++ flat_map f xs) all.0 ∙ ap (λ l. g x ++ l) (same_flat f g xs all.1)
+same_flat f g (x ∷ xs) all =
+    ap (λ l. l ++ flat_map f xs) all.0 ∙ ap (λ l. g x ++ l) (same_flat f g xs all.1)

@@ -20,24 +20,30 @@ IsOnce node rest = (id : ℕ) → count (is_number id) (node ∷ []) + count (is
 
 -- all children of the object are among these
 abbrev pub HasAll : Content → List Node → Node → Type 0
-HasAll content rest node = filter (has_parent node.id) rest ≡ filter (has_parent node.id) content.nodes
+HasAll content rest node =
+    filter (has_parent node.id) rest ≡ filter (has_parent node.id) content.nodes
 
 -- these without the children of the object
 abbrev pub others : Node → List Node → List Node
 others node rest = filter (λ n. not (has_parent node.id n)) rest
 
 -- an object has one parent
-one_parent : (x y : ℕ) (node : Node) → (x == y) ≡ false → has_parent x node ≡ true → not (has_parent y node) ≡ true
+one_parent : (x y : ℕ) (node : Node) → (x == y) ≡ false → has_parent x node ≡ true
+    → not (has_parent y node) ≡ true
 one_parent x y node apart is = on node.parent is
   where
-    on : (parent : Option ℕ) → option_map_or (λ p. p == x) parent false ≡ true → not (option_map_or (λ p. p == y) parent false) ≡ true
+    on : (parent : Option ℕ) → option_map_or (λ p. p == x) parent false ≡ true
+        → not (option_map_or (λ p. p == y) parent false) ≡ true
     on None is = absurd (false≢true is)
     on (Some p) is = ap not (ap (λ n. n == y) (eqb-true p x is) ∙ apart)
 
 -- so another object has all its children still
-pub all_still : (content : Content) (rest : List Node) (node other : Node) → is_number node.id other ≡ false → HasAll content rest other → HasAll content (others node rest) other
+pub all_still : (content : Content) (rest : List Node) (node other : Node)
+    → is_number node.id other ≡ false → HasAll content rest other
+    → HasAll content (others node rest) other
 all_still content rest node other apart all =
-    filter_weaker (has_parent other.id) (λ n. not (has_parent node.id n)) (λ n is. one_parent other.id node.id n apart is) rest ∙ all
+    filter_weaker (has_parent other.id) (λ n. not (has_parent node.id n))
+    (λ n is. one_parent other.id node.id n apart is) rest ∙ all
 
 less_by_one : (a b c : ℕ) → 1 + a ≤ b → b < suc c → a < c
 less_by_one a b c e less = omega (arith, e, less)
@@ -55,10 +61,13 @@ not_below_zero : (n : ℕ) → n < 0 → ⊥
 not_below_zero n less = omega (arith, less)
 
 -- the object is none of those of which it stands apart
-pub apart_from : (node : Node) (rest : List Node) → IsOnce node rest → Each (λ n. is_number node.id n ≡ false) rest
+pub apart_from : (node : Node) (rest : List Node) → IsOnce node rest
+    → Each (λ n. is_number node.id n ≡ false) rest
 apart_from node rest once =
     none_counted (is_number node.id) rest
-    (none_more (count (is_number node.id) rest) (subst (λ t. (cond t 1 0 + 0) + count (is_number node.id) rest ≤ 1) (eq-eqb node.id node.id refl) (once node.id)))
+    (none_more (count (is_number node.id) rest)
+    (subst (λ t. (cond t 1 0 + 0) + count (is_number node.id) rest ≤ 1)
+    (eq-eqb node.id node.id refl) (once node.id)))
 
 below_next : (a b : ℕ) → a < b → a < suc b
 below_next a b less = omega (arith, less)
@@ -67,44 +76,74 @@ module _ {X : Type 0} (tell : List ℕ → Node → List X) where
   -- Two depths beyond the count of objects that nobody has come to yet give the same text.
   abbrev Same : ℕ → ℕ → Content → Type 0
   Same d e content =
-      (rest : List Node) (path : List ℕ) (node : Node) → HasAll content rest node → Each (HasAll content rest) rest → IsOnce node rest → count always rest < d → count always rest < e
+      (rest : List Node) (path : List ℕ) (node : Node) → HasAll content rest node
+      → Each (HasAll content rest) rest → IsOnce node rest → count always rest < d
+      → count always rest < e
       → tree_of tell d content path node ≡ tree_of tell e content path node
 
   -- one level down there are fewer
   level : (d e : ℕ) (content : Content) → Same d e content → Same (suc d) (suc e) content
   level d e content before rest path node all alls once less less' =
       ap (λ (text : List X). tell path node ++ text)
-      (same_flat (λ child. tree_of tell d content (path_below path child) child) (λ child. tree_of tell e content (path_below path child) child) (children_of content node.id)
-      (each_sorted SameBelow (filter (has_parent node.id) content.nodes) (subst (Each SameBelow) all below)))
+      (same_flat (λ child. tree_of tell d content (path_below path child) child)
+      (λ child. tree_of tell e content (path_below path child) child) (children_of content node.id)
+      (each_sorted SameBelow (filter (has_parent node.id) content.nodes)
+      (subst (Each SameBelow) all below)))
     where
       SameBelow : Node → Type 0
-      SameBelow child = tree_of tell d content (path_below path child) child ≡ tree_of tell e content (path_below path child) child
+      SameBelow child =
+          tree_of tell d content (path_below path child) child
+          ≡ tree_of tell e content (path_below path child) child
 
       left : List Node
       left = others node rest
 
       still : Each (HasAll content left) rest
-      still = each_both (HasAll content rest) (λ n. is_number node.id n ≡ false) (HasAll content left) (λ n has apart. all_still content rest node n apart has) rest alls (apart_from node rest once)
+      still =
+          each_both (HasAll content rest) (λ n. is_number node.id n ≡ false) (HasAll content left)
+          (λ n has apart. all_still content rest node n apart has) rest alls
+          (apart_from node rest once)
 
-      child_same : (child : Node) → HasAll content left child → ((p : Node → Bool) → count p (child ∷ []) ≤ count p (filter (has_parent node.id) rest)) → SameBelow child
+      child_same : (child : Node) → HasAll content left child
+          → ((p : Node → Bool) → count p (child ∷ []) ≤ count p (filter (has_parent node.id) rest))
+          → SameBelow child
       child_same child has counted =
-          let fewer = λ (p : Node → Bool). with_more (count p (child ∷ [])) (count p (filter (has_parent node.id) rest)) (count p left) (count p rest) (counted p) (count_parts p (has_parent node.id) rest) in
-          before left (path_below path child) child has (each_filter (HasAll content left) (λ n. not (has_parent node.id n)) rest still)
-          (λ id. at_most_one (count (is_number id) (child ∷ []) + count (is_number id) left) (count (is_number id) rest) (fewer (is_number id)) (count (is_number id) (node ∷ [])) (once id))
+          let fewer = λ (p : Node → Bool). with_more (count p (child ∷ []))
+          (count p (filter (has_parent node.id) rest)) (count p left) (count p rest) (counted p)
+          (count_parts p (has_parent node.id) rest) in
+          before left (path_below path child) child has
+          (each_filter (HasAll content left) (λ n. not (has_parent node.id n)) rest still)
+          (λ id. at_most_one (count (is_number id) (child ∷ []) + count (is_number id) left)
+          (count (is_number id) rest) (fewer (is_number id)) (count (is_number id) (node ∷ []))
+          (once id))
           (less_by_one (count always left) (count always rest) d (fewer always) less)
           (less_by_one (count always left) (count always rest) e (fewer always) less')
 
       below : Each SameBelow (filter (has_parent node.id) rest)
-      below = each_both (HasAll content left) (λ c. (p : Node → Bool) → count p (c ∷ []) ≤ count p (filter (has_parent node.id) rest)) SameBelow child_same (filter (has_parent node.id) rest)
-          (each_filter (HasAll content left) (has_parent node.id) rest still) (each_counted (filter (has_parent node.id) rest))
+      below =
+          each_both (HasAll content left)
+          (λ c. (p : Node → Bool)
+          → count p (c ∷ []) ≤ count p (filter (has_parent node.id) rest)) SameBelow child_same
+          (filter (has_parent node.id) rest)
+          (each_filter (HasAll content left) (has_parent node.id) rest still)
+          (each_counted (filter (has_parent node.id) rest))
 
   pub deep_enough : (d e : ℕ) (content : Content) → Same d e content
-  deep_enough zero e content rest path node all alls once less less' = absurd (not_below_zero (count always rest) less)
-  deep_enough (suc d) zero content rest path node all alls once less less' = absurd (not_below_zero (count always rest) less')
+  deep_enough zero e content rest path node all alls once less less' =
+      absurd (not_below_zero (count always rest) less)
+  deep_enough (suc d) zero content rest path node all alls once less less' =
+      absurd (not_below_zero (count always rest) less')
   deep_enough (suc d) (suc e) content rest path node all alls once less less' =
-      level d e content (λ r p n a b c x y. deep_enough d e content r p n a b c x y) rest path node all alls once less less'
+      level d e content (λ r p n a b c x y. deep_enough d e content r p n a b c x y) rest path node
+      all alls once less less'
 
   -- An object's text, and after it those of its children as deep.
-  pub goes_on : (d : ℕ) (content : Content) (rest : List Node) (path : List ℕ) (node : Node) → HasAll content rest node → Each (HasAll content rest) rest → IsOnce node rest → count always rest < d
-      → tree_of tell d content path node ≡ tell path node ++ flat_map (λ child. tree_of tell d content (path_below path child) child) (children_of content node.id)
-  goes_on d content rest path node all alls once less = deep_enough d (suc d) content rest path node all alls once less (below_next (count always rest) d less)
+  pub goes_on : (d : ℕ) (content : Content) (rest : List Node) (path : List ℕ) (node : Node)
+      → HasAll content rest node → Each (HasAll content rest) rest → IsOnce node rest
+      → count always rest < d
+      → tree_of tell d content path node ≡ tell path node
+      ++ flat_map (λ child. tree_of tell d content (path_below path child) child)
+      (children_of content node.id)
+  goes_on d content rest path node all alls once less =
+      deep_enough d (suc d) content rest path node all alls once less
+      (below_next (count always rest) d less)

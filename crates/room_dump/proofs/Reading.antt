@@ -9,11 +9,13 @@ use Rattle.room_rows.specs.Keep.{HasCause, IfSeen, KeepLaws}
 use Rattle.room_rows.specs.Rows.{Rows}
 
 -- an error that `?` hands on
-handed_on : {X : Type 0} (r : Result X KeepFault) (e : KeepFault) → IsErrAnd r (λ x. x ≡ e) → r ≡ Err e
+handed_on : {X : Type 0} (r : Result X KeepFault) (e : KeepFault) → IsErrAnd r (λ x. x ≡ e)
+    → r ≡ Err e
 handed_on (Ok x) e h = absurd h
 handed_on (Err x) e h = ap Err h
 
-module _ {S : Type 0} (k : Ghosts S) (laws : KeepLaws k.rows k.failures k.writes k.Follows k.IsTrusted) where
+module _ {S : Type 0} (k : Ghosts S)
+    (laws : KeepLaws k.rows k.failures k.writes k.Follows k.IsTrusted) where
   -- calls that read, each of which answered
   pub record HasRead (a b : S) : Type 0 where
     pub follows : k.Follows a b
@@ -22,42 +24,74 @@ module _ {S : Type 0} (k : Ghosts S) (laws : KeepLaws k.rows k.failures k.writes
     pub same : k.IsTrusted a b → k.rows b ≡ k.rows a
 
   pub none_yet : (a : S) → HasRead a a
-  none_yet a = record { follows = laws.itself a; unwritten = refl; unfailed = refl; same = λ t. refl }
+  none_yet a =
+      record { follows = laws.itself a; unwritten = refl; unfailed = refl; same = λ t. refl }
 
   -- a read after others
-  pub read_on : {X : Type 0} (a b c : S) (x : X) {Blames : Rows → ℕ → Type 0} {Answers : Rows → X → Type 0} → HasRead a b → Reads k b c (Ok x) Blames Answers → HasRead a c
+  pub read_on : {X : Type 0} (a b c : S) (x : X) {Blames : Rows → ℕ → Type 0}
+      {Answers : Rows → X → Type 0} → HasRead a b → Reads k b c (Ok x) Blames Answers → HasRead a c
   read_on a b c x sofar read = record {
     follows = laws.on a b c sofar.follows read.follows;
     unwritten = read.unwritten ∙ sofar.unwritten;
     unfailed = read.unfailed ∙ sofar.unfailed;
-    same = λ t. read.same (laws.last a b c sofar.follows read.follows t) ∙ sofar.same (laws.first a b c sofar.follows read.follows t);
+    same =
+        λ t. read.same (laws.last a b c sofar.follows read.follows t)
+        ∙ sofar.same (laws.first a b c sofar.follows read.follows t);
   }
 
   -- what it answers, by the rows before the first read
-  pub answer_on : {X : Type 0} (a b c : S) (x : X) {Blames : Rows → ℕ → Type 0} {Answers : Rows → X → Type 0} → HasRead a b → Reads k b c (Ok x) Blames Answers → k.IsTrusted a c → Answers (k.rows a) x
+  pub answer_on : {X : Type 0} (a b c : S) (x : X) {Blames : Rows → ℕ → Type 0}
+      {Answers : Rows → X → Type 0} → HasRead a b → Reads k b c (Ok x) Blames Answers
+      → k.IsTrusted a c → Answers (k.rows a) x
   answer_on a b c x {Answers = Answers} sofar read t =
-      subst (λ (w : Rows). Answers w x) (sofar.same (laws.first a b c sofar.follows read.follows t)) (read.answers (laws.last a b c sofar.follows read.follows t))
+      subst (λ (w : Rows). Answers w x) (sofar.same (laws.first a b c sofar.follows read.follows t))
+      (read.answers (laws.last a b c sofar.follows read.follows t))
 
   -- where all reads answered, the call that made them answers
-  pub done : {Y : Type 0} (a c : S) (y : Y) {Blames : Rows → ℕ → Type 0} {Answers : Rows → Y → Type 0} → HasRead a c → (k.IsTrusted a c → Answers (k.rows a) y) → Reads k a c (Ok y) Blames Answers
-  done a c y sofar answers = record { follows = sofar.follows; unwritten = sofar.unwritten; same = sofar.same; answers = answers; unfailed = sofar.unfailed; fault = tt }
+  pub done : {Y : Type 0} (a c : S) (y : Y) {Blames : Rows → ℕ → Type 0}
+      {Answers : Rows → Y → Type 0} → HasRead a c → (k.IsTrusted a c → Answers (k.rows a) y)
+      → Reads k a c (Ok y) Blames Answers
+  done a c y sofar answers =
+      record {
+        follows = sofar.follows;
+        unwritten = sofar.unwritten;
+        same = sofar.same;
+        answers = answers;
+        unfailed = sofar.unfailed;
+        fault = tt;
+      }
 
   -- the rows themselves are at fault
-  pub damaged : {Y : Type 0} (a c : S) (id : ℕ) {Blames : Rows → ℕ → Type 0} {Answers : Rows → Y → Type 0} → HasRead a c → (k.IsTrusted a c → Blames (k.rows a) id) → Reads k {X = Y} a c (Err (Damaged id)) Blames Answers
-  damaged a c id sofar blames = record { follows = sofar.follows; unwritten = sofar.unwritten; same = sofar.same; answers = λ t. tt; unfailed = tt; fault = blames }
+  pub damaged : {Y : Type 0} (a c : S) (id : ℕ) {Blames : Rows → ℕ → Type 0}
+      {Answers : Rows → Y → Type 0} → HasRead a c → (k.IsTrusted a c → Blames (k.rows a) id)
+      → Reads k {X = Y} a c (Err (Damaged id)) Blames Answers
+  damaged a c id sofar blames =
+      record {
+        follows = sofar.follows;
+        unwritten = sofar.unwritten;
+        same = sofar.same;
+        answers = λ t. tt;
+        unfailed = tt;
+        fault = blames;
+      }
 
   -- a read after others fails, and so does the call that made it
-  pub fails : {X Y : Type 0} (a b c : S) (e : KeepFault) (r : Result Y KeepFault) {Blames Blames' : Rows → ℕ → Type 0} {Answers : Rows → X → Type 0} {Answers' : Rows → Y → Type 0}
+  pub fails : {X Y : Type 0} (a b c : S) (e : KeepFault) (r : Result Y KeepFault)
+      {Blames Blames' : Rows → ℕ → Type 0} {Answers : Rows → X → Type 0}
+      {Answers' : Rows → Y → Type 0}
       → (k.IsTrusted a b → (at : ℕ) → Blames (k.rows a) at → Blames' (k.rows a) at)
-      → HasRead a b → Reads k {X = X} b c (Err e) Blames Answers → IsErrAnd r (λ x. x ≡ e) → Reads k a c r Blames' Answers'
-  fails {X = X} {Y = Y} a b c e r {Blames} {Blames'} {Answers} {Answers'} blames sofar read is = subst (λ (result : Result Y KeepFault). Reads k a c result Blames' Answers') (sym (handed_on r e is)) (record {
-    follows = laws.on a b c sofar.follows read.follows;
-    unwritten = read.unwritten ∙ sofar.unwritten;
-    same = λ t. same e (sofar.same (before t)) (read.same (now t));
-    answers = λ t. tt;
-    unfailed = tt;
-    fault = cause e read.fault;
-  })
+      → HasRead a b → Reads k {X = X} b c (Err e) Blames Answers → IsErrAnd r (λ x. x ≡ e)
+      → Reads k a c r Blames' Answers'
+  fails {X = X} {Y = Y} a b c e r {Blames} {Blames'} {Answers} {Answers'} blames sofar read is =
+      subst (λ (result : Result Y KeepFault). Reads k a c result Blames' Answers')
+      (sym (handed_on r e is)) (record {
+        follows = laws.on a b c sofar.follows read.follows;
+        unwritten = read.unwritten ∙ sofar.unwritten;
+        same = λ t. same e (sofar.same (before t)) (read.same (now t));
+        answers = λ t. tt;
+        unfailed = tt;
+        fault = cause e read.fault;
+      })
     where
       before : k.IsTrusted a c → k.IsTrusted a b
       before t = laws.first a b c sofar.follows read.follows t
@@ -65,13 +99,19 @@ module _ {S : Type 0} (k : Ghosts S) (laws : KeepLaws k.rows k.failures k.writes
       now : k.IsTrusted a c → k.IsTrusted b c
       now t = laws.last a b c sofar.follows read.follows t
 
-      same : (e : KeepFault) → k.rows b ≡ k.rows a → IfSeen {X = X} (Err e) (k.rows c ≡ k.rows b) → IfSeen {X = Y} (Err e) (k.rows c ≡ k.rows a)
+      same : (e : KeepFault) → k.rows b ≡ k.rows a → IfSeen {X = X} (Err e) (k.rows c ≡ k.rows b)
+          → IfSeen {X = Y} (Err e) (k.rows c ≡ k.rows a)
       same Memory first h = tt
       same Store first h = tt
       same (Damaged id) first h = h ∙ first
 
-      cause : (e : KeepFault) → HasCause (k.failures b) (k.failures c) (λ at. k.IsTrusted b c → Blames (k.rows b) at) e
+      cause : (e : KeepFault)
+          → HasCause (k.failures b) (k.failures c) (λ at. k.IsTrusted b c → Blames (k.rows b) at) e
           → HasCause (k.failures a) (k.failures c) (λ at. k.IsTrusted a c → Blames' (k.rows a) at) e
       cause Memory h = tt
-      cause Store h = subst (λ (n : ℕ). HasCause n (k.failures c) (λ at. k.IsTrusted a c → Blames' (k.rows a) at) Store) sofar.unfailed h
-      cause (Damaged id) h = λ t. blames (before t) id (subst (λ (w : Rows). Blames w id) (sofar.same (before t)) (h (now t)))
+      cause Store h =
+          subst (λ (n : ℕ). HasCause n (k.failures c)
+          (λ at. k.IsTrusted a c → Blames' (k.rows a) at) Store) sofar.unfailed h
+      cause (Damaged id) h =
+          λ t. blames (before t) id
+          (subst (λ (w : Rows). Blames w id) (sofar.same (before t)) (h (now t)))

@@ -14,6 +14,8 @@ pub whole : TextIsWhole
 whole rows are root is depth deep =
     let most = length (numbers_of rows) in
     let t = begins_alone rows are root is [] in
-    deep_enough (object_lines rows.read) depth most rows.read t.rest [] root t.waits.0.0 t.rests t.once
-    (below_both (count always t.rest) most depth t.fewer deep) (below_both (count always t.rest) most most t.fewer (omega arith))
+    deep_enough (object_lines rows.read) depth most rows.read t.rest
+    [] root t.waits.0.0 t.rests t.once
+    (below_both (count always t.rest) most depth t.fewer deep)
+    (below_both (count always t.rest) most most t.fewer (omega arith))
     ∙ sym (told_from (object_lines rows.read) rows root is)

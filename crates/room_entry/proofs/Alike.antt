@@ -12,10 +12,13 @@ pub text_itself : (xs : List ℕ) → same_text xs xs ≡ true
 text_itself xs = (bytes_decides xs xs).1 refl
 
 -- a test of equality is one of texts, where no two values have the same text
-pub by_texts : {A : Type 0} (text : A → List ℕ) → ((a b : A) → text a ≡ text b → a ≡ b) → (a b : A) (r : Bool) → (r ≡ true → a ≡ b) → (a ≡ b → r ≡ true) → r ≡ same_text (text a) (text b)
+pub by_texts : {A : Type 0} (text : A → List ℕ) → ((a b : A) → text a ≡ text b → a ≡ b)
+    → (a b : A) (r : Bool) → (r ≡ true → a ≡ b) → (a ≡ b → r ≡ true)
+    → r ≡ same_text (text a) (text b)
 by_texts {A} text apart a b r says said = on r (same_text (text a) (text b)) refl says said
   where
-    on : (r t : Bool) → same_text (text a) (text b) ≡ t → (r ≡ true → a ≡ b) → (a ≡ b → r ≡ true) → r ≡ t
+    on : (r t : Bool) → same_text (text a) (text b) ≡ t → (r ≡ true → a ≡ b) → (a ≡ b → r ≡ true)
+        → r ≡ t
     on true true is says said = refl
     on true false is says said = sym is' ∙ is
       where
@@ -25,7 +28,10 @@ by_texts {A} text apart a b r says said = on r (same_text (text a) (text b)) ref
     on false false is says said = refl
 
 entry_itself : (a : Ace) → same_entry a a ≡ true
-entry_itself a = and_from _ _ (text_itself (kind_text a.kind)) (and_from _ _ (text_itself (flags_text a.flags)) (and_from _ _ (text_itself (who_key a.who)) (text_itself a.mask)))
+entry_itself a =
+    and_from _ _ (text_itself (kind_text a.kind))
+    (and_from _ _ (text_itself (flags_text a.flags))
+    (and_from _ _ (text_itself (who_key a.who)) (text_itself a.mask)))
 
 -- a list of entries is the same as itself
 pub entries_themselves : (xs : List Ace) → same_entries xs xs ≡ true
@@ -41,17 +47,24 @@ pub not_as_long : (xs ys : List Ace) → (length xs ≡ length ys → ⊥) → f
 not_as_long [] [] apart = absurd (apart refl)
 not_as_long [] (y ∷ ys) apart = refl
 not_as_long (x ∷ xs) [] apart = refl
-not_as_long (x ∷ xs) (y ∷ ys) apart = on (same_entry x y) (not_as_long xs ys (λ e. apart (ap suc e)))
+not_as_long (x ∷ xs) (y ∷ ys) apart =
+    on (same_entry x y) (not_as_long xs ys (λ e. apart (ap suc e)))
   where
     on : (t : Bool) → false ≡ same_entries xs ys → false ≡ (t && same_entries xs ys)
     on true rest = rest
     on false rest = refl
 
 -- the entries at one place, and those after it
-pub same_from : (xs ys : List Ace) (i : ℕ) (x y : Ace) → i < length xs → i < length ys → x ≡ get_or xs i x → y ≡ get_or ys i y
-    → same_entries (drop i xs) (drop i ys) ≡ (same_entry x y && same_entries (drop (i + 1) xs) (drop (i + 1) ys))
+pub same_from : (xs ys : List Ace) (i : ℕ) (x y : Ace) → i < length xs → i < length ys
+    → x ≡ get_or xs i x → y ≡ get_or ys i y
+    → same_entries (drop i xs) (drop i ys)
+    ≡ (same_entry x y && same_entries (drop (i + 1) xs) (drop (i + 1) ys))
 same_from xs ys i x y below below' is is' =
-    ap (λ l. same_entries l (drop i ys)) (at xs x below is) ∙ ap (same_entries (x ∷ drop (i + 1) xs)) (at ys y below' is')
+    ap (λ l. same_entries l (drop i ys)) (at xs x below is)
+    ∙ ap (same_entries (x ∷ drop (i + 1) xs)) (at ys y below' is')
   where
-    at : (zs : List Ace) (z : Ace) → i < length zs → z ≡ get_or zs i z → drop i zs ≡ z ∷ drop (i + 1) zs
-    at zs z below is = drop-cons zs i z below ∙ ap (λ (e : Ace). e ∷ drop (suc i) zs) (sym is) ∙ ap (λ (j : ℕ). z ∷ drop j zs) (sym (add-one i))
+    at : (zs : List Ace) (z : Ace) → i < length zs → z ≡ get_or zs i z
+        → drop i zs ≡ z ∷ drop (i + 1) zs
+    at zs z below is =
+        drop-cons zs i z below ∙ ap (λ (e : Ace). e ∷ drop (suc i) zs) (sym is)
+        ∙ ap (λ (j : ℕ). z ∷ drop j zs) (sym (add-one i))

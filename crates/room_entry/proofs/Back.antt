@@ -18,7 +18,8 @@ among-append : (xs ys : List ℕ) (c : ℕ) → is_among (xs ++ ys) c ≡ (is_am
 among-append [] ys c = refl
 among-append (x ∷ xs) ys c = on (x == c) (among-append xs ys c)
   where
-    on : (t : Bool) → is_among (xs ++ ys) c ≡ (is_among xs c || is_among ys c) → (t || is_among (xs ++ ys) c) ≡ ((t || is_among xs c) || is_among ys c)
+    on : (t : Bool) → is_among (xs ++ ys) c ≡ (is_among xs c || is_among ys c)
+        → (t || is_among (xs ++ ys) c) ≡ ((t || is_among xs c) || is_among ys c)
     on true rest = refl
     on false rest = rest
 
@@ -45,12 +46,29 @@ or_none false = refl
 -- the letters that are written for flags are read back as these flags
 pub flags_back : (f : EntryFlags) → flags_among (flags_text f) ≡ f
 flags_back f =
-    let file : is_among (flags_text f) 102 ≡ f.file_inherit = simp (among-append, among_letter, and_true, and_none, or_none) in
-    let directory : is_among (flags_text f) 100 ≡ f.directory_inherit = simp (among-append, among_letter, and_true, and_none, or_none) in
-    let propagate : is_among (flags_text f) 110 ≡ f.no_propagate_inherit = simp (among-append, among_letter, and_true, and_none, or_none) in
-    let only : is_among (flags_text f) 105 ≡ f.inherit_only = simp (among-append, among_letter, and_true, and_none, or_none) in
-    let success : is_among (flags_text f) 83 ≡ f.successful_access = simp (among-append, among_letter, and_true, and_none, or_none) in
-    let failure : is_among (flags_text f) 70 ≡ f.failed_access = simp (among-append, among_letter, and_true, and_none, or_none) in
-    let group : is_among (flags_text f) 103 ≡ f.identifier_group = simp (among-append, among_letter, and_true, and_none, or_none) in
-    let inherited : is_among (flags_text f) 73 ≡ f.inherited = simp (among-append, among_letter, and_true, and_none, or_none) in
-    λ i. record { file_inherit = file i; directory_inherit = directory i; no_propagate_inherit = propagate i; inherit_only = only i; successful_access = success i; failed_access = failure i; identifier_group = group i; inherited = inherited i }
+    let file : is_among (flags_text f) 102 ≡ f.file_inherit = simp
+    (among-append, among_letter, and_true, and_none, or_none) in
+    let directory : is_among (flags_text f) 100 ≡ f.directory_inherit = simp
+    (among-append, among_letter, and_true, and_none, or_none) in
+    let propagate : is_among (flags_text f) 110 ≡ f.no_propagate_inherit = simp
+    (among-append, among_letter, and_true, and_none, or_none) in
+    let only : is_among (flags_text f) 105 ≡ f.inherit_only = simp
+    (among-append, among_letter, and_true, and_none, or_none) in
+    let success : is_among (flags_text f) 83 ≡ f.successful_access = simp
+    (among-append, among_letter, and_true, and_none, or_none) in
+    let failure : is_among (flags_text f) 70 ≡ f.failed_access = simp
+    (among-append, among_letter, and_true, and_none, or_none) in
+    let group : is_among (flags_text f) 103 ≡ f.identifier_group = simp
+    (among-append, among_letter, and_true, and_none, or_none) in
+    let inherited : is_among (flags_text f) 73 ≡ f.inherited = simp
+    (among-append, among_letter, and_true, and_none, or_none) in
+    λ i. record {
+      file_inherit = file i;
+      directory_inherit = directory i;
+      no_propagate_inherit = propagate i;
+      inherit_only = only i;
+      successful_access = success i;
+      failed_access = failure i;
+      identifier_group = group i;
+      inherited = inherited i;
+    }

@@ -24,7 +24,8 @@ none_of n m found =
     ]
 
 -- where no byte is the separator, the text is the one piece
-pub pieces_whole : (p : ℕ → Bool) (xs : List ℕ) → length xs ≤ position_or_len p xs → slice_split p xs ≡ xs ∷ []
+pub pieces_whole : (p : ℕ → Bool) (xs : List ℕ) → length xs ≤ position_or_len p xs
+    → slice_split p xs ≡ xs ∷ []
 pieces_whole p [] whole = refl
 pieces_whole p (x ∷ xs) whole =
     elim (cases_Bool (p x)) [
@@ -33,15 +34,20 @@ pieces_whole p (x ∷ xs) whole =
     ]
 
 -- no separator stands in the bytes
-pub not_cut : (c : ℕ) (bytes : List ℕ) → None ≡ position (λ byte. byte == c) bytes → pieces c bytes ≡ bytes ∷ []
-not_cut c bytes none = pieces_whole (λ byte. byte == c) bytes (none_of (position_or_len (λ byte. byte == c) bytes) (length bytes) (sym none))
+pub not_cut : (c : ℕ) (bytes : List ℕ) → None ≡ position (λ byte. byte == c) bytes
+    → pieces c bytes ≡ bytes ∷ []
+not_cut c bytes none =
+    pieces_whole (λ byte. byte == c) bytes
+    (none_of (position_or_len (λ byte. byte == c) bytes) (length bytes) (sym none))
 
 -- the first separator stands at this place
-pub cut_at : (c : ℕ) (bytes : List ℕ) (i : ℕ) → Some i ≡ position (λ byte. byte == c) bytes → (i < length bytes) × (pieces c bytes ≡ take i bytes ∷ pieces c (drop (i + 1) bytes))
+pub cut_at : (c : ℕ) (bytes : List ℕ) (i : ℕ) → Some i ≡ position (λ byte. byte == c) bytes
+    → (i < length bytes) × (pieces c bytes ≡ take i bytes ∷ pieces c (drop (i + 1) bytes))
 cut_at c bytes i found =
     let place = place_of (position_or_len (λ byte. byte == c) bytes) (length bytes) i (sym found) in (
       omega (arith, place.0, place.1),
-      slice_split_first (λ byte. byte == c) bytes 0 place.0 ∙ ap (λ n. take n bytes ∷ pieces c (drop (n + 1) bytes)) place.1,
+      slice_split_first (λ byte. byte == c) bytes 0 place.0
+          ∙ ap (λ n. take n bytes ∷ pieces c (drop (n + 1) bytes)) place.1,
     )
 
 -- there is at least one piece
@@ -51,21 +57,28 @@ length-pieces c bs = let e = length-slice_split (λ b. eqb b c) bs in omega arit
 -- ---- names
 
 -- a text without `@` is a name exactly if it is a local part
-pub name_alone : (text : List ℕ) → pieces 64 text ≡ text ∷ [] → is_name text ≡ is_part is_local_byte text
+pub name_alone : (text : List ℕ) → pieces 64 text ≡ text ∷ []
+    → is_name text ≡ is_part is_local_byte text
 unfolding is_name
 name_alone text e = ap are_name_parts e
 
 -- a text with one `@` is a name exactly if a local part is before it and a domain after it
-pub name_with_domain : (text local rest : List ℕ) → pieces 64 text ≡ local ∷ pieces 64 rest → pieces 64 rest ≡ rest ∷ [] → is_name text ≡ (is_part is_local_byte local && is_part is_domain_byte rest)
+pub name_with_domain : (text local rest : List ℕ) → pieces 64 text ≡ local ∷ pieces 64 rest
+    → pieces 64 rest ≡ rest ∷ []
+    → is_name text ≡ (is_part is_local_byte local && is_part is_domain_byte rest)
 unfolding is_name
-name_with_domain text local rest e f = ap are_name_parts (e ∙ ap (λ (ps : List (List ℕ)). local ∷ ps) f)
+name_with_domain text local rest e f =
+    ap are_name_parts (e ∙ ap (λ (ps : List (List ℕ)). local ∷ ps) f)
 
-three_parts : (a b : List ℕ) (ps : List (List ℕ)) → 0 < length ps → are_name_parts (a ∷ b ∷ ps) ≡ false
+three_parts : (a b : List ℕ) (ps : List (List ℕ)) → 0 < length ps
+    → are_name_parts (a ∷ b ∷ ps) ≡ false
 three_parts a b [] some = absurd (omega arith)
 three_parts a b (p ∷ ps) some = refl
 
 -- a text with more than one `@` is no name
-pub no_name : (text local rest domain more : List ℕ) → pieces 64 text ≡ local ∷ pieces 64 rest → pieces 64 rest ≡ domain ∷ pieces 64 more → is_name text ≡ false
+pub no_name : (text local rest domain more : List ℕ) → pieces 64 text ≡ local ∷ pieces 64 rest
+    → pieces 64 rest ≡ domain ∷ pieces 64 more → is_name text ≡ false
 unfolding is_name
 no_name text local rest domain more e f =
-    ap are_name_parts (e ∙ ap (λ (ps : List (List ℕ)). local ∷ ps) f) ∙ three_parts local domain (pieces 64 more) (length-pieces 64 more)
+    ap are_name_parts (e ∙ ap (λ (ps : List (List ℕ)). local ∷ ps) f)
+    ∙ three_parts local domain (pieces 64 more) (length-pieces 64 more)

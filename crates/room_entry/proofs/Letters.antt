@@ -19,14 +19,18 @@ bits_in rows = map (λ row. row.0) rows
 abbrev fits : List (ℕ × ℕ) → List (ℕ × ℕ) → Bool
 fits table rows = list_all (λ row. letter_in table row.0 == row.1) rows
 
-table_text-fits : (n : ℕ) (table rows : List (ℕ × ℕ)) → fits table rows ≡ true → table_text n rows ≡ map (letter_in table) (filter (is_set n) (bits_in rows))
+table_text-fits : (n : ℕ) (table rows : List (ℕ × ℕ)) → fits table rows ≡ true
+    → table_text n rows ≡ map (letter_in table) (filter (is_set n) (bits_in rows))
 unfolding table_text
 table_text-fits n table [] fit = refl
 table_text-fits n table (row ∷ rows) fit =
     let parts = and_parts (letter_in table row.0 == row.1) (fits table rows) fit in
     let rest = table_text-fits n table rows parts.1 in
     elim (cases_Bool (is_set n row.0)) [
-      | inl e ↦ rw e (ap (λ l. l ∷ table_text n rows) (sym (eqb-true (letter_in table row.0) row.1 parts.0)) ∙ ap (λ ls. letter_in table row.0 ∷ ls) rest)
+      | inl e ↦
+          rw e
+          (ap (λ l. l ∷ table_text n rows) (sym (eqb-true (letter_in table row.0) row.1 parts.0))
+          ∙ ap (λ ls. letter_in table row.0 ∷ ls) rest)
       | inr e ↦ rw e rest
     ]
 
@@ -43,31 +47,46 @@ it_fits = refl
 
 -- the whole table gives the mask's text
 pub table_text-mask : (n : ℕ) → table_text n the_table ≡ mask_text (bits_of n)
-table_text-mask n = table_text-fits n the_table the_table it_fits ∙ ap (λ bits. map letter_of (filter (is_set n) bits)) bits_in_table
+table_text-mask n =
+    table_text-fits n the_table the_table it_fits
+    ∙ ap (λ bits. map letter_of (filter (is_set n) bits)) bits_in_table
 
 -- one more row, whose letter stands there or not
-pub table_text_more : (n : ℕ) (rows : List (ℕ × ℕ)) (i : ℕ) (row : ℕ × ℕ) → i < length rows → table_text n (drop i rows) ≡ cond (is_set n (get_or rows i row).0) ((get_or rows i row).1 ∷ table_text n (drop (i + 1) rows)) (table_text n (drop (i + 1) rows))
+pub table_text_more : (n : ℕ) (rows : List (ℕ × ℕ)) (i : ℕ) (row : ℕ × ℕ) → i < length rows
+    → table_text n (drop i rows)
+    ≡ cond (is_set n (get_or rows i row).0)
+    ((get_or rows i row).1 ∷ table_text n (drop (i + 1) rows)) (table_text n (drop (i + 1) rows))
 unfolding table_text
 table_text_more n rows i row below =
-    let here : drop i rows ≡ get_or rows i row ∷ drop (i + 1) rows = rw add-one (drop-cons rows i row below) in
+    let here : drop i rows ≡ get_or rows i row ∷ drop (i + 1) rows = rw add-one
+    (drop-cons rows i row below) in
     ap (table_text n) here
 
-pub table_text_all : (n : ℕ) (rows : List (ℕ × ℕ)) (i : ℕ) → length rows ≤ i → table_text n (drop i rows) ≡ []
+pub table_text_all : (n : ℕ) (rows : List (ℕ × ℕ)) (i : ℕ) → length rows ≤ i
+    → table_text n (drop i rows) ≡ []
 unfolding table_text
 table_text_all n rows i past = ap (table_text n) (drop_all i rows past)
 
 -- a turn that adds the row's letter, and one that doesn't
-pub table_text_pushed : (n : ℕ) (rows : List (ℕ × ℕ)) (i : ℕ) (text new : List ℕ) → i < length rows → is_set n (get_or rows i (0, 0)).0 ≡ true → new ≡ text ++ (get_or rows i (0, 0)).1 ∷ [] → new ++ table_text n (drop (i + 1) rows) ≡ text ++ table_text n (drop i rows)
+pub table_text_pushed : (n : ℕ) (rows : List (ℕ × ℕ)) (i : ℕ) (text new : List ℕ) → i < length rows
+    → is_set n (get_or rows i (0, 0)).0 ≡ true → new ≡ text ++ (get_or rows i (0, 0)).1 ∷ []
+    → new ++ table_text n (drop (i + 1) rows) ≡ text ++ table_text n (drop i rows)
 table_text_pushed n rows i text new below set pushed =
     let rest = table_text n (drop (i + 1) rows) in
     ap (λ (t : List ℕ). t ++ rest) pushed ∙ append_assoc text ((get_or rows i (0, 0)).1 ∷ []) rest
-    ∙ ap (λ (t : List ℕ). text ++ t) (sym (table_text_more n rows i (0, 0) below ∙ ap (λ b. cond b ((get_or rows i (0, 0)).1 ∷ rest) rest) set))
+    ∙ ap (λ (t : List ℕ). text ++ t)
+    (sym (table_text_more n rows i (0, 0) below
+    ∙ ap (λ b. cond b ((get_or rows i (0, 0)).1 ∷ rest) rest) set))
 
-pub table_text_passed : (n : ℕ) (rows : List (ℕ × ℕ)) (i : ℕ) (text new : List ℕ) → i < length rows → is_set n (get_or rows i (0, 0)).0 ≡ false → new ≡ text → new ++ table_text n (drop (i + 1) rows) ≡ text ++ table_text n (drop i rows)
+pub table_text_passed : (n : ℕ) (rows : List (ℕ × ℕ)) (i : ℕ) (text new : List ℕ) → i < length rows
+    → is_set n (get_or rows i (0, 0)).0 ≡ false → new ≡ text
+    → new ++ table_text n (drop (i + 1) rows) ≡ text ++ table_text n (drop i rows)
 table_text_passed n rows i text new below set same =
     let rest = table_text n (drop (i + 1) rows) in
     ap (λ (t : List ℕ). t ++ rest) same
-    ∙ ap (λ (t : List ℕ). text ++ t) (sym (table_text_more n rows i (0, 0) below ∙ ap (λ b. cond b ((get_or rows i (0, 0)).1 ∷ rest) rest) set))
+    ∙ ap (λ (t : List ℕ). text ++ t)
+    (sym (table_text_more n rows i (0, 0) below
+    ∙ ap (λ b. cond b ((get_or rows i (0, 0)).1 ∷ rest) rest) set))
 
 -- ---- one bit of a number
 
@@ -85,7 +104,8 @@ among_powers b (i ∷ is) h =
 -- each bit of a mask is a power of two
 power_of : (b : ℕ) → has all_bits b ≡ true → (i : ℕ) × (power i ≡ b)
 unfolding all_bits
-power_of b h = among_powers b (0 ∷ 1 ∷ 2 ∷ 3 ∷ 4 ∷ 5 ∷ 6 ∷ 7 ∷ 8 ∷ 9 ∷ 10 ∷ 16 ∷ 17 ∷ 18 ∷ 19 ∷ 20 ∷ []) h
+power_of b h =
+    among_powers b (0 ∷ 1 ∷ 2 ∷ 3 ∷ 4 ∷ 5 ∷ 6 ∷ 7 ∷ 8 ∷ 9 ∷ 10 ∷ 16 ∷ 17 ∷ 18 ∷ 19 ∷ 20 ∷ []) h
 
 times_bit : (t q : ℕ) → t < 2 → 0 < q → not (t * q == 0) ≡ (t == 1)
 times_bit t q below above =
@@ -102,13 +122,22 @@ pub and_is_set : (n b : ℕ) → has all_bits b ≡ true → not (bit_and n b ==
 and_is_set n b h =
     let p = power_of b h in
     subst (λ (x : ℕ). not (bit_and n x == 0) ≡ is_set n x) p.1
-    (ap (λ m. not (m == 0)) (and_pow n p.0) ∙ times_bit (bit_at n p.0) (2 ^ p.0) (bit_at-lt n p.0) (pow_pos p.0))
+    (ap (λ m. not (m == 0)) (and_pow n p.0)
+    ∙ times_bit (bit_at n p.0) (2 ^ p.0) (bit_at-lt n p.0) (pow_pos p.0))
 
 -- a row of a table of bits and letters
-pub row_at : (rows : List (ℕ × ℕ)) (i : ℕ) → i < length rows → list_all (λ row. has all_bits row.0 && nat_lt row.1 128) rows ≡ true → (has all_bits (get_or rows i (0, 0)).0 ≡ true) × ((get_or rows i (0, 0)).1 < 128)
+pub row_at : (rows : List (ℕ × ℕ)) (i : ℕ) → i < length rows
+    → list_all (λ row. has all_bits row.0 && nat_lt row.1 128) rows ≡ true
+    → (has all_bits (get_or rows i (0, 0)).0 ≡ true) × ((get_or rows i (0, 0)).1 < 128)
 row_at rows i below all =
     let row = get_or rows i (0, 0) in
     elim (cases_Bool (has all_bits row.0 && nat_lt row.1 128)) [
-      | inl is ↦ (let parts = and_parts (has all_bits row.0) (nat_lt row.1 128) is in (parts.0, grind (arith, nat_tests)))
-      | inr isnt ↦ absurd (false≢true (sym (list_all_at (λ (r : ℕ × ℕ). has all_bits r.0 && nat_lt r.1 128) rows i (0, 0) below isnt) ∙ all))
+      | inl is ↦
+          (let parts = and_parts (has all_bits row.0) (nat_lt row.1 128) is in
+          (parts.0, grind (arith, nat_tests)))
+      | inr isnt ↦
+          absurd
+          (false≢true
+          (sym (list_all_at (λ (r : ℕ × ℕ). has all_bits r.0 && nat_lt r.1 128) rows i
+          (0, 0) below isnt) ∙ all))
     ]

@@ -26,12 +26,17 @@ unfolding all_bits
 spelled-nothing = refl
 
 -- one letter more
-pub spelled_more : (text : List ℕ) (i : ℕ) → i < length text → filter (λ b. has (spelled (take i text)) b || has (bit_named (get_or text i 0)) b) all_bits ≡ spelled (take (i + 1) text)
+pub spelled_more : (text : List ℕ) (i : ℕ) → i < length text
+    → filter (λ b. has (spelled (take i text)) b || has (bit_named (get_or text i 0)) b) all_bits
+    ≡ spelled (take (i + 1) text)
 spelled_more text i below =
     let letter = get_or text i 0 in
-    chosen_agree (λ b. has (spelled (take i text)) b || has (bit_named letter) b) (λ b. is_among (take (i + 1) text) (letter_of b)) (λ b h.
-    ap (λ t. t || has (bit_named letter) b) (has-chosen (λ bit. is_among (take i text) (letter_of bit)) b h)
-    ∙ ap (λ t. is_among (take i text) (letter_of b) || t) (has-chosen (λ bit. letter == letter_of bit) b h ∙ sym (or_none (letter == letter_of b)))
+    chosen_agree (λ b. has (spelled (take i text)) b || has (bit_named letter) b)
+    (λ b. is_among (take (i + 1) text) (letter_of b)) (λ b h.
+    ap (λ t. t || has (bit_named letter) b)
+    (has-chosen (λ bit. is_among (take i text) (letter_of bit)) b h)
+    ∙ ap (λ t. is_among (take i text) (letter_of b) || t)
+    (has-chosen (λ bit. letter == letter_of bit) b h ∙ sym (or_none (letter == letter_of b)))
     ∙ sym (list_any-append (λ other. other == letter_of b) (take i text) (letter ∷ []))
     ∙ ap (λ (l : List ℕ). is_among l (letter_of b)) (sym (take_more text i 0 below)))
   where
@@ -39,22 +44,29 @@ spelled_more text i below =
     or_none true = refl
     or_none false = refl
 
-pub letters_more : (text : List ℕ) (i : ℕ) → i < length text → are_letters (take i text) ≡ true → is_among mask_letters (get_or text i 0) ≡ true → are_letters (take (i + 1) text) ≡ true
+pub letters_more : (text : List ℕ) (i : ℕ) → i < length text → are_letters (take i text) ≡ true
+    → is_among mask_letters (get_or text i 0) ≡ true → are_letters (take (i + 1) text) ≡ true
 letters_more text i below before here =
-    ap are_letters (take_more text i 0 below) ∙ list_all-append (is_among mask_letters) (take i text) (get_or text i 0 ∷ [])
-    ∙ ap (λ t. t && (is_among mask_letters (get_or text i 0) && true)) before ∙ ap (λ t. t && true) here
+    ap are_letters (take_more text i 0 below)
+    ∙ list_all-append (is_among mask_letters) (take i text) (get_or text i 0 ∷ [])
+    ∙ ap (λ t. t && (is_among mask_letters (get_or text i 0) && true)) before
+    ∙ ap (λ t. t && true) here
 
 -- all letters are read
-pub all_read : (text : List ℕ) (i : ℕ) → length text ≤ i → are_letters (take i text) ≡ true → Ok (spelled (take i text)) ≡ read_mask_of text
+pub all_read : (text : List ℕ) (i : ℕ) → length text ≤ i → are_letters (take i text) ≡ true
+    → Ok (spelled (take i text)) ≡ read_mask_of text
 all_read text i past letters =
     let whole = take_all i text past in
     ap (λ (l : List ℕ). Ok (spelled l)) whole
-    ∙ sym (ap (λ t. ok_or (cond t (Some (spelled text)) None) BadMask) (sym (ap are_letters whole) ∙ letters))
+    ∙ sym (ap (λ t. ok_or (cond t (Some (spelled text)) None) BadMask)
+    (sym (ap are_letters whole) ∙ letters))
 
 -- a letter that stands for no bit
-pub bad_letter : (text : List ℕ) (i : ℕ) → i < length text → is_among mask_letters (get_or text i 0) ≡ false → Err BadMask ≡ read_mask_of text
+pub bad_letter : (text : List ℕ) (i : ℕ) → i < length text
+    → is_among mask_letters (get_or text i 0) ≡ false → Err BadMask ≡ read_mask_of text
 bad_letter text i below none =
-    sym (ap (λ t. ok_or (cond t (Some (spelled text)) None) BadMask) (list_all_at (is_among mask_letters) text i 0 below none))
+    sym (ap (λ t. ok_or (cond t (Some (spelled text)) None) BadMask)
+    (list_all_at (is_among mask_letters) text i 0 below none))
 
 -- ---- one letter
 
@@ -70,20 +82,33 @@ pub record Names (letter bits : ℕ) : Type 0 where
 abbrev found_in : List (ℕ × ℕ) → ℕ → Option ℕ
 found_in rows letter = option_map (λ row. row.0) (find (λ row. row.1 == letter) rows)
 
-names_row : (row : ℕ × ℕ) (letter : ℕ) → (row.1 == letter) ≡ true → is_row row ≡ true → is_among mask_letters letter ≡ true → Names letter row.0
+names_row : (row : ℕ × ℕ) (letter : ℕ) → (row.1 == letter) ≡ true → is_row row ≡ true
+    → is_among mask_letters letter ≡ true → Names letter row.0
 names_row row letter same good known =
     let parts = and_parts (same_text (bits_of row.0) (bit_named row.1)) _ good in
     let it = eqb-true row.1 letter same in
-    record { letter_is_known = known; bit = same_text-true _ _ parts.0 ∙ ap bit_named it; known = eqb-true _ _ parts.1 }
+    record {
+      letter_is_known = known;
+      bit = same_text-true _ _ parts.0 ∙ ap bit_named it;
+      known = eqb-true _ _ parts.1;
+    }
 
-in_rows : (rows : List (ℕ × ℕ)) (letter : ℕ) (known : Bool) → list_all is_row rows ≡ true → (is_among (map (λ row. row.1) rows) letter ≡ true → is_among mask_letters letter ≡ true)
-    → MatchOption (found_in rows letter) (is_among (map (λ row. row.1) rows) letter ≡ false) (λ bits. Names letter bits)
+in_rows : (rows : List (ℕ × ℕ)) (letter : ℕ) (known : Bool) → list_all is_row rows ≡ true
+    → (is_among (map (λ row. row.1) rows) letter ≡ true → is_among mask_letters letter ≡ true)
+    → MatchOption (found_in rows letter) (is_among (map (λ row. row.1) rows) letter ≡ false)
+    (λ bits. Names letter bits)
 in_rows [] letter known good within = refl
 in_rows (row ∷ rows) letter known good within =
     let parts = and_parts (is_row row) (list_all is_row rows) good in
     elim (cases_Bool (row.1 == letter)) [
-      | inl e ↦ rw e (names_row row letter e parts.0 (within (ap (λ t. t || is_among (map (λ (r : ℕ × ℕ). r.1) rows) letter) e)))
-      | inr e ↦ rw e (in_rows rows letter known parts.1 (λ h. within (ap (λ t. t || is_among (map (λ (r : ℕ × ℕ). r.1) rows) letter) e ∙ h)))
+      | inl e ↦
+          rw e
+          (names_row row letter e parts.0
+          (within (ap (λ t. t || is_among (map (λ (r : ℕ × ℕ). r.1) rows) letter) e)))
+      | inr e ↦
+          rw e
+          (in_rows rows letter known parts.1
+          (λ h. within (ap (λ t. t || is_among (map (λ (r : ℕ × ℕ). r.1) rows) letter) e ∙ h)))
     ]
 
 all_rows : list_all is_row the_table ≡ true
@@ -95,21 +120,31 @@ unfolding all_bits mask_letters
 letters_in = refl
 
 -- what the table says of a letter
-pub in_table : (letter : ℕ) → MatchOption (found_in the_table letter) (is_among mask_letters letter ≡ false) (λ bits. Names letter bits)
+pub in_table : (letter : ℕ)
+    → MatchOption (found_in the_table letter) (is_among mask_letters letter ≡ false)
+    (λ bits. Names letter bits)
 in_table letter =
-    let found = in_rows the_table letter true all_rows (λ h. ap (λ (l : List ℕ). is_among l letter) (sym letters_in) ∙ h) in
-    subst (λ (l : List ℕ). MatchOption (found_in the_table letter) (is_among l letter ≡ false) (λ bits. Names letter bits)) letters_in found
+    let found = in_rows the_table letter true all_rows
+    (λ h. ap (λ (l : List ℕ). is_among l letter) (sym letters_in) ∙ h) in
+    subst (λ (l : List ℕ). MatchOption (found_in the_table letter) (is_among l letter ≡ false)
+    (λ bits. Names letter bits)) letters_in found
 
 -- the table as the code has it
 abbrev pub letters_table : List (ℕ × ℕ)
 letters_table =
-    (0x1, 114) ∷ (0x2, 119) ∷ (0x4, 97) ∷ (0x8, 110) ∷ (0x10, 78) ∷ (0x20, 120) ∷ (0x40, 68) ∷ (0x80, 116) ∷ (0x100, 84) ∷ (0x200, 104)
-    ∷ (0x400, 72) ∷ (0x10000, 100) ∷ (0x20000, 99) ∷ (0x40000, 67) ∷ (0x80000, 111) ∷ (0x100000, 121) ∷ []
+    (0x1, 114) ∷ (0x2, 119) ∷ (0x4, 97) ∷ (0x8, 110) ∷ (0x10, 78) ∷ (0x20, 120) ∷ (0x40, 68)
+    ∷ (0x80, 116) ∷ (0x100, 84) ∷ (0x200, 104)
+    ∷ (0x400, 72) ∷ (0x10000, 100) ∷ (0x20000, 99) ∷ (0x40000, 67) ∷ (0x80000, 111)
+    ∷ (0x100000, 121) ∷ []
 
 table_is : the_table ≡ letters_table
 unfolding all_bits mask_letters
 table_is = refl
 
-pub row_found : (letter : ℕ) (found : Option ℕ) → found ≡ option_map (λ row. row.0) (find (λ row. row.1 == letter) letters_table) → MatchOption found (is_among mask_letters letter ≡ false) (λ bits. Names letter bits)
+pub row_found : (letter : ℕ) (found : Option ℕ)
+    → found ≡ option_map (λ row. row.0) (find (λ row. row.1 == letter) letters_table)
+    → MatchOption found (is_among mask_letters letter ≡ false) (λ bits. Names letter bits)
 row_found letter found e =
-    subst (λ (o : Option ℕ). MatchOption o (is_among mask_letters letter ≡ false) (λ bits. Names letter bits)) (sym (e ∙ ap (λ (t : List (ℕ × ℕ)). found_in t letter) (sym table_is))) (in_table letter)
+    subst (λ (o : Option ℕ). MatchOption o (is_among mask_letters letter ≡ false)
+    (λ bits. Names letter bits))
+    (sym (e ∙ ap (λ (t : List (ℕ × ℕ)). found_in t letter) (sym table_is))) (in_table letter)

@@ -21,16 +21,25 @@ not_after Greater le = sym le
 
 -- a text that is no less than the last one
 pub rising_push : (xs : List (List ℕ)) (y : List ℕ)
-    → ((d : List ℕ) → 0 < length xs → is_le (slice_cmp nat_cmp (get_or xs (length xs - 1) d) y) ≡ true)
+    → ((d : List ℕ) → 0 < length xs
+    → is_le (slice_cmp nat_cmp (get_or xs (length xs - 1) d) y) ≡ true)
     → AreRising xs → AreRising (xs ++ y ∷ [])
 rising_push xs y last up k d low below =
     let long = length_push xs y in
     ⊎_elim
-    (λ inside. rw (get_or_append_left xs (y ∷ []) d (k + 1) inside, get_or_append_left xs (y ∷ []) d k (omega arith)) (up k d low inside))
+    (λ inside. rw (
+      get_or_append_left xs (y ∷ []) d (k + 1) inside,
+      get_or_append_left xs (y ∷ []) d k (omega arith),
+    ) (up k d low inside))
     (λ past.
     let at : length xs - 1 ≡ k = omega arith in
-    rw (get_or_push xs y d (k + 1) (omega arith), get_or_append_left xs (y ∷ []) d k (omega arith), nat_list_cmp_total.antisymm y (get_or xs k d))
-    (not_after _ (ap (λ n. is_le (slice_cmp nat_cmp (get_or xs n d) y)) (sym at) ∙ last d (omega arith))))
+    rw (
+      get_or_push xs y d (k + 1) (omega arith),
+      get_or_append_left xs (y ∷ []) d k (omega arith),
+      nat_list_cmp_total.antisymm y (get_or xs k d),
+    )
+    (not_after _ (ap (λ n. is_le (slice_cmp nat_cmp (get_or xs n d) y)) (sym at)
+    ∙ last d (omega arith))))
     (cases_lt (k + 1) (length xs))
 
 unlike : (o : Ordering) → (o ≡ Less) → is_eq o ≡ false
@@ -38,11 +47,14 @@ unlike o is = ap is_eq is
 
 -- what a binary search says of texts in order
 pub searched : (xs : List (List ℕ)) (name : List ℕ) (r : Result ℕ ℕ) → AreRising xs
-    → IsSearchInRange r (length xs) → IsBinarySearchResult (λ other. slice_cmp nat_cmp other name) xs r
+    → IsSearchInRange r (length xs)
+    → IsBinarySearchResult (λ other. slice_cmp nat_cmp other name) xs r
     → is_ok r ≡ list_any (λ other. same_text other name) xs
 searched xs name (Ok i) up within found =
-    sym (list_any_at (λ other. same_text other name) xs i name within (texts_ties _ name ∙ ap is_eq (found name)))
+    sym (list_any_at (λ other. same_text other name) xs i name within
+    (texts_ties _ name ∙ ap is_eq (found name)))
 searched xs name (Err i) up within found =
     let parts = found (searchable_from_sorted nat_list_cmp_total (λ x. x) xs name up) in
     sym (list_any_none (λ other. same_text other name) xs (λ k d below. texts_ties _ name ∙
-    ⊎_elim (λ before. ap is_eq (parts.0 k d (omega arith) before)) (λ behind. ap is_eq (parts.1 k d behind below)) (cases_lt k i)))
+    ⊎_elim (λ before. ap is_eq (parts.0 k d (omega arith) before))
+    (λ behind. ap is_eq (parts.1 k d behind below)) (cases_lt k i)))

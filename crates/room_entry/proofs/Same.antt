@@ -13,7 +13,8 @@ use Rattle.room_entry.specs.declared.entry.Who.TheVariants.{Owner, Group, Everyo
 use Rattle.room_entry.proofs.Back.{kind_back, flags_back}
 
 kind_equal : (a b : EntryKind) → kind_text a ≡ kind_text b → a ≡ b
-kind_equal a b same = let known : Some a ≡ Some b = sym (kind_back a) ∙ ap kind_of same ∙ kind_back b in cc
+kind_equal a b same = let known : Some a ≡ Some b =
+    sym (kind_back a) ∙ ap kind_of same ∙ kind_back b in cc
 
 -- flags with the same letters are equal
 pub flags_equal : (a b : EntryFlags) → flags_text a ≡ flags_text b → a ≡ b
@@ -46,7 +47,8 @@ entry_equal : (a b : Ace) → same_entry a b ≡ true → a ≡ b
 entry_equal a b same =
     let first = and_parts (same_text (kind_text a.kind) (kind_text b.kind)) _ same in
     let second = and_parts (same_text (flags_text a.flags) (flags_text b.flags)) _ first.1 in
-    let third = and_parts (same_text (who_key a.who) (who_key b.who)) (same_text a.mask b.mask) second.1 in
+    let third = and_parts (same_text (who_key a.who) (who_key b.who))
+    (same_text a.mask b.mask) second.1 in
     let kind = kind_equal a.kind b.kind (text_equal _ _ (sym first.0)) in
     let flags = flags_equal a.flags b.flags (text_equal _ _ (sym second.0)) in
     let who = who_equal a.who b.who (text_equal _ _ (sym third.0)) in

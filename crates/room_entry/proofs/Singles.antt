@@ -14,48 +14,73 @@ use Rattle.room_entry.proofs.Texts.{same_text-true}
 abbrev pub singles_in : ℕ → List (ℕ × ℕ) → List (List ℕ)
 singles_in n rows = map (λ bit. bit ∷ []) (filter (is_set n) (map (λ row. row.0) rows))
 
-one_row : (n : ℕ) (row : ℕ × ℕ) (rows : List (ℕ × ℕ)) → singles_in n (row ∷ rows) ≡ cond (is_set n row.0) ((row.0 ∷ []) ∷ singles_in n rows) (singles_in n rows)
+one_row : (n : ℕ) (row : ℕ × ℕ) (rows : List (ℕ × ℕ))
+    → singles_in n (row ∷ rows)
+    ≡ cond (is_set n row.0) ((row.0 ∷ []) ∷ singles_in n rows) (singles_in n rows)
 one_row n row rows = on (is_set n row.0)
   where
-    on : (t : Bool) → map (λ bit. bit ∷ []) (cond t (row.0 ∷ filter (is_set n) (map (λ r. r.0) rows)) (filter (is_set n) (map (λ r. r.0) rows))) ≡ cond t ((row.0 ∷ []) ∷ singles_in n rows) (singles_in n rows)
+    on : (t : Bool)
+        → map (λ bit. bit ∷ [])
+        (cond t (row.0 ∷ filter (is_set n) (map (λ r. r.0) rows))
+        (filter (is_set n) (map (λ r. r.0) rows)))
+        ≡ cond t ((row.0 ∷ []) ∷ singles_in n rows) (singles_in n rows)
     on true = refl
     on false = refl
 
 singles_more : (n : ℕ) (rows : List (ℕ × ℕ)) (i : ℕ) → i < length rows
-    → singles_in n (drop i rows) ≡ cond (is_set n (get_or rows i (0, 0)).0) (((get_or rows i (0, 0)).0 ∷ []) ∷ singles_in n (drop (i + 1) rows)) (singles_in n (drop (i + 1) rows))
+    → singles_in n (drop i rows)
+    ≡ cond (is_set n (get_or rows i (0, 0)).0)
+    (((get_or rows i (0, 0)).0 ∷ []) ∷ singles_in n (drop (i + 1) rows))
+    (singles_in n (drop (i + 1) rows))
 singles_more n rows i below =
-    let here : drop i rows ≡ get_or rows i (0, 0) ∷ drop (i + 1) rows = rw add-one (drop-cons rows i (0, 0) below) in
+    let here : drop i rows ≡ get_or rows i (0, 0) ∷ drop (i + 1) rows = rw add-one
+    (drop-cons rows i (0, 0) below) in
     ap (singles_in n) here ∙ one_row n (get_or rows i (0, 0)) (drop (i + 1) rows)
 
 -- a turn that adds the row's bit, and one that doesn't
-pub singles_pushed : (n : ℕ) (rows : List (ℕ × ℕ)) (i : ℕ) (masks new : List (List ℕ)) → i < length rows → is_set n (get_or rows i (0, 0)).0 ≡ true → new ≡ masks ++ ((get_or rows i (0, 0)).0 ∷ []) ∷ []
+pub singles_pushed : (n : ℕ) (rows : List (ℕ × ℕ)) (i : ℕ) (masks new : List (List ℕ))
+    → i < length rows → is_set n (get_or rows i (0, 0)).0 ≡ true
+    → new ≡ masks ++ ((get_or rows i (0, 0)).0 ∷ []) ∷ []
     → new ++ singles_in n (drop (i + 1) rows) ≡ masks ++ singles_in n (drop i rows)
 singles_pushed n rows i masks new below set pushed =
     let bit = (get_or rows i (0, 0)).0 in
     let rest = singles_in n (drop (i + 1) rows) in
     ap (λ (l : List (List ℕ)). l ++ rest) pushed ∙ append_assoc masks ((bit ∷ []) ∷ []) rest
-    ∙ ap (λ (l : List (List ℕ)). masks ++ l) (sym (singles_more n rows i below ∙ ap (λ t. cond t ((bit ∷ []) ∷ rest) rest) set))
+    ∙ ap (λ (l : List (List ℕ)). masks ++ l)
+    (sym (singles_more n rows i below ∙ ap (λ t. cond t ((bit ∷ []) ∷ rest) rest) set))
 
-pub singles_passed : (n : ℕ) (rows : List (ℕ × ℕ)) (i : ℕ) (masks new : List (List ℕ)) → i < length rows → is_set n (get_or rows i (0, 0)).0 ≡ false → new ≡ masks → new ++ singles_in n (drop (i + 1) rows) ≡ masks ++ singles_in n (drop i rows)
+pub singles_passed : (n : ℕ) (rows : List (ℕ × ℕ)) (i : ℕ) (masks new : List (List ℕ))
+    → i < length rows → is_set n (get_or rows i (0, 0)).0 ≡ false → new ≡ masks
+    → new ++ singles_in n (drop (i + 1) rows) ≡ masks ++ singles_in n (drop i rows)
 singles_passed n rows i masks new below set same =
     let bit = (get_or rows i (0, 0)).0 in
     let rest = singles_in n (drop (i + 1) rows) in
     ap (λ (l : List (List ℕ)). l ++ rest) same
-    ∙ ap (λ (l : List (List ℕ)). masks ++ l) (sym (singles_more n rows i below ∙ ap (λ t. cond t ((bit ∷ []) ∷ rest) rest) set))
+    ∙ ap (λ (l : List (List ℕ)). masks ++ l)
+    (sym (singles_more n rows i below ∙ ap (λ t. cond t ((bit ∷ []) ∷ rest) rest) set))
 
 -- a row of such a table has the number of one bit
 pub record IsOne (bit : ℕ) : Type 0 where
   pub known : bit_and bit 0x1F07FF ≡ bit
   pub alone : bits_of bit ≡ bit ∷ []
 
-pub single_at : (rows : List (ℕ × ℕ)) (i : ℕ) → i < length rows → list_all (λ row. is_single row.0) rows ≡ true → IsOne (get_or rows i (0, 0)).0
+pub single_at : (rows : List (ℕ × ℕ)) (i : ℕ) → i < length rows
+    → list_all (λ row. is_single row.0) rows ≡ true → IsOne (get_or rows i (0, 0)).0
 single_at rows i below all =
     let bit = (get_or rows i (0, 0)).0 in
     elim (cases_Bool (is_single bit)) [
       | inl is ↦
-          let parts = and_parts (nat_lt 0 bit && (bit_and bit 0x1F07FF == bit)) (same_text (bits_of bit) (bit ∷ [])) is in
-          record { known = eqb-true (bit_and bit 0x1F07FF) bit (and_parts (nat_lt 0 bit) (bit_and bit 0x1F07FF == bit) parts.0).1; alone = same_text-true (bits_of bit) (bit ∷ []) parts.1 }
-      | inr isnt ↦ absurd (false≢true (sym (list_all_at (λ row. is_single row.0) rows i (0, 0) below isnt) ∙ all))
+          let parts = and_parts (nat_lt 0 bit && (bit_and bit 0x1F07FF == bit))
+          (same_text (bits_of bit) (bit ∷ [])) is in
+          record {
+            known = eqb-true (bit_and bit 0x1F07FF) bit
+                (and_parts (nat_lt 0 bit) (bit_and bit 0x1F07FF == bit) parts.0).1;
+            alone =
+                same_text-true (bits_of bit) (bit ∷ []) parts.1;
+          }
+      | inr isnt ↦
+          absurd
+          (false≢true (sym (list_all_at (λ row. is_single row.0) rows i (0, 0) below isnt) ∙ all))
     ]
 
 -- the table of the code

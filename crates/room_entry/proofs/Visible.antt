@@ -24,12 +24,14 @@ abbrev pub are_visible : List ℕ → Bool
 are_visible text = list_all is_visible text
 
 -- a range of visible bytes
-visible_between : (low high byte : ℕ) → 33 ≤ low → high ≤ 126 → is_between low high byte ≡ true → is_visible byte ≡ true
+visible_between : (low high byte : ℕ) → 33 ≤ low → high ≤ 126 → is_between low high byte ≡ true
+    → is_visible byte ≡ true
 visible_between low high byte above below holds =
     let parts = and_parts (nat_le low byte) (nat_le byte high) holds in
     let from : low ≤ byte = leb-true low byte parts.0 in
     let to : byte ≤ high = leb-true byte high parts.1 in
-    and_from (nat_le 33 byte) (nat_le byte 126) (le-leb 33 byte (omega arith)) (le-leb byte 126 (omega arith))
+    and_from (nat_le 33 byte) (nat_le byte 126) (le-leb 33 byte (omega arith))
+    (le-leb byte 126 (omega arith))
 
 visible_letter : (byte : ℕ) → is_ascii_alphanumeric byte ≡ true → is_visible byte ≡ true
 visible_letter byte holds =
@@ -55,38 +57,50 @@ visible_domain byte holds =
       | inr mark ↦ at_bit is_visible (codes ".-") byte refl mark
     ]
 
-visible_part : (p : ℕ → Bool) (text : List ℕ) → ((byte : ℕ) → p byte ≡ true → is_visible byte ≡ true) → is_part p text ≡ true → are_visible text ≡ true
-visible_part p text each holds = all_imply p is_visible text each (and_parts _ (list_all p text) holds).1
+visible_part : (p : ℕ → Bool) (text : List ℕ)
+    → ((byte : ℕ) → p byte ≡ true → is_visible byte ≡ true) → is_part p text ≡ true
+    → are_visible text ≡ true
+visible_part p text each holds =
+    all_imply p is_visible text each (and_parts _ (list_all p text) holds).1
 
-visible_parts : (parts : List (List ℕ)) → are_name_parts parts ≡ true → are_visible (join_with_byte 64 parts) ≡ true
+visible_parts : (parts : List (List ℕ)) → are_name_parts parts ≡ true
+    → are_visible (join_with_byte 64 parts) ≡ true
 visible_parts [] holds = absurd (false≢true holds)
 visible_parts (local ∷ []) holds = visible_part is_local_byte local visible_local holds
 visible_parts (local ∷ domain ∷ []) holds =
     let both = and_parts (is_part is_local_byte local) (is_part is_domain_byte domain) holds in
-    all-append is_visible local (64 ∷ domain) (visible_part is_local_byte local visible_local both.0) (visible_part is_domain_byte domain visible_domain both.1)
+    all-append is_visible local (64 ∷ domain)
+    (visible_part is_local_byte local visible_local both.0)
+    (visible_part is_domain_byte domain visible_domain both.1)
 visible_parts (local ∷ domain ∷ other ∷ rest) holds = absurd (false≢true holds)
 
 -- a name has visible bytes alone
 pub visible_name : (name : List ℕ) → is_name name ≡ true → are_visible name ≡ true
 unfolding is_name
-visible_name name holds = subst (λ (text : List ℕ). are_visible text ≡ true) (join_with_byte-slice_split 64 name) (visible_parts (pieces 64 name) holds)
+visible_name name holds =
+    subst (λ (text : List ℕ). are_visible text ≡ true) (join_with_byte-slice_split 64 name)
+    (visible_parts (pieces 64 name) holds)
 
 -- ---- what visible bytes are
 
 ascii_byte : (byte : ℕ) → is_visible byte ≡ true → nat_lt byte 128 ≡ true
 ascii_byte byte shown =
-    let most : byte ≤ 126 = leb-true byte 126 (and_parts (nat_le 33 byte) (nat_le byte 126) shown).1 in
+    let most : byte ≤ 126 = leb-true byte 126
+    (and_parts (nat_le 33 byte) (nat_le byte 126) shown).1 in
     lt-ltb byte 128 (omega arith)
 
-visible_ascii : (text : List ℕ) → are_visible text ≡ true → list_all (λ byte. nat_lt byte 128) text ≡ true
+visible_ascii : (text : List ℕ) → are_visible text ≡ true
+    → list_all (λ byte. nat_lt byte 128) text ≡ true
 visible_ascii text shown = all_imply is_visible (λ byte. nat_lt byte 128) text ascii_byte shown
 
 -- a text of visible bytes is UTF-8
 pub visible_utf8 : (text : List ℕ) → are_visible text ≡ true → is_utf8 text ≡ true
-visible_utf8 text shown = or_left (list_all (λ byte. nat_lt byte 128) text) _ (visible_ascii text shown)
+visible_utf8 text shown =
+    or_left (list_all (λ byte. nat_lt byte 128) text) _ (visible_ascii text shown)
 
 -- each byte of a name is below 128
-pub name_ascii : (name : List ℕ) → is_name name ≡ true → list_all (λ byte. nat_lt byte 128) name ≡ true
+pub name_ascii : (name : List ℕ) → is_name name ≡ true
+    → list_all (λ byte. nat_lt byte 128) name ≡ true
 name_ascii name holds = visible_ascii name (visible_name name holds)
 
 -- a name is UTF-8, so it can be kept as a text

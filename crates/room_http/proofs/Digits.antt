@@ -13,42 +13,56 @@ use Rattle.room_http.specs.declared.refusal.Refusal.{Refusal}
 use Rattle.room_http.specs.Limits.{max_body}
 use Rattle.room_http.specs.Message.{is_number, length_of_text}
 
-pub refused-text : (text : List ℕ) → is_number text ≡ false → Err Refusal.BadLength ≡ length_of_text text
+pub refused-text : (text : List ℕ) → is_number text ≡ false
+    → Err Refusal.BadLength ≡ length_of_text text
 unfolding length_of_text
 refused-text text h =
     let R = Result ℕ Refusal in
-    let F : Bool → R = λ b. if b then (if nat_le (digits_value 10 text) max_body then Ok (digits_value 10 text) else Err Refusal.TooLarge) else Err Refusal.BadLength in
+    let F : Bool → R = λ b. if b then
+    (if nat_le (digits_value 10 text) max_body then Ok
+    (digits_value 10 text) else Err Refusal.TooLarge) else Err Refusal.BadLength in
     ap F (sym h)
 
-fits-or : (text : List ℕ) (b : Bool) → is_number text ≡ true → nat_le (digits_value 10 text) max_body ≡ b
+fits-or : (text : List ℕ) (b : Bool) → is_number text ≡ true
+    → nat_le (digits_value 10 text) max_body ≡ b
     → (if b then Ok (digits_value 10 text) else Err Refusal.TooLarge) ≡ length_of_text text
 unfolding length_of_text
 fits-or text b h k =
     let R = Result ℕ Refusal in
-    let F : Bool → R = λ x. if x then (if nat_le (digits_value 10 text) max_body then Ok (digits_value 10 text) else Err Refusal.TooLarge) else Err Refusal.BadLength in
+    let F : Bool → R = λ x. if x then
+    (if nat_le (digits_value 10 text) max_body then Ok
+    (digits_value 10 text) else Err Refusal.TooLarge) else Err Refusal.BadLength in
     let G : Bool → R = λ x. if x then Ok (digits_value 10 text) else Err Refusal.TooLarge in
     ap G (sym k) ∙ ap F (sym h)
 
-pub too-large : (text : List ℕ) (i n : ℕ) → is_number text ≡ true → n ≡ digits_value 10 (take i text) → max_body < n → Err Refusal.TooLarge ≡ length_of_text text
+pub too-large : (text : List ℕ) (i n : ℕ) → is_number text ≡ true
+    → n ≡ digits_value 10 (take i text) → max_body < n → Err Refusal.TooLarge ≡ length_of_text text
 too-large text i n h is over =
-    let grows : digits_value 10 (take i text) ≤ digits_value 10 text = digits_value-take-le 10 text i (omega arith) in
+    let grows : digits_value 10 (take i text) ≤ digits_value 10 text =
+    digits_value-take-le 10 text i (omega arith) in
     let above : max_body < digits_value 10 text = omega (arith, grows, is, over) in
     fits-or text false h (lt-leb (digits_value 10 text) max_body above)
 
-pub whole-number : (text : List ℕ) (i n : ℕ) → is_number text ≡ true → n ≡ digits_value 10 (take i text) → n ≤ max_body → length text ≤ i
+pub whole-number : (text : List ℕ) (i n : ℕ) → is_number text ≡ true
+    → n ≡ digits_value 10 (take i text) → n ≤ max_body → length text ≤ i
     → Ok n ≡ length_of_text text
 whole-number text i n h is below end =
     let whole : n ≡ digits_value 10 text = is ∙ ap (λ t. digits_value 10 t) (take_all i text end) in
-    ap Ok whole ∙ fits-or text true h (le-leb (digits_value 10 text) max_body (subst (λ k. k ≤ max_body) whole below))
+    ap Ok whole
+    ∙ fits-or text true h
+    (le-leb (digits_value 10 text) max_body (subst (λ k. k ≤ max_body) whole below))
 
-after-append : (n : ℕ) (xs ys : List ℕ) → digits_value_after 10 n (xs ++ ys) ≡ digits_value_after 10 (digits_value_after 10 n xs) ys
+after-append : (n : ℕ) (xs ys : List ℕ)
+    → digits_value_after 10 n (xs ++ ys) ≡ digits_value_after 10 (digits_value_after 10 n xs) ys
 after-append n [] ys = refl
 after-append n (x ∷ xs) ys = after-append (n * 10 + digit_value x) xs ys
 
 pub one-more : (text : List ℕ) (i : ℕ) → i < length text
-    → digits_value 10 (take (i + 1) text) ≡ digits_value 10 (take i text) * 10 + digit_value (get_or text i 0)
+    → digits_value 10 (take (i + 1) text)
+    ≡ digits_value 10 (take i text) * 10 + digit_value (get_or text i 0)
 one-more text i lt =
-    ap (λ t. digits_value 10 t) (take_more text i 0 lt) ∙ after-append 0 (take i text) (get_or text i 0 ∷ [])
+    ap (λ t. digits_value 10 t) (take_more text i 0 lt)
+    ∙ after-append 0 (take i text) (get_or text i 0 ∷ [])
 
 and-left : (a b : Bool) → (a && b) ≡ true → a ≡ true
 and-left true b h = refl
@@ -60,12 +74,17 @@ and-right false true h = refl
 and-right false false h = h
 
 -- each byte of a number is a digit
-pub digit-at : (text : List ℕ) (i : ℕ) → i < length text → is_number text ≡ true → IsInRange 48 57 (get_or text i 0)
+pub digit-at : (text : List ℕ) (i : ℕ) → i < length text → is_number text ≡ true
+    → IsInRange 48 57 (get_or text i 0)
 digit-at text i lt h =
-    let all : list_all is_ascii_digit text ≡ true = and-right (nat_lt 0 (length text)) (list_all is_ascii_digit text) h in
-    let one : (nat_le 48 (get_or text i 0) && nat_le (get_or text i 0) 57) ≡ true = AllPass-from_list_all is_ascii_digit text all i 0 lt in (
-      leb-true 48 (get_or text i 0) (and-left (nat_le 48 (get_or text i 0)) (nat_le (get_or text i 0) 57) one),
-      leb-true (get_or text i 0) 57 (and-right (nat_le 48 (get_or text i 0)) (nat_le (get_or text i 0) 57) one),
+    let all : list_all is_ascii_digit text ≡ true = and-right (nat_lt 0 (length text))
+    (list_all is_ascii_digit text) h in
+    let one : (nat_le 48 (get_or text i 0) && nat_le (get_or text i 0) 57) ≡ true =
+    AllPass-from_list_all is_ascii_digit text all i 0 lt in (
+      leb-true 48 (get_or text i 0)
+          (and-left (nat_le 48 (get_or text i 0)) (nat_le (get_or text i 0) 57) one),
+      leb-true (get_or text i 0) 57
+          (and-right (nat_le 48 (get_or text i 0)) (nat_le (get_or text i 0) 57) one),
     )
 
 pub digit-is : (c d : ℕ) → IsInRange 48 57 c → d ≡ (c + 208) % 256 % 10 → d ≡ digit_value c
@@ -74,8 +93,11 @@ digit-is c d h is =
     omega (arith, h.0, h.1, v, is)
 
 -- the number so far and one digit more
-pub next-number : (text : List ℕ) (i n d : ℕ) → i < length text → is_number text ≡ true → n ≡ digits_value 10 (take i text)
+pub next-number : (text : List ℕ) (i n d : ℕ) → i < length text → is_number text ≡ true
+    → n ≡ digits_value 10 (take i text)
     → d ≡ (get_or text i 0 + 208) % 256 % 10 → n * 10 + d ≡ digits_value 10 (take (i + 1) text)
 next-number text i n d lt h is digit =
-    let v : d ≡ digit_value (get_or text i 0) = digit-is (get_or text i 0) d (digit-at text i lt h) digit in
-    ap (λ k. k * 10 + d) is ∙ ap (λ k. digits_value 10 (take i text) * 10 + k) v ∙ sym (one-more text i lt)
+    let v : d ≡ digit_value (get_or text i 0) = digit-is (get_or text i 0) d
+    (digit-at text i lt h) digit in
+    ap (λ k. k * 10 + d) is ∙ ap (λ k. digits_value 10 (take i text) * 10 + k) v
+    ∙ sym (one-more text i lt)

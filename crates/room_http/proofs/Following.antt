@@ -13,38 +13,48 @@ use Rattle.room_http.specs.declared.ended.Cause.{Cause}
 use Rattle.room_http.specs.Spans.{AreSpansOf, head_at, StopsBody, StopsReading}
 use Rattle.room_http.specs.Turn.{WholeNext}
 
-parts-of-spans : (spans : List HeaderSpan) (r : RequestSpans) (h : RequestHead) → AreSpansOf spans r h
+parts-of-spans : (spans : List HeaderSpan) (r : RequestSpans) (h : RequestHead)
+    → AreSpansOf spans r h
     → head_at (print_request h) spans r ≡ head_of h
 parts-of-spans spans r h s =
     let fields = ap (map field_of) s.fields in
     rw (s.method, s.path, s.version, fields) refl
 
 -- the head's own bytes
-head-bytes : (buf : List ℕ) (h : RequestHead) (n : ℕ) → BeginsWith buf h (drop n buf) → n ≡ length (print_request h)
+head-bytes : (buf : List ℕ) (h : RequestHead) (n : ℕ) → BeginsWith buf h (drop n buf)
+    → n ≡ length (print_request h)
     → take n buf ≡ print_request h
 head-bytes buf h n b len =
-    ap (λ t. take n t) b.whole ∙ ap (λ k. take k (print_request h ++ drop n buf)) len ∙ take-append_seam (print_request h) (drop n buf)
+    ap (λ t. take n t) b.whole ∙ ap (λ k. take k (print_request h ++ drop n buf)) len
+    ∙ take-append_seam (print_request h) (drop n buf)
 
 -- the copied parts are those of the head
-pub parts-are : (buf : List ℕ) (spans : List HeaderSpan) (r : RequestSpans) (h : RequestHead) (head : Head)
-    → BeginsWith buf h (drop r.len buf) → AreSpansOf spans r h → head ≡ head_at (take r.len buf) spans r
+pub parts-are : (buf : List ℕ) (spans : List HeaderSpan) (r : RequestSpans) (h : RequestHead)
+    (head : Head)
+    → BeginsWith buf h (drop r.len buf) → AreSpansOf spans r h
+    → head ≡ head_at (take r.len buf) spans r
     → head ≡ head_of h
 parts-are buf spans r h head b s e =
     e ∙ ap (λ t. head_at t spans r) (head-bytes buf h r.len b s.len) ∙ parts-of-spans spans r h s
 
-more-whole : (buf after more : List ℕ) (h : RequestHead) (n : ℕ) → BeginsWith buf h (drop n buf) → after ≡ buf ++ more
+more-whole : (buf after more : List ℕ) (h : RequestHead) (n : ℕ) → BeginsWith buf h (drop n buf)
+    → after ≡ buf ++ more
     → after ≡ print_request h ++ (drop n buf ++ more)
 more-whole buf after more h n b came =
     came ∙ ap (λ t. t ++ more) b.whole ∙ append_assoc (print_request h) (drop n buf) more
 
-body-slice : (p rest after : List ℕ) (n size : ℕ) → after ≡ p ++ rest → n ≡ length p → slice_range after n (n + size) ≡ take size rest
+body-slice : (p rest after : List ℕ) (n size : ℕ) → after ≡ p ++ rest → n ≡ length p
+    → slice_range after n (n + size) ≡ take size rest
 body-slice p rest after n size all len =
     let k : (n + size) - n ≡ size = omega arith in
-    let d : drop n after ≡ rest = ap (λ t. drop n t) all ∙ ap (λ j. drop j (p ++ rest)) len ∙ drop-append_seam p rest in
+    let d : drop n after ≡ rest = ap (λ t. drop n t) all ∙ ap (λ j. drop j (p ++ rest)) len
+    ∙ drop-append_seam p rest in
     ap (λ j. take j (drop n after)) k ∙ ap (λ t. take size t) d
 
-pub whole-next : (buf after more : List ℕ) (spans : List HeaderSpan) (r : RequestSpans) (h : RequestHead) (head : Head) (size : ℕ)
-    → BeginsWith buf h (drop r.len buf) → AreSpansOf spans r h → head ≡ head_at (take r.len buf) spans r
+pub whole-next : (buf after more : List ℕ) (spans : List HeaderSpan) (r : RequestSpans)
+    (h : RequestHead) (head : Head) (size : ℕ)
+    → BeginsWith buf h (drop r.len buf) → AreSpansOf spans r h
+    → head ≡ head_at (take r.len buf) spans r
     → Ok size ≡ body_size head.fields
     → after ≡ buf ++ more → r.len + size ≤ length after
     → WholeNext after (record { head = head; start = r.len; end = r.len + size })
@@ -58,19 +68,29 @@ whole-next buf after more spans r h head size b s copied sized came fits =
     let room : size ≤ length rest = omega (arith, len, fits, s.len) in
     let body : length (take size rest) ≡ size = length-take-le size rest room in
     let tail : drop (r.len + size) after ≡ drop size rest =
-    ap (λ t. drop (r.len + size) t) all ∙ ap (λ k. drop (k + size) (p ++ rest)) s.len ∙ drop-append-add p rest size in
+    ap (λ t. drop (r.len + size) t) all ∙ ap (λ k. drop (k + size) (p ++ rest)) s.len
+    ∙ drop-append-add p rest size in
     record {
       message = record { head = h; body = take size rest };
-      is = record { head = b.head; size = ap (λ (q : Head). body_size q.fields) (sym parts) ∙ sym sized ∙ ap Ok (sym body) };
+      is =
+          record {
+            head = b.head;
+            size = ap (λ (q : Head). body_size q.fields) (sym parts) ∙ sym sized ∙ ap Ok (sym body);
+          };
       head = parts;
-      whole = all ∙ ap (λ t. p ++ t) (sym (take-append-drop size rest) ∙ ap (λ t. take size rest ++ t) (sym tail)) ∙ sym (append_assoc p (take size rest) (drop (r.len + size) after));
+      whole =
+          all ∙ ap (λ t. p ++ t) (sym (take-append-drop size rest)
+          ∙ ap (λ t. take size rest ++ t) (sym tail))
+          ∙ sym (append_assoc p (take size rest) (drop (r.len + size) after));
       ordered = omega arith;
       in_range = fits;
       body = body-slice p rest after r.len size all s.len;
     }
 
-pub part-next : (buf after more : List ℕ) (spans : List HeaderSpan) (r : RequestSpans) (h : RequestHead) (head : Head) (size : ℕ)
-    → BeginsWith buf h (drop r.len buf) → AreSpansOf spans r h → head ≡ head_at (take r.len buf) spans r
+pub part-next : (buf after more : List ℕ) (spans : List HeaderSpan) (r : RequestSpans)
+    (h : RequestHead) (head : Head) (size : ℕ)
+    → BeginsWith buf h (drop r.len buf) → AreSpansOf spans r h
+    → head ≡ head_at (take r.len buf) spans r
     → Ok size ≡ body_size head.fields
     → after ≡ buf ++ more → length after < r.len + size
     → IsPart after
@@ -81,21 +101,35 @@ part-next buf after more spans r h head size b s copied sized came short =
     let parts : head ≡ head_of h = parts-are buf spans r h head b s copied in
     let len : length after ≡ length p + length rest = ap length all ∙ length-append p rest in
     let less : length rest < size = omega (arith, len, short, s.len) in
-    inr (h, rest, size, record { head = b.head; whole = all }, ap (λ (q : Head). body_size q.fields) (sym parts) ∙ sym sized, less)
+    inr (
+      h,
+      rest,
+      size,
+      record { head = b.head; whole = all },
+      ap (λ (q : Head). body_size q.fields) (sym parts) ∙ sym sized,
+      less,
+    )
 
 -- a body that a read failed within is part of a message
-pub stopped-next : (buf : List ℕ) (u v : Option (List ℕ)) (spans : List HeaderSpan) (r : RequestSpans) (h : RequestHead) (head : Head)
+pub stopped-next : (buf : List ℕ) (u v : Option (List ℕ)) (spans : List HeaderSpan)
+    (r : RequestSpans) (h : RequestHead) (head : Head)
     (size : ℕ) (cause : Cause)
-    → BeginsWith buf h (drop r.len buf) → AreSpansOf spans r h → head ≡ head_at (take r.len buf) spans r
+    → BeginsWith buf h (drop r.len buf) → AreSpansOf spans r h
+    → head ≡ head_at (take r.len buf) spans r
     → Ok size ≡ body_size head.fields
     → StopsBody u v buf (r.len + size) cause → StopsReading u v buf cause
-stopped-next buf u v spans r h head size Cause.Read b s copied sized stop =
-    (stop.0, stop.1, inr (part-next buf stop.0 stop.1.0 spans r h head size b s copied sized stop.1.2 stop.2))
+stopped-next buf u v spans r h head size Cause.Read b s copied sized stop = (
+  stop.0,
+  stop.1,
+  inr (part-next buf stop.0 stop.1.0 spans r h head size b s copied sized stop.1.2 stop.2),
+)
 stopped-next buf u v spans r h head size Cause.Write b s copied sized stop = absurd stop.2
 stopped-next buf u v spans r h head size Cause.Memory b s copied sized stop = (stop.0, stop.1, tt)
 
-pub refused-next : (buf : List ℕ) (spans : List HeaderSpan) (r : RequestSpans) (h : RequestHead) (head : Head) (refusal : Refusal)
-    → BeginsWith buf h (drop r.len buf) → AreSpansOf spans r h → head ≡ head_at (take r.len buf) spans r
+pub refused-next : (buf : List ℕ) (spans : List HeaderSpan) (r : RequestSpans) (h : RequestHead)
+    (head : Head) (refusal : Refusal)
+    → BeginsWith buf h (drop r.len buf) → AreSpansOf spans r h
+    → head ≡ head_at (take r.len buf) spans r
     → Err refusal ≡ body_size head.fields
     → IsRefusedHead buf refusal
 refused-next buf spans r h head refusal b s copied refused =

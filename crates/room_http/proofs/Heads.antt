@@ -25,12 +25,14 @@ le-trans : {a b c : ℕ} → a ≤ b → b ≤ c → a ≤ c
 le-trans {a} {b} {c} x y = omega arith
 
 -- a slice of the front is a slice of the whole
-pub slice_range-append : (p q : List ℕ) (a b : ℕ) → a ≤ b → b ≤ length p → slice_range p a b ≡ slice_range (p ++ q) a b
+pub slice_range-append : (p q : List ℕ) (a b : ℕ) → a ≤ b → b ≤ length p
+    → slice_range p a b ≡ slice_range (p ++ q) a b
 slice_range-append p q a b ab bp =
     let within : a ≤ length p = omega arith in
     let len : length (drop a p) ≡ length p - a = length-drop a p in
     let fits : b - a ≤ length (drop a p) = omega (arith, len) in
-    sym (ap (λ (t : List ℕ). take (b - a) t) (drop-append-le a p q within) ∙ take-append-le (b - a) (drop a p) q fits)
+    sym (ap (λ (t : List ℕ). take (b - a) t) (drop-append-le a p q within)
+    ∙ take-append-le (b - a) (drop a p) q fits)
 
 map-agree-rec : {X Y : Type 0} (f g : X → Y) (P : X → Type 0) (each : (x : X) → P x → f x ≡ g x)
     → (xs : List X) → AllByRecursion P xs → map f xs ≡ map g xs
@@ -43,12 +45,14 @@ pub map-agree : {X Y : Type 0} (f g : X → Y) (P : X → Type 0) (each : (x : X
 map-agree f g P each xs all = map-agree-rec f g P each xs (recursion_from_All P xs all)
 
 -- a span of the front covers the same bytes of the whole
-pub span-front : (w p q : List ℕ) (s : Span) (n : ℕ) → w ≡ p ++ q → n ≡ length p → IsWithin n s → span_bytes p s ≡ span_bytes w s
+pub span-front : (w p q : List ℕ) (s : Span) (n : ℕ) → w ≡ p ++ q → n ≡ length p → IsWithin n s
+    → span_bytes p s ≡ span_bytes w s
 span-front w p q s n whole len within =
     slice_range-append p q s.start s.end within.0 (subst (λ m. s.end ≤ m) len within.1)
     ∙ sym (ap (λ t. slice_range t s.start s.end) whole)
 
-pub header-front : (w p q : List ℕ) (n : ℕ) → w ≡ p ++ q → n ≡ length p → (s : HeaderSpan) → IsHeaderWithin n s
+pub header-front : (w p q : List ℕ) (n : ℕ) → w ≡ p ++ q → n ≡ length p → (s : HeaderSpan)
+    → IsHeaderWithin n s
     → header_bytes p s ≡ header_bytes w s
 header-front w p q n whole len s within =
     ap (λ t. (t, span_bytes p s.value)) (span-front w p q s.name n whole len within.0)
@@ -69,7 +73,10 @@ spans-of-head w spans r h within at =
       method = span-front w p q r.method r.len whole at.len within.method ∙ at.method;
       path = span-front w p q r.path r.len whole at.len within.path ∙ at.path;
       version = at.version;
-      fields = map-agree (header_bytes p) (header_bytes w) (IsHeaderWithin r.len) (header-front w p q r.len whole at.len) (take r.headers spans) within.section.headers_fit ∙ at.fields;
+      fields =
+          map-agree (header_bytes p) (header_bytes w) (IsHeaderWithin r.len)
+          (header-front w p q r.len whole at.len) (take r.headers spans) within.section.headers_fit
+          ∙ at.fields;
     }
 
 -- the window is the first bytes
@@ -79,15 +86,21 @@ window-is n k buf e = ap (λ j. take j buf) (e ∙ min_comm (length buf) n) ∙ 
 pub few-fields : (w : List ℕ) (spans : List HeaderSpan) (r : RequestSpans) (h : RequestHead)
     → IsRequestAt w spans r h → length h.fields ≤ length spans
 few-fields w spans r h at =
-    let a : length (map (header_bytes w) (take r.headers spans)) ≡ length (map name_and_value h.fields) = ap length at.fields in
-    let b : length (map (header_bytes w) (take r.headers spans)) ≡ length (take r.headers spans) = length-map (take r.headers spans) (header_bytes w) in
-    let d : length (map name_and_value h.fields) ≡ length h.fields = length-map h.fields name_and_value in
-    let e : length (take r.headers spans) ≡ min r.headers (length spans) = length-take r.headers spans in
+    let a : length (map (header_bytes w) (take r.headers spans))
+    ≡ length (map name_and_value h.fields) =
+    ap length at.fields in
+    let b : length (map (header_bytes w) (take r.headers spans)) ≡ length (take r.headers spans) =
+    length-map (take r.headers spans) (header_bytes w) in
+    let d : length (map name_and_value h.fields) ≡ length h.fields =
+    length-map h.fields name_and_value in
+    let e : length (take r.headers spans) ≡ min r.headers (length spans) =
+    length-take r.headers spans in
     omega (arith, a, b, d, e)
 
 -- what the parser answers, in a window of the limit's length with room for the limit's fields
 pub whole-in-window : (w : List ℕ) (spans : List HeaderSpan) (r : RequestSpans) (h : RequestHead)
-    → length spans ≡ max_fields → length w ≤ max_head → IsRequestWithin w spans r → IsRequestAt w spans r h
+    → length spans ≡ max_fields → length w ≤ max_head → IsRequestWithin w spans r
+    → IsRequestAt w spans r h
     → IsHead h × (w ≡ print_request h ++ drop r.len w) × AreSpansOf spans r h
 whole-in-window w spans r h room short within at = (
   record {
@@ -101,13 +114,16 @@ whole-in-window w spans r h room short within at = (
 
 -- what begins the window begins the bytes
 pub begins-from-window : (buf w : List ℕ) (h : RequestHead) (n : ℕ) → w ≡ take max_head buf
-    → IsHead h → n ≡ length (print_request h) → w ≡ print_request h ++ drop n w → BeginsWith buf h (drop n buf)
+    → IsHead h → n ≡ length (print_request h) → w ≡ print_request h ++ drop n w
+    → BeginsWith buf h (drop n buf)
 begins-from-window buf w h n window head len whole =
     let p = print_request h in
     let all : buf ≡ p ++ (drop n w ++ drop max_head buf) =
-    sym (take-append-drop max_head buf) ∙ ap (λ t. t ++ drop max_head buf) (sym window ∙ whole) ∙ append_assoc p (drop n w) (drop max_head buf) in
+    sym (take-append-drop max_head buf) ∙ ap (λ t. t ++ drop max_head buf) (sym window ∙ whole)
+    ∙ append_assoc p (drop n w) (drop max_head buf) in
     let rest : drop n buf ≡ drop n w ++ drop max_head buf =
-    ap (λ t. drop n t) all ∙ ap (λ m. drop m (p ++ (drop n w ++ drop max_head buf))) len ∙ drop-append_seam p (drop n w ++ drop max_head buf) in
+    ap (λ t. drop n t) all ∙ ap (λ m. drop m (p ++ (drop n w ++ drop max_head buf))) len
+    ∙ drop-append_seam p (drop n w ++ drop max_head buf) in
     record { head = head; whole = all ∙ ap (λ t. p ++ t) (sym rest) }
 
 short-window : (n k len : ℕ) → k ≡ min n len → k < n → len < n
@@ -116,7 +132,8 @@ short-window n k len e lt = omega arith
 full-window : (n k len : ℕ) → k ≡ min n len → n ≤ k → n ≤ len
 full-window n k len e le = omega arith
 
-pub scans-from-window : (buf w : List ℕ) (spans : List HeaderSpan) (found : HeadScan) → w ≡ take max_head buf
+pub scans-from-window : (buf w : List ℕ) (spans : List HeaderSpan) (found : HeadScan)
+    → w ≡ take max_head buf
     → ScansWindow w spans found → Scans buf spans found
 scans-from-window buf w spans (HeadScan.Whole r) window at =
     (at.0, begins-from-window buf w at.0 r.len window at.1 at.3.len at.2, at.3)
@@ -125,20 +142,27 @@ scans-from-window buf w spans HeadScan.Part window at =
     let below : length buf < max_head = short-window max_head (length w) (length buf) len at.0 in
     let same : w ≡ buf = window ∙ take_all max_head buf (omega (arith, below)) in
     (below, subst HasNoRequest same at.1, subst MayBecomeRequest same at.2)
-scans-from-window buf w spans (HeadScan.Refused Refusal.BadHead) window at = subst NeverHasRequest window at
+scans-from-window buf w spans (HeadScan.Refused Refusal.BadHead) window at =
+    subst NeverHasRequest window at
 scans-from-window buf w spans (HeadScan.Refused Refusal.TooManyFields) window at =
     elim at [
       | inl many ↦ inl (subst HasTooMany window many)
       | inr full ↦
-          let len : length w ≡ min max_head (length buf) = ap length window ∙ length-take max_head buf in
-          inr (full-window max_head (length w) (length buf) len full.0, subst HasNoRequest window full.1, subst MayBecomeRequest window full.2)
+          let len : length w ≡ min max_head (length buf) = ap length window
+          ∙ length-take max_head buf in
+          inr (
+            full-window max_head (length w) (length buf) len full.0,
+            subst HasNoRequest window full.1,
+            subst MayBecomeRequest window full.2,
+          )
     ]
 scans-from-window buf w spans (HeadScan.Refused Refusal.TransferCoding) window at = absurd at
 scans-from-window buf w spans (HeadScan.Refused Refusal.BadLength) window at = absurd at
 scans-from-window buf w spans (HeadScan.Refused Refusal.TooLarge) window at = absurd at
 
 -- what holds of a complete parse, at the arm that found one
-pub at-complete : {A E : Type 0} (P : A → Type 0) (result : Result (Status A) E) (status : Status A) (a : A)
+pub at-complete : {A E : Type 0} (P : A → Type 0) (result : Result (Status A) E) (status : Status A)
+    (a : A)
     → result ≡ Ok status → status ≡ Complete a → IfComplete result P → P a
 at-complete {A} {E} P result status a e f h =
     let Q : Result (Status A) E → Type 0 = λ r. IfComplete r P in

@@ -7,13 +7,16 @@ use Rattle.room_http.specs.declared.ended.Cause.{Cause}
 use Rattle.room_http.specs.Spans.{Came, StopsReading}
 use Rattle.room_http.specs.Turn.{WritesPart}
 
-pub Appends-then : (u v w : Option (List ℕ)) (a b : List ℕ) → Appends u v a → Appends v w b → Appends u w (a ++ b)
+pub Appends-then : (u v w : Option (List ℕ)) (a b : List ℕ) → Appends u v a → Appends v w b
+    → Appends u w (a ++ b)
 Appends-then None v w a b x y = tt
 Appends-then (Some xs) None w a b x y = absurd x
 Appends-then (Some xs) (Some ys) None a b x y = y
-Appends-then (Some xs) (Some ys) (Some zs) a b x y = y ∙ ap (λ (t : List ℕ). t ++ b) x ∙ append_assoc xs a b
+Appends-then (Some xs) (Some ys) (Some zs) a b x y =
+    y ∙ ap (λ (t : List ℕ). t ++ b) x ∙ append_assoc xs a b
 
-pub Appends-kept : (u v w : Option (List ℕ)) (a : List ℕ) → Appends u v a → Keeps v w → Appends u w a
+pub Appends-kept : (u v w : Option (List ℕ)) (a : List ℕ) → Appends u v a → Keeps v w
+    → Appends u w a
 Appends-kept None v w a x y = tt
 Appends-kept (Some xs) None w a x y = absurd x
 Appends-kept (Some xs) (Some ys) None a x y = absurd y
@@ -23,11 +26,13 @@ pub Appends-none : (u : Option (List ℕ)) → Appends u u []
 Appends-none None = tt
 Appends-none (Some xs) = sym (append-nil xs)
 
-pub Consumes-then : (u v w : Option (List ℕ)) (a b : List ℕ) → Consumes u v a → Consumes v w b → Consumes u w (a ++ b)
+pub Consumes-then : (u v w : Option (List ℕ)) (a b : List ℕ) → Consumes u v a → Consumes v w b
+    → Consumes u w (a ++ b)
 Consumes-then None v w a b x y = tt
 Consumes-then (Some xs) None w a b x y = absurd x
 Consumes-then (Some xs) (Some ys) None a b x y = y
-Consumes-then (Some xs) (Some ys) (Some zs) a b x y = x ∙ ap (λ (t : List ℕ). a ++ t) y ∙ sym (append_assoc a b zs)
+Consumes-then (Some xs) (Some ys) (Some zs) a b x y =
+    x ∙ ap (λ (t : List ℕ). a ++ t) y ∙ sym (append_assoc a b zs)
 
 pub Consumes-none : (u : Option (List ℕ)) → Consumes u u []
 Consumes-none None = tt
@@ -36,9 +41,14 @@ Consumes-none (Some xs) = refl
 pub Came-none : (u : Option (List ℕ)) (a : List ℕ) → Came u u a a
 Came-none u a = ([], Consumes-none u, sym (append-nil a))
 
-pub Came-then : (u v w : Option (List ℕ)) (a b d : List ℕ) → Came u v a b → Came v w b d → Came u w a d
-Came-then u v w a b d x y =
-    (x.0 ++ y.0, Consumes-then u v w x.0 y.0 x.1 y.1, y.2 ∙ ap (λ (t : List ℕ). t ++ y.0) x.2 ∙ append_assoc a x.0 y.0)
+pub Came-then : (u v w : Option (List ℕ)) (a b d : List ℕ) → Came u v a b → Came v w b d
+    → Came u w a d
+Came-then u v w a b d x y = (
+  x.0 ++ y.0,
+  Consumes-then u v w x.0 y.0 x.1 y.1,
+  y.2 ∙ ap (λ (t : List ℕ). t ++ y.0) x.2
+      ∙ append_assoc a x.0 y.0,
+)
 
 -- more bytes came, as an answer says
 pub came-behind : {A E : Type 0} (u v w : Option (List ℕ)) (a b d : List ℕ) (result : Result A E)
@@ -56,37 +66,65 @@ lost-behind u v w a b (Err why) x y = (y.0, Came-then u v w a b y.0 x y.1, y.2)
 pub WritesPart-at : (u v w : Option (List ℕ)) (text : List ℕ) (n : ℕ)
     → n < length text → Appends u v (take n text) → Keeps v w → WritesPart u w text
 WritesPart-at u v w text n lt x y =
-    let len : length (drop n text) ≡ length text - n = length-drop n text in
-    ((take n text, drop n text, sym (take-append-drop n text), Appends-kept u v w (take n text) x y), omega (arith, len, lt))
+    let len : length (drop n text) ≡ length text - n = length-drop n text in (
+      (
+        take n text,
+        drop n text,
+        sym (take-append-drop n text),
+        Appends-kept u v w (take n text) x y,
+      ),
+      omega (arith, len, lt),
+    )
 
 pub Appends-at : (u v w : Option (List ℕ)) (text : List ℕ) (n m : ℕ)
-    → Appends u v (take n text) → Appends v w (take m (take (length text - n) (drop n text))) → Appends u w (take (n + m) text)
+    → Appends u v (take n text) → Appends v w (take m (take (length text - n) (drop n text)))
+    → Appends u w (take (n + m) text)
 Appends-at u v w text n m x y =
     let W : List ℕ → Type 0 = λ t. Appends u w t in
     let V : List ℕ → Type 0 = λ t. Appends v w t in
     let len : length (drop n text) ≡ length text - n = length-drop n text in
-    let rest : take (length text - n) (drop n text) ≡ drop n text = take_all (length text - n) (drop n text) (omega (arith, len)) in
+    let rest : take (length text - n) (drop n text) ≡ drop n text = take_all (length text - n)
+    (drop n text) (omega (arith, len)) in
     let y' : Appends v w (take m (drop n text)) = subst V (ap (λ t. take m t) rest) y in
     subst W (sym (take-add n m text)) (Appends-then u v w (take n text) (take m (drop n text)) x y')
 
 -- two parts of a text one after the other
-pub both-written : {A E : Type 0} (result : Result A E) (u v w : Option (List ℕ)) (front rest text : List ℕ) → front ++ rest ≡ text
+pub both-written : {A E : Type 0} (result : Result A E) (u v w : Option (List ℕ))
+    (front rest text : List ℕ) → front ++ rest ≡ text
     → Appends u v front → OnOk result (Appends v w rest) → OnOk result (Appends u w text)
-both-written (Ok done) u v w front rest text e x y = subst (λ t. Appends u w t) e (Appends-then u v w front rest x y)
+both-written (Ok done) u v w front rest text e x y =
+    subst (λ t. Appends u w t) e (Appends-then u v w front rest x y)
 both-written (Err why) u v w front rest text e x y = tt
 
-pub first-part : (u v : Option (List ℕ)) (front rest text : List ℕ) → front ++ rest ≡ text → WritesPart u v front → WritesPart u v text
+pub first-part : (u v : Option (List ℕ)) (front rest text : List ℕ) → front ++ rest ≡ text
+    → WritesPart u v front → WritesPart u v text
 first-part u v front rest text e w =
     let len : length (w.0.1 ++ rest) ≡ length w.0.1 + length rest = length-append w.0.1 rest in
-    subst (λ t. WritesPart u v t) e
-    ((w.0.0, w.0.1 ++ rest, ap (λ (t : List ℕ). t ++ rest) w.0.2 ∙ append_assoc w.0.0 w.0.1 rest, w.0.3), omega (arith, len, w.1))
+    subst (λ t. WritesPart u v t) e (
+      (
+        w.0.0,
+        w.0.1 ++ rest,
+        ap (λ (t : List ℕ). t ++ rest) w.0.2 ∙ append_assoc w.0.0 w.0.1 rest,
+        w.0.3,
+      ),
+      omega (arith, len, w.1),
+    )
 
-pub second-part : {A E : Type 0} (result : Result A E) (u v w : Option (List ℕ)) (front rest text : List ℕ) → front ++ rest ≡ text
+pub second-part : {A E : Type 0} (result : Result A E) (u v w : Option (List ℕ))
+    (front rest text : List ℕ) → front ++ rest ≡ text
     → Appends u v front → OnErr result (WritesPart v w rest) → OnErr result (WritesPart u w text)
 second-part (Ok done) u v w front rest text e x y = tt
 second-part (Err why) u v w front rest text e x y =
-    subst (λ t. WritesPart u w t) e
-    ((front ++ y.0.0, y.0.1, ap (λ (t : List ℕ). front ++ t) y.0.2 ∙ sym (append_assoc front y.0.0 y.0.1), Appends-then u v w front y.0.0 x y.0.3), y.1)
+    subst (λ t. WritesPart u w t) e (
+      (
+        front ++ y.0.0,
+        y.0.1,
+        ap (λ (t : List ℕ). front ++ t) y.0.2
+            ∙ sym (append_assoc front y.0.0 y.0.1),
+        Appends-then u v w front y.0.0 x y.0.3,
+      ),
+      y.1,
+    )
 
 -- nothing was written
 pub Keeps-none : (v w : Option (List ℕ)) → Appends v w [] → Keeps v w
@@ -94,7 +132,8 @@ Keeps-none None w x = tt
 Keeps-none (Some xs) None x = x
 Keeps-none (Some xs) (Some ys) x = x ∙ append-nil xs
 
-pub Keeps-zero : (v w : Option (List ℕ)) (n : ℕ) (text : List ℕ) → n ≡ 0 → Appends v w (take n text) → Keeps v w
+pub Keeps-zero : (v w : Option (List ℕ)) (n : ℕ) (text : List ℕ) → n ≡ 0 → Appends v w (take n text)
+    → Keeps v w
 Keeps-zero v w n text e x =
     let V : List ℕ → Type 0 = λ t. Appends v w t in
     Keeps-none v w (subst V (ap (λ k. take k text) e) x)

@@ -22,29 +22,37 @@ Grown start buf =
     ⊎ ((before : List ℕ) × (more : List ℕ) × (buf ≡ before ++ more) × HasNoRequest before
     × (length before < max_head) × (length more ≤ read_size))
 
-pub grown : (start buf after : List ℕ) (u v : Option (List ℕ)) → Came u v buf after → length after ≤ length buf + read_size
+pub grown : (start buf after : List ℕ) (u v : Option (List ℕ)) → Came u v buf after
+    → length after ≤ length buf + read_size
     → HasNoRequest buf → length buf < max_head → Grown start after
 grown start buf after u v came size none short =
-    let len : length after ≡ length buf + length came.0 = ap length came.2 ∙ length-append buf came.0 in
+    let len : length after ≡ length buf + length came.0 = ap length came.2
+    ∙ length-append buf came.0 in
     inr (buf, came.0, came.2, none, short, omega (arith, len, size))
 
 -- a head that the bytes begin with, and that ends before more came, was there before
-there-before : (buf before more : List ℕ) (h : RequestHead) (rest : List ℕ) → BeginsWith buf h rest → buf ≡ before ++ more
+there-before : (buf before more : List ℕ) (h : RequestHead) (rest : List ℕ) → BeginsWith buf h rest
+    → buf ≡ before ++ more
     → length (print_request h) ≤ length before → HasNoRequest before → ⊥
 there-before buf before more h rest begins split le none =
     let p = print_request h in
     let n = length p in
     let front : take n before ≡ p =
-    sym (take-append-le n before more le) ∙ ap (λ t. take n t) (sym split ∙ begins.whole) ∙ take-append_seam p rest in
-    none h (drop n before) (begins.head.valid, sym (take-append-drop n before) ∙ ap (λ t. t ++ drop n before) front)
+    sym (take-append-le n before more le) ∙ ap (λ t. take n t) (sym split ∙ begins.whole)
+    ∙ take-append_seam p rest in
+    none h (drop n before)
+    (begins.head.valid, sym (take-append-drop n before) ∙ ap (λ t. t ++ drop n before) front)
 
-near-after : (buf before more : List ℕ) (n : ℕ) → buf ≡ before ++ more → length more ≤ read_size → length before < n
+near-after : (buf before more : List ℕ) (n : ℕ) → buf ≡ before ++ more → length more ≤ read_size
+    → length before < n
     → length buf < n + read_size
 near-after buf before more n split size lt =
-    let len : length buf ≡ length before + length more = ap length split ∙ length-append before more in
+    let len : length buf ≡ length before + length more = ap length split
+    ∙ length-append before more in
     omega (arith, len, size, lt)
 
-pub near-found : (start buf : List ℕ) (spans : List HeaderSpan) (r : RequestSpans) → Grown start buf → SpansHead buf spans r
+pub near-found : (start buf : List ℕ) (spans : List HeaderSpan) (r : RequestSpans) → Grown start buf
+    → SpansHead buf spans r
     → length start < read_size → length buf < r.len + read_size
 near-found start buf spans r (inl same) found short =
     let len : length buf ≡ length start = ap length same in
@@ -53,25 +61,30 @@ near-found start buf spans r (inr g) found short =
     elim (cases_lt (length g.0) r.len) [
       | inl lt ↦ near-after buf g.0 g.1 r.len g.2 g.5 lt
       | inr le ↦
-          absurd (there-before buf g.0 g.1 found.0 (drop r.len buf) found.1 g.2 (subst (λ n. n ≤ length g.0) found.2.len le) g.3)
+          absurd (there-before buf g.0 g.1 found.0 (drop r.len buf) found.1 g.2
+          (subst (λ n. n ≤ length g.0) found.2.len le) g.3)
     ]
 
-pub near-refused : (start buf : List ℕ) → Grown start buf → length start < read_size → IsNearHead buf
+pub near-refused : (start buf : List ℕ) → Grown start buf → length start < read_size
+    → IsNearHead buf
 near-refused start buf (inl same) short =
     let len : length buf ≡ length start = ap length same in
     omega (arith, len, short)
 near-refused start buf (inr g) short = near-after buf g.0 g.1 max_head g.2 g.5 g.4
 
 -- what is left of the bytes where a message stands in front of them
-pub near-message : (buf : List ℕ) (next : NextMessage) (w : WholeNext buf next) → length buf < next.end + read_size → IsNear w.message buf
+pub near-message : (buf : List ℕ) (next : NextMessage) (w : WholeNext buf next)
+    → length buf < next.end + read_size → IsNear w.message buf
 near-message buf next w near =
     let p = print_message w.message in
-    let all : length buf ≡ length p + length (drop next.end buf) = ap length w.whole ∙ length-append p (drop next.end buf) in
+    let all : length buf ≡ length p + length (drop next.end buf) = ap length w.whole
+    ∙ length-append p (drop next.end buf) in
     let rest = length-drop next.end buf in
     let fits = w.in_range in
     omega (arith, all, rest, fits, near)
 
-pub near-rest : (buf after : List ℕ) (n : ℕ) → after ≡ drop n buf → length buf < n + read_size → length after < read_size
+pub near-rest : (buf after : List ℕ) (n : ℕ) → after ≡ drop n buf → length buf < n + read_size
+    → length after < read_size
 near-rest buf after n e near =
     let len : length after ≡ length (drop n buf) = ap length e in
     let rest = length-drop n buf in
@@ -79,21 +92,28 @@ near-rest buf after n e near =
 
 -- ---- where a read brings nothing
 
-pub none-or-part : (buf : List ℕ) → length buf < max_head → HasNoRequest buf → MayBecomeRequest buf → (buf ≡ []) ⊎ IsPart buf
+pub none-or-part : (buf : List ℕ) → length buf < max_head → HasNoRequest buf → MayBecomeRequest buf
+    → (buf ≡ []) ⊎ IsPart buf
 none-or-part [] short none may = inl refl
-none-or-part (b ∷ rest) short none may = inr (inl (record { some = omega arith; short = short; none = none; may = may }))
+none-or-part (b ∷ rest) short none may =
+    inr (inl (record { some = omega arith; short = short; none = none; may = may }))
 
-came-nothing : (u v w : Option (List ℕ)) (a b : List ℕ) → Came u v a b → Loses v w Cause.Read → Came u w a b
+came-nothing : (u v w : Option (List ℕ)) (a b : List ℕ) → Came u v a b → Loses v w Cause.Read
+    → Came u w a b
 came-nothing u v w a b x y = Came-then u v w a b b x ([], y, sym (append-nil b))
 
-pub stops-reading : (u v w : Option (List ℕ)) (a b : List ℕ) (cause : Cause) → Came u v a b → Loses v w cause → (b ≡ []) ⊎ IsPart b
+pub stops-reading : (u v w : Option (List ℕ)) (a b : List ℕ) (cause : Cause) → Came u v a b
+    → Loses v w cause → (b ≡ []) ⊎ IsPart b
     → StopsReading u w a cause
 stops-reading u v w a b Cause.Read x y part = (b, came-nothing u v w a b x y, part)
 stops-reading u v w a b Cause.Write x y part = absurd y
-stops-reading u v w a b Cause.Memory x y part = (b ++ y.0, Came-then u v w a b (b ++ y.0) x (y.0, y.1, refl), tt)
+stops-reading u v w a b Cause.Memory x y part =
+    (b ++ y.0, Came-then u v w a b (b ++ y.0) x (y.0, y.1, refl), tt)
 
-pub stops-body : (u v w : Option (List ℕ)) (a b : List ℕ) (total : ℕ) (cause : Cause) → Came u v a b → Loses v w cause → length b < total
+pub stops-body : (u v w : Option (List ℕ)) (a b : List ℕ) (total : ℕ) (cause : Cause) → Came u v a b
+    → Loses v w cause → length b < total
     → StopsBody u w a total cause
 stops-body u v w a b total Cause.Read x y short = (b, came-nothing u v w a b x y, short)
 stops-body u v w a b total Cause.Write x y short = absurd y
-stops-body u v w a b total Cause.Memory x y short = (b ++ y.0, Came-then u v w a b (b ++ y.0) x (y.0, y.1, refl), tt)
+stops-body u v w a b total Cause.Memory x y short =
+    (b ++ y.0, Came-then u v w a b (b ++ y.0) x (y.0, y.1, refl), tt)

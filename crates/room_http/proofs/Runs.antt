@@ -25,7 +25,8 @@ pub Runs-none : (old : Content → Type 0) → Runs old [] old
 Runs-none old room is = (room, refl, is)
 
 pub Leads-then : (old mid new : Content → Type 0) (at : ℤ) (xs ys : List Exchange)
-    → RunsExchanges old at xs mid → RunsExchanges mid at ys new → RunsExchanges old at (xs ++ ys) new
+    → RunsExchanges old at xs mid → RunsExchanges mid at ys new
+    → RunsExchanges old at (xs ++ ys) new
 Leads-then old mid new at xs ys first then =
     subst (λ (events : List Event). Runs old events new)
     (sym (flat_map-append (event_at at) xs ys))

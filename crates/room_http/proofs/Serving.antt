@@ -43,15 +43,18 @@ bytes-then read buf more after xs x whole came =
     ∙ sym (append_assoc (bytes_of xs) (print x) after)
     ∙ ap (λ t. t ++ after) (sym one)
 
-pub Along-then : (so_far one all : Type 0) (at : ℤ) (n : ℕ) (old mid new : Seen) (buf after : List ℕ)
-    → Along so_far at n old mid buf → (all → so_far) → (all → one) → TurnsOpen one at n mid new buf after
+pub Along-then : (so_far one all : Type 0) (at : ℤ) (n : ℕ) (old mid new : Seen)
+    (buf after : List ℕ)
+    → Along so_far at n old mid buf → (all → so_far) → (all → one)
+    → TurnsOpen one at n mid new buf after
     → Along all at (n + 1) old new after
 Along-then so_far one all at n old mid new buf after a f s t =
     let xs = a.exchanges in
     let x = t.x in
     let text : List ℕ = exchange_text false x in
     let one : texts_of (xs ++ x ∷ []) ≡ texts_of xs ++ text =
-    flat_map-append (exchange_text false) xs (x ∷ []) ∙ ap (λ k. texts_of xs ++ k) (append-nil text) in
+    flat_map-append (exchange_text false) xs (x ∷ [])
+    ∙ ap (λ k. texts_of xs ++ k) (append-nil text) in
     let W : List ℕ → Type 0 = λ k. Appends old.sent new.sent k in
     record {
       read = a.read ++ t.came.0;
@@ -59,13 +62,19 @@ Along-then so_far one all at n old mid new buf after a f s t =
       reads = Consumes-then old.left mid.left new.left a.read t.came.0 a.reads t.came.1;
       opens = record {
         whole = bytes-then a.read buf t.came.0 after xs x a.opens.whole t.came.2;
-        each = All-append IsOpen xs (x ∷ []) a.opens.each (All-from_recursion IsOpen (x ∷ []) (t.is_open, tt));
+        each =
+            All-append IsOpen xs (x ∷ []) a.opens.each
+            (All-from_recursion IsOpen (x ∷ []) (t.is_open, tt));
       };
       few = t.more;
       near = t.near;
       count = ap (λ k. k + 1) a.count ∙ sym (length-append xs (x ∷ []));
-      writes = subst W (sym one) (Appends-then old.sent mid.sent new.sent (texts_of xs) text a.writes t.writes);
-      run = λ q. Leads-then old.content mid.content new.content at xs (x ∷ []) (a.run (f q)) (t.run (s q));
+      writes =
+          subst W (sym one) (Appends-then old.sent mid.sent new.sent
+          (texts_of xs) text a.writes t.writes);
+      run =
+          λ q. Leads-then old.content mid.content new.content at xs (x ∷ []) (a.run (f q))
+          (t.run (s q));
       faults = t.faults ∙ a.faults;
     }
 
@@ -73,10 +82,13 @@ Along-then so_far one all at n old mid new buf after a f s t =
 bytes-last : (read buf more rest : List ℕ) (xs : List Exchange)
     → read ≡ bytes_of xs ++ buf → rest ≡ buf ++ more → read ++ more ≡ bytes_of xs ++ rest
 bytes-last read buf more rest xs whole came =
-    ap (λ t. t ++ more) whole ∙ append_assoc (bytes_of xs) buf more ∙ ap (λ t. bytes_of xs ++ t) (sym came)
+    ap (λ t. t ++ more) whole ∙ append_assoc (bytes_of xs) buf more
+    ∙ ap (λ t. bytes_of xs ++ t) (sym came)
 
-pub Serves-from : (so_far one all : Type 0) (at : ℤ) (n : ℕ) (old mid new : Seen) (buf : List ℕ) (ended : Ended)
-    → Along so_far at n old mid buf → (all → so_far) → (all → one) → TurnsLast one at n mid new buf ended
+pub Serves-from : (so_far one all : Type 0) (at : ℤ) (n : ℕ) (old mid new : Seen) (buf : List ℕ)
+    (ended : Ended)
+    → Along so_far at n old mid buf → (all → so_far) → (all → one)
+    → TurnsLast one at n mid new buf ended
     → Serves all at old new ended
 Serves-from so_far one all at n old mid new buf ended a f s t =
     let F : ℕ → Type 0 = λ f. FaultsRose t.last f new.faults in
@@ -88,21 +100,33 @@ Serves-from so_far one all at n old mid new buf ended a f s t =
       reads = Consumes-then old.left mid.left new.left a.read t.came.0 a.reads t.came.1;
       stream = record {
         rest = t.rest;
-        opens = record { whole = bytes-last a.read buf t.came.0 t.rest a.exchanges a.opens.whole t.came.2; each = a.opens.each };
+        opens =
+            record {
+              whole =
+                  bytes-last a.read buf t.came.0 t.rest a.exchanges a.opens.whole t.came.2;
+              each =
+                  a.opens.each;
+            };
         few = subst (λ k. k < max_messages) a.count a.few;
         ends = subst E a.count t.ends;
       };
       near = t.near;
-      writes = Appends-then old.sent mid.sent new.sent (texts_of a.exchanges) (last_text t.last) a.writes t.writes;
+      writes =
+          Appends-then old.sent mid.sent new.sent (texts_of a.exchanges)
+          (last_text t.last) a.writes t.writes;
       ended_is = t.is;
       at_end = t.at_end;
-      run = λ q. Leads-then old.content mid.content new.content at a.exchanges (last_exchange t.last) (a.run (f q)) (t.run (s q));
+      run =
+          λ q. Leads-then old.content mid.content new.content at a.exchanges (last_exchange t.last)
+          (a.run (f q)) (t.run (s q));
       faults = subst F a.faults t.faults;
     }
 
-pub Stops-from : (so_far one all : Type 0) (at : ℤ) (n : ℕ) (old mid new : Seen) (buf : List ℕ) (stop : Halt) (fault : ServeFault)
+pub Stops-from : (so_far one all : Type 0) (at : ℤ) (n : ℕ) (old mid new : Seen) (buf : List ℕ)
+    (stop : Halt) (fault : ServeFault)
     → fault.answered ≡ n → fault.acted ≡ stop.acted → fault.cause ≡ stop.cause
-    → Along so_far at n old mid buf → (all → so_far) → (all → one) → TurnsStop one at n mid new buf stop
+    → Along so_far at n old mid buf → (all → so_far) → (all → one)
+    → TurnsStop one at n mid new buf stop
     → Stops all at old new fault
 Stops-from so_far one all at n old mid new buf stop fault answered acted cause a f s t =
     let N : ℕ → Type 0 = λ k. IsNext t.rest k t.next in
@@ -114,19 +138,30 @@ Stops-from so_far one all at n old mid new buf stop fault answered acted cause a
         next = t.next;
         rest = t.rest;
         reads = Consumes-then old.left mid.left new.left a.read t.came.0 a.reads t.came.1;
-        opens = record { whole = bytes-last a.read buf t.came.0 t.rest a.exchanges a.opens.whole t.came.2; each = a.opens.each };
+        opens =
+            record {
+              whole =
+                  bytes-last a.read buf t.came.0 t.rest a.exchanges a.opens.whole t.came.2;
+              each =
+                  a.opens.each;
+            };
         few = subst (λ k. k < max_messages) a.count a.few;
         is_next = subst N a.count t.is_next;
         near = t.near;
         begun = t.writes.0;
         beginning = (t.writes.1, t.writes.2);
-        writes = Appends-then old.sent mid.sent new.sent (texts_of a.exchanges) t.writes.0 a.writes t.writes.3;
-        run = λ q. Leads-then old.content mid.content new.content at a.exchanges (next_exchange t.next) (a.run (f q)) (t.run (s q));
+        writes =
+            Appends-then old.sent mid.sent new.sent
+            (texts_of a.exchanges) t.writes.0 a.writes t.writes.3;
+        run =
+            λ q. Leads-then old.content mid.content new.content at a.exchanges
+            (next_exchange t.next) (a.run (f q)) (t.run (s q));
         faults = subst F a.faults t.faults;
       };
       answered = answered ∙ a.count;
       acted = acted ∙ t.acted;
-      cause = subst (λ (k : Cause). Blames k t.next t.rest t.writes.0 t.writes.1) (sym cause) t.cause;
+      cause =
+          subst (λ (k : Cause). Blames k t.next t.rest t.writes.0 t.writes.1) (sym cause) t.cause;
     }
 
 -- ---- however it ended
@@ -139,7 +174,8 @@ next_of (Last.Refused refusal) = Next.Refusing refusal
 next_of (Last.Closing x) = Next.Exchanging x true
 next_of (Last.Failed m) = Next.Failing m
 
-is-next-of : (last : Last) (rest : List ℕ) (n : ℕ) → EndsStream rest n last → IsNext rest n (next_of last)
+is-next-of : (last : Last) (rest : List ℕ) (n : ℕ) → EndsStream rest n last
+    → IsNext rest n (next_of last)
 is-next-of Last.Clean rest n e = tt
 is-next-of Last.Cut rest n e = tt
 is-next-of (Last.Refused refusal) rest n e = e
@@ -167,7 +203,8 @@ next-exchange-of (Last.Refused refusal) = refl
 next-exchange-of (Last.Closing x) = refl
 next-exchange-of (Last.Failed m) = refl
 
-next-rose-of : (last : Last) (old new : ℕ) → FaultsRose last old new → NextRose (next_of last) old new
+next-rose-of : (last : Last) (old new : ℕ) → FaultsRose last old new
+    → NextRose (next_of last) old new
 next-rose-of Last.Clean old new f = f
 next-rose-of Last.Cut old new f = f
 next-rose-of (Last.Refused refusal) old new f = f
@@ -177,7 +214,8 @@ next-rose-of (Last.Failed m) old new f = f
 pub served-connects : (holds : Type 0) (at : ℤ) (old new : Seen) (ended : Ended)
     → Serves holds at old new ended → Connects holds at old new
 served-connects holds at old new ended s =
-    let L : List Exchange → Type 0 = λ ys. RunsExchanges old.content at (s.exchanges ++ ys) new.content in
+    let L : List Exchange → Type 0 = λ ys. RunsExchanges old.content at
+    (s.exchanges ++ ys) new.content in
     record {
       read = s.read;
       exchanges = s.exchanges;

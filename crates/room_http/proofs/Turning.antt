@@ -35,7 +35,8 @@ asks-the-same buf next w =
     ap (λ (h : Head). request_of h (slice_range buf next.start next.end)) w.head
     ∙ ap (λ b. request_of (head_of w.message.head) b) w.body
 
-pub closes-the-same : (buf : List ℕ) (next : NextMessage) (w : WholeNext buf next) (n : ℕ) (close : Bool)
+pub closes-the-same : (buf : List ℕ) (next : NextMessage) (w : WholeNext buf next) (n : ℕ)
+    (close : Bool)
     → close ≡ (asks_close next.head || ((n + 1) == max_messages)) → says_close w.message n ≡ close
 closes-the-same buf next w n close e =
     ap (λ (h : Head). asks_close h || ((n + 1) == max_messages)) (sym w.head) ∙ sym e
@@ -62,19 +63,28 @@ leads-one at old new m reply run =
     subst (λ (events : List Event). Runs old events new)
     (sym (append-nil (events_at at (asked m) reply))) run
 
-pub take-open : (holds : Type 0) (at : ℤ) (n : ℕ) (old new : Seen) (buf after : List ℕ) (next : NextMessage) (w : WholeNext buf next)
-    (reply : Option Reply) → n < max_messages → length buf < next.end + read_size → new.left ≡ old.left → says_close w.message n ≡ false
+pub take-open : (holds : Type 0) (at : ℤ) (n : ℕ) (old new : Seen) (buf after : List ℕ)
+    (next : NextMessage) (w : WholeNext buf next)
+    (reply : Option Reply) → n < max_messages → length buf < next.end + read_size
+    → new.left ≡ old.left → says_close w.message n ≡ false
     → after ≡ drop next.end buf
-    → Replies holds at (asked w.message) old new reply → Appends old.sent new.sent (answer_text false (asked w.message) reply)
+    → Replies holds at (asked w.message) old new reply
+    → Appends old.sent new.sent (answer_text false (asked w.message) reply)
     → TurnsOpen holds at n old new buf after
 take-open holds at n old new buf after next w reply few near same stays rest r wrote =
     let m = w.message in
     let L : Option (List ℕ) → Type 0 = λ l. Came old.left l buf (print_message m ++ after) in
-    let whole : print_message m ++ after ≡ buf = ap (λ t. print_message m ++ t) rest ∙ sym w.whole in
-    let off : ((n + 1) == max_messages) ≡ false = or-second (closes m) ((n + 1) == max_messages) stays in
+    let whole : print_message m ++ after ≡ buf = ap (λ t. print_message m ++ t) rest
+    ∙ sym w.whole in
+    let off : ((n + 1) == max_messages) ≡ false = or-second (closes m)
+    ((n + 1) == max_messages) stays in
     record {
       x = record { message = m; reply = reply };
-      is_open = record { is = record { message = w.is; agrees = r.agrees }; stays = or-first (closes m) ((n + 1) == max_messages) stays };
+      is_open =
+          record {
+            is = record { message = w.is; agrees = r.agrees };
+            stays = or-first (closes m) ((n + 1) == max_messages) stays;
+          };
       more = not-last n few off;
       came = subst L (sym same) ([], Consumes-none old.left, whole ∙ sym (append-nil buf));
       near = near-rest buf after next.end rest near;
@@ -88,9 +98,12 @@ came-same u v buf e =
     let L : Option (List ℕ) → Type 0 = λ l. Came u l buf buf in
     subst L (sym e) (Came-none u buf)
 
-pub take-closing : (holds : Type 0) (at : ℤ) (n : ℕ) (old new : Seen) (buf : List ℕ) (next : NextMessage) (w : WholeNext buf next)
-    (reply : Option Reply) → length buf < next.end + read_size → new.left ≡ old.left → says_close w.message n ≡ true
-    → Replies holds at (asked w.message) old new reply → Appends old.sent new.sent (answer_text true (asked w.message) reply)
+pub take-closing : (holds : Type 0) (at : ℤ) (n : ℕ) (old new : Seen) (buf : List ℕ)
+    (next : NextMessage) (w : WholeNext buf next)
+    (reply : Option Reply) → length buf < next.end + read_size → new.left ≡ old.left
+    → says_close w.message n ≡ true
+    → Replies holds at (asked w.message) old new reply
+    → Appends old.sent new.sent (answer_text true (asked w.message) reply)
     → TurnsLast holds at n old new buf Ended.Closed
 take-closing holds at n old new buf next w reply near same close r wrote =
     let m = w.message in
@@ -108,22 +121,30 @@ take-closing holds at n old new buf next w reply near same close r wrote =
     }
 
 -- a whole reply, whatever it says of the connection
-pub take-answered : (holds : Type 0) (at : ℤ) (n : ℕ) (old new : Seen) (buf after : List ℕ) (next : NextMessage) (w : WholeNext buf next)
-    (reply : Option Reply) (close : Bool) (ended : Option Ended) → n < max_messages → length buf < next.end + read_size → new.left ≡ old.left
+pub take-answered : (holds : Type 0) (at : ℤ) (n : ℕ) (old new : Seen) (buf after : List ℕ)
+    (next : NextMessage) (w : WholeNext buf next)
+    (reply : Option Reply) (close : Bool) (ended : Option Ended) → n < max_messages
+    → length buf < next.end + read_size → new.left ≡ old.left
     → says_close w.message n ≡ close
-    → (close ≡ true → ended ≡ Some Ended.Closed) → (close ≡ false → (ended ≡ None) × (after ≡ drop next.end buf))
-    → Replies holds at (asked w.message) old new reply → Appends old.sent new.sent (answer_text close (asked w.message) reply)
+    → (close ≡ true → ended ≡ Some Ended.Closed)
+    → (close ≡ false → (ended ≡ None) × (after ≡ drop next.end buf))
+    → Replies holds at (asked w.message) old new reply
+    → Appends old.sent new.sent (answer_text close (asked w.message) reply)
     → Turns holds at n old new buf after (Ok ended)
-take-answered holds at n old new buf after next w reply true ended few near same says closing staying r wrote =
+take-answered holds at n old new buf after next w reply true ended few near same says closing
+    staying r wrote =
     subst (λ (e : Option Ended). Turns holds at n old new buf after (Ok e)) (sym (closing refl))
     (take-closing holds at n old new buf next w reply near same says r wrote)
-take-answered holds at n old new buf after next w reply false ended few near same says closing staying r wrote =
+take-answered holds at n old new buf after next w reply false ended few near same says closing
+    staying r wrote =
     let stays = staying refl in
     subst (λ (e : Option Ended). Turns holds at n old new buf after (Ok e)) (sym stays.0)
     (take-open holds at n old new buf after next w reply few near same says stays.1 r wrote)
 
-pub take-failed : (holds : Type 0) (at : ℤ) (n : ℕ) (old new : Seen) (buf : List ℕ) (next : NextMessage) (w : WholeNext buf next)
-    → length buf < next.end + read_size → new.left ≡ old.left → Fails holds (asked w.message) old new → Appends old.sent new.sent store_text
+pub take-failed : (holds : Type 0) (at : ℤ) (n : ℕ) (old new : Seen) (buf : List ℕ)
+    (next : NextMessage) (w : WholeNext buf next)
+    → length buf < next.end + read_size → new.left ≡ old.left
+    → Fails holds (asked w.message) old new → Appends old.sent new.sent store_text
     → TurnsLast holds at n old new buf Ended.Closed
 take-failed holds at n old new buf next w near same f wrote =
     record {
@@ -139,8 +160,10 @@ take-failed holds at n old new buf next w near same f wrote =
       faults = f.2;
     }
 
-pub take-stop : (holds : Type 0) (at : ℤ) (n : ℕ) (old new : Seen) (buf : List ℕ) (next : NextMessage) (w : WholeNext buf next)
-    (close : Bool) (stop : Halt) (begun : Begun) → length buf < next.end + read_size → new.left ≡ old.left → says_close w.message n ≡ close
+pub take-stop : (holds : Type 0) (at : ℤ) (n : ℕ) (old new : Seen) (buf : List ℕ)
+    (next : NextMessage) (w : WholeNext buf next)
+    (close : Bool) (stop : Halt) (begun : Begun) → length buf < next.end + read_size
+    → new.left ≡ old.left → says_close w.message n ≡ close
     → IsBegun holds at close (asked w.message) old new stop.acted stop.cause begun
     → TurnsStop holds at n old new buf stop
 take-stop holds at n old new buf next w close stop Begun.Nothing near same e b =
@@ -185,11 +208,14 @@ take-stop holds at n old new buf next w close stop Begun.Failing near same e b =
     }
 
 -- a turn after more bytes came
-pub shift : (holds : Type 0) (at : ℤ) (n : ℕ) (left mid sent : Option (List ℕ)) (content : Content → Type 0) (faults : ℕ) (new : Seen)
+pub shift : (holds : Type 0) (at : ℤ) (n : ℕ) (left mid sent : Option (List ℕ))
+    (content : Content → Type 0) (faults : ℕ) (new : Seen)
     (buf came after : List ℕ) (result : Result (Option Ended) Halt)
     → Came left mid buf came
-    → Turns holds at n (record { left = mid; sent = sent; content = content; faults = faults }) new came after result
-    → Turns holds at n (record { left = left; sent = sent; content = content; faults = faults }) new buf after result
+    → Turns holds at n (record { left = mid; sent = sent; content = content; faults = faults }) new
+    came after result
+    → Turns holds at n (record { left = left; sent = sent; content = content; faults = faults }) new
+    buf after result
 shift holds at n left mid sent content faults new buf came after (Ok None) more t = record {
   x = t.x;
   is_open = t.is_open;
@@ -234,41 +260,50 @@ none-is-no-some {A} {x} e =
 some-same : {A : Type 0} (x y : A) → Some x ≡ Some y → x ≡ y
 some-same x y e = ap (λ o. unwrap_or o x) e
 
-pub turn-refused : (holds : Type 0) (at : ℤ) (n : ℕ) (left mid sent wrote : Option (List ℕ)) (content : Content → Type 0) (faults : ℕ)
+pub turn-refused : (holds : Type 0) (at : ℤ) (n : ℕ) (left mid sent wrote : Option (List ℕ))
+    (content : Content → Type 0) (faults : ℕ)
     (buf came after : List ℕ) (reason : Refusal) (result : Result (Option Ended) Halt)
     → Came left mid buf came → IsRefusedHead came reason → IsNearHead came
     → IfOk result (λ ended. (ended ≡ Some Ended.Closed) × Appends sent wrote (refusal_reply reason))
-    → IfErr result (λ stop. (stop.acted ≡ false) × StopsWithin sent wrote (refusal_reply reason) stop.cause)
+    → IfErr result (λ stop. (stop.acted ≡ false)
+    × StopsWithin sent wrote (refusal_reply reason) stop.cause)
     → Turns holds at n (record { left = left; sent = sent; content = content; faults = faults })
     (record { left = mid; sent = wrote; content = content; faults = faults }) buf after result
-turn-refused holds at n left mid sent wrote content faults buf came after reason (Ok None) more is near ok err = absurd (none-is-no-some ok.0)
-turn-refused holds at n left mid sent wrote content faults buf came after reason (Ok (Some ended)) more is near ok err = record {
-  last = Last.Refused reason;
-  is = some-same ended Ended.Closed ok.0;
-  rest = came;
-  came = more;
-  ends = is;
-  near = near;
-  writes = ok.1;
-  at_end = tt;
-  run = λ s. Runs-none content;
-  faults = refl;
-}
-turn-refused holds at n left mid sent wrote content faults buf came after reason (Err stop) more is near ok err = record {
-  next = Next.Refusing reason;
-  rest = came;
-  came = more;
-  is_next = is;
-  near = near;
-  writes = err.1.0;
-  acted = err.0;
-  cause = err.1.1;
-  run = λ s. Runs-none content;
-  faults = refl;
-}
+turn-refused holds at n left mid sent wrote content faults buf came after reason
+    (Ok None) more is near ok err =
+    absurd (none-is-no-some ok.0)
+turn-refused holds at n left mid sent wrote content faults buf came after reason
+    (Ok (Some ended)) more is near ok err =
+    record {
+      last = Last.Refused reason;
+      is = some-same ended Ended.Closed ok.0;
+      rest = came;
+      came = more;
+      ends = is;
+      near = near;
+      writes = ok.1;
+      at_end = tt;
+      run = λ s. Runs-none content;
+      faults = refl;
+    }
+turn-refused holds at n left mid sent wrote content faults buf came after reason
+    (Err stop) more is near ok err =
+    record {
+      next = Next.Refusing reason;
+      rest = came;
+      came = more;
+      is_next = is;
+      near = near;
+      writes = err.1.0;
+      acted = err.0;
+      cause = err.1.1;
+      run = λ s. Runs-none content;
+      faults = refl;
+    }
 
 -- the input ended
-pub turn-clean : (holds : Type 0) (at : ℤ) (n : ℕ) (left mid sent : Option (List ℕ)) (content : Content → Type 0) (faults : ℕ)
+pub turn-clean : (holds : Type 0) (at : ℤ) (n : ℕ) (left mid sent : Option (List ℕ))
+    (content : Content → Type 0) (faults : ℕ)
     (buf came : List ℕ) → Came left mid buf came → IsAtEnd mid × (came ≡ [])
     → TurnsLast holds at n (record { left = left; sent = sent; content = content; faults = faults })
     (record { left = mid; sent = sent; content = content; faults = faults }) buf Ended.Clean
@@ -285,7 +320,8 @@ turn-clean holds at n left mid sent content faults buf came more e = record {
   faults = refl;
 }
 
-pub turn-cut : (holds : Type 0) (at : ℤ) (n : ℕ) (left mid sent : Option (List ℕ)) (content : Content → Type 0) (faults : ℕ)
+pub turn-cut : (holds : Type 0) (at : ℤ) (n : ℕ) (left mid sent : Option (List ℕ))
+    (content : Content → Type 0) (faults : ℕ)
     (buf came : List ℕ) → Came left mid buf came → IsAtEnd mid × IsPart came
     → TurnsLast holds at n (record { left = left; sent = sent; content = content; faults = faults })
     (record { left = mid; sent = sent; content = content; faults = faults }) buf Ended.Cut
@@ -303,10 +339,12 @@ turn-cut holds at n left mid sent content faults buf came more e = record {
 }
 
 -- a read brought nothing
-pub turn-stopped : (holds : Type 0) (at : ℤ) (n : ℕ) (left mid sent : Option (List ℕ)) (content : Content → Type 0) (faults : ℕ)
+pub turn-stopped : (holds : Type 0) (at : ℤ) (n : ℕ) (left mid sent : Option (List ℕ))
+    (content : Content → Type 0) (faults : ℕ)
     (buf : List ℕ) (cause : Cause) → StopsReading left mid buf cause
     → TurnsStop holds at n (record { left = left; sent = sent; content = content; faults = faults })
-    (record { left = mid; sent = sent; content = content; faults = faults }) buf (record { acted = false; cause = cause })
+    (record { left = mid; sent = sent; content = content; faults = faults }) buf
+    (record { acted = false; cause = cause })
 turn-stopped holds at n left mid sent content faults buf cause s = record {
   next = Next.Unknown;
   rest = s.0;

@@ -13,8 +13,10 @@ ok-same {A} {E} d x y r e f =
 
 pub same-front : (a b p q : List ℕ) → length a ≡ length b → a ++ p ≡ b ++ q → (a ≡ b) × (p ≡ q)
 same-front a b p q len e = (
-  sym (take-append_seam a p) ∙ ap (λ t. take (length a) t) e ∙ ap (λ n. take n (b ++ q)) len ∙ take-append_seam b q,
-  sym (drop-append_seam a p) ∙ ap (λ t. drop (length a) t) e ∙ ap (λ n. drop n (b ++ q)) len ∙ drop-append_seam b q,
+  sym (take-append_seam a p) ∙ ap (λ t. take (length a) t) e ∙ ap (λ n. take n (b ++ q)) len
+      ∙ take-append_seam b q,
+  sym (drop-append_seam a p) ∙ ap (λ t. drop (length a) t) e ∙ ap (λ n. drop n (b ++ q)) len
+      ∙ drop-append_seam b q,
 )
 
 -- bytes begin with one message at most, and one rest
@@ -25,6 +27,7 @@ message-unique bytes p q m k im ik e f =
     (im.head.valid, e ∙ append_assoc (print_request m.head) m.body p)
     (ik.head.valid, f ∙ append_assoc (print_request k.head) k.body q) in
     let len : length m.body ≡ length k.body =
-    ok-same 0 (length m.body) (length k.body) (body_size_of m.head) im.size (ap (λ (h : RequestHead). body_size_of h) u.0 ∙ ik.size) in
+    ok-same 0 (length m.body) (length k.body) (body_size_of m.head) im.size
+    (ap (λ (h : RequestHead). body_size_of h) u.0 ∙ ik.size) in
     let same = same-front m.body k.body p q len u.1 in
     (rw (u.0, same.0) refl, same.1)

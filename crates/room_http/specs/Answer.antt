@@ -87,7 +87,8 @@ JoinsText text (Err lost) = lost.acted ≡ true
 abbrev pub AnswersMessage : Type 0 → ℤ → Bool → Asked → (Content → Type 0) → (Content → Type 0)
     → ℕ → ℕ → Result Answer Lost → Type 0
 AnswersMessage holds at close asked old new faults_old faults_new (Ok (Answer.Text text)) =
-    (SendsRefusal close asked old new text.items ⊎ TellsReply holds at close asked old new text.items)
+    (SendsRefusal close asked old new text.items
+    ⊎ TellsReply holds at close asked old new text.items)
     × (faults_new ≡ faults_old)
 AnswersMessage holds at close asked old new faults_old faults_new (Ok Answer.Fault) =
     Failed holds asked old new faults_old faults_new

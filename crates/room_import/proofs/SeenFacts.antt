@@ -19,14 +19,21 @@ agree false true to from = from refl
 agree false false to from = refl
 
 same_text-sym : (a b : List ℕ) → same_text a b ≡ same_text b a
-same_text-sym a b = agree _ _ (λ e. (bytes_decides b a).1 (sym ((bytes_decides a b).0 e))) (λ e. (bytes_decides a b).1 (sym ((bytes_decides b a).0 e)))
+same_text-sym a b =
+    agree _ _ (λ e. (bytes_decides b a).1 (sym ((bytes_decides a b).0 e)))
+    (λ e. (bytes_decides a b).1 (sym ((bytes_decides b a).0 e)))
 
 -- two keys compare as equal where their texts are the same
-key_equal : {A : Type 0} (x y : String A × String A) → is_eq (pair_cmp x y) ≡ same_pair (pair_bytes y) (pair_bytes x)
+key_equal : {A : Type 0} (x y : String A × String A)
+    → is_eq (pair_cmp x y) ≡ same_pair (pair_bytes y) (pair_bytes x)
 key_equal x y =
     sym (tied_then (string_cmp x.0 y.0) (string_cmp x.1 y.1))
-    ∙ ap (λ b. b && is_eq (string_cmp x.1 y.1)) (is_eq-slice_cmp (string_bytes x.0) (string_bytes y.0) ∙ same_text-sym (string_bytes x.0) (string_bytes y.0))
-    ∙ ap (λ b. same_text (string_bytes y.0) (string_bytes x.0) && b) (is_eq-slice_cmp (string_bytes x.1) (string_bytes y.1) ∙ same_text-sym (string_bytes x.1) (string_bytes y.1))
+    ∙ ap (λ b. b && is_eq (string_cmp x.1 y.1))
+    (is_eq-slice_cmp (string_bytes x.0) (string_bytes y.0)
+    ∙ same_text-sym (string_bytes x.0) (string_bytes y.0))
+    ∙ ap (λ b. same_text (string_bytes y.0) (string_bytes x.0) && b)
+    (is_eq-slice_cmp (string_bytes x.1) (string_bytes y.1)
+    ∙ same_text-sym (string_bytes x.1) (string_bytes y.1))
 
 one_more : (is : Bool) (before : Bool) → cond is true before ≡ (before || (is || false))
 one_more true true = refl
@@ -34,23 +41,32 @@ one_more true false = refl
 one_more false true = refl
 one_more false false = refl
 
-pub seen_more : {A : Type 0} (seen more : BTreeSet (String A × String A)) (pairs : List (List ℕ × List ℕ)) (key : String A × String A) → HasSeen seen pairs
-    → ((other : String A × String A) → contains pair_cmp more other ≡ cond (is_eq (pair_cmp key other)) true (contains pair_cmp seen other))
+pub seen_more : {A : Type 0} (seen more : BTreeSet (String A × String A))
+    (pairs : List (List ℕ × List ℕ)) (key : String A × String A) → HasSeen seen pairs
+    → ((other : String A × String A)
+    → contains pair_cmp more other
+    ≡ cond (is_eq (pair_cmp key other)) true (contains pair_cmp seen other))
     → HasSeen more (pairs ++ pair_bytes key ∷ [])
 seen_more seen more pairs key has adds other =
     adds other
     ∙ ap (λ b. cond b true (contains pair_cmp seen other)) (key_equal key other)
     ∙ ap (λ b. cond (same_pair (pair_bytes other) (pair_bytes key)) true b) (has other)
-    ∙ one_more (same_pair (pair_bytes other) (pair_bytes key)) (list_any (same_pair (pair_bytes other)) pairs)
+    ∙ one_more (same_pair (pair_bytes other) (pair_bytes key))
+    (list_any (same_pair (pair_bytes other)) pairs)
     ∙ sym (list_any-append (same_pair (pair_bytes other)) pairs (pair_bytes key ∷ []))
 
-pub seen_same : {A : Type 0} (seen more : BTreeSet (String A × String A)) (pairs : List (List ℕ × List ℕ)) → HasSeen seen pairs → more.keys ≡ seen.keys → HasSeen more pairs
-seen_same seen more pairs has same other = ap (λ (keys : List _). list_any (λ key. is_eq (pair_cmp other key)) keys) same ∙ has other
+pub seen_same : {A : Type 0} (seen more : BTreeSet (String A × String A))
+    (pairs : List (List ℕ × List ℕ)) → HasSeen seen pairs → more.keys ≡ seen.keys
+    → HasSeen more pairs
+seen_same seen more pairs has same other =
+    ap (λ (keys : List _). list_any (λ key. is_eq (pair_cmp other key)) keys) same ∙ has other
 
-pub with_new : (pairs : List (List ℕ × List ℕ)) (pair : List ℕ × List ℕ) → list_any (same_pair pair) pairs ≡ false → with_pair pairs pair ≡ pairs ++ pair ∷ []
+pub with_new : (pairs : List (List ℕ × List ℕ)) (pair : List ℕ × List ℕ)
+    → list_any (same_pair pair) pairs ≡ false → with_pair pairs pair ≡ pairs ++ pair ∷ []
 with_new pairs pair isnt = cond-false _ _ _ isnt
 
-pub with_old : (pairs : List (List ℕ × List ℕ)) (pair : List ℕ × List ℕ) → list_any (same_pair pair) pairs ≡ true → with_pair pairs pair ≡ pairs
+pub with_old : (pairs : List (List ℕ × List ℕ)) (pair : List ℕ × List ℕ)
+    → list_any (same_pair pair) pairs ≡ true → with_pair pairs pair ≡ pairs
 with_old pairs pair is = cond-true _ _ _ is
 
 pub untrue : (b : Bool) → not b ≡ true → b ≡ false
@@ -61,5 +77,7 @@ pub unfalse : (b : Bool) → not b ≡ false → b ≡ true
 unfalse true e = refl
 unfalse false e = sym e
 
-pub key_named : {A : Type 0} (first second : String A) (group user : List ℕ) → string_bytes first ≡ group → string_bytes second ≡ user → pair_bytes {A = A} (first, second) ≡ (group, user)
+pub key_named : {A : Type 0} (first second : String A) (group user : List ℕ)
+    → string_bytes first ≡ group → string_bytes second ≡ user
+    → pair_bytes {A = A} (first, second) ≡ (group, user)
 key_named first second group user at_first at_second = rw (at_first, at_second) refl

@@ -16,46 +16,76 @@ use Rattle.room_inherit.specs.Laws.{StoredAlongPath}
 use Rattle.room_rows.specs.Pass.{pass}
 use Rattle.room_inherit.proofs.Stored.{all_found, or_true}
 
-module _ (content : Content) (rises : Rises content) (which : Which) (all : AllAgree content which) where
+module _ (content : Content) (rises : Rises content) (which : Which)
+    (all : AllAgree content which) where
   abbrev stored : Node → List Ace
   stored node = full_of (held_of which node)
 
   -- a child's full list below the stored one of its parent
-  below : (parent child : Node) → node_at content child.id ≡ Some child → parent_of content child ≡ Some parent → full_below which parent (stored parent) child ≡ stored child
+  below : (parent child : Node) → node_at content child.id ≡ Some child
+      → parent_of content child ≡ Some parent
+      → full_below which parent (stored parent) child ≡ stored child
   below parent child there above =
-      let agree : agrees_with which child parent ≡ true = sym (ap (λ o. option_map_or (agrees_with which child) o true) above) ∙ all_found (agrees content which) (λ n. n.id == child.id) content.nodes child all there in
+      let agree : agrees_with which child parent ≡ true =
+      sym (ap (λ o. option_map_or (agrees_with which child) o true) above)
+      ∙ all_found (agrees content which)
+      (λ n. n.id == child.id) content.nodes child all there in
       on (is_linked (held_of which child) (Some (held_of which parent))) refl agree
     where
-      on : (t : Bool) → is_linked (held_of which child) (Some (held_of which parent)) ≡ t → agrees_with which child parent ≡ true
-          → (held_of which child).own ++ cond t (pass child.kind (stored parent)) (held_of which child).inh ≡ stored child
-      on true linked agree = ap (λ es. (held_of which child).own ++ es) (sym (entries_equal (held_of which child).inh (pass child.kind (stored parent)) (or_true (is_linked (held_of which child) (Some (held_of which parent))) _ agree linked)))
+      on : (t : Bool) → is_linked (held_of which child) (Some (held_of which parent)) ≡ t
+          → agrees_with which child parent ≡ true
+          → (held_of which child).own
+          ++ cond t (pass child.kind (stored parent)) (held_of which child).inh ≡ stored child
+      on true linked agree =
+          ap (λ es. (held_of which child).own ++ es)
+          (sym (entries_equal (held_of which child).inh (pass child.kind (stored parent))
+          (or_true (is_linked (held_of which child) (Some (held_of which parent))) _ agree linked)))
       on false linked agree = refl
 
-  child_above : (parent child : Node) (name : List ℕ) → node_at content parent.id ≡ Some parent → child_of content parent.id name ≡ Some child → parent_of content child ≡ Some parent
-  child_above parent child name there found = ap (option_and_then (node_at content)) (child_of-parent content parent.id name child found) ∙ there
+  child_above : (parent child : Node) (name : List ℕ) → node_at content parent.id ≡ Some parent
+      → child_of content parent.id name ≡ Some child → parent_of content child ≡ Some parent
+  child_above parent child name there found =
+      ap (option_and_then (node_at content)) (child_of-parent content parent.id name child found)
+      ∙ there
 
   along : (names : List (List ℕ)) (node : Node) → node_at content node.id ≡ Some node
-      → (rest : List Node) × ((walk_from content node names).chain ≡ node ∷ rest) × (fulls_below which node (stored node) rest ≡ map stored rest)
+      → (rest : List Node) × ((walk_from content node names).chain ≡ node ∷ rest)
+      × (fulls_below which node (stored node) rest ≡ map stored rest)
   along [] node there = ([], refl, refl)
-  along (name ∷ names) node there = on (child_of content node.id name) refl (λ child found. along names child (child_of-is_there content rises node.id name child found))
+  along (name ∷ names) node there =
+      on (child_of content node.id name) refl
+      (λ child found. along names child (child_of-is_there content rises node.id name child found))
     where
       on : (o : Option Node) → child_of content node.id name ≡ o
-          → ((child : Node) → child_of content node.id name ≡ Some child → (rest : List Node) × ((walk_from content child names).chain ≡ child ∷ rest) × (fulls_below which child (stored child) rest ≡ map stored rest))
+          → ((child : Node) → child_of content node.id name ≡ Some child → (rest : List Node)
+          × ((walk_from content child names).chain ≡ child ∷ rest)
+          × (fulls_below which child (stored child) rest ≡ map stored rest))
           → (rest : List Node)
-          × ((option_map_or (λ child. behind node (walk_from content child names)) o (record { chain = node ∷ []; rest = length (name ∷ names) })).chain ≡ node ∷ rest)
+          × ((option_map_or (λ child. behind node (walk_from content child names)) o
+          (record { chain = node ∷ []; rest = length (name ∷ names) })).chain ≡ node ∷ rest)
           × (fulls_below which node (stored node) rest ≡ map stored rest)
       on None found more = ([], refl, refl)
       on (Some child) found more =
           let on = more child found in
-          let here = below node child (child_of-is_there content rises node.id name child found) (child_above node child name there found) in
-          (child ∷ on.0, ap (λ (l : List Node). node ∷ l) on.1, (λ i. here i ∷ fulls_below which child (here i) on.0) ∙ ap (λ (l : List (List Ace)). stored child ∷ l) on.2)
+          let here = below node child (child_of-is_there content rises node.id name child found)
+          (child_above node child name there found) in (
+            child ∷ on.0,
+            ap (λ (l : List Node). node ∷ l) on.1,
+            (λ i. here i ∷ fulls_below which child (here i) on.0)
+                ∙ ap (λ (l : List (List Ace)). stored child ∷ l) on.2,
+          )
 
   from_root : (names : List (List ℕ)) (o : Option Node) → root_of content ≡ o
-      → fulls which (option_map_or (λ root. walk_from content root names) o (record { chain = []; rest = length names })).chain ≡ map stored (option_map_or (λ root. walk_from content root names) o (record { chain = []; rest = length names })).chain
+      → fulls which (option_map_or (λ root. walk_from content root names) o
+      (record { chain = []; rest = length names })).chain
+      ≡ map stored (option_map_or (λ root. walk_from content root names) o
+      (record { chain = []; rest = length names })).chain
   from_root names None found = refl
   from_root names (Some root) found =
       let on = along names root (root_of-is_there content rises root found) in
-      ap (fulls which) on.1 ∙ ap (λ (l : List (List Ace)). stored root ∷ l) on.2 ∙ sym (ap (map stored) on.1)
+      ap (fulls which) on.1 ∙ ap (λ (l : List (List Ace)). stored root ∷ l) on.2
+      ∙ sym (ap (map stored) on.1)
 
 pub stored_along_path : StoredAlongPath
-stored_along_path rows which names are all = from_root rows.read (rows-rise rows are) which all names (root_of rows.read) refl
+stored_along_path rows which names are all =
+    from_root rows.read (rows-rise rows are) which all names (root_of rows.read) refl

@@ -5,11 +5,14 @@ use Rattle.room_rows.specs.declared.keep.KeepFault.TheVariants.{Memory, Store, D
 use Rattle.room_rows.specs.Rows.{Rows}
 use Rattle.room_rows.specs.Keep.{HasCause, IfSeen, IsRead}
 
-module _ {S : Type 0} (rows : S → Rows) (failures writes : S → ℕ) (Follows IsTrusted : S → S → Type 0) where
+module _ {S : Type 0} (rows : S → Rows) (failures writes : S → ℕ)
+    (Follows IsTrusted : S → S → Type 0) where
   -- a fault of a read is the fault of the call that made it, which may blame more rows
-  pub blames_less : {X Y : Type 0} (a c : S) (e : KeepFault) {Blames Blames' : Rows → ℕ → Type 0} {Answers : Rows → X → Type 0} {Answers' : Rows → Y → Type 0}
+  pub blames_less : {X Y : Type 0} (a c : S) (e : KeepFault) {Blames Blames' : Rows → ℕ → Type 0}
+      {Answers : Rows → X → Type 0} {Answers' : Rows → Y → Type 0}
       → (IsTrusted a c → (at : ℕ) → Blames (rows a) at → Blames' (rows a) at)
-      → IsRead rows failures writes Follows IsTrusted {X = X} a c (Err e) Blames Answers → IsRead rows failures writes Follows IsTrusted {X = Y} a c (Err e) Blames' Answers'
+      → IsRead rows failures writes Follows IsTrusted {X = X} a c (Err e) Blames Answers
+      → IsRead rows failures writes Follows IsTrusted {X = Y} a c (Err e) Blames' Answers'
   blames_less {X = X} {Y = Y} a c e {Blames} {Blames'} less read = record {
     follows = read.follows;
     unwritten = read.unwritten;
@@ -19,12 +22,15 @@ module _ {S : Type 0} (rows : S → Rows) (failures writes : S → ℕ) (Follows
     fault = cause e read.fault;
   }
     where
-      same : (e : KeepFault) → IfSeen {X = X} (Err e) (rows c ≡ rows a) → IfSeen {X = Y} (Err e) (rows c ≡ rows a)
+      same : (e : KeepFault) → IfSeen {X = X} (Err e) (rows c ≡ rows a)
+          → IfSeen {X = Y} (Err e) (rows c ≡ rows a)
       same Memory h = tt
       same Store h = tt
       same (Damaged id) h = h
 
-      cause : (e : KeepFault) → HasCause (failures a) (failures c) (λ at. IsTrusted a c → Blames (rows a) at) e → HasCause (failures a) (failures c) (λ at. IsTrusted a c → Blames' (rows a) at) e
+      cause : (e : KeepFault)
+          → HasCause (failures a) (failures c) (λ at. IsTrusted a c → Blames (rows a) at) e
+          → HasCause (failures a) (failures c) (λ at. IsTrusted a c → Blames' (rows a) at) e
       cause Memory h = tt
       cause Store h = h
       cause (Damaged id) h = λ t. less t id (h t)

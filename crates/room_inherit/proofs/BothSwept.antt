@@ -33,10 +33,15 @@ use Rattle.room_inherit.proofs.NoFault.{checked_is_tree}
 use Rattle.room_inherit.proofs.Unmoved.{all_map, reach_all}
 
 -- the parent of an object is found with its other list
-parent_set : (which : Which) (f : Node → List Ace) (old : Content) (n : Node) → parent_of (with_lists which f old) (set which f n) ≡ option_map (set which f) (parent_of old n)
-parent_set which f old n = ap (option_and_then (node_at (with_lists which f old))) (same_parent which (f n) n) ∙ on n.parent
+parent_set : (which : Which) (f : Node → List Ace) (old : Content) (n : Node)
+    → parent_of (with_lists which f old) (set which f n)
+    ≡ option_map (set which f) (parent_of old n)
+parent_set which f old n =
+    ap (option_and_then (node_at (with_lists which f old))) (same_parent which (f n) n)
+    ∙ on n.parent
   where
-    on : (o : Option ℕ) → option_and_then (node_at (with_lists which f old)) o ≡ option_map (set which f) (option_and_then (node_at old) o)
+    on : (o : Option ℕ) → option_and_then (node_at (with_lists which f old)) o
+        ≡ option_map (set which f) (option_and_then (node_at old) o)
     on None = refl
     on (Some p) = find_set which f p old.nodes
 
@@ -47,13 +52,18 @@ module _ (f : Node → List Ace) (old : Content) where
   mid = with_lists Dacl f old
 
   linked_mid : (n : Node) → is_linked_in mid Sacl (set Dacl f n) ≡ is_linked_in old Sacl n
-  linked_mid n = ap (λ o. is_linked (held_of Sacl n) (option_map (held_of Sacl) o)) (parent_set Dacl f old n) ∙ on (parent_of old n)
+  linked_mid n =
+      ap (λ o. is_linked (held_of Sacl n) (option_map (held_of Sacl) o)) (parent_set Dacl f old n)
+      ∙ on (parent_of old n)
     where
-      on : (o : Option Node) → is_linked (held_of Sacl n) (option_map (held_of Sacl) (option_map (set Dacl f) o)) ≡ is_linked (held_of Sacl n) (option_map (held_of Sacl) o)
+      on : (o : Option Node)
+          → is_linked (held_of Sacl n) (option_map (held_of Sacl) (option_map (set Dacl f) o))
+          ≡ is_linked (held_of Sacl n) (option_map (held_of Sacl) o)
       on None = refl
       on (Some q) = refl
 
-  there_mid : (n : Node) → node_at old n.id ≡ Some n → node_at mid (set Dacl f n).id ≡ Some (set Dacl f n)
+  there_mid : (n : Node) → node_at old n.id ≡ Some n
+      → node_at mid (set Dacl f n).id ≡ Some (set Dacl f n)
   there_mid n there = find_set Dacl f n.id old.nodes ∙ ap (option_map (set Dacl f)) there
 
   place : (n : Node) → IsSamePlace (set Dacl f n) n
@@ -61,89 +71,145 @@ module _ (f : Node → List Ace) (old : Content) where
 
   tree_mid : IsTree old → IsTree mid
   tree_mid tree = record {
-    one_root = count_length is_root (map (set Dacl f) old.nodes) ∙ count_map is_root (set Dacl f) old.nodes ∙ sym (count_length is_root old.nodes) ∙ tree.one_root;
+    one_root =
+        count_length is_root (map (set Dacl f) old.nodes) ∙ count_map is_root (set Dacl f) old.nodes
+        ∙ sym (count_length is_root old.nodes) ∙ tree.one_root;
     folders = folders_stay Dacl f old tree.folders;
-    connected = all_map (reaches mid) (reaches old) (set Dacl f) (reach_all old (set Dacl f) place) old.nodes ∙ tree.connected;
+    connected =
+        all_map (reaches mid) (reaches old) (set Dacl f)
+        (reach_all old (set Dacl f) place) old.nodes ∙ tree.connected;
   }
 
-  root_mid : (nodes : List Node) → find (λ node. is_none node.parent) (map (set Dacl f) nodes) ≡ None → find (λ node. is_none node.parent) nodes ≡ None
+  root_mid : (nodes : List Node)
+      → find (λ node. is_none node.parent) (map (set Dacl f) nodes) ≡ None
+      → find (λ node. is_none node.parent) nodes ≡ None
   root_mid [] none = refl
   root_mid (x ∷ xs) none = on (is_none x.parent) none (λ rest. root_mid xs rest)
     where
-      on : (t : Bool) → cond t (Some (set Dacl f x)) (find (λ node. is_none node.parent) (map (set Dacl f) xs)) ≡ None → (find (λ node. is_none node.parent) (map (set Dacl f) xs) ≡ None → find (λ node. is_none node.parent) xs ≡ None)
+      on : (t : Bool) → cond t (Some (set Dacl f x))
+          (find (λ node. is_none node.parent) (map (set Dacl f) xs)) ≡ None
+          → (find (λ node. is_none node.parent) (map (set Dacl f) xs) ≡ None
+          → find (λ node. is_none node.parent) xs ≡ None)
           → cond t (Some x) (find (λ node. is_none node.parent) xs) ≡ None
       on true is rest = absurd (let wrong : ⊥ = cc in wrong)
       on false is rest = rest is
 
-  agrees_still : (g : Node → List Ace) (content : Content) (n : Node) → agrees (with_lists Sacl g content) Dacl (set Sacl g n) ≡ agrees content Dacl n
-  agrees_still g content n = ap (λ o. option_map_or (agrees_with Dacl (set Sacl g n)) o true) (parent_set Sacl g content n) ∙ on (parent_of content n)
+  agrees_still : (g : Node → List Ace) (content : Content) (n : Node)
+      → agrees (with_lists Sacl g content) Dacl (set Sacl g n) ≡ agrees content Dacl n
+  agrees_still g content n =
+      ap (λ o. option_map_or (agrees_with Dacl (set Sacl g n)) o true) (parent_set Sacl g content n)
+      ∙ on (parent_of content n)
     where
-      on : (o : Option Node) → option_map_or (agrees_with Dacl (set Sacl g n)) (option_map (set Sacl g) o) true ≡ option_map_or (agrees_with Dacl n) o true
+      on : (o : Option Node)
+          → option_map_or (agrees_with Dacl (set Sacl g n)) (option_map (set Sacl g) o) true
+          ≡ option_map_or (agrees_with Dacl n) o true
       on None = refl
       on (Some q) = refl
 
   -- the law of dacls doesn't depend on sacls
-  law_stays : (g : Node → List Ace) (content : Content) → AllAgree content Dacl → AllAgree (with_lists Sacl g content) Dacl
-  law_stays g content law = all_map (agrees (with_lists Sacl g content) Dacl) (agrees content Dacl) (set Sacl g) (agrees_still g content) content.nodes ∙ law
+  law_stays : (g : Node → List Ace) (content : Content) → AllAgree content Dacl
+      → AllAgree (with_lists Sacl g content) Dacl
+  law_stays g content law =
+      all_map (agrees (with_lists Sacl g content) Dacl) (agrees content Dacl) (set Sacl g)
+      (agrees_still g content) content.nodes ∙ law
 
-  dacls_agree : (g : Node → List Ace) (content : Content) → ChangedAgree Dacl old content → ChangedAgree Dacl old (with_lists Sacl g content)
+  dacls_agree : (g : Node → List Ace) (content : Content) → ChangedAgree Dacl old content
+      → ChangedAgree Dacl old (with_lists Sacl g content)
   dacls_agree g content agree =
-      all_map (λ n. stores_as_before old Dacl n || agrees (with_lists Sacl g content) Dacl n) (λ n. stores_as_before old Dacl n || agrees content Dacl n) (set Sacl g) (λ n. ap (λ t. stores_as_before old Dacl n || t) (agrees_still g content n)) content.nodes
+      all_map (λ n. stores_as_before old Dacl n || agrees (with_lists Sacl g content) Dacl n)
+      (λ n. stores_as_before old Dacl n || agrees content Dacl n) (set Sacl g)
+      (λ n. ap (λ t. stores_as_before old Dacl n || t) (agrees_still g content n)) content.nodes
       ∙ agree
 
   sacls_agree : (new : Content) → ChangedAgree Sacl mid new → ChangedAgree Sacl old new
   sacls_agree new agree = (λ i. list_all (λ n. stored n i || agrees new Sacl n) new.nodes) ∙ agree
     where
       stored : (n : Node) → stores_as_before old Sacl n ≡ stores_as_before mid Sacl n
-      stored n = sym (ap (λ o. option_map_or (λ (m : Node). same_entries (held_of Sacl n).inh (held_of Sacl m).inh) o false) (find_set Dacl f n.id old.nodes) ∙ on (node_at old n.id))
+      stored n =
+          sym (ap
+          (λ o. option_map_or (λ (m : Node). same_entries (held_of Sacl n).inh (held_of Sacl m).inh)
+          o false) (find_set Dacl f n.id old.nodes) ∙ on (node_at old n.id))
         where
-          on : (o : Option Node) → option_map_or (λ (m : Node). same_entries (held_of Sacl n).inh (held_of Sacl m).inh) (option_map (set Dacl f) o) false ≡ option_map_or (λ (m : Node). same_entries (held_of Sacl n).inh (held_of Sacl m).inh) o false
+          on : (o : Option Node)
+              → option_map_or (λ (m : Node). same_entries (held_of Sacl n).inh (held_of Sacl m).inh)
+              (option_map (set Dacl f) o) false
+              ≡ option_map_or (λ (m : Node). same_entries (held_of Sacl n).inh (held_of Sacl m).inh)
+              o false
           on None = refl
           on (Some q) = refl
 
 -- ---- rows
 
-pub both_swept : (old mid new : Rows) (d s : ℕ) → IsSwept Dacl old mid d → IsSwept Sacl mid new s → IsSpreadAll old new (capped (d + s))
+pub both_swept : (old mid new : Rows) (d s : ℕ) → IsSwept Dacl old mid d → IsSwept Sacl mid new s
+    → IsSpreadAll old new (capped (d + s))
 both_swept old middle new d s first last =
     let f = first.lists in
     let m = mid f old.read in
-    let next : IsSwept Sacl (reading old (mid f old.read)) new s = subst (λ (r : Rows). IsSwept Sacl r new s) first.becomes last in
+    let next : IsSwept Sacl (reading old (mid f old.read)) new s = subst
+    (λ (r : Rows). IsSwept Sacl r new s) first.becomes last in
     let g = next.lists in
     let sacls : Node → List Ace = λ n. g (set Dacl f n) in
     let both : IsTree old.read → (which : Which) → AllAgree new.read which = λ tree which.
-    on which tree (λ t. subst (λ (r : Rows). AllAgree r.read Dacl) (sym next.becomes) (law_stays f old.read g (mid f old.read) (subst (λ (r : Rows). AllAgree r.read Dacl) first.becomes (first.law t)))) (λ t. next.law (tree_mid f old.read t)) in
+    on which tree (λ t. subst (λ (r : Rows). AllAgree r.read Dacl) (sym next.becomes)
+    (law_stays f old.read g (mid f old.read)
+    (subst (λ (r : Rows). AllAgree r.read Dacl) first.becomes (first.law t))))
+    (λ t. next.law (tree_mid f old.read t)) in
     record {
       dacls = f;
       sacls = sacls;
-      becomes = next.becomes ∙ ap (λ (ns : List Node). reading old (record old.read { nodes = ns })) (map_map (set Sacl g) (set Dacl f) old.read.nodes);
+      becomes =
+          next.becomes ∙ ap (λ (ns : List Node). reading old (record old.read { nodes = ns }))
+          (map_map (set Sacl g) (set Dacl f) old.read.nodes);
       linked_dacls = first.linked;
-      linked_sacls = λ n there changed. sym (linked_mid f old.read n) ∙ next.linked (set Dacl f n) (there_mid f old.read n there) changed;
+      linked_sacls =
+          λ n there changed. sym (linked_mid f old.read n)
+          ∙ next.linked (set Dacl f n) (there_mid f old.read n there) changed;
       counted = capped_below (d + s) (let a = first.few in let b = last.few in omega (arith, a, b))
-          ∙ (λ i. first.counted i + (next.counted ∙ count-is (is_changed Sacl g) (map (set Dacl f) old.read.nodes) ∙ count_map (is_changed Sacl g) (set Dacl f) old.read.nodes ∙ sym (count-is (is_changed Sacl sacls) old.read.nodes)) i);
-      agree = λ which. agreeing which (subst (λ (r : Rows). ChangedAgree Dacl old.read r.read) (sym next.becomes) (dacls_agree f old.read g (mid f old.read) (subst (λ (r : Rows). ChangedAgree Dacl old.read r.read) first.becomes first.agree))) (sacls_agree f old.read new.read next.agree);
+          ∙ (λ i. first.counted i +
+          (next.counted ∙ count-is (is_changed Sacl g) (map (set Dacl f) old.read.nodes)
+          ∙ count_map (is_changed Sacl g) (set Dacl f) old.read.nodes
+          ∙ sym (count-is (is_changed Sacl sacls) old.read.nodes)) i);
+      agree =
+          λ which. agreeing which
+          (subst (λ (r : Rows). ChangedAgree Dacl old.read r.read) (sym next.becomes)
+          (dacls_agree f old.read g (mid f old.read)
+          (subst (λ (r : Rows). ChangedAgree Dacl old.read r.read) first.becomes first.agree)))
+          (sacls_agree f old.read new.read next.agree);
       law = λ none. both (checked_is_tree old none);
       in_tree = both;
     }
   where
-    agreeing : (which : Which) → ChangedAgree Dacl old.read new.read → ChangedAgree Sacl old.read new.read → ChangedAgree which old.read new.read
+    agreeing : (which : Which) → ChangedAgree Dacl old.read new.read
+        → ChangedAgree Sacl old.read new.read → ChangedAgree which old.read new.read
     agreeing Dacl dacl sacl = dacl
     agreeing Sacl dacl sacl = sacl
 
-    on : (which : Which) → IsTree old.read → (IsTree old.read → AllAgree new.read Dacl) → (IsTree old.read → AllAgree new.read Sacl) → AllAgree new.read which
+    on : (which : Which) → IsTree old.read → (IsTree old.read → AllAgree new.read Dacl)
+        → (IsTree old.read → AllAgree new.read Sacl) → AllAgree new.read which
     on Dacl tree dacl sacl = dacl tree
     on Sacl tree dacl sacl = sacl tree
 
-no_root_before : (old mid : Rows) (d at : ℕ) → IsSwept Dacl old mid d → HasNoRoot mid at → HasNoRoot old at
-no_root_before old middle d at first (inl damaged) = inl (ap (λ (r : Rows). is_unreadable r at) (sym first.becomes) ∙ damaged)
-no_root_before old middle d at first (inr none) = inr (none.0, root_mid first.lists old.read old.read.nodes (ap (λ (r : Rows). root_of r.read) (sym first.becomes) ∙ none.1))
+no_root_before : (old mid : Rows) (d at : ℕ) → IsSwept Dacl old mid d → HasNoRoot mid at
+    → HasNoRoot old at
+no_root_before old middle d at first (inl damaged) =
+    inl (ap (λ (r : Rows). is_unreadable r at) (sym first.becomes) ∙ damaged)
+no_root_before old middle d at first (inr none) =
+    inr (
+      none.0,
+      root_mid first.lists old.read old.read.nodes
+          (ap (λ (r : Rows). root_of r.read) (sym first.becomes) ∙ none.1),
+    )
 
 -- ---- calls
 
 module _ {S : Type 0} (k : Ghosts S) where
-  pub first_fails : (a b : S) (e : SpreadFault) → Sweeps k a b Dacl (Err e) → SpreadsAll k a b (Err e)
-  first_fails a b e sweep = record { follows = sweep.follows; written = tt; becomes = λ t. tt; fault = sweep.fault }
+  pub first_fails : (a b : S) (e : SpreadFault) → Sweeps k a b Dacl (Err e)
+      → SpreadsAll k a b (Err e)
+  first_fails a b e sweep =
+      record { follows = sweep.follows; written = tt; becomes = λ t. tt; fault = sweep.fault }
 
-  module _ (laws : KeepLaws k.rows k.failures k.writes k.Follows k.IsTrusted) (a b c : S) (d : Spread) (first : Sweeps k a b Dacl (Ok d)) where
+  module _ (laws : KeepLaws k.rows k.failures k.writes k.Follows k.IsTrusted) (a b c : S)
+      (d : Spread) (first : Sweeps k a b Dacl (Ok d)) where
     pub second_fails : (e : SpreadFault) → Sweeps k b c Sacl (Err e) → SpreadsAll k a c (Err e)
     second_fails e sweep = record {
       follows = laws.on a b c first.follows sweep.follows;
@@ -152,17 +218,31 @@ module _ {S : Type 0} (k : Ghosts S) where
       fault = cause e sweep.fault;
     }
       where
-        cause : (e : SpreadFault) → HasSpreadCause (k.failures b) (k.failures c) (λ at. k.IsTrusted b c → HasNoRoot (k.rows b) at) (k.IsTrusted b c → ⊥) e
-            → HasSpreadCause (k.failures a) (k.failures c) (λ at. k.IsTrusted a c → HasNoRoot (k.rows a) at) (k.IsTrusted a c → ⊥) e
-        cause (Keeper f) h = later_cause (k.failures a) (k.failures b) (k.failures c) f _ _ (laws.rise a b first.follows) (laws.rise b c sweep.follows)
-            (λ at damaged t. no_root_before (k.rows a) (k.rows b) d.changed at (first.becomes (laws.first a b c first.follows sweep.follows t)) (damaged (laws.last a b c first.follows sweep.follows t)))
+        cause : (e : SpreadFault)
+            → HasSpreadCause (k.failures b) (k.failures c)
+            (λ at. k.IsTrusted b c → HasNoRoot (k.rows b) at) (k.IsTrusted b c → ⊥) e
+            → HasSpreadCause (k.failures a) (k.failures c)
+            (λ at. k.IsTrusted a c → HasNoRoot (k.rows a) at) (k.IsTrusted a c → ⊥) e
+        cause (Keeper f) h =
+            later_cause (k.failures a) (k.failures b) (k.failures c) f _ _
+            (laws.rise a b first.follows) (laws.rise b c sweep.follows)
+            (λ at damaged t. no_root_before (k.rows a) (k.rows b) d.changed at
+            (first.becomes (laws.first a b c first.follows sweep.follows t))
+            (damaged (laws.last a b c first.follows sweep.follows t)))
             h
         cause Loop h = λ t. h (laws.last a b c first.follows sweep.follows t)
 
-    pub both_done : (s : Spread) → Sweeps k b c Sacl (Ok s) → SpreadsAll k a c (Ok (record { changed = capped (d.changed + s.changed) }))
+    pub both_done : (s : Spread) → Sweeps k b c Sacl (Ok s)
+        → SpreadsAll k a c (Ok (record { changed = capped (d.changed + s.changed) }))
     both_done s sweep = record {
       follows = laws.on a b c first.follows sweep.follows;
-      written = sweep.written ∙ ap (λ n. capped (n + s.changed)) first.written ∙ capped_add (k.writes a + d.changed) s.changed ∙ ap capped (omega arith) ∙ sym (capped_add (d.changed + s.changed) (k.writes a)) ∙ ap capped (omega arith);
-      becomes = λ t. both_swept (k.rows a) (k.rows b) (k.rows c) d.changed s.changed (first.becomes (laws.first a b c first.follows sweep.follows t)) (sweep.becomes (laws.last a b c first.follows sweep.follows t));
+      written =
+          sweep.written ∙ ap (λ n. capped (n + s.changed)) first.written
+          ∙ capped_add (k.writes a + d.changed) s.changed ∙ ap capped (omega arith)
+          ∙ sym (capped_add (d.changed + s.changed) (k.writes a)) ∙ ap capped (omega arith);
+      becomes =
+          λ t. both_swept (k.rows a) (k.rows b) (k.rows c) d.changed s.changed
+          (first.becomes (laws.first a b c first.follows sweep.follows t))
+          (sweep.becomes (laws.last a b c first.follows sweep.follows t));
       fault = tt;
     }

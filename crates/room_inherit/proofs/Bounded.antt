@@ -22,57 +22,87 @@ use Rattle.room_inherit.proofs.Turns.{Progress, Carried, Turned, turned_on, turn
 capped_last : (m n : ℕ) → capped (m + capped n) ≡ capped (m + n)
 capped_last m n = ap capped (omega arith) ∙ capped_add n m ∙ ap capped (omega arith)
 
-module _ {S : Type 0} (k : Ghosts S) (laws : KeepLaws k.rows k.failures k.writes k.Follows k.IsTrusted) (d : Descent) (start : Node) (progress : Progress d start) where
+module _ {S : Type 0} (k : Ghosts S)
+    (laws : KeepLaws k.rows k.failures k.writes k.Follows k.IsTrusted) (d : Descent) (start : Node)
+    (progress : Progress d start) where
   abbrev Done : ℕ → List Node → ℕ → S → S → Type 0
   Done count waiting changed a b = Turned k laws d start progress count waiting changed a b
 
-  abbrev Ends : S → S → Result Rattle.room_inherit.specs.declared.outcome.Spread.Spread SpreadFault → Type 0
+  abbrev Ends : S → S → Result Rattle.room_inherit.specs.declared.outcome.Spread.Spread SpreadFault
+      → Type 0
   Ends a b result = Carried k laws d start progress a b result
 
   -- the same with equal counts
-  as_many : (count count' changed changed' : ℕ) (waiting : List Node) (a b : S) → count ≡ count' → changed ≡ changed' → Done count waiting changed a b → Done count' waiting changed' a b
-  as_many count count' changed changed' waiting a b e e' sofar = subst (λ (n : ℕ). Done n waiting changed' a b) e (subst (λ (n : ℕ). Done count waiting n a b) e' sofar)
+  as_many : (count count' changed changed' : ℕ) (waiting : List Node) (a b : S) → count ≡ count'
+      → changed ≡ changed' → Done count waiting changed a b → Done count' waiting changed' a b
+  as_many count count' changed changed' waiting a b e e' sofar =
+      subst (λ (n : ℕ). Done n waiting changed' a b) e
+      (subst (λ (n : ℕ). Done count waiting n a b) e' sofar)
 
-  turns_on : (n count : ℕ) (waiting next : List Node) (changed more : ℕ) (a b c : S) → Done count waiting changed a b → AreTurns k d n waiting next more b c → Done (count + n) next (changed + more) a c
+  turns_on : (n count : ℕ) (waiting next : List Node) (changed more : ℕ) (a b c : S)
+      → Done count waiting changed a b → AreTurns k d n waiting next more b c
+      → Done (count + n) next (changed + more) a c
   turns_on zero count waiting next changed more a b c sofar are =
       subst (λ (s : S). Done (count + 0) next (changed + more) a s) are.2
-      (subst (λ (l : List Node). Done (count + 0) l (changed + more) a b) are.0 (as_many count (count + 0) changed (changed + more) waiting a b (omega arith) (let none = are.1 in omega (arith, none)) sofar))
-  turns_on (suc n) count waiting next changed more a b c sofar (rest, above, first, number, mid, before, visit, total) =
-      as_many (count + n + 1) (count + suc n) (changed + first + number) (changed + more) next a c (omega arith) (omega (arith, total))
-      (turned_on k laws d start progress (count + n) rest above (changed + first) number next a mid c (turns_on n count waiting (rest ++ above ∷ []) changed first a b mid sofar before) visit)
+      (subst (λ (l : List Node). Done (count + 0) l (changed + more) a b) are.0
+      (as_many count (count + 0) changed (changed + more) waiting a b (omega arith)
+      (let none = are.1 in omega (arith, none)) sofar))
+  turns_on (suc n) count waiting next changed more a b c sofar
+      (rest, above, first, number, mid, before, visit, total) =
+      as_many (count + n + 1) (count + suc n) (changed + first + number) (changed + more) next a c
+      (omega arith) (omega (arith, total))
+      (turned_on k laws d start progress (count + n) rest above
+      (changed + first) number next a mid c
+      (turns_on n count waiting (rest ++ above ∷ []) changed first a b mid sofar before) visit)
 
   -- the keeper goes on along turns
-  follows : (n : ℕ) (waiting next : List Node) (more : ℕ) (b c : S) → AreTurns k d n waiting next more b c → k.Follows b c
+  follows : (n : ℕ) (waiting next : List Node) (more : ℕ) (b c : S)
+      → AreTurns k d n waiting next more b c → k.Follows b c
   follows zero waiting next more b c are = subst (λ (s : S). k.Follows b s) are.2 (laws.itself b)
-  follows (suc n) waiting next more b c (rest, above, first, number, mid, before, visit, total) = laws.on b mid c (follows n waiting (rest ++ above ∷ []) first b mid before) visit.follows
+  follows (suc n) waiting next more b c (rest, above, first, number, mid, before, visit, total) =
+      laws.on b mid c (follows n waiting (rest ++ above ∷ []) first b mid before) visit.follows
 
   -- none waits, and few enough lists are written that their count is exact
-  over : (count changed total : ℕ) (a b : S) → changed ≡ capped total → (k.IsTrusted a b → progress.Given (k.rows a) → total < 2 ^ 63) → Done count [] total a b → Ends a b (Ok (record { changed = changed }))
+  over : (count changed total : ℕ) (a b : S) → changed ≡ capped total
+      → (k.IsTrusted a b → progress.Given (k.rows a) → total < 2 ^ 63) → Done count [] total a b
+      → Ends a b (Ok (record { changed = changed }))
   over count changed total a b is small sofar = record {
     follows = sofar.follows;
-    written = sofar.written ∙ sym (capped_last (k.writes a) total) ∙ ap (λ n. capped (k.writes a + n)) (sym is);
+    written =
+        sofar.written ∙ sym (capped_last (k.writes a) total)
+        ∙ ap (λ n. capped (k.writes a + n)) (sym is);
     becomes = λ t.
         let below = small t.0 t.1 in
-        subst (λ n. progress.Done (k.rows a) (k.rows b) n) (sym (is ∙ capped_below total (omega (arith, below)))) (progress.done count total (k.rows a) (k.rows b) (laws.are a b t.0) below (sofar.along t.0 t.1));
+        subst (λ n. progress.Done (k.rows a) (k.rows b) n)
+        (sym (is ∙ capped_below total (omega (arith, below))))
+        (progress.done count total (k.rows a) (k.rows b) (laws.are a b t.0) below
+        (sofar.along t.0 t.1));
     fault = tt;
   }
 
   -- one of these turns failed
-  fails : (count : ℕ) (waiting : List Node) (changed : ℕ) (next : List Node) (e : SpreadFault) (a b c : S) → Done count waiting changed a b → Broke k d waiting next e b c → Ends a c (Err e)
+  fails : (count : ℕ) (waiting : List Node) (changed : ℕ) (next : List Node) (e : SpreadFault)
+      (a b c : S) → Done count waiting changed a b → Broke k d waiting next e b c → Ends a c (Err e)
   fails count waiting changed next e a b c sofar broke =
-      turn_fails k laws d start progress (count + broke.turns) broke.rest broke.above (changed + broke.total) next e a broke.mid c
-      (turns_on broke.turns count waiting (broke.rest ++ broke.above ∷ []) changed broke.total a b broke.mid sofar broke.are) broke.fails
+      turn_fails k laws d start progress (count + broke.turns) broke.rest broke.above
+      (changed + broke.total) next e a broke.mid c
+      (turns_on broke.turns count waiting
+      (broke.rest ++ broke.above ∷ []) changed broke.total a b broke.mid sofar broke.are)
+      broke.fails
 
   -- ---- the turns of a call
 
-  module _ (begun : ℕ) (first : List Node) (a b : S) (visit : Visits k a b d start [] first (Ok begun)) where
+  module _ (begun : ℕ) (first : List Node) (a b : S)
+      (visit : Visits k a b d start [] first (Ok begun)) where
     one : Done 1 first begun a b
     one = first_turn k laws d start progress begun first a b visit
 
-    pub soon_fails : (next : List Node) (e : SpreadFault) (c : S) → Broke k d first next e b c → Ends a c (Err e)
+    pub soon_fails : (next : List Node) (e : SpreadFault) (c : S) → Broke k d first next e b c
+        → Ends a c (Err e)
     soon_fails next e c broke = fails 1 first begun next e a b c one broke
 
-    module _ (bound soon : ℕ) (next : List Node) (c : S) (took : Took k d bound first next soon b c) where
+    module _ (bound soon : ℕ) (next : List Node) (c : S)
+        (took : Took k d bound first next soon b c) where
       abbrev count : ℕ
       count = 1 + took.turns
 
@@ -85,8 +115,11 @@ module _ {S : Type 0} (k : Ghosts S) (laws : KeepLaws k.rows k.failures k.writes
       told_soon : capped (begun + soon) ≡ capped changed
       told_soon = ap (λ n. capped (begun + n)) took.counted ∙ capped_last begun took.total
 
-      pub soon_done : (told : ℕ) → told < 2 ^ 63 → told ≡ capped (begun + soon) → next ≡ [] → Ends a c (Ok (record { changed = told }))
-      soon_done told few is none = over count told changed a c (is ∙ told_soon) (λ t given. small_count changed few (is ∙ told_soon)) last
+      pub soon_done : (told : ℕ) → told < 2 ^ 63 → told ≡ capped (begun + soon) → next ≡ []
+          → Ends a c (Ok (record { changed = told }))
+      soon_done told few is none =
+          over count told changed a c (is ∙ told_soon)
+          (λ t given. small_count changed few (is ∙ told_soon)) last
         where
           last : Done count [] changed a c
           last = subst (λ (l : List Node). Done count l changed a c) none sofar
@@ -94,53 +127,83 @@ module _ {S : Type 0} (k : Ghosts S) (laws : KeepLaws k.rows k.failures k.writes
           -- a small count with an end is the count
           small_count : (n : ℕ) → told < 2 ^ 63 → told ≡ capped n → n < 2 ^ 63
           small_count n few e = elim (cases_lt n (2 ^ 64 - 1)) [
-            | inl below ↦ let same = e ∙ capped_below n (omega (arith, below)) in omega (arith, same, few)
-            | inr past ↦ absurd (let end = e ∙ capped_past n past in let wrong : ⊥ = omega (arith, end, few) in wrong)
+            | inl below ↦ let same = e ∙ capped_below n (omega (arith, below)) in
+                omega (arith, same, few)
+            | inr past ↦
+                absurd (let end = e ∙ capped_past n past in
+                let wrong : ⊥ = omega (arith, end, few) in wrong)
           ]
 
       -- no answer came to the numbers
-      pub ids_fail : (e : KeepFault) (f : S) → IsRead k.rows k.failures k.writes k.Follows k.IsTrusted c f (Err e) IsNever AreNumbers → Ends a f (Err (Keeper e))
+      pub ids_fail : (e : KeepFault) (f : S)
+          → IsRead k.rows k.failures k.writes k.Follows k.IsTrusted c f (Err e) IsNever AreNumbers
+          → Ends a f (Err (Keeper e))
       ids_fail e f read = record {
         follows = laws.on a c f sofar.follows read.follows;
         written = tt;
         becomes = λ t. tt;
-        fault = later_cause (k.failures a) (k.failures c) (k.failures f) e _ _ (laws.rise a c sofar.follows) (laws.rise c f read.follows) (λ at never t. absurd (never (laws.last a c f sofar.follows read.follows t.0))) read.fault;
+        fault =
+            later_cause (k.failures a) (k.failures c) (k.failures f) e _ _
+            (laws.rise a c sofar.follows) (laws.rise c f read.follows)
+            (λ at never t. absurd (never (laws.last a c f sofar.follows read.follows t.0)))
+            read.fault;
       }
 
       -- it is known how many objects there are
-      module _ (ids : List ℕ) (most : ℕ) (is : most ≡ length ids) (e : S) (read : IsRead k.rows k.failures k.writes k.Follows k.IsTrusted c e (Ok ids) IsNever AreNumbers) where
+      module _ (ids : List ℕ) (most : ℕ) (is : most ≡ length ids) (e : S)
+          (read : IsRead k.rows k.failures k.writes k.Follows k.IsTrusted c e
+          (Ok ids) IsNever AreNumbers) where
         numbered : Done count next changed a e
         numbered = record {
           follows = laws.on a c e sofar.follows read.follows;
           written = read.unwritten ∙ sofar.written;
-          along = λ t given. subst (λ (w : Rows). progress.After count next changed (k.rows a) w) (sym (read.same (laws.last a c e sofar.follows read.follows t))) (sofar.along (laws.first a c e sofar.follows read.follows t) given);
+          along =
+              λ t given. subst (λ (w : Rows). progress.After count next changed (k.rows a) w)
+              (sym (read.same (laws.last a c e sofar.follows read.follows t)))
+              (sofar.along (laws.first a c e sofar.follows read.follows t) given);
         }
 
         all : k.IsTrusted a e → progress.Given (k.rows a) → most ≡ length (numbers_of (k.rows a))
         all t given =
             let before = laws.first a c e sofar.follows read.follows t in
-            is ∙ ap length (read.answers (laws.last a c e sofar.follows read.follows t) ∙ progress.numbers count next changed (k.rows a) (k.rows c) (sofar.along before given))
+            is ∙ ap length (read.answers (laws.last a c e sofar.follows read.follows t)
+            ∙ progress.numbers count next changed (k.rows a) (k.rows c) (sofar.along before given))
 
-        pub later_fails : (last : List Node) (fault : SpreadFault) (f : S) → Broke k d next last fault e f → Ends a f (Err fault)
+        pub later_fails : (last : List Node) (fault : SpreadFault) (f : S)
+            → Broke k d next last fault e f → Ends a f (Err fault)
         later_fails last fault f broke = fails count next changed last fault a e f numbered broke
 
-        module _ (later : ℕ) (last : List Node) (f : S) (took_on : Took k d most next last later e f) where
+        module _ (later : ℕ) (last : List Node) (f : S)
+            (took_on : Took k d most next last later e f) where
           taken : Done (count + took_on.turns) last (changed + took_on.total) a f
-          taken = turns_on took_on.turns count next last changed took_on.total a e f numbered took_on.are
+          taken =
+              turns_on took_on.turns count next last changed took_on.total a e f numbered
+              took_on.are
 
-          known : k.IsTrusted a f → progress.Given (k.rows a) → most ≡ length (numbers_of (k.rows a))
-          known t given = all (laws.first a e f numbered.follows (follows took_on.turns next last took_on.total e f took_on.are) t) given
+          known : k.IsTrusted a f → progress.Given (k.rows a)
+              → most ≡ length (numbers_of (k.rows a))
+          known t given =
+              all
+              (laws.first a e f numbered.follows
+              (follows took_on.turns next last took_on.total e f took_on.are) t) given
 
-          pub later_done : most < 2 ^ 63 → (told : ℕ) → told ≡ capped (capped (begun + soon) + later) → last ≡ [] → Ends a f (Ok (record { changed = told }))
+          pub later_done : most < 2 ^ 63 → (told : ℕ)
+              → told ≡ capped (capped (begun + soon) + later) → last ≡ []
+              → Ends a f (Ok (record { changed = told }))
           later_done fits told sum none =
-              over (count + took_on.turns) told (changed + took_on.total) a f (sum ∙ total) small (subst (λ (l : List Node). Done (count + took_on.turns) l (changed + took_on.total) a f) none taken)
+              over (count + took_on.turns) told (changed + took_on.total) a f (sum ∙ total) small
+              (subst (λ (l : List Node). Done (count + took_on.turns) l
+              (changed + took_on.total) a f) none taken)
             where
               total : capped (capped (begun + soon) + later) ≡ capped (changed + took_on.total)
-              total = (λ i. capped (told_soon i + took_on.counted i)) ∙ capped_add changed (capped took_on.total) ∙ capped_last changed took_on.total
+              total =
+                  (λ i. capped (told_soon i + took_on.counted i))
+                  ∙ capped_add changed (capped took_on.total) ∙ capped_last changed took_on.total
 
               small : k.IsTrusted a f → progress.Given (k.rows a) → changed + took_on.total < 2 ^ 63
               small t given =
-                  let few = progress.few (count + took_on.turns) last (changed + took_on.total) (k.rows a) (k.rows f) (taken.along t given) in
+                  let few = progress.few (count + took_on.turns) last (changed + took_on.total)
+                  (k.rows a) (k.rows f) (taken.along t given) in
                   let many = known t given in
                   omega (arith, few, many, fits)
 
@@ -153,6 +216,8 @@ module _ {S : Type 0} (k : Ghosts S) (laws : KeepLaws k.rows k.failures k.writes
               | inl none ↦ none
               | inr past ↦
                   let many = known t.0 t.1 in
-                  no_length last (progress.ends (count + took_on.turns) last (changed + took_on.total) (k.rows a) (k.rows f) (omega (arith, many, past)) (taken.along t.0 t.1))
+                  no_length last (progress.ends (count + took_on.turns) last
+                  (changed + took_on.total) (k.rows a) (k.rows f) (omega (arith, many, past))
+                  (taken.along t.0 t.1))
             ]));
           }

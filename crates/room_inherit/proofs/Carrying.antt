@@ -30,7 +30,8 @@ use Rattle.room_inherit.proofs.Turns.{Progress}
 -- ---- rows
 
 -- after n turns these objects wait, and this many rows are changed
-pub record IsCarrying (which : Which) (start turns : ℕ) (waiting : List Node) (changed : ℕ) (old now : Rows) : Type 0 where
+pub record IsCarrying (which : Which) (start turns : ℕ) (waiting : List Node) (changed : ℕ)
+    (old now : Rows) : Type 0 where
   pub lists : Node → List Ace
   pub becomes : now ≡ reading old (with_lists which lists old.read)
   pub front : Frontier which start old.read lists waiting
@@ -40,17 +41,22 @@ pub record IsCarrying (which : Which) (start turns : ℕ) (waiting : List Node) 
   pub first_is : node_at old.read start ≡ Some first
 
 -- the first object keeps its list, so fewer are changed than there are
-pub fewer : (which : Which) (start : ℕ) (waiting : List Node) (old : Rows) (lists : Node → List Ace) (first : Node) → node_at old.read start ≡ Some first → Frontier which start old.read lists waiting
+pub fewer : (which : Which) (start : ℕ) (waiting : List Node) (old : Rows) (lists : Node → List Ace)
+    (first : Node) → node_at old.read start ≡ Some first
+    → Frontier which start old.read lists waiting
     → suc (count (is_changed which lists) old.read.nodes) ≤ length (numbers_of old)
 fewer which start waiting old lists first is front =
     let same = found_id start old.read.nodes first is in
-    let unchanged : is_changed which lists first ≡ false = false_from_ne_true (is_changed which lists first) (λ changed.
-    false≢true (sym (front.came first (ap (node_at old.read) same ∙ is) changed).isnt_start ∙ eq-eqb first.id start same)) in
+    let unchanged : is_changed which lists first ≡ false = false_from_ne_true
+    (is_changed which lists first) (λ changed.
+    false≢true (sym (front.came first (ap (node_at old.read) same ∙ is) changed).isnt_start
+    ∙ eq-eqb first.id start same)) in
     let less = count_less (is_changed which lists) start old.read.nodes first is unchanged in
     let all = as_many_numbers old in
     omega (arith, less, all)
 
-pub carrying_first : (which : Which) (start : ℕ) (old : Rows) (first : Node) → AreRows old → node_at old.read start ≡ Some first → IsCarrying which start 0 (first ∷ []) 0 old old
+pub carrying_first : (which : Which) (start : ℕ) (old : Rows) (first : Node) → AreRows old
+    → node_at old.read start ≡ Some first → IsCarrying which start 0 (first ∷ []) 0 old old
 carrying_first which start old first are is = record {
   lists = own_lists which;
   becomes = ap (reading old) (sym (with_own_lists which old.read));
@@ -61,8 +67,10 @@ carrying_first which start old first are is = record {
   first_is = is;
 }
 
-module _ (d : Descent) (reach : d.reach ≡ Renewed) (turns : ℕ) (rest : List Node) (w : Node) (changed number : ℕ) (next : List Node) (old now new : Rows) (are : AreRows old)
-    (sofar : IsCarrying d.which d.start turns (rest ++ w ∷ []) changed old now) (visit : IsVisit d w rest next now number new) where
+module _ (d : Descent) (reach : d.reach ≡ Renewed) (turns : ℕ) (rest : List Node) (w : Node)
+    (changed number : ℕ) (next : List Node) (old now new : Rows) (are : AreRows old)
+    (sofar : IsCarrying d.which d.start turns (rest ++ w ∷ []) changed old now)
+    (visit : IsVisit d w rest next now number new) where
   abbrev f : Node → List Ace
   f = sofar.lists
 
@@ -76,16 +84,26 @@ module _ (d : Descent) (reach : d.reach ≡ Renewed) (turns : ℕ) (rest : List 
   going = next_of Renewed d.which w (children_of (with_lists d.which f old.read) w.id)
 
   waits : next ≡ rest ++ going
-  waits = step.waits ∙ ap (λ (r : Reach). rest ++ next_of r d.which w (children_of (with_lists d.which f old.read) w.id)) reach
+  waits =
+      step.waits
+      ∙ ap (λ (r : Reach). rest ++ next_of r d.which w
+      (children_of (with_lists d.which f old.read) w.id)) reach
 
   total : changed + number ≡ count (is_changed d.which lists) old.read.nodes
-  total = (λ i. sofar.counted i + step.counted i) ∙ sym (count_after d.which d.start old.read are.numbers f rest w sofar.front step.not_met)
+  total =
+      (λ i. sofar.counted i + step.counted i)
+      ∙ sym (count_after d.which d.start old.read are.numbers f rest w sofar.front step.not_met)
 
   pub carrying_turn : IsCarrying d.which d.start (turns + 1) next (changed + number) old new
   carrying_turn = record {
     lists = lists;
-    becomes = step.becomes ∙ ap (reading old) (rows_after d.which d.start old.read are.numbers f rest w sofar.front step.not_met);
-    front = subst (λ (l : List Node). Frontier d.which d.start old.read lists l) (sym waits) (frontier_after d.which d.start old.read are.numbers f rest w sofar.front step.not_met);
+    becomes =
+        step.becomes
+        ∙ ap (reading old)
+        (rows_after d.which d.start old.read are.numbers f rest w sofar.front step.not_met);
+    front =
+        subst (λ (l : List Node). Frontier d.which d.start old.read lists l) (sym waits)
+        (frontier_after d.which d.start old.read are.numbers f rest w sofar.front step.not_met);
     counted = total;
     turned =
         let l = ap length waits ∙ length-append rest going in
@@ -99,61 +117,101 @@ module _ (d : Descent) (reach : d.reach ≡ Renewed) (turns : ℕ) (rest : List 
     first_is = sofar.first_is;
   }
 
-pub carrying_done : (which : Which) (start turns changed : ℕ) (old now : Rows) → AreRows old → IsCarrying which start turns [] changed old now → IsSpread which start old now changed
+pub carrying_done : (which : Which) (start turns changed : ℕ) (old now : Rows) → AreRows old
+    → IsCarrying which start turns [] changed old now → IsSpread which start old now changed
 carrying_done which start turns changed old now are sofar = record {
   lists = sofar.lists;
   becomes = sofar.becomes;
   below = λ n there is. (sofar.front.came n there is).below;
   counted = sofar.counted ∙ sym (count-is (is_changed which sofar.lists) old.read.nodes);
   agree = subst (λ (r : Rows). ChangedAgree which old.read r.read) (sym sofar.becomes)
-      (changed_agree which start old.read are.numbers sofar.lists (λ n there changed. let c = sofar.front.came n there changed in (c.parent, c.there, c.has, c.agrees)));
-  law = λ but. subst (λ (r : Rows). AllAgreeInFolders r.read which) (sym sofar.becomes) (law_at_end which start old.read are.numbers sofar.lists (sofar.front.law but));
+      (changed_agree which start old.read are.numbers sofar.lists
+      (λ n there changed. let c = sofar.front.came n there changed in
+      (c.parent, c.there, c.has, c.agrees)));
+  law =
+      λ but. subst (λ (r : Rows). AllAgreeInFolders r.read which) (sym sofar.becomes)
+      (law_at_end which start old.read are.numbers sofar.lists (sofar.front.law but));
 }
 
 -- where the object isn't there, nothing is carried
-nothing_carried : (which : Which) (start : ℕ) (old : Rows) → AreRows old → node_at old.read start ≡ None → IsSpread which start old old 0
+nothing_carried : (which : Which) (start : ℕ) (old : Rows) → AreRows old
+    → node_at old.read start ≡ None → IsSpread which start old old 0
 nothing_carried which start old are none = record {
   lists = own_lists which;
   becomes = ap (reading old) (sym (with_own_lists which old.read));
   below = λ n there changed. absurd (false≢true (sym (own_unchanged which n) ∙ changed));
-  counted = sym (count-is (is_changed which (own_lists which)) old.read.nodes ∙ count_own which old.read.nodes);
-  agree = subst (λ (c : Content). ChangedAgree which old.read c) (with_own_lists which old.read) (changed_agree which start old.read are.numbers (own_lists which) (λ n there changed. absurd (false≢true (sym (own_unchanged which n) ∙ changed))));
+  counted =
+      sym (count-is (is_changed which (own_lists which)) old.read.nodes
+      ∙ count_own which old.read.nodes);
+  agree =
+      subst (λ (c : Content). ChangedAgree which old.read c) (with_own_lists which old.read)
+      (changed_agree which start old.read are.numbers (own_lists which)
+      (λ n there changed. absurd (false≢true (sym (own_unchanged which n) ∙ changed))));
   law = law_without which start old.read are.numbers none;
 }
 
 -- nor where it is a document
-document_carried : (which : Which) (start : Node) (old : Rows) → AreRows old → Holds start old → is_folder start ≡ false → IsSpread which start.id old old 0
+document_carried : (which : Which) (start : Node) (old : Rows) → AreRows old → Holds start old
+    → is_folder start ≡ false → IsSpread which start.id old old 0
 document_carried which start old are there document = record {
   lists = own_lists which;
   becomes = ap (reading old) (sym (with_own_lists which old.read));
   below = λ n there changed. absurd (false≢true (sym (own_unchanged which n) ∙ changed));
-  counted = sym (count-is (is_changed which (own_lists which)) old.read.nodes ∙ count_own which old.read.nodes);
-  agree = subst (λ (c : Content). ChangedAgree which old.read c) (with_own_lists which old.read) (changed_agree which start.id old.read are.numbers (own_lists which) (λ n there changed. absurd (false≢true (sym (own_unchanged which n) ∙ changed))));
+  counted =
+      sym (count-is (is_changed which (own_lists which)) old.read.nodes
+      ∙ count_own which old.read.nodes);
+  agree =
+      subst (λ (c : Content). ChangedAgree which old.read c) (with_own_lists which old.read)
+      (changed_agree which start.id old.read are.numbers (own_lists which)
+      (λ n there changed. absurd (false≢true (sym (own_unchanged which n) ∙ changed))));
   law = law_document which start.id old.read are.numbers start there document;
 }
 
 -- what is known after each turn
-abbrev pub carrying : (d : Descent) (start : Node) → start.id ≡ d.start → d.reach ≡ Renewed → Progress d start
+abbrev pub carrying : (d : Descent) (start : Node) → start.id ≡ d.start → d.reach ≡ Renewed
+    → Progress d start
 carrying d start same reach = record {
   Given = Holds start;
   Loops = λ rows. IsOwnAncestor rows.read start.id;
   Done = λ old now changed. IsSpread d.which start.id old now changed;
   After = IsCarrying d.which d.start;
-  first = λ old are is. carrying_first d.which d.start old start are (ap (node_at old.read) (sym same) ∙ is);
-  on = λ turns rest w changed number next old now new are sofar visit. carrying_turn d reach turns rest w changed number next old now new are sofar visit;
-  few = λ turns waiting changed old now sofar. let m = fewer d.which d.start waiting old sofar.lists sofar.first sofar.first_is sofar.front in let c = sofar.counted in omega (arith, m, c);
-  ends = λ turns waiting changed old now past sofar. let m = fewer d.which d.start waiting old sofar.lists sofar.first sofar.first_is sofar.front in let t = sofar.turned in omega (arith, m, past, t);
-  numbers = λ turns waiting changed old now sofar. ap numbers_of sofar.becomes ∙ numbers_of-reading old (with_lists d.which sofar.lists old.read) (ids_set d.which sofar.lists old.read.nodes);
-  unreadable = λ turns waiting changed at old now sofar damaged. ap (λ (r : Rows). is_unreadable r at) (sym sofar.becomes) ∙ damaged;
-  loops = λ turns rest w changed old now are sofar met. subst (λ (i : ℕ). IsOwnAncestor old.read i) (sym same)
-      (loop_found d.which d.start old.read are.numbers sofar.lists rest w sofar.front (subst (λ (r : Rows). MeetsAgain d.which d.start w r) sofar.becomes met));
-  done = λ turns changed old now are below sofar. subst (λ (i : ℕ). IsSpread d.which i old now changed) (sym same) (carrying_done d.which d.start turns changed old now are sofar);
+  first =
+      λ old are is. carrying_first d.which d.start old start are
+      (ap (node_at old.read) (sym same) ∙ is);
+  on =
+      λ turns rest w changed number next old now new are sofar visit. carrying_turn d reach turns
+      rest w changed number next old now new are sofar visit;
+  few = λ turns waiting changed old now sofar. let m =
+      fewer d.which d.start waiting old sofar.lists sofar.first sofar.first_is sofar.front in
+      let c =
+      sofar.counted in omega (arith, m, c);
+  ends = λ turns waiting changed old now past sofar. let m =
+      fewer d.which d.start waiting old sofar.lists sofar.first sofar.first_is sofar.front in
+      let t =
+      sofar.turned in omega (arith, m, past, t);
+  numbers =
+      λ turns waiting changed old now sofar. ap numbers_of sofar.becomes
+      ∙ numbers_of-reading old (with_lists d.which sofar.lists old.read)
+      (ids_set d.which sofar.lists old.read.nodes);
+  unreadable =
+      λ turns waiting changed at old now sofar damaged. ap (λ (r : Rows). is_unreadable r at)
+      (sym sofar.becomes) ∙ damaged;
+  loops =
+      λ turns rest w changed old now are sofar met. subst (λ (i : ℕ). IsOwnAncestor old.read i)
+      (sym same)
+      (loop_found d.which d.start old.read are.numbers sofar.lists rest w sofar.front
+      (subst (λ (r : Rows). MeetsAgain d.which d.start w r) sofar.becomes met));
+  done =
+      λ turns changed old now are below sofar. subst (λ (i : ℕ). IsSpread d.which i old now changed)
+      (sym same) (carrying_done d.which d.start turns changed old now are sofar);
 }
 
 -- ---- calls
 
-module _ {S : Type 0} (k : Ghosts S) (laws : KeepLaws k.rows k.failures k.writes k.Follows k.IsTrusted) (which : Which) where
-  pub spreads_no_document : (start : Node) (a : S) → is_folder start ≡ false → SpreadsIf k a a (Holds start) which start.id (Ok (record { changed = 0 }))
+module _ {S : Type 0} (k : Ghosts S)
+    (laws : KeepLaws k.rows k.failures k.writes k.Follows k.IsTrusted) (which : Which) where
+  pub spreads_no_document : (start : Node) (a : S) → is_folder start ≡ false
+      → SpreadsIf k a a (Holds start) which start.id (Ok (record { changed = 0 }))
   spreads_no_document start a document = record {
     follows = laws.itself a;
     written = sym (capped_below (k.writes a) (laws.ends a).1) ∙ ap capped (omega arith);
@@ -161,16 +219,23 @@ module _ {S : Type 0} (k : Ghosts S) (laws : KeepLaws k.rows k.failures k.writes
     fault = tt;
   }
 
-  pub spreads_nowhere : (id : ℕ) (a b : S) → IsRead k.rows k.failures k.writes k.Follows k.IsTrusted a b (Ok None) (IsUnreadableAt id) (IsNodeAt id) → Spreads k a b which id (Ok (record { changed = 0 }))
+  pub spreads_nowhere : (id : ℕ) (a b : S)
+      → IsRead k.rows k.failures k.writes k.Follows k.IsTrusted a b (Ok None) (IsUnreadableAt id)
+      (IsNodeAt id) → Spreads k a b which id (Ok (record { changed = 0 }))
   spreads_nowhere id a b found = record {
     follows = found.follows;
-    written = found.unwritten ∙ sym (capped_below (k.writes a) (laws.ends a).1) ∙ ap capped (omega arith);
-    becomes = λ t. subst (λ (r : Rows). IsSpread which id (k.rows a) r 0) (sym (found.same t)) (nothing_carried which id (k.rows a) (laws.are a b t) (sym (found.answers t).0));
+    written =
+        found.unwritten ∙ sym (capped_below (k.writes a) (laws.ends a).1) ∙ ap capped (omega arith);
+    becomes =
+        λ t. subst (λ (r : Rows). IsSpread which id (k.rows a) r 0) (sym (found.same t))
+        (nothing_carried which id (k.rows a) (laws.are a b t) (sym (found.answers t).0));
     fault = tt;
   }
 
   -- the object was read, and the change is carried down from there
-  pub spreads_there : (start : Node) (a b c : S) (id : ℕ) (r : Result Spread SpreadFault) → IsRead k.rows k.failures k.writes k.Follows k.IsTrusted a b (Ok (Some start)) (IsUnreadableAt id) (IsNodeAt id)
+  pub spreads_there : (start : Node) (a b c : S) (id : ℕ) (r : Result Spread SpreadFault)
+      → IsRead k.rows k.failures k.writes k.Follows k.IsTrusted a b (Ok (Some start))
+      (IsUnreadableAt id) (IsNodeAt id)
       → SpreadsIf k b c (Holds start) which start.id r → Spreads k a c which id r
   spreads_there start a b c id r found more = record {
     follows = laws.on a b c found.follows more.follows;
@@ -191,24 +256,46 @@ module _ {S : Type 0} (k : Ghosts S) (laws : KeepLaws k.rows k.failures k.writes
       given : k.IsTrusted a c → k.IsTrusted b c × Holds start (k.rows b)
       given t = (
         laws.last a b c found.follows more.follows t,
-        ap (λ (w : Rows). node_at w.read start.id) (same t) ∙ ap (node_at (k.rows a).read) (number t) ∙ sym (found.answers (first t)).0,
+        ap (λ (w : Rows). node_at w.read start.id) (same t)
+            ∙ ap (node_at (k.rows a).read) (number t) ∙ sym (found.answers (first t)).0,
       )
 
-      written : (r : Result Spread SpreadFault) → IfOk r (λ s. k.writes c ≡ capped (k.writes b + s.changed)) → IfOk r (λ s. k.writes c ≡ capped (k.writes a + s.changed))
+      written : (r : Result Spread SpreadFault)
+          → IfOk r (λ s. k.writes c ≡ capped (k.writes b + s.changed))
+          → IfOk r (λ s. k.writes c ≡ capped (k.writes a + s.changed))
       written (Ok s) h = h ∙ ap (λ n. capped (n + s.changed)) found.unwritten
       written (Err e) h = tt
 
-      becomes : (r : Result Spread SpreadFault) (t : k.IsTrusted a c) → IfOk r (λ s. IsSpread which start.id (k.rows b) (k.rows c) s.changed) → IfOk r (λ s. IsSpread which id (k.rows a) (k.rows c) s.changed)
-      becomes (Ok s) t h = subst (λ (w : Rows). IsSpread which id w (k.rows c) s.changed) (same t) (subst (λ n. IsSpread which n (k.rows b) (k.rows c) s.changed) (number t) h)
+      becomes : (r : Result Spread SpreadFault) (t : k.IsTrusted a c)
+          → IfOk r (λ s. IsSpread which start.id (k.rows b) (k.rows c) s.changed)
+          → IfOk r (λ s. IsSpread which id (k.rows a) (k.rows c) s.changed)
+      becomes (Ok s) t h =
+          subst (λ (w : Rows). IsSpread which id w (k.rows c) s.changed) (same t)
+          (subst (λ n. IsSpread which n (k.rows b) (k.rows c) s.changed) (number t) h)
       becomes (Err e) t h = tt
 
-      told : (e : SpreadFault) → HasSpreadCause (k.failures b) (k.failures c) (λ at. k.IsTrusted b c × Holds start (k.rows b) → IsUnreadable (k.rows b) at) (k.IsTrusted b c × Holds start (k.rows b) → IsOwnAncestor (k.rows b).read start.id) e
-          → HasSpreadCause (k.failures a) (k.failures c) (λ at. k.IsTrusted a c → IsUnreadable (k.rows a) at) (k.IsTrusted a c → IsOwnAncestor (k.rows a).read id) e
-      told (Keeper f) h = later_cause (k.failures a) (k.failures b) (k.failures c) f _ _ (laws.rise a b found.follows) (laws.rise b c more.follows)
-          (λ at damaged t. ap (λ (w : Rows). is_unreadable w at) (sym (same t)) ∙ damaged (given t)) h
-      told Loop h = λ t. subst (λ (w : Rows). IsOwnAncestor w.read id) (same t) (subst (λ n. IsOwnAncestor (k.rows b).read n) (number t) (h (given t)))
+      told : (e : SpreadFault)
+          → HasSpreadCause (k.failures b) (k.failures c)
+          (λ at. k.IsTrusted b c × Holds start (k.rows b) → IsUnreadable (k.rows b) at)
+          (k.IsTrusted b c × Holds start (k.rows b) → IsOwnAncestor (k.rows b).read start.id) e
+          → HasSpreadCause (k.failures a) (k.failures c)
+          (λ at. k.IsTrusted a c → IsUnreadable (k.rows a) at)
+          (k.IsTrusted a c → IsOwnAncestor (k.rows a).read id) e
+      told (Keeper f) h =
+          later_cause (k.failures a) (k.failures b) (k.failures c) f _ _
+          (laws.rise a b found.follows) (laws.rise b c more.follows)
+          (λ at damaged t. ap (λ (w : Rows). is_unreadable w at) (sym (same t)) ∙ damaged (given t))
+          h
+      told Loop h =
+          λ t. subst (λ (w : Rows). IsOwnAncestor w.read id) (same t)
+          (subst (λ n. IsOwnAncestor (k.rows b).read n) (number t) (h (given t)))
 
-      cause : (r : Result Spread SpreadFault) → IfErr r (HasSpreadCause (k.failures b) (k.failures c) (λ at. k.IsTrusted b c × Holds start (k.rows b) → IsUnreadable (k.rows b) at) (k.IsTrusted b c × Holds start (k.rows b) → IsOwnAncestor (k.rows b).read start.id))
-          → IfErr r (HasSpreadCause (k.failures a) (k.failures c) (λ at. k.IsTrusted a c → IsUnreadable (k.rows a) at) (k.IsTrusted a c → IsOwnAncestor (k.rows a).read id))
+      cause : (r : Result Spread SpreadFault)
+          → IfErr r (HasSpreadCause (k.failures b) (k.failures c)
+          (λ at. k.IsTrusted b c × Holds start (k.rows b) → IsUnreadable (k.rows b) at)
+          (k.IsTrusted b c × Holds start (k.rows b) → IsOwnAncestor (k.rows b).read start.id))
+          → IfErr r (HasSpreadCause (k.failures a) (k.failures c)
+          (λ at. k.IsTrusted a c → IsUnreadable (k.rows a) at)
+          (k.IsTrusted a c → IsOwnAncestor (k.rows a).read id))
       cause (Ok s) h = tt
       cause (Err e) h = told e h

@@ -26,14 +26,17 @@ ids_of nodes = map (λ (n : Node). n.id) nodes
 same_some : (x y : Node) → Some x ≡ Some y → x ≡ y
 same_some x y e = cc
 
-found_first : (id : ℕ) (x : Node) (xs : List Node) → (x.id == id) ≡ true → find_id id (x ∷ xs) ≡ Some x
+found_first : (id : ℕ) (x : Node) (xs : List Node) → (x.id == id) ≡ true
+    → find_id id (x ∷ xs) ≡ Some x
 found_first id x xs is = rw is refl
 
-found_later : (id : ℕ) (x : Node) (xs : List Node) → (x.id == id) ≡ false → find_id id (x ∷ xs) ≡ find_id id xs
+found_later : (id : ℕ) (x : Node) (xs : List Node) → (x.id == id) ≡ false
+    → find_id id (x ∷ xs) ≡ find_id id xs
 found_later id x xs is = rw is refl
 
 -- what holds of each object of a list holds of the one that is found there by a number
-pub each_found : (P : Node → Type 0) (id : ℕ) (nodes : List Node) (node : Node) → Each P nodes → find_id id nodes ≡ Some node → P node
+pub each_found : (P : Node → Type 0) (id : ℕ) (nodes : List Node) (node : Node) → Each P nodes
+    → find_id id nodes ≡ Some node → P node
 each_found P id [] node all found = absurd (let wrong : ⊥ = cc in wrong)
 each_found P id (x ∷ xs) node all found = elim (cases_Bool (x.id == id)) [
   | inl is ↦ subst P (same_some x node (sym (found_first id x xs is) ∙ found)) all.0
@@ -41,38 +44,56 @@ each_found P id (x ∷ xs) node all found = elim (cases_Bool (x.id == id)) [
 ]
 
 -- an object that is found by a number has it
-pub found_id : (id : ℕ) (nodes : List Node) (node : Node) → find_id id nodes ≡ Some node → node.id ≡ id
+pub found_id : (id : ℕ) (nodes : List Node) (node : Node) → find_id id nodes ≡ Some node
+    → node.id ≡ id
 found_id id [] node found = absurd (let wrong : ⊥ = cc in wrong)
 found_id id (x ∷ xs) node found = elim (cases_Bool (x.id == id)) [
-  | inl is ↦ ap (λ (n : Node). n.id) (sym (same_some x node (sym (found_first id x xs is) ∙ found))) ∙ eqb-true x.id id is
+  | inl is ↦ ap (λ (n : Node). n.id) (sym (same_some x node (sym (found_first id x xs is) ∙ found)))
+      ∙ eqb-true x.id id is
   | inr isnt ↦ found_id id xs node (sym (found_later id x xs isnt) ∙ found)
 ]
 
-found_has : (id : ℕ) (nodes : List Node) (node : Node) → find_id id nodes ≡ Some node → has_id id nodes ≡ true
+found_has : (id : ℕ) (nodes : List Node) (node : Node) → find_id id nodes ≡ Some node
+    → has_id id nodes ≡ true
 found_has id [] node found = absurd (let wrong : ⊥ = cc in wrong)
 found_has id (x ∷ xs) node found = elim (cases_Bool (x.id == id)) [
   | inl is ↦ or_left (x.id == id) (has_id id xs) is
-  | inr isnt ↦ or_right (x.id == id) (has_id id xs) (found_has id xs node (sym (found_later id x xs isnt) ∙ found))
+  | inr isnt ↦
+      or_right (x.id == id) (has_id id xs)
+      (found_has id xs node (sym (found_later id x xs isnt) ∙ found))
 ]
 
 -- what holds of each object that is found by its number holds of all
-pub each_there : (P : Node → Type 0) (nodes : List Node) → Apart nodes → ((n : Node) → find_id n.id nodes ≡ Some n → P n) → Each P nodes
+pub each_there : (P : Node → Type 0) (nodes : List Node) → Apart nodes
+    → ((n : Node) → find_id n.id nodes ≡ Some n → P n) → Each P nodes
 each_there P [] apart all = tt
-each_there P (x ∷ xs) apart all = (all x (found_first x.id x xs (eq-eqb x.id x.id refl)), each_there P xs apart.1 (λ n found. all n (found_later n.id x xs (false_from_ne_true (x.id == n.id) (λ is. later n found (eqb-true x.id n.id is))) ∙ found)))
+each_there P (x ∷ xs) apart all = (
+  all x (found_first x.id x xs (eq-eqb x.id x.id refl)),
+  each_there P xs apart.1
+      (λ n found. all n (found_later n.id x xs
+      (false_from_ne_true (x.id == n.id) (λ is. later n found (eqb-true x.id n.id is))) ∙ found)),
+)
   where
     later : (n : Node) → find_id n.id xs ≡ Some n → x.id ≡ n.id → ⊥
-    later n found same = false≢true (sym apart.0 ∙ ap (λ i. has_id i xs) same ∙ found_has n.id xs n found)
+    later n found same =
+        false≢true (sym apart.0 ∙ ap (λ i. has_id i xs) same ∙ found_has n.id xs n found)
 
 -- a test of one object alone
-pub any_here : (T : Node → Bool) (x : Node) (nodes : List Node) → Apart nodes → find_id x.id nodes ≡ Some x → list_any (λ m. T m && (m.id == x.id)) nodes ≡ T x
+pub any_here : (T : Node → Bool) (x : Node) (nodes : List Node) → Apart nodes
+    → find_id x.id nodes ≡ Some x → list_any (λ m. T m && (m.id == x.id)) nodes ≡ T x
 any_here T x [] apart found = absurd (let wrong : ⊥ = cc in wrong)
 any_here T x (y ∷ ys) apart found = elim (cases_Bool (y.id == x.id)) [
   | inl is ↦
       let same : y ≡ x = same_some y x (sym (found_first x.id y ys is) ∙ found) in
-      let none : list_any (λ m. T m && (m.id == x.id)) ys ≡ false = none_of_both (λ (m : Node). m.id == x.id) T ys (ap (λ i. has_id i ys) (sym (eqb-true y.id x.id is)) ∙ apart.0) in
-      ap (λ t. (T y && t) || list_any (λ m. T m && (m.id == x.id)) ys) is ∙ ap (λ r. (T y && true) || r) none ∙ alone (T y) ∙ ap T same
+      let none : list_any (λ m. T m && (m.id == x.id)) ys ≡ false = none_of_both
+      (λ (m : Node). m.id == x.id) T ys
+      (ap (λ i. has_id i ys) (sym (eqb-true y.id x.id is)) ∙ apart.0) in
+      ap (λ t. (T y && t) || list_any (λ m. T m && (m.id == x.id)) ys) is
+      ∙ ap (λ r. (T y && true) || r) none ∙ alone (T y) ∙ ap T same
   | inr isnt ↦
-      ap (λ t. (T y && t) || list_any (λ m. T m && (m.id == x.id)) ys) isnt ∙ skip (T y) (list_any (λ m. T m && (m.id == x.id)) ys) ∙ any_here T x ys apart.1 (sym (found_later x.id y ys isnt) ∙ found)
+      ap (λ t. (T y && t) || list_any (λ m. T m && (m.id == x.id)) ys) isnt
+      ∙ skip (T y) (list_any (λ m. T m && (m.id == x.id)) ys)
+      ∙ any_here T x ys apart.1 (sym (found_later x.id y ys isnt) ∙ found)
 ]
   where
     alone : (t : Bool) → ((t && true) || false) ≡ t
@@ -86,27 +107,39 @@ any_here T x (y ∷ ys) apart found = elim (cases_Bool (y.id == x.id)) [
 -- ---- rising numbers
 
 -- where k and then the numbers rise, each object has a number above k
-pub each_above : (k : ℕ) (nodes : List Node) → is_rising (k ∷ ids_of nodes) ≡ true → Each (λ n. k < n.id) nodes
+pub each_above : (k : ℕ) (nodes : List Node) → is_rising (k ∷ ids_of nodes) ≡ true
+    → Each (λ n. k < n.id) nodes
 each_above k [] rises = tt
 each_above k (x ∷ xs) rises =
     let parts = and_parts (nat_lt k x.id) (is_rising (x.id ∷ ids_of xs)) rises in
-    let up = ltb-true k x.id parts.0 in
-    (up, each_weaker (λ n. x.id < n.id) (λ n. k < n.id) (λ n above. omega (arith, up, above)) xs (each_above x.id xs parts.1))
+    let up = ltb-true k x.id parts.0 in (
+      up,
+      each_weaker (λ n. x.id < n.id) (λ n. k < n.id) (λ n above. omega (arith, up, above)) xs
+          (each_above x.id xs parts.1),
+    )
 
 -- where the numbers rise, none comes twice
 pub apart_rising : (k : ℕ) (nodes : List Node) → is_rising (k ∷ ids_of nodes) ≡ true → Apart nodes
 apart_rising k [] rises = tt
 apart_rising k (x ∷ xs) rises =
-    let parts = and_parts (nat_lt k x.id) (is_rising (x.id ∷ ids_of xs)) rises in
-    (any_none (λ (n : Node). n.id == x.id) xs (each_weaker (λ n. x.id < n.id) (λ n. (n.id == x.id) ≡ false) (λ n above. ne_eqb n.id x.id (λ e. absurd (let wrong : ⊥ = omega (arith, above, e) in wrong))) xs (each_above x.id xs parts.1)), apart_rising x.id xs parts.1)
+    let parts = and_parts (nat_lt k x.id) (is_rising (x.id ∷ ids_of xs)) rises in (
+      any_none (λ (n : Node). n.id == x.id) xs
+          (each_weaker (λ n. x.id < n.id) (λ n. (n.id == x.id) ≡ false)
+          (λ n above. ne_eqb n.id x.id
+          (λ e. absurd (let wrong : ⊥ = omega (arith, above, e) in wrong))) xs
+          (each_above x.id xs parts.1)),
+      apart_rising x.id xs parts.1,
+    )
 
 -- ---- sorted by name
 
-each_put : (P : Node → Type 0) (x : Node) (xs : List Node) → P x → Each P xs → Each P (put_by_name x xs)
+each_put : (P : Node → Type 0) (x : Node) (xs : List Node) → P x → Each P xs
+    → Each P (put_by_name x xs)
 each_put P x [] here all = (here, tt)
 each_put P x (y ∷ ys) here all = on (is_before y.name x.name) (each_put P x ys here all.1)
   where
-    on : (t : Bool) → Each P (put_by_name x ys) → Each P (cond t (y ∷ put_by_name x ys) (x ∷ y ∷ ys))
+    on : (t : Bool) → Each P (put_by_name x ys)
+        → Each P (cond t (y ∷ put_by_name x ys) (x ∷ y ∷ ys))
     on true rest = (all.0, rest)
     on false rest = (here, all)
 
@@ -114,7 +147,8 @@ each_sorted : (P : Node → Type 0) (xs : List Node) → Each P xs → Each P (s
 each_sorted P [] all = tt
 each_sorted P (x ∷ xs) all = each_put P x (sorted_by_name xs) all.0 (each_sorted P xs all.1)
 
-any_put : (p : Node → Bool) (x : Node) (xs : List Node) → list_any p (put_by_name x xs) ≡ (p x || list_any p xs)
+any_put : (p : Node → Bool) (x : Node) (xs : List Node)
+    → list_any p (put_by_name x xs) ≡ (p x || list_any p xs)
 any_put p x [] = refl
 any_put p x (y ∷ ys) = on (is_before y.name x.name) (any_put p x ys)
   where
@@ -124,7 +158,8 @@ any_put p x (y ∷ ys) = on (is_before y.name x.name) (any_put p x ys)
     swapped false true r = refl
     swapped false false r = refl
 
-    on : (t : Bool) → list_any p (put_by_name x ys) ≡ (p x || list_any p ys) → list_any p (cond t (y ∷ put_by_name x ys) (x ∷ y ∷ ys)) ≡ (p x || (p y || list_any p ys))
+    on : (t : Bool) → list_any p (put_by_name x ys) ≡ (p x || list_any p ys)
+        → list_any p (cond t (y ∷ put_by_name x ys) (x ∷ y ∷ ys)) ≡ (p x || (p y || list_any p ys))
     on true rest = ap (λ r. p y || r) rest ∙ swapped (p y) (p x) (list_any p ys)
     on false rest = refl
 
@@ -132,12 +167,16 @@ any_sorted : (p : Node → Bool) (xs : List Node) → list_any p (sorted_by_name
 any_sorted p [] = refl
 any_sorted p (x ∷ xs) = any_put p x (sorted_by_name xs) ∙ ap (λ r. p x || r) (any_sorted p xs)
 
-count_put : (q : Node → Bool) (x : Node) (xs : List Node) → count q (put_by_name x xs) ≡ one_if (q x) + count q xs
+count_put : (q : Node → Bool) (x : Node) (xs : List Node)
+    → count q (put_by_name x xs) ≡ one_if (q x) + count q xs
 count_put q x [] = refl
 count_put q x (y ∷ ys) = on (is_before y.name x.name) (count_put q x ys)
   where
-    on : (t : Bool) → count q (put_by_name x ys) ≡ one_if (q x) + count q ys → count q (cond t (y ∷ put_by_name x ys) (x ∷ y ∷ ys)) ≡ one_if (q x) + (one_if (q y) + count q ys)
-    on true rest = ap (λ n. one_if (q y) + n) rest ∙ swapped (one_if (q y)) (one_if (q x)) (count q ys)
+    on : (t : Bool) → count q (put_by_name x ys) ≡ one_if (q x) + count q ys
+        → count q (cond t (y ∷ put_by_name x ys) (x ∷ y ∷ ys))
+        ≡ one_if (q x) + (one_if (q y) + count q ys)
+    on true rest =
+        ap (λ n. one_if (q y) + n) rest ∙ swapped (one_if (q y)) (one_if (q x)) (count q ys)
       where
         swapped : (a b c : ℕ) → a + (b + c) ≡ b + (a + c)
         swapped a b c = omega arith
@@ -145,13 +184,15 @@ count_put q x (y ∷ ys) = on (is_before y.name x.name) (count_put q x ys)
 
 count_sorted : (q : Node → Bool) (xs : List Node) → count q (sorted_by_name xs) ≡ count q xs
 count_sorted q [] = refl
-count_sorted q (x ∷ xs) = count_put q x (sorted_by_name xs) ∙ ap (λ n. one_if (q x) + n) (count_sorted q xs)
+count_sorted q (x ∷ xs) =
+    count_put q x (sorted_by_name xs) ∙ ap (λ n. one_if (q x) + n) (count_sorted q xs)
 
 length_put : (x : Node) (xs : List Node) → length (put_by_name x xs) ≡ suc (length xs)
 length_put x [] = refl
 length_put x (y ∷ ys) = on (is_before y.name x.name) (length_put x ys)
   where
-    on : (t : Bool) → length (put_by_name x ys) ≡ suc (length ys) → length (cond t (y ∷ put_by_name x ys) (x ∷ y ∷ ys)) ≡ suc (length (y ∷ ys))
+    on : (t : Bool) → length (put_by_name x ys) ≡ suc (length ys)
+        → length (cond t (y ∷ put_by_name x ys) (x ∷ y ∷ ys)) ≡ suc (length (y ∷ ys))
     on true rest = ap suc rest
     on false rest = refl
 
@@ -159,7 +200,8 @@ length_sorted : (xs : List Node) → length (sorted_by_name xs) ≡ length xs
 length_sorted [] = refl
 length_sorted (x ∷ xs) = length_put x (sorted_by_name xs) ∙ ap suc (length_sorted xs)
 
-apart_put : (x : Node) (xs : List Node) → has_id x.id xs ≡ false → Apart xs → Apart (put_by_name x xs)
+apart_put : (x : Node) (xs : List Node) → has_id x.id xs ≡ false → Apart xs
+    → Apart (put_by_name x xs)
 apart_put x [] new apart = (refl, tt)
 apart_put x (y ∷ ys) new apart = on (is_before y.name x.name) (apart_put x ys parts.1 apart.1)
   where
@@ -170,12 +212,18 @@ apart_put x (y ∷ ys) new apart = on (is_before y.name x.name) (apart_put x ys 
     other = ne_eqb x.id y.id (λ e. false≢true (sym parts.0 ∙ eq-eqb y.id x.id (sym e)))
 
     on : (t : Bool) → Apart (put_by_name x ys) → Apart (cond t (y ∷ put_by_name x ys) (x ∷ y ∷ ys))
-    on true rest = (any_put (λ (n : Node). n.id == y.id) x ys ∙ or_from (x.id == y.id) (has_id y.id ys) other apart.0, rest)
+    on true rest = (
+      any_put (λ (n : Node). n.id == y.id) x ys
+          ∙ or_from (x.id == y.id) (has_id y.id ys) other apart.0,
+      rest,
+    )
     on false rest = (new, apart)
 
 apart_sorted : (xs : List Node) → Apart xs → Apart (sorted_by_name xs)
 apart_sorted [] apart = tt
-apart_sorted (x ∷ xs) apart = apart_put x (sorted_by_name xs) (any_sorted (λ (n : Node). n.id == x.id) xs ∙ apart.0) (apart_sorted xs apart.1)
+apart_sorted (x ∷ xs) apart =
+    apart_put x (sorted_by_name xs) (any_sorted (λ (n : Node). n.id == x.id) xs ∙ apart.0)
+    (apart_sorted xs apart.1)
 
 -- where no number comes twice, none does among the objects that pass a test
 pub apart_filter : (q : Node → Bool) (xs : List Node) → Apart xs → Apart (filter q xs)
@@ -187,28 +235,43 @@ apart_filter q (x ∷ xs) apart = on (q x) (apart_filter q xs apart.1)
     on false rest = rest
 
 -- nor does one come twice after a change of each object that leaves its number
-pub apart_map : (f : Node → Node) → ((n : Node) → (f n).id ≡ n.id) → (xs : List Node) → Apart xs → Apart (map f xs)
+pub apart_map : (f : Node → Node) → ((n : Node) → (f n).id ≡ n.id) → (xs : List Node) → Apart xs
+    → Apart (map f xs)
 apart_map f same [] apart = tt
-apart_map f same (x ∷ xs) apart = (has_map f same (f x).id xs ∙ ap (λ i. has_id i xs) (same x) ∙ apart.0, apart_map f same xs apart.1)
+apart_map f same (x ∷ xs) apart = (
+  has_map f same (f x).id xs ∙ ap (λ i. has_id i xs) (same x) ∙ apart.0,
+  apart_map f same xs apart.1,
+)
   where
-    has_map : (g : Node → Node) → ((n : Node) → (g n).id ≡ n.id) → (i : ℕ) (ys : List Node) → has_id i (map g ys) ≡ has_id i ys
+    has_map : (g : Node → Node) → ((n : Node) → (g n).id ≡ n.id) → (i : ℕ) (ys : List Node)
+        → has_id i (map g ys) ≡ has_id i ys
     has_map g same i [] = refl
-    has_map g same i (y ∷ ys) = ap (λ (j : ℕ). (j == i) || has_id i (map g ys)) (same y) ∙ ap (λ r. (y.id == i) || r) (has_map g same i ys)
+    has_map g same i (y ∷ ys) =
+        ap (λ (j : ℕ). (j == i) || has_id i (map g ys)) (same y)
+        ∙ ap (λ r. (y.id == i) || r) (has_map g same i ys)
 
 -- a change of each object that leaves its number leaves which numbers are in use
-pub has_id_map : (f : Node → Node) → ((n : Node) → (f n).id ≡ n.id) → (id : ℕ) (xs : List Node) → has_id id (map f xs) ≡ has_id id xs
+pub has_id_map : (f : Node → Node) → ((n : Node) → (f n).id ≡ n.id) → (id : ℕ) (xs : List Node)
+    → has_id id (map f xs) ≡ has_id id xs
 has_id_map f same id [] = refl
-has_id_map f same id (x ∷ xs) = ap (λ (j : ℕ). (j == id) || has_id id (map f xs)) (same x) ∙ ap (λ r. (x.id == id) || r) (has_id_map f same id xs)
+has_id_map f same id (x ∷ xs) =
+    ap (λ (j : ℕ). (j == id) || has_id id (map f xs)) (same x)
+    ∙ ap (λ r. (x.id == id) || r) (has_id_map f same id xs)
 
 -- ---- children
 
 -- the children of objects that are changed, but for their names and places
-module _ (g : Node → Node) (same_name : (n : Node) → (g n).name ≡ n.name) (same_above : (id : ℕ) (n : Node) → has_parent id (g n) ≡ has_parent id n) where
+module _ (g : Node → Node) (same_name : (n : Node) → (g n).name ≡ n.name)
+    (same_above : (id : ℕ) (n : Node) → has_parent id (g n) ≡ has_parent id n) where
   put_map : (x : Node) (xs : List Node) → put_by_name (g x) (map g xs) ≡ map g (put_by_name x xs)
   put_map x [] = refl
-  put_map x (y ∷ ys) = (λ i. cond (is_before (same_name y i) (same_name x i)) (g y ∷ put_by_name (g x) (map g ys)) (g x ∷ g y ∷ map g ys)) ∙ on (is_before y.name x.name) (put_map x ys)
+  put_map x (y ∷ ys) =
+      (λ i. cond (is_before (same_name y i) (same_name x i)) (g y ∷ put_by_name (g x) (map g ys))
+      (g x ∷ g y ∷ map g ys)) ∙ on (is_before y.name x.name) (put_map x ys)
     where
-      on : (t : Bool) → put_by_name (g x) (map g ys) ≡ map g (put_by_name x ys) → cond t (g y ∷ put_by_name (g x) (map g ys)) (g x ∷ g y ∷ map g ys) ≡ map g (cond t (y ∷ put_by_name x ys) (x ∷ y ∷ ys))
+      on : (t : Bool) → put_by_name (g x) (map g ys) ≡ map g (put_by_name x ys)
+          → cond t (g y ∷ put_by_name (g x) (map g ys)) (g x ∷ g y ∷ map g ys)
+          ≡ map g (cond t (y ∷ put_by_name x ys) (x ∷ y ∷ ys))
       on true rest = ap (λ (l : List Node). g y ∷ l) rest
       on false rest = refl
 
@@ -216,34 +279,53 @@ module _ (g : Node → Node) (same_name : (n : Node) → (g n).name ≡ n.name) 
   sorted_map [] = refl
   sorted_map (x ∷ xs) = ap (put_by_name (g x)) (sorted_map xs) ∙ put_map x (sorted_by_name xs)
 
-  filter_map : (id : ℕ) (xs : List Node) → filter (has_parent id) (map g xs) ≡ map g (filter (has_parent id) xs)
+  filter_map : (id : ℕ) (xs : List Node)
+      → filter (has_parent id) (map g xs) ≡ map g (filter (has_parent id) xs)
   filter_map id [] = refl
-  filter_map id (x ∷ xs) = ap (λ t. cond t (g x ∷ filter (has_parent id) (map g xs)) (filter (has_parent id) (map g xs))) (same_above id x) ∙ on (has_parent id x) (filter_map id xs)
+  filter_map id (x ∷ xs) =
+      ap (λ t. cond t (g x ∷ filter (has_parent id) (map g xs)) (filter (has_parent id) (map g xs)))
+      (same_above id x) ∙ on (has_parent id x) (filter_map id xs)
     where
-      on : (t : Bool) → filter (has_parent id) (map g xs) ≡ map g (filter (has_parent id) xs) → cond t (g x ∷ filter (has_parent id) (map g xs)) (filter (has_parent id) (map g xs)) ≡ map g (cond t (x ∷ filter (has_parent id) xs) (filter (has_parent id) xs))
+      on : (t : Bool) → filter (has_parent id) (map g xs) ≡ map g (filter (has_parent id) xs)
+          → cond t (g x ∷ filter (has_parent id) (map g xs)) (filter (has_parent id) (map g xs))
+          ≡ map g (cond t (x ∷ filter (has_parent id) xs) (filter (has_parent id) xs))
       on true rest = ap (λ (l : List Node). g x ∷ l) rest
       on false rest = rest
 
   -- the children after the change are those before it, each changed, in the same order
-  pub children_map : (rows : Content) (id : ℕ) → children_of (with_each rows g) id ≡ map g (children_of rows id)
-  children_map rows id = ap sorted_by_name (filter_map id rows.nodes) ∙ sorted_map (filter (has_parent id) rows.nodes)
+  pub children_map : (rows : Content) (id : ℕ)
+      → children_of (with_each rows g) id ≡ map g (children_of rows id)
+  children_map rows id =
+      ap sorted_by_name (filter_map id rows.nodes) ∙ sorted_map (filter (has_parent id) rows.nodes)
 
 module _ (rows : Content) (apart : Apart rows.nodes) where
   -- what holds of each object that is there with this parent holds of each in its list of children
-  pub each_child : (P : Node → Type 0) (id : ℕ) → ((n : Node) → node_at rows n.id ≡ Some n → has_parent id n ≡ true → P n) → Each P (children_of rows id)
-  each_child P id all = each_sorted P (filter (has_parent id) rows.nodes) (each_filter P (has_parent id) rows.nodes (each_there (λ n. has_parent id n ≡ true → P n) rows.nodes apart all))
+  pub each_child : (P : Node → Type 0) (id : ℕ)
+      → ((n : Node) → node_at rows n.id ≡ Some n → has_parent id n ≡ true → P n)
+      → Each P (children_of rows id)
+  each_child P id all =
+      each_sorted P (filter (has_parent id) rows.nodes)
+      (each_filter P (has_parent id) rows.nodes
+      (each_there (λ n. has_parent id n ≡ true → P n) rows.nodes apart all))
 
   -- no two children of an object have the same number
   pub apart_children : (id : ℕ) → Apart (children_of rows id)
-  apart_children id = apart_sorted (filter (has_parent id) rows.nodes) (apart_filter (has_parent id) rows.nodes apart)
+  apart_children id =
+      apart_sorted (filter (has_parent id) rows.nodes)
+      (apart_filter (has_parent id) rows.nodes apart)
 
   -- whether an object is among those children that pass a test
-  pub is_such_child : (q : Node → Bool) (id : ℕ) (n : Node) → node_at rows n.id ≡ Some n → has_id n.id (filter q (children_of rows id)) ≡ (has_parent id n && q n)
+  pub is_such_child : (q : Node → Bool) (id : ℕ) (n : Node) → node_at rows n.id ≡ Some n
+      → has_id n.id (filter q (children_of rows id)) ≡ (has_parent id n && q n)
   is_such_child q id n there =
       any_filter (λ (m : Node). m.id == n.id) q (children_of rows id)
       ∙ any_sorted (λ m. q m && (m.id == n.id)) (filter (has_parent id) rows.nodes)
       ∙ any_filter (λ m. q m && (m.id == n.id)) (has_parent id) rows.nodes
-      ∙ any_agree (λ m. has_parent id m && (q m && (m.id == n.id))) (λ m. (has_parent id m && q m) && (m.id == n.id)) rows.nodes (each_there (λ m. (has_parent id m && (q m && (m.id == n.id))) ≡ ((has_parent id m && q m) && (m.id == n.id))) rows.nodes apart (λ m _. assoc (has_parent id m) (q m) (m.id == n.id)))
+      ∙ any_agree (λ m. has_parent id m && (q m && (m.id == n.id)))
+      (λ m. (has_parent id m && q m) && (m.id == n.id)) rows.nodes
+      (each_there (λ m. (has_parent id m && (q m && (m.id == n.id)))
+      ≡ ((has_parent id m && q m) && (m.id == n.id))) rows.nodes apart
+      (λ m _. assoc (has_parent id m) (q m) (m.id == n.id)))
       ∙ any_here (λ m. has_parent id m && q m) n rows.nodes apart there
     where
       assoc : (a b c : Bool) → (a && (b && c)) ≡ ((a && b) && c)
@@ -251,28 +333,45 @@ module _ (rows : Content) (apart : Apart rows.nodes) where
       assoc false b c = refl
 
   -- whether an object is among the children
-  pub is_child : (id : ℕ) (n : Node) → node_at rows n.id ≡ Some n → has_id n.id (children_of rows id) ≡ has_parent id n
-  is_child id n there = any_sorted (λ (m : Node). m.id == n.id) (filter (has_parent id) rows.nodes) ∙ any_filter (λ (m : Node). m.id == n.id) (has_parent id) rows.nodes ∙ any_here (has_parent id) n rows.nodes apart there
+  pub is_child : (id : ℕ) (n : Node) → node_at rows n.id ≡ Some n
+      → has_id n.id (children_of rows id) ≡ has_parent id n
+  is_child id n there =
+      any_sorted (λ (m : Node). m.id == n.id) (filter (has_parent id) rows.nodes)
+      ∙ any_filter (λ (m : Node). m.id == n.id) (has_parent id) rows.nodes
+      ∙ any_here (has_parent id) n rows.nodes apart there
 
   -- an object has as many children as there are objects with it as their parent
   pub length_children : (id : ℕ) → length (children_of rows id) ≡ count (has_parent id) rows.nodes
-  length_children id = length_sorted (filter (has_parent id) rows.nodes) ∙ count_length (has_parent id) rows.nodes
+  length_children id =
+      length_sorted (filter (has_parent id) rows.nodes) ∙ count_length (has_parent id) rows.nodes
 
   -- how many children pass a test
-  pub count_children : (q : Node → Bool) (id : ℕ) → count q (children_of rows id) ≡ count (λ n. has_parent id n && q n) rows.nodes
-  count_children q id = count_sorted q (filter (has_parent id) rows.nodes) ∙ count_filter (has_parent id) q rows.nodes
+  pub count_children : (q : Node → Bool) (id : ℕ)
+      → count q (children_of rows id) ≡ count (λ n. has_parent id n && q n) rows.nodes
+  count_children q id =
+      count_sorted q (filter (has_parent id) rows.nodes) ∙ count_filter (has_parent id) q rows.nodes
 
   -- a test that no child passes
-  pub no_child : (q : Node → Bool) (id : ℕ) → list_any q (children_of rows id) ≡ false → (n : Node) → node_at rows n.id ≡ Some n → has_parent id n ≡ true → q n ≡ false
+  pub no_child : (q : Node → Bool) (id : ℕ) → list_any q (children_of rows id) ≡ false → (n : Node)
+      → node_at rows n.id ≡ Some n → has_parent id n ≡ true → q n ≡ false
   no_child q id none n there is =
       each_found (λ m. has_parent id m ≡ true → q m ≡ false) n.id rows.nodes n
-      (each_unfiltered (λ m. q m ≡ false) (has_parent id) rows.nodes (each_fails q (filter (has_parent id) rows.nodes) (sym (any_sorted q (filter (has_parent id) rows.nodes)) ∙ none))) there is
+      (each_unfiltered (λ m. q m ≡ false) (has_parent id) rows.nodes
+      (each_fails q (filter (has_parent id) rows.nodes)
+      (sym (any_sorted q (filter (has_parent id) rows.nodes)) ∙ none))) there is
 
   -- one that some child passes, if it isn't impossible
-  pub some_child : (q : Node → Bool) (id : ℕ) (X : Type 0) → ((n : Node) → node_at rows n.id ≡ Some n → has_parent id n ≡ true → q n ≡ true → X) → list_any q (children_of rows id) ≡ true → X
-  some_child q id X makes some = pick (children_of rows id) (each_child (λ n. (node_at rows n.id ≡ Some n) × (has_parent id n ≡ true)) id (λ n there is. (there, is))) some
+  pub some_child : (q : Node → Bool) (id : ℕ) (X : Type 0)
+      → ((n : Node) → node_at rows n.id ≡ Some n → has_parent id n ≡ true → q n ≡ true → X)
+      → list_any q (children_of rows id) ≡ true → X
+  some_child q id X makes some =
+      pick (children_of rows id)
+      (each_child (λ n. (node_at rows n.id ≡ Some n) × (has_parent id n ≡ true)) id
+      (λ n there is. (there, is))) some
     where
-      pick : (xs : List Node) → Each (λ n. (node_at rows n.id ≡ Some n) × (has_parent id n ≡ true)) xs → list_any q xs ≡ true → X
+      pick : (xs : List Node)
+          → Each (λ n. (node_at rows n.id ≡ Some n) × (has_parent id n ≡ true)) xs
+          → list_any q xs ≡ true → X
       pick [] all some = absurd (false≢true some)
       pick (x ∷ xs) all some = elim (cases_Bool (q x)) [
         | inl is ↦ makes x all.0.0 all.0.1 is

@@ -31,7 +31,8 @@ use Rattle.room_inherit.proofs.Folders.{in_folder_is, meets_both, set_above}
 -- where a test of all objects is passed, each object passes it
 pub each_all : (p : Node → Bool) (xs : List Node) → list_all p xs ≡ true → Each (λ x. p x ≡ true) xs
 each_all p [] all = tt
-each_all p (x ∷ xs) all = let parts = and_parts (p x) (list_all p xs) all in (parts.0, each_all p xs parts.1)
+each_all p (x ∷ xs) all = let parts = and_parts (p x) (list_all p xs) all in
+    (parts.0, each_all p xs parts.1)
 
 -- ---- the lists as they are stored
 
@@ -41,7 +42,10 @@ own_lists which node = (held_of which node).inh
 
 -- objects that are given the lists they store leave the content as it is
 pub with_own_lists : (which : Which) (old : Content) → with_lists which (own_lists which) old ≡ old
-with_own_lists which old = ap (λ (ns : List Node). record old { nodes = ns }) (map_agree (set which (own_lists which)) (λ n. n) old.nodes (every old.nodes) ∙ map-id old.nodes)
+with_own_lists which old =
+    ap (λ (ns : List Node). record old { nodes = ns })
+    (map_agree (set which (own_lists which)) (λ n. n) old.nodes (every old.nodes)
+    ∙ map-id old.nodes)
   where
     every : (xs : List Node) → Each (λ n. set which (own_lists which) n ≡ n) xs
     every [] = tt
@@ -52,117 +56,198 @@ pub own_unchanged : (which : Which) (n : Node) → is_changed which (own_lists w
 own_unchanged which n = ap not (entries_themselves (held_of which n).inh)
 
 -- so at the beginning the number of changed objects is 0
-pub count_own : (which : Which) (nodes : List Node) → count (is_changed which (own_lists which)) nodes ≡ 0
+pub count_own : (which : Which) (nodes : List Node)
+    → count (is_changed which (own_lists which)) nodes ≡ 0
 count_own which [] = refl
-count_own which (x ∷ xs) = ap (λ t. one_if t + count (is_changed which (own_lists which)) xs) (own_unchanged which x) ∙ (let rest = count_own which xs in omega (arith, rest))
+count_own which (x ∷ xs) =
+    ap (λ t. one_if t + count (is_changed which (own_lists which)) xs) (own_unchanged which x)
+    ∙ (let rest = count_own which xs in omega (arith, rest))
 
-changed_own : (which : Which) (n : Node) (X : Type 0) → is_changed which (own_lists which) n ≡ true → X
+changed_own : (which : Which) (n : Node) (X : Type 0) → is_changed which (own_lists which) n ≡ true
+    → X
 changed_own which n X changed = absurd (false≢true (sym (own_unchanged which n) ∙ changed))
 
 -- what the law says of an object and its parent
-law_of_two : (which : Which) (old : Content) (n p : Node) → There which 0 old p → has_parent p.id n ≡ true → links which p n ≡ true → agrees old which n ≡ true → (held_of which n).inh ≡ passes which (own_lists which) p n
+law_of_two : (which : Which) (old : Content) (n p : Node) → There which 0 old p
+    → has_parent p.id n ≡ true → links which p n ≡ true → agrees old which n ≡ true
+    → (held_of which n).inh ≡ passes which (own_lists which) p n
 law_of_two which old n p there has link agree =
-    let with_p : agrees_with which n p ≡ true = sym (ap (λ o. option_map_or (agrees_with which n) o true) (parent_found old p n there has)) ∙ agree in
-    entries_equal (held_of which n).inh (passes which (own_lists which) p n) (meets_both (links which p n) (same_entries (held_of which n).inh (passes which (own_lists which) p n)) link with_p)
+    let with_p : agrees_with which n p ≡ true =
+    sym (ap (λ o. option_map_or (agrees_with which n) o true) (parent_found old p n there has))
+    ∙ agree in
+    entries_equal (held_of which n).inh (passes which (own_lists which) p n)
+    (meets_both (links which p n)
+    (same_entries (held_of which n).inh (passes which (own_lists which) p n)) link with_p)
 
-module _ (which : Which) (start : ℕ) (old : Content) (rises : is_rising (0 ∷ ids_of old.nodes) ≡ true) where
+module _ (which : Which) (start : ℕ) (old : Content)
+    (rises : is_rising (0 ∷ ids_of old.nodes) ≡ true) where
   -- ---- the beginning
 
   -- at the beginning the object itself is all that waits, and no list has changed
-  pub frontier_first : (s : Node) → node_at old start ≡ Some s → Frontier which start old (own_lists which) (s ∷ [])
+  pub frontier_first : (s : Node) → node_at old start ≡ Some s
+      → Frontier which start old (own_lists which) (s ∷ [])
   frontier_first s found =
       let same : s.id ≡ start = found_id start old.nodes s found in
       record {
-        known = (record { base = s; there = ap (node_at old) same ∙ found; is = sym (with_own which s); reached = or_left (s.id == start) (is_changed which (own_lists which) s) (eq-eqb s.id start same) }, tt);
+        known = (
+          record {
+            base = s;
+            there = ap (node_at old) same ∙ found;
+            is = sym (with_own which s);
+            reached = or_left (s.id == start) (is_changed which (own_lists which) s)
+                (eq-eqb s.id start same);
+          },
+          tt,
+        );
         apart = (refl, tt);
-        came = λ n there changed. changed_own which n (Came which start old (own_lists which) (s ∷ []) n) changed;
+        came =
+            λ n there changed. changed_own which n
+            (Came which start old (own_lists which) (s ∷ []) n) changed;
         law = λ but n p there there' folder has link.
-            let either = each_found (λ m. (has_parent start m || agrees_in_folder old which m) ≡ true) n.id old.nodes n (each_all (λ m. has_parent start m || agrees_in_folder old which m) old.nodes but) there in
+            let either = each_found
+            (λ m. (has_parent start m || agrees_in_folder old which m) ≡ true) n.id old.nodes n
+            (each_all (λ m. has_parent start m || agrees_in_folder old which m) old.nodes but)
+            there in
             elim (or_cases (has_parent start n) (agrees_in_folder old which n) either) [
               | inl child ↦
-                  let e : Some start ≡ Some p.id = sym (parent_is start n child) ∙ parent_is p.id n has in
+                  let e : Some start ≡ Some p.id = sym (parent_is start n child)
+                  ∙ parent_is p.id n has in
                   let e' : start ≡ p.id = cc in
                   inl (or_left (s.id == p.id) false (eq-eqb s.id p.id (same ∙ e')))
-              | inr agree ↦ inr (law_of_two which old n p there' has link (meets_both (has_folder_above old n) (agrees old which n) (in_folder_is old n p there' has ∙ folder) agree))
+              | inr agree ↦
+                  inr (law_of_two which old n p there' has link
+                  (meets_both (has_folder_above old n) (agrees old which n)
+                  (in_folder_is old n p there' has ∙ folder) agree))
             ];
       }
 
   -- where each child of the object agrees or stands in no folder, all do
-  law_above : ((n : Node) → has_parent start n ≡ true → agrees_in_folder old which n ≡ true) → AllAgreeInFoldersBut old which start → AllAgreeInFolders old which
+  law_above : ((n : Node) → has_parent start n ≡ true → agrees_in_folder old which n ≡ true)
+      → AllAgreeInFoldersBut old which start → AllAgreeInFolders old which
   law_above children but =
       all_each (agrees_in_folder old which) old.nodes
-      (each_weaker (λ m. (has_parent start m || agrees_in_folder old which m) ≡ true) (λ m. agrees_in_folder old which m ≡ true) one old.nodes (each_all (λ m. has_parent start m || agrees_in_folder old which m) old.nodes but))
+      (each_weaker (λ m. (has_parent start m || agrees_in_folder old which m) ≡ true)
+      (λ m. agrees_in_folder old which m ≡ true) one old.nodes
+      (each_all (λ m. has_parent start m || agrees_in_folder old which m) old.nodes but))
     where
-      one : (n : Node) → (has_parent start n || agrees_in_folder old which n) ≡ true → agrees_in_folder old which n ≡ true
+      one : (n : Node) → (has_parent start n || agrees_in_folder old which n) ≡ true
+          → agrees_in_folder old which n ≡ true
       one n either = elim (or_cases (has_parent start n) (agrees_in_folder old which n) either) [
         | inl child ↦ children n child
         | inr agree ↦ agree
       ]
 
   -- where the object isn't there, nothing is linked to it
-  pub law_without : node_at old start ≡ None → AllAgreeInFoldersBut old which start → AllAgreeInFolders old which
+  pub law_without : node_at old start ≡ None → AllAgreeInFoldersBut old which start
+      → AllAgreeInFolders old which
   law_without none = law_above (λ n child.
-      or_right (not (has_folder_above old n)) (agrees old which n) (ap (λ o. option_map_or (agrees_with which n) o true) (ap (option_and_then (node_at old)) (parent_is start n child) ∙ none)))
+      or_right (not (has_folder_above old n)) (agrees old which n)
+      (ap (λ o. option_map_or (agrees_with which n) o true)
+      (ap (option_and_then (node_at old)) (parent_is start n child) ∙ none)))
 
   -- where it is a document, nothing stands in a folder there
-  pub law_document : (s : Node) → node_at old start ≡ Some s → is_folder s ≡ false → AllAgreeInFoldersBut old which start → AllAgreeInFolders old which
+  pub law_document : (s : Node) → node_at old start ≡ Some s → is_folder s ≡ false
+      → AllAgreeInFoldersBut old which start → AllAgreeInFolders old which
   law_document s found document = law_above (λ n child.
       let same : s.id ≡ start = found_id start old.nodes s found in
-      let none : has_folder_above old n ≡ false = in_folder_is old n s (ap (node_at old) same ∙ found) (ap (λ i. has_parent i n) same ∙ child) ∙ document in
+      let none : has_folder_above old n ≡ false = in_folder_is old n s
+      (ap (node_at old) same ∙ found) (ap (λ i. has_parent i n) same ∙ child) ∙ document in
       or_left (not (has_folder_above old n)) (agrees old which n) (ap not none))
 
   -- ---- the end
 
   module _ (f : Node → List Ace) where
-    agrees_now : (n : Node) → ((p : Node) → There which start old p → has_parent p.id n ≡ true → links which p n ≡ true → f n ≡ passes which f p n) → agrees (with_lists which f old) which (set which f n) ≡ true
-    agrees_now n law = ap (λ p. option_map_or (agrees_with which (set which f n)) (option_and_then (node_at (with_lists which f old)) p) true) (same_parent which (f n) n) ∙ on n.parent refl
+    agrees_now : (n : Node)
+        → ((p : Node) → There which start old p → has_parent p.id n ≡ true → links which p n ≡ true
+        → f n ≡ passes which f p n) → agrees (with_lists which f old) which (set which f n) ≡ true
+    agrees_now n law =
+        ap (λ p. option_map_or (agrees_with which (set which f n))
+        (option_and_then (node_at (with_lists which f old)) p) true) (same_parent which (f n) n)
+        ∙ on n.parent refl
       where
         linked_or : (t u : Bool) → (t ≡ true → u ≡ true) → (not t || u) ≡ true
         linked_or true u same = same refl
         linked_or false u same = refl
 
-        with_parent : (q : Node) (p : ℕ) → n.parent ≡ Some p → node_at old p ≡ Some q → agrees_with which (set which f n) (set which f q) ≡ true
+        with_parent : (q : Node) (p : ℕ) → n.parent ≡ Some p → node_at old p ≡ Some q
+            → agrees_with which (set which f n) (set which f q) ≡ true
         with_parent q p up found =
             let same : q.id ≡ p = found_id p old.nodes q found in
             let there' : There which start old q = ap (node_at old) same ∙ found in
-            let has : has_parent q.id n ≡ true = ap (λ o. option_map_or (λ parent. parent == q.id) o false) up ∙ eq-eqb p q.id (sym same) in
-            (λ i. not (is_linked (set_held which f n i) (Some (set_held which f q i))) || same_entries (set_held which f n i).inh (pass (same_kind which (f n) n i) (full_of (set_held which f q i))))
-            ∙ linked_or (links which q n) (same_entries (f n) (passes which f q n)) (λ link. equal_entries (f n) (passes which f q n) (law q there' has link))
+            let has : has_parent q.id n ≡ true = ap
+            (λ o. option_map_or (λ parent. parent == q.id) o false) up
+            ∙ eq-eqb p q.id (sym same) in
+            (λ i. not (is_linked (set_held which f n i) (Some (set_held which f q i)))
+            || same_entries (set_held which f n i).inh
+            (pass (same_kind which (f n) n i) (full_of (set_held which f q i))))
+            ∙ linked_or (links which q n) (same_entries (f n) (passes which f q n))
+            (λ link. equal_entries (f n) (passes which f q n) (law q there' has link))
 
-        found_or : (p : ℕ) (o : Option Node) → node_at old p ≡ o → n.parent ≡ Some p → option_map_or (agrees_with which (set which f n)) (option_map (set which f) o) true ≡ true
+        found_or : (p : ℕ) (o : Option Node) → node_at old p ≡ o → n.parent ≡ Some p
+            → option_map_or (agrees_with which (set which f n)) (option_map (set which f) o) true
+            ≡ true
         found_or p None found up = refl
         found_or p (Some q) found up = with_parent q p up found
 
-        on : (o : Option ℕ) → n.parent ≡ o → option_map_or (agrees_with which (set which f n)) (option_and_then (node_at (with_lists which f old)) o) true ≡ true
+        on : (o : Option ℕ) → n.parent ≡ o
+            → option_map_or (agrees_with which (set which f n))
+            (option_and_then (node_at (with_lists which f old)) o) true ≡ true
         on None up = refl
-        on (Some p) up = ap (λ o. option_map_or (agrees_with which (set which f n)) o true) (find_set which f p old.nodes) ∙ found_or p (node_at old p) refl up
+        on (Some p) up =
+            ap (λ o. option_map_or (agrees_with which (set which f n)) o true)
+            (find_set which f p old.nodes) ∙ found_or p (node_at old p) refl up
 
     -- once no object waits any more, each object in a folder agrees with it by the new lists
-    pub law_at_end : AgreesOrWaits which start old f [] → AllAgreeInFolders (with_lists which f old) which
+    pub law_at_end : AgreesOrWaits which start old f []
+        → AllAgreeInFolders (with_lists which f old) which
     law_at_end law =
-        all_each (agrees_in_folder (with_lists which f old) which) (map (set which f) old.nodes) (each_map (λ m. agrees_in_folder (with_lists which f old) which m ≡ true) (set which f) old.nodes
-        (each_there (λ n. agrees_in_folder (with_lists which f old) which (set which f n) ≡ true) old.nodes (apart_rising 0 old.nodes rises) one))
+        all_each (agrees_in_folder (with_lists which f old) which) (map (set which f) old.nodes)
+        (each_map (λ m. agrees_in_folder (with_lists which f old) which m ≡ true)
+        (set which f) old.nodes
+        (each_there (λ n. agrees_in_folder (with_lists which f old) which (set which f n) ≡ true)
+        old.nodes (apart_rising 0 old.nodes rises) one))
       where
-        one : (n : Node) → There which start old n → agrees_in_folder (with_lists which f old) which (set which f n) ≡ true
+        one : (n : Node) → There which start old n
+            → agrees_in_folder (with_lists which f old) which (set which f n) ≡ true
         one n there = elim (cases_Bool (has_folder_above old n)) [
-          | inl above ↦ or_right (not (has_folder_above (with_lists which f old) (set which f n))) (agrees (with_lists which f old) which (set which f n)) (agrees_now n (λ p there' has link. elim (law n p there there' (sym (in_folder_is old n p there' has) ∙ above) has link) [
-            | inl waiting ↦ absurd (false≢true waiting)
-            | inr same ↦ same
-          ]))
-          | inr isnt ↦ or_left (not (has_folder_above (with_lists which f old) (set which f n))) (agrees (with_lists which f old) which (set which f n)) (ap not (set_above which f old n ∙ isnt))
+          | inl above ↦
+              or_right (not (has_folder_above (with_lists which f old) (set which f n)))
+              (agrees (with_lists which f old) which (set which f n))
+              (agrees_now n (λ p there' has link. elim
+              (law n p there there' (sym (in_folder_is old n p there' has) ∙ above) has link) [
+                | inl waiting ↦ absurd (false≢true waiting)
+                | inr same ↦ same
+              ]))
+          | inr isnt ↦
+              or_left (not (has_folder_above (with_lists which f old) (set which f n)))
+              (agrees (with_lists which f old) which (set which f n))
+              (ap not (set_above which f old n ∙ isnt))
         ]
 
     -- Where each object with another list than before agrees with a parent, each agrees or stores
     -- what it did.
-    pub changed_agree : ((n : Node) → There which start old n → is_changed which f n ≡ true → (p : Node) × There which start old p × (has_parent p.id n ≡ true) × (f n ≡ passes which f p n)) → ChangedAgree which old (with_lists which f old)
+    pub changed_agree : ((n : Node) → There which start old n → is_changed which f n ≡ true
+        → (p : Node) × There which start old p × (has_parent p.id n ≡ true)
+        × (f n ≡ passes which f p n)) → ChangedAgree which old (with_lists which f old)
     changed_agree came =
-        all_each either (map (set which f) old.nodes) (each_map (λ m. either m ≡ true) (set which f) old.nodes (each_there (λ n. either (set which f n) ≡ true) old.nodes (apart_rising 0 old.nodes rises) (λ n there. elim (cases_Bool (is_changed which f n)) [
-          | inl changed ↦ let c = came n there changed in or_right (stores_as_before old which (set which f n)) (agrees (with_lists which f old) which (set which f n)) (agrees_now n (λ p there' has link.
+        all_each either (map (set which f) old.nodes)
+        (each_map (λ m. either m ≡ true) (set which f) old.nodes
+        (each_there (λ n. either (set which f n) ≡ true) old.nodes (apart_rising 0 old.nodes rises)
+        (λ n there. elim (cases_Bool (is_changed which f n)) [
+          | inl changed ↦ let c = came n there changed in
+              or_right (stores_as_before old which (set which f n))
+              (agrees (with_lists which f old) which (set which f n))
+              (agrees_now n (λ p there' has link.
               let one = one_object old.nodes c.0 p c.1 there' (same_above c.0.id p.id n c.2 has) in
               c.3 ∙ ap (λ x. passes which f x n) one))
-          | inr unchanged ↦ or_left (stores_as_before old which (set which f n)) (agrees (with_lists which f old) which (set which f n))
-              (ap (λ o. option_map_or (λ (m : Node). same_entries (held_of which (set which f n)).inh (held_of which m).inh) o false) (ap (node_at old) (set_id which f n) ∙ there)
-              ∙ ap (λ (h : Held). same_entries h.inh (held_of which n).inh) (set_held which f n) ∙ not-false (same_entries (f n) (held_of which n).inh) unchanged)
+          | inr unchanged ↦
+              or_left (stores_as_before old which (set which f n))
+              (agrees (with_lists which f old) which (set which f n))
+              (ap
+              (λ o. option_map_or (λ (m : Node). same_entries (held_of which (set which f n)).inh
+              (held_of which m).inh) o false) (ap (node_at old) (set_id which f n) ∙ there)
+              ∙ ap (λ (h : Held). same_entries h.inh (held_of which n).inh) (set_held which f n)
+              ∙ not-false (same_entries (f n) (held_of which n).inh) unchanged)
         ])))
       where
         either : Node → Bool
@@ -170,47 +255,78 @@ module _ (which : Which) (start : ℕ) (old : Content) (rises : is_rising (0 ∷
 
     -- ---- a loop
 
-    below_of : (m : ℕ) (n : Node) → is_linked_within m old which start n ≡ true → is_within m old start n ≡ true
+    below_of : (m : ℕ) (n : Node) → is_linked_within m old which start n ≡ true
+        → is_within m old start n ≡ true
     below_of zero n is = absurd (false≢true is)
     below_of (suc m) n is =
-        let parts = and_parts (is_linked_in old which n) (has_parent start n || option_map_or (is_linked_within m old which start) (parent_of old n) false) is in
-        elim (or_cases (has_parent start n) (option_map_or (is_linked_within m old which start) (parent_of old n) false) parts.1) [
+        let parts = and_parts (is_linked_in old which n)
+        (has_parent start n || option_map_or (is_linked_within m old which start)
+        (parent_of old n) false) is in
+        elim
+        (or_cases (has_parent start n)
+        (option_map_or (is_linked_within m old which start) (parent_of old n) false) parts.1) [
           | inl child ↦ or_left (has_parent start n) _ child
-          | inr further ↦ or_right (has_parent start n) _ (on (parent_of old n) (λ q. below_of m q) further)
+          | inr further ↦
+              or_right (has_parent start n) _ (on (parent_of old n) (λ q. below_of m q) further)
         ]
       where
-        on : (o : Option Node) → ((q : Node) → is_linked_within m old which start q ≡ true → is_within m old start q ≡ true) → option_map_or (is_linked_within m old which start) o false ≡ true → option_map_or (is_within m old start) o false ≡ true
+        on : (o : Option Node)
+            → ((q : Node) → is_linked_within m old which start q ≡ true
+            → is_within m old start q ≡ true)
+            → option_map_or (is_linked_within m old which start) o false ≡ true
+            → option_map_or (is_within m old start) o false ≡ true
         on None goes is = absurd (false≢true is)
         on (Some q) goes is = goes q is
 
     -- the first object, met again as a linked child of the last that waits, is its own ancestor
-    pub loop_found : (rest : List Node) (w : Node) → Frontier which start old f (rest ++ w ∷ []) → meets_again which start w (children_of (with_lists which f old) w.id) ≡ true → IsOwnAncestor old start
-    loop_found rest w front met = some_child (with_lists which f old) (apart_map (set which f) (set_id which f) old.nodes (apart_rising 0 old.nodes rises)) (is_met_again which start w) w.id (IsOwnAncestor old start) found met
+    pub loop_found : (rest : List Node) (w : Node) → Frontier which start old f (rest ++ w ∷ [])
+        → meets_again which start w (children_of (with_lists which f old) w.id) ≡ true
+        → IsOwnAncestor old start
+    loop_found rest w front met =
+        some_child (with_lists which f old)
+        (apart_map (set which f) (set_id which f) old.nodes (apart_rising 0 old.nodes rises))
+        (is_met_again which start w) w.id (IsOwnAncestor old start) found met
       where
         waits : Waits which start old f w
         waits = (each_back (Waits which start old f) rest (w ∷ []) front.known).0
 
-        found : (m : Node) → node_at (with_lists which f old) m.id ≡ Some m → has_parent w.id m ≡ true → is_met_again which start w m ≡ true → IsOwnAncestor old start
+        found : (m : Node) → node_at (with_lists which f old) m.id ≡ Some m
+            → has_parent w.id m ≡ true → is_met_again which start w m ≡ true
+            → IsOwnAncestor old start
         found m there has met_m =
-            let b = base_of which f m (find_id m.id old.nodes) (sym (find_set which f m.id old.nodes) ∙ there) in
+            let b = base_of which f m (find_id m.id old.nodes)
+            (sym (find_set which f m.id old.nodes) ∙ there) in
             let n = b.0 in
-            let is_start : m.id ≡ start = eqb-true m.id start (and_parts (m.id == start) (is_linked_to which w m) met_m).0 in
-            let w_id : w.id ≡ waits.base.id = ap (λ (x : Node). x.id) waits.is ∙ set_id which f waits.base in
-            let has_n : has_parent waits.base.id n ≡ true = ap (λ i. has_parent i n) (sym w_id) ∙ sym (set_parent which f w.id n) ∙ ap (has_parent w.id) (sym b.2) ∙ has in (
+            let is_start : m.id ≡ start = eqb-true m.id start
+            (and_parts (m.id == start) (is_linked_to which w m) met_m).0 in
+            let w_id : w.id ≡ waits.base.id = ap (λ (x : Node). x.id) waits.is
+            ∙ set_id which f waits.base in
+            let has_n : has_parent waits.base.id n ≡ true = ap (λ i. has_parent i n) (sym w_id)
+            ∙ sym (set_parent which f w.id n) ∙ ap (has_parent w.id) (sym b.2) ∙ has in (
               n,
               ap (node_at old) (sym is_start) ∙ b.1,
               elim (or_cases (waits.base.id == start) (is_changed which f waits.base) waits.reached) [
-                | inl first ↦ (suc zero, or_left (has_parent start n) _ (ap (λ i. has_parent i n) (sym (eqb-true waits.base.id start first)) ∙ has_n))
+                | inl first ↦ (
+                  suc zero,
+                  or_left (has_parent start n) _
+                      (ap (λ i. has_parent i n) (sym (eqb-true waits.base.id start first)) ∙ has_n),
+                )
                 | inr changed ↦
-                    let c = (front.came waits.base waits.there changed).below in
-                    (suc c.0, or_right (has_parent start n) _ (ap (λ o. option_map_or (is_within c.0 old start) o false) (parent_found old waits.base n waits.there has_n) ∙ below_of c.0 waits.base c.1))
+                    let c = (front.came waits.base waits.there changed).below in (
+                      suc c.0,
+                      or_right (has_parent start n) _
+                          (ap (λ o. option_map_or (is_within c.0 old start) o false)
+                          (parent_found old waits.base n waits.there has_n)
+                          ∙ below_of c.0 waits.base c.1),
+                    )
               ],
             )
 
 -- ---- counts
 
 -- where an object that fails a test is found, fewer pass the test than there are objects
-pub count_less : (p : Node → Bool) (id : ℕ) (nodes : List Node) (s : Node) → find_id id nodes ≡ Some s → p s ≡ false → suc (count p nodes) ≤ length nodes
+pub count_less : (p : Node → Bool) (id : ℕ) (nodes : List Node) (s : Node)
+    → find_id id nodes ≡ Some s → p s ≡ false → suc (count p nodes) ≤ length nodes
 count_less p id [] s found isnt = absurd (let wrong : ⊥ = cc in wrong)
 count_less p id (x ∷ xs) s found isnt = on (x.id == id) found (count_less p id xs s)
   where
@@ -221,22 +337,28 @@ count_less p id (x ∷ xs) s found isnt = on (x.id == id) found (count_less p id
     one_at_most true = omega arith
     one_at_most false = omega arith
 
-    on : (t : Bool) → cond t (Some x) (find_id id xs) ≡ Some s → (find_id id xs ≡ Some s → p s ≡ false → suc (count p xs) ≤ length xs) → suc (one_if (p x) + count p xs) ≤ length (x ∷ xs)
-    on true is rest = let same : x ≡ s = cc in let none : one_if (p x) ≡ 0 = ap one_if (ap p same ∙ isnt) in omega (arith, none, ends)
+    on : (t : Bool) → cond t (Some x) (find_id id xs) ≡ Some s
+        → (find_id id xs ≡ Some s → p s ≡ false → suc (count p xs) ≤ length xs)
+        → suc (one_if (p x) + count p xs) ≤ length (x ∷ xs)
+    on true is rest = let same : x ≡ s = cc in let none : one_if (p x) ≡ 0 =
+        ap one_if (ap p same ∙ isnt) in omega (arith, none, ends)
     on false is rest = let r = rest is isnt in let o = one_at_most (p x) in omega (arith, r, o)
 
 length_put : (id : ℕ) (ids : List ℕ) → length (put_number id ids) ≡ suc (length ids)
 length_put id [] = refl
 length_put id (x ∷ xs) = on (nat_lt x id) (length_put id xs)
   where
-    on : (t : Bool) → length (put_number id xs) ≡ suc (length xs) → length (cond t (x ∷ put_number id xs) (id ∷ x ∷ xs)) ≡ suc (length (x ∷ xs))
+    on : (t : Bool) → length (put_number id xs) ≡ suc (length xs)
+        → length (cond t (x ∷ put_number id xs) (id ∷ x ∷ xs)) ≡ suc (length (x ∷ xs))
     on true rest = ap suc rest
     on false rest = refl
 
 length_numbers : (more ids : List ℕ) → length ids ≤ length (put_numbers more ids)
 length_numbers [] ids = omega arith
-length_numbers (id ∷ more) ids = let e = length_put id (put_numbers more ids) in let r = length_numbers more ids in omega (arith, e, r)
+length_numbers (id ∷ more) ids = let e = length_put id (put_numbers more ids) in let r =
+    length_numbers more ids in omega (arith, e, r)
 
 -- there are at least as many numbers in use as objects that can be read
 pub as_many_numbers : (rows : Rows) → length rows.read.nodes ≤ length (numbers_of rows)
-as_many_numbers rows = let e = length-map rows.read.nodes (λ (n : Node). n.id) in let r = length_numbers rows.unreadable (ids_of rows.read.nodes) in omega (arith, e, r)
+as_many_numbers rows = let e = length-map rows.read.nodes (λ (n : Node). n.id) in let r =
+    length_numbers rows.unreadable (ids_of rows.read.nodes) in omega (arith, e, r)

@@ -15,16 +15,22 @@ no_more : (t : Node → Bool) (nodes : List Node) → length (filter t nodes) �
 no_more t [] = omega arith
 no_more t (x ∷ xs) = on (t x) (no_more t xs)
   where
-    on : (is : Bool) → length (filter t xs) ≤ length xs → length (cond is (x ∷ filter t xs) (filter t xs)) ≤ suc (length xs)
+    on : (is : Bool) → length (filter t xs) ≤ length xs
+        → length (cond is (x ∷ filter t xs) (filter t xs)) ≤ suc (length xs)
     on true rest = omega arith
     on false rest = omega arith
 
-fewer : (id : ℕ) (nodes : List Node) (node : Node) → find_id id nodes ≡ Some node → length (filter (λ n. not (n.id == id)) nodes) + 1 ≤ length nodes
+fewer : (id : ℕ) (nodes : List Node) (node : Node) → find_id id nodes ≡ Some node
+    → length (filter (λ n. not (n.id == id)) nodes) + 1 ≤ length nodes
 fewer id [] node found = absurd (let wrong : ⊥ = cc in wrong)
-fewer id (x ∷ xs) node found = on (x.id == id) found (fewer id xs node) (no_more (λ n. not (n.id == id)) xs)
+fewer id (x ∷ xs) node found =
+    on (x.id == id) found (fewer id xs node) (no_more (λ n. not (n.id == id)) xs)
   where
-    on : (is : Bool) → cond is (Some x) (find_id id xs) ≡ Some node → (find_id id xs ≡ Some node → length (filter (λ n. not (n.id == id)) xs) + 1 ≤ length xs) → length (filter (λ n. not (n.id == id)) xs) ≤ length xs
-        → length (cond (not is) (x ∷ filter (λ n. not (n.id == id)) xs) (filter (λ n. not (n.id == id)) xs)) + 1 ≤ suc (length xs)
+    on : (is : Bool) → cond is (Some x) (find_id id xs) ≡ Some node
+        → (find_id id xs ≡ Some node → length (filter (λ n. not (n.id == id)) xs) + 1 ≤ length xs)
+        → length (filter (λ n. not (n.id == id)) xs) ≤ length xs
+        → length (cond (not is) (x ∷ filter (λ n. not (n.id == id)) xs)
+        (filter (λ n. not (n.id == id)) xs)) + 1 ≤ suc (length xs)
     on true is later all = omega arith
     on false is later all = let less = later is in omega (arith, less)
 
@@ -32,35 +38,65 @@ fewer id (x ∷ xs) node found = on (x.id == id) found (fewer id xs node) (no_mo
 
 module _ (content : Content) (id : ℕ) where
   -- what leads up without the object leads up with it
-  back : (n : ℕ) (parent : Option ℕ) → reaches_root n (without_node content id) parent ≡ true → reaches_root n content parent ≡ true
+  back : (n : ℕ) (parent : Option ℕ) → reaches_root n (without_node content id) parent ≡ true
+      → reaches_root n content parent ≡ true
   back n None up = refl
   back zero (Some p) up = up
   back (suc n) (Some p) up = elim (cases_Bool (p == id)) [
-    | inl same ↦ absurd (false≢true (sym (ap (λ o. option_map_or (λ (q : Node). reaches_root n (without_node content id) q.parent) o false) (ap (node_at (without_node content id)) (eqb-true p id same) ∙ node_at-without_node content id)) ∙ up))
-    | inr other ↦ on (node_at content p) (sym (ap (λ o. option_map_or (λ (q : Node). reaches_root n (without_node content id) q.parent) o false) (node_at-without_node-other content id p (eqb-false p id other))) ∙ up) (λ parent higher. back n parent higher)
+    | inl same ↦
+        absurd
+        (false≢true
+        (sym (ap
+        (λ o. option_map_or (λ (q : Node). reaches_root n (without_node content id) q.parent) o
+        false) (ap (node_at (without_node content id)) (eqb-true p id same)
+        ∙ node_at-without_node content id)) ∙ up))
+    | inr other ↦
+        on (node_at content p)
+        (sym (ap
+        (λ o. option_map_or (λ (q : Node). reaches_root n (without_node content id) q.parent) o
+        false) (node_at-without_node-other content id p (eqb-false p id other))) ∙ up)
+        (λ parent higher. back n parent higher)
   ]
     where
-      on : (o : Option Node) → option_map_or (λ (q : Node). reaches_root n (without_node content id) q.parent) o false ≡ true
-          → ((parent : Option ℕ) → reaches_root n (without_node content id) parent ≡ true → reaches_root n content parent ≡ true)
+      on : (o : Option Node)
+          → option_map_or (λ (q : Node). reaches_root n (without_node content id) q.parent) o false
+          ≡ true
+          → ((parent : Option ℕ) → reaches_root n (without_node content id) parent ≡ true
+          → reaches_root n content parent ≡ true)
           → option_map_or (λ (q : Node). reaches_root n content q.parent) o false ≡ true
       on None up before = up
       on (Some q) up before = before q.parent up
 
   -- a way doesn't meet the object, or goes on from it
-  cut : (n : ℕ) (parent : Option ℕ) → reaches_root n content parent ≡ true → (reaches_root n (without_node content id) parent ≡ true) ⊎ ((m : ℕ) × (m ≤ n) × (reaches_root m content (Some id) ≡ true))
+  cut : (n : ℕ) (parent : Option ℕ) → reaches_root n content parent ≡ true
+      → (reaches_root n (without_node content id) parent ≡ true)
+      ⊎ ((m : ℕ) × (m ≤ n) × (reaches_root m content (Some id) ≡ true))
   cut n None up = inl refl
   cut zero (Some p) up = absurd (false≢true up)
   cut (suc n) (Some p) up = elim (cases_Bool (p == id)) [
-    | inl same ↦ inr (suc n, omega arith, ap (λ x. reaches_root (suc n) content (Some x)) (sym (eqb-true p id same)) ∙ up)
-    | inr other ↦ on (eqb-false p id other) (node_at content p) refl up (λ parent higher. cut n parent higher)
+    | inl same ↦
+        inr (
+          suc n,
+          omega arith,
+          ap (λ x. reaches_root (suc n) content (Some x)) (sym (eqb-true p id same)) ∙ up,
+        )
+    | inr other ↦
+        on (eqb-false p id other) (node_at content p) refl up (λ parent higher. cut n parent higher)
   ]
     where
-      on : (p ≡ id → ⊥) → (o : Option Node) → node_at content p ≡ o → option_map_or (λ (q : Node). reaches_root n content q.parent) o false ≡ true
-          → ((parent : Option ℕ) → reaches_root n content parent ≡ true → (reaches_root n (without_node content id) parent ≡ true) ⊎ ((m : ℕ) × (m ≤ n) × (reaches_root m content (Some id) ≡ true)))
-          → (reaches_root (suc n) (without_node content id) (Some p) ≡ true) ⊎ ((m : ℕ) × (m ≤ suc n) × (reaches_root m content (Some id) ≡ true))
+      on : (p ≡ id → ⊥) → (o : Option Node) → node_at content p ≡ o
+          → option_map_or (λ (q : Node). reaches_root n content q.parent) o false ≡ true
+          → ((parent : Option ℕ) → reaches_root n content parent ≡ true
+          → (reaches_root n (without_node content id) parent ≡ true)
+          ⊎ ((m : ℕ) × (m ≤ n) × (reaches_root m content (Some id) ≡ true)))
+          → (reaches_root (suc n) (without_node content id) (Some p) ≡ true)
+          ⊎ ((m : ℕ) × (m ≤ suc n) × (reaches_root m content (Some id) ≡ true))
       on other None is up before = absurd (false≢true up)
       on other (Some q) is up before = elim (before q.parent up) [
-        | inl apart ↦ inl (ap (λ o. option_map_or (λ (r : Node). reaches_root n (without_node content id) r.parent) o false) (node_at-without_node-other content id p other ∙ is) ∙ apart)
+        | inl apart ↦
+            inl (ap
+            (λ o. option_map_or (λ (r : Node). reaches_root n (without_node content id) r.parent) o
+            false) (node_at-without_node-other content id p other ∙ is) ∙ apart)
         | inr met ↦ inr (met.0, (let less = met.1 in omega (arith, less)), met.2)
       ]
 
@@ -68,34 +104,49 @@ module _ (content : Content) (id : ℕ) where
 
 -- in contents of at most this many objects
 abbrev Enough : ℕ → Type 0
-Enough most = (content : Content) → length content.nodes ≤ most → (n : ℕ) (parent : Option ℕ) → reaches_root n content parent ≡ true → reaches_root most content parent ≡ true
+Enough most = (content : Content) → length content.nodes ≤ most → (n : ℕ) (parent : Option ℕ)
+    → reaches_root n content parent ≡ true → reaches_root most content parent ≡ true
 
 -- a number that is met again makes the way shorter, or else the rest goes without its object
-shorter : (most : ℕ) → Enough most → (fuel : ℕ) (content : Content) → length content.nodes ≤ suc most → (n p : ℕ) → n ≤ fuel → reaches_root n content (Some p) ≡ true → reaches_root (suc most) content (Some p) ≡ true
+shorter : (most : ℕ) → Enough most → (fuel : ℕ) (content : Content)
+    → length content.nodes ≤ suc most → (n p : ℕ) → n ≤ fuel
+    → reaches_root n content (Some p) ≡ true → reaches_root (suc most) content (Some p) ≡ true
 shorter most before fuel content fits zero p short up = absurd (false≢true up)
 shorter most before zero content fits (suc n) p short up = absurd (omega arith)
-shorter most before (suc fuel) content fits (suc n) p short up = on (node_at content p) refl up (λ m less again. shorter most before fuel content fits m p less again)
+shorter most before (suc fuel) content fits (suc n) p short up =
+    on (node_at content p) refl up
+    (λ m less again. shorter most before fuel content fits m p less again)
   where
-    on : (o : Option Node) → node_at content p ≡ o → option_map_or (λ (q : Node). reaches_root n content q.parent) o false ≡ true
-        → ((m : ℕ) → m ≤ fuel → reaches_root m content (Some p) ≡ true → reaches_root (suc most) content (Some p) ≡ true) → reaches_root (suc most) content (Some p) ≡ true
+    on : (o : Option Node) → node_at content p ≡ o
+        → option_map_or (λ (q : Node). reaches_root n content q.parent) o false ≡ true
+        → ((m : ℕ) → m ≤ fuel → reaches_root m content (Some p) ≡ true
+        → reaches_root (suc most) content (Some p) ≡ true)
+        → reaches_root (suc most) content (Some p) ≡ true
     on None is up again = absurd (false≢true up)
     on (Some q) is up again = elim (cut content p n q.parent up) [
-      | inl apart ↦ (let less = fewer p content.nodes q is in ap (λ o. option_map_or (λ (r : Node). reaches_root most content r.parent) o false) is ∙ back content p most q.parent (before (without_node content p) (omega (arith, less, fits)) n q.parent apart))
+      | inl apart ↦
+          (let less = fewer p content.nodes q is in
+          ap (λ o. option_map_or (λ (r : Node). reaches_root most content r.parent) o false) is
+          ∙ back content p most q.parent
+          (before (without_node content p) (omega (arith, less, fits)) n q.parent apart))
       | inr met ↦ again met.0 (let less = met.1 in omega (arith, less, short)) met.2
     ]
 
-none_left : (content : Content) → length content.nodes ≤ 0 → (n p : ℕ) → reaches_root n content (Some p) ≡ true → ⊥
+none_left : (content : Content) → length content.nodes ≤ 0 → (n p : ℕ)
+    → reaches_root n content (Some p) ≡ true → ⊥
 none_left content fits zero p up = false≢true up
 none_left content fits (suc n) p up = on (node_at content p) refl up
   where
-    on : (o : Option Node) → node_at content p ≡ o → option_map_or (λ (q : Node). reaches_root n content q.parent) o false ≡ true → ⊥
+    on : (o : Option Node) → node_at content p ≡ o
+        → option_map_or (λ (q : Node). reaches_root n content q.parent) o false ≡ true → ⊥
     on None is up = false≢true up
     on (Some q) is up = let less = fewer p content.nodes q is in omega (arith, less, fits)
 
 enough : (most : ℕ) → Enough most
 enough most content fits n None up = refl
 enough zero content fits n (Some p) up = absurd (none_left content fits n p up)
-enough (suc most) content fits n (Some p) up = shorter most (enough most) n content fits n p (omega arith) up
+enough (suc most) content fits n (Some p) up =
+    shorter most (enough most) n content fits n p (omega arith) up
 
 -- if there is a way to the root, as many steps as there are objects are enough for one
 pub enough_steps : EnoughSteps

@@ -26,7 +26,9 @@ module _ (which : Which) (f : Node → List Ace) where
   set_id n = same_id which (f n) n
 
   pub set_parent : (id : ℕ) (n : Node) → has_parent id (set n) ≡ has_parent id n
-  set_parent id n = ap (λ (p : Option ℕ). option_map_or (λ parent. parent == id) p false) (same_parent which (f n) n)
+  set_parent id n =
+      ap (λ (p : Option ℕ). option_map_or (λ parent. parent == id) p false)
+      (same_parent which (f n) n)
 
   pub set_folder : (n : Node) → is_folder (set n) ≡ is_folder n
   set_folder n = ap (λ k. not (is_document k)) (same_kind which (f n) n)
@@ -35,16 +37,23 @@ module _ (which : Which) (f : Node → List Ace) where
   set_held n = held_with which (f n) n
 
   -- the same objects are found, with their other lists
-  pub find_set : (id : ℕ) (nodes : List Node) → find_id id (map set nodes) ≡ option_map set (find_id id nodes)
+  pub find_set : (id : ℕ) (nodes : List Node)
+      → find_id id (map set nodes) ≡ option_map set (find_id id nodes)
   find_set id [] = refl
-  find_set id (x ∷ xs) = ap (λ (i : ℕ). cond (i == id) (Some (set x)) (find_id id (map set xs))) (set_id x) ∙ on (x.id == id) (find_set id xs)
+  find_set id (x ∷ xs) =
+      ap (λ (i : ℕ). cond (i == id) (Some (set x)) (find_id id (map set xs))) (set_id x)
+      ∙ on (x.id == id) (find_set id xs)
     where
-      on : (t : Bool) → find_id id (map set xs) ≡ option_map set (find_id id xs) → cond t (Some (set x)) (find_id id (map set xs)) ≡ option_map set (cond t (Some x) (find_id id xs))
+      on : (t : Bool) → find_id id (map set xs) ≡ option_map set (find_id id xs)
+          → cond t (Some (set x)) (find_id id (map set xs))
+          ≡ option_map set (cond t (Some x) (find_id id xs))
       on true rest = refl
       on false rest = rest
 
   pub ids_set : (nodes : List Node) → ids_of (map set nodes) ≡ ids_of nodes
-  ids_set nodes = map_map (λ (n : Node). n.id) set nodes ∙ map_agree (λ n. (set n).id) (λ (n : Node). n.id) nodes (every nodes)
+  ids_set nodes =
+      map_map (λ (n : Node). n.id) set nodes
+      ∙ map_agree (λ n. (set n).id) (λ (n : Node). n.id) nodes (every nodes)
     where
       every : (xs : List Node) → Each (λ n. (set n).id ≡ n.id) xs
       every [] = tt
@@ -87,7 +96,9 @@ module _ (which : Which) (start : ℕ) (old : Content) where
   -- an object in a folder agrees with it, or the folder waits
   abbrev pub AgreesOrWaits : (Node → List Ace) → List Node → Type 0
   AgreesOrWaits f waiting =
-      (node parent : Node) → There node → There parent → is_folder parent ≡ true → has_parent parent.id node ≡ true → links which parent node ≡ true → (has_id parent.id waiting ≡ true) ⊎ (f node ≡ passes which f parent node)
+      (node parent : Node) → There node → There parent → is_folder parent ≡ true
+      → has_parent parent.id node ≡ true → links which parent node ≡ true
+      → (has_id parent.id waiting ≡ true) ⊎ (f node ≡ passes which f parent node)
 
   pub record Frontier (f : Node → List Ace) (waiting : List Node) : Type 0 where
     pub known : Each (Waits f) waiting

@@ -39,8 +39,10 @@ both_equal Greater b = refl
 pub numbers_equal : (x y : ℕ) → is_eq (nat_cmp x y) ≡ (x == y)
 numbers_equal x y = on (nat_lt x y) (x == y) refl refl
   where
-    on : (t u : Bool) → nat_lt x y ≡ t → (x == y) ≡ u → is_eq (cond t Less (cond u Equal Greater)) ≡ u
-    on true true below same = let lt = ltb-true x y below in let e = eqb-true x y same in absurd (omega (arith, lt, e))
+    on : (t u : Bool) → nat_lt x y ≡ t → (x == y) ≡ u
+        → is_eq (cond t Less (cond u Equal Greater)) ≡ u
+    on true true below same = let lt = ltb-true x y below in let e = eqb-true x y same in
+        absurd (omega (arith, lt, e))
     on true false below same = refl
     on false true below same = refl
     on false false below same = refl
@@ -48,7 +50,8 @@ numbers_equal x y = on (nat_lt x y) (x == y) refl refl
 key_equal : (x y : Key) → is_eq (key_order x y) ≡ ((x.0 == y.0) && same_text x.1.now y.1.now)
 key_equal x y =
     both_equal (nat_cmp x.0 y.0) (slice_cmp nat_cmp x.1.now y.1.now)
-    ∙ ap (λ t. t && is_eq (slice_cmp nat_cmp x.1.now y.1.now)) (numbers_equal x.0 y.0) ∙ ap (λ t. (x.0 == y.0) && t) (is_eq-slice_cmp x.1.now y.1.now)
+    ∙ ap (λ t. t && is_eq (slice_cmp nat_cmp x.1.now y.1.now)) (numbers_equal x.0 y.0)
+    ∙ ap (λ t. (x.0 == y.0) && t) (is_eq-slice_cmp x.1.now y.1.now)
 
 or_swapped : (t u : Bool) → cond t true u ≡ (u || t)
 or_swapped true true = refl
@@ -56,34 +59,51 @@ or_swapped true false = refl
 or_swapped false true = refl
 or_swapped false false = refl
 
-module _ (nodes : List Node) (i : ℕ) (node : Node) (parent : ℕ) (name : Bor (List ℕ)) (below : i < length nodes) (is : node ≡ get_or nodes i node) (under : node.parent ≡ Some parent) (named : name.now ≡ node.name) where
+module _ (nodes : List Node) (i : ℕ) (node : Node) (parent : ℕ) (name : Bor (List ℕ))
+    (below : i < length nodes) (is : node ≡ get_or nodes i node) (under : node.parent ≡ Some parent)
+    (named : name.now ≡ node.name) where
   here : (q : Key) → is_eq (key_order (parent, name) q) ≡ holds q node
   here q =
       key_equal (parent, name) q ∙ ap (λ t. (parent == q.0) && same_text t q.1.now) named
-      ∙ ap (λ (o : Option ℕ). option_map_or (λ p. p == q.0) o false && same_text node.name q.1.now) (sym under)
+      ∙ ap (λ (o : Option ℕ). option_map_or (λ p. p == q.0) o false && same_text node.name q.1.now)
+      (sym under)
 
   -- the set with one more
-  pub one_more : (old new : Key → Bool) → ((q : Key) → old q ≡ list_any (holds q) (take i nodes)) → ((q : Key) → new q ≡ cond (is_eq (key_order (parent, name) q)) true (old q)) → (q : Key) → new q ≡ list_any (holds q) (take (i + 1) nodes)
+  pub one_more : (old new : Key → Bool) → ((q : Key) → old q ≡ list_any (holds q) (take i nodes))
+      → ((q : Key) → new q ≡ cond (is_eq (key_order (parent, name) q)) true (old q)) → (q : Key)
+      → new q ≡ list_any (holds q) (take (i + 1) nodes)
   one_more old new was adds q =
-      adds q ∙ ap (λ t. cond t true (old q)) (here q) ∙ ap (λ t. cond (holds q node) true t) (was q) ∙ or_swapped (holds q node) (list_any (holds q) (take i nodes))
+      adds q ∙ ap (λ t. cond t true (old q)) (here q) ∙ ap (λ t. cond (holds q node) true t) (was q)
+      ∙ or_swapped (holds q node) (list_any (holds q) (take i nodes))
       ∙ sym (or_push (list_any (holds q)) (holds q) refl (λ _ _. refl) (take i nodes) node)
-      ∙ ap (λ x. list_any (holds q) (take i nodes ++ x ∷ [])) is ∙ ap (list_any (holds q)) (sym (take_more nodes i node below))
+      ∙ ap (λ x. list_any (holds q) (take i nodes ++ x ∷ [])) is
+      ∙ ap (list_any (holds q)) (sym (take_more nodes i node below))
 
-  same_parents : (above : Option ℕ) → same_parent above node.parent ≡ option_map_or (λ p. p == parent) above false
+  same_parents : (above : Option ℕ)
+      → same_parent above node.parent ≡ option_map_or (λ p. p == parent) above false
   same_parents above = ap (same_parent above) under ∙ on above
     where
-      on : (above : Option ℕ) → same_parent above (Some parent) ≡ option_map_or (λ p. p == parent) above false
+      on : (above : Option ℕ)
+          → same_parent above (Some parent) ≡ option_map_or (λ p. p == parent) above false
       on None = refl
       on (Some id) = refl
 
   same_holds : (other : Node) → same_place other node ≡ holds (parent, name) other
-  same_holds other = ap (λ t. t && same_text other.name node.name) (same_parents other.parent) ∙ ap (λ t. has_parent parent other && same_text other.name t) (sym named)
+  same_holds other =
+      ap (λ t. t && same_text other.name node.name) (same_parents other.parent)
+      ∙ ap (λ t. has_parent parent other && same_text other.name t) (sym named)
 
   -- the test of the name, by those that stand before
-  pub name_test : are_rising nodes ≡ true → has_sound_name (only nodes) node ≡ (is_object_name node.name && not (list_any (holds (parent, name)) (take i nodes)))
+  pub name_test : are_rising nodes ≡ true
+      → has_sound_name (only nodes) node
+      ≡ (is_object_name node.name && not (list_any (holds (parent, name)) (take i nodes)))
   name_test rises =
-      ap (λ (o : Option ℕ). Rattle.std.specs.Prelude.is_none o || (is_object_name node.name && not (list_any (λ (other : Node). nat_lt other.id node.id && same_place other node) nodes))) under
+      ap (λ (o : Option ℕ). Rattle.std.specs.Prelude.is_none o
+      || (is_object_name node.name
+      && not (list_any (λ (other : Node). nat_lt other.id node.id && same_place other node) nodes)))
+      under
       ∙ ap (λ t. is_object_name node.name && not t) (
-      ap (λ (x : Node). list_any (λ (other : Node). nat_lt other.id x.id && same_place other node) nodes) is
+      ap (λ (x : Node). list_any
+      (λ (other : Node). nat_lt other.id x.id && same_place other node) nodes) is
       ∙ any_before 0 (λ other. same_place other node) nodes rises i node below
       ∙ (λ j. list_any (λ other. same_holds other j) (take i nodes)))

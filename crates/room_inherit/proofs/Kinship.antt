@@ -8,32 +8,38 @@ use Rattle.room_rows.specs.Held.{held_of}
 use Rattle.room_rows.specs.Keep.{with_inh}
 
 -- with other inherited entries an object keeps its number
-pub same_id : (which : Which) (entries : List Ace) (node : Node) → (with_inh which entries node).id ≡ node.id
+pub same_id : (which : Which) (entries : List Ace) (node : Node)
+    → (with_inh which entries node).id ≡ node.id
 same_id Dacl entries node = refl
 same_id Sacl entries node = refl
 
 -- it keeps its parent, so it stays below the same object
-pub same_parent : (which : Which) (entries : List Ace) (node : Node) → (with_inh which entries node).parent ≡ node.parent
+pub same_parent : (which : Which) (entries : List Ace) (node : Node)
+    → (with_inh which entries node).parent ≡ node.parent
 same_parent Dacl entries node = refl
 same_parent Sacl entries node = refl
 
 -- it keeps its name
-pub same_name : (which : Which) (entries : List Ace) (node : Node) → (with_inh which entries node).name ≡ node.name
+pub same_name : (which : Which) (entries : List Ace) (node : Node)
+    → (with_inh which entries node).name ≡ node.name
 same_name Dacl entries node = refl
 same_name Sacl entries node = refl
 
 -- it keeps its kind: it is a document or a folder as before
-pub same_kind : (which : Which) (entries : List Ace) (node : Node) → (with_inh which entries node).kind ≡ node.kind
+pub same_kind : (which : Which) (entries : List Ace) (node : Node)
+    → (with_inh which entries node).kind ≡ node.kind
 same_kind Dacl entries node = refl
 same_kind Sacl entries node = refl
 
 -- its list has these inherited entries, and the own entries and flags that it had
-pub held_with : (which : Which) (entries : List Ace) (node : Node) → held_of which (with_inh which entries node) ≡ record (held_of which node) { inh = entries }
+pub held_with : (which : Which) (entries : List Ace) (node : Node)
+    → held_of which (with_inh which entries node) ≡ record (held_of which node) { inh = entries }
 held_with Dacl entries node = refl
 held_with Sacl entries node = refl
 
 -- inherited entries set after others replace them
-pub with_last : (which : Which) (entries before : List Ace) (node : Node) → with_inh which entries (with_inh which before node) ≡ with_inh which entries node
+pub with_last : (which : Which) (entries before : List Ace) (node : Node)
+    → with_inh which entries (with_inh which before node) ≡ with_inh which entries node
 with_last Dacl entries before node = refl
 with_last Sacl entries before node = refl
 

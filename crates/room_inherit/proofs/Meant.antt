@@ -34,44 +34,60 @@ tail_rises : (k : ℕ) (ids : List ℕ) → is_rising (k ∷ ids) ≡ true → i
 tail_rises k [] rises = refl
 tail_rises k (x ∷ xs) rises = (and_parts (nat_lt k x) (is_rising (x ∷ xs)) rises).1
 
-all_of : (p : Node → Bool) → ((n : Node) → p n ≡ true) → (nodes : List Node) → list_all p nodes ≡ true
+all_of : (p : Node → Bool) → ((n : Node) → p n ≡ true) → (nodes : List Node)
+    → list_all p nodes ≡ true
 all_of p each [] = refl
 all_of p each (x ∷ xs) = and_from (p x) _ (each x) (all_of p each xs)
 
-each_passes : (p : Node → Bool) (nodes : List Node) → list_all p nodes ≡ true → Each (λ n. p n ≡ true) nodes
+each_passes : (p : Node → Bool) (nodes : List Node) → list_all p nodes ≡ true
+    → Each (λ n. p n ≡ true) nodes
 each_passes p [] all = tt
-each_passes p (x ∷ xs) all = let parts = and_parts (p x) (list_all p xs) all in (parts.0, each_passes p xs parts.1)
+each_passes p (x ∷ xs) all = let parts = and_parts (p x) (list_all p xs) all in
+    (parts.0, each_passes p xs parts.1)
 
-first_is : (p : Node → Bool) (nodes : List Node) (x : Node) (xs : List Node) → filter p nodes ≡ x ∷ xs → find p nodes ≡ Some x
+first_is : (p : Node → Bool) (nodes : List Node) (x : Node) (xs : List Node)
+    → filter p nodes ≡ x ∷ xs → find p nodes ≡ Some x
 first_is p [] x xs is = absurd (let wrong : ⊥ = cc in wrong)
 first_is p (n ∷ ns) x xs is = on (p n) is (first_is p ns x xs)
   where
-    on : (t : Bool) → cond t (n ∷ filter p ns) (filter p ns) ≡ x ∷ xs → (filter p ns ≡ x ∷ xs → find p ns ≡ Some x) → cond t (Some n) (find p ns) ≡ Some x
+    on : (t : Bool) → cond t (n ∷ filter p ns) (filter p ns) ≡ x ∷ xs
+        → (filter p ns ≡ x ∷ xs → find p ns ≡ Some x) → cond t (Some n) (find p ns) ≡ Some x
     on true same rest = let e : n ≡ x = cc in ap Some e
     on false same rest = rest same
 
 -- ---- numbers in rising order
 
-not_among : (k : ℕ) (ids : List ℕ) (id : ℕ) → is_rising (k ∷ ids) ≡ true → id ≤ k → is_among ids id ≡ false
+not_among : (k : ℕ) (ids : List ℕ) (id : ℕ) → is_rising (k ∷ ids) ≡ true → id ≤ k
+    → is_among ids id ≡ false
 not_among k [] id rises low = refl
 not_among k (x ∷ xs) id rises low =
     let parts = and_parts (nat_lt k x) (is_rising (x ∷ xs)) rises in
     let above = ltb-true k x parts.0 in
-    or_from (x == id) (is_among xs id) (ne_eqb x id (λ e. absurd (let wrong : ⊥ = omega (arith, above, low, e) in wrong))) (not_among x xs id parts.1 (omega (arith, above, low)))
+    or_from (x == id) (is_among xs id)
+    (ne_eqb x id (λ e. absurd (let wrong : ⊥ = omega (arith, above, low, e) in wrong)))
+    (not_among x xs id parts.1 (omega (arith, above, low)))
 
 -- two such lists of the same numbers are one
-same_rising : (k : ℕ) (xs ys : List ℕ) → is_rising (k ∷ xs) ≡ true → is_rising (k ∷ ys) ≡ true → ((id : ℕ) → is_among xs id ≡ is_among ys id) → xs ≡ ys
+same_rising : (k : ℕ) (xs ys : List ℕ) → is_rising (k ∷ xs) ≡ true → is_rising (k ∷ ys) ≡ true
+    → ((id : ℕ) → is_among xs id ≡ is_among ys id) → xs ≡ ys
 same_rising k [] [] up up' same = refl
-same_rising k [] (y ∷ ys) up up' same = absurd (false≢true (same y ∙ ap (λ t. t || is_among ys y) (eq-eqb y y refl)))
-same_rising k (x ∷ xs) [] up up' same = absurd (false≢true (sym (same x) ∙ ap (λ t. t || is_among xs x) (eq-eqb x x refl)))
+same_rising k [] (y ∷ ys) up up' same =
+    absurd (false≢true (same y ∙ ap (λ t. t || is_among ys y) (eq-eqb y y refl)))
+same_rising k (x ∷ xs) [] up up' same =
+    absurd (false≢true (sym (same x) ∙ ap (λ t. t || is_among xs x) (eq-eqb x x refl)))
 same_rising k (x ∷ xs) (y ∷ ys) up up' same =
     let ups = (and_parts (nat_lt k x) (is_rising (x ∷ xs)) up).1 in
     let ups' = (and_parts (nat_lt k y) (is_rising (y ∷ ys)) up').1 in
-    let head : x ≡ y = least x y xs ys ups ups' (sym (same x) ∙ ap (λ t. t || is_among xs x) (eq-eqb x x refl)) (same y ∙ ap (λ t. t || is_among ys y) (eq-eqb y y refl)) in
+    let head : x ≡ y = least x y xs ys ups ups'
+    (sym (same x) ∙ ap (λ t. t || is_among xs x) (eq-eqb x x refl))
+    (same y ∙ ap (λ t. t || is_among ys y) (eq-eqb y y refl)) in
     let ups'' : is_rising (x ∷ ys) ≡ true = ap (λ i. is_rising (i ∷ ys)) head ∙ ups' in
-    λ i. head i ∷ same_rising x xs ys ups ups'' (λ id. later x xs ys ups ups'' id (same id ∙ ap (λ j. (j == id) || is_among ys id) (sym head))) i
+    λ i. head i ∷ same_rising x xs ys ups ups''
+    (λ id. later x xs ys ups ups'' id (same id ∙ ap (λ j. (j == id) || is_among ys id) (sym head)))
+    i
   where
-    least : (x y : ℕ) (xs ys : List ℕ) → is_rising (x ∷ xs) ≡ true → is_rising (y ∷ ys) ≡ true → ((y == x) || is_among ys x) ≡ true → ((x == y) || is_among xs y) ≡ true → x ≡ y
+    least : (x y : ℕ) (xs ys : List ℕ) → is_rising (x ∷ xs) ≡ true → is_rising (y ∷ ys) ≡ true
+        → ((y == x) || is_among ys x) ≡ true → ((x == y) || is_among xs y) ≡ true → x ≡ y
     least x y xs ys up up' has has' =
         elim (cases_Bool (x == y)) [
           | inl is ↦ eqb-true x y is
@@ -79,24 +95,36 @@ same_rising k (x ∷ xs) (y ∷ ys) up up' same =
               let above = found_above x xs y up (sym (ap (λ t. t || is_among xs y) isnt) ∙ has') in
               elim (cases_Bool (y == x)) [
                 | inl is ↦ sym (eqb-true y x is)
-                | inr isnt' ↦ (let above' = found_above y ys x up' (sym (ap (λ t. t || is_among ys x) isnt') ∙ has) in absurd (let wrong : ⊥ = omega (arith, above, above') in wrong))
+                | inr isnt' ↦
+                    (let above' =
+                    found_above y ys x up' (sym (ap (λ t. t || is_among ys x) isnt') ∙ has) in
+                    absurd (let wrong : ⊥ = omega (arith, above, above') in wrong))
               ]
         ]
       where
-        found_above : (k : ℕ) (ids : List ℕ) (id : ℕ) → is_rising (k ∷ ids) ≡ true → is_among ids id ≡ true → k < id
+        found_above : (k : ℕ) (ids : List ℕ) (id : ℕ) → is_rising (k ∷ ids) ≡ true
+            → is_among ids id ≡ true → k < id
         found_above k [] id up has = absurd (false≢true has)
         found_above k (z ∷ zs) id up has =
             let parts = and_parts (nat_lt k z) (is_rising (z ∷ zs)) up in
             let first = ltb-true k z parts.0 in
             elim (cases_Bool (z == id)) [
               | inl is ↦ (let e = eqb-true z id is in omega (arith, first, e))
-              | inr isnt ↦ (let more = found_above z zs id parts.1 (sym (ap (λ t. t || is_among zs id) isnt) ∙ has) in omega (arith, first, more))
+              | inr isnt ↦
+                  (let more =
+                  found_above z zs id parts.1 (sym (ap (λ t. t || is_among zs id) isnt) ∙ has) in
+                  omega (arith, first, more))
             ]
 
-    later : (x : ℕ) (xs ys : List ℕ) → is_rising (x ∷ xs) ≡ true → is_rising (x ∷ ys) ≡ true → (id : ℕ) → ((x == id) || is_among xs id) ≡ ((x == id) || is_among ys id) → is_among xs id ≡ is_among ys id
+    later : (x : ℕ) (xs ys : List ℕ) → is_rising (x ∷ xs) ≡ true → is_rising (x ∷ ys) ≡ true
+        → (id : ℕ) → ((x == id) || is_among xs id) ≡ ((x == id) || is_among ys id)
+        → is_among xs id ≡ is_among ys id
     later x xs ys up up' id both = elim (cases_Bool (x == id)) [
-      | inl is ↦ (let e = eqb-true x id is in not_among x xs id up (omega (arith, e)) ∙ sym (not_among x ys id up' (omega (arith, e))))
-      | inr isnt ↦ sym (ap (λ t. t || is_among xs id) isnt) ∙ both ∙ ap (λ t. t || is_among ys id) isnt
+      | inl is ↦
+          (let e = eqb-true x id is in
+          not_among x xs id up (omega (arith, e)) ∙ sym (not_among x ys id up' (omega (arith, e))))
+      | inr isnt ↦ sym (ap (λ t. t || is_among xs id) isnt) ∙ both
+          ∙ ap (λ t. t || is_among ys id) isnt
     ]
 
 -- ---- objects with kept entries
@@ -118,24 +146,33 @@ module _ (rows : Content) where
   above node = unmoved.above rows kept place node
 
   -- a linked object keeps no entries
-  kept_list : (which : Which) (node : Node) → held_of which (kept node) ≡ kept_held (is_linked_in rows which node) (held_of which node)
+  kept_list : (which : Which) (node : Node)
+      → held_of which (kept node) ≡ kept_held (is_linked_in rows which node) (held_of which node)
   kept_list Dacl node = refl
   kept_list Sacl node = refl
 
-  linked_same : (which : Which) (node : Node) → is_linked_in means which (kept node) ≡ is_linked_in rows which node
+  linked_same : (which : Which) (node : Node)
+      → is_linked_in means which (kept node) ≡ is_linked_in rows which node
   linked_same which node =
-      ap (λ o. is_linked (held_of which (kept node)) (option_map (held_of which) o)) (above node) ∙ on (parent_of rows node) refl
+      ap (λ o. is_linked (held_of which (kept node)) (option_map (held_of which) o)) (above node)
+      ∙ on (parent_of rows node) refl
     where
-      on : (o : Option Node) → parent_of rows node ≡ o → is_linked (held_of which (kept node)) (option_map (held_of which) (option_map kept o)) ≡ is_linked (held_of which node) (option_map (held_of which) o)
+      on : (o : Option Node) → parent_of rows node ≡ o
+          → is_linked (held_of which (kept node)) (option_map (held_of which) (option_map kept o))
+          ≡ is_linked (held_of which node) (option_map (held_of which) o)
       on None is = refl
       on (Some parent) is =
           ap (λ h. is_linked h (Some (held_of which (kept parent)))) (kept_list which node)
-          ∙ ap (λ h. is_linked (kept_held (is_linked_in rows which node) (held_of which node)) (Some h)) (kept_list which parent)
-          ∙ linked_kept (is_linked_in rows which node) (is_linked_in rows which parent) (held_of which node) (held_of which parent)
+          ∙ ap (λ h. is_linked (kept_held (is_linked_in rows which node) (held_of which node))
+          (Some h)) (kept_list which parent)
+          ∙ linked_kept (is_linked_in rows which node) (is_linked_in rows which parent)
+          (held_of which node) (held_of which parent)
 
   keeps_none : (which : Which) (node : Node) → keeps_none_linked means which (kept node) ≡ true
   keeps_none which node =
-      ap (λ t. not t || is_empty (held_of which (kept node)).inh) (linked_same which node) ∙ ap (λ (h : Held). not (is_linked_in rows which node) || is_empty h.inh) (kept_list which node) ∙ on (is_linked_in rows which node)
+      ap (λ t. not t || is_empty (held_of which (kept node)).inh) (linked_same which node)
+      ∙ ap (λ (h : Held). not (is_linked_in rows which node) || is_empty h.inh)
+      (kept_list which node) ∙ on (is_linked_in rows which node)
     where
       on : (t : Bool) → (not t || is_empty (kept_held t (held_of which node)).inh) ≡ true
       on true = refl
@@ -143,7 +180,8 @@ module _ (rows : Content) where
 
   -- ---- the root
 
-  lone : (roots : List Node) → bad_root roots ≡ None → (root : Node) × (roots ≡ root ∷ []) × (is_folder root ≡ true)
+  lone : (roots : List Node) → bad_root roots ≡ None → (root : Node) × (roots ≡ root ∷ [])
+      × (is_folder root ≡ true)
   lone [] none = absurd (let wrong : ⊥ = cc in wrong)
   lone (root ∷ []) none = (root, refl, on (is_folder root) none)
     where
@@ -152,63 +190,97 @@ module _ (rows : Content) where
       on false is = absurd (let wrong : ⊥ = cc in wrong)
   lone (root ∷ other ∷ others) none = absurd (let wrong : ⊥ = cc in wrong)
 
-  one_root : bad_root (filter is_root rows.nodes) ≡ None → (option_map_or is_folder (root_of means) false && (length (filter is_root means.nodes) == 1)) ≡ true
+  one_root : bad_root (filter is_root rows.nodes) ≡ None
+      → (option_map_or is_folder (root_of means) false
+      && (length (filter is_root means.nodes) == 1)) ≡ true
   one_root none =
       let r = lone (filter is_root rows.nodes) none in
-      let first : root_of means ≡ Some (kept r.0) = root_of-with_each rows kept places ∙ ap (option_map kept) (first_is is_root rows.nodes r.0 [] r.1) in
-      let many : length (filter is_root means.nodes) ≡ 1 = ap length (filter-changed kept is_root (λ a b place. ap is_none place.parent) rows.nodes places) ∙ length-map (filter is_root rows.nodes) kept ∙ ap length r.1 in
-      and_from (option_map_or is_folder (root_of means) false) _ (ap (λ o. option_map_or is_folder o false) first ∙ r.2) (eq-eqb (length (filter is_root means.nodes)) 1 many)
+      let first : root_of means ≡ Some (kept r.0) = root_of-with_each rows kept places
+      ∙ ap (option_map kept) (first_is is_root rows.nodes r.0 [] r.1) in
+      let many : length (filter is_root means.nodes) ≡ 1 = ap length
+      (filter-changed kept is_root (λ a b place. ap is_none place.parent) rows.nodes places)
+      ∙ length-map (filter is_root rows.nodes) kept ∙ ap length r.1 in
+      and_from (option_map_or is_folder (root_of means) false) _
+      (ap (λ o. option_map_or is_folder o false) first ∙ r.2)
+      (eq-eqb (length (filter is_root means.nodes)) 1 many)
 
   -- ---- names
 
   abbrev There : Node → Type 0
   There node = find_id node.id rows.nodes ≡ Some node
 
-  names_differ : (x other : Node) → There x → x.id < other.id → has_sound_name rows other ≡ true → (is_root x && is_root other) ≡ false → same_place x other ≡ false
+  names_differ : (x other : Node) → There x → x.id < other.id → has_sound_name rows other ≡ true
+      → (is_root x && is_root other) ≡ false → same_place x other ≡ false
   names_differ x other there low sound roots = on x.parent refl other.parent refl
     where
       by_name : is_root other ≡ false → same_place x other ≡ false
       by_name below =
-          let test = and_parts (is_object_name other.name) _ (sym (ap (λ t. t || (is_object_name other.name && not (list_any (λ (o : Node). nat_lt o.id other.id && same_place o other) rows.nodes))) below) ∙ sound) in
-          let none : list_any (λ (o : Node). nat_lt o.id other.id && same_place o other) rows.nodes ≡ false = not_true (list_any (λ (o : Node). nat_lt o.id other.id && same_place o other) rows.nodes) test.1 in
-          let here : (nat_lt x.id other.id && same_place x other) ≡ false = each_found (λ o. (nat_lt o.id other.id && same_place o other) ≡ false) x.id rows.nodes x (each_fails (λ (o : Node). nat_lt o.id other.id && same_place o other) rows.nodes none) there in
+          let test = and_parts (is_object_name other.name) _
+          (sym (ap
+          (λ t. t
+          || (is_object_name other.name
+          && not (list_any (λ (o : Node). nat_lt o.id other.id && same_place o other)
+          rows.nodes))) below) ∙ sound) in
+          let none : list_any (λ (o : Node). nat_lt o.id other.id && same_place o other) rows.nodes
+          ≡ false =
+          not_true
+          (list_any (λ (o : Node). nat_lt o.id other.id && same_place o other) rows.nodes)
+          test.1 in
+          let here : (nat_lt x.id other.id && same_place x other) ≡ false = each_found
+          (λ o. (nat_lt o.id other.id && same_place o other) ≡ false) x.id rows.nodes x
+          (each_fails (λ (o : Node). nat_lt o.id other.id && same_place o other) rows.nodes
+          none) there in
           sym (ap (λ t. t && same_place x other) (lt-ltb x.id other.id low)) ∙ here
         where
           not_true : (t : Bool) → not t ≡ true → t ≡ false
           not_true true is = absurd (false≢true is)
           not_true false is = refl
 
-      on : (p : Option ℕ) → x.parent ≡ p → (q : Option ℕ) → other.parent ≡ q → same_place x other ≡ false
-      on None is None is' = absurd (false≢true (sym roots ∙ and_from (is_root x) (is_root other) (ap is_none is) (ap is_none is')))
+      on : (p : Option ℕ) → x.parent ≡ p → (q : Option ℕ) → other.parent ≡ q
+          → same_place x other ≡ false
+      on None is None is' =
+          absurd
+          (false≢true (sym roots ∙ and_from (is_root x) (is_root other) (ap is_none is)
+          (ap is_none is')))
       on None is (Some q) is' = by_name (ap is_none is')
-      on (Some p) is None is' = ap (λ o. same_parent o other.parent && same_text x.name other.name) is ∙ ap (λ o. same_parent (Some p) o && same_text x.name other.name) is'
+      on (Some p) is None is' =
+          ap (λ o. same_parent o other.parent && same_text x.name other.name) is
+          ∙ ap (λ o. same_parent (Some p) o && same_text x.name other.name) is'
       on (Some p) is (Some q) is' = by_name (ap is_none is')
 
   roots_none : (nodes : List Node) → count is_root nodes ≡ 0 → Each (λ n. is_root n ≡ false) nodes
   roots_none [] none = tt
   roots_none (x ∷ xs) none = on (is_root x) refl none (roots_none xs)
     where
-      on : (t : Bool) → is_root x ≡ t → one_if t + count is_root xs ≡ 0 → (count is_root xs ≡ 0 → Each (λ n. is_root n ≡ false) xs) → (is_root x ≡ false) × Each (λ n. is_root n ≡ false) xs
+      on : (t : Bool) → is_root x ≡ t → one_if t + count is_root xs ≡ 0
+          → (count is_root xs ≡ 0 → Each (λ n. is_root n ≡ false) xs) → (is_root x ≡ false)
+          × Each (λ n. is_root n ≡ false) xs
       on true is c more = absurd (let wrong : ⊥ = omega (arith, c) in wrong)
       on false is c more = (is, more (omega (arith, c)))
 
-  names_apart : (nodes : List Node) → (k : ℕ) → is_rising (k ∷ ids_of nodes) ≡ true → Each There nodes → Each (λ n. has_sound_name rows n ≡ true) nodes → count is_root nodes ≤ 1 → are_names_apart (map kept nodes) ≡ true
+  names_apart : (nodes : List Node) → (k : ℕ) → is_rising (k ∷ ids_of nodes) ≡ true
+      → Each There nodes → Each (λ n. has_sound_name rows n ≡ true) nodes → count is_root nodes ≤ 1
+      → are_names_apart (map kept nodes) ≡ true
   names_apart [] k rises there sound few = refl
   names_apart (x ∷ xs) k rises there sound few =
       let up = (and_parts (nat_lt k x.id) (is_rising (x.id ∷ ids_of xs)) rises).1 in
       and_from _ _
-      (ap not (any_map (λ (o : Node). same_parent x.parent o.parent && same_text x.name o.name) kept xs ∙ any_none (λ (o : Node). same_place x o) xs (differ xs (each_above x.id xs up) sound.1 (roots (is_root x) refl few))))
+      (ap not (any_map (λ (o : Node). same_parent x.parent o.parent && same_text x.name o.name) kept
+      xs ∙ any_none (λ (o : Node). same_place x o) xs
+      (differ xs (each_above x.id xs up) sound.1 (roots (is_root x) refl few))))
       (names_apart xs x.id up there.1 sound.1 (fewer (is_root x) few))
     where
       fewer : (t : Bool) → one_if t + count is_root xs ≤ 1 → count is_root xs ≤ 1
       fewer true c = omega (arith, c)
       fewer false c = omega (arith, c)
 
-      plain : (nodes : List Node) → is_root x ≡ false → Each (λ n. (is_root x && is_root n) ≡ false) nodes
+      plain : (nodes : List Node) → is_root x ≡ false
+          → Each (λ n. (is_root x && is_root n) ≡ false) nodes
       plain [] is = tt
       plain (n ∷ ns) is = (ap (λ t. t && is_root n) is, plain ns is)
 
-      beside : (nodes : List Node) → Each (λ n. is_root n ≡ false) nodes → Each (λ n. (is_root x && is_root n) ≡ false) nodes
+      beside : (nodes : List Node) → Each (λ n. is_root n ≡ false) nodes
+          → Each (λ n. (is_root x && is_root n) ≡ false) nodes
       beside [] all = tt
       beside (n ∷ ns) all = (ap (λ t. is_root x && t) all.0 ∙ never (is_root x), beside ns all.1)
         where
@@ -216,73 +288,105 @@ module _ (rows : Content) where
           never true = refl
           never false = refl
 
-      roots : (t : Bool) → is_root x ≡ t → one_if t + count is_root xs ≤ 1 → Each (λ n. (is_root x && is_root n) ≡ false) xs
+      roots : (t : Bool) → is_root x ≡ t → one_if t + count is_root xs ≤ 1
+          → Each (λ n. (is_root x && is_root n) ≡ false) xs
       roots true is c = beside xs (roots_none xs (omega (arith, c)))
       roots false is c = plain xs is
 
-      differ : (nodes : List Node) → Each (λ n. x.id < n.id) nodes → Each (λ n. has_sound_name rows n ≡ true) nodes → Each (λ n. (is_root x && is_root n) ≡ false) nodes → Each (λ n. same_place x n ≡ false) nodes
+      differ : (nodes : List Node) → Each (λ n. x.id < n.id) nodes
+          → Each (λ n. has_sound_name rows n ≡ true) nodes
+          → Each (λ n. (is_root x && is_root n) ≡ false) nodes
+          → Each (λ n. same_place x n ≡ false) nodes
       differ [] low sound roots = tt
-      differ (n ∷ ns) low sound roots = (names_differ x n there.0 low.0 sound.0 roots.0, differ ns low.1 sound.1 roots.1)
+      differ (n ∷ ns) low sound roots =
+          (names_differ x n there.0 low.0 sound.0 roots.0, differ ns low.1 sound.1 roots.1)
 
   -- ---- bytes
 
-  documents : (nodes : List Node) → map (λ (n : Node). n.id) (filter (λ (n : Node). is_document n.kind) (map kept nodes)) ≡ ids_of (filter (λ (n : Node). is_document n.kind) nodes)
+  documents : (nodes : List Node)
+      → map (λ (n : Node). n.id) (filter (λ (n : Node). is_document n.kind) (map kept nodes))
+      ≡ ids_of (filter (λ (n : Node). is_document n.kind) nodes)
   documents [] = refl
   documents (x ∷ xs) = on (is_document x.kind) (documents xs)
     where
-      on : (t : Bool) → map (λ (n : Node). n.id) (filter (λ (n : Node). is_document n.kind) (map kept xs)) ≡ ids_of (filter (λ (n : Node). is_document n.kind) xs)
-          → map (λ (n : Node). n.id) (cond t (kept x ∷ filter (λ (n : Node). is_document n.kind) (map kept xs)) (filter (λ (n : Node). is_document n.kind) (map kept xs))) ≡ ids_of (cond t (x ∷ filter (λ (n : Node). is_document n.kind) xs) (filter (λ (n : Node). is_document n.kind) xs))
+      on : (t : Bool) → map (λ (n : Node). n.id)
+          (filter (λ (n : Node). is_document n.kind) (map kept xs))
+          ≡ ids_of (filter (λ (n : Node). is_document n.kind) xs)
+          → map (λ (n : Node). n.id)
+          (cond t (kept x ∷ filter (λ (n : Node). is_document n.kind) (map kept xs))
+          (filter (λ (n : Node). is_document n.kind) (map kept xs)))
+          ≡ ids_of (cond t (x ∷ filter (λ (n : Node). is_document n.kind) xs)
+          (filter (λ (n : Node). is_document n.kind) xs))
       on true rest = ap (λ (l : List ℕ). x.id ∷ l) rest
       on false rest = rest
 
-filter_rises : (q : Node → Bool) (k : ℕ) (nodes : List Node) → is_rising (k ∷ ids_of nodes) ≡ true → (j : ℕ) → j ≤ k → is_rising (j ∷ ids_of (filter q nodes)) ≡ true
+filter_rises : (q : Node → Bool) (k : ℕ) (nodes : List Node) → is_rising (k ∷ ids_of nodes) ≡ true
+    → (j : ℕ) → j ≤ k → is_rising (j ∷ ids_of (filter q nodes)) ≡ true
 filter_rises q k [] rises j low = refl
 filter_rises q k (x ∷ xs) rises j low =
     let parts = and_parts (nat_lt k x.id) (is_rising (x.id ∷ ids_of xs)) rises in
     let above = ltb-true k x.id parts.0 in
     on (q x) (omega (arith, above, low)) (λ i less. filter_rises q x.id xs parts.1 i less)
   where
-    on : (t : Bool) → j < x.id → ((i : ℕ) → i ≤ x.id → is_rising (i ∷ ids_of (filter q xs)) ≡ true) → is_rising (j ∷ ids_of (cond t (x ∷ filter q xs) (filter q xs))) ≡ true
+    on : (t : Bool) → j < x.id → ((i : ℕ) → i ≤ x.id → is_rising (i ∷ ids_of (filter q xs)) ≡ true)
+        → is_rising (j ∷ ids_of (cond t (x ∷ filter q xs) (filter q xs))) ≡ true
     on true above more = and_from (nat_lt j x.id) _ (lt-ltb j x.id above) (more x.id (omega arith))
     on false above more = more j (omega (arith, above))
 
 -- a number among those of the objects that pass
-among_passing : (q : Node → Bool) (k : ℕ) (nodes : List Node) → is_rising (k ∷ ids_of nodes) ≡ true → (id : ℕ) → is_among (ids_of (filter q nodes)) id ≡ option_map_or q (find_id id nodes) false
+among_passing : (q : Node → Bool) (k : ℕ) (nodes : List Node) → is_rising (k ∷ ids_of nodes) ≡ true
+    → (id : ℕ) → is_among (ids_of (filter q nodes)) id ≡ option_map_or q (find_id id nodes) false
 among_passing q k [] rises id = refl
-among_passing q k (x ∷ xs) rises id = on (q x) refl (x.id == id) refl (among_passing q x.id xs up id)
+among_passing q k (x ∷ xs) rises id =
+    on (q x) refl (x.id == id) refl (among_passing q x.id xs up id)
   where
     up : is_rising (x.id ∷ ids_of xs) ≡ true
     up = (and_parts (nat_lt k x.id) (is_rising (x.id ∷ ids_of xs)) rises).1
 
-    on : (s : Bool) → q x ≡ s → (t : Bool) → (x.id == id) ≡ t → is_among (ids_of (filter q xs)) id ≡ option_map_or q (find_id id xs) false
-        → is_among (ids_of (cond s (x ∷ filter q xs) (filter q xs))) id ≡ option_map_or q (cond t (Some x) (find_id id xs)) false
+    on : (s : Bool) → q x ≡ s → (t : Bool) → (x.id == id) ≡ t
+        → is_among (ids_of (filter q xs)) id ≡ option_map_or q (find_id id xs) false
+        → is_among (ids_of (cond s (x ∷ filter q xs) (filter q xs))) id
+        ≡ option_map_or q (cond t (Some x) (find_id id xs)) false
     on true is true here rest = ap (λ t. t || is_among (ids_of (filter q xs)) id) here ∙ sym is
     on true is false here rest = ap (λ t. t || is_among (ids_of (filter q xs)) id) here ∙ rest
-    on false is true here rest = not_among x.id (ids_of (filter q xs)) id (filter_rises q x.id xs up x.id (omega arith)) (let e = eqb-true x.id id here in omega (arith, e)) ∙ sym is
+    on false is true here rest =
+        not_among x.id (ids_of (filter q xs)) id (filter_rises q x.id xs up x.id (omega arith))
+        (let e = eqb-true x.id id here in omega (arith, e)) ∙ sym is
     on false is false here rest = rest
 
-among_bodies : (bodies : List (ℕ × List ℕ)) (id : ℕ) → is_among (map (λ row. row.0) bodies) id ≡ is_some (body_at bodies id)
+among_bodies : (bodies : List (ℕ × List ℕ)) (id : ℕ)
+    → is_among (map (λ row. row.0) bodies) id ≡ is_some (body_at bodies id)
 among_bodies [] id = refl
 among_bodies (x ∷ xs) id = on (x.0 == id) (among_bodies xs id)
   where
-    on : (t : Bool) → is_among (map (λ row. row.0) xs) id ≡ is_some (body_at xs id) → (t || is_among (map (λ row. row.0) xs) id) ≡ is_some (cond t (Some x.1) (body_at xs id))
+    on : (t : Bool) → is_among (map (λ row. row.0) xs) id ≡ is_some (body_at xs id)
+        → (t || is_among (map (λ row. row.0) xs) id) ≡ is_some (cond t (Some x.1) (body_at xs id))
     on true rest = refl
     on false rest = rest
 
-in_use : (ids : List ℕ) (bodies : List (ℕ × List ℕ)) (id : ℕ) → list_all (λ row. is_among ids row.0) bodies ≡ true → is_among (map (λ row. row.0) bodies) id ≡ true → is_among ids id ≡ true
+in_use : (ids : List ℕ) (bodies : List (ℕ × List ℕ)) (id : ℕ)
+    → list_all (λ row. is_among ids row.0) bodies ≡ true
+    → is_among (map (λ row. row.0) bodies) id ≡ true → is_among ids id ≡ true
 in_use ids [] id all has = absurd (false≢true has)
 in_use ids (x ∷ xs) id all has =
     let parts = and_parts (is_among ids x.0) _ all in
     elim (cases_Bool (x.0 == id)) [
       | inl is ↦ ap (is_among ids) (sym (eqb-true x.0 id is)) ∙ parts.0
-      | inr isnt ↦ in_use ids xs id parts.1 (sym (ap (λ t. t || is_among (map (λ row. row.0) xs) id) isnt) ∙ has)
+      | inr isnt ↦
+          in_use ids xs id parts.1
+          (sym (ap (λ t. t || is_among (map (λ row. row.0) xs) id) isnt) ∙ has)
     ]
 
-module _ (rows : Rows) (are : AreRows rows) (none : HasNoFault rows) (readable : rows.unreadable ≡ []) where
-  body_there : (id : ℕ) → is_some (body_of rows.read id) ≡ option_map_or (λ (n : Node). is_document n.kind) (find_id id rows.read.nodes) false
+module _ (rows : Rows) (are : AreRows rows) (none : HasNoFault rows)
+    (readable : rows.unreadable ≡ []) where
+  body_there : (id : ℕ)
+      → is_some (body_of rows.read id)
+      ≡ option_map_or (λ (n : Node). is_document n.kind) (find_id id rows.read.nodes) false
   body_there id = on (find_id id rows.read.nodes) refl
     where
-      fitting : (d : Bool) (body : Option (List ℕ)) → cond d (option_map_or (λ bytes. nat_le (length bytes) 1048576) body false) (is_none body) ≡ true → is_some body ≡ d
+      fitting : (d : Bool) (body : Option (List ℕ))
+          → cond d (option_map_or (λ bytes. nat_le (length bytes) 1048576) body false)
+          (is_none body) ≡ true → is_some body ≡ d
       fitting true None fits = absurd (false≢true fits)
       fitting true (Some bytes) fits = refl
       fitting false None fits = refl
@@ -292,34 +396,64 @@ module _ (rows : Rows) (are : AreRows rows) (none : HasNoFault rows) (readable :
       listed has =
           sym (among_found rows.read.nodes id)
           ∙ ap (λ (l : List ℕ). is_among (put_numbers l (ids_of rows.read.nodes)) id) (sym readable)
-          ∙ in_use (numbers_of rows) rows.read.bodies id are.bodies (among_bodies rows.read.bodies id ∙ has)
+          ∙ in_use (numbers_of rows) rows.read.bodies id are.bodies
+          (among_bodies rows.read.bodies id ∙ has)
 
-      on : (o : Option Node) → find_id id rows.read.nodes ≡ o → is_some (body_of rows.read id) ≡ option_map_or (λ (n : Node). is_document n.kind) o false
-      on None found = false_from_ne_true (is_some (body_of rows.read id)) (λ has. false≢true (sym (ap is_some found) ∙ listed has))
+      on : (o : Option Node) → find_id id rows.read.nodes ≡ o
+          → is_some (body_of rows.read id)
+          ≡ option_map_or (λ (n : Node). is_document n.kind) o false
+      on None found =
+          false_from_ne_true (is_some (body_of rows.read id))
+          (λ has. false≢true (sym (ap is_some found) ∙ listed has))
       on (Some n) found =
-          let fits : has_sound_body rows.read n ≡ true = all_found (has_sound_body rows.read) (λ m. m.id == id) rows.read.nodes n none.bodies found in
-          ap (λ i. is_some (body_of rows.read i)) (sym (found_id id rows.read.nodes n found)) ∙ fitting (is_document n.kind) (body_of rows.read n.id) fits
+          let fits : has_sound_body rows.read n ≡ true = all_found (has_sound_body rows.read)
+          (λ m. m.id == id) rows.read.nodes n none.bodies found in
+          ap (λ i. is_some (body_of rows.read i)) (sym (found_id id rows.read.nodes n found))
+          ∙ fitting (is_document n.kind) (body_of rows.read n.id) fits
 
-  bodies : map (λ row. row.0) rows.read.bodies ≡ map (λ (n : Node). n.id) (filter (λ (n : Node). is_document n.kind) (meaning rows.read).nodes)
+  bodies : map (λ row. row.0) rows.read.bodies
+      ≡ map (λ (n : Node). n.id)
+      (filter (λ (n : Node). is_document n.kind) (meaning rows.read).nodes)
   bodies =
-      same_rising 0 (map (λ row. row.0) rows.read.bodies) (ids_of (filter (λ (n : Node). is_document n.kind) rows.read.nodes)) are.body_numbers
-      (filter_rises (λ (n : Node). is_document n.kind) 0 rows.read.nodes are.numbers 0 (omega arith))
-      (λ id. among_bodies rows.read.bodies id ∙ body_there id ∙ sym (among_passing (λ (n : Node). is_document n.kind) 0 rows.read.nodes are.numbers id))
+      same_rising 0 (map (λ row. row.0) rows.read.bodies)
+      (ids_of (filter (λ (n : Node). is_document n.kind) rows.read.nodes)) are.body_numbers
+      (filter_rises (λ (n : Node). is_document n.kind) 0 rows.read.nodes are.numbers 0
+      (omega arith))
+      (λ id. among_bodies rows.read.bodies id ∙ body_there id
+      ∙ sym (among_passing (λ (n : Node). is_document n.kind) 0 rows.read.nodes are.numbers id))
       ∙ sym (documents rows.read rows.read.nodes)
 
 pub sound_is_content : SoundIsContent
 sound_is_content rows are sound =
     let none = no_fault rows sound in
     let content = rows.read in
-    let lone_root : count is_root content.nodes ≡ 1 = sym (count_length is_root content.nodes) ∙ root_alone (filter is_root content.nodes) none.root in
+    let lone_root : count is_root content.nodes ≡ 1 = sym (count_length is_root content.nodes)
+    ∙ root_alone (filter is_root content.nodes) none.root in
     record {
-      numbers = ap is_rising (numbers-with_each content (kept content) (places content)) ∙ tail_rises 0 (ids_of content.nodes) are.numbers;
+      numbers =
+          ap is_rising (numbers-with_each content (kept content) (places content))
+          ∙ tail_rises 0 (ids_of content.nodes) are.numbers;
       one_root = one_root content none.root;
-      parents = unmoved.all_kept (kept content) (has_folder_above (meaning content)) (has_folder_above content) (unmoved.folder_above content (kept content) (place content) (λ n. refl)) content.nodes none.parents;
-      connected = unmoved.all_kept (kept content) (reaches (meaning content)) (reaches content) (unmoved.reach_all content (kept content) (place content)) content.nodes none.reach;
-      names = names_apart content content.nodes 0 are.numbers (each_there (There content) content.nodes (apart_rising 0 content.nodes are.numbers) (λ n there. there)) (each_passes (has_sound_name content) content.nodes none.names) (omega (arith, lone_root));
+      parents =
+          unmoved.all_kept (kept content) (has_folder_above (meaning content))
+          (has_folder_above content)
+          (unmoved.folder_above content (kept content) (place content) (λ n. refl)) content.nodes
+          none.parents;
+      connected =
+          unmoved.all_kept (kept content) (reaches (meaning content)) (reaches content)
+          (unmoved.reach_all content (kept content) (place content)) content.nodes none.reach;
+      names =
+          names_apart content content.nodes 0 are.numbers
+          (each_there (There content) content.nodes (apart_rising 0 content.nodes are.numbers)
+          (λ n there. there)) (each_passes (has_sound_name content) content.nodes none.names)
+          (omega (arith, lone_root));
       bodies = bodies rows are none (none_unreadable rows (none_bad rows none));
-      kept = unmoved.all_kept (kept content) (λ (node : Node). keeps_none_linked (meaning content) Dacl node && keeps_none_linked (meaning content) Sacl node) (λ n. true)
-          (λ n. and_from (keeps_none_linked (meaning content) Dacl (kept content n)) _ (keeps_none content Dacl n) (keeps_none content Sacl n)) content.nodes (all_of (λ n. true) (λ n. refl) content.nodes);
+      kept =
+          unmoved.all_kept (kept content)
+          (λ (node : Node). keeps_none_linked (meaning content) Dacl node
+          && keeps_none_linked (meaning content) Sacl node) (λ n. true)
+          (λ n. and_from (keeps_none_linked (meaning content) Dacl (kept content n)) _
+          (keeps_none content Dacl n) (keeps_none content Sacl n)) content.nodes
+          (all_of (λ n. true) (λ n. refl) content.nodes);
       members = are.members;
     }

@@ -14,19 +14,25 @@ use Rattle.room_rows.specs.Sound.{AreSound, AreSoundKept, bad_root, fault_of, fi
 
 -- ---- a test that finds nothing, passed by all
 
-all_pass : {X : Type 0} (test : X → Bool) (xs : List X) → find (λ x. not (test x)) xs ≡ None → list_all test xs ≡ true
+all_pass : {X : Type 0} (test : X → Bool) (xs : List X) → find (λ x. not (test x)) xs ≡ None
+    → list_all test xs ≡ true
 all_pass test [] none = refl
 all_pass test (x ∷ xs) none = on (test x) (all_pass test xs) none
   where
-    on : (t : Bool) → (find (λ y. not (test y)) xs ≡ None → list_all test xs ≡ true) → cond (not t) (Some x) (find (λ y. not (test y)) xs) ≡ None → (t && list_all test xs) ≡ true
+    on : (t : Bool) → (find (λ y. not (test y)) xs ≡ None → list_all test xs ≡ true)
+        → cond (not t) (Some x) (find (λ y. not (test y)) xs) ≡ None
+        → (t && list_all test xs) ≡ true
     on true rest none = rest none
     on false rest none = absurd (let wrong : ⊥ = cc in wrong)
 
-none_fails : {X : Type 0} (test : X → Bool) (xs : List X) → list_all test xs ≡ true → find (λ x. not (test x)) xs ≡ None
+none_fails : {X : Type 0} (test : X → Bool) (xs : List X) → list_all test xs ≡ true
+    → find (λ x. not (test x)) xs ≡ None
 none_fails test [] all = refl
 none_fails test (x ∷ xs) all = on (test x) (none_fails test xs) all
   where
-    on : (t : Bool) → (list_all test xs ≡ true → find (λ y. not (test y)) xs ≡ None) → (t && list_all test xs) ≡ true → cond (not t) (Some x) (find (λ y. not (test y)) xs) ≡ None
+    on : (t : Bool) → (list_all test xs ≡ true → find (λ y. not (test y)) xs ≡ None)
+        → (t && list_all test xs) ≡ true
+        → cond (not t) (Some x) (find (λ y. not (test y)) xs) ≡ None
     on true rest all = rest all
     on false rest all = absurd (let wrong : ⊥ = cc in wrong)
 
@@ -34,13 +40,15 @@ twice : (t : Bool) → not (not t) ≡ t
 twice true = refl
 twice false = refl
 
-unbad : (rows : Rows) → find (λ id. not (not (has_bad_list rows id))) (numbers_of rows) ≡ first_bad_list rows
+unbad : (rows : Rows)
+    → find (λ id. not (not (has_bad_list rows id))) (numbers_of rows) ≡ first_bad_list rows
 unbad rows = λ i. find (λ id. twice (has_bad_list rows id) i) (numbers_of rows)
 
 -- ---- the report by what each test found
 
 module _ (path : Node → List ℕ) where
-  abbrev by_six : Option ℕ → Option ℕ → Option Node → Option Node → Option Node → Option Node → Option Report
+  abbrev by_six : Option ℕ → Option ℕ → Option Node → Option Node → Option Node → Option Node
+      → Option Report
   by_six list root parent reach name body =
       or_else (option_map (λ id. Fault (numbered id) BadList) list) (
       or_else (or_else (option_map (λ id. Fault (numbered id) BadRoot) root) (
@@ -48,11 +56,15 @@ module _ (path : Node → List ℕ) where
       or_else (fault_of (λ node. numbered node.id) Loop reach) (fault_of path BadName name))))
       (fault_of path BadBody body))
 
-  abbrev by_tests : Option ℕ → Option ℕ → Option Node → Option Node → Option Node → Option Node → Option Node → Report
-  by_tests list root parent reach name body law = or_sound (or_else (by_six list root parent reach name body) (fault_of path BrokenLaw law))
+  abbrev by_tests : Option ℕ → Option ℕ → Option Node → Option Node → Option Node → Option Node
+      → Option Node → Report
+  by_tests list root parent reach name body law =
+      or_sound (or_else (by_six list root parent reach name body) (fault_of path BrokenLaw law))
 
-  each_none : (list root : Option ℕ) (parent reach name body law : Option Node) → by_tests list root parent reach name body law ≡ Sound
-      → (list ≡ None) × (root ≡ None) × (parent ≡ None) × (reach ≡ None) × (name ≡ None) × (body ≡ None) × (law ≡ None)
+  each_none : (list root : Option ℕ) (parent reach name body law : Option Node)
+      → by_tests list root parent reach name body law ≡ Sound
+      → (list ≡ None) × (root ≡ None) × (parent ≡ None) × (reach ≡ None) × (name ≡ None)
+      × (body ≡ None) × (law ≡ None)
   each_none (Some x) root parent reach name body law sound = absurd (let wrong : ⊥ = cc in wrong)
   each_none None (Some x) parent reach name body law sound = absurd (let wrong : ⊥ = cc in wrong)
   each_none None None (Some x) reach name body law sound = absurd (let wrong : ⊥ = cc in wrong)
@@ -72,10 +84,14 @@ pub record IsChecked (rows : Rows) : Type 0 where
   pub bodies : list_all (has_sound_body rows.read) rows.read.nodes ≡ true
 
 -- nor does a last one
-nothing_found : (rows : Rows) (law : Option Node) → or_sound (or_else (first_fault rows) (fault_of (true_path rows.read) BrokenLaw law)) ≡ Sound → IsChecked rows × (law ≡ None)
+nothing_found : (rows : Rows) (law : Option Node)
+    → or_sound (or_else (first_fault rows) (fault_of (true_path rows.read) BrokenLaw law)) ≡ Sound
+    → IsChecked rows × (law ≡ None)
 nothing_found rows law sound =
     let tree = rows.read in
-    let none = each_none (true_path tree) (first_bad_list rows) (bad_root (filter is_root tree.nodes)) (first_failing (has_folder_above tree) tree) (first_failing (reaches tree) tree) (first_failing (has_sound_name tree) tree)
+    let none = each_none (true_path tree) (first_bad_list rows)
+    (bad_root (filter is_root tree.nodes)) (first_failing (has_folder_above tree) tree)
+    (first_failing (reaches tree) tree) (first_failing (has_sound_name tree) tree)
     (first_failing (has_sound_body tree) tree) law sound in (
       record {
         lists = all_pass (λ id. not (has_bad_list rows id)) (numbers_of rows) (unbad rows ∙ none.0);
@@ -94,13 +110,17 @@ checked rows unfaulted = (nothing_found rows None (ap (λ f. or_sound (or_else f
 
 -- where all rows pass the six, the search for a bad list finds nothing
 pub list_checked : (rows : Rows) → IsChecked rows → first_bad_list rows ≡ None
-list_checked rows none = sym (unbad rows) ∙ none_fails (λ id. not (has_bad_list rows id)) (numbers_of rows) none.lists
+list_checked rows none =
+    sym (unbad rows) ∙ none_fails (λ id. not (has_bad_list rows id)) (numbers_of rows) none.lists
 
 unfaulted : (rows : Rows) → IsChecked rows → first_fault rows ≡ None
 unfaulted rows none =
     let tree = rows.read in
-    λ i. by_six (true_path tree) (list_checked rows none i) (none.root i) (none_fails (has_folder_above tree) tree.nodes none.parents i)
-    (none_fails (reaches tree) tree.nodes none.reach i) (none_fails (has_sound_name tree) tree.nodes none.names i) (none_fails (has_sound_body tree) tree.nodes none.bodies i)
+    λ i. by_six (true_path tree) (list_checked rows none i) (none.root i)
+    (none_fails (has_folder_above tree) tree.nodes none.parents i)
+    (none_fails (reaches tree) tree.nodes none.reach i)
+    (none_fails (has_sound_name tree) tree.nodes none.names i)
+    (none_fails (has_sound_body tree) tree.nodes none.bodies i)
 
 -- rows that are reported to be sound pass all seven tests
 pub no_fault : (rows : Rows) → AreSound rows → HasNoFault rows
@@ -117,18 +137,34 @@ no_fault rows sound =
     }
 
 -- what is left is the last test
-pub last_passes : (rows : Rows) (test : Node → Bool) → first_fault rows ≡ None → list_all test rows.read.nodes ≡ true
-    → or_sound (or_else (first_fault rows) (fault_of (true_path rows.read) BrokenLaw (first_failing test rows.read))) ≡ Sound
-last_passes rows test unfaulted law = λ i. or_sound (or_else (unfaulted i) (fault_of (true_path rows.read) BrokenLaw (none_fails test rows.read.nodes law i)))
+pub last_passes : (rows : Rows) (test : Node → Bool) → first_fault rows ≡ None
+    → list_all test rows.read.nodes ≡ true
+    → or_sound
+    (or_else (first_fault rows)
+    (fault_of (true_path rows.read) BrokenLaw (first_failing test rows.read))) ≡ Sound
+last_passes rows test unfaulted law =
+    λ i. or_sound
+    (or_else (unfaulted i)
+    (fault_of (true_path rows.read) BrokenLaw (none_fails test rows.read.nodes law i)))
 
 -- rows that pass all seven tests are reported to be sound
 pub sound : (rows : Rows) → HasNoFault rows → AreSound rows
 sound rows none =
-    last_passes rows (keeps_law rows.read) (unfaulted rows (record { lists = none.lists; root = none.root; parents = none.parents; reach = none.reach; names = none.names; bodies = none.bodies })) none.law
+    last_passes rows (keeps_law rows.read)
+    (unfaulted rows
+    (record {
+      lists = none.lists;
+      root = none.root;
+      parents = none.parents;
+      reach = none.reach;
+      names = none.names;
+      bodies = none.bodies;
+    })) none.law
 
 -- in rows without a fault no row is unreadable, and no object has a bad list
 pub none_bad : (rows : Rows) → HasNoFault rows → first_bad_list rows ≡ None
-none_bad rows none = sym (unbad rows) ∙ none_fails (λ id. not (has_bad_list rows id)) (numbers_of rows) none.lists
+none_bad rows none =
+    sym (unbad rows) ∙ none_fails (λ id. not (has_bad_list rows id)) (numbers_of rows) none.lists
 
 -- to be reported sound and to pass the seven tests is the same
 pub sound_is_no_fault : SoundIsNoFault
@@ -145,7 +181,12 @@ root_alone (root ∷ other ∷ others) none = absurd (let wrong : ⊥ = cc in wr
 -- rows that pass the six tests are a tree: one root, folders above all, and no loop
 pub checked_is_tree : CheckedIsTree
 checked_is_tree rows unfaulted =
-    let none = checked rows unfaulted in record { one_root = root_alone (filter is_root rows.read.nodes) none.root; folders = none.parents; connected = none.reach }
+    let none = checked rows unfaulted in
+    record {
+      one_root = root_alone (filter is_root rows.read.nodes) none.root;
+      folders = none.parents;
+      connected = none.reach;
+    }
 
 -- ---- rows that hold the kept entries alone
 
@@ -154,7 +195,9 @@ pub kept_is_no_fault : KeptIsNoFault
 kept_is_no_fault rows = (there, back)
   where
     there : kept_report_of rows ≡ Sound → AreSoundKept rows
-    there sound = let none = nothing_found rows (first_failing (stores_kept_alone rows.read) rows.read) sound in (unfaulted rows none.0, all_pass (stores_kept_alone rows.read) rows.read.nodes none.1)
+    there sound = let none =
+        nothing_found rows (first_failing (stores_kept_alone rows.read) rows.read) sound in
+        (unfaulted rows none.0, all_pass (stores_kept_alone rows.read) rows.read.nodes none.1)
 
     back : AreSoundKept rows → kept_report_of rows ≡ Sound
     back kept = last_passes rows (stores_kept_alone rows.read) kept.0 kept.1

@@ -22,8 +22,12 @@ use Rattle.room_inherit.proofs.Outdated as step
 use Rattle.room_inherit.proofs.Outdated.{parent_found, same_above, has_either, apart_join, apart_front, apart_last, has_last, or_false, base_of}
 use Rattle.room_inherit.proofs.Frontier.{set, set_folder, set_id, set_parent, find_set, links, passes, is_reached, There, Waits, Came, Frontier}
 
-module _ (which : Which) (start : ℕ) (old : Content) (rises : is_rising (0 ∷ ids_of old.nodes) ≡ true) (f : Node → List Ace) (rest : List Node) (w : Node)
-    (front : Frontier which start old f (rest ++ w ∷ [])) (not_met : meets_again which start w (children_of (with_lists which f old) w.id) ≡ false) where
+module _ (which : Which) (start : ℕ) (old : Content)
+    (rises : is_rising (0 ∷ ids_of old.nodes) ≡ true) (f : Node → List Ace) (rest : List Node)
+    (w : Node)
+    (front : Frontier which start old f (rest ++ w ∷ []))
+    (not_met : meets_again which start w (children_of (with_lists which f old) w.id)
+    ≡ false) where
   abbrev now : Content
   now = with_lists which f old
 
@@ -33,8 +37,11 @@ module _ (which : Which) (start : ℕ) (old : Content) (rises : is_rising (0 ∷
   apart_now : Apart now.nodes
   apart_now = apart_map (set which f) (set_id which f) old.nodes apart_old
 
-  there_now : (n : Node) → There which start old n → node_at now (set which f n).id ≡ Some (set which f n)
-  there_now n there = ap (λ i. find_id i (map (set which f) old.nodes)) (set_id which f n) ∙ find_set which f n.id old.nodes ∙ ap (option_map (set which f)) there
+  there_now : (n : Node) → There which start old n
+      → node_at now (set which f n).id ≡ Some (set which f n)
+  there_now n there =
+      ap (λ i. find_id i (map (set which f) old.nodes)) (set_id which f n)
+      ∙ find_set which f n.id old.nodes ∙ ap (option_map (set which f)) there
 
   -- ---- the object that is taken
 
@@ -66,26 +73,39 @@ module _ (which : Which) (start : ℕ) (old : Content) (rises : is_rising (0 ∷
 
   -- ---- what is known of children
 
-  child_unchanged : (n : Node) → There which start old n → has_parent w.id n ≡ true → is_changed which f n ≡ false
+  child_unchanged : (n : Node) → There which start old n → has_parent w.id n ≡ true
+      → is_changed which f n ≡ false
   child_unchanged n there has = false_from_ne_true (is_changed which f n) (λ changed.
       let c = front.came n there changed in
-      false≢true (sym c.taken ∙ ap (λ i. has_id i (rest ++ w ∷ [])) (same_above c.parent.id w.id n c.has has) ∙ has_last rest w))
+      false≢true (sym c.taken ∙ ap (λ i. has_id i (rest ++ w ∷ []))
+      (same_above c.parent.id w.id n c.has has) ∙ has_last rest w))
 
-  no_start : (n : Node) → There which start old n → has_parent w.id n ≡ true → links which w0 n ≡ true → (n.id == start) ≡ false
+  no_start : (n : Node) → There which start old n → has_parent w.id n ≡ true
+      → links which w0 n ≡ true → (n.id == start) ≡ false
   no_start n there has link = false_from_ne_true (n.id == start) (λ is.
-      let met = no_child now apart_now (is_met_again which start w) w.id not_met (set which f n) (there_now n there) (set_parent which f w.id n ∙ has) in
-      false≢true (sym met ∙ and_from ((set which f n).id == start) (is_linked_to which w (set which f n)) (ap (λ (i : ℕ). i == start) (set_id which f n) ∙ is) (step.linked_is which f w w0 waits.is n ∙ link)))
+      let met = no_child now apart_now (is_met_again which start w) w.id not_met (set which f n)
+      (there_now n there) (set_parent which f w.id n ∙ has) in
+      false≢true (sym met ∙ and_from ((set which f n).id == start)
+      (is_linked_to which w (set which f n)) (ap (λ (i : ℕ). i == start) (set_id which f n) ∙ is)
+      (step.linked_is which f w w0 waits.is n ∙ link)))
 
   -- what was reached isn't outdated
-  reached_fresh : (n : Node) → There which start old n → is_reached which start f n ≡ true → stale n ≡ false
+  reached_fresh : (n : Node) → There which start old n → is_reached which start f n ≡ true
+      → stale n ≡ false
   reached_fresh n there reached = false_from_ne_true (stale n) (λ is.
       let parts = stale_parts n is in
-      false≢true (sym (or_from (n.id == start) (is_changed which f n) (no_start n there parts.0 parts.1) (child_unchanged n there parts.0)) ∙ reached))
+      false≢true
+      (sym (or_from (n.id == start) (is_changed which f n) (no_start n there parts.0 parts.1)
+      (child_unchanged n there parts.0)) ∙ reached))
 
-  reached_on : (n : Node) → There which start old n → is_reached which start f n ≡ true → is_reached which start after n ≡ true
-  reached_on n there reached = ap (λ e. (n.id == start) || not (same_entries e (held_of which n).inh)) (keeps n (reached_fresh n there reached)) ∙ reached
+  reached_on : (n : Node) → There which start old n → is_reached which start f n ≡ true
+      → is_reached which start after n ≡ true
+  reached_on n there reached =
+      ap (λ e. (n.id == start) || not (same_entries e (held_of which n).inh))
+      (keeps n (reached_fresh n there reached)) ∙ reached
 
-  changed_is : (n : Node) → There which start old n → is_changed which after n ≡ (is_changed which f n || stale n)
+  changed_is : (n : Node) → There which start old n
+      → is_changed which after n ≡ (is_changed which f n || stale n)
   changed_is = step.changed_is which f w w0 old child_unchanged
 
   -- ---- those that wait next
@@ -108,9 +128,11 @@ module _ (which : Which) (start : ℕ) (old : Content) (rises : is_rising (0 ∷
 
   kids_has : (n : Node) → There which start old n → has_id n.id kids ≡ (is_folder n && stale n)
   kids_has n there =
-      has_id_map (brought_up which w) kept_id n.id folders ∙ ap (λ i. has_id i folders) (sym (set_id which f n))
+      has_id_map (brought_up which w) kept_id n.id folders
+      ∙ ap (λ i. has_id i folders) (sym (set_id which f n))
       ∙ is_such_child now apart_now going w.id (set which f n) (there_now n there)
-      ∙ swapped (has_parent w.id (set which f n)) (is_folder (set which f n)) (is_outdated which w (set which f n))
+      ∙ swapped (has_parent w.id (set which f n)) (is_folder (set which f n))
+      (is_outdated which w (set which f n))
       ∙ (λ i. set_folder which f n i && step.stale_is which f w w0 waits.is n i)
     where
       swapped : (a b c : Bool) → (a && (b && c)) ≡ (b && (a && c))
@@ -123,47 +145,74 @@ module _ (which : Which) (start : ℕ) (old : Content) (rises : is_rising (0 ∷
   no_kid n there fresh = kids_has n there ∙ and_right (is_folder n) (stale n) fresh
 
   kids_apart : Apart kids
-  kids_apart = apart_map (brought_up which w) kept_id folders (apart_filter going (children_of now w.id) (apart_children now apart_now w.id))
+  kids_apart =
+      apart_map (brought_up which w) kept_id folders
+      (apart_filter going (children_of now w.id) (apart_children now apart_now w.id))
 
-  kid_waits : (m : Node) → node_at now m.id ≡ Some m → has_parent w.id m ≡ true → going m ≡ true → Waits which start old after (brought_up which w m)
+  kid_waits : (m : Node) → node_at now m.id ≡ Some m → has_parent w.id m ≡ true → going m ≡ true
+      → Waits which start old after (brought_up which w m)
   kid_waits m there has goes =
       let is = (and_parts (is_folder m) (is_outdated which w m) goes).1 in
-      let b = base_of which f m (find_id m.id old.nodes) (sym (find_set which f m.id old.nodes) ∙ there) in
+      let b = base_of which f m (find_id m.id old.nodes)
+      (sym (find_set which f m.id old.nodes) ∙ there) in
       let n = b.0 in
-      let there' : There which start old n = ap (λ i. node_at old i) (sym (set_id which f n) ∙ ap (λ (x : Node). x.id) (sym b.2)) ∙ b.1 in
-      let st : stale n ≡ true = sym (step.stale_is which f w w0 waits.is n) ∙ ap (λ (x : Node). has_parent w.id x && is_outdated which w x) (sym b.2) ∙ and_from (has_parent w.id m) (is_outdated which w m) has is in
+      let there' : There which start old n = ap (λ i. node_at old i)
+      (sym (set_id which f n) ∙ ap (λ (x : Node). x.id) (sym b.2)) ∙ b.1 in
+      let st : stale n ≡ true = sym (step.stale_is which f w w0 waits.is n)
+      ∙ ap (λ (x : Node). has_parent w.id x && is_outdated which w x) (sym b.2)
+      ∙ and_from (has_parent w.id m) (is_outdated which w m) has is in
       record {
         base = n;
         there = there';
-        is = cond-true (is_outdated which w m) (renewed which w m) m is ∙ ap (renewed which w) b.2 ∙ step.renewed_is which f w w0 waits.is n ∙ ap (λ e. with_inh which e n) (sym (step.takes which f w w0 n st));
-        reached = or_right (n.id == start) (is_changed which after n) (step.changed_stale which f w w0 old child_unchanged n there' st);
+        is =
+            cond-true (is_outdated which w m) (renewed which w m) m is ∙ ap (renewed which w) b.2
+            ∙ step.renewed_is which f w w0 waits.is n
+            ∙ ap (λ e. with_inh which e n) (sym (step.takes which f w w0 n st));
+        reached =
+            or_right (n.id == start) (is_changed which after n)
+            (step.changed_stale which f w w0 old child_unchanged n there' st);
       }
 
   kids_wait : Each (Waits which start old after) kids
   kids_wait =
       each_map (Waits which start old after) (brought_up which w) folders
-      (each_filter (λ m. Waits which start old after (brought_up which w m)) going (children_of now w.id)
-      (each_child now apart_now (λ m. going m ≡ true → Waits which start old after (brought_up which w m)) w.id (λ m there has goes. kid_waits m there has goes)))
+      (each_filter (λ m. Waits which start old after (brought_up which w m)) going
+      (children_of now w.id)
+      (each_child now apart_now
+      (λ m. going m ≡ true → Waits which start old after (brought_up which w m)) w.id
+      (λ m there has goes. kid_waits m there has goes)))
 
   rest_waits : (r : Node) → Waits which start old f r → Waits which start old after r
   rest_waits r known = record {
     base = known.base;
     there = known.there;
-    is = known.is ∙ ap (λ e. with_inh which e known.base) (sym (keeps known.base (reached_fresh known.base known.there known.reached)));
+    is =
+        known.is ∙ ap (λ e. with_inh which e known.base)
+        (sym (keeps known.base (reached_fresh known.base known.there known.reached)));
     reached = reached_on known.base known.there known.reached;
   }
 
   rest_apart : (r : Node) → Waits which start old f r → has_id r.id kids ≡ false
-  rest_apart r known = ap (λ i. has_id i kids) (ap (λ (n : Node). n.id) known.is ∙ set_id which f known.base) ∙ no_kid known.base known.there (reached_fresh known.base known.there known.reached)
+  rest_apart r known =
+      ap (λ i. has_id i kids) (ap (λ (n : Node). n.id) known.is ∙ set_id which f known.base)
+      ∙ no_kid known.base known.there (reached_fresh known.base known.there known.reached)
 
   -- a reached object that didn't wait together with the one that was taken
-  taken_on : (p : Node) → There which start old p → is_reached which start f p ≡ true → has_id p.id rest ≡ false → has_id p.id (rest ++ kids) ≡ false
-  taken_on p there reached none = has_either p.id rest kids ∙ or_from (has_id p.id rest) (has_id p.id kids) none (no_kid p there (reached_fresh p there reached))
+  taken_on : (p : Node) → There which start old p → is_reached which start f p ≡ true
+      → has_id p.id rest ≡ false → has_id p.id (rest ++ kids) ≡ false
+  taken_on p there reached none =
+      has_either p.id rest kids
+      ∙ or_from (has_id p.id rest) (has_id p.id kids) none
+      (no_kid p there (reached_fresh p there reached))
 
-  passed_on : (n p : Node) → There which start old p → is_reached which start f p ≡ true → passes which f p n ≡ passes which after p n
-  passed_on n p there reached = ap (λ l. pass n.kind ((held_of which p).own ++ l)) (sym (keeps p (reached_fresh p there reached)))
+  passed_on : (n p : Node) → There which start old p → is_reached which start f p ≡ true
+      → passes which f p n ≡ passes which after p n
+  passed_on n p there reached =
+      ap (λ l. pass n.kind ((held_of which p).own ++ l))
+      (sym (keeps p (reached_fresh p there reached)))
 
-  came_before : (n : Node) → There which start old n → is_changed which f n ≡ true → Came which start old f (rest ++ w ∷ []) n → Came which start old after (rest ++ kids) n
+  came_before : (n : Node) → There which start old n → is_changed which f n ≡ true
+      → Came which start old f (rest ++ w ∷ []) n → Came which start old after (rest ++ kids) n
   came_before n there changed c = record {
     isnt_start = c.isnt_start;
     below = c.below;
@@ -171,22 +220,40 @@ module _ (which : Which) (start : ℕ) (old : Content) (rises : is_rising (0 ∷
     there = c.there;
     has = c.has;
     reached = reached_on c.parent c.there c.reached;
-    taken = taken_on c.parent c.there c.reached (or_parts (has_id c.parent.id rest) (has_id c.parent.id (w ∷ [])) (sym (has_either c.parent.id rest (w ∷ [])) ∙ c.taken)).0;
-    agrees = keeps n (reached_fresh n there (or_right (n.id == start) (is_changed which f n) changed)) ∙ c.agrees ∙ passed_on n c.parent c.there c.reached;
+    taken =
+        taken_on c.parent c.there c.reached
+        (or_parts (has_id c.parent.id rest) (has_id c.parent.id (w ∷ []))
+        (sym (has_either c.parent.id rest (w ∷ [])) ∙ c.taken)).0;
+    agrees =
+        keeps n (reached_fresh n there (or_right (n.id == start) (is_changed which f n) changed))
+        ∙ c.agrees ∙ passed_on n c.parent c.there c.reached;
   }
 
-  below_now : (n : Node) → has_parent w0.id n ≡ true → links which w0 n ≡ true → IsLinkedBelow old which start n
+  below_now : (n : Node) → has_parent w0.id n ≡ true → links which w0 n ≡ true
+      → IsLinkedBelow old which start n
   below_now n has link =
       let above : parent_of old n ≡ Some w0 = parent_found old w0 n waits.there has in
-      let linked : is_linked_in old which n ≡ true = ap (λ o. is_linked (held_of which n) (option_map (held_of which) o)) above ∙ link in
+      let linked : is_linked_in old which n ≡ true = ap
+      (λ o. is_linked (held_of which n) (option_map (held_of which) o)) above ∙ link in
       elim (or_cases (w0.id == start) (is_changed which f w0) waits.reached) [
-        | inl is ↦ (suc zero, and_from (is_linked_in old which n) _ linked (or_left (has_parent start n) _ (ap (λ i. has_parent i n) (sym (eqb-true w0.id start is)) ∙ has)))
+        | inl is ↦ (
+          suc zero,
+          and_from (is_linked_in old which n) _ linked
+              (or_left (has_parent start n) _
+              (ap (λ i. has_parent i n) (sym (eqb-true w0.id start is)) ∙ has)),
+        )
         | inr changed ↦
-            let c = (front.came w0 waits.there changed).below in
-            (suc c.0, and_from (is_linked_in old which n) _ linked (or_right (has_parent start n) _ (ap (λ o. option_map_or (is_linked_within c.0 old which start) o false) above ∙ c.1)))
+            let c = (front.came w0 waits.there changed).below in (
+              suc c.0,
+              and_from (is_linked_in old which n) _ linked
+                  (or_right (has_parent start n) _
+                  (ap (λ o. option_map_or (is_linked_within c.0 old which start) o false) above
+                  ∙ c.1)),
+            )
       ]
 
-  came_now : (n : Node) → There which start old n → stale n ≡ true → Came which start old after (rest ++ kids) n
+  came_now : (n : Node) → There which start old n → stale n ≡ true
+      → Came which start old after (rest ++ kids) n
   came_now n there is =
       let parts = stale_parts n is in
       let has : has_parent w0.id n ≡ true = ap (λ i. has_parent i n) (sym w_id) ∙ parts.0 in
@@ -197,7 +264,9 @@ module _ (which : Which) (start : ℕ) (old : Content) (rises : is_rising (0 ∷
         there = waits.there;
         has = has;
         reached = reached_on w0 waits.there waits.reached;
-        taken = taken_on w0 waits.there waits.reached (ap (λ i. has_id i rest) (sym w_id) ∙ apart_last rest w front.apart);
+        taken =
+            taken_on w0 waits.there waits.reached
+            (ap (λ i. has_id i rest) (sym w_id) ∙ apart_last rest w front.apart);
         agrees = step.takes which f w w0 n is ∙ passed_on n w0 waits.there waits.reached;
       }
 
@@ -205,35 +274,61 @@ module _ (which : Which) (start : ℕ) (old : Content) (rises : is_rising (0 ∷
   Goal n p = (has_id p.id (rest ++ kids) ≡ true) ⊎ (after n ≡ passes which after p n)
 
   -- a child of the object that was taken agrees with it now
-  child_agrees : (n p : Node) → There which start old p → has_parent p.id n ≡ true → links which p n ≡ true → p.id ≡ w.id → after n ≡ passes which after p n
-  child_agrees = step.child_agrees which f w w0 old waits.there w_id (reached_fresh w0 waits.there waits.reached)
+  child_agrees : (n p : Node) → There which start old p → has_parent p.id n ≡ true
+      → links which p n ≡ true → p.id ≡ w.id → after n ≡ passes which after p n
+  child_agrees =
+      step.child_agrees which f w w0 old waits.there w_id
+      (reached_fresh w0 waits.there waits.reached)
 
   -- any other object stays as it was
-  other_agrees : (n p : Node) → There which start old n → There which start old p → is_folder p ≡ true → has_parent p.id n ≡ true → (p.id == w.id) ≡ false
+  other_agrees : (n p : Node) → There which start old n → There which start old p
+      → is_folder p ≡ true → has_parent p.id n ≡ true → (p.id == w.id) ≡ false
       → (has_id p.id (rest ++ w ∷ []) ≡ true) ⊎ (f n ≡ passes which f p n) → Goal n p
   other_agrees n p there there' folder has other (inl waiting) =
-      elim (or_cases (has_id p.id rest) (has_id p.id (w ∷ [])) (sym (has_either p.id rest (w ∷ [])) ∙ waiting)) [
-        | inl still ↦ inl (has_either p.id rest kids ∙ or_left (has_id p.id rest) (has_id p.id kids) still)
-        | inr last ↦ absurd (false≢true (sym other ∙ eq-eqb p.id w.id (sym (eqb-true w.id p.id (sym (or_false (w.id == p.id)) ∙ last)))))
+      elim (or_cases (has_id p.id rest) (has_id p.id (w ∷ []))
+      (sym (has_either p.id rest (w ∷ [])) ∙ waiting)) [
+        | inl still ↦
+            inl (has_either p.id rest kids ∙ or_left (has_id p.id rest) (has_id p.id kids) still)
+        | inr last ↦
+            absurd
+            (false≢true (sym other ∙ eq-eqb p.id w.id
+            (sym (eqb-true w.id p.id (sym (or_false (w.id == p.id)) ∙ last)))))
       ]
   other_agrees n p there there' folder has other (inr agrees) =
-      let fresh : stale n ≡ false = and_left (has_parent w.id n) _ (false_from_ne_true (has_parent w.id n) (λ has'. false≢true (sym other ∙ eq-eqb p.id w.id (same_above p.id w.id n has has')))) in
+      let fresh : stale n ≡ false = and_left (has_parent w.id n) _
+      (false_from_ne_true (has_parent w.id n)
+      (λ has'. false≢true (sym other ∙ eq-eqb p.id w.id (same_above p.id w.id n has has')))) in
       elim (cases_Bool (stale p)) [
-        | inl st ↦ inl (has_either p.id rest kids ∙ or_right (has_id p.id rest) (has_id p.id kids) (kids_has p there' ∙ and_from (is_folder p) (stale p) folder st))
-        | inr fresh' ↦ inr (keeps n fresh ∙ agrees ∙ ap (λ l. pass n.kind ((held_of which p).own ++ l)) (sym (keeps p fresh')))
+        | inl st ↦
+            inl (has_either p.id rest kids
+            ∙ or_right (has_id p.id rest) (has_id p.id kids)
+            (kids_has p there' ∙ and_from (is_folder p) (stale p) folder st))
+        | inr fresh' ↦
+            inr (keeps n fresh ∙ agrees
+            ∙ ap (λ l. pass n.kind ((held_of which p).own ++ l)) (sym (keeps p fresh')))
       ]
 
   pub frontier_after : Frontier which start old after (rest ++ kids)
   frontier_after = record {
-    known = each_append (Waits which start old after) rest kids (each_weaker (Waits which start old f) (Waits which start old after) rest_waits rest (each_front (Waits which start old f) rest (w ∷ []) front.known)) kids_wait;
-    apart = apart_join rest kids (apart_front rest (w ∷ []) front.apart) kids_apart (each_weaker (Waits which start old f) (λ r. has_id r.id kids ≡ false) rest_apart rest (each_front (Waits which start old f) rest (w ∷ []) front.known));
-    came = λ n there changed. elim (or_cases (is_changed which f n) (stale n) (sym (changed_is n there) ∙ changed)) [
-      | inl before ↦ came_before n there before (front.came n there before)
-      | inr st ↦ came_now n there st
-    ];
+    known =
+        each_append (Waits which start old after) rest kids
+        (each_weaker (Waits which start old f) (Waits which start old after) rest_waits rest
+        (each_front (Waits which start old f) rest (w ∷ []) front.known)) kids_wait;
+    apart =
+        apart_join rest kids (apart_front rest (w ∷ []) front.apart) kids_apart
+        (each_weaker (Waits which start old f) (λ r. has_id r.id kids ≡ false) rest_apart rest
+        (each_front (Waits which start old f) rest (w ∷ []) front.known));
+    came =
+        λ n there changed. elim
+        (or_cases (is_changed which f n) (stale n) (sym (changed_is n there) ∙ changed)) [
+          | inl before ↦ came_before n there before (front.came n there before)
+          | inr st ↦ came_now n there st
+        ];
     law = λ but n p there there' folder has link. elim (cases_Bool (p.id == w.id)) [
       | inl is ↦ inr (child_agrees n p there' has link (eqb-true p.id w.id is))
-      | inr other ↦ other_agrees n p there there' folder has other (front.law but n p there there' folder has link)
+      | inr other ↦
+          other_agrees n p there there' folder has other
+          (front.law but n p there there' folder has link)
     ];
   }
 
@@ -250,5 +345,6 @@ module _ (which : Which) (start : ℕ) (old : Content) (rises : is_rising (0 ∷
       let r = length-map (filter (is_outdated which w) all) (renewed which w) in
       omega (arith, k, c, n, o, r)
 
-  pub count_after : count (is_changed which after) old.nodes ≡ count (is_changed which f) old.nodes + length (renewals which w (children_of now w.id))
+  pub count_after : count (is_changed which after) old.nodes
+      ≡ count (is_changed which f) old.nodes + length (renewals which w (children_of now w.id))
   count_after = step.count_renewed which f w w0 old child_unchanged waits.is apart_old

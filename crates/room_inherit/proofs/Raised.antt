@@ -47,31 +47,42 @@ not_true true is = absurd (false≢true is)
 not_true false is = refl
 
 -- what all pass of one test, all pass of a weaker one
-all_weaker : {X : Type 0} (p q : X → Bool) → ((x : X) → p x ≡ true → q x ≡ true) → (xs : List X) → list_all p xs ≡ true → list_all q xs ≡ true
+all_weaker : {X : Type 0} (p q : X → Bool) → ((x : X) → p x ≡ true → q x ≡ true) → (xs : List X)
+    → list_all p xs ≡ true → list_all q xs ≡ true
 all_weaker p q weaker [] all = refl
-all_weaker p q weaker (x ∷ xs) all = let parts = and_parts (p x) (list_all p xs) all in and_from (q x) (list_all q xs) (weaker x parts.0) (all_weaker p q weaker xs parts.1)
+all_weaker p q weaker (x ∷ xs) all = let parts = and_parts (p x) (list_all p xs) all in
+    and_from (q x) (list_all q xs) (weaker x parts.0) (all_weaker p q weaker xs parts.1)
 
-all_both : {X : Type 0} (p q : X → Bool) (xs : List X) → list_all p xs ≡ true → list_all q xs ≡ true → list_all (λ x. p x && q x) xs ≡ true
+all_both : {X : Type 0} (p q : X → Bool) (xs : List X) → list_all p xs ≡ true → list_all q xs ≡ true
+    → list_all (λ x. p x && q x) xs ≡ true
 all_both p q [] one two = refl
 all_both p q (x ∷ xs) one two =
     let first = and_parts (p x) (list_all p xs) one in
     let second = and_parts (q x) (list_all q xs) two in
-    and_from (p x && q x) _ (and_from (p x) (q x) first.0 second.0) (all_both p q xs first.1 second.1)
+    and_from (p x && q x) _ (and_from (p x) (q x) first.0 second.0)
+    (all_both p q xs first.1 second.1)
 
 -- ---- what is passed has the flag
 
 abbrev are_marked : List Ace → Bool
 are_marked entries = list_all (λ entry. entry.flags.inherited) entries
 
-marked_flags : (kind : ObjKind) (flags : EntryFlags) → option_map_or (λ f. f.inherited) (passed_flags kind flags) true ≡ true
+marked_flags : (kind : ObjKind) (flags : EntryFlags)
+    → option_map_or (λ f. f.inherited) (passed_flags kind flags) true ≡ true
 marked_flags Document flags = on flags.file_inherit
   where
-    on : (t : Bool) → option_map_or (λ (f : EntryFlags). f.inherited) (cond t (Some (ended flags)) None) true ≡ true
+    on : (t : Bool) → option_map_or (λ (f : EntryFlags). f.inherited)
+        (cond t (Some (ended flags)) None) true ≡ true
     on true = refl
     on false = refl
-marked_flags Folder flags = on (flags.directory_inherit && not flags.no_propagate_inherit) (flags.directory_inherit && flags.no_propagate_inherit) (flags.file_inherit && not flags.no_propagate_inherit)
+marked_flags Folder flags =
+    on (flags.directory_inherit && not flags.no_propagate_inherit)
+    (flags.directory_inherit && flags.no_propagate_inherit)
+    (flags.file_inherit && not flags.no_propagate_inherit)
   where
-    on : (t u v : Bool) → option_map_or (λ (f : EntryFlags). f.inherited) (cond t (Some (carried flags)) (cond u (Some (ended flags)) (cond v (Some (waiting flags)) None))) true ≡ true
+    on : (t u v : Bool) → option_map_or (λ (f : EntryFlags). f.inherited)
+        (cond t (Some (carried flags))
+        (cond u (Some (ended flags)) (cond v (Some (waiting flags)) None))) true ≡ true
     on true u v = refl
     on false true v = refl
     on false false true = refl
@@ -79,16 +90,21 @@ marked_flags Folder flags = on (flags.directory_inherit && not flags.no_propagat
 
 passed_marked : (kind : ObjKind) (entries : List Ace) → are_marked (pass kind entries) ≡ true
 passed_marked kind [] = refl
-passed_marked kind (entry ∷ entries) = on (passed_flags kind entry.flags) (marked_flags kind entry.flags) (passed_marked kind entries)
+passed_marked kind (entry ∷ entries) =
+    on (passed_flags kind entry.flags) (marked_flags kind entry.flags) (passed_marked kind entries)
   where
-    on : (o : Option EntryFlags) → option_map_or (λ f. f.inherited) o true ≡ true → are_marked (pass kind entries) ≡ true
-        → are_marked (cons_option (option_map (λ flags. record entry { flags = flags }) o) (pass kind entries)) ≡ true
+    on : (o : Option EntryFlags) → option_map_or (λ f. f.inherited) o true ≡ true
+        → are_marked (pass kind entries) ≡ true
+        → are_marked (cons_option (option_map (λ flags. record entry { flags = flags }) o)
+        (pass kind entries)) ≡ true
     on None marked rest = rest
-    on (Some flags) marked rest = and_from flags.inherited (are_marked (pass kind entries)) marked rest
+    on (Some flags) marked rest =
+        and_from flags.inherited (are_marked (pass kind entries)) marked rest
 
 -- ---- a sound list with other inherited entries
 
-module _ (which : Which) (kind : ObjKind) (held : Held) (is : is_sound_held which kind held ≡ true) where
+module _ (which : Which) (kind : ObjKind) (held : Held)
+    (is : is_sound_held which kind held ≡ true) where
   abbrev own_part : Bool
   own_part = nat_le (length held.own) 64 && list_all (λ entry. not entry.flags.inherited) held.own
 
@@ -96,12 +112,19 @@ module _ (which : Which) (kind : ObjKind) (held : Held) (is : is_sound_held whic
   parts = and_parts (own_part && are_marked held.inh) (are_valid which kind (full_of held)) is
 
   own_valid : are_valid which kind held.own ≡ true
-  own_valid = (and_parts (are_valid which kind held.own) (are_valid which kind held.inh) (sym (list_all-append (λ entry. is_none (entry_fault entry which kind)) held.own held.inh) ∙ parts.1)).0
+  own_valid =
+      (and_parts (are_valid which kind held.own) (are_valid which kind held.inh)
+      (sym (list_all-append (λ entry. is_none (entry_fault entry which kind)) held.own held.inh)
+      ∙ parts.1)).0
 
-  renewed : (entries : List Ace) → are_marked entries ≡ true → are_valid which kind entries ≡ true → is_sound_held which kind (record held { inh = entries }) ≡ true
+  renewed : (entries : List Ace) → are_marked entries ≡ true → are_valid which kind entries ≡ true
+      → is_sound_held which kind (record held { inh = entries }) ≡ true
   renewed entries marked valid =
-      and_from (own_part && are_marked entries) _ (and_from own_part (are_marked entries) (and_parts own_part (are_marked held.inh) parts.0).0 marked)
-      (list_all-append (λ entry. is_none (entry_fault entry which kind)) held.own entries ∙ and_from (are_valid which kind held.own) (are_valid which kind entries) own_valid valid)
+      and_from (own_part && are_marked entries) _
+      (and_from own_part (are_marked entries)
+      (and_parts own_part (are_marked held.inh) parts.0).0 marked)
+      (list_all-append (λ entry. is_none (entry_fault entry which kind)) held.own entries
+      ∙ and_from (are_valid which kind held.own) (are_valid which kind entries) own_valid valid)
 
 folder_is : (kind : ObjKind) → not (is_document kind) ≡ true → kind ≡ Folder
 folder_is Document is = absurd (false≢true is)
@@ -129,18 +152,26 @@ module _ (f g : Node → List Ace) (old : Content) where
   above : (node : Node) → parent_of new (both node) ≡ option_map both (parent_of old node)
   above node = unmoved.above old both place node
 
-  held_new : (which : Which) (node : Node) → held_of which (both node) ≡ record (held_of which node) { inh = lists which node }
+  held_new : (which : Which) (node : Node)
+      → held_of which (both node) ≡ record (held_of which node) { inh = lists which node }
   held_new Dacl node = refl
   held_new Sacl node = refl
 
-  linked_to : (which : Which) (node parent : Node) → is_linked (held_of which (both node)) (Some (held_of which (both parent))) ≡ is_linked (held_of which node) (Some (held_of which parent))
+  linked_to : (which : Which) (node parent : Node)
+      → is_linked (held_of which (both node)) (Some (held_of which (both parent)))
+      ≡ is_linked (held_of which node) (Some (held_of which parent))
   linked_to Dacl node parent = refl
   linked_to Sacl node parent = refl
 
-  linked_new : (which : Which) (node : Node) → is_linked_in new which (both node) ≡ is_linked_in old which node
-  linked_new which node = ap (λ o. is_linked (held_of which (both node)) (option_map (held_of which) o)) (above node) ∙ on (parent_of old node)
+  linked_new : (which : Which) (node : Node)
+      → is_linked_in new which (both node) ≡ is_linked_in old which node
+  linked_new which node =
+      ap (λ o. is_linked (held_of which (both node)) (option_map (held_of which) o)) (above node)
+      ∙ on (parent_of old node)
     where
-      on : (o : Option Node) → is_linked (held_of which (both node)) (option_map (held_of which) (option_map both o)) ≡ is_linked (held_of which node) (option_map (held_of which) o)
+      on : (o : Option Node)
+          → is_linked (held_of which (both node)) (option_map (held_of which) (option_map both o))
+          ≡ is_linked (held_of which node) (option_map (held_of which) o)
       on None = refl
       on (Some parent) = linked_to which node parent
 
@@ -148,64 +179,126 @@ module _ (f g : Node → List Ace) (old : Content) where
   abbrev There : Node → Type 0
   There node = node_at old node.id ≡ Some node
 
-  module _ (linked_if : (which : Which) (node : Node) → There node → is_changed which (lists which) node ≡ true → is_linked_in old which node ≡ true) where
-    unchanged : (which : Which) (node : Node) → is_changed which (lists which) node ≡ false → lists which node ≡ (held_of which node).inh
-    unchanged which node same = entries_equal (lists which node) (held_of which node).inh (not_false _ same)
+  module _
+      (linked_if : (which : Which) (node : Node) → There node
+      → is_changed which (lists which) node ≡ true → is_linked_in old which node ≡ true) where
+    unchanged : (which : Which) (node : Node) → is_changed which (lists which) node ≡ false
+        → lists which node ≡ (held_of which node).inh
+    unchanged which node same =
+        entries_equal (lists which node) (held_of which node).inh (not_false _ same)
 
     -- ---- the meaning
 
-    kept_new : (t : Bool) (held : Held) (entries : List Ace) → (t ≡ false → entries ≡ held.inh) → kept_held t (record held { inh = entries }) ≡ kept_held t held
+    kept_new : (t : Bool) (held : Held) (entries : List Ace) → (t ≡ false → entries ≡ held.inh)
+        → kept_held t (record held { inh = entries }) ≡ kept_held t held
     kept_new true held entries same = refl
     kept_new false held entries same = ap (λ es. record held { inh = es }) (same refl)
 
-    kept_same : (which : Which) (node : Node) → There node → kept_held (is_linked_in new which (both node)) (held_of which (both node)) ≡ kept_held (is_linked_in old which node) (held_of which node)
+    kept_same : (which : Which) (node : Node) → There node
+        → kept_held (is_linked_in new which (both node)) (held_of which (both node))
+        ≡ kept_held (is_linked_in old which node) (held_of which node)
     kept_same which node there =
         ap (λ t. kept_held t (held_of which (both node))) (linked_new which node)
         ∙ ap (kept_held (is_linked_in old which node)) (held_new which node)
-        ∙ kept_new (is_linked_in old which node) (held_of which node) (lists which node) (λ isnt. unchanged which node (false_from_ne_true _ (λ is. false≢true (sym isnt ∙ linked_if which node there is))))
+        ∙ kept_new (is_linked_in old which node) (held_of which node) (lists which node)
+        (λ isnt. unchanged which node
+        (false_from_ne_true _ (λ is. false≢true (sym isnt ∙ linked_if which node there is))))
 
     node_same : (node : Node) → There node → kept_node new (both node) ≡ kept_node old node
-    node_same node there = λ i. record node { dacl = kept_same Dacl node there i; sacl = kept_same Sacl node there i }
+    node_same node there =
+        λ i. record node { dacl = kept_same Dacl node there i; sacl = kept_same Sacl node there i }
 
     -- ---- sound lists
 
-    module _ (law : (which : Which) → AllAgree new which) (folders : list_all (has_folder_above old) old.nodes ≡ true)
-        (old_sound : (which : Which) (node : Node) → There node → is_sound_held which node.kind (held_of which node) ≡ true) where
+    module _ (law : (which : Which) → AllAgree new which)
+        (folders : list_all (has_folder_above old) old.nodes ≡ true)
+        (old_sound : (which : Which) (node : Node) → There node
+        → is_sound_held which node.kind (held_of which node) ≡ true) where
       -- one that is linked stores what its parent passes
-      taken : (which : Which) (node parent : Node) → There node → parent_of old node ≡ Some parent → is_linked_in old which node ≡ true → lists which node ≡ pass node.kind (full_of (held_of which (both parent)))
+      taken : (which : Which) (node parent : Node) → There node → parent_of old node ≡ Some parent
+          → is_linked_in old which node ≡ true
+          → lists which node ≡ pass node.kind (full_of (held_of which (both parent)))
       taken which node parent there up linked =
-          let here : agrees new which (both node) ≡ true = all_found (agrees new which) (λ m. m.id == node.id) (map both old.nodes) (both node) (law which) (node_at-with_each old both places node.id ∙ ap (option_map both) there) in
-          let agree : agrees_with which (both node) (both parent) ≡ true = sym (ap (λ o. option_map_or (agrees_with which (both node)) o true) (above node ∙ ap (option_map both) up)) ∙ here in
-          let links : is_linked (held_of which (both node)) (Some (held_of which (both parent))) ≡ true = linked_to which node parent ∙ sym (ap (λ o. is_linked (held_of which node) (option_map (held_of which) o)) up) ∙ linked in
+          let here : agrees new which (both node) ≡ true = all_found (agrees new which)
+          (λ m. m.id == node.id) (map both old.nodes) (both node) (law which)
+          (node_at-with_each old both places node.id ∙ ap (option_map both) there) in
+          let agree : agrees_with which (both node) (both parent) ≡ true =
+          sym (ap (λ o. option_map_or (agrees_with which (both node)) o true)
+          (above node ∙ ap (option_map both) up)) ∙ here in
+          let links : is_linked (held_of which (both node)) (Some (held_of which (both parent)))
+          ≡ true =
+          linked_to which node parent
+          ∙ sym (ap (λ o. is_linked (held_of which node) (option_map (held_of which) o)) up)
+          ∙ linked in
           sym (ap (λ (h : Held). h.inh) (held_new which node))
-          ∙ entries_equal (held_of which (both node)).inh (pass node.kind (full_of (held_of which (both parent)))) (or_true (is_linked (held_of which (both node)) (Some (held_of which (both parent)))) _ agree links)
+          ∙ entries_equal (held_of which (both node)).inh
+          (pass node.kind (full_of (held_of which (both parent))))
+          (or_true (is_linked (held_of which (both node)) (Some (held_of which (both parent)))) _
+          agree links)
 
       abbrev SoundNow : Which → Node → Type 0
       SoundNow which node = is_sound_held which node.kind (held_of which (both node)) ≡ true
 
-      settle : (which : Which) (node : Node) → There node → (is_linked_in old which node ≡ true → (are_marked (lists which node) ≡ true) × (are_valid which node.kind (lists which node) ≡ true)) → SoundNow which node
+      settle : (which : Which) (node : Node) → There node
+          → (is_linked_in old which node ≡ true → (are_marked (lists which node) ≡ true)
+          × (are_valid which node.kind (lists which node) ≡ true)) → SoundNow which node
       settle which node there passed = elim (cases_Bool (is_changed which (lists which) node)) [
-        | inl is ↦ (let entries = passed (linked_if which node there is) in ap (is_sound_held which node.kind) (held_new which node) ∙ renewed which node.kind (held_of which node) (old_sound which node there) (lists which node) entries.0 entries.1)
-        | inr isnt ↦ ap (is_sound_held which node.kind) (held_new which node ∙ ap (λ es. record (held_of which node) { inh = es }) (unchanged which node isnt)) ∙ old_sound which node there
+        | inl is ↦
+            (let entries = passed (linked_if which node there is) in
+            ap (is_sound_held which node.kind) (held_new which node)
+            ∙ renewed which node.kind (held_of which node) (old_sound which node there)
+            (lists which node) entries.0 entries.1)
+        | inr isnt ↦
+            ap (is_sound_held which node.kind)
+            (held_new which node
+            ∙ ap (λ es. record (held_of which node) { inh = es }) (unchanged which node isnt))
+            ∙ old_sound which node there
       ]
 
       -- down from the root
-      descend : (which : Which) (k : ℕ) (node : Node) → There node → (up : Option ℕ) → node.parent ≡ up → reaches_root k old up ≡ true → SoundNow which node
-      descend which k node there None is reaches = settle which node there (λ linked. absurd (false≢true (sym (ap (λ o. is_linked (held_of which node) (option_map (held_of which) (option_and_then (node_at old) o))) is) ∙ linked)))
+      descend : (which : Which) (k : ℕ) (node : Node) → There node → (up : Option ℕ)
+          → node.parent ≡ up → reaches_root k old up ≡ true → SoundNow which node
+      descend which k node there None is reaches =
+          settle which node there
+          (λ linked. absurd
+          (false≢true
+          (sym (ap (λ o. is_linked (held_of which node)
+          (option_map (held_of which) (option_and_then (node_at old) o))) is) ∙ linked)))
       descend which zero node there (Some id) is reaches = absurd (false≢true reaches)
-      descend which (suc k) node there (Some id) is reaches = on (node_at old id) refl (λ parent there' leads. descend which k parent there' parent.parent refl leads)
+      descend which (suc k) node there (Some id) is reaches =
+          on (node_at old id) refl
+          (λ parent there' leads. descend which k parent there' parent.parent refl leads)
         where
-          on : (o : Option Node) → node_at old id ≡ o → ((parent : Node) → There parent → reaches_root k old parent.parent ≡ true → SoundNow which parent) → SoundNow which node
-          on None found before = absurd (false≢true (sym (ap (λ o. option_map_or (λ (p : Node). reaches_root k old p.parent) o false) found) ∙ reaches))
+          on : (o : Option Node) → node_at old id ≡ o
+              → ((parent : Node) → There parent → reaches_root k old parent.parent ≡ true
+              → SoundNow which parent) → SoundNow which node
+          on None found before =
+              absurd
+              (false≢true
+              (sym (ap (λ o. option_map_or (λ (p : Node). reaches_root k old p.parent) o false)
+              found) ∙ reaches))
           on (Some parent) found before =
-              let there' : There parent = ap (node_at old) (found_id id old.nodes parent found) ∙ found in
-              let sound = before parent there' (sym (ap (λ o. option_map_or (λ (p : Node). reaches_root k old p.parent) o false) found) ∙ reaches) in
-              let has : has_folder_above old node ≡ true = all_found (has_folder_above old) (λ m. m.id == node.id) old.nodes node folders there in
-              let folder = folder_is parent.kind (sym (ap (λ o. option_map_or is_folder o false) found) ∙ sym (ap (λ o. is_none o || option_map_or is_folder (option_and_then (node_at old) o) false) is) ∙ has) in
+              let there' : There parent = ap (node_at old) (found_id id old.nodes parent found)
+              ∙ found in
+              let sound = before parent there'
+              (sym (ap (λ o. option_map_or (λ (p : Node). reaches_root k old p.parent) o false)
+              found) ∙ reaches) in
+              let has : has_folder_above old node ≡ true = all_found (has_folder_above old)
+              (λ m. m.id == node.id) old.nodes node folders there in
+              let folder = folder_is parent.kind
+              (sym (ap (λ o. option_map_or is_folder o false) found)
+              ∙ sym (ap (λ o. is_none o || option_map_or is_folder
+              (option_and_then (node_at old) o) false) is) ∙ has) in
               let full = full_of (held_of which (both parent)) in
-              let valid : are_valid which Folder full ≡ true = ap (λ kind. are_valid which kind full) (sym folder) ∙ (parts which parent.kind (held_of which (both parent)) sound).1 in
+              let valid : are_valid which Folder full ≡ true = ap
+              (λ kind. are_valid which kind full) (sym folder)
+              ∙ (parts which parent.kind (held_of which (both parent)) sound).1 in
               settle which node there (λ linked.
-              let takes = taken which node parent there (ap (option_and_then (node_at old)) is ∙ found) linked in (ap are_marked takes ∙ passed_marked node.kind full, ap (are_valid which node.kind) takes ∙ pass_is_valid which node.kind full valid))
+              let takes = taken which node parent there
+              (ap (option_and_then (node_at old)) is ∙ found) linked in (
+                ap are_marked takes ∙ passed_marked node.kind full,
+                ap (are_valid which node.kind) takes ∙ pass_is_valid which node.kind full valid,
+              ))
 
 -- ---- rows
 
@@ -222,14 +315,21 @@ module _ (old new : Rows) (changed : ℕ) (spread : IsSpreadAll old new changed)
   abbrev after : Rows
   after = reading old (with_both f g old.read)
 
-  linked_of : (which : Which) (node : Node) → node_at old.read node.id ≡ Some node → is_changed which (lists f g old.read which) node ≡ true → is_linked_in old.read which node ≡ true
+  linked_of : (which : Which) (node : Node) → node_at old.read node.id ≡ Some node
+      → is_changed which (lists f g old.read which) node ≡ true
+      → is_linked_in old.read which node ≡ true
   linked_of Dacl node there is = spread.linked_dacls node there is
   linked_of Sacl node there is = spread.linked_sacls node there is
 
   meant : AreRows old → meaning after.read ≡ meaning old.read
   meant are =
-      let each = each_there (λ n. kept_node after.read (set n) ≡ kept_node old.read n) old.read.nodes (apart_rising 0 old.read.nodes are.numbers) (λ n there. node_same f g old.read linked_of n there) in
-      ap (λ (ns : List Node). record old.read { nodes = ns }) (map_map (kept_node after.read) set old.read.nodes ∙ map_agree (λ n. kept_node after.read (set n)) (kept_node old.read) old.read.nodes each)
+      let each = each_there
+      (λ n. kept_node after.read (set n) ≡ kept_node old.read n) old.read.nodes
+      (apart_rising 0 old.read.nodes are.numbers)
+      (λ n there. node_same f g old.read linked_of n there) in
+      ap (λ (ns : List Node). record old.read { nodes = ns })
+      (map_map (kept_node after.read) set old.read.nodes
+      ∙ map_agree (λ n. kept_node after.read (set n)) (kept_node old.read) old.read.nodes each)
 
   module _ (none : first_fault old ≡ None) where
     tests : IsChecked old
@@ -239,34 +339,56 @@ module _ (old new : Rows) (changed : ℕ) (spread : IsSpreadAll old new changed)
     law which = subst (λ (r : Rows). AllAgree r.read which) spread.becomes (spread.law none which)
 
     there_good : (node : Node) → node_at old.read node.id ≡ Some node → has_sound_lists node ≡ true
-    there_good node there = not_false _ (sym (ap (λ o. option_map_or (λ n. not (has_sound_lists n)) o false) there) ∙ (or_parts (is_unreadable old node.id) _ (not_bad old (list_checked old tests) node.id node there)).1)
+    there_good node there =
+        not_false _ (sym (ap (λ o. option_map_or (λ n. not (has_sound_lists n)) o false) there)
+        ∙ (or_parts (is_unreadable old node.id) _
+        (not_bad old (list_checked old tests) node.id node there)).1)
 
-    old_good : (which : Which) (node : Node) → node_at old.read node.id ≡ Some node → is_sound_held which node.kind (held_of which node) ≡ true
-    old_good Dacl node there = (and_parts (is_sound_held Dacl node.kind node.dacl) (is_sound_held Sacl node.kind node.sacl) (there_good node there)).0
-    old_good Sacl node there = (and_parts (is_sound_held Dacl node.kind node.dacl) (is_sound_held Sacl node.kind node.sacl) (there_good node there)).1
+    old_good : (which : Which) (node : Node) → node_at old.read node.id ≡ Some node
+        → is_sound_held which node.kind (held_of which node) ≡ true
+    old_good Dacl node there =
+        (and_parts (is_sound_held Dacl node.kind node.dacl) (is_sound_held Sacl node.kind node.sacl)
+        (there_good node there)).0
+    old_good Sacl node there =
+        (and_parts (is_sound_held Dacl node.kind node.dacl) (is_sound_held Sacl node.kind node.sacl)
+        (there_good node there)).1
 
-    good : (which : Which) (node : Node) → node_at old.read node.id ≡ Some node → is_sound_held which node.kind (held_of which (set node)) ≡ true
+    good : (which : Which) (node : Node) → node_at old.read node.id ≡ Some node
+        → is_sound_held which node.kind (held_of which (set node)) ≡ true
     good which node there =
-        descend f g old.read linked_of law tests.parents old_good which (length old.read.nodes) node there node.parent refl (all_found (reaches old.read) (λ m. m.id == node.id) old.read.nodes node tests.reach there)
+        descend f g old.read linked_of law tests.parents old_good which
+        (length old.read.nodes) node there node.parent refl
+        (all_found (reaches old.read) (λ m. m.id == node.id) old.read.nodes node tests.reach there)
 
     keeps_place : KeepsPlaces old.read set
     keeps_place = places f g old.read
 
     still_good : (id : ℕ) → has_bad_list old id ≡ false → has_bad_list after id ≡ false
     still_good id bad =
-        or_from (is_unreadable old id) _ (or_parts (is_unreadable old id) _ bad).0 (ap (λ o. option_map_or (λ n. not (has_sound_lists n)) o false) (node_at-with_each old.read set keeps_place id) ∙ on (node_at old.read id) refl)
+        or_from (is_unreadable old id) _ (or_parts (is_unreadable old id) _ bad).0
+        (ap (λ o. option_map_or (λ n. not (has_sound_lists n)) o false)
+        (node_at-with_each old.read set keeps_place id) ∙ on (node_at old.read id) refl)
       where
-        on : (o : Option Node) → node_at old.read id ≡ o → option_map_or (λ n. not (has_sound_lists n)) (option_map set o) false ≡ false
+        on : (o : Option Node) → node_at old.read id ≡ o
+            → option_map_or (λ n. not (has_sound_lists n)) (option_map set o) false ≡ false
         on None found = refl
         on (Some node) found =
-            let there : node_at old.read node.id ≡ Some node = ap (node_at old.read) (found_id id old.read.nodes node found) ∙ found in
-            ap not (and_from (is_sound_held Dacl node.kind (set node).dacl) _ (good Dacl node there) (good Sacl node there))
+            let there : node_at old.read node.id ≡ Some node = ap (node_at old.read)
+            (found_id id old.read.nodes node found) ∙ found in
+            ap not (and_from (is_sound_held Dacl node.kind (set node).dacl) _ (good Dacl node there)
+            (good Sacl node there))
 
     named : (node : Node) → has_sound_name after.read (set node) ≡ has_sound_name old.read node
-    named node = ap (λ t. is_root node || (is_object_name node.name && not t)) (any_map (λ (other : Node). nat_lt other.id node.id && same_place other node) set old.read.nodes)
+    named node =
+        ap (λ t. is_root node || (is_object_name node.name && not t))
+        (any_map (λ (other : Node). nat_lt other.id node.id && same_place other node) set
+        old.read.nodes)
 
     one_root : bad_root (filter is_root after.read.nodes) ≡ None
-    one_root = ap bad_root (filter-changed set is_root (λ a b same. ap is_none same.parent) old.read.nodes keeps_place) ∙ on (filter is_root old.read.nodes) ∙ tests.root
+    one_root =
+        ap bad_root
+        (filter-changed set is_root (λ a b same. ap is_none same.parent) old.read.nodes keeps_place)
+        ∙ on (filter is_root old.read.nodes) ∙ tests.root
       where
         on : (roots : List Node) → bad_root (map set roots) ≡ bad_root roots
         on [] = refl
@@ -275,18 +397,34 @@ module _ (old new : Rows) (changed : ℕ) (spread : IsSpreadAll old new changed)
 
     now_sound : AreSound after
     now_sound = sound after (record {
-      lists = ap (λ ids. list_all (λ id. not (has_bad_list after id)) (put_numbers old.unreadable ids)) (numbers-with_each old.read set keeps_place)
-          ∙ all_weaker (λ id. not (has_bad_list old id)) (λ id. not (has_bad_list after id)) (λ id is. ap not (still_good id (not_true _ is))) (numbers_of old) tests.lists;
+      lists =
+          ap (λ ids. list_all (λ id. not (has_bad_list after id)) (put_numbers old.unreadable ids))
+          (numbers-with_each old.read set keeps_place)
+          ∙ all_weaker (λ id. not (has_bad_list old id)) (λ id. not (has_bad_list after id))
+          (λ id is. ap not (still_good id (not_true _ is))) (numbers_of old) tests.lists;
       root = one_root;
-      parents = unmoved.all_kept set (has_folder_above after.read) (has_folder_above old.read) (unmoved.folder_above old.read set (place f g old.read) (λ n. refl)) old.read.nodes tests.parents;
-      reach = unmoved.all_kept set (reaches after.read) (reaches old.read) (unmoved.reach_all old.read set (place f g old.read)) old.read.nodes tests.reach;
-      names = unmoved.all_kept set (has_sound_name after.read) (has_sound_name old.read) named old.read.nodes tests.names;
-      bodies = unmoved.all_kept set (has_sound_body after.read) (has_sound_body old.read) (λ n. refl) old.read.nodes tests.bodies;
-      law = all_both (agrees after.read Dacl) (agrees after.read Sacl) after.read.nodes (law Dacl) (law Sacl);
+      parents =
+          unmoved.all_kept set (has_folder_above after.read) (has_folder_above old.read)
+          (unmoved.folder_above old.read set (place f g old.read) (λ n. refl)) old.read.nodes
+          tests.parents;
+      reach =
+          unmoved.all_kept set (reaches after.read) (reaches old.read)
+          (unmoved.reach_all old.read set (place f g old.read)) old.read.nodes tests.reach;
+      names =
+          unmoved.all_kept set (has_sound_name after.read)
+          (has_sound_name old.read) named old.read.nodes tests.names;
+      bodies =
+          unmoved.all_kept set (has_sound_body after.read) (has_sound_body old.read)
+          (λ n. refl) old.read.nodes tests.bodies;
+      law =
+          all_both (agrees after.read Dacl) (agrees after.read Sacl) after.read.nodes (law Dacl)
+          (law Sacl);
     })
 
 pub raised_is_sound : RaisedIsSound
-raised_is_sound old new changed none spread = subst AreSound (sym spread.becomes) (now_sound old new changed spread none)
+raised_is_sound old new changed none spread =
+    subst AreSound (sym spread.becomes) (now_sound old new changed spread none)
 
 pub raised_means_the_same : RaisedMeansTheSame
-raised_means_the_same old new changed are spread = ap (λ (r : Rows). meaning r.read) spread.becomes ∙ meant old new changed spread are
+raised_means_the_same old new changed are spread =
+    ap (λ (r : Rows). meaning r.read) spread.becomes ∙ meant old new changed spread are

@@ -32,7 +32,8 @@ use Rattle.room_inherit.proofs.Turns.{Progress}
 -- ---- rows
 
 -- after n turns these objects wait, and this many rows are changed
-pub record IsSweeping (d : Descent) (turns : ℕ) (waiting : List Node) (changed : ℕ) (old now : Rows) : Type 0 where
+pub record IsSweeping (d : Descent) (turns : ℕ) (waiting : List Node) (changed : ℕ)
+    (old now : Rows) : Type 0 where
   pub root : Node
   pub root_is : root_of old.read ≡ Some root
   pub start_is : d.start ≡ root.id
@@ -43,7 +44,8 @@ pub record IsSweeping (d : Descent) (turns : ℕ) (waiting : List Node) (changed
   pub counted : changed ≡ count (is_changed d.which lists) old.read.nodes
   pub turned : turns + length waiting ≤ count seen old.read.nodes
 
-pub sweeping_first : (d : Descent) (old : Rows) (root : Node) → AreRows old → root_of old.read ≡ Some root → d.start ≡ root.id → IsSweeping d 0 (root ∷ []) 0 old old
+pub sweeping_first : (d : Descent) (old : Rows) (root : Node) → AreRows old
+    → root_of old.read ≡ Some root → d.start ≡ root.id → IsSweeping d 0 (root ∷ []) 0 old old
 sweeping_first d old root are is start = record {
   root = root;
   root_is = is;
@@ -53,10 +55,15 @@ sweeping_first d old root are is start = record {
   becomes = ap (reading old) (sym (with_own_lists d.which old.read));
   front = sweep_first d.which old.read are.numbers root is;
   counted = sym (count_own d.which old.read.nodes);
-  turned = let one = count_has (seen_first d.which old.read are.numbers root is) root.id old.read.nodes root (root_there d.which old.read are.numbers root is) (eq-eqb root.id root.id refl) in omega (arith, one);
+  turned = let one =
+      count_has (seen_first d.which old.read are.numbers root is) root.id old.read.nodes root
+      (root_there d.which old.read are.numbers root is) (eq-eqb root.id root.id refl) in
+      omega (arith, one);
 }
 
-module _ (d : Descent) (reach : d.reach ≡ All) (turns : ℕ) (rest : List Node) (w : Node) (changed : ℕ) (old now : Rows) (are : AreRows old) (sofar : IsSweeping d turns (rest ++ w ∷ []) changed old now) where
+module _ (d : Descent) (reach : d.reach ≡ All) (turns : ℕ) (rest : List Node) (w : Node)
+    (changed : ℕ) (old now : Rows) (are : AreRows old)
+    (sofar : IsSweeping d turns (rest ++ w ∷ []) changed old now) where
   abbrev f : Node → List Ace
   f = sofar.lists
 
@@ -65,10 +72,15 @@ module _ (d : Descent) (reach : d.reach ≡ All) (turns : ℕ) (rest : List Node
 
   pub sweeping_no_loop : MeetsAgain d.which d.start w now → ⊥
   sweeping_no_loop met =
-      let met' : MeetsAgain d.which sofar.root.id w (reading old (with_lists d.which f old.read)) = subst (λ (r : Rows). MeetsAgain d.which sofar.root.id w r) sofar.becomes (subst (λ (i : ℕ). MeetsAgain d.which i w now) sofar.start_is met) in
-      false≢true (sym (not_met_again d.which old.read are.numbers sofar.root top f sofar.seen rest w sofar.front (root_there d.which old.read are.numbers sofar.root sofar.root_is)) ∙ met')
+      let met' : MeetsAgain d.which sofar.root.id w (reading old (with_lists d.which f old.read)) =
+      subst (λ (r : Rows). MeetsAgain d.which sofar.root.id w r) sofar.becomes
+      (subst (λ (i : ℕ). MeetsAgain d.which i w now) sofar.start_is met) in
+      false≢true
+      (sym (not_met_again d.which old.read are.numbers sofar.root top f sofar.seen rest w
+      sofar.front (root_there d.which old.read are.numbers sofar.root sofar.root_is)) ∙ met')
 
-  module _ (new : Rows) (number : ℕ) (next : List Node) (visit : IsVisit d w rest next now number new) where
+  module _ (new : Rows) (number : ℕ) (next : List Node)
+      (visit : IsVisit d w rest next now number new) where
     step : IsVisit d w rest next (reading old (with_lists d.which f old.read)) number new
     step = subst (λ (r : Rows). IsVisit d w rest next r number new) sofar.becomes visit
 
@@ -76,14 +88,19 @@ module _ (d : Descent) (reach : d.reach ≡ All) (turns : ℕ) (rest : List Node
     lists = after d.which old.read are.numbers sofar.root top f sofar.seen rest w sofar.front
 
     abbrev seen_now : Node → Bool
-    seen_now = seen_after d.which old.read are.numbers sofar.root top f sofar.seen rest w sofar.front
+    seen_now =
+        seen_after d.which old.read are.numbers sofar.root top f sofar.seen rest w sofar.front
 
     abbrev all : List Node
     all = kids d.which old.read are.numbers sofar.root top f sofar.seen rest w sofar.front
 
     waits : next ≡ rest ++ all
-    waits = step.waits ∙ ap (λ (r : Reach). rest ++ next_of r d.which w (children_of (with_lists d.which f old.read) w.id)) reach
-        ∙ ap (λ (l : List Node). rest ++ l) (kids_are d.which old.read are.numbers sofar.root top f sofar.seen rest w sofar.front)
+    waits =
+        step.waits
+        ∙ ap (λ (r : Reach). rest ++ next_of r d.which w
+        (children_of (with_lists d.which f old.read) w.id)) reach
+        ∙ ap (λ (l : List Node). rest ++ l)
+        (kids_are d.which old.read are.numbers sofar.root top f sofar.seen rest w sofar.front)
 
     pub sweeping_turn : IsSweeping d (turns + 1) next (changed + number) old new
     sweeping_turn = record {
@@ -92,47 +109,79 @@ module _ (d : Descent) (reach : d.reach ≡ All) (turns : ℕ) (rest : List Node
       start_is = sofar.start_is;
       lists = lists;
       seen = seen_now;
-      becomes = step.becomes ∙ ap (reading old) (rows_after d.which old.read are.numbers sofar.root top f sofar.seen rest w sofar.front);
-      front = subst (λ (l : List Node). Sweep d.which old.read sofar.root lists seen_now l) (sym waits) (sweep_after d.which old.read are.numbers sofar.root top f sofar.seen rest w sofar.front);
-      counted = (λ i. sofar.counted i + step.counted i) ∙ sym (count_after d.which old.read are.numbers sofar.root top f sofar.seen rest w sofar.front);
+      becomes =
+          step.becomes
+          ∙ ap (reading old)
+          (rows_after d.which old.read are.numbers sofar.root top f sofar.seen rest w sofar.front);
+      front =
+          subst (λ (l : List Node). Sweep d.which old.read sofar.root lists seen_now l) (sym waits)
+          (sweep_after d.which old.read are.numbers sofar.root top f sofar.seen rest w sofar.front);
+      counted =
+          (λ i. sofar.counted i + step.counted i)
+          ∙ sym (count_after d.which old.read are.numbers sofar.root top f sofar.seen rest w
+          sofar.front);
       turned =
           let l = ap length waits ∙ length-append rest all in
           let k = length-append rest (w ∷ []) in
           let t = sofar.turned in
-          let s = count_seen d.which old.read are.numbers sofar.root top f sofar.seen rest w sofar.front in
+          let s =
+          count_seen d.which old.read are.numbers sofar.root top f sofar.seen rest w sofar.front
+          in
           omega (arith, l, k, t, s);
     }
 
 -- what is known after each turn
-abbrev pub sweeping : (d : Descent) (start : Node) → start.id ≡ d.start → d.reach ≡ All → Progress d start
+abbrev pub sweeping : (d : Descent) (start : Node) → start.id ≡ d.start → d.reach ≡ All
+    → Progress d start
 sweeping d start same reach = record {
   Given = IsRoot start;
   Loops = λ rows. ⊥;
   Done = λ old now changed. IsSwept d.which old now changed;
   After = IsSweeping d;
   first = λ old are is. sweeping_first d old start are is (sym same);
-  on = λ turns rest w changed number next old now new are sofar visit. sweeping_turn d reach turns rest w changed old now are sofar new number next visit;
-  few = λ turns waiting changed old now sofar. let m = count_ends (is_changed d.which sofar.lists) old.read.nodes in let a = as_many_numbers old in let c = sofar.counted in omega (arith, m, a, c);
-  ends = λ turns waiting changed old now past sofar. let m = count_ends sofar.seen old.read.nodes in let a = as_many_numbers old in let t = sofar.turned in omega (arith, m, a, t, past);
-  numbers = λ turns waiting changed old now sofar. ap numbers_of sofar.becomes ∙ numbers_of-reading old (with_lists d.which sofar.lists old.read) (ids_set d.which sofar.lists old.read.nodes);
-  unreadable = λ turns waiting changed at old now sofar damaged. ap (λ (r : Rows). is_unreadable r at) (sym sofar.becomes) ∙ damaged;
-  loops = λ turns rest w changed old now are sofar met. sweeping_no_loop d reach turns rest w changed old now are sofar met;
+  on =
+      λ turns rest w changed number next old now new are sofar visit. sweeping_turn d reach turns
+      rest w changed old now are sofar new number next visit;
+  few = λ turns waiting changed old now sofar. let m =
+      count_ends (is_changed d.which sofar.lists) old.read.nodes in let a = as_many_numbers old in
+      let c = sofar.counted in omega (arith, m, a, c);
+  ends = λ turns waiting changed old now past sofar. let m = count_ends sofar.seen old.read.nodes in
+      let a = as_many_numbers old in let t = sofar.turned in omega (arith, m, a, t, past);
+  numbers =
+      λ turns waiting changed old now sofar. ap numbers_of sofar.becomes
+      ∙ numbers_of-reading old (with_lists d.which sofar.lists old.read)
+      (ids_set d.which sofar.lists old.read.nodes);
+  unreadable =
+      λ turns waiting changed at old now sofar damaged. ap (λ (r : Rows). is_unreadable r at)
+      (sym sofar.becomes) ∙ damaged;
+  loops =
+      λ turns rest w changed old now are sofar met.
+      sweeping_no_loop d reach turns rest w changed old now are sofar met;
   done = λ turns changed old now are below sofar. record {
     lists = sofar.lists;
     becomes = sofar.becomes;
     linked = sofar.front.linked;
     counted = sofar.counted ∙ sym (count-is (is_changed d.which sofar.lists) old.read.nodes);
     few = below;
-    agree = subst (λ (r : Rows). ChangedAgree d.which old.read r.read) (sym sofar.becomes) (changed_swept d.which old.read are.numbers sofar.root sofar.root_is sofar.lists sofar.seen sofar.front);
-    law = λ tree. subst (λ (r : Rows). AllAgree r.read d.which) (sym sofar.becomes) (law_swept d.which old.read are.numbers sofar.root sofar.root_is sofar.lists sofar.seen sofar.front tree);
+    agree =
+        subst (λ (r : Rows). ChangedAgree d.which old.read r.read) (sym sofar.becomes)
+        (changed_swept d.which old.read are.numbers sofar.root sofar.root_is sofar.lists sofar.seen
+        sofar.front);
+    law =
+        λ tree. subst (λ (r : Rows). AllAgree r.read d.which) (sym sofar.becomes)
+        (law_swept d.which old.read are.numbers sofar.root sofar.root_is sofar.lists sofar.seen
+        sofar.front tree);
   };
 }
 
 -- ---- calls
 
-module _ {S : Type 0} (k : Ghosts S) (laws : KeepLaws k.rows k.failures k.writes k.Follows k.IsTrusted) (which : Which) where
+module _ {S : Type 0} (k : Ghosts S)
+    (laws : KeepLaws k.rows k.failures k.writes k.Follows k.IsTrusted) (which : Which) where
   -- the root was read, and the lists are carried down from there
-  pub sweeps_from : (root : Node) (a b c : S) (r : Result Spread SpreadFault) → IsRead k.rows k.failures k.writes k.Follows k.IsTrusted a b (Ok root) HasNoRoot IsRootOf → SweepsIf k b c (IsRoot root) which r → Sweeps k a c which r
+  pub sweeps_from : (root : Node) (a b c : S) (r : Result Spread SpreadFault)
+      → IsRead k.rows k.failures k.writes k.Follows k.IsTrusted a b (Ok root) HasNoRoot IsRootOf
+      → SweepsIf k b c (IsRoot root) which r → Sweeps k a c which r
   sweeps_from root a b c r found more = record {
     follows = laws.on a b c found.follows more.follows;
     written = written r more.written;
@@ -147,27 +196,49 @@ module _ {S : Type 0} (k : Ghosts S) (laws : KeepLaws k.rows k.failures k.writes
       same t = found.same (first t)
 
       given : k.IsTrusted a c → k.IsTrusted b c × IsRoot root (k.rows b)
-      given t = (laws.last a b c found.follows more.follows t, ap (λ (w : Rows). root_of w.read) (same t) ∙ found.answers (first t))
+      given t = (
+        laws.last a b c found.follows more.follows t,
+        ap (λ (w : Rows). root_of w.read) (same t)
+            ∙ found.answers (first t),
+      )
 
-      written : (r : Result Spread SpreadFault) → IfOk r (λ s. k.writes c ≡ capped (k.writes b + s.changed)) → IfOk r (λ s. k.writes c ≡ capped (k.writes a + s.changed))
+      written : (r : Result Spread SpreadFault)
+          → IfOk r (λ s. k.writes c ≡ capped (k.writes b + s.changed))
+          → IfOk r (λ s. k.writes c ≡ capped (k.writes a + s.changed))
       written (Ok s) h = h ∙ ap (λ n. capped (n + s.changed)) found.unwritten
       written (Err e) h = tt
 
-      becomes : (r : Result Spread SpreadFault) (t : k.IsTrusted a c) → IfOk r (λ s. IsSwept which (k.rows b) (k.rows c) s.changed) → IfOk r (λ s. IsSwept which (k.rows a) (k.rows c) s.changed)
+      becomes : (r : Result Spread SpreadFault) (t : k.IsTrusted a c)
+          → IfOk r (λ s. IsSwept which (k.rows b) (k.rows c) s.changed)
+          → IfOk r (λ s. IsSwept which (k.rows a) (k.rows c) s.changed)
       becomes (Ok s) t h = subst (λ (w : Rows). IsSwept which w (k.rows c) s.changed) (same t) h
       becomes (Err e) t h = tt
 
-      told : (e : SpreadFault) → HasSpreadCause (k.failures b) (k.failures c) (λ at. k.IsTrusted b c × IsRoot root (k.rows b) → IsUnreadable (k.rows b) at) (k.IsTrusted b c × IsRoot root (k.rows b) → ⊥) e
-          → HasSpreadCause (k.failures a) (k.failures c) (λ at. k.IsTrusted a c → HasNoRoot (k.rows a) at) (k.IsTrusted a c → ⊥) e
-      told (Keeper f) h = later_cause (k.failures a) (k.failures b) (k.failures c) f _ _ (laws.rise a b found.follows) (laws.rise b c more.follows)
-          (λ at damaged t. inl (ap (λ (w : Rows). is_unreadable w at) (sym (same t)) ∙ damaged (given t))) h
+      told : (e : SpreadFault)
+          → HasSpreadCause (k.failures b) (k.failures c)
+          (λ at. k.IsTrusted b c × IsRoot root (k.rows b) → IsUnreadable (k.rows b) at)
+          (k.IsTrusted b c × IsRoot root (k.rows b) → ⊥) e
+          → HasSpreadCause (k.failures a) (k.failures c)
+          (λ at. k.IsTrusted a c → HasNoRoot (k.rows a) at) (k.IsTrusted a c → ⊥) e
+      told (Keeper f) h =
+          later_cause (k.failures a) (k.failures b) (k.failures c) f _ _
+          (laws.rise a b found.follows) (laws.rise b c more.follows)
+          (λ at damaged t. inl (ap (λ (w : Rows). is_unreadable w at) (sym (same t))
+          ∙ damaged (given t))) h
       told Loop h = λ t. h (given t)
 
-      cause : (r : Result Spread SpreadFault) → IfErr r (HasSpreadCause (k.failures b) (k.failures c) (λ at. k.IsTrusted b c × IsRoot root (k.rows b) → IsUnreadable (k.rows b) at) (k.IsTrusted b c × IsRoot root (k.rows b) → ⊥))
-          → IfErr r (HasSpreadCause (k.failures a) (k.failures c) (λ at. k.IsTrusted a c → HasNoRoot (k.rows a) at) (k.IsTrusted a c → ⊥))
+      cause : (r : Result Spread SpreadFault)
+          → IfErr r (HasSpreadCause (k.failures b) (k.failures c)
+          (λ at. k.IsTrusted b c × IsRoot root (k.rows b) → IsUnreadable (k.rows b) at)
+          (k.IsTrusted b c × IsRoot root (k.rows b) → ⊥))
+          → IfErr r (HasSpreadCause (k.failures a) (k.failures c)
+          (λ at. k.IsTrusted a c → HasNoRoot (k.rows a) at) (k.IsTrusted a c → ⊥))
       cause (Ok s) h = tt
       cause (Err e) h = told e h
 
   -- the root wasn't read
-  pub no_root_read : (a b : S) (e : KeepFault) → IsRead k.rows k.failures k.writes k.Follows k.IsTrusted {X = Node} a b (Err e) HasNoRoot IsRootOf → Sweeps k a b which (Err (Keeper e))
-  no_root_read a b e read = record { follows = read.follows; written = tt; becomes = λ t. tt; fault = read.fault }
+  pub no_root_read : (a b : S) (e : KeepFault)
+      → IsRead k.rows k.failures k.writes k.Follows k.IsTrusted {X = Node} a b
+      (Err e) HasNoRoot IsRootOf → Sweeps k a b which (Err (Keeper e))
+  no_root_read a b e read =
+      record { follows = read.follows; written = tt; becomes = λ t. tt; fault = read.fault }

@@ -31,45 +31,62 @@ none_some : (p : ℕ) (X : Type 0) → None ≡ Some p → X
 none_some p X e = absurd (let wrong : ⊥ = cc in wrong)
 
 -- what holds of each object holds of the one that is found
-each_find : (P : Node → Type 0) (test : Node → Bool) (nodes : List Node) (node : Node) → Each P nodes → find test nodes ≡ Some node → P node
+each_find : (P : Node → Type 0) (test : Node → Bool) (nodes : List Node) (node : Node)
+    → Each P nodes → find test nodes ≡ Some node → P node
 each_find P test [] node all found = absurd (let wrong : ⊥ = cc in wrong)
 each_find P test (x ∷ xs) node all found = on (test x) found (λ f. each_find P test xs node all.1 f)
   where
-    on : (t : Bool) → cond t (Some x) (find test xs) ≡ Some node → (find test xs ≡ Some node → P node) → P node
+    on : (t : Bool) → cond t (Some x) (find test xs) ≡ Some node
+        → (find test xs ≡ Some node → P node) → P node
     on true is rest = subst P (same_some x node is) all.0
     on false is rest = rest is
 
-find_passes : (test : Node → Bool) (nodes : List Node) (node : Node) → find test nodes ≡ Some node → test node ≡ true
+find_passes : (test : Node → Bool) (nodes : List Node) (node : Node) → find test nodes ≡ Some node
+    → test node ≡ true
 find_passes test [] node found = absurd (let wrong : ⊥ = cc in wrong)
 find_passes test (x ∷ xs) node found = on (test x) refl found (λ f. find_passes test xs node f)
   where
-    on : (t : Bool) → test x ≡ t → cond t (Some x) (find test xs) ≡ Some node → (find test xs ≡ Some node → test node ≡ true) → test node ≡ true
+    on : (t : Bool) → test x ≡ t → cond t (Some x) (find test xs) ≡ Some node
+        → (find test xs ≡ Some node → test node ≡ true) → test node ≡ true
     on true passes is rest = ap test (sym (same_some x node is)) ∙ passes
     on false fails is rest = rest is
 
 -- ---- one that passes, alone
 
-pub count_has : (p : Node → Bool) (id : ℕ) (nodes : List Node) (n : Node) → find_id id nodes ≡ Some n → p n ≡ true → 1 ≤ count p nodes
+pub count_has : (p : Node → Bool) (id : ℕ) (nodes : List Node) (n : Node)
+    → find_id id nodes ≡ Some n → p n ≡ true → 1 ≤ count p nodes
 count_has p id [] n found is = absurd (let wrong : ⊥ = cc in wrong)
 count_has p id (x ∷ xs) n found is = on (x.id == id) found (λ f. count_has p id xs n f is)
   where
-    on : (t : Bool) → cond t (Some x) (find_id id xs) ≡ Some n → (find_id id xs ≡ Some n → 1 ≤ count p xs) → 1 ≤ one_if (p x) + count p xs
-    on true here rest = let one : one_if (p x) ≡ 1 = ap one_if (ap p (same_some x n here) ∙ is) in omega (arith, one)
+    on : (t : Bool) → cond t (Some x) (find_id id xs) ≡ Some n
+        → (find_id id xs ≡ Some n → 1 ≤ count p xs) → 1 ≤ one_if (p x) + count p xs
+    on true here rest = let one : one_if (p x) ≡ 1 = ap one_if (ap p (same_some x n here) ∙ is) in
+        omega (arith, one)
     on false here rest = let r = rest here in omega (arith, r)
 
-only_one : (p : Node → Bool) (nodes : List Node) (r n : Node) → count p nodes ≡ 1 → find p nodes ≡ Some r → find_id n.id nodes ≡ Some n → p n ≡ true → n ≡ r
+only_one : (p : Node → Bool) (nodes : List Node) (r n : Node) → count p nodes ≡ 1
+    → find p nodes ≡ Some r → find_id n.id nodes ≡ Some n → p n ≡ true → n ≡ r
 only_one p [] r n one found there is = absurd (let wrong : ⊥ = cc in wrong)
-only_one p (x ∷ xs) r n one found there is = on (p x) refl one found (x.id == n.id) there (λ o f t. only_one p xs r n o f t is)
+only_one p (x ∷ xs) r n one found there is =
+    on (p x) refl one found (x.id == n.id) there (λ o f t. only_one p xs r n o f t is)
   where
-    on : (s : Bool) → p x ≡ s → one_if s + count p xs ≡ 1 → cond s (Some x) (find p xs) ≡ Some r → (t : Bool) → cond t (Some x) (find_id n.id xs) ≡ Some n → (count p xs ≡ 1 → find p xs ≡ Some r → find_id n.id xs ≡ Some n → n ≡ r) → n ≡ r
+    on : (s : Bool) → p x ≡ s → one_if s + count p xs ≡ 1 → cond s (Some x) (find p xs) ≡ Some r
+        → (t : Bool) → cond t (Some x) (find_id n.id xs) ≡ Some n
+        → (count p xs ≡ 1 → find p xs ≡ Some r → find_id n.id xs ≡ Some n → n ≡ r) → n ≡ r
     on true px c f true h rest = sym (same_some x n h) ∙ same_some x r f
-    on true px c f false h rest = absurd (let more = count_has p n.id xs n h is in let wrong : ⊥ = omega (arith, more, c) in wrong)
+    on true px c f false h rest =
+        absurd (let more = count_has p n.id xs n h is in let wrong : ⊥ = omega (arith, more, c) in
+        wrong)
     on false px c f true h rest = absurd (false≢true (sym px ∙ ap p (same_some x n h) ∙ is))
     on false px c f false h rest = rest (omega (arith, c)) f h
 
-module _ (which : Which) (old : Content) (rises : is_rising (0 ∷ ids_of old.nodes) ≡ true) (root : Node) (root_is : root_of old ≡ Some root) where
+module _ (which : Which) (old : Content) (rises : is_rising (0 ∷ ids_of old.nodes) ≡ true)
+    (root : Node) (root_is : root_of old ≡ Some root) where
   pub root_there : node_at old root.id ≡ Some root
-  root_there = each_find (λ n. node_at old n.id ≡ Some n) (λ n. is_none n.parent) old.nodes root (each_there (λ n. node_at old n.id ≡ Some n) old.nodes (apart_rising 0 old.nodes rises) (λ n there. there)) root_is
+  root_there =
+      each_find (λ n. node_at old n.id ≡ Some n) (λ n. is_none n.parent) old.nodes root
+      (each_there (λ n. node_at old n.id ≡ Some n) old.nodes (apart_rising 0 old.nodes rises)
+      (λ n there. there)) root_is
 
   pub root_top : root.parent ≡ None
   root_top = on root.parent (find_passes (λ n. is_none n.parent) old.nodes root root_is)
@@ -85,10 +102,22 @@ module _ (which : Which) (old : Content) (rises : is_rising (0 ∷ ids_of old.no
 
   pub sweep_first : Sweep which old root (own_lists which) seen_first (root ∷ [])
   sweep_first = record {
-    known = (record { base = root; there = root_there; is = sym (with_own which root); seen_is = eq-eqb root.id root.id refl }, tt);
+    known = (
+      record {
+        base = root;
+        there = root_there;
+        is = sym (with_own which root);
+        seen_is = eq-eqb root.id root.id refl;
+      },
+      tt,
+    );
     apart = (refl, tt);
-    came = λ n there is. inl (one_object old.nodes n root there root_there (eqb-true n.id root.id is));
-    closed = λ n p there there' folder has is. inl (or_left (root.id == p.id) false (eq-eqb root.id p.id (sym (eqb-true p.id root.id is))));
+    came =
+        λ n there is. inl (one_object old.nodes n root there root_there (eqb-true n.id root.id is));
+    closed =
+        λ n p there there' folder has is.
+        inl (or_left (root.id == p.id) false
+        (eq-eqb root.id p.id (sym (eqb-true p.id root.id is))));
     fresh = λ n there isnt. own_unchanged which n;
     linked = λ n there changed. absurd (false≢true (sym (own_unchanged which n) ∙ changed));
     from_root = eq-eqb root.id root.id refl;
@@ -100,14 +129,23 @@ module _ (which : Which) (old : Content) (rises : is_rising (0 ∷ ids_of old.no
     pub changed_swept : ChangedAgree which old (with_lists which f old)
     changed_swept = changed_agree which 0 old rises f (λ n there changed.
         let link = front.linked n there changed in
-        let met : seen n ≡ true = true_from_ne_false (seen n) (λ isnt. false≢true (sym (front.fresh n there isnt) ∙ changed)) in
+        let met : seen n ≡ true = true_from_ne_false (seen n)
+        (λ isnt. false≢true (sym (front.fresh n there isnt) ∙ changed)) in
         elim (front.came n there met) [
-          | inl top ↦ absurd (false≢true (sym (ap (is_linked_in old which) top ∙ ap (λ (p : Option ℕ). is_linked (held_of which root) (option_map (held_of which) (option_and_then (node_at old) p))) root_top ∙ none_above (held_of which root)) ∙ link))
+          | inl top ↦
+              absurd
+              (false≢true
+              (sym (ap (is_linked_in old which) top
+              ∙ ap (λ (p : Option ℕ). is_linked (held_of which root)
+              (option_map (held_of which) (option_and_then (node_at old) p))) root_top
+              ∙ none_above (held_of which root)) ∙ link))
           | inr c ↦ (
             c.parent,
             c.there,
             c.has,
-            c.agrees (sym (ap (λ o. is_linked (held_of which n) (option_map (held_of which) o)) (parent_found old c.parent n c.there c.has)) ∙ link),
+            c.agrees
+                (sym (ap (λ o. is_linked (held_of which n) (option_map (held_of which) o))
+                (parent_found old c.parent n c.there c.has)) ∙ link),
           )
         ])
       where
@@ -118,24 +156,39 @@ module _ (which : Which) (old : Content) (rises : is_rising (0 ∷ ids_of old.no
         true_from_ne_false true isnt = refl
         true_from_ne_false false isnt = absurd (isnt refl)
 
-  module _ (f : Node → List Ace) (seen : Node → Bool) (front : Sweep which old root f seen []) (tree : IsTree old) where
+  module _ (f : Node → List Ace) (seen : Node → Bool) (front : Sweep which old root f seen [])
+      (tree : IsTree old) where
     -- a parent is a folder
-    folder_is : (n p : Node) → node_at old n.id ≡ Some n → node_at old p.id ≡ Some p → has_parent p.id n ≡ true → is_folder p ≡ true
-    folder_is n p there there' has = sym (in_folder_is old n p there' has) ∙ each_found (λ m. has_folder_above old m ≡ true) n.id old.nodes n (each_all (has_folder_above old) old.nodes tree.folders) there
+    folder_is : (n p : Node) → node_at old n.id ≡ Some n → node_at old p.id ≡ Some p
+        → has_parent p.id n ≡ true → is_folder p ≡ true
+    folder_is n p there there' has =
+        sym (in_folder_is old n p there' has)
+        ∙ each_found (λ m. has_folder_above old m ≡ true) n.id old.nodes n
+        (each_all (has_folder_above old) old.nodes tree.folders) there
 
-    seen_up : (k : ℕ) (n : Node) → node_at old n.id ≡ Some n → (o : Option ℕ) → n.parent ≡ o → reaches_root k old o ≡ true → seen n ≡ true
+    seen_up : (k : ℕ) (n : Node) → node_at old n.id ≡ Some n → (o : Option ℕ) → n.parent ≡ o
+        → reaches_root k old o ≡ true → seen n ≡ true
     seen_up k n there None up reaches =
-        ap seen (only_one (λ m. is_none m.parent) old.nodes root n (sym (count_length (λ (m : Node). is_none m.parent) old.nodes) ∙ tree.one_root) root_is there (ap is_none up)) ∙ front.from_root
+        ap seen (only_one (λ m. is_none m.parent) old.nodes root n
+        (sym (count_length (λ (m : Node). is_none m.parent) old.nodes) ∙ tree.one_root) root_is
+        there (ap is_none up)) ∙ front.from_root
     seen_up zero n there (Some p) up reaches = absurd (false≢true reaches)
-    seen_up (suc k) n there (Some p) up reaches = on (node_at old p) refl reaches (λ q t r. seen_up k q t q.parent refl r)
+    seen_up (suc k) n there (Some p) up reaches =
+        on (node_at old p) refl reaches (λ q t r. seen_up k q t q.parent refl r)
       where
-        on : (o : Option Node) → node_at old p ≡ o → option_map_or (λ (q : Node). reaches_root k old q.parent) o false ≡ true → ((q : Node) → node_at old q.id ≡ Some q → reaches_root k old q.parent ≡ true → seen q ≡ true) → seen n ≡ true
+        on : (o : Option Node) → node_at old p ≡ o
+            → option_map_or (λ (q : Node). reaches_root k old q.parent) o false ≡ true
+            → ((q : Node) → node_at old q.id ≡ Some q → reaches_root k old q.parent ≡ true
+            → seen q ≡ true) → seen n ≡ true
         on None found r before = absurd (false≢true r)
         on (Some q) found r before =
             let same : q.id ≡ p = found_id p old.nodes q found in
             let there_q : node_at old q.id ≡ Some q = ap (node_at old) same ∙ found in
-            let has : has_parent q.id n ≡ true = ap (λ x. option_map_or (λ parent. parent == q.id) x false) up ∙ eq-eqb p q.id (sym same) in
-            elim (front.closed n q there there_q (folder_is n q there there_q has) has (before q there_q r)) [
+            let has : has_parent q.id n ≡ true = ap
+            (λ x. option_map_or (λ parent. parent == q.id) x false) up
+            ∙ eq-eqb p q.id (sym same) in
+            elim (front.closed n q there there_q (folder_is n q there there_q has) has
+            (before q there_q r)) [
               | inl waiting ↦ absurd (false≢true waiting)
               | inr met ↦ met.0
             ]
@@ -143,10 +196,16 @@ module _ (which : Which) (old : Content) (rises : is_rising (0 ∷ ids_of old.no
     all_seen : (n : Node) → node_at old n.id ≡ Some n → seen n ≡ true
     all_seen n there =
         seen_up (length old.nodes) n there n.parent refl
-        (each_found (λ m. reaches_root (length old.nodes) old m.parent ≡ true) n.id old.nodes n (each_all (λ m. reaches_root (length old.nodes) old m.parent) old.nodes tree.connected) there)
+        (each_found (λ m. reaches_root (length old.nodes) old m.parent ≡ true) n.id old.nodes n
+        (each_all (λ m. reaches_root (length old.nodes) old m.parent) old.nodes tree.connected)
+        there)
 
     pub law_swept : AllAgree (with_lists which f old) which
-    law_swept = law_in_folders (with_lists which f old) which (folders_stay which f old tree.folders) (law_at_end which 0 old rises f (λ n p there there' folder has link. elim (front.closed n p there there' folder has (all_seen p there')) [
-      | inl waiting ↦ absurd (false≢true waiting)
-      | inr met ↦ inr (met.1 link)
-    ]))
+    law_swept =
+        law_in_folders (with_lists which f old) which (folders_stay which f old tree.folders)
+        (law_at_end which 0 old rises f
+        (λ n p there there' folder has link. elim
+        (front.closed n p there there' folder has (all_seen p there')) [
+          | inl waiting ↦ absurd (false≢true waiting)
+          | inr met ↦ inr (met.1 link)
+        ]))

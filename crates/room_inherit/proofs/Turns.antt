@@ -22,23 +22,36 @@ pub record Progress (d : Descent) (start : Node) : Type 1 where
   pub Done : Rows → Rows → ℕ → Type 0
   pub After : ℕ → List Node → ℕ → Rows → Rows → Type 0
   pub first : (old : Rows) → AreRows old → Given old → After 0 (start ∷ []) 0 old old
-  pub on : (turns : ℕ) (rest : List Node) (w : Node) (changed number : ℕ) (next : List Node) (old now new : Rows) → AreRows old → After turns (rest ++ w ∷ []) changed old now → IsVisit d w rest next now number new → After (turns + 1) next (changed + number) old new
-  pub few : (turns : ℕ) (waiting : List Node) (changed : ℕ) (old now : Rows) → After turns waiting changed old now → changed ≤ length (numbers_of old)
-  pub ends : (turns : ℕ) (waiting : List Node) (changed : ℕ) (old now : Rows) → length (numbers_of old) ≤ turns → After turns waiting changed old now → length waiting ≡ 0
-  pub numbers : (turns : ℕ) (waiting : List Node) (changed : ℕ) (old now : Rows) → After turns waiting changed old now → numbers_of now ≡ numbers_of old
-  pub unreadable : (turns : ℕ) (waiting : List Node) (changed at : ℕ) (old now : Rows) → After turns waiting changed old now → IsUnreadable now at → IsUnreadable old at
-  pub loops : (turns : ℕ) (rest : List Node) (w : Node) (changed : ℕ) (old now : Rows) → AreRows old → After turns (rest ++ w ∷ []) changed old now → MeetsAgain d.which d.start w now → Loops old
-  pub done : (turns changed : ℕ) (old now : Rows) → AreRows old → changed < 2 ^ 63 → After turns [] changed old now → Done old now changed
+  pub on : (turns : ℕ) (rest : List Node) (w : Node) (changed number : ℕ) (next : List Node)
+      (old now new : Rows) → AreRows old → After turns (rest ++ w ∷ []) changed old now
+      → IsVisit d w rest next now number new → After (turns + 1) next (changed + number) old new
+  pub few : (turns : ℕ) (waiting : List Node) (changed : ℕ) (old now : Rows)
+      → After turns waiting changed old now → changed ≤ length (numbers_of old)
+  pub ends : (turns : ℕ) (waiting : List Node) (changed : ℕ) (old now : Rows)
+      → length (numbers_of old) ≤ turns → After turns waiting changed old now → length waiting ≡ 0
+  pub numbers : (turns : ℕ) (waiting : List Node) (changed : ℕ) (old now : Rows)
+      → After turns waiting changed old now → numbers_of now ≡ numbers_of old
+  pub unreadable : (turns : ℕ) (waiting : List Node) (changed at : ℕ) (old now : Rows)
+      → After turns waiting changed old now → IsUnreadable now at → IsUnreadable old at
+  pub loops : (turns : ℕ) (rest : List Node) (w : Node) (changed : ℕ) (old now : Rows) → AreRows old
+      → After turns (rest ++ w ∷ []) changed old now → MeetsAgain d.which d.start w now → Loops old
+  pub done : (turns changed : ℕ) (old now : Rows) → AreRows old → changed < 2 ^ 63
+      → After turns [] changed old now → Done old now changed
 
-module _ {S : Type 0} (k : Ghosts S) (laws : KeepLaws k.rows k.failures k.writes k.Follows k.IsTrusted) (d : Descent) (start : Node) (progress : Progress d start) where
+module _ {S : Type 0} (k : Ghosts S)
+    (laws : KeepLaws k.rows k.failures k.writes k.Follows k.IsTrusted) (d : Descent) (start : Node)
+    (progress : Progress d start) where
   abbrev pub Carried : S → S → Result Spread SpreadFault → Type 0
-  Carried a b result = CarriesIf k a b progress.Given (λ (spread : Spread). spread.changed) result progress.Loops (λ first spread last. progress.Done first last spread.changed)
+  Carried a b result =
+      CarriesIf k a b progress.Given (λ (spread : Spread). spread.changed) result progress.Loops
+      (λ first spread last. progress.Done first last spread.changed)
 
   -- n turns are done
   pub record Turned (turns : ℕ) (waiting : List Node) (changed : ℕ) (a b : S) : Type 0 where
     pub follows : k.Follows a b
     pub written : k.writes b ≡ capped (k.writes a + changed)
-    pub along : k.IsTrusted a b → progress.Given (k.rows a) → progress.After turns waiting changed (k.rows a) (k.rows b)
+    pub along : k.IsTrusted a b → progress.Given (k.rows a)
+        → progress.After turns waiting changed (k.rows a) (k.rows b)
 
   begins : (a : S) → Turned 0 (start ∷ []) 0 a a
   begins a = record {
@@ -47,19 +60,30 @@ module _ {S : Type 0} (k : Ghosts S) (laws : KeepLaws k.rows k.failures k.writes
     along = λ t is. progress.first (k.rows a) (laws.are a a t) is;
   }
 
-  pub turned_on : (turns : ℕ) (rest : List Node) (w : Node) (changed number : ℕ) (next : List Node) (a b c : S) → Turned turns (rest ++ w ∷ []) changed a b → Visits k b c d w rest next (Ok number) → Turned (turns + 1) next (changed + number) a c
+  pub turned_on : (turns : ℕ) (rest : List Node) (w : Node) (changed number : ℕ) (next : List Node)
+      (a b c : S) → Turned turns (rest ++ w ∷ []) changed a b
+      → Visits k b c d w rest next (Ok number) → Turned (turns + 1) next (changed + number) a c
   turned_on turns rest w changed number next a b c sofar visit = record {
     follows = laws.on a b c sofar.follows visit.follows;
-    written = visit.written ∙ (λ i. capped (sofar.written i + number)) ∙ capped_add (k.writes a + changed) number ∙ ap capped (omega arith);
+    written =
+        visit.written ∙ (λ i. capped (sofar.written i + number))
+        ∙ capped_add (k.writes a + changed) number ∙ ap capped (omega arith);
     along = λ t is.
         let first = laws.first a b c sofar.follows visit.follows t in
-        progress.on turns rest w changed number next (k.rows a) (k.rows b) (k.rows c) (laws.are a b first) (sofar.along first is) (visit.becomes (laws.last a b c sofar.follows visit.follows t));
+        progress.on turns rest w changed number next (k.rows a) (k.rows b) (k.rows c)
+        (laws.are a b first) (sofar.along first is)
+        (visit.becomes (laws.last a b c sofar.follows visit.follows t));
   }
 
-  pub first_turn : (number : ℕ) (next : List Node) (a b : S) → Visits k a b d start [] next (Ok number) → Turned 1 next number a b
-  first_turn number next a b visit = subst (λ (n : ℕ). Turned 1 next n a b) (omega arith) (turned_on 0 [] start 0 number next a a b (begins a) visit)
+  pub first_turn : (number : ℕ) (next : List Node) (a b : S)
+      → Visits k a b d start [] next (Ok number) → Turned 1 next number a b
+  first_turn number next a b visit =
+      subst (λ (n : ℕ). Turned 1 next n a b) (omega arith)
+      (turned_on 0 [] start 0 number next a a b (begins a) visit)
 
-  pub turn_fails : (turns : ℕ) (rest : List Node) (w : Node) (changed : ℕ) (next : List Node) (e : SpreadFault) (a b c : S) → Turned turns (rest ++ w ∷ []) changed a b → Visits k b c d w rest next (Err e) → Carried a c (Err e)
+  pub turn_fails : (turns : ℕ) (rest : List Node) (w : Node) (changed : ℕ) (next : List Node)
+      (e : SpreadFault) (a b c : S) → Turned turns (rest ++ w ∷ []) changed a b
+      → Visits k b c d w rest next (Err e) → Carried a c (Err e)
   turn_fails turns rest w changed next e a b c sofar visit = record {
     follows = laws.on a b c sofar.follows visit.follows;
     written = tt;
@@ -67,15 +91,26 @@ module _ {S : Type 0} (k : Ghosts S) (laws : KeepLaws k.rows k.failures k.writes
     fault = cause e visit.fault;
   }
     where
-      cause : (e : SpreadFault) → HasSpreadCause (k.failures b) (k.failures c) (λ at. k.IsTrusted b c → IsUnreadable (k.rows b) at) (k.IsTrusted b c → MeetsAgain d.which d.start w (k.rows b)) e
-          → HasSpreadCause (k.failures a) (k.failures c) (λ at. k.IsTrusted a c × progress.Given (k.rows a) → IsUnreadable (k.rows a) at) (k.IsTrusted a c × progress.Given (k.rows a) → progress.Loops (k.rows a)) e
-      cause (Keeper f) h = later_cause (k.failures a) (k.failures b) (k.failures c) f _ _ (laws.rise a b sofar.follows) (laws.rise b c visit.follows)
+      cause : (e : SpreadFault)
+          → HasSpreadCause (k.failures b) (k.failures c)
+          (λ at. k.IsTrusted b c → IsUnreadable (k.rows b) at)
+          (k.IsTrusted b c → MeetsAgain d.which d.start w (k.rows b)) e
+          → HasSpreadCause (k.failures a) (k.failures c)
+          (λ at. k.IsTrusted a c × progress.Given (k.rows a) → IsUnreadable (k.rows a) at)
+          (k.IsTrusted a c × progress.Given (k.rows a) → progress.Loops (k.rows a)) e
+      cause (Keeper f) h =
+          later_cause (k.failures a) (k.failures b) (k.failures c) f _ _
+          (laws.rise a b sofar.follows) (laws.rise b c visit.follows)
           (λ at damaged t.
-          progress.unreadable turns (rest ++ w ∷ []) changed at (k.rows a) (k.rows b) (sofar.along (laws.first a b c sofar.follows visit.follows t.0) t.1) (damaged (laws.last a b c sofar.follows visit.follows t.0)))
+          progress.unreadable turns (rest ++ w ∷ []) changed at (k.rows a) (k.rows b)
+          (sofar.along (laws.first a b c sofar.follows visit.follows t.0) t.1)
+          (damaged (laws.last a b c sofar.follows visit.follows t.0)))
           h
       cause Loop h = λ t.
           let first = laws.first a b c sofar.follows visit.follows t.0 in
-          progress.loops turns rest w changed (k.rows a) (k.rows b) (laws.are a b first) (sofar.along first t.1) (h (laws.last a b c sofar.follows visit.follows t.0))
+          progress.loops turns rest w changed (k.rows a) (k.rows b) (laws.are a b first)
+          (sofar.along first t.1) (h (laws.last a b c sofar.follows visit.follows t.0))
 
-  pub first_turn_fails : (next : List Node) (e : SpreadFault) (a b : S) → Visits k a b d start [] next (Err e) → Carried a b (Err e)
+  pub first_turn_fails : (next : List Node) (e : SpreadFault) (a b : S)
+      → Visits k a b d start [] next (Err e) → Carried a b (Err e)
   first_turn_fails next e a b visit = turn_fails 0 [] start 0 next e a a b (begins a) visit

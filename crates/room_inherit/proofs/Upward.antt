@@ -12,35 +12,59 @@ use Rattle.room_inherit.proofs.Enough.{enough_steps}
 use Rattle.room_inherit.proofs.Given.{numbers_equal}
 
 -- the name of the object, after those of its parent
-pub one_up : (count step : ℕ) (rows : Content) (node parent : Node) (names more : List (List ℕ)) → step < count → Some parent ≡ parent_of rows node → more ≡ names ++ node.name ∷ []
-    → names_up (count - (step + 1)) rows parent ++ reverse more ≡ names_up (count - step) rows node ++ reverse names
+pub one_up : (count step : ℕ) (rows : Content) (node parent : Node) (names more : List (List ℕ))
+    → step < count → Some parent ≡ parent_of rows node → more ≡ names ++ node.name ∷ []
+    → names_up (count - (step + 1)) rows parent ++ reverse more ≡ names_up (count - step) rows node
+    ++ reverse names
 one_up count step rows node parent names more below above pushed =
     let left : suc (count - (step + 1)) ≡ count - step = omega arith in
-    ap (λ l. names_up (count - (step + 1)) rows parent ++ l) (ap reverse pushed ∙ reverse-append names (node.name ∷ []))
-    ∙ sym (append_assoc (names_up (count - (step + 1)) rows parent) (node.name ∷ []) (reverse names))
-    ∙ ap (λ o. option_map_or (λ p. names_up (count - (step + 1)) rows p ++ node.name ∷ []) o [] ++ reverse names) above
+    ap (λ l. names_up (count - (step + 1)) rows parent ++ l)
+    (ap reverse pushed ∙ reverse-append names (node.name ∷ []))
+    ∙ sym (append_assoc (names_up (count - (step + 1)) rows parent) (node.name ∷ [])
+    (reverse names))
+    ∙ ap (λ o. option_map_or (λ p. names_up (count - (step + 1)) rows p ++ node.name ∷ []) o []
+    ++ reverse names) above
     ∙ ap (λ n. names_up n rows node ++ reverse names) left
 
 -- ---- ways to the root
 
-module _ (rows : Content) (above : Option ℕ) (id : ℕ) (parent : Node) (is : above ≡ Some id) (found : node_at rows id ≡ Some parent) where
+module _ (rows : Content) (above : Option ℕ) (id : ℕ) (parent : Node) (is : above ≡ Some id)
+    (found : node_at rows id ≡ Some parent) where
   up_one : (n : ℕ) → reaches_root (suc n) rows above ≡ reaches_root n rows parent.parent
-  up_one n = ap (reaches_root (suc n) rows) is ∙ ap (λ o. option_map_or (λ (q : Node). reaches_root n rows q.parent) o false) found
+  up_one n =
+      ap (reaches_root (suc n) rows) is
+      ∙ ap (λ o. option_map_or (λ (q : Node). reaches_root n rows q.parent) o false) found
 
-  pub way_left : (count step : ℕ) → step < count → reaches_root (count - (step + 1)) rows parent.parent ≡ reaches_root (count - step) rows above
-  way_left count step below = sym (up_one (count - (step + 1))) ∙ ap (λ n. reaches_root n rows above) (let e : suc (count - (step + 1)) ≡ count - step = omega (arith, below) in e)
+  pub way_left : (count step : ℕ) → step < count
+      → reaches_root (count - (step + 1)) rows parent.parent
+      ≡ reaches_root (count - step) rows above
+  way_left count step below =
+      sym (up_one (count - (step + 1)))
+      ∙ ap (λ n. reaches_root n rows above)
+      (let e : suc (count - (step + 1)) ≡ count - step = omega (arith, below) in e)
 
-  pub way_longer : (m step : ℕ) (first : Option ℕ) → ((n : ℕ) → reaches_root n rows above ≡ true → reaches_root (n + step) rows first ≡ true) → reaches_root m rows parent.parent ≡ true → reaches_root (m + (step + 1)) rows first ≡ true
-  way_longer m step first further up = subst (λ n. reaches_root n rows first ≡ true) (omega arith) (further (suc m) (up_one m ∙ up))
+  pub way_longer : (m step : ℕ) (first : Option ℕ)
+      → ((n : ℕ) → reaches_root n rows above ≡ true → reaches_root (n + step) rows first ≡ true)
+      → reaches_root m rows parent.parent ≡ true → reaches_root (m + (step + 1)) rows first ≡ true
+  way_longer m step first further up =
+      subst (λ n. reaches_root n rows first ≡ true) (omega arith) (further (suc m) (up_one m ∙ up))
 
   -- what is above leads to the root as well
-  pub way_above : (count step : ℕ) → step < count → count ≡ length rows.nodes → reaches_root count rows above ≡ true → reaches_root (length rows.nodes) rows parent.parent ≡ true
+  pub way_above : (count step : ℕ) → step < count → count ≡ length rows.nodes
+      → reaches_root count rows above ≡ true
+      → reaches_root (length rows.nodes) rows parent.parent ≡ true
   way_above count step below all up =
-      enough_steps rows (count - 1) parent.parent (sym (up_one (count - 1)) ∙ ap (λ n. reaches_root n rows above) (let e : suc (count - 1) ≡ count = omega (arith, below) in e) ∙ up)
+      enough_steps rows (count - 1) parent.parent
+      (sym (up_one (count - 1))
+      ∙ ap (λ n. reaches_root n rows above)
+      (let e : suc (count - 1) ≡ count = omega (arith, below) in e) ∙ up)
 
 -- one more number that leads to the root
-pub leads_too : (nodes : List Node) (id : ℕ) (old new : ℕ → Bool) → AllLead nodes old → leads nodes id ≡ true → ((q : ℕ) → new q ≡ cond (is_eq (nat_cmp id q)) true (old q)) → AllLead nodes new
-leads_too nodes id old new lead here adds q has = on (id == q) refl (sym (adds q ∙ ap (λ t. cond t true (old q)) (numbers_equal id q)) ∙ has)
+pub leads_too : (nodes : List Node) (id : ℕ) (old new : ℕ → Bool) → AllLead nodes old
+    → leads nodes id ≡ true → ((q : ℕ) → new q ≡ cond (is_eq (nat_cmp id q)) true (old q))
+    → AllLead nodes new
+leads_too nodes id old new lead here adds q has =
+    on (id == q) refl (sym (adds q ∙ ap (λ t. cond t true (old q)) (numbers_equal id q)) ∙ has)
   where
     on : (t : Bool) → (id == q) ≡ t → cond t true (old q) ≡ true → leads nodes q ≡ true
     on true same has = ap (leads nodes) (sym (eqb-true id q same)) ∙ here

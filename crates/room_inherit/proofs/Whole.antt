@@ -25,76 +25,107 @@ or_group : (a b c : Bool) → (a || (b || c)) ≡ ((a || b) || c)
 or_group true b c = refl
 or_group false b c = refl
 
-among_one_more : (new : ℕ) (ids : List ℕ) (id : ℕ) → is_among (put_number new ids) id ≡ ((new == id) || is_among ids id)
+among_one_more : (new : ℕ) (ids : List ℕ) (id : ℕ)
+    → is_among (put_number new ids) id ≡ ((new == id) || is_among ids id)
 among_one_more new [] id = refl
 among_one_more new (x ∷ xs) id = on (nat_lt x new) (among_one_more new xs id)
   where
-    on : (t : Bool) → is_among (put_number new xs) id ≡ ((new == id) || is_among xs id) → is_among (cond t (x ∷ put_number new xs) (new ∷ x ∷ xs)) id ≡ ((new == id) || ((x == id) || is_among xs id))
+    on : (t : Bool) → is_among (put_number new xs) id ≡ ((new == id) || is_among xs id)
+        → is_among (cond t (x ∷ put_number new xs) (new ∷ x ∷ xs)) id
+        ≡ ((new == id) || ((x == id) || is_among xs id))
     on true rest = ap (λ t. (x == id) || t) rest ∙ or_swap (x == id) (new == id) (is_among xs id)
     on false rest = refl
 
-among_numbers : (more ids : List ℕ) (id : ℕ) → is_among (put_numbers more ids) id ≡ (is_among more id || is_among ids id)
+among_numbers : (more ids : List ℕ) (id : ℕ)
+    → is_among (put_numbers more ids) id ≡ (is_among more id || is_among ids id)
 among_numbers [] ids id = refl
-among_numbers (x ∷ xs) ids id = among_one_more x (put_numbers xs ids) id ∙ ap (λ t. (x == id) || t) (among_numbers xs ids id) ∙ or_group (x == id) (is_among xs id) (is_among ids id)
+among_numbers (x ∷ xs) ids id =
+    among_one_more x (put_numbers xs ids) id ∙ ap (λ t. (x == id) || t) (among_numbers xs ids id)
+    ∙ or_group (x == id) (is_among xs id) (is_among ids id)
 
 -- a number is one of the objects' numbers exactly if an object is found by it
-pub among_found : (nodes : List Node) (id : ℕ) → is_among (ids_of nodes) id ≡ is_some (find (λ (n : Node). n.id == id) nodes)
+pub among_found : (nodes : List Node) (id : ℕ)
+    → is_among (ids_of nodes) id ≡ is_some (find (λ (n : Node). n.id == id) nodes)
 among_found [] id = refl
 among_found (x ∷ xs) id = on (x.id == id) (among_found xs id)
   where
-    on : (t : Bool) → is_among (ids_of xs) id ≡ is_some (find (λ (n : Node). n.id == id) xs) → (t || is_among (ids_of xs) id) ≡ is_some (cond t (Some x) (find (λ (n : Node). n.id == id) xs))
+    on : (t : Bool) → is_among (ids_of xs) id ≡ is_some (find (λ (n : Node). n.id == id) xs)
+        → (t || is_among (ids_of xs) id)
+        ≡ is_some (cond t (Some x) (find (λ (n : Node). n.id == id) xs))
     on true rest = refl
     on false rest = rest
 
 -- a number that is listed is in use
-pub not_free : (rows : Rows) (ids : List ℕ) (i : ℕ) (at : ℕ) → ids ≡ numbers_of rows → i < length ids → IsUnused (get_or ids i 0) rows at → ⊥
+pub not_free : (rows : Rows) (ids : List ℕ) (i : ℕ) (at : ℕ) → ids ≡ numbers_of rows
+    → i < length ids → IsUnused (get_or ids i 0) rows at → ⊥
 not_free rows ids i at are below free =
     let id = get_or ids i 0 in
-    let listed : is_among ids id ≡ true = or_at (λ l. is_among l id) (λ other. other == id) refl (λ _ _. refl) ids i 0 below (eq-eqb id id refl) in
+    let listed : is_among ids id ≡ true = or_at (λ l. is_among l id) (λ other. other == id) refl
+    (λ _ _. refl) ids i 0 below (eq-eqb id id refl) in
     let nowhere : is_among (numbers_of rows) id ≡ false =
-    among_numbers rows.unreadable (ids_of rows.read.nodes) id ∙ or_from _ _ free.1 (among_found rows.read.nodes id ∙ ap is_some free.0) in
+    among_numbers rows.unreadable (ids_of rows.read.nodes) id
+    ∙ or_from _ _ free.1 (among_found rows.read.nodes id ∙ ap is_some free.0) in
     false≢true (sym nowhere ∙ ap (λ l. is_among l id) (sym are) ∙ listed)
 
 -- ---- no row is bad
 
-any_at : (test : ℕ → Bool) (ids : List ℕ) (id : ℕ) → is_among ids id ≡ true → test id ≡ true → list_any test ids ≡ true
+any_at : (test : ℕ → Bool) (ids : List ℕ) (id : ℕ) → is_among ids id ≡ true → test id ≡ true
+    → list_any test ids ≡ true
 any_at test [] id among passes = among
 any_at test (x ∷ xs) id among passes =
     elim (cases_Bool (x == id)) [
       | inl same ↦ or_left _ _ (ap test (eqb-true x id same) ∙ passes)
-      | inr other ↦ or_right _ _ (any_at test xs id (ap (λ t. t || is_among xs id) (sym other) ∙ among) passes)
+      | inr other ↦
+          or_right _ _
+          (any_at test xs id (ap (λ t. t || is_among xs id) (sym other) ∙ among) passes)
     ]
 
 none_found : (test : ℕ → Bool) (ids : List ℕ) → find test ids ≡ None → list_any test ids ≡ false
 none_found test [] none = refl
 none_found test (x ∷ xs) none = on (test x) (none_found test xs) none
   where
-    on : (t : Bool) → (find test xs ≡ None → list_any test xs ≡ false) → cond t (Some x) (find test xs) ≡ None → (t || list_any test xs) ≡ false
+    on : (t : Bool) → (find test xs ≡ None → list_any test xs ≡ false)
+        → cond t (Some x) (find test xs) ≡ None → (t || list_any test xs) ≡ false
     on true rest none = absurd (let wrong : ⊥ = cc in wrong)
     on false rest none = rest none
 
-all_read : (rows : Rows) (unreadable : List ℕ) → rows.unreadable ≡ unreadable → first_bad_list rows ≡ None → unreadable ≡ []
+all_read : (rows : Rows) (unreadable : List ℕ) → rows.unreadable ≡ unreadable
+    → first_bad_list rows ≡ None → unreadable ≡ []
 all_read rows [] are none = refl
 all_read rows (x ∷ xs) are none =
-    let itself : is_among rows.unreadable x ≡ true = ap (λ l. is_among l x) are ∙ or_left _ _ (eq-eqb x x refl) in
-    let listed : is_among (numbers_of rows) x ≡ true = among_numbers rows.unreadable (ids_of rows.read.nodes) x ∙ or_left _ _ itself in
+    let itself : is_among rows.unreadable x ≡ true = ap (λ l. is_among l x) are
+    ∙ or_left _ _ (eq-eqb x x refl) in
+    let listed : is_among (numbers_of rows) x ≡ true = among_numbers rows.unreadable
+    (ids_of rows.read.nodes) x ∙ or_left _ _ itself in
     let bad : has_bad_list rows x ≡ true = or_left (is_unreadable rows x) _ itself in
-    absurd (false≢true (sym (none_found (has_bad_list rows) (numbers_of rows) none) ∙ any_at (has_bad_list rows) (numbers_of rows) x listed bad))
+    absurd
+    (false≢true (sym (none_found (has_bad_list rows) (numbers_of rows) none)
+    ∙ any_at (has_bad_list rows) (numbers_of rows) x listed bad))
 
 -- where no number in use is bad, each row can be read
 pub none_unreadable : (rows : Rows) → first_bad_list rows ≡ None → rows.unreadable ≡ []
 none_unreadable rows none = all_read rows rows.unreadable refl none
 
 -- the row of an object that is found is none
-pub not_bad : (rows : Rows) → first_bad_list rows ≡ None → (id : ℕ) (node : Node) → node_at rows.read id ≡ Some node → has_bad_list rows id ≡ false
+pub not_bad : (rows : Rows) → first_bad_list rows ≡ None → (id : ℕ) (node : Node)
+    → node_at rows.read id ≡ Some node → has_bad_list rows id ≡ false
 not_bad rows none id node found =
-    let listed : is_among (numbers_of rows) id ≡ true = among_numbers rows.unreadable (ids_of rows.read.nodes) id ∙ or_right (is_among rows.unreadable id) _ (among_found rows.read.nodes id ∙ ap is_some found) in
-    false_from_ne_true (has_bad_list rows id) (λ bad. false≢true (sym (none_found (has_bad_list rows) (numbers_of rows) none) ∙ any_at (has_bad_list rows) (numbers_of rows) id listed bad))
+    let listed : is_among (numbers_of rows) id ≡ true = among_numbers rows.unreadable
+    (ids_of rows.read.nodes) id
+    ∙ or_right (is_among rows.unreadable id) _
+    (among_found rows.read.nodes id ∙ ap is_some found) in
+    false_from_ne_true (has_bad_list rows id)
+    (λ bad. false≢true (sym (none_found (has_bad_list rows) (numbers_of rows) none)
+    ∙ any_at (has_bad_list rows) (numbers_of rows) id listed bad))
 
 -- the objects of all numbers are all objects
-pub whole : (rows : Rows) → AreRows rows → first_bad_list rows ≡ None → (nodes : List Node) (ids : List ℕ) → ids ≡ numbers_of rows → nodes ≡ filter_map (node_at rows.read) ids → nodes ≡ rows.read.nodes
+pub whole : (rows : Rows) → AreRows rows → first_bad_list rows ≡ None
+    → (nodes : List Node) (ids : List ℕ) → ids ≡ numbers_of rows
+    → nodes ≡ filter_map (node_at rows.read) ids → nodes ≡ rows.read.nodes
 whole rows are none nodes ids listed found =
-    found ∙ ap (filter_map (node_at rows.read)) (listed ∙ ap (λ l. put_numbers l (ids_of rows.read.nodes)) (none_unreadable rows none)) ∙ each_found 0 rows.read.nodes are.numbers
+    found ∙ ap (filter_map (node_at rows.read))
+    (listed ∙ ap (λ l. put_numbers l (ids_of rows.read.nodes)) (none_unreadable rows none))
+    ∙ each_found 0 rows.read.nodes are.numbers
 
 -- ---- one number after the other
 
@@ -103,23 +134,31 @@ module _ (rows : Rows) (ids : List ℕ) (i : ℕ) (below : i < length ids) where
   next_id = drop_more ids i 0 below
 
   -- a bad number at i is the first bad one from there on
-  pub bad_here : has_bad_list rows (get_or ids i 0) ≡ true → find (has_bad_list rows) (drop i ids) ≡ Some (get_or ids i 0)
+  pub bad_here : has_bad_list rows (get_or ids i 0) ≡ true
+      → find (has_bad_list rows) (drop i ids) ≡ Some (get_or ids i 0)
   bad_here bad = ap (find (has_bad_list rows)) next_id ∙ cond-true _ _ _ bad
 
   -- the first that is bad
-  pub bad_at : (at : ℕ) → ids ≡ numbers_of rows → find (has_bad_list rows) (drop i ids) ≡ find (has_bad_list rows) ids → IsBadAt (get_or ids i 0) rows at → first_bad_list rows ≡ Some at
-  bad_at at are same (is, inl bad) = ap (find (has_bad_list rows)) (sym are) ∙ sym same ∙ bad_here bad ∙ ap Some (sym is)
+  pub bad_at : (at : ℕ) → ids ≡ numbers_of rows
+      → find (has_bad_list rows) (drop i ids) ≡ find (has_bad_list rows) ids
+      → IsBadAt (get_or ids i 0) rows at → first_bad_list rows ≡ Some at
+  bad_at at are same (is, inl bad) =
+      ap (find (has_bad_list rows)) (sym are) ∙ sym same ∙ bad_here bad ∙ ap Some (sym is)
   bad_at at are same (is, inr free) = absurd (not_free rows ids i (get_or ids i 0) are below free)
 
   -- where the number at i is not bad, the first bad one from there on comes after it
-  pub sound_here : has_bad_list rows (get_or ids i 0) ≡ false → find (has_bad_list rows) (drop (i + 1) ids) ≡ find (has_bad_list rows) (drop i ids)
+  pub sound_here : has_bad_list rows (get_or ids i 0) ≡ false
+      → find (has_bad_list rows) (drop (i + 1) ids) ≡ find (has_bad_list rows) (drop i ids)
   sound_here sound = sym (ap (find (has_bad_list rows)) next_id ∙ cond-false _ _ _ sound)
 
   -- with the object of the number at i pushed, those read and those still to be read are the same
-  pub one_more_node : (nodes more : List Node) (node : Node) → node_at rows.read (get_or ids i 0) ≡ Some node → more ≡ nodes ++ node ∷ []
-      → more ++ filter_map (node_at rows.read) (drop (i + 1) ids) ≡ nodes ++ filter_map (node_at rows.read) (drop i ids)
+  pub one_more_node : (nodes more : List Node) (node : Node)
+      → node_at rows.read (get_or ids i 0) ≡ Some node → more ≡ nodes ++ node ∷ []
+      → more ++ filter_map (node_at rows.read) (drop (i + 1) ids) ≡ nodes
+      ++ filter_map (node_at rows.read) (drop i ids)
   one_more_node nodes more node there pushed =
       ap (λ l. l ++ filter_map (node_at rows.read) (drop (i + 1) ids)) pushed
       ∙ append_assoc nodes (node ∷ []) (filter_map (node_at rows.read) (drop (i + 1) ids))
-      ∙ ap (λ o. nodes ++ cons_option o (filter_map (node_at rows.read) (drop (i + 1) ids))) (sym there)
+      ∙ ap (λ o. nodes ++ cons_option o (filter_map (node_at rows.read) (drop (i + 1) ids)))
+      (sym there)
       ∙ ap (λ l. nodes ++ filter_map (node_at rows.read) l) (sym next_id)

@@ -34,16 +34,25 @@ use Rattle.room_judge.proofs.Spots.{below_of, missing, last_look, stem, way_alon
 
 module _ (asker : Asker) (path : List (List ℕ)) (from : Found) where
   -- a folder that is refused, as a document or without EXECUTE, bars the spot with that reply
-  pub spot_barred : (old new : Rows) (reply : Reply) → IsJudged asker (through (found_site path from)) old (Some reply) new → SpotsUnder asker path from old (Barred reply) new
+  pub spot_barred : (old new : Rows) (reply : Reply)
+      → IsJudged asker (through (found_site path from)) old (Some reply) new
+      → SpotsUnder asker path from old (Barred reply) new
   spot_barred old new reply judged = record { judged = judged; folder = tt; child = tt }
 
   -- where the folder is passed, the spot is the folder with what has the next name in it
-  pub spot_found : (old mid new : Rows) (spot : Spot) → IsJudged asker (through (found_site path from)) old None mid → IsSpotIn path from mid spot → new ≡ mid → SpotsUnder asker path from old spot new
-  spot_found old mid new spot judged is same = subst (λ (s : Spot). SpotsUnder asker path from old s new) (sym is) (record {
-    judged = subst (λ (r : Rows). IsJudged asker (through (found_site path from)) old None r) (sym same) judged;
-    folder = refl;
-    child = ap (λ (r : Rows). child_of r.read from.node.id (name_after path from.depth)) judged.notes;
-  })
+  pub spot_found : (old mid new : Rows) (spot : Spot)
+      → IsJudged asker (through (found_site path from)) old None mid → IsSpotIn path from mid spot
+      → new ≡ mid → SpotsUnder asker path from old spot new
+  spot_found old mid new spot judged is same =
+      subst (λ (s : Spot). SpotsUnder asker path from old s new) (sym is) (record {
+        judged =
+            subst (λ (r : Rows). IsJudged asker (through (found_site path from)) old None r)
+            (sym same) judged;
+        folder = refl;
+        child =
+            ap (λ (r : Rows). child_of r.read from.node.id (name_after path from.depth))
+            judged.notes;
+      })
 
 -- ---- a last refusal that can't hold
 
@@ -56,14 +65,27 @@ or_none None = refl
 or_none (Some reply) = refl
 
 module _ (asker : Asker) (items : List Item) (at : List (List ℕ)) (why : Reason) where
-  same_failure : first_failure asker.caller (items ++ Refusal at why false ∷ []) ≡ first_failure asker.caller items
-  same_failure = failure_of_parts asker.caller asker.at items (Refusal at why false ∷ []) ∙ or_none (first_failure asker.caller items)
+  same_failure : first_failure asker.caller (items ++ Refusal at why false ∷ [])
+      ≡ first_failure asker.caller items
+  same_failure =
+      failure_of_parts asker.caller asker.at items (Refusal at why false ∷ [])
+      ∙ or_none (first_failure asker.caller items)
 
-  same_records : records_of_plan asker.caller asker.at (items ++ Refusal at why false ∷ []) ≡ records_of_plan asker.caller asker.at items
-  same_records = records_of_parts asker.caller asker.at items (Refusal at why false ∷ []) ∙ ap (λ l. records_of_plan asker.caller asker.at items ++ l) (nothing (is_none (first_failure asker.caller items))) ∙ append-nil _
+  same_records : records_of_plan asker.caller asker.at (items ++ Refusal at why false ∷ [])
+      ≡ records_of_plan asker.caller asker.at items
+  same_records =
+      records_of_parts asker.caller asker.at items (Refusal at why false ∷ [])
+      ∙ ap (λ l. records_of_plan asker.caller asker.at items ++ l)
+      (nothing (is_none (first_failure asker.caller items))) ∙ append-nil _
 
-  without_last : (old new : Rows) (answer : Option Reply) → IsJudged asker (items ++ Refusal at why false ∷ []) old answer new → IsJudged asker items old answer new
-  without_last old new answer judged = record { answers = judged.answers ∙ same_failure; notes = judged.notes ∙ ap (noted old) same_records }
+  without_last : (old new : Rows) (answer : Option Reply)
+      → IsJudged asker (items ++ Refusal at why false ∷ []) old answer new
+      → IsJudged asker items old answer new
+  without_last old new answer judged =
+      record {
+        answers = judged.answers ∙ same_failure;
+        notes = judged.notes ∙ ap (noted old) same_records;
+      }
 
 -- ---- the whole way
 
@@ -73,25 +95,36 @@ and_false false = refl
 
 module _ (asker : Asker) (path : List (List ℕ)) (some : 0 < length path) where
   -- the way without its last check
-  way_to_front : (old : Rows) → to_stored old.read (front path) (λ _. []) ≡ way false (stored_along old.read (front path)) (front path)
-  way_to_front old = ap (λ items. way false (stored_along old.read (front path)) (front path) ++ items) (none_there (site_at (stored_along old.read (front path)) (front path))) ∙ append-nil _
+  way_to_front : (old : Rows)
+      → to_stored old.read (front path) (λ _. [])
+      ≡ way false (stored_along old.read (front path)) (front path)
+  way_to_front old =
+      ap (λ items. way false (stored_along old.read (front path)) (front path) ++ items)
+      (none_there (site_at (stored_along old.read (front path)) (front path))) ∙ append-nil _
     where
       none_there : (o : Option Site) → where_found o (λ _. []) ≡ []
       none_there None = refl
       none_there (Some site) = refl
 
   -- a walk that ended before it came to the folder bars the spot with its reply
-  pub spot_ends : (old new : Rows) (reply : Reply) → IsReached asker (front path) (λ _. []) old (Ended reply) new → IsSpotted asker path old (Barred reply) new
+  pub spot_ends : (old new : Rows) (reply : Reply)
+      → IsReached asker (front path) (λ _. []) old (Ended reply) new
+      → IsSpotted asker path old (Barred reply) new
   spot_ends old new reply reached = record {
-    judged = subst (λ items. IsJudged asker items old (Some reply) new) (sym (way_along old.read true path some))
+    judged =
+        subst (λ items. IsJudged asker items old (Some reply) new)
+        (sym (way_along old.read true path some))
         (fails_first asker (stem old.read path) (last_look old.read true path) old new reply
-        (fails_first asker (way false (stored_along old.read (front path)) (front path)) (where_found (folder_along old.read path) through) old new reply
-        (subst (λ items. IsJudged asker items old (Some reply) new) (way_to_front old) reached.judged)));
+        (fails_first asker (way false (stored_along old.read (front path)) (front path))
+        (where_found (folder_along old.read path) through) old new reply
+        (subst (λ items. IsJudged asker items old (Some reply) new)
+        (way_to_front old) reached.judged)));
     folder = tt;
     child = tt;
   }
 
-  module _ (node : Node) (depth : ℕ) (deep : length path ≡ depth + 1) (old mid : Rows) (reached : IsReached asker (front path) (λ _. []) old (At node) mid) where
+  module _ (node : Node) (depth : ℕ) (deep : length path ≡ depth + 1) (old mid : Rows)
+      (reached : IsReached asker (front path) (λ _. []) old (At node) mid) where
     abbrev from : Found
     from = record { node = node; depth = depth }
 
@@ -101,47 +134,94 @@ module _ (asker : Asker) (path : List (List ℕ)) (some : 0 < length path) where
     at_folder : folder_along old.read path ≡ Some (found_site path from)
     at_folder = reached.found ∙ ap (λ (s : Site). Some s) (sym site_is)
 
-    stem_is : stem old.read path ≡ way false (stored_along old.read (front path)) (front path) ++ through (found_site path from)
-    stem_is = ap (λ o. way false (stored_along old.read (front path)) (front path) ++ where_found o through) at_folder
+    stem_is : stem old.read path ≡ way false (stored_along old.read (front path)) (front path)
+        ++ through (found_site path from)
+    stem_is =
+        ap (λ o. way false (stored_along old.read (front path)) (front path)
+        ++ where_found o through) at_folder
 
-    stem_judged : (new : Rows) (answer : Option Reply) → IsJudged asker (through (found_site path from)) mid answer new → IsJudged asker (stem old.read path) old answer new
-    stem_judged new answer judged = subst (λ items. IsJudged asker items old answer new) (sym stem_is)
-        (passes_first asker (way false (stored_along old.read (front path)) (front path)) (through (found_site path from)) old mid new answer (subst (λ items. IsJudged asker items old None mid) (way_to_front old) reached.judged) judged)
+    stem_judged : (new : Rows) (answer : Option Reply)
+        → IsJudged asker (through (found_site path from)) mid answer new
+        → IsJudged asker (stem old.read path) old answer new
+    stem_judged new answer judged =
+        subst (λ items. IsJudged asker items old answer new) (sym stem_is)
+        (passes_first asker (way false (stored_along old.read (front path)) (front path))
+        (through (found_site path from)) old mid new answer
+        (subst (λ items. IsJudged asker items old None mid) (way_to_front old) reached.judged)
+        judged)
 
-    look_is : last_look old.read true path ≡ Refusal ((found_site path from).path ++ last_name path ∷ []) NoSuch false ∷ []
-    look_is = ap (λ o. where_found o (λ site. missing old.read true (last_name path) site ∷ [])) at_folder ∙ ap (λ t. Refusal ((found_site path from).path ++ last_name path ∷ []) NoSuch t ∷ []) (and_false (is_none (child_of old.read node.id (last_name path))))
+    look_is : last_look old.read true path
+        ≡ Refusal ((found_site path from).path ++ last_name path ∷ []) NoSuch false ∷ []
+    look_is =
+        ap (λ o. where_found o (λ site. missing old.read true (last_name path) site ∷ [])) at_folder
+        ∙ ap (λ t. Refusal ((found_site path from).path ++ last_name path ∷ []) NoSuch t ∷ [])
+        (and_false (is_none (child_of old.read node.id (last_name path))))
 
     -- a walk that came to the folder has the spot that is found there, barred or not
-    pub spot_on : (new : Rows) (spot : Spot) → SpotsUnder asker path from mid spot new → IsSpotted asker path old spot new
+    pub spot_on : (new : Rows) (spot : Spot) → SpotsUnder asker path from mid spot new
+        → IsSpotted asker path old spot new
     spot_on new (Barred reply) under = record {
-      judged = subst (λ items. IsJudged asker items old (Some reply) new) (sym (way_along old.read true path some)) (fails_first asker (stem old.read path) (last_look old.read true path) old new reply (stem_judged new (Some reply) under.judged));
+      judged =
+          subst (λ items. IsJudged asker items old (Some reply) new)
+          (sym (way_along old.read true path some))
+          (fails_first asker (stem old.read path) (last_look old.read true path) old new reply
+          (stem_judged new (Some reply) under.judged));
       folder = tt;
       child = tt;
     }
     spot_on new (Under folder child) under = record {
-      judged = subst (λ items. IsJudged asker items old None new) (sym (way_along old.read true path some ∙ ap (λ items. stem old.read path ++ items) look_is))
-          (passes_first asker (stem old.read path) (Refusal ((found_site path from).path ++ last_name path ∷ []) NoSuch false ∷ []) old new new None (stem_judged new None under.judged)
-          (passes_on asker ((found_site path from).path ++ last_name path ∷ []) NoSuch false [] new new None refl (judged_none asker new new refl)));
-      folder = folder_found old.read path some ∙ at_folder ∙ ap (λ (f : Found). Some (found_site path f)) (sym under.folder);
-      child = target_found old.read path some ∙ reached_child ∙ ap (option_map (stored_site path)) (sym child_is);
+      judged =
+          subst (λ items. IsJudged asker items old None new)
+          (sym (way_along old.read true path some
+          ∙ ap (λ items. stem old.read path ++ items) look_is))
+          (passes_first asker (stem old.read path)
+          (Refusal ((found_site path from).path ++ last_name path ∷ []) NoSuch false ∷ []) old new
+          new None (stem_judged new None under.judged)
+          (passes_on asker ((found_site path from).path ++ last_name path ∷ []) NoSuch false
+          [] new new None refl (judged_none asker new new refl)));
+      folder =
+          folder_found old.read path some ∙ at_folder
+          ∙ ap (λ (f : Found). Some (found_site path f)) (sym under.folder);
+      child =
+          target_found old.read path some ∙ reached_child
+          ∙ ap (option_map (stored_site path)) (sym child_is);
     }
       where
         child_is : child ≡ child_of old.read node.id (last_name path)
-        child_is = under.child ∙ ap (λ (r : Rows). child_of r.read node.id (name_after path depth)) reached.judged.notes ∙ ap (child_of old.read node.id) (name_is_last path depth deep)
+        child_is =
+            under.child ∙ ap (λ (r : Rows). child_of r.read node.id (name_after path depth))
+            reached.judged.notes ∙ ap (child_of old.read node.id) (name_is_last path depth deep)
 
-        reached_child : option_and_then (below_of old.read (last_name path)) (folder_along old.read path) ≡ option_map (stored_site path) (child_of old.read node.id (last_name path))
-        reached_child = ap (option_and_then (below_of old.read (last_name path))) reached.found ∙ ap (λ p. option_map (stored_site p) (child_of old.read node.id (last_name path))) (path_parts path some)
+        reached_child : option_and_then (below_of old.read (last_name path))
+            (folder_along old.read path)
+            ≡ option_map (stored_site path) (child_of old.read node.id (last_name path))
+        reached_child =
+            ap (option_and_then (below_of old.read (last_name path))) reached.found
+            ∙ ap (λ p. option_map (stored_site p) (child_of old.read node.id (last_name path)))
+            (path_parts path some)
 
   -- ---- an object that has to be there
 
   -- whether the object may be absent is judged last
-  module _ (old new : Rows) (answer : Option Reply) (judged : IsJudged asker (way true (stored_along old.read path) path) old answer new) where
-    on_stem : (o : Option Site) → folder_along old.read path ≡ o → IsJudged asker (stem old.read path) old answer new
-    on_stem None is = subst (λ items. IsJudged asker items old answer new) (way_along old.read true path some ∙ ap (λ o. stem old.read path ++ where_found o (λ site. missing old.read true (last_name path) site ∷ [])) is ∙ append-nil (stem old.read path)) judged
-    on_stem (Some site) is = without_last asker (stem old.read path) (site.path ++ last_name path ∷ []) NoSuch old new answer
+  module _ (old new : Rows) (answer : Option Reply)
+      (judged : IsJudged asker (way true (stored_along old.read path) path) old answer new) where
+    on_stem : (o : Option Site) → folder_along old.read path ≡ o
+        → IsJudged asker (stem old.read path) old answer new
+    on_stem None is =
+        subst (λ items. IsJudged asker items old answer new)
+        (way_along old.read true path some
+        ∙ ap (λ o. stem old.read path ++ where_found o
+        (λ site. missing old.read true (last_name path) site ∷ [])) is
+        ∙ append-nil (stem old.read path)) judged
+    on_stem (Some site) is =
+        without_last asker (stem old.read path)
+        (site.path ++ last_name path ∷ []) NoSuch old new answer
         (subst (λ items. IsJudged asker items old answer new)
-        (way_along old.read true path some ∙ ap (λ o. stem old.read path ++ where_found o (λ s. missing old.read true (last_name path) s ∷ [])) is
-        ∙ ap (λ t. stem old.read path ++ Refusal (site.path ++ last_name path ∷ []) NoSuch t ∷ []) (and_false (is_none (child_of old.read site.node.id (last_name path)))))
+        (way_along old.read true path some
+        ∙ ap (λ o. stem old.read path ++ where_found o
+        (λ s. missing old.read true (last_name path) s ∷ [])) is
+        ∙ ap (λ t. stem old.read path ++ Refusal (site.path ++ last_name path ∷ []) NoSuch t ∷ [])
+        (and_false (is_none (child_of old.read site.node.id (last_name path)))))
         judged)
 
     -- where the last name may be absent, only the way to the folder and through it was judged
@@ -149,16 +229,21 @@ module _ (asker : Asker) (path : List (List ℕ)) (some : 0 < length path) where
     stem_of = on_stem (folder_along old.read path) refl
 
   -- where the spot is barred, the walk to the object and its folder halts with the same reply
-  pub pair_barred : (old new : Rows) (reply : Reply) → IsSpotted asker path old (Barred reply) new → IsPaired asker path old (Halted reply) new
+  pub pair_barred : (old new : Rows) (reply : Reply) → IsSpotted asker path old (Barred reply) new
+      → IsPaired asker path old (Halted reply) new
   pair_barred old new reply spotted = record {
-    judged = subst (λ items. IsJudged asker items old (Some reply) new) (sym (way_along old.read false path some))
-        (fails_first asker (stem old.read path) (last_look old.read false path) old new reply (stem_of old new (Some reply) spotted.judged));
+    judged =
+        subst (λ items. IsJudged asker items old (Some reply) new)
+        (sym (way_along old.read false path some))
+        (fails_first asker (stem old.read path) (last_look old.read false path) old new reply
+        (stem_of old new (Some reply) spotted.judged));
     folder = tt;
     target = tt;
     depth = tt;
   }
 
-  module _ (old new : Rows) (folder : Found) (child : Option Node) (spotted : IsSpotted asker path old (Under folder child) new) where
+  module _ (old new : Rows) (folder : Found) (child : Option Node)
+      (spotted : IsSpotted asker path old (Under folder child) new) where
     site : Site
     site = found_site path folder
 
@@ -167,12 +252,18 @@ module _ (asker : Asker) (path : List (List ℕ)) (some : 0 < length path) where
     folder_is = sym (folder_found old.read path some) ∙ spotted.folder
 
     whole : (found_site path folder).path ++ last_name path ∷ [] ≡ path
-    whole = ap (λ (p : List (List ℕ)). p ++ last_name path ∷ []) (folder_path old.read path (found_site path folder) folder_is) ∙ path_parts path some
+    whole =
+        ap (λ (p : List (List ℕ)). p ++ last_name path ∷ [])
+        (folder_path old.read path (found_site path folder) folder_is) ∙ path_parts path some
 
-    missing_is : (o : Option Node) → option_map (stored_site path) (child_of old.read folder.node.id (last_name path)) ≡ option_map (stored_site path) o → is_none (child_of old.read folder.node.id (last_name path)) ≡ is_none o
+    missing_is : (o : Option Node)
+        → option_map (stored_site path) (child_of old.read folder.node.id (last_name path))
+        ≡ option_map (stored_site path) o
+        → is_none (child_of old.read folder.node.id (last_name path)) ≡ is_none o
     missing_is o same = on (child_of old.read folder.node.id (last_name path)) o same
       where
-        on : (a b : Option Node) → option_map (stored_site path) a ≡ option_map (stored_site path) b → is_none a ≡ is_none b
+        on : (a b : Option Node) → option_map (stored_site path) a ≡ option_map (stored_site path) b
+            → is_none a ≡ is_none b
         on None None same = refl
         on None (Some y) same = absurd (let wrong : ⊥ = cc in wrong)
         on (Some x) None same = absurd (let wrong : ⊥ = cc in wrong)
@@ -181,34 +272,53 @@ module _ (asker : Asker) (path : List (List ℕ)) (some : 0 < length path) where
     -- nothing in that folder has the last name exactly if the spot has no child
     pub lacks : is_none (child_of old.read folder.node.id (last_name path)) ≡ is_none child
     lacks = missing_is child
-        (ap (λ p. option_map (stored_site p) (child_of old.read folder.node.id (last_name path))) (sym whole)
-        ∙ ap (option_and_then (below_of old.read (last_name path))) (sym folder_is) ∙ sym (target_found old.read path some) ∙ spotted.child)
+        (ap (λ p. option_map (stored_site p) (child_of old.read folder.node.id (last_name path)))
+        (sym whole)
+        ∙ ap (option_and_then (below_of old.read (last_name path))) (sym folder_is)
+        ∙ sym (target_found old.read path some) ∙ spotted.child)
 
     look_says : last_look old.read false path ≡ Refusal path NoSuch (is_none child && true) ∷ []
-    look_says = ap (λ o. where_found o (λ s. missing old.read false (last_name path) s ∷ [])) folder_is
-        ∙ ap (λ (p : List (List ℕ)). Refusal p NoSuch (is_none (child_of old.read folder.node.id (last_name path)) && true) ∷ []) whole
+    look_says =
+        ap (λ o. where_found o (λ s. missing old.read false (last_name path) s ∷ [])) folder_is
+        ∙ ap (λ (p : List (List ℕ)). Refusal p NoSuch
+        (is_none (child_of old.read folder.node.id (last_name path)) && true) ∷ []) whole
         ∙ ap (λ t. Refusal path NoSuch (t && true) ∷ []) lacks
 
     -- after the spot, to judge whether the last name is there is to have judged the whole way
-    pub way_looks : (answer : Option Reply) → IsJudged asker (Refusal path NoSuch (is_none child && true) ∷ []) new answer new → IsJudged asker (way false (stored_along old.read path) path) old answer new
+    pub way_looks : (answer : Option Reply)
+        → IsJudged asker (Refusal path NoSuch (is_none child && true) ∷ []) new answer new
+        → IsJudged asker (way false (stored_along old.read path) path) old answer new
     way_looks answer judged =
-        subst (λ items. IsJudged asker items old answer new) (sym (way_along old.read false path some ∙ ap (λ items. stem old.read path ++ items) look_says))
-        (passes_first asker (stem old.read path) (Refusal path NoSuch (is_none child && true) ∷ []) old new new answer (stem_of old new None spotted.judged) judged)
+        subst (λ items. IsJudged asker items old answer new)
+        (sym (way_along old.read false path some
+        ∙ ap (λ items. stem old.read path ++ items) look_says))
+        (passes_first asker (stem old.read path)
+        (Refusal path NoSuch (is_none child && true) ∷ []) old new new answer
+        (stem_of old new None spotted.judged) judged)
 
   -- a spot with a child gives the folder and that object, as deep as the path is long
-  pub pair_found : (old new : Rows) (folder : Found) (node : Node) (depth : ℕ) → depth ≡ length path → IsSpotted asker path old (Under folder (Some node)) new → IsPaired asker path old (Both folder (record { node = node; depth = depth })) new
+  pub pair_found : (old new : Rows) (folder : Found) (node : Node) (depth : ℕ) → depth ≡ length path
+      → IsSpotted asker path old (Under folder (Some node)) new
+      → IsPaired asker path old (Both folder (record { node = node; depth = depth })) new
   pair_found old new folder node depth deep spotted = record {
-    judged = way_looks old new folder (Some node) spotted None (passes_on asker path NoSuch false [] new new None refl (judged_none asker new new refl));
+    judged =
+        way_looks old new folder (Some node) spotted None
+        (passes_on asker path NoSuch false [] new new None refl (judged_none asker new new refl));
     folder = spotted.folder;
     target = spotted.child;
     depth = deep;
   }
 
   -- a spot with no child halts the walk with the refusal that nothing is at the path
-  pub pair_missing : (old new : Rows) (folder : Found) (depth : ℕ) (reply : Reply) → depth ≡ length path → reply ≡ Refused (take depth path) NoSuch → IsSpotted asker path old (Under folder None) new → IsPaired asker path old (Halted reply) new
+  pub pair_missing : (old new : Rows) (folder : Found) (depth : ℕ) (reply : Reply)
+      → depth ≡ length path → reply ≡ Refused (take depth path) NoSuch
+      → IsSpotted asker path old (Under folder None) new
+      → IsPaired asker path old (Halted reply) new
   pair_missing old new folder depth reply deep replies spotted = record {
     judged = way_looks old new folder None spotted (Some reply)
-        (refuses asker path NoSuch true [] new new reply (replies ∙ ap (λ (p : List (List ℕ)). Refused p NoSuch) (ap (λ (d : ℕ). take d path) deep ∙ take-length path)) refl refl);
+        (refuses asker path NoSuch true [] new new reply
+        (replies ∙ ap (λ (p : List (List ℕ)). Refused p NoSuch)
+        (ap (λ (d : ℕ). take d path) deep ∙ take-length path)) refl refl);
     folder = tt;
     target = tt;
     depth = tt;
@@ -217,44 +327,78 @@ module _ (asker : Asker) (path : List (List ℕ)) (some : 0 < length path) where
 -- ---- in terms of the calls
 
 -- what has to be there is found, or the walk is refused
-pub paired_as : (asker : Asker) (path : List (List ℕ)) (some : 0 < length path) (old new : Rows) (folder : Found) (child : Option Node) (pair : Pair) → pair ≡ pair_with path folder child → IsSpotted asker path old (Under folder child) new → IsPaired asker path old pair new
-paired_as asker path some old new folder (Some node) pair is spotted = subst (λ (p : Pair). IsPaired asker path old p new) (sym is) (pair_found asker path some old new folder node (length path) refl spotted)
-paired_as asker path some old new folder None pair is spotted = subst (λ (p : Pair). IsPaired asker path old p new) (sym is) (pair_missing asker path some old new folder (length path) (Refused path NoSuch) refl (ap (λ p. Refused p NoSuch) (sym (take-length path))) spotted)
+pub paired_as : (asker : Asker) (path : List (List ℕ)) (some : 0 < length path) (old new : Rows)
+    (folder : Found) (child : Option Node) (pair : Pair) → pair ≡ pair_with path folder child
+    → IsSpotted asker path old (Under folder child) new → IsPaired asker path old pair new
+paired_as asker path some old new folder (Some node) pair is spotted =
+    subst (λ (p : Pair). IsPaired asker path old p new) (sym is)
+    (pair_found asker path some old new folder node (length path) refl spotted)
+paired_as asker path some old new folder None pair is spotted =
+    subst (λ (p : Pair). IsPaired asker path old p new) (sym is)
+    (pair_missing asker path some old new folder (length path) (Refused path NoSuch) refl
+    (ap (λ p. Refused p NoSuch) (sym (take-length path))) spotted)
 
 -- the walk along all names but the last
-pub walked_front : (asker : Asker) (path : List (List ℕ)) (depth : ℕ) (arrival : Arrival) (old new : Rows) → length path ≡ depth + 1 → IsReached asker (take depth path) (λ _. []) old arrival new → IsReached asker (front path) (λ _. []) old arrival new
-walked_front asker path depth arrival old new deep reached = subst (λ (p : List (List ℕ)). IsReached asker p (λ _. []) old arrival new) (take_front path depth deep) reached
+pub walked_front : (asker : Asker) (path : List (List ℕ)) (depth : ℕ) (arrival : Arrival)
+    (old new : Rows) → length path ≡ depth + 1
+    → IsReached asker (take depth path) (λ _. []) old arrival new
+    → IsReached asker (front path) (λ _. []) old arrival new
+walked_front asker path depth arrival old new deep reached =
+    subst (λ (p : List (List ℕ)). IsReached asker p (λ _. []) old arrival new)
+    (take_front path depth deep) reached
 
 -- the same where the names that were walked are cut off a copy of the path
-pub reached_front : (asker : Asker) (path names begin : List (List ℕ)) (arrival place : Arrival) (old new : Rows) → 0 < length path → names ≡ path → begin ≡ take (length names - 1) path → arrival ≡ place
-    → IsReached asker begin (λ _. []) old arrival new → IsReached asker (front path) (λ _. []) old place new
+pub reached_front : (asker : Asker) (path names begin : List (List ℕ)) (arrival place : Arrival)
+    (old new : Rows) → 0 < length path → names ≡ path → begin ≡ take (length names - 1) path
+    → arrival ≡ place
+    → IsReached asker begin (λ _. []) old arrival new
+    → IsReached asker (front path) (λ _. []) old place new
 reached_front asker path names begin arrival place old new some are is comes reached =
     let size : length names ≡ length path = ap (λ (l : List (List ℕ)). length l) are in
     let deep : length path ≡ (length names - 1) + 1 = omega arith in
-    subst (λ (p : List (List ℕ)). IsReached asker p (λ _. []) old place new) (is ∙ take_front path (length names - 1) deep) (subst (λ (a : Arrival). IsReached asker begin (λ _. []) old a new) comes reached)
+    subst (λ (p : List (List ℕ)). IsReached asker p (λ _. []) old place new)
+    (is ∙ take_front path (length names - 1) deep)
+    (subst (λ (a : Arrival). IsReached asker begin (λ _. []) old a new) comes reached)
 
 -- a spot that was reached may be replaced by one that is equal to it
-pub spotted_as : (asker : Asker) (path : List (List ℕ)) (spot other : Spot) (old new : Rows) → spot ≡ other → IsSpotted asker path old spot new → IsSpotted asker path old other new
-spotted_as asker path spot other old new same spotted = subst (λ (s : Spot). IsSpotted asker path old s new) same spotted
+pub spotted_as : (asker : Asker) (path : List (List ℕ)) (spot other : Spot) (old new : Rows)
+    → spot ≡ other → IsSpotted asker path old spot new → IsSpotted asker path old other new
+spotted_as asker path spot other old new same spotted =
+    subst (λ (s : Spot). IsSpotted asker path old s new) same spotted
 
 -- so may, in a spot under a folder, what has the last name there
-pub spotted_child : (asker : Asker) (path : List (List ℕ)) (folder : Found) (child other : Option Node) (old new : Rows) → child ≡ other → IsSpotted asker path old (Under folder child) new → IsSpotted asker path old (Under folder other) new
-spotted_child asker path folder child other old new same spotted = subst (λ (o : Option Node). IsSpotted asker path old (Under folder o) new) same spotted
+pub spotted_child : (asker : Asker) (path : List (List ℕ)) (folder : Found)
+    (child other : Option Node) (old new : Rows) → child ≡ other
+    → IsSpotted asker path old (Under folder child) new
+    → IsSpotted asker path old (Under folder other) new
+spotted_child asker path folder child other old new same spotted =
+    subst (λ (o : Option Node). IsSpotted asker path old (Under folder o) new) same spotted
 
 -- a walk to the folder, and what follows it
-pub spot_follows : (asker : Asker) (path : List (List ℕ)) (depth : ℕ) → length path ≡ depth + 1 → (arrival : Arrival) (old mid new : Rows) (spot : Spot) → IsReached asker (take depth path) (λ _. []) old arrival mid → SpotsAfter asker path depth arrival mid spot new → IsSpotted asker path old spot new
+pub spot_follows : (asker : Asker) (path : List (List ℕ)) (depth : ℕ) → length path ≡ depth + 1
+    → (arrival : Arrival) (old mid new : Rows) (spot : Spot)
+    → IsReached asker (take depth path) (λ _. []) old arrival mid
+    → SpotsAfter asker path depth arrival mid spot new → IsSpotted asker path old spot new
 spot_follows asker path depth deep (At node) old mid new spot reached spots =
     let some : 0 < length path = omega arith in
-    spot_on asker path some node depth deep old mid (walked_front asker path depth (At node) old mid deep reached) new spot spots
+    spot_on asker path some node depth deep old mid
+    (walked_front asker path depth (At node) old mid deep reached) new spot spots
 spot_follows asker path depth deep (Ended reply) old mid new spot reached spots =
     let some : 0 < length path = omega arith in
     subst (λ (s : Spot). IsSpotted asker path old s new) (sym spots.0)
-    (spot_ends asker path some old new reply (subst (λ (r : Rows). IsReached asker (front path) (λ _. []) old (Ended reply) r) (sym spots.1) (walked_front asker path depth (Ended reply) old mid deep reached)))
+    (spot_ends asker path some old new reply
+    (subst (λ (r : Rows). IsReached asker (front path) (λ _. []) old (Ended reply) r) (sym spots.1)
+    (walked_front asker path depth (Ended reply) old mid deep reached)))
 
 -- what was found has to be there
-pub paired_in : (asker : Asker) (path : List (List ℕ)) (some : 0 < length path) (old new : Rows) (spot : Spot) (pair : Pair) → pair ≡ pair_at_spot path spot → IsSpotted asker path old spot new → IsPaired asker path old pair new
-paired_in asker path some old new (Under folder child) pair is spotted = paired_as asker path some old new folder child pair is spotted
-paired_in asker path some old new (Barred reply) pair is spotted = subst (λ (p : Pair). IsPaired asker path old p new) (sym is) (pair_barred asker path some old new reply spotted)
+pub paired_in : (asker : Asker) (path : List (List ℕ)) (some : 0 < length path) (old new : Rows)
+    (spot : Spot) (pair : Pair) → pair ≡ pair_at_spot path spot → IsSpotted asker path old spot new
+    → IsPaired asker path old pair new
+paired_in asker path some old new (Under folder child) pair is spotted =
+    paired_as asker path some old new folder child pair is spotted
+paired_in asker path some old new (Barred reply) pair is spotted =
+    subst (λ (p : Pair). IsPaired asker path old p new) (sym is)
+    (pair_barred asker path some old new reply spotted)
 
 -- the walk to the object alone
 abbrev pub target_in : Pair → Arrival
@@ -262,6 +406,17 @@ target_in (Both folder target) = At target.node
 target_in (Halted reply) = Ended reply
 
 -- a walk to an object and its folder has reached the object, or ended with that reply
-pub pair_reached : (asker : Asker) (path : List (List ℕ)) (pair : Pair) (old new : Rows) → IsPaired asker path old pair new → IsReached asker path (λ _. []) old (target_in pair) new
-pair_reached asker path (Both folder target) old new paired = record { judged = subst (λ items. IsJudged asker items old None new) (sym (plain_way asker path old)) paired.judged; found = paired.target }
-pair_reached asker path (Halted reply) old new paired = record { judged = subst (λ items. IsJudged asker items old (Some reply) new) (sym (plain_way asker path old)) paired.judged; found = tt }
+pub pair_reached : (asker : Asker) (path : List (List ℕ)) (pair : Pair) (old new : Rows)
+    → IsPaired asker path old pair new → IsReached asker path (λ _. []) old (target_in pair) new
+pair_reached asker path (Both folder target) old new paired =
+    record {
+      judged = subst (λ items. IsJudged asker items old None new)
+          (sym (plain_way asker path old)) paired.judged;
+      found = paired.target;
+    }
+pair_reached asker path (Halted reply) old new paired =
+    record {
+      judged = subst (λ items. IsJudged asker items old (Some reply) new)
+          (sym (plain_way asker path old)) paired.judged;
+      found = tt;
+    }

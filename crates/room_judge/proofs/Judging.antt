@@ -30,7 +30,8 @@ pub noted_none : (old : Rows) → noted old [] ≡ old
 noted_none old = ap (with_audits old) (append-nil old.read.audits)
 
 -- records added after others are added as one list, the earlier ones first
-pub noted_more : (old : Rows) (first second : List AuditRow) → noted (noted old first) second ≡ noted old (first ++ second)
+pub noted_more : (old : Rows) (first second : List AuditRow)
+    → noted (noted old first) second ≡ noted old (first ++ second)
 noted_more old first second = ap (with_audits old) (append_assoc old.read.audits first second)
 
 -- ---- lists of items in parts
@@ -45,38 +46,54 @@ or_else_group (Some reply) b c = refl
 
 module _ (caller : Caller) (moment : ℤ) where
   -- the first failure of two lists in a row is that of the first, or else that of the second
-  pub failure_of_parts : (items others : List Item) → first_failure caller (items ++ others) ≡ or_else (first_failure caller items) (first_failure caller others)
+  pub failure_of_parts : (items others : List Item)
+      → first_failure caller (items ++ others)
+      ≡ or_else (first_failure caller items) (first_failure caller others)
   failure_of_parts [] others = refl
-  failure_of_parts (item ∷ items) others = ap (or_else (failure caller item)) (failure_of_parts items others) ∙ or_else_group (failure caller item) (first_failure caller items) (first_failure caller others)
+  failure_of_parts (item ∷ items) others =
+      ap (or_else (failure caller item)) (failure_of_parts items others)
+      ∙ or_else_group (failure caller item) (first_failure caller items)
+      (first_failure caller others)
 
   -- the records of a second part are added where the first passes
   pub records_of_parts : (items others : List Item)
-      → records_of_plan caller moment (items ++ others) ≡ records_of_plan caller moment items ++ cond (is_none (first_failure caller items)) (records_of_plan caller moment others) []
+      → records_of_plan caller moment (items ++ others) ≡ records_of_plan caller moment items
+      ++ cond (is_none (first_failure caller items)) (records_of_plan caller moment others) []
   records_of_parts [] others = refl
   records_of_parts (item ∷ items) others =
-      ap (λ rest. here ++ cond (passes caller item) rest []) (records_of_parts items others) ∙ on (failure caller item) here
+      ap (λ rest. here ++ cond (passes caller item) rest []) (records_of_parts items others)
+      ∙ on (failure caller item) here
     where
       here : List AuditRow
       here = records_of_checks caller moment (passes caller item) (checks_of caller item)
 
       on : (o : Option Reply) (first : List AuditRow)
-          → first ++ cond (is_none o) (records_of_plan caller moment items ++ cond (is_none (first_failure caller items)) (records_of_plan caller moment others) []) []
-          ≡ (first ++ cond (is_none o) (records_of_plan caller moment items) []) ++ cond (is_none (or_else o (first_failure caller items))) (records_of_plan caller moment others) []
+          → first ++ cond (is_none o) (records_of_plan caller moment items
+          ++ cond (is_none (first_failure caller items)) (records_of_plan caller moment others) [])
+          []
+          ≡ (first ++ cond (is_none o) (records_of_plan caller moment items) [])
+          ++ cond (is_none (or_else o (first_failure caller items)))
+          (records_of_plan caller moment others) []
       on None first = sym (append_assoc first (records_of_plan caller moment items) _)
       on (Some reply) first = sym (append-nil (first ++ []))
 
   -- one check alone
-  pub records_of_check : (site : Site) (bits : List ℕ) → records_of_plan caller moment (Check site bits ∷ []) ≡ records_of caller moment (passes caller (Check site bits)) (site, bits)
+  pub records_of_check : (site : Site) (bits : List ℕ)
+      → records_of_plan caller moment (Check site bits ∷ [])
+      ≡ records_of caller moment (passes caller (Check site bits)) (site, bits)
   records_of_check site bits = on (passes caller (Check site bits))
     where
-      on : (t : Bool) → records_of_checks caller moment t ((site, bits) ∷ []) ++ cond t [] [] ≡ records_of caller moment t (site, bits)
+      on : (t : Bool) → records_of_checks caller moment t ((site, bits) ∷ []) ++ cond t [] []
+          ≡ records_of caller moment t (site, bits)
       on true = append-nil _ ∙ append-nil _
       on false = append-nil _ ∙ append-nil _
 
 -- the refusal of an object of another kind
-pub kind_item : (wanted : ObjKind) (site : Site) → of_kind wanted site ≡ Refusal site.path WrongKind (is_other site.node.kind wanted)
+pub kind_item : (wanted : ObjKind) (site : Site)
+    → of_kind wanted site ≡ Refusal site.path WrongKind (is_other site.node.kind wanted)
 kind_item Document site = refl
-kind_item Folder site = ap (λ (t : Bool). Refusal site.path WrongKind t) (twice (is_document site.node.kind))
+kind_item Folder site =
+    ap (λ (t : Bool). Refusal site.path WrongKind t) (twice (is_document site.node.kind))
   where
     twice : (t : Bool) → not (not t) ≡ t
     twice true = refl
@@ -97,72 +114,124 @@ module _ (asker : Asker) where
   judged_none old new same = record { answers = refl; notes = same ∙ sym (noted_none old) }
 
   -- one check is judged by whether it fails, with the records of that outcome added
-  pub judged_check : (site : Site) (bits : List ℕ) (old new : Rows) (answer : Option Reply) → answer ≡ failure asker.caller (Check site bits)
-      → new ≡ noted old (records_of asker.caller asker.at (is_none answer) (site, bits)) → IsJudged asker (Check site bits ∷ []) old answer new
+  pub judged_check : (site : Site) (bits : List ℕ) (old new : Rows) (answer : Option Reply)
+      → answer ≡ failure asker.caller (Check site bits)
+      → new ≡ noted old (records_of asker.caller asker.at (is_none answer) (site, bits))
+      → IsJudged asker (Check site bits ∷ []) old answer new
   judged_check site bits old new answer is notes = record {
     answers = is ∙ sym (or_else_none (failure asker.caller (Check site bits)));
-    notes = notes ∙ ap (λ o. noted old (records_of asker.caller asker.at (is_none o) (site, bits))) is ∙ ap (noted old) (sym (records_of_check asker.caller asker.at site bits));
+    notes =
+        notes ∙ ap (λ o. noted old (records_of asker.caller asker.at (is_none o) (site, bits))) is
+        ∙ ap (noted old) (sym (records_of_check asker.caller asker.at site bits));
   }
 
   -- a deletion is judged with the records of two checks, DELETE there and a right at the parent
-  pub judged_deletion : (target parent : Site) (second : List ℕ) (old new : Rows) (answer : Option Reply) → answer ≡ failure asker.caller (Deletion target parent) → second ≡ cond (is_by_adding asker.caller target parent) write_data delete_child ∷ []
-      → new ≡ noted old (records_of_checks asker.caller asker.at (is_none answer) ((target, delete ∷ []) ∷ (parent, second) ∷ [])) → IsJudged asker (Deletion target parent ∷ []) old answer new
+  pub judged_deletion : (target parent : Site) (second : List ℕ) (old new : Rows)
+      (answer : Option Reply) → answer ≡ failure asker.caller (Deletion target parent)
+      → second ≡ cond (is_by_adding asker.caller target parent) write_data delete_child ∷ []
+      → new
+      ≡ noted old (records_of_checks asker.caller asker.at (is_none answer)
+      ((target, delete ∷ []) ∷ (parent, second) ∷ []))
+      → IsJudged asker (Deletion target parent ∷ []) old answer new
   judged_deletion target parent second old new answer is rights notes = record {
     answers = is ∙ sym (or_else_none (failure asker.caller (Deletion target parent)));
-    notes = notes ∙ ap (λ o. noted old (of_both (is_none o) second)) is ∙ ap (λ s. noted old (of_both (passes asker.caller (Deletion target parent)) s)) rights
+    notes =
+        notes ∙ ap (λ o. noted old (of_both (is_none o) second)) is
+        ∙ ap (λ s. noted old (of_both (passes asker.caller (Deletion target parent)) s)) rights
         ∙ ap (noted old) (sym (plain (passes asker.caller (Deletion target parent))));
   }
     where
       of_both : Bool → List ℕ → List AuditRow
-      of_both t bits = records_of_checks asker.caller asker.at t ((target, delete ∷ []) ∷ (parent, bits) ∷ [])
+      of_both t bits =
+          records_of_checks asker.caller asker.at t ((target, delete ∷ []) ∷ (parent, bits) ∷ [])
 
-      plain : (t : Bool) → of_both t (cond (is_by_adding asker.caller target parent) write_data delete_child ∷ []) ++ cond t [] [] ≡ of_both t (cond (is_by_adding asker.caller target parent) write_data delete_child ∷ [])
+      plain : (t : Bool)
+          → of_both t (cond (is_by_adding asker.caller target parent) write_data delete_child ∷ [])
+          ++ cond t [] []
+          ≡ of_both t (cond (is_by_adding asker.caller target parent) write_data delete_child ∷ [])
       plain true = append-nil _
       plain false = append-nil _
 
   -- items judged with one answer are judged with any answer equal to it
-  pub judged_as : (items : List Item) (answer other : Option Reply) (old new : Rows) → answer ≡ other → IsJudged asker items old answer new → IsJudged asker items old other new
-  judged_as items answer other old new same judged = subst (λ (o : Option Reply). IsJudged asker items old o new) same judged
+  pub judged_as : (items : List Item) (answer other : Option Reply) (old new : Rows)
+      → answer ≡ other → IsJudged asker items old answer new → IsJudged asker items old other new
+  judged_as items answer other old new same judged =
+      subst (λ (o : Option Reply). IsJudged asker items old o new) same judged
 
   -- what can't be read afterwards couldn't be read before
-  pub blames_first : (items : List Item) (answer : Option Reply) (old new : Rows) (at : ℕ) → IsJudged asker items old answer new → IsUnreadable new at → IsUnreadable old at
-  blames_first items answer old new at judged h = subst (λ (r : Rows). IsUnreadable r at) judged.notes h
+  pub blames_first : (items : List Item) (answer : Option Reply) (old new : Rows) (at : ℕ)
+      → IsJudged asker items old answer new → IsUnreadable new at → IsUnreadable old at
+  blames_first items answer old new at judged h =
+      subst (λ (r : Rows). IsUnreadable r at) judged.notes h
 
   -- a refusal that comes first
-  pub refuses : (path : List (List ℕ)) (why : Reason) (holds : Bool) (items : List Item) (old new : Rows) (reply : Reply) → reply ≡ Refused path why → holds ≡ true → new ≡ old → IsJudged asker (Refusal path why holds ∷ items) old (Some reply) new
+  pub refuses : (path : List (List ℕ)) (why : Reason) (holds : Bool) (items : List Item)
+      (old new : Rows) (reply : Reply) → reply ≡ Refused path why → holds ≡ true → new ≡ old
+      → IsJudged asker (Refusal path why holds ∷ items) old (Some reply) new
   refuses path why holds items old new reply replies is same = record {
-    answers = ap (λ (r : Reply). Some r) replies ∙ ap (λ t. or_else (cond t (Some (Refused path why)) None) (first_failure asker.caller items)) (sym is);
-    notes = same ∙ sym (noted_none old) ∙ ap (λ t. noted old (cond (is_none (refusal t)) (records_of_plan asker.caller asker.at items) [])) (sym is);
+    answers =
+        ap (λ (r : Reply). Some r) replies
+        ∙ ap (λ t. or_else (cond t (Some (Refused path why)) None)
+        (first_failure asker.caller items)) (sym is);
+    notes =
+        same ∙ sym (noted_none old)
+        ∙ ap
+        (λ t. noted old (cond (is_none (refusal t)) (records_of_plan asker.caller asker.at items)
+        [])) (sym is);
   }
     where
       refusal : Bool → Option Reply
       refusal t = cond t (Some (Refused path why)) None
 
   -- a refusal that does not hold leaves the answer and the records of the items after it
-  pub passes_on : (path : List (List ℕ)) (why : Reason) (holds : Bool) (items : List Item) (old new : Rows) (answer : Option Reply) → holds ≡ false → IsJudged asker items old answer new → IsJudged asker (Refusal path why holds ∷ items) old answer new
+  pub passes_on : (path : List (List ℕ)) (why : Reason) (holds : Bool) (items : List Item)
+      (old new : Rows) (answer : Option Reply) → holds ≡ false → IsJudged asker items old answer new
+      → IsJudged asker (Refusal path why holds ∷ items) old answer new
   passes_on path why holds items old new answer isnt judged = record {
-    answers = judged.answers ∙ ap (λ t. or_else (cond t (Some (Refused path why)) None) (first_failure asker.caller items)) (sym isnt);
-    notes = judged.notes ∙ ap (λ t. noted old (cond (is_none (refusal t)) (records_of_plan asker.caller asker.at items) [])) (sym isnt);
+    answers =
+        judged.answers
+        ∙ ap (λ t. or_else (cond t (Some (Refused path why)) None)
+        (first_failure asker.caller items)) (sym isnt);
+    notes =
+        judged.notes
+        ∙ ap
+        (λ t. noted old (cond (is_none (refusal t)) (records_of_plan asker.caller asker.at items)
+        [])) (sym isnt);
   }
     where
       refusal : Bool → Option Reply
       refusal t = cond t (Some (Refused path why)) None
 
   -- what fails in a first part is the answer
-  pub fails_first : (items others : List Item) (old new : Rows) (reply : Reply) → IsJudged asker items old (Some reply) new → IsJudged asker (items ++ others) old (Some reply) new
+  pub fails_first : (items others : List Item) (old new : Rows) (reply : Reply)
+      → IsJudged asker items old (Some reply) new
+      → IsJudged asker (items ++ others) old (Some reply) new
   fails_first items others old new reply judged = record {
-    answers = sym (failure_of_parts asker.caller asker.at items others ∙ ap (λ o. or_else o (first_failure asker.caller others)) (sym judged.answers));
+    answers =
+        sym (failure_of_parts asker.caller asker.at items others
+        ∙ ap (λ o. or_else o (first_failure asker.caller others)) (sym judged.answers));
     notes = judged.notes ∙ ap (noted old) (sym (records_of_parts asker.caller asker.at items others
-        ∙ ap (λ o. records_of_plan asker.caller asker.at items ++ cond (is_none o) (records_of_plan asker.caller asker.at others) []) (sym judged.answers) ∙ append-nil _));
+        ∙ ap (λ o. records_of_plan asker.caller asker.at items
+        ++ cond (is_none o) (records_of_plan asker.caller asker.at others) []) (sym judged.answers)
+        ∙ append-nil _));
   }
 
   -- where a first part passes, the second, judged from the rows it left, gives the answer to both
-  pub passes_first : (items others : List Item) (old mid new : Rows) (answer : Option Reply) → IsJudged asker items old None mid → IsJudged asker others mid answer new → IsJudged asker (items ++ others) old answer new
+  pub passes_first : (items others : List Item) (old mid new : Rows) (answer : Option Reply)
+      → IsJudged asker items old None mid → IsJudged asker others mid answer new
+      → IsJudged asker (items ++ others) old answer new
   passes_first items others old mid new answer first second = record {
-    answers = second.answers ∙ sym (failure_of_parts asker.caller asker.at items others ∙ ap (λ o. or_else o (first_failure asker.caller others)) (sym first.answers));
-    notes = second.notes ∙ ap (λ r. noted r (records_of_plan asker.caller asker.at others)) first.notes ∙ noted_more old (records_of_plan asker.caller asker.at items) (records_of_plan asker.caller asker.at others)
+    answers =
+        second.answers ∙ sym (failure_of_parts asker.caller asker.at items others
+        ∙ ap (λ o. or_else o (first_failure asker.caller others)) (sym first.answers));
+    notes =
+        second.notes ∙ ap (λ r. noted r (records_of_plan asker.caller asker.at others)) first.notes
+        ∙ noted_more old (records_of_plan asker.caller asker.at items)
+        (records_of_plan asker.caller asker.at others)
         ∙ ap (noted old) (sym (records_of_parts asker.caller asker.at items others
-        ∙ ap (λ o. records_of_plan asker.caller asker.at items ++ cond (is_none o) (records_of_plan asker.caller asker.at others) []) (sym first.answers)));
+        ∙ ap (λ o. records_of_plan asker.caller asker.at items
+        ++ cond (is_none o) (records_of_plan asker.caller asker.at others) [])
+        (sym first.answers)));
   }
 
 -- ---- a part of a list is judged, and passes
@@ -176,14 +245,23 @@ pub record SoFar (asker : Asker) (all rest : List Item) (old mid : Rows) : Type 
 module _ (asker : Asker) where
   -- at the beginning all items are left
   pub so_far_none : (all : List Item) (old new : Rows) → new ≡ old → SoFar asker all all old new
-  so_far_none all old new same = record { front = []; parts = refl; judged = judged_none asker old new same }
+  so_far_none all old new same =
+      record { front = []; parts = refl; judged = judged_none asker old new same }
 
   -- the items that are left may be written as another list that is equal
-  pub so_far_as : (all rest others : List Item) (old mid : Rows) → rest ≡ others → SoFar asker all rest old mid → SoFar asker all others old mid
-  so_far_as all rest others old mid same sofar = record { front = sofar.front; parts = sofar.parts ∙ ap (λ items. sofar.front ++ items) same; judged = sofar.judged }
+  pub so_far_as : (all rest others : List Item) (old mid : Rows) → rest ≡ others
+      → SoFar asker all rest old mid → SoFar asker all others old mid
+  so_far_as all rest others old mid same sofar =
+      record {
+        front = sofar.front;
+        parts = sofar.parts ∙ ap (λ items. sofar.front ++ items) same;
+        judged = sofar.judged;
+      }
 
   -- where the next of the items that are left pass, only those after them are left
-  pub so_far_on : (all items rest : List Item) (old mid new : Rows) → SoFar asker all (items ++ rest) old mid → IsJudged asker items mid None new → SoFar asker all rest old new
+  pub so_far_on : (all items rest : List Item) (old mid new : Rows)
+      → SoFar asker all (items ++ rest) old mid → IsJudged asker items mid None new
+      → SoFar asker all rest old new
   so_far_on all items rest old mid new sofar judged = record {
     front = sofar.front ++ items;
     parts = sofar.parts ∙ sym (append_assoc sofar.front items rest);
@@ -191,12 +269,18 @@ module _ (asker : Asker) where
   }
 
   -- where one of the next items fails, its reply is the answer to the whole list
-  pub so_far_fails : (all items rest : List Item) (old mid new : Rows) (reply : Reply) → SoFar asker all (items ++ rest) old mid → IsJudged asker items mid (Some reply) new → IsJudged asker all old (Some reply) new
+  pub so_far_fails : (all items rest : List Item) (old mid new : Rows) (reply : Reply)
+      → SoFar asker all (items ++ rest) old mid → IsJudged asker items mid (Some reply) new
+      → IsJudged asker all old (Some reply) new
   so_far_fails all items rest old mid new reply sofar judged =
       subst (λ list. IsJudged asker list old (Some reply) new) (sym sofar.parts)
-      (passes_first asker sofar.front (items ++ rest) old mid new (Some reply) sofar.judged (fails_first asker items rest mid new reply judged))
+      (passes_first asker sofar.front (items ++ rest) old mid new (Some reply) sofar.judged
+      (fails_first asker items rest mid new reply judged))
 
   -- the answer to all items that are left is the answer to the whole list
-  pub so_far_last : (all rest : List Item) (old mid new : Rows) (answer : Option Reply) → SoFar asker all rest old mid → IsJudged asker rest mid answer new → IsJudged asker all old answer new
+  pub so_far_last : (all rest : List Item) (old mid new : Rows) (answer : Option Reply)
+      → SoFar asker all rest old mid → IsJudged asker rest mid answer new
+      → IsJudged asker all old answer new
   so_far_last all rest old mid new answer sofar judged =
-      subst (λ list. IsJudged asker list old answer new) (sym sofar.parts) (passes_first asker sofar.front rest old mid new answer sofar.judged judged)
+      subst (λ list. IsJudged asker list old answer new) (sym sofar.parts)
+      (passes_first asker sofar.front rest old mid new answer sofar.judged judged)

@@ -17,45 +17,70 @@ use Rattle.room_judge.proofs.Judging.{noted_none, noted_more}
 
 -- ---- places count from 1
 
-later : (t : Bool) (place : ℕ) (rest : List ℕ) → ((i : ℕ) → i < length rest → place < get_or rest i 0) → (i : ℕ) → i < length (cond t (place ∷ rest) rest) → place ≤ get_or (cond t (place ∷ rest) rest) i 0
+later : (t : Bool) (place : ℕ) (rest : List ℕ)
+    → ((i : ℕ) → i < length rest → place < get_or rest i 0) → (i : ℕ)
+    → i < length (cond t (place ∷ rest) rest) → place ≤ get_or (cond t (place ∷ rest) rest) i 0
 later true place rest on zero below = omega arith
 later true place rest on (suc i) below = omega (arith, on i (omega arith))
 later false place rest on i below = omega (arith, on i below)
 
-from_place : (place : ℕ) (entries : List Ace) (caller : Caller) (owners : Owners) (asked : List ℕ) (granted : Bool) (i : ℕ)
-    → i < length (events_from place entries caller owners asked granted) → place ≤ get_or (events_from place entries caller owners asked granted) i 0
+from_place : (place : ℕ) (entries : List Ace) (caller : Caller) (owners : Owners) (asked : List ℕ)
+    (granted : Bool) (i : ℕ)
+    → i < length (events_from place entries caller owners asked granted)
+    → place ≤ get_or (events_from place entries caller owners asked granted) i 0
 from_place place [] caller owners asked granted i below = absurd (omega arith)
 from_place place (entry ∷ entries) caller owners asked granted i below =
-    later (is_event_of entry caller owners asked granted) place (events_from (place + 1) entries caller owners asked granted)
-    (λ j inside. omega (arith, from_place (place + 1) entries caller owners asked granted j inside)) i below
+    later (is_event_of entry caller owners asked granted) place
+    (events_from (place + 1) entries caller owners asked granted)
+    (λ j inside. omega (arith, from_place (place + 1) entries caller owners asked granted j inside))
+    i below
 
-pub from_one : (sacl : List Ace) (caller : Caller) (owners : Owners) (asked : List ℕ) (granted : Bool) (places : List ℕ) (i : ℕ)
-    → places ≡ events_of sacl caller owners asked granted → i < length places → 0 < get_or places i 0
+pub from_one : (sacl : List Ace) (caller : Caller) (owners : Owners) (asked : List ℕ)
+    (granted : Bool) (places : List ℕ) (i : ℕ)
+    → places ≡ events_of sacl caller owners asked granted → i < length places
+    → 0 < get_or places i 0
 from_one sacl caller owners asked granted places i are below =
-    subst (λ (list : List ℕ). i < length list → 0 < get_or list i 0) (sym are) (λ inside. omega (arith, from_place 1 sacl caller owners asked granted i inside)) below
+    subst (λ (list : List ℕ). i < length list → 0 < get_or list i 0) (sym are)
+    (λ inside. omega (arith, from_place 1 sacl caller owners asked granted i inside)) below
 
 -- ---- one record after another
 
 -- the record for one place
 abbrev pub record_for : Asker → Bool → Site → List ℕ → ℕ → AuditRow
-record_for asker granted site bits place = record_at asker.caller asker.at granted (site, bits) place
+record_for asker granted site bits place =
+    record_at asker.caller asker.at granted (site, bits) place
 
 -- The records for these places are noted.
 abbrev pub Notes : Asker → Bool → Site → List ℕ → List ℕ → Rows → Rows → Type 0
-Notes asker granted site bits places old now = now ≡ noted old (map (record_for asker granted site bits) places)
+Notes asker granted site bits places old now =
+    now ≡ noted old (map (record_for asker granted site bits) places)
 
-pub notes_none : (asker : Asker) (granted : Bool) (site : Site) (bits : List ℕ) (places : List ℕ) (old now : Rows) → now ≡ old → Notes asker granted site bits (take 0 places) old now
+pub notes_none : (asker : Asker) (granted : Bool) (site : Site) (bits : List ℕ) (places : List ℕ)
+    (old now : Rows) → now ≡ old → Notes asker granted site bits (take 0 places) old now
 notes_none asker granted site bits places old now same = same ∙ sym (noted_none old)
 
-pub notes_one : (asker : Asker) (granted : Bool) (site : Site) (bits : List ℕ) (places : List ℕ) (i : ℕ) (row : AuditRow) (old now next : Rows) → i < length places → row ≡ record_for asker granted site bits (get_or places i 0)
+pub notes_one : (asker : Asker) (granted : Bool) (site : Site) (bits : List ℕ) (places : List ℕ)
+    (i : ℕ) (row : AuditRow) (old now next : Rows) → i < length places
+    → row ≡ record_for asker granted site bits (get_or places i 0)
     → places ≡ events_of (full_at Sacl site) asker.caller site.node.owners bits granted
-    → Notes asker granted site bits (take i places) old now → (0 < row.place → next ≡ noted now (row ∷ [])) → Notes asker granted site bits (take (i + 1) places) old next
+    → Notes asker granted site bits (take i places) old now
+    → (0 < row.place → next ≡ noted now (row ∷ []))
+    → Notes asker granted site bits (take (i + 1) places) old next
 notes_one asker granted site bits places i row old now next below is are sofar more =
-    more (subst (λ (r : AuditRow). 0 < r.place) (sym is) (from_one (full_at Sacl site) asker.caller site.node.owners bits granted places i are below))
-    ∙ ap (λ r. noted r (row ∷ [])) sofar ∙ noted_more old (map (record_for asker granted site bits) (take i places)) (row ∷ [])
+    more (subst (λ (r : AuditRow). 0 < r.place) (sym is)
+    (from_one (full_at Sacl site) asker.caller site.node.owners bits granted places i are below))
+    ∙ ap (λ r. noted r (row ∷ [])) sofar
+    ∙ noted_more old (map (record_for asker granted site bits) (take i places)) (row ∷ [])
     ∙ ap (λ r. noted old (map (record_for asker granted site bits) (take i places) ++ r ∷ [])) is
-    ∙ ap (noted old) (sym (map-append (record_for asker granted site bits) (take i places) (get_or places i 0 ∷ [])) ∙ ap (map (record_for asker granted site bits)) (sym (take_more places i 0 below)))
+    ∙ ap (noted old)
+    (sym (map-append (record_for asker granted site bits) (take i places) (get_or places i 0 ∷ []))
+    ∙ ap (map (record_for asker granted site bits)) (sym (take_more places i 0 below)))
 
-pub notes_all : (asker : Asker) (granted : Bool) (site : Site) (bits : List ℕ) (places : List ℕ) (i : ℕ) (old now : Rows) → i ≡ length places → places ≡ events_of (full_at Sacl site) asker.caller site.node.owners bits granted
-    → Notes asker granted site bits (take i places) old now → now ≡ noted old (records_of asker.caller asker.at granted (site, bits))
-notes_all asker granted site bits places i old now full are all = all ∙ ap (λ l. noted old (map (record_for asker granted site bits) l)) (ap (λ (n : ℕ). take n places) full ∙ take-length places ∙ are)
+pub notes_all : (asker : Asker) (granted : Bool) (site : Site) (bits : List ℕ) (places : List ℕ)
+    (i : ℕ) (old now : Rows) → i ≡ length places
+    → places ≡ events_of (full_at Sacl site) asker.caller site.node.owners bits granted
+    → Notes asker granted site bits (take i places) old now
+    → now ≡ noted old (records_of asker.caller asker.at granted (site, bits))
+notes_all asker granted site bits places i old now full are all =
+    all ∙ ap (λ l. noted old (map (record_for asker granted site bits) l))
+    (ap (λ (n : ℕ). take n places) full ∙ take-length places ∙ are)

@@ -15,7 +15,8 @@ use Rattle.room_judge.specs.Judged.{name_after, through}
 -- ---- a path and its last name
 
 -- a name and those after it are their front, followed by the last of them
-pub front_and_last : (name : List ℕ) (names : List (List ℕ)) → front (name ∷ names) ++ last_name (name ∷ names) ∷ [] ≡ name ∷ names
+pub front_and_last : (name : List ℕ) (names : List (List ℕ))
+    → front (name ∷ names) ++ last_name (name ∷ names) ∷ [] ≡ name ∷ names
 front_and_last name [] = refl
 front_and_last name (next ∷ names) = ap (λ l. name ∷ l) (front_and_last next names)
 
@@ -35,68 +36,111 @@ module _ (path : List (List ℕ)) (depth : ℕ) (deep : length path ≡ depth + 
   parts = path_parts path (omega arith)
 
   depth_is : depth ≡ length (front path)
-  depth_is = let e : length (front path) + 1 ≡ length path = sym (length-append (front path) (last_name path ∷ [])) ∙ ap length parts in omega arith
+  depth_is = let e : length (front path) + 1 ≡ length path =
+      sym (length-append (front path) (last_name path ∷ [])) ∙ ap length parts in omega arith
 
   -- in a path of depth + 1 names, the first `depth` names are all but the last
   pub take_front : take depth path ≡ front path
-  take_front = ap (λ (n : ℕ). take n path) depth_is ∙ ap (λ (l : List (List ℕ)). take (length (front path)) l) (sym parts) ∙ take-append_seam (front path) (last_name path ∷ [])
+  take_front =
+      ap (λ (n : ℕ). take n path) depth_is
+      ∙ ap (λ (l : List (List ℕ)). take (length (front path)) l) (sym parts)
+      ∙ take-append_seam (front path) (last_name path ∷ [])
 
   -- the name that comes after `depth` others is the last name of such a path
   pub name_is_last : name_after path depth ≡ last_name path
-  name_is_last = ap (λ (n : ℕ). name_after path n) depth_is ∙ ap (λ (l : List (List ℕ)). name_after l (length (front path))) (sym parts) ∙ get_or-append_seam (front path) (last_name path) [] []
+  name_is_last =
+      ap (λ (n : ℕ). name_after path n) depth_is
+      ∙ ap (λ (l : List (List ℕ)). name_after l (length (front path))) (sym parts)
+      ∙ get_or-append_seam (front path) (last_name path) [] []
 
 -- ---- what the folder of the last name has by that name
 
 module _ (rows : Content) where
   -- what has this name below an object
   abbrev pub below_of : List ℕ → Site → Option Site
-  below_of name site = option_map (stored_site (site.path ++ name ∷ [])) (child_of rows site.node.id name)
+  below_of name site =
+      option_map (stored_site (site.path ++ name ∷ [])) (child_of rows site.node.id name)
 
   -- the refusal where nothing has this name, but where it may be absent
   abbrev pub missing : Bool → List ℕ → Site → Item
-  missing lack name site = Refusal (site.path ++ name ∷ []) NoSuch (is_none (child_of rows site.node.id name) && not lack)
+  missing lack name site =
+      Refusal (site.path ++ name ∷ []) NoSuch
+      (is_none (child_of rows site.node.id name) && not lack)
 
   -- the items at the folder of the last name: through it, and then whether it has that name
   abbrev pub last_items : Bool → List ℕ → Site → List Item
   last_items lack name site = through site ++ missing lack name site ∷ []
 
-  not_empty : (path : List (List ℕ)) (node : Node) (names : List (List ℕ)) → is_empty (stored_from rows path node names) ≡ false
+  not_empty : (path : List (List ℕ)) (node : Node) (names : List (List ℕ))
+      → is_empty (stored_from rows path node names) ≡ false
   not_empty path node [] = refl
   not_empty path node (name ∷ names) = refl
 
   folder_from : (names path : List (List ℕ)) (name : List ℕ) (node : Node)
-      → site_at (stored_from rows path node (name ∷ names)) (front (name ∷ names)) ≡ site_at (stored_from rows path node (front (name ∷ names))) (front (name ∷ names))
+      → site_at (stored_from rows path node (name ∷ names)) (front (name ∷ names))
+      ≡ site_at (stored_from rows path node (front (name ∷ names))) (front (name ∷ names))
   folder_from [] path name node = refl
-  folder_from (next ∷ names) path name node = on (child_of rows node.id name) (λ child. folder_from names (path ++ name ∷ []) next child)
+  folder_from (next ∷ names) path name node =
+      on (child_of rows node.id name) (λ child. folder_from names (path ++ name ∷ []) next child)
     where
-      on : (o : Option Node) → ((child : Node) → site_at (stored_from rows (path ++ name ∷ []) child (next ∷ names)) (front (next ∷ names)) ≡ site_at (stored_from rows (path ++ name ∷ []) child (front (next ∷ names))) (front (next ∷ names)))
-          → site_at (option_map_or (λ child. stored_from rows (path ++ name ∷ []) child (next ∷ names)) o []) (front (next ∷ names)) ≡ site_at (option_map_or (λ child. stored_from rows (path ++ name ∷ []) child (front (next ∷ names))) o []) (front (next ∷ names))
+      on : (o : Option Node)
+          → ((child : Node) → site_at (stored_from rows (path ++ name ∷ []) child (next ∷ names))
+          (front (next ∷ names))
+          ≡ site_at (stored_from rows (path ++ name ∷ []) child (front (next ∷ names)))
+          (front (next ∷ names)))
+          → site_at
+          (option_map_or (λ child. stored_from rows (path ++ name ∷ []) child (next ∷ names)) o [])
+          (front (next ∷ names))
+          ≡ site_at
+          (option_map_or (λ child. stored_from rows (path ++ name ∷ []) child
+          (front (next ∷ names))) o []) (front (next ∷ names))
       on None rest = refl
       on (Some child) rest = rest child
 
   target_from : (names path : List (List ℕ)) (name : List ℕ) (node : Node)
-      → site_at (stored_from rows path node (name ∷ names)) (name ∷ names) ≡ option_and_then (below_of (last_name (name ∷ names))) (site_at (stored_from rows path node (front (name ∷ names))) (front (name ∷ names)))
+      → site_at (stored_from rows path node (name ∷ names)) (name ∷ names)
+      ≡ option_and_then (below_of (last_name (name ∷ names)))
+      (site_at (stored_from rows path node (front (name ∷ names))) (front (name ∷ names)))
   target_from [] path name node = on (child_of rows node.id name)
     where
-      on : (o : Option Node) → site_at (option_map_or (λ child. stored_from rows (path ++ name ∷ []) child []) o []) [] ≡ option_map (stored_site (path ++ name ∷ [])) o
+      on : (o : Option Node)
+          → site_at (option_map_or (λ child. stored_from rows (path ++ name ∷ []) child []) o []) []
+          ≡ option_map (stored_site (path ++ name ∷ [])) o
       on None = refl
       on (Some child) = refl
-  target_from (next ∷ names) path name node = on (child_of rows node.id name) (λ child. target_from names (path ++ name ∷ []) next child)
+  target_from (next ∷ names) path name node =
+      on (child_of rows node.id name) (λ child. target_from names (path ++ name ∷ []) next child)
     where
       on : (o : Option Node)
-          → ((child : Node) → site_at (stored_from rows (path ++ name ∷ []) child (next ∷ names)) (next ∷ names) ≡ option_and_then (below_of (last_name (next ∷ names))) (site_at (stored_from rows (path ++ name ∷ []) child (front (next ∷ names))) (front (next ∷ names))))
-          → site_at (option_map_or (λ child. stored_from rows (path ++ name ∷ []) child (next ∷ names)) o []) (next ∷ names)
-          ≡ option_and_then (below_of (last_name (next ∷ names))) (site_at (option_map_or (λ child. stored_from rows (path ++ name ∷ []) child (front (next ∷ names))) o []) (front (next ∷ names)))
+          → ((child : Node) → site_at (stored_from rows (path ++ name ∷ []) child (next ∷ names))
+          (next ∷ names) ≡ option_and_then (below_of (last_name (next ∷ names)))
+          (site_at (stored_from rows (path ++ name ∷ []) child (front (next ∷ names)))
+          (front (next ∷ names))))
+          → site_at
+          (option_map_or (λ child. stored_from rows (path ++ name ∷ []) child (next ∷ names)) o [])
+          (next ∷ names)
+          ≡ option_and_then (below_of (last_name (next ∷ names)))
+          (site_at
+          (option_map_or (λ child. stored_from rows (path ++ name ∷ []) child
+          (front (next ∷ names))) o []) (front (next ∷ names)))
       on None rest = refl
       on (Some child) rest = rest child
 
   -- an object is found at its path
-  site_path_from : (names path : List (List ℕ)) (node : Node) (site : Site) → site_at (stored_from rows path node names) names ≡ Some site → site.path ≡ path ++ names
-  site_path_from [] path node site is = let same : stored_site path node ≡ site = cc in ap (λ (s : Site). s.path) (sym same) ∙ sym (append-nil path)
-  site_path_from (name ∷ names) path node site is = on (child_of rows node.id name) (λ child found. site_path_from names (path ++ name ∷ []) child site found) is ∙ append_assoc path (name ∷ []) names
+  site_path_from : (names path : List (List ℕ)) (node : Node) (site : Site)
+      → site_at (stored_from rows path node names) names ≡ Some site → site.path ≡ path ++ names
+  site_path_from [] path node site is = let same : stored_site path node ≡ site = cc in
+      ap (λ (s : Site). s.path) (sym same) ∙ sym (append-nil path)
+  site_path_from (name ∷ names) path node site is =
+      on (child_of rows node.id name)
+      (λ child found. site_path_from names (path ++ name ∷ []) child site found) is
+      ∙ append_assoc path (name ∷ []) names
     where
-      on : (o : Option Node) → ((child : Node) → site_at (stored_from rows (path ++ name ∷ []) child names) names ≡ Some site → site.path ≡ (path ++ name ∷ []) ++ names)
-          → site_at (option_map_or (λ child. stored_from rows (path ++ name ∷ []) child names) o []) names ≡ Some site → site.path ≡ (path ++ name ∷ []) ++ names
+      on : (o : Option Node)
+          → ((child : Node) → site_at (stored_from rows (path ++ name ∷ []) child names) names
+          ≡ Some site → site.path ≡ (path ++ name ∷ []) ++ names)
+          → site_at (option_map_or (λ child. stored_from rows (path ++ name ∷ []) child names) o [])
+          names ≡ Some site → site.path ≡ (path ++ name ∷ []) ++ names
       on None rest is = absurd (let wrong : ⊥ = cc in wrong)
       on (Some child) rest is = rest child is
 
@@ -104,33 +148,64 @@ module _ (rows : Content) where
 
   way_from : (lack : Bool) (names path : List (List ℕ)) (name : List ℕ) (node : Node)
       → way lack (stored_from rows path node (name ∷ names)) (name ∷ names)
-      ≡ way false (stored_from rows path node (front (name ∷ names))) (front (name ∷ names)) ++ where_found (site_at (stored_from rows path node (front (name ∷ names))) (front (name ∷ names))) (last_items lack (last_name (name ∷ names)))
+      ≡ way false (stored_from rows path node (front (name ∷ names))) (front (name ∷ names))
+      ++ where_found (site_at (stored_from rows path node (front (name ∷ names)))
+      (front (name ∷ names))) (last_items lack (last_name (name ∷ names)))
   way_from lack [] path name node = on lack (child_of rows node.id name)
     where
-      on : (lack : Bool) (o : Option Node) → way lack (stored_site path node ∷ option_map_or (λ child. stored_from rows (path ++ name ∷ []) child []) o []) (name ∷ [])
-          ≡ through (stored_site path node) ++ Refusal (path ++ name ∷ []) NoSuch (is_none o && not lack) ∷ []
+      on : (lack : Bool) (o : Option Node)
+          → way lack (stored_site path node ∷ option_map_or
+          (λ child. stored_from rows (path ++ name ∷ []) child []) o []) (name ∷ [])
+          ≡ through (stored_site path node)
+          ++ Refusal (path ++ name ∷ []) NoSuch (is_none o && not lack) ∷ []
       on true None = refl
       on true (Some child) = refl
       on false None = refl
       on false (Some child) = refl
-  way_from lack (next ∷ names) path name node = on lack (child_of rows node.id name) (λ child. way_from lack names (path ++ name ∷ []) next child)
+  way_from lack (next ∷ names) path name node =
+      on lack (child_of rows node.id name)
+      (λ child. way_from lack names (path ++ name ∷ []) next child)
     where
       below : List (List ℕ)
       below = front (next ∷ names)
 
       after : Bool → Node → List Item
-      after lack child = way false (stored_from rows (path ++ name ∷ []) child below) below ++ where_found (site_at (stored_from rows (path ++ name ∷ []) child below) below) (last_items lack (last_name (next ∷ names)))
+      after lack child =
+          way false (stored_from rows (path ++ name ∷ []) child below) below
+          ++ where_found (site_at (stored_from rows (path ++ name ∷ []) child below) below)
+          (last_items lack (last_name (next ∷ names)))
 
-      passing : (t : Bool) (items : List Item) (child : Node) → t ≡ false → through (stored_site path node) ++ Refusal (path ++ name ∷ []) NoSuch false ∷ items ≡ through (stored_site path node) ++ Refusal (path ++ name ∷ []) NoSuch (t && true) ∷ items
-      passing t items child is = ap (λ u. through (stored_site path node) ++ Refusal (path ++ name ∷ []) NoSuch (u && true) ∷ items) (sym is)
+      passing : (t : Bool) (items : List Item) (child : Node) → t ≡ false
+          → through (stored_site path node) ++ Refusal (path ++ name ∷ []) NoSuch false ∷ items
+          ≡ through (stored_site path node) ++ Refusal (path ++ name ∷ []) NoSuch (t && true)
+          ∷ items
+      passing t items child is =
+          ap (λ u. through (stored_site path node) ++ Refusal (path ++ name ∷ []) NoSuch (u && true)
+          ∷ items) (sym is)
 
-      on : (lack : Bool) (o : Option Node) → ((child : Node) → way lack (stored_from rows (path ++ name ∷ []) child (next ∷ names)) (next ∷ names) ≡ after lack child)
-          → way lack (stored_site path node ∷ option_map_or (λ child. stored_from rows (path ++ name ∷ []) child (next ∷ names)) o []) (name ∷ next ∷ names)
-          ≡ way false (stored_site path node ∷ option_map_or (λ child. stored_from rows (path ++ name ∷ []) child below) o []) (name ∷ below) ++ where_found (site_at (option_map_or (λ child. stored_from rows (path ++ name ∷ []) child below) o []) below) (last_items lack (last_name (next ∷ names)))
+      on : (lack : Bool) (o : Option Node)
+          → ((child : Node) → way lack (stored_from rows (path ++ name ∷ []) child (next ∷ names))
+          (next ∷ names) ≡ after lack child)
+          → way lack (stored_site path node ∷ option_map_or
+          (λ child. stored_from rows (path ++ name ∷ []) child (next ∷ names)) o [])
+          (name ∷ next ∷ names)
+          ≡ way false (stored_site path node ∷ option_map_or
+          (λ child. stored_from rows (path ++ name ∷ []) child below) o []) (name ∷ below)
+          ++ where_found
+          (site_at (option_map_or (λ child. stored_from rows (path ++ name ∷ []) child below) o [])
+          below) (last_items lack (last_name (next ∷ names)))
       on true None rest = refl
-      on true (Some child) rest = ap (λ items. through (stored_site path node) ++ Refusal (path ++ name ∷ []) NoSuch false ∷ items) (rest child) ∙ passing (is_empty (stored_from rows (path ++ name ∷ []) child below)) (after true child) child (not_empty (path ++ name ∷ []) child below)
+      on true (Some child) rest =
+          ap (λ items. through (stored_site path node) ++ Refusal (path ++ name ∷ []) NoSuch false
+          ∷ items) (rest child)
+          ∙ passing (is_empty (stored_from rows (path ++ name ∷ []) child below))
+          (after true child) child (not_empty (path ++ name ∷ []) child below)
       on false None rest = refl
-      on false (Some child) rest = ap (λ items. through (stored_site path node) ++ Refusal (path ++ name ∷ []) NoSuch false ∷ items) (rest child) ∙ passing (is_empty (stored_from rows (path ++ name ∷ []) child below)) (after false child) child (not_empty (path ++ name ∷ []) child below)
+      on false (Some child) rest =
+          ap (λ items. through (stored_site path node) ++ Refusal (path ++ name ∷ []) NoSuch false
+          ∷ items) (rest child)
+          ∙ passing (is_empty (stored_from rows (path ++ name ∷ []) child below))
+          (after false child) child (not_empty (path ++ name ∷ []) child below)
 
   -- ---- from the root
 
@@ -139,56 +214,88 @@ module _ (rows : Content) where
   folder_along path = site_at (stored_along rows (front path)) (front path)
 
   -- the object above the end of a path is found along its names but the last
-  pub folder_found : (path : List (List ℕ)) → 0 < length path → parent_at (stored_along rows path) path ≡ folder_along path
+  pub folder_found : (path : List (List ℕ)) → 0 < length path
+      → parent_at (stored_along rows path) path ≡ folder_along path
   folder_found [] some = absurd (let wrong : ⊥ = omega arith in wrong)
   folder_found (name ∷ names) some = on (root_of rows)
     where
-      on : (o : Option Node) → site_at (option_map_or (λ root. stored_from rows [] root (name ∷ names)) o []) (front (name ∷ names)) ≡ site_at (option_map_or (λ root. stored_from rows [] root (front (name ∷ names))) o []) (front (name ∷ names))
+      on : (o : Option Node)
+          → site_at (option_map_or (λ root. stored_from rows [] root (name ∷ names)) o [])
+          (front (name ∷ names))
+          ≡ site_at (option_map_or (λ root. stored_from rows [] root (front (name ∷ names))) o [])
+          (front (name ∷ names))
       on None = refl
       on (Some root) = folder_from names [] name root
 
   -- the object at the end of a path is what has the last name in the folder of that name
-  pub target_found : (path : List (List ℕ)) → 0 < length path → site_at (stored_along rows path) path ≡ option_and_then (below_of (last_name path)) (folder_along path)
+  pub target_found : (path : List (List ℕ)) → 0 < length path
+      → site_at (stored_along rows path) path
+      ≡ option_and_then (below_of (last_name path)) (folder_along path)
   target_found [] some = absurd (let wrong : ⊥ = omega arith in wrong)
   target_found (name ∷ names) some = on (root_of rows)
     where
-      on : (o : Option Node) → site_at (option_map_or (λ root. stored_from rows [] root (name ∷ names)) o []) (name ∷ names)
-          ≡ option_and_then (below_of (last_name (name ∷ names))) (site_at (option_map_or (λ root. stored_from rows [] root (front (name ∷ names))) o []) (front (name ∷ names)))
+      on : (o : Option Node)
+          → site_at (option_map_or (λ root. stored_from rows [] root (name ∷ names)) o [])
+          (name ∷ names)
+          ≡ option_and_then (below_of (last_name (name ∷ names)))
+          (site_at (option_map_or (λ root. stored_from rows [] root (front (name ∷ names))) o [])
+          (front (name ∷ names)))
       on None = refl
       on (Some root) = target_from names [] name root
 
   -- the folder of the last name has the names before it as its path
-  pub folder_path : (path : List (List ℕ)) (site : Site) → folder_along path ≡ Some site → site.path ≡ front path
-  folder_path path site is = on (root_of rows) (λ root found. site_path_from (front path) [] root site found) is
+  pub folder_path : (path : List (List ℕ)) (site : Site) → folder_along path ≡ Some site
+      → site.path ≡ front path
+  folder_path path site is =
+      on (root_of rows) (λ root found. site_path_from (front path) [] root site found) is
     where
-      on : (o : Option Node) → ((root : Node) → site_at (stored_from rows [] root (front path)) (front path) ≡ Some site → site.path ≡ front path) → site_at (option_map_or (λ root. stored_from rows [] root (front path)) o []) (front path) ≡ Some site → site.path ≡ front path
+      on : (o : Option Node)
+          → ((root : Node) → site_at (stored_from rows [] root (front path)) (front path)
+          ≡ Some site → site.path ≡ front path)
+          → site_at (option_map_or (λ root. stored_from rows [] root (front path)) o [])
+          (front path) ≡ Some site → site.path ≡ front path
       on None rest is = absurd (let wrong : ⊥ = cc in wrong)
       on (Some root) rest is = rest root is
 
   -- the way to the folder of the last name, and through it
   abbrev pub stem : List (List ℕ) → List Item
-  stem path = way false (stored_along rows (front path)) (front path) ++ where_found (folder_along path) through
+  stem path =
+      way false (stored_along rows (front path)) (front path)
+      ++ where_found (folder_along path) through
 
   -- the check that the last name is there
   abbrev pub last_look : Bool → List (List ℕ) → List Item
-  last_look lack path = where_found (folder_along path) (λ site. missing lack (last_name path) site ∷ [])
+  last_look lack path =
+      where_found (folder_along path) (λ site. missing lack (last_name path) site ∷ [])
 
   -- the way along a path goes through the folder of its last name, and then looks for that name
-  pub way_along : (lack : Bool) (path : List (List ℕ)) → 0 < length path → way lack (stored_along rows path) path ≡ stem path ++ last_look lack path
+  pub way_along : (lack : Bool) (path : List (List ℕ)) → 0 < length path
+      → way lack (stored_along rows path) path ≡ stem path ++ last_look lack path
   way_along lack [] some = absurd (let wrong : ⊥ = omega arith in wrong)
   way_along lack (name ∷ names) some = on (root_of rows)
     where
       path : List (List ℕ)
       path = name ∷ names
 
-      more : (begin : List Item) (o : Option Site) → begin ++ where_found o (last_items lack (last_name path)) ≡ (begin ++ where_found o through) ++ where_found o (λ site. missing lack (last_name path) site ∷ [])
+      more : (begin : List Item) (o : Option Site)
+          → begin ++ where_found o (last_items lack (last_name path))
+          ≡ (begin ++ where_found o through)
+          ++ where_found o (λ site. missing lack (last_name path) site ∷ [])
       more begin None = sym (append-nil (begin ++ []))
-      more begin (Some site) = sym (append_assoc begin (through site) (missing lack (last_name path) site ∷ []))
+      more begin (Some site) =
+          sym (append_assoc begin (through site) (missing lack (last_name path) site ∷ []))
 
       along : Option Node → List Site
       along o = option_map_or (λ root. stored_from rows [] root (front path)) o []
 
-      on : (o : Option Node) → way lack (option_map_or (λ root. stored_from rows [] root path) o []) path
-          ≡ (way false (along o) (front path) ++ where_found (site_at (along o) (front path)) through) ++ where_found (site_at (along o) (front path)) (λ site. missing lack (last_name path) site ∷ [])
+      on : (o : Option Node)
+          → way lack (option_map_or (λ root. stored_from rows [] root path) o []) path
+          ≡ (way false (along o) (front path)
+          ++ where_found (site_at (along o) (front path)) through)
+          ++ where_found (site_at (along o) (front path))
+          (λ site. missing lack (last_name path) site ∷ [])
       on None = refl
-      on (Some root) = way_from lack names [] name root ∙ more (way false (along (Some root)) (front path)) (site_at (along (Some root)) (front path))
+      on (Some root) =
+          way_from lack names [] name root
+          ∙ more (way false (along (Some root)) (front path))
+          (site_at (along (Some root)) (front path))

@@ -24,95 +24,176 @@ use Rattle.room_judge.proofs.Judging.{SoFar, fails_first, passes_first, judged_n
 -- ---- one step
 
 -- a refusal alone
-pub refusal_alone : (asker : Asker) (path : List (List ℕ)) (holds : Bool) (old new : Rows) (answer : Option Reply) → answer ≡ cond holds (Some (Refused path NoSuch)) None → new ≡ old → IsJudged asker (Refusal path NoSuch holds ∷ []) old answer new
-refusal_alone asker path true old new answer is same = subst (λ (o : Option Reply). IsJudged asker (Refusal path NoSuch true ∷ []) old o new) (sym is) (refuses asker path NoSuch true [] old new (Refused path NoSuch) refl refl same)
-refusal_alone asker path false old new answer is same = subst (λ (o : Option Reply). IsJudged asker (Refusal path NoSuch false ∷ []) old o new) (sym is) (passes_on asker path NoSuch false [] old new None refl (judged_none asker old new same))
+pub refusal_alone : (asker : Asker) (path : List (List ℕ)) (holds : Bool) (old new : Rows)
+    (answer : Option Reply) → answer ≡ cond holds (Some (Refused path NoSuch)) None → new ≡ old
+    → IsJudged asker (Refusal path NoSuch holds ∷ []) old answer new
+refusal_alone asker path true old new answer is same =
+    subst (λ (o : Option Reply). IsJudged asker (Refusal path NoSuch true ∷ []) old o new) (sym is)
+    (refuses asker path NoSuch true [] old new (Refused path NoSuch) refl refl same)
+refusal_alone asker path false old new answer is same =
+    subst (λ (o : Option Reply). IsJudged asker (Refusal path NoSuch false ∷ []) old o new) (sym is)
+    (passes_on asker path NoSuch false [] old new None refl (judged_none asker old new same))
 
-one_name_more : (path : List (List ℕ)) (depth : ℕ) → depth < length path → take (depth + 1) path ≡ take depth path ++ name_after path depth ∷ []
+one_name_more : (path : List (List ℕ)) (depth : ℕ) → depth < length path
+    → take (depth + 1) path ≡ take depth path ++ name_after path depth ∷ []
 one_name_more path depth below = take_more path depth [] below
 
-module _ (asker : Asker) (path : List (List ℕ)) (from : Found) (below : from.depth < length path) where
+module _ (asker : Asker) (path : List (List ℕ)) (from : Found)
+    (below : from.depth < length path) where
   abbrev name : List ℕ
   name = name_after path from.depth
 
   abbrev site : Site
   site = found_site path from
 
-  step_ends : (old new : Rows) (reply : Reply) → IsJudged asker (through site) old (Some reply) new → IsStepDown asker path from old (Ended reply) new
-  step_ends old new reply judged = record { judged = fails_first asker (through site) (Refusal (site.path ++ name ∷ []) NoSuch (is_none (child_of old.read from.node.id name)) ∷ []) old new reply judged; found = tt }
-
-  step_goes_on : (old mid new : Rows) (arrival : Arrival) → IsJudged asker (through site) old None mid → FindsNext path from mid arrival new → IsStepDown asker path from old arrival new
-  step_goes_on old mid new arrival judged finds =
-      let same_child : child_of mid.read from.node.id name ≡ child_of old.read from.node.id name = ap (λ (r : Rows). child_of r.read from.node.id name) judged.notes in
+  step_ends : (old new : Rows) (reply : Reply) → IsJudged asker (through site) old (Some reply) new
+      → IsStepDown asker path from old (Ended reply) new
+  step_ends old new reply judged =
       record {
-        judged = passes_first asker (through site) (Refusal (site.path ++ name ∷ []) NoSuch (is_none (child_of old.read from.node.id name)) ∷ []) old mid new (ending_reply arrival) judged
-            (refusal_alone asker (site.path ++ name ∷ []) (is_none (child_of old.read from.node.id name)) mid new (ending_reply arrival)
-            (finds.answers ∙ ap (λ (o : Option Node). cond (is_none o) (Some (Refused (take (from.depth + 1) path) NoSuch)) None) same_child
-            ∙ ap (λ (p : List (List ℕ)). cond (is_none (child_of old.read from.node.id name)) (Some (Refused p NoSuch)) None) (one_name_more path from.depth below))
+        judged = fails_first asker (through site)
+            (Refusal (site.path ++ name ∷ []) NoSuch (is_none (child_of old.read from.node.id name))
+            ∷ []) old new reply judged;
+        found =
+            tt;
+      }
+
+  step_goes_on : (old mid new : Rows) (arrival : Arrival)
+      → IsJudged asker (through site) old None mid → FindsNext path from mid arrival new
+      → IsStepDown asker path from old arrival new
+  step_goes_on old mid new arrival judged finds =
+      let same_child : child_of mid.read from.node.id name ≡ child_of old.read from.node.id name =
+      ap (λ (r : Rows). child_of r.read from.node.id name) judged.notes in
+      record {
+        judged =
+            passes_first asker (through site)
+            (Refusal (site.path ++ name ∷ []) NoSuch (is_none (child_of old.read from.node.id name))
+            ∷ []) old mid new (ending_reply arrival) judged
+            (refusal_alone asker (site.path ++ name ∷ [])
+            (is_none (child_of old.read from.node.id name)) mid new (ending_reply arrival)
+            (finds.answers
+            ∙ ap (λ (o : Option Node). cond (is_none o)
+            (Some (Refused (take (from.depth + 1) path) NoSuch)) None) same_child
+            ∙ ap (λ (p : List (List ℕ)). cond (is_none (child_of old.read from.node.id name))
+            (Some (Refused p NoSuch)) None) (one_name_more path from.depth below))
             finds.same);
         found = moved arrival finds.found;
       }
     where
-      moved : (arrival : Arrival) → IfAt arrival (λ next. child_of mid.read from.node.id name ≡ Some next) → IfAt arrival (λ next. child_of old.read from.node.id name ≡ Some next)
-      moved (At next) h = sym (ap (λ (r : Rows). child_of r.read from.node.id name) judged.notes) ∙ h
+      moved : (arrival : Arrival)
+          → IfAt arrival (λ next. child_of mid.read from.node.id name ≡ Some next)
+          → IfAt arrival (λ next. child_of old.read from.node.id name ≡ Some next)
+      moved (At next) h =
+          sym (ap (λ (r : Rows). child_of r.read from.node.id name) judged.notes) ∙ h
       moved (Ended reply) h = tt
 
   -- an object judged on the way, and what comes of that, are one step down, refused or not
-  pub step_taken : (old mid new : Rows) (refusal : Option Reply) (arrival : Arrival) → IsJudged asker (through site) old refusal mid → GoesOn path from refusal mid arrival new → IsStepDown asker path from old arrival new
+  pub step_taken : (old mid new : Rows) (refusal : Option Reply) (arrival : Arrival)
+      → IsJudged asker (through site) old refusal mid → GoesOn path from refusal mid arrival new
+      → IsStepDown asker path from old arrival new
   step_taken old mid new None arrival judged goes = step_goes_on old mid new arrival judged goes
   step_taken old mid new (Some reply) arrival judged goes =
-      subst (λ (a : Arrival). IsStepDown asker path from old a new) (sym goes.0) (step_ends old new reply (subst (λ (r : Rows). IsJudged asker (through site) old (Some reply) r) (sym goes.1) judged))
+      subst (λ (a : Arrival). IsStepDown asker path from old a new) (sym goes.0)
+      (step_ends old new reply
+      (subst (λ (r : Rows). IsJudged asker (through site) old (Some reply) r) (sym goes.1) judged))
 
 -- the name that is read off the path
-pub name_read : (path names : List (List ℕ)) (i : ℕ) (name text : List ℕ) → names ≡ path → i < length path → name ≡ get_or names i name → text ≡ name → text ≡ name_after path i
-name_read path names i name text are below is same = same ∙ get_or_read path i name below (is ∙ ap (λ (l : List (List ℕ)). get_or l i name) are) []
+pub name_read : (path names : List (List ℕ)) (i : ℕ) (name text : List ℕ) → names ≡ path
+    → i < length path → name ≡ get_or names i name → text ≡ name → text ≡ name_after path i
+name_read path names i name text are below is same =
+    same ∙ get_or_read path i name below (is ∙ ap (λ (l : List (List ℕ)). get_or l i name) are) []
 
 -- a row that can't be read after a walk to an object couldn't be read before it
-pub reached_blames : (asker : Asker) (path : List (List ℕ)) (items : Site → List Item) (arrival : Arrival) (old now : Rows) (at : ℕ) → IsReached asker path items old arrival now → IsUnreadable now at → IsUnreadable old at
-reached_blames asker path items arrival old now at reached h = subst (λ (r : Rows). IsUnreadable r at) reached.judged.notes h
+pub reached_blames : (asker : Asker) (path : List (List ℕ)) (items : Site → List Item)
+    (arrival : Arrival) (old now : Rows) (at : ℕ) → IsReached asker path items old arrival now
+    → IsUnreadable now at → IsUnreadable old at
+reached_blames asker path items arrival old now at reached h =
+    subst (λ (r : Rows). IsUnreadable r at) reached.judged.notes h
 
 -- the check that the next name is there
 module _ (path : List (List ℕ)) (from : Found) where
   -- where a child has the next name, the walk comes to it
-  pub found_next : (old new : Rows) (name : List ℕ) (next : Node) → name ≡ name_after path from.depth → new ≡ old → Some next ≡ child_of old.read from.node.id name → FindsNext path from old (At next) new
+  pub found_next : (old new : Rows) (name : List ℕ) (next : Node)
+      → name ≡ name_after path from.depth → new ≡ old
+      → Some next ≡ child_of old.read from.node.id name → FindsNext path from old (At next) new
   found_next old new name next named same is =
-      let child : child_of old.read from.node.id (name_after path from.depth) ≡ Some next = ap (child_of old.read from.node.id) (sym named) ∙ sym is in
-      record { same = same; answers = ap (λ (o : Option Node). cond (is_none o) (Some (Refused (take (from.depth + 1) path) NoSuch)) None) (sym child); found = child }
+      let child : child_of old.read from.node.id (name_after path from.depth) ≡ Some next = ap
+      (child_of old.read from.node.id) (sym named) ∙ sym is in
+      record {
+        same = same;
+        answers =
+            ap (λ (o : Option Node). cond (is_none o)
+            (Some (Refused (take (from.depth + 1) path) NoSuch)) None) (sym child);
+        found =
+            child;
+      }
 
   -- where no child has the next name, the walk ends, refused with the names as far as that one
-  pub none_next : (old new : Rows) (name : List ℕ) (reply : Reply) → name ≡ name_after path from.depth → new ≡ old → None ≡ child_of old.read from.node.id name → reply ≡ Refused (take (from.depth + 1) path) NoSuch → FindsNext path from old (Ended reply) new
+  pub none_next : (old new : Rows) (name : List ℕ) (reply : Reply)
+      → name ≡ name_after path from.depth → new ≡ old → None ≡ child_of old.read from.node.id name
+      → reply ≡ Refused (take (from.depth + 1) path) NoSuch
+      → FindsNext path from old (Ended reply) new
   none_next old new name reply named same is refusal =
-      let child : child_of old.read from.node.id (name_after path from.depth) ≡ None = ap (child_of old.read from.node.id) (sym named) ∙ sym is in
-      record { same = same; answers = ap (λ (r : Reply). Some r) refusal ∙ ap (λ (o : Option Node). cond (is_none o) (Some (Refused (take (from.depth + 1) path) NoSuch)) None) (sym child); found = tt }
+      let child : child_of old.read from.node.id (name_after path from.depth) ≡ None = ap
+      (child_of old.read from.node.id) (sym named) ∙ sym is in
+      record {
+        same = same;
+        answers =
+            ap (λ (r : Reply). Some r) refusal
+            ∙ ap (λ (o : Option Node). cond (is_none o)
+            (Some (Refused (take (from.depth + 1) path) NoSuch)) None) (sym child);
+        found =
+            tt;
+      }
 
 -- ---- the whole way
 
-not_empty : (rows : Content) (path : List (List ℕ)) (node : Node) (names : List (List ℕ)) → is_empty (stored_from rows path node names) ≡ false
+not_empty : (rows : Content) (path : List (List ℕ)) (node : Node) (names : List (List ℕ))
+    → is_empty (stored_from rows path node names) ≡ false
 not_empty rows path node [] = refl
 not_empty rows path node (name ∷ names) = refl
 
 -- the way goes through an object, asks for the next name, and goes on below
-way_down : (rows : Content) (path : List (List ℕ)) (node : Node) (name : List ℕ) (names : List (List ℕ))
+way_down : (rows : Content) (path : List (List ℕ)) (node : Node) (name : List ℕ)
+    (names : List (List ℕ))
     → way false (stored_from rows path node (name ∷ names)) (name ∷ names)
-    ≡ (through (stored_site path node) ++ Refusal (path ++ name ∷ []) NoSuch (is_none (child_of rows node.id name)) ∷ []) ++ option_map_or (λ child. way false (stored_from rows (path ++ name ∷ []) child names) names) (child_of rows node.id name) []
+    ≡ (through (stored_site path node)
+    ++ Refusal (path ++ name ∷ []) NoSuch (is_none (child_of rows node.id name)) ∷ [])
+    ++ option_map_or (λ child. way false (stored_from rows (path ++ name ∷ []) child names) names)
+    (child_of rows node.id name) []
 way_down rows path node name names = on (child_of rows node.id name)
   where
-    on : (o : Option Node) → way false (stored_site path node ∷ option_map_or (λ child. stored_from rows (path ++ name ∷ []) child names) o []) (name ∷ names)
-        ≡ (through (stored_site path node) ++ Refusal (path ++ name ∷ []) NoSuch (is_none o) ∷ []) ++ option_map_or (λ child. way false (stored_from rows (path ++ name ∷ []) child names) names) o []
+    on : (o : Option Node)
+        → way false (stored_site path node ∷ option_map_or
+        (λ child. stored_from rows (path ++ name ∷ []) child names) o []) (name ∷ names)
+        ≡ (through (stored_site path node) ++ Refusal (path ++ name ∷ []) NoSuch (is_none o) ∷ [])
+        ++ option_map_or
+        (λ child. way false (stored_from rows (path ++ name ∷ []) child names) names) o []
     on None = refl
-    on (Some child) = ap (λ t. through (stored_site path node) ++ Refusal (path ++ name ∷ []) NoSuch (t && not (false && is_empty names)) ∷ way false (stored_from rows (path ++ name ∷ []) child names) names) (not_empty rows (path ++ name ∷ []) child names)
+    on (Some child) =
+        ap (λ t. through (stored_site path node)
+        ++ Refusal (path ++ name ∷ []) NoSuch (t && not (false && is_empty names))
+        ∷ way false (stored_from rows (path ++ name ∷ []) child names) names)
+        (not_empty rows (path ++ name ∷ []) child names)
 
 -- n steps are done: what is left of the way begins at this object, and the target is looked up from
 -- there.
-pub record IsOnWay (asker : Asker) (path : List (List ℕ)) (from : Found) (old now : Rows) : Type 0 where
-  pub so_far : SoFar asker (way false (stored_along old.read path) path) (way false (stored_from old.read (take from.depth path) from.node (drop from.depth path)) (drop from.depth path)) old now
-  pub found : site_at (stored_along old.read path) path ≡ site_at (stored_from old.read (take from.depth path) from.node (drop from.depth path)) (drop from.depth path)
+pub record IsOnWay (asker : Asker) (path : List (List ℕ)) (from : Found)
+    (old now : Rows) : Type 0 where
+  pub so_far : SoFar asker (way false (stored_along old.read path) path)
+      (way false (stored_from old.read (take from.depth path) from.node (drop from.depth path))
+      (drop from.depth path)) old now
+  pub found : site_at (stored_along old.read path) path
+      ≡ site_at (stored_from old.read (take from.depth path) from.node (drop from.depth path))
+      (drop from.depth path)
 
 -- what can't be read on the way couldn't be read before
-pub way_blames : (asker : Asker) (path : List (List ℕ)) (from : Found) (old now : Rows) (at : ℕ) → IsOnWay asker path from old now → IsUnreadable now at → IsUnreadable old at
-way_blames asker path from old now at on_way h = subst (λ (r : Rows). IsUnreadable r at) on_way.so_far.judged.notes h
+pub way_blames : (asker : Asker) (path : List (List ℕ)) (from : Found) (old now : Rows) (at : ℕ)
+    → IsOnWay asker path from old now → IsUnreadable now at → IsUnreadable old at
+way_blames asker path from old now at on_way h =
+    subst (λ (r : Rows). IsUnreadable r at) on_way.so_far.judged.notes h
 
-nothing_there : {X : Type 0} (o : Option X) → option_map_or {T = X} {U = List Item} (λ _. []) o [] ≡ []
+nothing_there : {X : Type 0} (o : Option X)
+    → option_map_or {T = X} {U = List Item} (λ _. []) o [] ≡ []
 nothing_there None = refl
 nothing_there (Some x) = refl
 
@@ -122,14 +203,22 @@ module _ (asker : Asker) (path : List (List ℕ)) where
 
   -- a path with no items at its target is judged by the way to it alone
   pub plain_way : (old : Rows) → to_stored old.read path (λ _. []) ≡ all_of old
-  plain_way old = ap (λ items. all_of old ++ items) (nothing_there (site_at (stored_along old.read path) path)) ∙ append-nil (all_of old)
+  plain_way old =
+      ap (λ items. all_of old ++ items) (nothing_there (site_at (stored_along old.read path) path))
+      ∙ append-nil (all_of old)
 
   -- at the root no step is done, and the whole way is left
-  pub way_begins : (node : Node) (old now : Rows) → root_of old.read ≡ Some node → now ≡ old → IsOnWay asker path (record { node = node; depth = 0 }) old now
+  pub way_begins : (node : Node) (old now : Rows) → root_of old.read ≡ Some node → now ≡ old
+      → IsOnWay asker path (record { node = node; depth = 0 }) old now
   way_begins node old now is same =
-      let along : stored_along old.read path ≡ stored_from old.read [] node path = ap (λ o. option_map_or (λ root. stored_from old.read [] root path) o []) is in
+      let along : stored_along old.read path ≡ stored_from old.read [] node path = ap
+      (λ o. option_map_or (λ root. stored_from old.read [] root path) o []) is in
       record {
-        so_far = so_far_as asker (all_of old) (all_of old) (way false (stored_from old.read [] node path) path) old now (ap (λ sites. way false sites path) along) (so_far_none asker (all_of old) old now same);
+        so_far =
+            so_far_as asker (all_of old) (all_of old)
+            (way false (stored_from old.read [] node path) path) old now
+            (ap (λ sites. way false sites path) along)
+            (so_far_none asker (all_of old) old now same);
         found = ap (λ sites. site_at sites path) along;
       }
 
@@ -144,161 +233,285 @@ module _ (asker : Asker) (path : List (List ℕ)) where
     here = drop_more path from.depth [] below
 
     abbrev step_items : Rows → List Item
-    step_items old = through (found_site path from) ++ Refusal ((found_site path from).path ++ next_name ∷ []) NoSuch (is_none (child_of old.read from.node.id next_name)) ∷ []
+    step_items old =
+        through (found_site path from)
+        ++ Refusal ((found_site path from).path ++ next_name ∷ []) NoSuch
+        (is_none (child_of old.read from.node.id next_name)) ∷ []
 
     abbrev items_below : Rows → List Item
-    items_below old = option_map_or (λ child. way false (stored_from old.read (take from.depth path ++ next_name ∷ []) child names_left) names_left) (child_of old.read from.node.id next_name) []
+    items_below old =
+        option_map_or
+        (λ child. way false (stored_from old.read
+        (take from.depth path ++ next_name ∷ []) child names_left) names_left)
+        (child_of old.read from.node.id next_name) []
 
-    way_here : (old : Rows) → way false (stored_from old.read (take from.depth path) from.node (drop from.depth path)) (drop from.depth path) ≡ step_items old ++ items_below old
-    way_here old = ap (λ names. way false (stored_from old.read (take from.depth path) from.node names) names) here ∙ way_down old.read (take from.depth path) from.node next_name names_left
+    way_here : (old : Rows)
+        → way false (stored_from old.read (take from.depth path) from.node (drop from.depth path))
+        (drop from.depth path) ≡ step_items old ++ items_below old
+    way_here old =
+        ap (λ names. way false (stored_from old.read (take from.depth path) from.node names) names)
+        here ∙ way_down old.read (take from.depth path) from.node next_name names_left
 
     -- the step starts from the rows with the records of the way added
     at_first : (old now : Rows) → IsOnWay asker path from old now → step_items now ≡ step_items old
     at_first old now on_way = ap (λ (r : Rows). step_items r) on_way.so_far.judged.notes
 
     -- a step that is refused ends the walk along the whole path with its reply
-    pub way_ends : (old now new : Rows) (reply : Reply) → IsOnWay asker path from old now → IsStepDown asker path from now (Ended reply) new → IsReached asker path (λ _. []) old (Ended reply) new
+    pub way_ends : (old now new : Rows) (reply : Reply) → IsOnWay asker path from old now
+        → IsStepDown asker path from now (Ended reply) new
+        → IsReached asker path (λ _. []) old (Ended reply) new
     way_ends old now new reply on_way step = record {
       judged = subst (λ items. IsJudged asker items old (Some reply) new) (sym (plain_way old))
           (so_far_fails asker (all_of old) (step_items old) (items_below old) old now new reply
-          (so_far_as asker (all_of old) _ (step_items old ++ items_below old) old now (way_here old) on_way.so_far)
-          (subst (λ items. IsJudged asker items now (Some reply) new) (at_first old now on_way) step.judged));
+          (so_far_as asker (all_of old) _ (step_items old ++ items_below old) old now
+          (way_here old) on_way.so_far)
+          (subst (λ items. IsJudged asker items now (Some reply) new)
+          (at_first old now on_way) step.judged));
       found = tt;
     }
 
     -- a step that comes to a child leaves the rest of the way, from that child on
-    pub way_goes_on : (old now new : Rows) (next : Found) → next.depth ≡ from.depth + 1 → IsOnWay asker path from old now → IsStepDown asker path from now (At next.node) new → IsOnWay asker path next old new
+    pub way_goes_on : (old now new : Rows) (next : Found) → next.depth ≡ from.depth + 1
+        → IsOnWay asker path from old now → IsStepDown asker path from now (At next.node) new
+        → IsOnWay asker path next old new
     way_goes_on old now new next deeper on_way step =
-        let child : child_of old.read from.node.id next_name ≡ Some next.node = sym (ap (λ (r : Rows). child_of r.read from.node.id next_name) on_way.so_far.judged.notes) ∙ step.found in
-        let path_then : take from.depth path ++ next_name ∷ [] ≡ take next.depth path = sym (one_name_more path from.depth below) ∙ ap (λ (d : ℕ). take d path) (sym deeper) in
-        let names_then : names_left ≡ drop next.depth path = ap (λ (d : ℕ). drop d path) (sym deeper) in
-        let below_here : items_below old ≡ way false (stored_from old.read (take next.depth path) next.node (drop next.depth path)) (drop next.depth path) =
-        ap (λ o. option_map_or (λ c. way false (stored_from old.read (take from.depth path ++ next_name ∷ []) c names_left) names_left) o []) child
+        let child : child_of old.read from.node.id next_name ≡ Some next.node =
+        sym (ap (λ (r : Rows). child_of r.read from.node.id next_name)
+        on_way.so_far.judged.notes) ∙ step.found in
+        let path_then : take from.depth path ++ next_name ∷ [] ≡ take next.depth path =
+        sym (one_name_more path from.depth below) ∙ ap (λ (d : ℕ). take d path) (sym deeper) in
+        let names_then : names_left ≡ drop next.depth path = ap (λ (d : ℕ). drop d path)
+        (sym deeper) in
+        let below_here : items_below old
+        ≡ way false (stored_from old.read (take next.depth path) next.node
+        (drop next.depth path)) (drop next.depth path) =
+        ap (λ o. option_map_or
+        (λ c. way false (stored_from old.read (take from.depth path ++ next_name ∷ []) c names_left)
+        names_left) o []) child
         ∙ ap (λ p. way false (stored_from old.read p next.node names_left) names_left) path_then
-        ∙ ap (λ names. way false (stored_from old.read (take next.depth path) next.node names) names) names_then in
+        ∙ ap
+        (λ names. way false (stored_from old.read (take next.depth path) next.node names) names)
+        names_then in
         record {
           so_far = so_far_as asker (all_of old) (items_below old) _ old new below_here
               (so_far_on asker (all_of old) (step_items old) (items_below old) old now new
-              (so_far_as asker (all_of old) _ (step_items old ++ items_below old) old now (way_here old) on_way.so_far)
-              (subst (λ items. IsJudged asker items now None new) (at_first old now on_way) step.judged));
-          found = on_way.found ∙ ap (λ names. site_at (stored_from old.read (take from.depth path) from.node names) names) here
-              ∙ ap (λ o. site_at (option_map_or (λ c. stored_from old.read (take from.depth path ++ next_name ∷ []) c names_left) o []) names_left) child
+              (so_far_as asker (all_of old) _ (step_items old ++ items_below old) old now
+              (way_here old) on_way.so_far)
+              (subst (λ items. IsJudged asker items now None new)
+              (at_first old now on_way) step.judged));
+          found =
+              on_way.found
+              ∙ ap
+              (λ names. site_at (stored_from old.read (take from.depth path) from.node names) names)
+              here
+              ∙ ap
+              (λ o. site_at
+              (option_map_or (λ c. stored_from old.read
+              (take from.depth path ++ next_name ∷ []) c names_left) o []) names_left) child
               ∙ ap (λ p. site_at (stored_from old.read p next.node names_left) names_left) path_then
-              ∙ ap (λ names. site_at (stored_from old.read (take next.depth path) next.node names) names) names_then;
+              ∙ ap
+              (λ names. site_at (stored_from old.read (take next.depth path) next.node names) names)
+              names_then;
         }
 
   -- all steps are done
-  pub way_done : (from : Found) (old now : Rows) → from.depth ≡ length path → IsOnWay asker path from old now → IsReached asker path (λ _. []) old (At from.node) now
+  pub way_done : (from : Found) (old now : Rows) → from.depth ≡ length path
+      → IsOnWay asker path from old now → IsReached asker path (λ _. []) old (At from.node) now
   way_done from old now full on_way =
-      let none_left : drop from.depth path ≡ [] = ap (λ (d : ℕ). drop d path) full ∙ drop-length path in
-      let whole : take from.depth path ≡ path = ap (λ (d : ℕ). take d path) full ∙ take-length path in
+      let none_left : drop from.depth path ≡ [] = ap (λ (d : ℕ). drop d path) full
+      ∙ drop-length path in
+      let whole : take from.depth path ≡ path = ap (λ (d : ℕ). take d path) full
+      ∙ take-length path in
       record {
         judged = subst (λ items. IsJudged asker items old None now) (sym (plain_way old))
             (so_far_last asker (all_of old) [] old now now None
-            (so_far_as asker (all_of old) _ [] old now (ap (λ names. way false (stored_from old.read (take from.depth path) from.node names) names) none_left) on_way.so_far)
+            (so_far_as asker (all_of old) _ [] old now
+            (ap
+            (λ names. way false (stored_from old.read (take from.depth path) from.node names) names)
+            none_left) on_way.so_far)
             (judged_none asker now now refl));
-        found = on_way.found ∙ ap (λ names. site_at (stored_from old.read (take from.depth path) from.node names) names) none_left ∙ ap (λ p. Some (stored_site p from.node)) whole;
+        found =
+            on_way.found
+            ∙ ap
+            (λ names. site_at (stored_from old.read (take from.depth path) from.node names) names)
+            none_left ∙ ap (λ p. Some (stored_site p from.node)) whole;
       }
 
   -- ---- items at the target
 
   module _ (items : Site → List Item) where
     -- a walk that ended before its target ends with that reply, whatever items are at the target
-    pub not_reached : (old new : Rows) (reply : Reply) → IsReached asker path (λ _. []) old (Ended reply) new → IsReached asker path items old (Ended reply) new
+    pub not_reached : (old new : Rows) (reply : Reply)
+        → IsReached asker path (λ _. []) old (Ended reply) new
+        → IsReached asker path items old (Ended reply) new
     not_reached old new reply reached = record {
-      judged = fails_first asker (all_of old) (where_found (site_at (stored_along old.read path) path) items) old new reply
+      judged =
+          fails_first asker (all_of old)
+          (where_found (site_at (stored_along old.read path) path) items) old new reply
           (subst (λ list. IsJudged asker list old (Some reply) new) (plain_way old) reached.judged);
       found = tt;
     }
 
-    at_target : (old mid new : Rows) (target : Found) (answer : Option Reply) → target.depth ≡ length path → IsReached asker path (λ _. []) old (At target.node) mid → IsJudged asker (items (found_site path target)) mid answer new → IsJudged asker (to_stored old.read path items) old answer new
+    at_target : (old mid new : Rows) (target : Found) (answer : Option Reply)
+        → target.depth ≡ length path → IsReached asker path (λ _. []) old (At target.node) mid
+        → IsJudged asker (items (found_site path target)) mid answer new
+        → IsJudged asker (to_stored old.read path items) old answer new
     at_target old mid new target answer deep reached judged =
         let site : site_at (stored_along old.read path) path ≡ Some (found_site path target) =
-        reached.found ∙ ap (λ p. Some (stored_site p target.node)) (sym (ap (λ (d : ℕ). take d path) deep ∙ take-length path)) in
-        passes_first asker (all_of old) (where_found (site_at (stored_along old.read path) path) items) old mid new answer
+        reached.found ∙ ap (λ p. Some (stored_site p target.node))
+        (sym (ap (λ (d : ℕ). take d path) deep ∙ take-length path)) in
+        passes_first asker (all_of old)
+        (where_found (site_at (stored_along old.read path) path) items) old mid new answer
         (subst (λ list. IsJudged asker list old None mid) (plain_way old) reached.judged)
-        (subst (λ list. IsJudged asker list mid answer new) (sym (ap (λ o. where_found o items) site)) judged)
+        (subst (λ list. IsJudged asker list mid answer new)
+        (sym (ap (λ o. where_found o items) site)) judged)
 
     -- a walk that came to its target ends there, with the reply for an item that fails
-    pub target_refused : (old mid new : Rows) (target : Found) (reply : Reply) → target.depth ≡ length path → IsReached asker path (λ _. []) old (At target.node) mid → IsJudged asker (items (found_site path target)) mid (Some reply) new → IsReached asker path items old (Ended reply) new
-    target_refused old mid new target reply deep reached judged = record { judged = at_target old mid new target (Some reply) deep reached judged; found = tt }
+    pub target_refused : (old mid new : Rows) (target : Found) (reply : Reply)
+        → target.depth ≡ length path → IsReached asker path (λ _. []) old (At target.node) mid
+        → IsJudged asker (items (found_site path target)) mid (Some reply) new
+        → IsReached asker path items old (Ended reply) new
+    target_refused old mid new target reply deep reached judged =
+        record {
+          judged = at_target old mid new target (Some reply) deep reached judged;
+          found = tt;
+        }
 
     -- a walk that came to its target has reached it where all items there pass
-    pub target_passed : (old mid new : Rows) (target : Found) → target.depth ≡ length path → IsReached asker path (λ _. []) old (At target.node) mid → IsJudged asker (items (found_site path target)) mid None new → IsReached asker path items old (At target.node) new
-    target_passed old mid new target deep reached judged = record { judged = at_target old mid new target None deep reached judged; found = reached.found }
+    pub target_passed : (old mid new : Rows) (target : Found) → target.depth ≡ length path
+        → IsReached asker path (λ _. []) old (At target.node) mid
+        → IsJudged asker (items (found_site path target)) mid None new
+        → IsReached asker path items old (At target.node) new
+    target_passed old mid new target deep reached judged =
+        record {
+          judged = at_target old mid new target None deep reached judged;
+          found = reached.found;
+        }
 
     -- the walk comes to the object, or ends with the reply of its items
-    pub reaches_with : (old mid new : Rows) (node : Node) (target : Found) (refusal : Option Reply) → target ≡ record { node = node; depth = length path } → IsReached asker path (λ _. []) old (At node) mid
-        → IsJudged asker (items (found_site path target)) mid refusal new → IsReached asker path items old (arrival_of node refusal) new
+    pub reaches_with : (old mid new : Rows) (node : Node) (target : Found) (refusal : Option Reply)
+        → target ≡ record { node = node; depth = length path }
+        → IsReached asker path (λ _. []) old (At node) mid
+        → IsJudged asker (items (found_site path target)) mid refusal new
+        → IsReached asker path items old (arrival_of node refusal) new
     reaches_with old mid new node target None is reached judged =
-        target_passed old mid new (record { node = node; depth = length path }) refl reached (subst (λ (t : Found). IsJudged asker (items (found_site path t)) mid None new) is judged)
+        target_passed old mid new (record { node = node; depth = length path }) refl reached
+        (subst (λ (t : Found). IsJudged asker (items (found_site path t)) mid None new) is
+        judged)
     reaches_with old mid new node target (Some reply) is reached judged =
-        target_refused old mid new (record { node = node; depth = length path }) reply refl reached (subst (λ (t : Found). IsJudged asker (items (found_site path t)) mid (Some reply) new) is judged)
+        target_refused old mid new (record { node = node; depth = length path }) reply refl reached
+        (subst (λ (t : Found). IsJudged asker (items (found_site path t)) mid (Some reply) new)
+        is judged)
 
 -- ---- a walk, step after step
 
 -- a step down the first names of a path
-step_of_front : (asker : Asker) (path : List (List ℕ)) (n : ℕ) (from : Found) (old new : Rows) (arrival : Arrival) → from.depth < n → IsStepDown asker path from old arrival new → IsStepDown asker (take n path) from old arrival new
+step_of_front : (asker : Asker) (path : List (List ℕ)) (n : ℕ) (from : Found) (old new : Rows)
+    (arrival : Arrival) → from.depth < n → IsStepDown asker path from old arrival new
+    → IsStepDown asker (take n path) from old arrival new
 step_of_front asker path n from old new arrival below step =
-    let begin : take from.depth path ≡ take from.depth (take n path) = sym (take-take from.depth n path (omega arith)) in
-    let named : name_after path from.depth ≡ name_after (take n path) from.depth = sym (get_or-take n path from.depth [] below) in
+    let begin : take from.depth path ≡ take from.depth (take n path) =
+    sym (take-take from.depth n path (omega arith)) in
+    let named : name_after path from.depth ≡ name_after (take n path) from.depth =
+    sym (get_or-take n path from.depth [] below) in
     record {
-      judged = subst (λ list. IsJudged asker list old (ending_reply arrival) new) (ap (λ p. items p (name_after path from.depth)) begin ∙ ap (items (take from.depth (take n path))) named) step.judged;
-      found = subst (λ name. IfAt arrival (λ next. child_of old.read from.node.id name ≡ Some next)) named step.found;
+      judged =
+          subst (λ list. IsJudged asker list old (ending_reply arrival) new)
+          (ap (λ p. items p (name_after path from.depth)) begin
+          ∙ ap (items (take from.depth (take n path))) named) step.judged;
+      found =
+          subst (λ name. IfAt arrival (λ next. child_of old.read from.node.id name ≡ Some next))
+          named step.found;
     }
   where
     items : List (List ℕ) → List ℕ → List Item
-    items begin name = through (stored_site begin from.node) ++ Refusal (begin ++ name ∷ []) NoSuch (is_none (child_of old.read from.node.id name)) ∷ []
+    items begin name =
+        through (stored_site begin from.node)
+        ++ Refusal (begin ++ name ∷ []) NoSuch (is_none (child_of old.read from.node.id name)) ∷ []
 
 -- n steps are done, or the walk has ended.
 abbrev pub IsWalking : Asker → List (List ℕ) → ℕ → Arrival → Rows → Rows → Type 0
-IsWalking asker path depth (At node) old now = IsOnWay asker path (record { node = node; depth = depth }) old now
-IsWalking asker path depth (Ended reply) old now = IsReached asker path (λ _. []) old (Ended reply) now
+IsWalking asker path depth (At node) old now =
+    IsOnWay asker path (record { node = node; depth = depth }) old now
+IsWalking asker path depth (Ended reply) old now =
+    IsReached asker path (λ _. []) old (Ended reply) now
 
 -- a row that can't be read n steps on, or after the walk ended, couldn't be read at the start
-pub walking_blames : (asker : Asker) (path : List (List ℕ)) (depth : ℕ) (arrival : Arrival) (old now : Rows) (at : ℕ) → IsWalking asker path depth arrival old now → IsUnreadable now at → IsUnreadable old at
-walking_blames asker path depth (At node) old now at walking h = way_blames asker path (record { node = node; depth = depth }) old now at walking h
-walking_blames asker path depth (Ended reply) old now at walking h = reached_blames asker path (λ _. []) (Ended reply) old now at walking h
+pub walking_blames : (asker : Asker) (path : List (List ℕ)) (depth : ℕ) (arrival : Arrival)
+    (old now : Rows) (at : ℕ) → IsWalking asker path depth arrival old now → IsUnreadable now at
+    → IsUnreadable old at
+walking_blames asker path depth (At node) old now at walking h =
+    way_blames asker path (record { node = node; depth = depth }) old now at walking h
+walking_blames asker path depth (Ended reply) old now at walking h =
+    reached_blames asker path (λ _. []) (Ended reply) old now at walking h
 
 module _ (asker : Asker) (path : List (List ℕ)) (n : ℕ) (within : n ≤ length path) where
   size : length (take n path) ≡ n
   size = length-take-le n path within
 
   -- one more step of a walk comes to a child, is refused, or finds that the walk has ended
-  pub walks_on : (depth : ℕ) (arrival next : Arrival) (old now new : Rows) → depth < n → IsWalking asker (take n path) depth arrival old now → StepsOn asker path depth arrival now next new → IsWalking asker (take n path) (depth + 1) next old new
+  pub walks_on : (depth : ℕ) (arrival next : Arrival) (old now new : Rows) → depth < n
+      → IsWalking asker (take n path) depth arrival old now
+      → StepsOn asker path depth arrival now next new
+      → IsWalking asker (take n path) (depth + 1) next old new
   walks_on depth (At node) (At next) old now new below walking step =
       let from : Found = record { node = node; depth = depth } in
-      way_goes_on asker (take n path) from (omega (arith, size)) old now new (record { node = next; depth = depth + 1 }) refl walking (step_of_front asker path n from now new (At next) below step)
+      way_goes_on asker (take n path) from (omega (arith, size)) old now new
+      (record { node = next; depth = depth + 1 }) refl walking
+      (step_of_front asker path n from now new (At next) below step)
   walks_on depth (At node) (Ended reply) old now new below walking step =
       let from : Found = record { node = node; depth = depth } in
-      way_ends asker (take n path) from (omega (arith, size)) old now new reply walking (step_of_front asker path n from now new (Ended reply) below step)
+      way_ends asker (take n path) from (omega (arith, size)) old now new reply walking
+      (step_of_front asker path n from now new (Ended reply) below step)
   walks_on depth (Ended reply) next old now new below walking step =
-      subst (λ (a : Arrival). IsWalking asker (take n path) (depth + 1) a old new) (sym step.0) (subst (λ (r : Rows). IsReached asker (take n path) (λ _. []) old (Ended reply) r) (sym step.1) walking)
+      subst (λ (a : Arrival). IsWalking asker (take n path) (depth + 1) a old new) (sym step.0)
+      (subst (λ (r : Rows). IsReached asker (take n path) (λ _. []) old (Ended reply) r)
+      (sym step.1) walking)
 
   -- a walk past all n names has reached the object there, or has ended with a reply
-  pub walk_done : (depth : ℕ) (arrival : Arrival) (old now : Rows) → depth ≡ n → IsWalking asker (take n path) depth arrival old now → IsReached asker (take n path) (λ _. []) old arrival now
-  walk_done depth (At node) old now all walking = way_done asker (take n path) (record { node = node; depth = depth }) old now (all ∙ sym size) walking
+  pub walk_done : (depth : ℕ) (arrival : Arrival) (old now : Rows) → depth ≡ n
+      → IsWalking asker (take n path) depth arrival old now
+      → IsReached asker (take n path) (λ _. []) old arrival now
+  walk_done depth (At node) old now all walking =
+      way_done asker (take n path) (record { node = node; depth = depth }) old now
+      (all ∙ sym size) walking
   walk_done depth (Ended reply) old now all walking = walking
 
 -- all names of the path
-pub walked_whole : (asker : Asker) (path : List (List ℕ)) (n : ℕ) (arrival : Arrival) (old new : Rows) → n ≡ length path → IsReached asker (take n path) (λ _. []) old arrival new → IsReached asker path (λ _. []) old arrival new
-walked_whole asker path n arrival old new all reached = subst (λ p. IsReached asker p (λ _. []) old arrival new) (ap (λ (k : ℕ). take k path) all ∙ take-length path) reached
+pub walked_whole : (asker : Asker) (path : List (List ℕ)) (n : ℕ) (arrival : Arrival)
+    (old new : Rows) → n ≡ length path → IsReached asker (take n path) (λ _. []) old arrival new
+    → IsReached asker path (λ _. []) old arrival new
+walked_whole asker path n arrival old new all reached =
+    subst (λ p. IsReached asker p (λ _. []) old arrival new)
+    (ap (λ (k : ℕ). take k path) all ∙ take-length path) reached
 
 -- ---- from the root
 
 -- no step is done at the root
-pub root_reached : (asker : Asker) (path : List (List ℕ)) (n : ℕ) (node : Node) (old new : Rows) → n ≡ 0 → root_of old.read ≡ Some node → new ≡ old → IsReached asker (take n path) (λ _. []) old (At node) new
+pub root_reached : (asker : Asker) (path : List (List ℕ)) (n : ℕ) (node : Node) (old new : Rows)
+    → n ≡ 0 → root_of old.read ≡ Some node → new ≡ old
+    → IsReached asker (take n path) (λ _. []) old (At node) new
 root_reached asker path n node old new none is same =
     subst (λ (k : ℕ). IsReached asker (take k path) (λ _. []) old (At node) new) (sym none)
-    (way_done asker [] (record { node = node; depth = 0 }) old new refl (way_begins asker [] node old new is same))
+    (way_done asker [] (record { node = node; depth = 0 }) old new refl
+    (way_begins asker [] node old new is same))
 
 -- the first step
-pub first_step : (asker : Asker) (path : List (List ℕ)) (n : ℕ) → n ≤ length path → (root : Found) (next : Arrival) (old new : Rows) → root.depth ≡ 0 → 0 < n → root_of old.read ≡ Some root.node → IsStepDown asker path root old next new → IsWalking asker (take n path) 1 next old new
+pub first_step : (asker : Asker) (path : List (List ℕ)) (n : ℕ) → n ≤ length path
+    → (root : Found) (next : Arrival) (old new : Rows) → root.depth ≡ 0 → 0 < n
+    → root_of old.read ≡ Some root.node → IsStepDown asker path root old next new
+    → IsWalking asker (take n path) 1 next old new
 first_step asker path n within root next old new top some is step =
-    walks_on asker path n within 0 (At root.node) next old old new some (way_begins asker (take n path) root.node old old is refl)
-    (subst (λ (d : ℕ). IsStepDown asker path (record { node = root.node; depth = d }) old next new) top step)
+    walks_on asker path n within 0 (At root.node) next old old new some
+    (way_begins asker (take n path) root.node old old is refl)
+    (subst (λ (d : ℕ). IsStepDown asker path (record { node = root.node; depth = d }) old next new)
+    top step)
 
 -- the root that was read is that of the rows
-pub reached_from : (asker : Asker) (path : List (List ℕ)) (root : Node) (arrival : Arrival) (old mid new : Rows) → root_of old.read ≡ Some root → mid ≡ old → FromRoot root (IsReached asker path (λ _. [])) mid arrival new → IsReached asker path (λ _. []) old arrival new
+pub reached_from : (asker : Asker) (path : List (List ℕ)) (root : Node) (arrival : Arrival)
+    (old mid new : Rows) → root_of old.read ≡ Some root → mid ≡ old
+    → FromRoot root (IsReached asker path (λ _. [])) mid arrival new
+    → IsReached asker path (λ _. []) old arrival new
 reached_from asker path root arrival old mid new is same reached =
-    subst (λ (r : Rows). IsReached asker path (λ _. []) r arrival new) same (reached (ap (λ (r : Rows). root_of r.read) same ∙ is))
+    subst (λ (r : Rows). IsReached asker path (λ _. []) r arrival new) same
+    (reached (ap (λ (r : Rows). root_of r.read) same ∙ is))

@@ -11,11 +11,19 @@ all_numbers [] = 0
 all_numbers (node ∷ nodes) = node.id + all_numbers nodes
 
 -- a number above all others together is none of them
-above_none : (nodes : List Node) (id : ℕ) → all_numbers nodes < id → find (λ node. node.id == id) nodes ≡ None
+above_none : (nodes : List Node) (id : ℕ) → all_numbers nodes < id
+    → find (λ node. node.id == id) nodes ≡ None
 above_none [] id above = refl
 above_none (node ∷ nodes) id above =
-    ap (λ t. cond t (Some node) (find (λ n. n.id == id) nodes)) (ne_eqb node.id id (λ same. omega arith)) ∙ above_none nodes id (omega arith)
+    ap (λ t. cond t (Some node) (find (λ n. n.id == id) nodes))
+    (ne_eqb node.id id (λ same. omega arith)) ∙ above_none nodes id (omega arith)
 
 -- the number after the sum of all numbers in use is free
 pub some_free : SomeFree
-some_free content = (all_numbers content.nodes + 1, (omega arith, ap is_none (above_none content.nodes (all_numbers content.nodes + 1) (omega arith))))
+some_free content = (
+  all_numbers content.nodes + 1,
+  (
+    omega arith,
+    ap is_none (above_none content.nodes (all_numbers content.nodes + 1) (omega arith)),
+  ),
+)

@@ -28,59 +28,80 @@ use Rattle.room_machine.proofs.Replies.{or_reply, reply_of, same_caller}
 abbrev way_as_far : ℕ → List Site → List (List ℕ) → List Item
 way_as_far n [] names = []
 way_as_far n (site ∷ sites) [] = []
-way_as_far zero (site ∷ sites) (name ∷ names) = Refusal site.path NotFolder (not (is_folder site.node)) ∷ Check site (execute ∷ []) ∷ []
+way_as_far zero (site ∷ sites) (name ∷ names) =
+    Refusal site.path NotFolder (not (is_folder site.node)) ∷ Check site (execute ∷ []) ∷ []
 way_as_far (suc n) (site ∷ sites) (name ∷ names) =
-    Refusal site.path NotFolder (not (is_folder site.node)) ∷ Check site (execute ∷ []) ∷ Refusal (site.path ++ name ∷ []) NoSuch (is_empty sites) ∷ way_as_far n sites names
+    Refusal site.path NotFolder (not (is_folder site.node)) ∷ Check site (execute ∷ [])
+    ∷ Refusal (site.path ++ name ∷ []) NoSuch (is_empty sites) ∷ way_as_far n sites names
 
-take_sites_below : (n : ℕ) (above : Site) (chain : List Node) → sites_below above (take n chain) ≡ take n (sites_below above chain)
+take_sites_below : (n : ℕ) (above : Site) (chain : List Node)
+    → sites_below above (take n chain) ≡ take n (sites_below above chain)
 take_sites_below zero above chain = refl
 take_sites_below (suc n) above [] = refl
-take_sites_below (suc n) above (node ∷ chain) = ap (λ sites. site_below above node ∷ sites) (take_sites_below n (site_below above node) chain)
+take_sites_below (suc n) above (node ∷ chain) =
+    ap (λ sites. site_below above node ∷ sites) (take_sites_below n (site_below above node) chain)
 
 take_sites : (n : ℕ) (chain : List Node) → sites_of (take n chain) ≡ take n (sites_of chain)
 take_sites zero chain = refl
 take_sites (suc n) [] = refl
-take_sites (suc n) (node ∷ chain) = ap (λ sites. root_site node ∷ sites) (take_sites_below n (root_site node) chain)
+take_sites (suc n) (node ∷ chain) =
+    ap (λ sites. root_site node ∷ sites) (take_sites_below n (root_site node) chain)
 
 empty_take : (n : ℕ) (sites : List Site) → is_empty (take (suc n) sites) ≡ is_empty sites
 empty_take n [] = refl
 empty_take n (site ∷ sites) = refl
 
 -- the way as far as an object depends on the objects down to it alone
-far_take : (n : ℕ) (sites : List Site) (names : List (List ℕ)) → way_as_far n (take (suc n) sites) names ≡ way_as_far n sites names
+far_take : (n : ℕ) (sites : List Site) (names : List (List ℕ))
+    → way_as_far n (take (suc n) sites) names ≡ way_as_far n sites names
 far_take zero [] names = refl
 far_take zero (site ∷ sites) [] = refl
 far_take zero (site ∷ sites) (name ∷ names) = refl
 far_take (suc n) [] names = refl
 far_take (suc n) (site ∷ sites) [] = refl
 far_take (suc n) (site ∷ sites) (name ∷ names) =
-    ap (λ t. Refusal site.path NotFolder (not (is_folder site.node)) ∷ Check site (execute ∷ []) ∷ Refusal (site.path ++ name ∷ []) NoSuch t ∷ way_as_far n (take (suc n) sites) names) (empty_take n sites)
-    ∙ ap (λ items. Refusal site.path NotFolder (not (is_folder site.node)) ∷ Check site (execute ∷ []) ∷ Refusal (site.path ++ name ∷ []) NoSuch (is_empty sites) ∷ items) (far_take n sites names)
+    ap (λ t. Refusal site.path NotFolder (not (is_folder site.node)) ∷ Check site (execute ∷ [])
+    ∷ Refusal (site.path ++ name ∷ []) NoSuch t ∷ way_as_far n (take (suc n) sites) names)
+    (empty_take n sites)
+    ∙ ap (λ items. Refusal site.path NotFolder (not (is_folder site.node))
+    ∷ Check site (execute ∷ []) ∷ Refusal (site.path ++ name ∷ []) NoSuch (is_empty sites) ∷ items)
+    (far_take n sites names)
 
-same_far : (n : ℕ) (chain other : List Node) (names : List (List ℕ)) → take (n + 1) chain ≡ take (n + 1) other → way_as_far n (sites_of chain) names ≡ way_as_far n (sites_of other) names
+same_far : (n : ℕ) (chain other : List Node) (names : List (List ℕ))
+    → take (n + 1) chain ≡ take (n + 1) other
+    → way_as_far n (sites_of chain) names ≡ way_as_far n (sites_of other) names
 same_far n chain other names same =
     let suc_same : take (suc n) chain ≡ take (suc n) other = rw add-one at same in
-    sym (far_take n (sites_of chain) names) ∙ ap (λ sites. way_as_far n sites names) (sym (take_sites (suc n) chain) ∙ ap sites_of suc_same ∙ take_sites (suc n) other) ∙ far_take n (sites_of other) names
+    sym (far_take n (sites_of chain) names)
+    ∙ ap (λ sites. way_as_far n sites names)
+    (sym (take_sites (suc n) chain) ∙ ap sites_of suc_same ∙ take_sites (suc n) other)
+    ∙ far_take n (sites_of other) names
 
 -- a denial on the way as far as an object is the first failure of each plan that begins with the
 -- way
-module _ (caller : Caller) (lack : Bool) (rest : List Item) (at : List (List ℕ)) (bits : List ℕ) (place : Option ℕ) (entry : Option Ace) where
+module _ (caller : Caller) (lack : Bool) (rest : List Item) (at : List (List ℕ)) (bits : List ℕ)
+    (place : Option ℕ) (entry : Option Ace) where
   abbrev denial : Option Reply
   denial = Some (Denied at bits place entry)
 
   -- a refusal isn't a denial, so where a denial comes first, the fact doesn't hold
-  past_refusal : (path : List (List ℕ)) (why : Reason) (holds : Bool) (others : Option Reply) → or_else (cond holds (Some (Refused path why)) None) others ≡ denial → (holds ≡ false) × (others ≡ denial)
+  past_refusal : (path : List (List ℕ)) (why : Reason) (holds : Bool) (others : Option Reply)
+      → or_else (cond holds (Some (Refused path why)) None) others ≡ denial → (holds ≡ false)
+      × (others ≡ denial)
   past_refusal path why true others is = absurd (differ is)
     where
       differ : Some (Refused path why) ≡ denial → ⊥
       differ same = cc
   past_refusal path why false others is = (refl, is)
 
-  past_check : (failed others more : Option Reply) → or_else failed others ≡ denial → (others ≡ denial → more ≡ denial) → or_else failed more ≡ denial
+  past_check : (failed others more : Option Reply) → or_else failed others ≡ denial
+      → (others ≡ denial → more ≡ denial) → or_else failed more ≡ denial
   past_check None others more is next = next is
   past_check (Some reply) others more is next = is
 
-  denied_first : (n : ℕ) (sites : List Site) (names : List (List ℕ)) → first_failure caller (way_as_far n sites names) ≡ denial → first_failure caller (way lack sites names ++ rest) ≡ denial
+  denied_first : (n : ℕ) (sites : List Site) (names : List (List ℕ))
+      → first_failure caller (way_as_far n sites names) ≡ denial
+      → first_failure caller (way lack sites names ++ rest) ≡ denial
   denied_first n [] names is = absurd (none_some is)
     where
       none_some : first_failure caller [] ≡ denial → ⊥
@@ -90,54 +111,87 @@ module _ (caller : Caller) (lack : Bool) (rest : List Item) (at : List (List ℕ
       none_some : first_failure caller [] ≡ denial → ⊥
       none_some same = cc
   denied_first zero (site ∷ sites) (name ∷ names) is =
-      let folder = past_refusal site.path NotFolder (not (is_folder site.node)) (or_else (failure caller (Check site (execute ∷ []))) None) is in
-      let more : Option Reply = or_else (cond (is_empty sites && not (lack && is_empty names)) (Some (Refused (site.path ++ name ∷ []) NoSuch)) None) (first_failure caller (way lack sites names ++ rest)) in
-      ap (λ t. or_else (cond t (Some (Refused site.path NotFolder)) None) (or_else (failure caller (Check site (execute ∷ []))) more)) folder.0
-      ∙ past_check (failure caller (Check site (execute ∷ []))) None more folder.1 (λ same. no_denial same more)
+      let folder = past_refusal site.path NotFolder (not (is_folder site.node))
+      (or_else (failure caller (Check site (execute ∷ []))) None) is in
+      let more : Option Reply = or_else
+      (cond (is_empty sites && not (lack && is_empty names))
+      (Some (Refused (site.path ++ name ∷ []) NoSuch)) None)
+      (first_failure caller (way lack sites names ++ rest)) in
+      ap (λ t. or_else (cond t (Some (Refused site.path NotFolder)) None)
+      (or_else (failure caller (Check site (execute ∷ []))) more)) folder.0
+      ∙ past_check (failure caller (Check site (execute ∷ []))) None more folder.1
+      (λ same. no_denial same more)
     where
       no_denial : None ≡ denial → (o : Option Reply) → o ≡ denial
       no_denial same o = cc
   denied_first (suc n) (site ∷ sites) (name ∷ names) is =
       let failed : Option Reply = failure caller (Check site (execute ∷ [])) in
-      let others : Option Reply = or_else (cond (is_empty sites) (Some (Refused (site.path ++ name ∷ []) NoSuch)) None) (first_failure caller (way_as_far n sites names)) in
-      let folder = past_refusal site.path NotFolder (not (is_folder site.node)) (or_else failed others) is in
+      let others : Option Reply = or_else
+      (cond (is_empty sites) (Some (Refused (site.path ++ name ∷ []) NoSuch)) None)
+      (first_failure caller (way_as_far n sites names)) in
+      let folder = past_refusal site.path NotFolder (not (is_folder site.node))
+      (or_else failed others) is in
       let behind : Option Reply = first_failure caller (way lack sites names ++ rest) in
-      let more : Option Reply = or_else (cond (is_empty sites && not (lack && is_empty names)) (Some (Refused (site.path ++ name ∷ []) NoSuch)) None) behind in
-      ap (λ t. or_else (cond t (Some (Refused site.path NotFolder)) None) (or_else failed more)) folder.0
+      let more : Option Reply = or_else
+      (cond (is_empty sites && not (lack && is_empty names))
+      (Some (Refused (site.path ++ name ∷ []) NoSuch)) None) behind in
+      ap (λ t. or_else (cond t (Some (Refused site.path NotFolder)) None) (or_else failed more))
+      folder.0
       ∙ past_check failed others more folder.1 (λ same.
-      let there = past_refusal (site.path ++ name ∷ []) NoSuch (is_empty sites) (first_failure caller (way_as_far n sites names)) same in
-      ap (λ t. or_else (cond (t && not (lack && is_empty names)) (Some (Refused (site.path ++ name ∷ []) NoSuch)) None) behind) there.0
+      let there = past_refusal (site.path ++ name ∷ []) NoSuch (is_empty sites)
+      (first_failure caller (way_as_far n sites names)) same in
+      ap (λ t. or_else (cond (t && not (lack && is_empty names))
+      (Some (Refused (site.path ++ name ∷ []) NoSuch)) None) behind) there.0
       ∙ denied_first n sites names there.1)
 
 -- the plan of a request with a path begins with the way
-module _ (b : Content) (caller : Caller) (n : ℕ) (at : List (List ℕ)) (bits : List ℕ) (place : Option ℕ) (entry : Option Ace) where
+module _ (b : Content) (caller : Caller) (n : ℕ) (at : List (List ℕ)) (bits : List ℕ)
+    (place : Option ℕ) (entry : Option Ace) where
   abbrev IsDenied : Request → Type 0
-  IsDenied request = first_failure caller (way_as_far n (sites_along b (first_path request)) (first_path request)) ≡ Some (Denied at bits place entry)
+  IsDenied request =
+      first_failure caller (way_as_far n (sites_along b (first_path request)) (first_path request))
+      ≡ Some (Denied at bits place entry)
 
   no_way : (sites : List Site) → way_as_far n sites [] ≡ []
   no_way [] = refl
   no_way (site ∷ sites) = refl
 
-  plan_denied : (request : Request) → IsDenied request → first_failure caller (plan_of b request) ≡ Some (Denied at bits place entry)
-  plan_denied (Read path) is = denied_first caller false _ at bits place entry n (sites_along b path) path is
-  plan_denied (ListFolder path) is = denied_first caller false _ at bits place entry n (sites_along b path) path is
-  plan_denied (Put path bytes) is = denied_first caller true _ at bits place entry n (sites_along b path) path is
-  plan_denied (Append path bytes) is = denied_first caller false _ at bits place entry n (sites_along b path) path is
-  plan_denied (MakeFolder []) is = absurd (none_some (sym (ap (first_failure caller) (no_way (sites_along b []))) ∙ is))
+  plan_denied : (request : Request) → IsDenied request
+      → first_failure caller (plan_of b request) ≡ Some (Denied at bits place entry)
+  plan_denied (Read path) is =
+      denied_first caller false _ at bits place entry n (sites_along b path) path is
+  plan_denied (ListFolder path) is =
+      denied_first caller false _ at bits place entry n (sites_along b path) path is
+  plan_denied (Put path bytes) is =
+      denied_first caller true _ at bits place entry n (sites_along b path) path is
+  plan_denied (Append path bytes) is =
+      denied_first caller false _ at bits place entry n (sites_along b path) path is
+  plan_denied (MakeFolder []) is =
+      absurd (none_some (sym (ap (first_failure caller) (no_way (sites_along b []))) ∙ is))
     where
       none_some : first_failure caller [] ≡ Some (Denied at bits place entry) → ⊥
       none_some same = cc
-  plan_denied (MakeFolder (name ∷ names)) is = denied_first caller true _ at bits place entry n (sites_along b (name ∷ names)) (name ∷ names) is
-  plan_denied (Remove path) is = denied_first caller false _ at bits place entry n (sites_along b path) path is
-  plan_denied (Move path to) is = denied_first caller false _ at bits place entry n (sites_along b path) path is
-  plan_denied (ReadList path which) is = denied_first caller false _ at bits place entry n (sites_along b path) path is
-  plan_denied (SetList path which sent) is = denied_first caller false _ at bits place entry n (sites_along b path) path is
-  plan_denied (ReadAttr path) is = denied_first caller false _ at bits place entry n (sites_along b path) path is
-  plan_denied (SetOwners path owners) is = denied_first caller false _ at bits place entry n (sites_along b path) path is
-  plan_denied (Can path mask) is = denied_first caller false _ at bits place entry n (sites_along b path) path is
+  plan_denied (MakeFolder (name ∷ names)) is =
+      denied_first caller true _ at bits place entry n (sites_along b (name ∷ names))
+      (name ∷ names) is
+  plan_denied (Remove path) is =
+      denied_first caller false _ at bits place entry n (sites_along b path) path is
+  plan_denied (Move path to) is =
+      denied_first caller false _ at bits place entry n (sites_along b path) path is
+  plan_denied (ReadList path which) is =
+      denied_first caller false _ at bits place entry n (sites_along b path) path is
+  plan_denied (SetList path which sent) is =
+      denied_first caller false _ at bits place entry n (sites_along b path) path is
+  plan_denied (ReadAttr path) is =
+      denied_first caller false _ at bits place entry n (sites_along b path) path is
+  plan_denied (SetOwners path owners) is =
+      denied_first caller false _ at bits place entry n (sites_along b path) path is
+  plan_denied (Can path mask) is =
+      denied_first caller false _ at bits place entry n (sites_along b path) path is
 
 -- where the way is denied, it is denied at an object on it
-module _ (caller : Caller) (lack : Bool) (at : List (List ℕ)) (bits : List ℕ) (place : Option ℕ) (entry : Option Ace) where
+module _ (caller : Caller) (lack : Bool) (at : List (List ℕ)) (bits : List ℕ) (place : Option ℕ)
+    (entry : Option Ace) where
   abbrev denied : Option Reply
   denied = Some (Denied at bits place entry)
 
@@ -148,71 +202,113 @@ module _ (caller : Caller) (lack : Bool) (at : List (List ℕ)) (bits : List ℕ
   or_none None = refl
   or_none (Some reply) = refl
 
-  either : (failed more : Option Reply) → or_else failed more ≡ denied → (failed ≡ denied) ⊎ ((failed ≡ None) × (more ≡ denied))
+  either : (failed more : Option Reply) → or_else failed more ≡ denied → (failed ≡ denied)
+      ⊎ ((failed ≡ None) × (more ≡ denied))
   either None more is = inr (refl, is)
   either (Some reply) more is = inl is
 
   -- a check is denied at its object
   at_site : (site : Site) (v : Verdict) → of_verdict site v ≡ denied → length at ≡ length site.path
   at_site site Granted is = absurd (no_failure is)
-  at_site site (DeniedWith of_bits of_place) is = ap (λ (path : List (List ℕ)). length path) (sym (same is))
+  at_site site (DeniedWith of_bits of_place) is =
+      ap (λ (path : List (List ℕ)). length path) (sym (same is))
     where
-      same : Some (Denied site.path of_bits of_place (entry_at site of_place)) ≡ denied → site.path ≡ at
+      same : Some (Denied site.path of_bits of_place (entry_at site of_place)) ≡ denied
+          → site.path ≡ at
       same given = cc
 
   -- so far, as many names below this object as the path of the denial has more
   abbrev IsDeniedBelow : Site → List Site → List (List ℕ) → Type 0
-  IsDeniedBelow site sites names = (n : ℕ) × (length at ≡ length site.path + n) × (first_failure caller (way_as_far n (site ∷ sites) names) ≡ denied)
+  IsDeniedBelow site sites names = (n : ℕ) × (length at ≡ length site.path + n)
+      × (first_failure caller (way_as_far n (site ∷ sites) names) ≡ denied)
 
-  denied_here : (site : Site) (sites : List Site) (name : List ℕ) (names : List (List ℕ)) → not (is_folder site.node) ≡ false → failure caller (Check site (execute ∷ [])) ≡ denied → IsDeniedBelow site sites (name ∷ names)
+  denied_here : (site : Site) (sites : List Site) (name : List ℕ) (names : List (List ℕ))
+      → not (is_folder site.node) ≡ false → failure caller (Check site (execute ∷ [])) ≡ denied
+      → IsDeniedBelow site sites (name ∷ names)
   denied_here site sites name names folder is = (
     0,
-    omega (arith, at_site site (verdict (full_at Dacl site) caller site.node.owners (execute ∷ [])) is),
-    ap (λ t. or_else (cond t (Some (Refused site.path NotFolder)) None) (or_else (failure caller (Check site (execute ∷ []))) None)) folder ∙ or_none (failure caller (Check site (execute ∷ []))) ∙ is,
+    omega (
+      arith,
+      at_site site (verdict (full_at Dacl site) caller site.node.owners (execute ∷ []))
+          is,
+    ),
+    ap (λ t. or_else (cond t (Some (Refused site.path NotFolder)) None)
+        (or_else (failure caller (Check site (execute ∷ []))) None)) folder
+        ∙ or_none (failure caller (Check site (execute ∷ []))) ∙ is,
   )
 
-  denied_next : (site next : Site) (sites : List Site) (name : List ℕ) (names : List (List ℕ)) → length next.path ≡ length site.path + 1 → not (is_folder site.node) ≡ false → failure caller (Check site (execute ∷ [])) ≡ None
+  denied_next : (site next : Site) (sites : List Site) (name : List ℕ) (names : List (List ℕ))
+      → length next.path ≡ length site.path + 1 → not (is_folder site.node) ≡ false
+      → failure caller (Check site (execute ∷ [])) ≡ None
       → IsDeniedBelow next sites names → IsDeniedBelow site (next ∷ sites) (name ∷ names)
   denied_next site next sites name names deeper folder passes below = (
     suc below.0,
     omega (arith, below.1, deeper),
-    ap (λ t. or_else (cond t (Some (Refused site.path NotFolder)) None) (or_else (failure caller (Check site (execute ∷ []))) (first_failure caller (way_as_far below.0 (next ∷ sites) names)))) folder
-        ∙ ap (λ o. or_else o (first_failure caller (way_as_far below.0 (next ∷ sites) names))) passes ∙ below.2,
+    ap (λ t. or_else (cond t (Some (Refused site.path NotFolder)) None)
+        (or_else (failure caller (Check site (execute ∷ [])))
+        (first_failure caller (way_as_far below.0 (next ∷ sites) names)))) folder
+        ∙ ap (λ o. or_else o (first_failure caller (way_as_far below.0 (next ∷ sites) names)))
+        passes ∙ below.2,
   )
 
-  denied_below : (site : Site) (chain : List Node) (names : List (List ℕ)) → first_failure caller (way lack (site ∷ sites_below site chain) names) ≡ denied → IsDeniedBelow site (sites_below site chain) names
+  denied_below : (site : Site) (chain : List Node) (names : List (List ℕ))
+      → first_failure caller (way lack (site ∷ sites_below site chain) names) ≡ denied
+      → IsDeniedBelow site (sites_below site chain) names
   denied_below site chain [] is = absurd (no_failure is)
   denied_below site [] (name ∷ names) is =
       let failed : Option Reply = failure caller (Check site (execute ∷ [])) in
-      let more : Option Reply = or_else (cond (not (lack && is_empty names)) (Some (Refused (site.path ++ name ∷ []) NoSuch)) None) None in
-      let folder = past_refusal caller lack [] at bits place entry site.path NotFolder (not (is_folder site.node)) (or_else failed more) is in
+      let more : Option Reply = or_else
+      (cond (not (lack && is_empty names))
+      (Some (Refused (site.path ++ name ∷ []) NoSuch)) None) None in
+      let folder = past_refusal caller lack [] at bits place entry site.path NotFolder
+      (not (is_folder site.node)) (or_else failed more) is in
       elim (either failed more folder.1) [
         | inl here ↦ denied_here site [] name names folder.0 here
-        | inr on ↦ absurd (no_failure (past_refusal caller lack [] at bits place entry (site.path ++ name ∷ []) NoSuch (not (lack && is_empty names)) None on.1).1)
+        | inr on ↦
+            absurd
+            (no_failure (past_refusal caller lack [] at bits place entry
+            (site.path ++ name ∷ []) NoSuch (not (lack && is_empty names)) None on.1).1)
       ]
   denied_below site (node ∷ chain) (name ∷ names) is =
       let next : Site = site_below site node in
       let failed : Option Reply = failure caller (Check site (execute ∷ [])) in
-      let more : Option Reply = first_failure caller (way lack (next ∷ sites_below next chain) names) in
-      let folder = past_refusal caller lack [] at bits place entry site.path NotFolder (not (is_folder site.node)) (or_else failed more) is in
+      let more : Option Reply = first_failure caller
+      (way lack (next ∷ sites_below next chain) names) in
+      let folder = past_refusal caller lack [] at bits place entry site.path NotFolder
+      (not (is_folder site.node)) (or_else failed more) is in
       elim (either failed more folder.1) [
         | inl here ↦ denied_here site (next ∷ sites_below next chain) name names folder.0 here
-        | inr on ↦ denied_next site next (sites_below next chain) name names (length-append site.path (node.name ∷ [])) folder.0 on.0 (denied_below next chain names on.1)
+        | inr on ↦
+            denied_next site next (sites_below next chain) name names
+            (length-append site.path (node.name ∷ [])) folder.0 on.0
+            (denied_below next chain names on.1)
       ]
 
-  denied_along : (chain : List Node) (names : List (List ℕ)) → first_failure caller (way lack (sites_of chain) names) ≡ denied → first_failure caller (way_as_far (length at) (sites_of chain) names) ≡ denied
+  denied_along : (chain : List Node) (names : List (List ℕ))
+      → first_failure caller (way lack (sites_of chain) names) ≡ denied
+      → first_failure caller (way_as_far (length at) (sites_of chain) names) ≡ denied
   denied_along [] names is = absurd (no_failure is)
   denied_along (root ∷ chain) names is =
-      let below : IsDeniedBelow (root_site root) (sites_below (root_site root) chain) names = denied_below (root_site root) chain names is in
-      ap (λ n. first_failure caller (way_as_far n (sites_of (root ∷ chain)) names)) (below.1 ∙ zero-add below.0) ∙ below.2
+      let below : IsDeniedBelow (root_site root) (sites_below (root_site root) chain) names =
+      denied_below (root_site root) chain names is in
+      ap (λ n. first_failure caller (way_as_far n (sites_of (root ∷ chain)) names))
+      (below.1 ∙ zero-add below.0) ∙ below.2
 
 pub hides : Hides
-hides a b user moment request may_lack at bits place entry reply after denied objects groups stepped =
+hides a b user moment request may_lack at bits place entry reply after denied objects groups
+    stepped =
     let path = first_path request in
     let n : ℕ = length at in
-    let first : first_failure (caller_in a user) (way_as_far n (sites_along a path) path) ≡ Some (Denied at bits place entry) = denied_along (caller_in a user) may_lack at bits place entry (walk_of a path).chain path denied in
-    let there : first_failure (caller_in b user) (way_as_far n (sites_along b path) path) ≡ Some (Denied at bits place entry) =
-    ap (λ c. first_failure c (way_as_far n (sites_along b path) path)) (sym (same_caller a b user groups))
-    ∙ ap (first_failure (caller_in a user)) (sym (same_far n (walk_of a path).chain (walk_of b path).chain path objects)) ∙ first in
+    let first : first_failure (caller_in a user) (way_as_far n (sites_along a path) path)
+    ≡ Some (Denied at bits place entry) =
+    denied_along (caller_in a user) may_lack at bits place entry
+    (walk_of a path).chain path denied in
+    let there : first_failure (caller_in b user) (way_as_far n (sites_along b path) path)
+    ≡ Some (Denied at bits place entry) =
+    ap (λ c. first_failure c (way_as_far n (sites_along b path) path))
+    (sym (same_caller a b user groups))
+    ∙ ap (first_failure (caller_in a user))
+    (sym (same_far n (walk_of a path).chain (walk_of b path).chain path objects)) ∙ first in
     reply_of b user moment request reply after stepped
-    ∙ ap (λ f. or_reply f (effect b (caller_in b user) stepped.0 request).0) (plan_denied b (caller_in b user) n at bits place entry request there)
+    ∙ ap (λ f. or_reply f (effect b (caller_in b user) stepped.0 request).0)
+    (plan_denied b (caller_in b user) n at bits place entry request there)

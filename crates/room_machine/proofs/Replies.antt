@@ -26,28 +26,40 @@ abbrev pub or_reply : Option Reply → Reply → Reply
 or_reply None reply = reply
 or_reply (Some failed) reply = failed
 
-answered_reply : (failed : Option Reply) (content : Content) (done : Reply × Content) → (answered failed content done).0 ≡ or_reply failed done.0
+answered_reply : (failed : Option Reply) (content : Content) (done : Reply × Content)
+    → (answered failed content done).0 ≡ or_reply failed done.0
 answered_reply None content done = refl
 answered_reply (Some reply) content done = refl
 
-pub reply_of : (content : Content) (user : Option (List ℕ)) (moment : ℤ) (request : Request) (reply : Reply) (after : Content) → (s : Step content user moment request reply after) → reply ≡ or_reply (first_failure (caller_in content user) (plan_of content request)) (effect content (caller_in content user) s.0 request).0
+pub reply_of : (content : Content) (user : Option (List ℕ)) (moment : ℤ) (request : Request)
+    (reply : Reply) (after : Content) → (s : Step content user moment request reply after)
+    → reply ≡ or_reply (first_failure (caller_in content user) (plan_of content request))
+    (effect content (caller_in content user) s.0 request).0
 reply_of content user moment request reply after s =
-    sym (ap (λ (d : Reply × Content). d.0) s.2) ∙ answered_reply (first_failure (caller_in content user) (plan_of content request)) content (effect content (caller_in content user) s.0 request)
+    sym (ap (λ (d : Reply × Content). d.0) s.2)
+    ∙ answered_reply (first_failure (caller_in content user) (plan_of content request)) content
+    (effect content (caller_in content user) s.0 request)
 
-pub same_caller : (a b : Content) (user : Option (List ℕ)) → groups_for a user ≡ groups_for b user → caller_in a user ≡ caller_in b user
-same_caller a b user same = ap (λ (groups : List (List ℕ)). record { user = user; groups = groups }) same
+pub same_caller : (a b : Content) (user : Option (List ℕ)) → groups_for a user ≡ groups_for b user
+    → caller_in a user ≡ caller_in b user
+same_caller a b user same =
+    ap (λ (groups : List (List ℕ)). record { user = user; groups = groups }) same
 
 -- ---- on reading
 
-same_sites : (a b : Content) (path : List (List ℕ)) → walk_of a path ≡ walk_of b path → sites_along a path ≡ sites_along b path
+same_sites : (a b : Content) (path : List (List ℕ)) → walk_of a path ≡ walk_of b path
+    → sites_along a path ≡ sites_along b path
 same_sites a b path same = ap (λ walk. sites_of walk.chain) same
 
 -- the replies at an object that may be there
-same_at : (a b : Content) (f g : Site → Reply × Content) (found : Option Site) → IfSome found (λ site. (f site).0 ≡ (g site).0) → (option_map_or f found (Done, a)).0 ≡ (option_map_or g found (Done, b)).0
+same_at : (a b : Content) (f g : Site → Reply × Content) (found : Option Site)
+    → IfSome found (λ site. (f site).0 ≡ (g site).0)
+    → (option_map_or f found (Done, a)).0 ≡ (option_map_or g found (Done, b)).0
 same_at a b f g None same = refl
 same_at a b f g (Some site) same = same
 
-if_some : (P Q : Site → Type 0) (found : Option Site) → ((site : Site) → P site → Q site) → IfSome found P → IfSome found Q
+if_some : (P Q : Site → Type 0) (found : Option Site) → ((site : Site) → P site → Q site)
+    → IfSome found P → IfSome found Q
 if_some P Q None next holds = tt
 if_some P Q (Some site) next holds = next site holds
 
@@ -55,7 +67,8 @@ any_some : (Q : Site → Type 0) (found : Option Site) → ((site : Site) → Q 
 any_some Q None each = tt
 any_some Q (Some site) each = each site
 
-module _ (a b : Content) (user : Option (List ℕ)) (groups : groups_for a user ≡ groups_for b user) where
+module _ (a b : Content) (user : Option (List ℕ))
+    (groups : groups_for a user ≡ groups_for b user) where
   abbrev first_caller : Caller
   first_caller = caller_in a user
 
@@ -63,26 +76,52 @@ module _ (a b : Content) (user : Option (List ℕ)) (groups : groups_for a user 
   second_caller = caller_in b user
 
   abbrev same_parts : Site → Type 0
-  same_parts site = (body_of a site.node.id ≡ body_of b site.node.id) × (children_of a site.node.id ≡ children_of b site.node.id)
+  same_parts site = (body_of a site.node.id ≡ body_of b site.node.id)
+      × (children_of a site.node.id ≡ children_of b site.node.id)
 
   -- a plan and a reply that depend on the objects along the path alone
-  read_same : (path : List (List ℕ)) (items : Site → List Item) (f g : Site → Reply × Content) → walk_of a path ≡ walk_of b path → IfSome (site_at (sites_along a path) path) (λ site. (f site).0 ≡ (g site).0)
-      → or_reply (first_failure first_caller (to_target a path items)) (with_site a (site_at (sites_along a path) path) f).0 ≡ or_reply (first_failure second_caller (to_target b path items)) (with_site b (site_at (sites_along b path) path) g).0
+  read_same : (path : List (List ℕ)) (items : Site → List Item) (f g : Site → Reply × Content)
+      → walk_of a path ≡ walk_of b path
+      → IfSome (site_at (sites_along a path) path) (λ site. (f site).0 ≡ (g site).0)
+      → or_reply (first_failure first_caller (to_target a path items))
+      (with_site a (site_at (sites_along a path) path) f).0
+      ≡ or_reply (first_failure second_caller (to_target b path items))
+      (with_site b (site_at (sites_along b path) path) g).0
   read_same path items f g walk same =
       let sites = same_sites a b path walk in
-      let planned : List Site → List Item = λ ss. way false ss path ++ where_found (site_at ss path) items in
-      ap (or_reply (first_failure first_caller (planned (sites_along a path)))) (same_at a b f g (site_at (sites_along a path) path) same)
-      ∙ ap (λ c. or_reply (first_failure c (planned (sites_along a path))) (with_site b (site_at (sites_along a path) path) g).0) (same_caller a b user groups)
-      ∙ ap (λ ss. or_reply (first_failure second_caller (planned ss)) (with_site b (site_at ss path) g).0) sites
+      let planned : List Site → List Item = λ ss. way false ss path
+      ++ where_found (site_at ss path) items in
+      ap (or_reply (first_failure first_caller (planned (sites_along a path))))
+      (same_at a b f g (site_at (sites_along a path) path) same)
+      ∙ ap (λ c. or_reply (first_failure c (planned (sites_along a path)))
+      (with_site b (site_at (sites_along a path) path) g).0) (same_caller a b user groups)
+      ∙ ap (λ ss. or_reply (first_failure second_caller (planned ss))
+      (with_site b (site_at ss path) g).0) sites
 
-  read_replies : (i j : ℕ) (request : Request) → IsTrue (only_reads request) → walk_of a (first_path request) ≡ walk_of b (first_path request) → same_target a b (first_path request) →
-      or_reply (first_failure first_caller (plan_of a request)) (effect a first_caller i request).0 ≡ or_reply (first_failure second_caller (plan_of b request)) (effect b second_caller j request).0
-  read_replies i j (Read path) reads walk target = read_same path _ _ _ walk (if_some same_parts _ _ (λ site same. ap (λ (body : Option (List ℕ)). Bytes (unwrap_or body [])) same.0) target)
-  read_replies i j (ListFolder path) reads walk target = read_same path _ _ _ walk (if_some same_parts _ _ (λ site same. ap (λ (nodes : List Node). Names (map (λ node. (node.name, node.kind)) nodes)) same.1) target)
-  read_replies i j (ReadList path which) reads walk target = read_same path _ _ _ walk (any_some _ _ (λ site. refl))
-  read_replies i j (ReadAttr path) reads walk target = read_same path _ _ _ walk (any_some _ _ (λ site. refl))
-  read_replies i j (Can path mask) reads walk target = read_same path _ _ _ walk (any_some _ _ (λ site.
-      ap (λ caller. Rulings (map (λ bit. (bit ∷ [], ruling_of (full_at Dacl site) caller site.node.owners bit)) mask)) (same_caller a b user groups)))
+  read_replies : (i j : ℕ) (request : Request) → IsTrue (only_reads request)
+      → walk_of a (first_path request) ≡ walk_of b (first_path request)
+      → same_target a b (first_path request) →
+      or_reply (first_failure first_caller (plan_of a request)) (effect a first_caller i request).0
+      ≡ or_reply (first_failure second_caller (plan_of b request))
+      (effect b second_caller j request).0
+  read_replies i j (Read path) reads walk target =
+      read_same path _ _ _ walk
+      (if_some same_parts _ _
+      (λ site same. ap (λ (body : Option (List ℕ)). Bytes (unwrap_or body [])) same.0) target)
+  read_replies i j (ListFolder path) reads walk target =
+      read_same path _ _ _ walk
+      (if_some same_parts _ _
+      (λ site same. ap (λ (nodes : List Node). Names (map (λ node. (node.name, node.kind)) nodes))
+      same.1) target)
+  read_replies i j (ReadList path which) reads walk target =
+      read_same path _ _ _ walk (any_some _ _ (λ site. refl))
+  read_replies i j (ReadAttr path) reads walk target =
+      read_same path _ _ _ walk (any_some _ _ (λ site. refl))
+  read_replies i j (Can path mask) reads walk target =
+      read_same path _ _ _ walk (any_some _ _ (λ site.
+      ap (λ caller. Rulings
+      (map (λ bit. (bit ∷ [], ruling_of (full_at Dacl site) caller site.node.owners bit)) mask))
+      (same_caller a b user groups)))
   read_replies i j (Put path bytes) reads walk target = absurd (false≢true reads)
   read_replies i j (Append path bytes) reads walk target = absurd (false≢true reads)
   read_replies i j (MakeFolder path) reads walk target = absurd (false≢true reads)

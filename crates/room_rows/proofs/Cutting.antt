@@ -15,7 +15,9 @@ use Rattle.room_rows.proofs.Utf8.{passes_as_utf8, fails_as_utf8}
 -- ---- names by their bytes
 
 -- a text of 1 to 255 bytes that is neither `.` nor `..` is a name by its bytes
-pub name_by_bytes : (name : List ℕ) → 0 < length name → length name ≤ 255 → same_text name (codes ".") ≡ false → same_text name (codes "..") ≡ false → IsUtf8 name → is_object_name name ≡ list_all is_name_byte name
+pub name_by_bytes : (name : List ℕ) → 0 < length name → length name ≤ 255
+    → same_text name (codes ".") ≡ false → same_text name (codes "..") ≡ false → IsUtf8 name
+    → is_object_name name ≡ list_all is_name_byte name
 name_by_bytes name some short dot dots utf8 =
     let full = lt-ltb 0 (length name) some in
     let fits = le-leb (length name) 255 short in
@@ -23,7 +25,10 @@ name_by_bytes name some short dot dots utf8 =
     let no_dots = not_from_false _ dots in
     let is = passes_as_utf8 name utf8 in
     elim (cases_Bool (list_all is_name_byte name)) [
-      | inl good ↦ and_from _ _ (and_from _ _ (and_from _ _ (and_from _ _ (and_from _ _ full fits) good) no_dot) no_dots) is ∙ sym good
+      | inl good ↦
+          and_from _ _
+          (and_from _ _ (and_from _ _ (and_from _ _ (and_from _ _ full fits) good) no_dot) no_dots)
+          is ∙ sym good
       | inr bad ↦ and_left _ _ (and_left _ _ (and_left _ _ (and_right _ _ bad))) ∙ sym bad
     ]
 
@@ -32,13 +37,17 @@ name_by_bytes name some short dot dots utf8 =
 pub too_long : (bytes : List ℕ) → 4096 < length bytes → path_of bytes ≡ Err TooLong
 too_long bytes long = cond-true _ _ _ (lt-ltb 4096 (length bytes) long)
 
-pub within : (bytes : List ℕ) → length bytes ≤ 4096 → path_of bytes ≡ (if is_utf8 bytes then names_in (pieces 47 bytes) else Err NotUtf8)
+pub within : (bytes : List ℕ) → length bytes ≤ 4096
+    → path_of bytes ≡ (if is_utf8 bytes then names_in (pieces 47 bytes) else Err NotUtf8)
 within bytes short = cond-false _ _ _ (le-ltb 4096 (length bytes) short)
 
-pub not_utf8 : (bytes : List ℕ) (n : ℕ) → length bytes ≤ 4096 → ¬ (IsUtf8 bytes) → IsValidUpTo bytes n → path_of bytes ≡ Err NotUtf8
-not_utf8 bytes n short isnt upto = within bytes short ∙ cond-false _ _ _ (fails_as_utf8 bytes n isnt upto)
+pub not_utf8 : (bytes : List ℕ) (n : ℕ) → length bytes ≤ 4096 → ¬ (IsUtf8 bytes)
+    → IsValidUpTo bytes n → path_of bytes ≡ Err NotUtf8
+not_utf8 bytes n short isnt upto =
+    within bytes short ∙ cond-false _ _ _ (fails_as_utf8 bytes n isnt upto)
 
-pub read_as_names : (bytes : List ℕ) → length bytes ≤ 4096 → IsUtf8 bytes → path_of bytes ≡ names_in (pieces 47 bytes)
+pub read_as_names : (bytes : List ℕ) → length bytes ≤ 4096 → IsUtf8 bytes
+    → path_of bytes ≡ names_in (pieces 47 bytes)
 read_as_names bytes short is = within bytes short ∙ cond-true _ _ _ (passes_as_utf8 bytes is)
 
 -- ---- names
@@ -49,37 +58,46 @@ first_not_empty b (p ∷ []) = refl
 first_not_empty b (p ∷ q ∷ parts) = refl
 
 -- no `/` at the start
-pub no_slash_first : (text : List ℕ) → ((rest : List ℕ) → text ≢ 47 ∷ rest) → names_in (pieces 47 text) ≡ Err BadName
+pub no_slash_first : (text : List ℕ) → ((rest : List ℕ) → text ≢ 47 ∷ rest)
+    → names_in (pieces 47 text) ≡ Err BadName
 no_slash_first [] isnt = refl
 no_slash_first (b ∷ bs) isnt =
-    ap names_in (slice_split-cons_no (λ byte. byte == 47) b bs (ne_eqb b 47 (λ e. isnt bs (ap (λ (x : ℕ). x ∷ bs) e))))
+    ap names_in (slice_split-cons_no (λ byte. byte == 47) b bs
+    (ne_eqb b 47 (λ e. isnt bs (ap (λ (x : ℕ). x ∷ bs) e))))
     ∙ first_not_empty b (pieces 47 bs)
 
-empty_first : (parts : List (List ℕ)) → 0 < length parts → names_in ([] ∷ [] ∷ parts) ≡ object_names ([] ∷ parts)
+empty_first : (parts : List (List ℕ)) → 0 < length parts
+    → names_in ([] ∷ [] ∷ parts) ≡ object_names ([] ∷ parts)
 empty_first [] some = absurd (omega (arith, some))
 empty_first (p ∷ parts) some = refl
 
-full_first : (b : ℕ) (parts : List (List ℕ)) → names_in ([] ∷ onto_first b parts) ≡ object_names (onto_first b parts)
+full_first : (b : ℕ) (parts : List (List ℕ))
+    → names_in ([] ∷ onto_first b parts) ≡ object_names (onto_first b parts)
 full_first b [] = refl
 full_first b (p ∷ parts) = refl
 
 -- one `/` at the start, and something after it
-pub slash_first : (rest : List ℕ) → 0 < length rest → names_in (pieces 47 (47 ∷ rest)) ≡ object_names (pieces 47 rest)
+pub slash_first : (rest : List ℕ) → 0 < length rest
+    → names_in (pieces 47 (47 ∷ rest)) ≡ object_names (pieces 47 rest)
 slash_first [] some = absurd (omega (arith, some))
 slash_first (b ∷ bs) some = elim (cases_Bool (b == 47)) [
   | inl is ↦
       let cut = slice_split-cons_yes (λ byte. byte == 47) b bs is in
       let counted = length-slice_split (λ byte. byte == 47) bs in
-      ap (λ (parts : List (List ℕ)). names_in ([] ∷ parts)) cut ∙ empty_first (pieces 47 bs) (omega (arith, counted)) ∙ ap object_names (sym cut)
+      ap (λ (parts : List (List ℕ)). names_in ([] ∷ parts)) cut
+      ∙ empty_first (pieces 47 bs) (omega (arith, counted)) ∙ ap object_names (sym cut)
   | inr isnt ↦
       let cut = slice_split-cons_no (λ byte. byte == 47) b bs isnt in
-      ap (λ (parts : List (List ℕ)). names_in ([] ∷ parts)) cut ∙ full_first b (pieces 47 bs) ∙ ap object_names (sym cut)
+      ap (λ (parts : List (List ℕ)). names_in ([] ∷ parts)) cut ∙ full_first b (pieces 47 bs)
+      ∙ ap object_names (sym cut)
 ]
 
-pub bad_name : (names : List (List ℕ)) → list_all is_object_name names ≡ false → object_names names ≡ Err BadName
+pub bad_name : (names : List (List ℕ)) → list_all is_object_name names ≡ false
+    → object_names names ≡ Err BadName
 bad_name names bad = cond-false _ _ _ bad
 
-pub good_names : (names : List (List ℕ)) → list_all is_object_name names ≡ true → object_names names ≡ Ok names
+pub good_names : (names : List (List ℕ)) → list_all is_object_name names ≡ true
+    → object_names names ≡ Ok names
 good_names names good = cond-true _ _ _ good
 
 -- ---- the text of a path
@@ -88,51 +106,73 @@ good_names names good = cond-true _ _ _ good
 abbrev pub joined : List (List ℕ) → List ℕ
 joined names = flat_map (λ name. 47 ∷ name) names
 
-joined_onto : (b : ℕ) (bs : List ℕ) (parts : List (List ℕ)) → joined parts ≡ 47 ∷ bs → joined (onto_first b parts) ≡ 47 ∷ b ∷ bs
+joined_onto : (b : ℕ) (bs : List ℕ) (parts : List (List ℕ)) → joined parts ≡ 47 ∷ bs
+    → joined (onto_first b parts) ≡ 47 ∷ b ∷ bs
 joined_onto b bs [] e = cc
-joined_onto b bs (p ∷ parts) e = let inner : p ++ joined parts ≡ bs = cc in ap (λ (l : List ℕ). 47 ∷ b ∷ l) inner
+joined_onto b bs (p ∷ parts) e = let inner : p ++ joined parts ≡ bs = cc in
+    ap (λ (l : List ℕ). 47 ∷ b ∷ l) inner
 
 -- the names of a text joined again
 pub joined-pieces : (rest : List ℕ) → joined (pieces 47 rest) ≡ 47 ∷ rest
 joined-pieces [] = refl
 joined-pieces (b ∷ bs) = elim (cases_Bool (b == 47)) [
   | inl is ↦
-      ap joined (slice_split-cons_yes (λ byte. byte == 47) b bs is) ∙ ap (λ (l : List ℕ). 47 ∷ l) (joined-pieces bs) ∙ ap (λ (x : ℕ). 47 ∷ x ∷ bs) (sym (eqb-true b 47 is))
-  | inr isnt ↦ ap joined (slice_split-cons_no (λ byte. byte == 47) b bs isnt) ∙ joined_onto b bs (pieces 47 bs) (joined-pieces bs)
+      ap joined (slice_split-cons_yes (λ byte. byte == 47) b bs is)
+      ∙ ap (λ (l : List ℕ). 47 ∷ l) (joined-pieces bs)
+      ∙ ap (λ (x : ℕ). 47 ∷ x ∷ bs) (sym (eqb-true b 47 is))
+  | inr isnt ↦ ap joined (slice_split-cons_no (λ byte. byte == 47) b bs isnt)
+      ∙ joined_onto b bs (pieces 47 bs) (joined-pieces bs)
 ]
 
-pub joined-text : (names : List (List ℕ)) → length (joined names) ≤ 4096 → length (path_text names) ≤ 4096
+pub joined-text : (names : List (List ℕ)) → length (joined names) ≤ 4096
+    → length (path_text names) ≤ 4096
 joined-text [] h = omega arith
 joined-text (n ∷ ns) h = h
 
-pub text-joined : (names : List (List ℕ)) → length (path_text names) ≤ 4096 → length (joined names) ≤ 4096
+pub text-joined : (names : List (List ℕ)) → length (path_text names) ≤ 4096
+    → length (joined names) ≤ 4096
 text-joined [] h = omega arith
 text-joined (n ∷ ns) h = h
 
 -- names of a text that isn't too long are those of a path
-pub read_is_path : (rest : List ℕ) (names : List (List ℕ)) → length rest < 4096 → names ≡ pieces 47 rest → list_all is_object_name names ≡ true → IsTrue (is_path names)
+pub read_is_path : (rest : List ℕ) (names : List (List ℕ)) → length rest < 4096
+    → names ≡ pieces 47 rest → list_all is_object_name names ≡ true → IsTrue (is_path names)
 read_is_path rest names short cut good =
     let all = ap joined cut ∙ joined-pieces rest in
     let fits : length (joined names) ≤ 4096 = omega (arith, ap length all, short) in
-    and_from (list_all is_object_name names) (nat_le (length (path_text names)) 4096) good (le-leb _ _ (joined-text names fits))
+    and_from (list_all is_object_name names) (nat_le (length (path_text names)) 4096) good
+    (le-leb _ _ (joined-text names fits))
 
 -- ---- the first names of a path
 
-good_front : (n : ℕ) (names : List (List ℕ)) → list_all is_object_name names ≡ true → list_all is_object_name (take n names) ≡ true
+good_front : (n : ℕ) (names : List (List ℕ)) → list_all is_object_name names ≡ true
+    → list_all is_object_name (take n names) ≡ true
 good_front zero names good = refl
 good_front (suc n) [] good = refl
 good_front (suc n) (x ∷ xs) good =
     let parts = and_parts (is_object_name x) (list_all is_object_name xs) good in
-    and_from (is_object_name x) (list_all is_object_name (take n xs)) parts.0 (good_front n xs parts.1)
+    and_from (is_object_name x) (list_all is_object_name (take n xs)) parts.0
+    (good_front n xs parts.1)
 
-short_front : (n : ℕ) (names : List (List ℕ)) → length (joined (take n names)) ≤ length (joined names)
+short_front : (n : ℕ) (names : List (List ℕ))
+    → length (joined (take n names)) ≤ length (joined names)
 short_front zero names = omega arith
 short_front (suc n) [] = omega arith
-short_front (suc n) (x ∷ xs) = let rest = short_front n xs in omega (arith, rest, length-append (47 ∷ x) (joined (take n xs)), length-append (47 ∷ x) (joined xs))
+short_front (suc n) (x ∷ xs) = let rest = short_front n xs in
+    omega (
+      arith,
+      rest,
+      length-append (47 ∷ x) (joined (take n xs)),
+      length-append (47 ∷ x) (joined xs),
+    )
 
-pub front_is_path : (n : ℕ) (names : List (List ℕ)) → IsTrue (is_path names) → IsTrue (is_path (take n names))
+pub front_is_path : (n : ℕ) (names : List (List ℕ)) → IsTrue (is_path names)
+    → IsTrue (is_path (take n names))
 front_is_path n names is =
-    let parts = and_parts (list_all is_object_name names) (nat_le (length (path_text names)) 4096) is in
+    let parts = and_parts (list_all is_object_name names)
+    (nat_le (length (path_text names)) 4096) is in
     let long = text-joined names (leb-true _ _ parts.1) in
     let short = short_front n names in
-    and_from (list_all is_object_name (take n names)) (nat_le (length (path_text (take n names))) 4096) (good_front n names parts.0) (le-leb _ _ (joined-text (take n names) (omega (arith, long, short))))
+    and_from (list_all is_object_name (take n names))
+    (nat_le (length (path_text (take n names))) 4096) (good_front n names parts.0)
+    (le-leb _ _ (joined-text (take n names) (omega (arith, long, short))))

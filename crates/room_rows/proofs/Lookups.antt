@@ -11,11 +11,13 @@ use Rattle.room_rows.specs.Finding.{find_id}
 -- ---- the first that passes a test
 
 -- where the first member passes, it is found
-pub find_yes : {X : Type 0} (p : X → Bool) (x : X) (xs : List X) → p x ≡ true → find p (x ∷ xs) ≡ Some x
+pub find_yes : {X : Type 0} (p : X → Bool) (x : X) (xs : List X) → p x ≡ true
+    → find p (x ∷ xs) ≡ Some x
 find_yes p x xs is = cond-true (p x) (Some x) (find p xs) is
 
 -- where the first member fails, what is found is found among the others
-pub find_no : {X : Type 0} (p : X → Bool) (x : X) (xs : List X) → p x ≡ false → find p (x ∷ xs) ≡ find p xs
+pub find_no : {X : Type 0} (p : X → Bool) (x : X) (xs : List X) → p x ≡ false
+    → find p (x ∷ xs) ≡ find p xs
 find_no p x xs isnt = cond-false (p x) (Some x) (find p xs) isnt
 
 -- a search can't have found both nothing and something
@@ -27,7 +29,8 @@ pub same_some : {X : Type 0} (x y : X) → Some x ≡ Some y → x ≡ y
 same_some x y e = ap (λ o. option_map_or (λ n. n) o x) e
 
 -- what is found passes
-pub found_passes : {X : Type 0} (p : X → Bool) (xs : List X) (x : X) → find p xs ≡ Some x → p x ≡ true
+pub found_passes : {X : Type 0} (p : X → Bool) (xs : List X) (x : X) → find p xs ≡ Some x
+    → p x ≡ true
 found_passes p [] x found = absurd (not_none x found)
 found_passes p (y ∷ ys) x found = elim (cases_Bool (p y)) [
   | inl is ↦ subst (λ z. p z ≡ true) (same_some y x (sym (find_yes p y ys is) ∙ found)) is
@@ -35,7 +38,8 @@ found_passes p (y ∷ ys) x found = elim (cases_Bool (p y)) [
 ]
 
 -- where none is found, neither the first nor a later one passes
-pub none_found : {X : Type 0} (p : X → Bool) (x : X) (xs : List X) → find p (x ∷ xs) ≡ None → (p x ≡ false) × (find p xs ≡ None)
+pub none_found : {X : Type 0} (p : X → Bool) (x : X) (xs : List X) → find p (x ∷ xs) ≡ None
+    → (p x ≡ false) × (find p xs ≡ None)
 none_found p x xs none = elim (cases_Bool (p x)) [
   | inl is ↦ absurd (not_none x (sym none ∙ find_yes p x xs is))
   | inr isnt ↦ (isnt, sym (find_no p x xs isnt) ∙ none)
@@ -43,19 +47,23 @@ none_found p x xs none = elim (cases_Bool (p x)) [
 
 -- ---- the first that passes, of those that are kept
 
-keep_yes : {X : Type 0} (q : X → Bool) (x : X) (xs : List X) → q x ≡ true → filter q (x ∷ xs) ≡ x ∷ filter q xs
+keep_yes : {X : Type 0} (q : X → Bool) (x : X) (xs : List X) → q x ≡ true
+    → filter q (x ∷ xs) ≡ x ∷ filter q xs
 keep_yes q x xs is = cond-true (q x) (x ∷ filter q xs) (filter q xs) is
 
-keep_no : {X : Type 0} (q : X → Bool) (x : X) (xs : List X) → q x ≡ false → filter q (x ∷ xs) ≡ filter q xs
+keep_no : {X : Type 0} (q : X → Bool) (x : X) (xs : List X) → q x ≡ false
+    → filter q (x ∷ xs) ≡ filter q xs
 keep_no q x xs isnt = cond-false (q x) (x ∷ filter q xs) (filter q xs) isnt
 
 -- what is found and kept is found among those that are kept
-pub find-kept : {X : Type 0} (p q : X → Bool) (xs : List X) (x : X) → find p xs ≡ Some x → q x ≡ true → find p (filter q xs) ≡ Some x
+pub find-kept : {X : Type 0} (p q : X → Bool) (xs : List X) (x : X) → find p xs ≡ Some x
+    → q x ≡ true → find p (filter q xs) ≡ Some x
 find-kept p q [] x found kept = absurd (not_none x found)
 find-kept p q (y ∷ ys) x found kept = elim (cases_Bool (p y)) [
   | inl is ↦
       let it = same_some y x (sym (find_yes p y ys is) ∙ found) in
-      ap (find p) (keep_yes q y ys (ap q it ∙ kept)) ∙ find_yes p y (filter q ys) is ∙ ap (λ z. Some z) it
+      ap (find p) (keep_yes q y ys (ap q it ∙ kept)) ∙ find_yes p y (filter q ys) is
+      ∙ ap (λ z. Some z) it
   | inr isnt ↦
       let later = find-kept p q ys x (sym (find_no p y ys isnt) ∙ found) kept in
       elim (cases_Bool (q y)) [
@@ -65,7 +73,8 @@ find-kept p q (y ∷ ys) x found kept = elim (cases_Bool (p y)) [
 ]
 
 -- nothing is found among fewer
-pub find-kept_none : {X : Type 0} (p q : X → Bool) (xs : List X) → find p xs ≡ None → find p (filter q xs) ≡ None
+pub find-kept_none : {X : Type 0} (p q : X → Bool) (xs : List X) → find p xs ≡ None
+    → find p (filter q xs) ≡ None
 find-kept_none p q [] none = none
 find-kept_none p q (y ∷ ys) none =
     let parts = none_found p y ys none in
@@ -76,7 +85,8 @@ find-kept_none p q (y ∷ ys) none =
     ]
 
 -- where all that pass are gone, none is found
-pub find-kept_gone : {X : Type 0} (p q : X → Bool) (xs : List X) → ((x : X) → p x ≡ true → q x ≡ false) → find p (filter q xs) ≡ None
+pub find-kept_gone : {X : Type 0} (p q : X → Bool) (xs : List X)
+    → ((x : X) → p x ≡ true → q x ≡ false) → find p (filter q xs) ≡ None
 find-kept_gone p q [] gone = refl
 find-kept_gone p q (y ∷ ys) gone =
     let later = find-kept_gone p q ys gone in
@@ -89,16 +99,19 @@ find-kept_gone p q (y ∷ ys) gone =
     ]
 
 -- where all that pass are kept, the same is found
-pub find-kept_all : {X : Type 0} (p q : X → Bool) (xs : List X) → ((x : X) → p x ≡ true → q x ≡ true) → find p (filter q xs) ≡ find p xs
+pub find-kept_all : {X : Type 0} (p q : X → Bool) (xs : List X)
+    → ((x : X) → p x ≡ true → q x ≡ true) → find p (filter q xs) ≡ find p xs
 find-kept_all p q [] kept = refl
 find-kept_all p q (y ∷ ys) kept =
     let later = find-kept_all p q ys kept in
     elim (cases_Bool (p y)) [
-      | inl is ↦ ap (find p) (keep_yes q y ys (kept y is)) ∙ find_yes p y (filter q ys) is ∙ sym (find_yes p y ys is)
+      | inl is ↦ ap (find p) (keep_yes q y ys (kept y is)) ∙ find_yes p y (filter q ys) is
+          ∙ sym (find_yes p y ys is)
       | inr isnt ↦
           let before = later ∙ sym (find_no p y ys isnt) in
           elim (cases_Bool (q y)) [
-            | inl stays ↦ ap (find p) (keep_yes q y ys stays) ∙ find_no p y (filter q ys) isnt ∙ before
+            | inl stays ↦ ap (find p) (keep_yes q y ys stays) ∙ find_no p y (filter q ys) isnt
+                ∙ before
             | inr goes ↦ ap (find p) (keep_no q y ys goes) ∙ before
           ]
     ]
@@ -106,35 +119,49 @@ find-kept_all p q (y ∷ ys) kept =
 -- ---- facts of each that stay
 
 -- what holds of each member holds of those kept by a test, and these pass the test
-pub each-kept : {X : Type 0} (P : X → Type 0) (q : X → Bool) (xs : List X) → AllByRecursion P xs → AllByRecursion (λ x. P x × (q x ≡ true)) (filter q xs)
+pub each-kept : {X : Type 0} (P : X → Type 0) (q : X → Bool) (xs : List X) → AllByRecursion P xs
+    → AllByRecursion (λ x. P x × (q x ≡ true)) (filter q xs)
 each-kept P q [] each = tt
 each-kept P q (y ∷ ys) each = elim (cases_Bool (q y)) [
-  | inl stays ↦ subst (AllByRecursion (λ x. P x × (q x ≡ true))) (sym (keep_yes q y ys stays)) ((each.0, stays), each-kept P q ys each.1)
-  | inr goes ↦ subst (AllByRecursion (λ x. P x × (q x ≡ true))) (sym (keep_no q y ys goes)) (each-kept P q ys each.1)
+  | inl stays ↦
+      subst (AllByRecursion (λ x. P x × (q x ≡ true))) (sym (keep_yes q y ys stays))
+      ((each.0, stays), each-kept P q ys each.1)
+  | inr goes ↦
+      subst (AllByRecursion (λ x. P x × (q x ≡ true))) (sym (keep_no q y ys goes))
+      (each-kept P q ys each.1)
 ]
 
 -- where Q follows from P, P of each member gives Q of each
-pub each-weaker : {X : Type 0} (P Q : X → Type 0) → ((x : X) → P x → Q x) → (xs : List X) → AllByRecursion P xs → AllByRecursion Q xs
+pub each-weaker : {X : Type 0} (P Q : X → Type 0) → ((x : X) → P x → Q x) → (xs : List X)
+    → AllByRecursion P xs → AllByRecursion Q xs
 each-weaker P Q weaker [] each = tt
 each-weaker P Q weaker (y ∷ ys) each = (weaker y each.0, each-weaker P Q weaker ys each.1)
 
-name_behind : (node other : Node) (others : List Node) → is_before other.name node.name ≡ true → put_by_name node (other ∷ others) ≡ other ∷ put_by_name node others
+name_behind : (node other : Node) (others : List Node) → is_before other.name node.name ≡ true
+    → put_by_name node (other ∷ others) ≡ other ∷ put_by_name node others
 name_behind node other others is = cond-true _ _ _ is
 
-name_here : (node other : Node) (others : List Node) → is_before other.name node.name ≡ false → put_by_name node (other ∷ others) ≡ node ∷ other ∷ others
+name_here : (node other : Node) (others : List Node) → is_before other.name node.name ≡ false
+    → put_by_name node (other ∷ others) ≡ node ∷ other ∷ others
 name_here node other others isnt = cond-false _ _ _ isnt
 
-each-put_by_name : (P : Node → Type 0) (node : Node) (nodes : List Node) → P node → AllByRecursion P nodes → AllByRecursion P (put_by_name node nodes)
+each-put_by_name : (P : Node → Type 0) (node : Node) (nodes : List Node) → P node
+    → AllByRecursion P nodes → AllByRecursion P (put_by_name node nodes)
 each-put_by_name P node [] here each = (here, tt)
-each-put_by_name P node (other ∷ others) here each = elim (cases_Bool (is_before other.name node.name)) [
-  | inl is ↦ subst (AllByRecursion P) (sym (name_behind node other others is)) (each.0, each-put_by_name P node others here each.1)
-  | inr isnt ↦ subst (AllByRecursion P) (sym (name_here node other others isnt)) (here, each)
-]
+each-put_by_name P node (other ∷ others) here each =
+    elim (cases_Bool (is_before other.name node.name)) [
+      | inl is ↦
+          subst (AllByRecursion P) (sym (name_behind node other others is))
+          (each.0, each-put_by_name P node others here each.1)
+      | inr isnt ↦ subst (AllByRecursion P) (sym (name_here node other others isnt)) (here, each)
+    ]
 
 -- what holds of each object of a list holds of each when they are sorted by name
-pub each-sorted : (P : Node → Type 0) (nodes : List Node) → AllByRecursion P nodes → AllByRecursion P (sorted_by_name nodes)
+pub each-sorted : (P : Node → Type 0) (nodes : List Node) → AllByRecursion P nodes
+    → AllByRecursion P (sorted_by_name nodes)
 each-sorted P [] each = tt
-each-sorted P (node ∷ nodes) each = each-put_by_name P node (sorted_by_name nodes) each.0 (each-sorted P nodes each.1)
+each-sorted P (node ∷ nodes) each =
+    each-put_by_name P node (sorted_by_name nodes) each.0 (each-sorted P nodes each.1)
 
 -- ---- what stands in a list
 
@@ -144,7 +171,8 @@ Stands node [] = ⊥
 Stands node (other ∷ others) = (other ≡ node) ⊎ Stands node others
 
 -- an object that a test finds in a list is in it
-pub stands-found : (p : Node → Bool) (nodes : List Node) (node : Node) → find p nodes ≡ Some node → Stands node nodes
+pub stands-found : (p : Node → Bool) (nodes : List Node) (node : Node) → find p nodes ≡ Some node
+    → Stands node nodes
 stands-found p [] node found = absurd (not_none node found)
 stands-found p (y ∷ ys) node found = elim (cases_Bool (p y)) [
   | inl is ↦ inl (same_some y node (sym (find_yes p y ys is) ∙ found))
@@ -152,9 +180,11 @@ stands-found p (y ∷ ys) node found = elim (cases_Bool (p y)) [
 ]
 
 -- an object that passes a test is among those of the list that are kept by it
-pub stands-kept : (q : Node → Bool) (nodes : List Node) (node : Node) → Stands node nodes → q node ≡ true → Stands node (filter q nodes)
+pub stands-kept : (q : Node → Bool) (nodes : List Node) (node : Node) → Stands node nodes
+    → q node ≡ true → Stands node (filter q nodes)
 stands-kept q [] node h kept = absurd h
-stands-kept q (y ∷ ys) node (inl it) kept = subst (Stands node) (sym (keep_yes q y ys (ap q it ∙ kept))) (inl it)
+stands-kept q (y ∷ ys) node (inl it) kept =
+    subst (Stands node) (sym (keep_yes q y ys (ap q it ∙ kept))) (inl it)
 stands-kept q (y ∷ ys) node (inr later) kept =
     let rest = stands-kept q ys node later kept in
     elim (cases_Bool (q y)) [
@@ -162,24 +192,33 @@ stands-kept q (y ∷ ys) node (inr later) kept =
       | inr goes ↦ subst (Stands node) (sym (keep_no q y ys goes)) rest
     ]
 
-stands-put_by_name : (other : Node) (nodes : List Node) (node : Node) → (other ≡ node) ⊎ Stands node nodes → Stands node (put_by_name other nodes)
+stands-put_by_name : (other : Node) (nodes : List Node) (node : Node) → (other ≡ node)
+    ⊎ Stands node nodes → Stands node (put_by_name other nodes)
 stands-put_by_name other [] node h = h
 stands-put_by_name other (y ∷ ys) node h = elim (cases_Bool (is_before y.name other.name)) [
   | inl is ↦ subst (Stands node) (sym (name_behind other y ys is)) (elim h [
     | inl it ↦ inr (stands-put_by_name other ys node (inl it))
-    | inr rest ↦ elim rest [ inl it ↦ inl it | inr later ↦ inr (stands-put_by_name other ys node (inr later)) ]
+    | inr rest ↦
+        elim rest [
+          | inl it ↦ inl it
+          | inr later ↦
+              inr (stands-put_by_name other ys node (inr later))
+        ]
   ])
   | inr isnt ↦ subst (Stands node) (sym (name_here other y ys isnt)) h
 ]
 
 -- an object of a list is in the list sorted by name
-pub stands-sorted : (nodes : List Node) (node : Node) → Stands node nodes → Stands node (sorted_by_name nodes)
+pub stands-sorted : (nodes : List Node) (node : Node) → Stands node nodes
+    → Stands node (sorted_by_name nodes)
 stands-sorted [] node h = absurd h
 stands-sorted (y ∷ ys) node (inl it) = stands-put_by_name y (sorted_by_name ys) node (inl it)
-stands-sorted (y ∷ ys) node (inr later) = stands-put_by_name y (sorted_by_name ys) node (inr (stands-sorted ys node later))
+stands-sorted (y ∷ ys) node (inr later) =
+    stands-put_by_name y (sorted_by_name ys) node (inr (stands-sorted ys node later))
 
 -- what holds of each object of a list holds of one that is in it
-pub stands-each : (P : Node → Type 0) (nodes : List Node) (node : Node) → AllByRecursion P nodes → Stands node nodes → P node
+pub stands-each : (P : Node → Type 0) (nodes : List Node) (node : Node) → AllByRecursion P nodes
+    → Stands node nodes → P node
 stands-each P [] node each h = absurd h
 stands-each P (y ∷ ys) node each (inl it) = subst P it each.0
 stands-each P (y ∷ ys) node each (inr later) = stands-each P ys node each.1 later
@@ -188,81 +227,112 @@ stands-each P (y ∷ ys) node each (inr later) = stands-each P ys node each.1 la
 pub contains-stands : (nodes : List Node) (node : Node) → Stands node nodes → Contains nodes node
 contains-stands [] node h = absurd h
 contains-stands (y ∷ ys) node (inl it) = (0, omega arith, it)
-contains-stands (y ∷ ys) node (inr later) = let rest = contains-stands ys node later in let below = rest.1 in (suc rest.0, omega (arith, below), rest.2)
+contains-stands (y ∷ ys) node (inr later) = let rest = contains-stands ys node later in let below =
+    rest.1 in (suc rest.0, omega (arith, below), rest.2)
 
 -- ---- numbers
 
 -- what is found by a number has it
-pub found_number : (id : ℕ) (nodes : List Node) (node : Node) → find_id id nodes ≡ Some node → node.id ≡ id
-found_number id nodes node found = eqb-true node.id id (found_passes (λ (n : Node). n.id == id) nodes node found)
+pub found_number : (id : ℕ) (nodes : List Node) (node : Node) → find_id id nodes ≡ Some node
+    → node.id ≡ id
+found_number id nodes node found =
+    eqb-true node.id id (found_passes (λ (n : Node). n.id == id) nodes node found)
 
 -- what is found stands above what comes before the list
-pub found_above : (k : ℕ) (nodes : List Node) (id : ℕ) (node : Node) → is_rising (k ∷ map (λ (n : Node). n.id) nodes) ≡ true → find_id id nodes ≡ Some node → k < node.id
+pub found_above : (k : ℕ) (nodes : List Node) (id : ℕ) (node : Node)
+    → is_rising (k ∷ map (λ (n : Node). n.id) nodes) ≡ true → find_id id nodes ≡ Some node
+    → k < node.id
 found_above k [] id node rises found = absurd (not_none node found)
 found_above k (x ∷ xs) id node rises found =
     let parts = and_parts (nat_lt k x.id) (is_rising (x.id ∷ map (λ (n : Node). n.id) xs)) rises in
     let up = ltb-true k x.id parts.0 in
     elim (cases_Bool (x.id == id)) [
-      | inl is ↦ subst (λ (n : Node). k < n.id) (same_some x node (sym (find_yes (λ (n : Node). n.id == id) x xs is) ∙ found)) up
-      | inr isnt ↦ let next = found_above x.id xs id node parts.1 (sym (find_no (λ (n : Node). n.id == id) x xs isnt) ∙ found) in omega (arith, up, next)
+      | inl is ↦
+          subst (λ (n : Node). k < n.id)
+          (same_some x node (sym (find_yes (λ (n : Node). n.id == id) x xs is) ∙ found)) up
+      | inr isnt ↦ let next =
+          found_above x.id xs id node parts.1
+          (sym (find_no (λ (n : Node). n.id == id) x xs isnt) ∙ found) in omega (arith, up, next)
     ]
 
-found_behind : (x : Node) (xs : List Node) → is_rising (x.id ∷ map (λ (n : Node). n.id) xs) ≡ true → (y : Node) → find_id y.id xs ≡ Some y → find_id y.id (x ∷ xs) ≡ Some y
+found_behind : (x : Node) (xs : List Node) → is_rising (x.id ∷ map (λ (n : Node). n.id) xs) ≡ true
+    → (y : Node) → find_id y.id xs ≡ Some y → find_id y.id (x ∷ xs) ≡ Some y
 found_behind x xs rises y found =
     let below = found_above x.id xs y.id y rises found in
-    find_no (λ (n : Node). n.id == y.id) x xs (ne_eqb x.id y.id (λ e. absurd (omega (arith, below, e)))) ∙ found
+    find_no (λ (n : Node). n.id == y.id) x xs
+    (ne_eqb x.id y.id (λ e. absurd (omega (arith, below, e)))) ∙ found
 
 -- each object of rows is found by its number
-pub each_found : (k : ℕ) (nodes : List Node) → is_rising (k ∷ map (λ (n : Node). n.id) nodes) ≡ true → AllByRecursion (λ (n : Node). find_id n.id nodes ≡ Some n) nodes
+pub each_found : (k : ℕ) (nodes : List Node) → is_rising (k ∷ map (λ (n : Node). n.id) nodes) ≡ true
+    → AllByRecursion (λ (n : Node). find_id n.id nodes ≡ Some n) nodes
 each_found k [] rises = tt
 each_found k (x ∷ xs) rises =
-    let parts = and_parts (nat_lt k x.id) (is_rising (x.id ∷ map (λ (n : Node). n.id) xs)) rises in
-    (find_yes (λ (n : Node). n.id == x.id) x xs (eq-eqb x.id x.id refl), each-weaker _ _ (found_behind x xs parts.1) xs (each_found x.id xs parts.1))
+    let parts = and_parts (nat_lt k x.id) (is_rising (x.id ∷ map (λ (n : Node). n.id) xs)) rises in (
+      find_yes (λ (n : Node). n.id == x.id) x xs (eq-eqb x.id x.id refl),
+      each-weaker _ _ (found_behind x xs parts.1) xs (each_found x.id xs parts.1),
+    )
 
 -- ---- an object put at its place
 
-put_behind : (node x : Node) (xs : List Node) → x.id < node.id → put_node node (x ∷ xs) ≡ x ∷ put_node node xs
+put_behind : (node x : Node) (xs : List Node) → x.id < node.id
+    → put_node node (x ∷ xs) ≡ x ∷ put_node node xs
 put_behind node x xs below = cond-true _ _ _ (lt-ltb x.id node.id below)
 
 put_same : (node x : Node) (xs : List Node) → x.id ≡ node.id → put_node node (x ∷ xs) ≡ node ∷ xs
-put_same node x xs e = cond-false _ _ _ (le-ltb x.id node.id (omega (arith, e))) ∙ cond-true _ _ _ (eq-eqb x.id node.id e)
+put_same node x xs e =
+    cond-false _ _ _ (le-ltb x.id node.id (omega (arith, e)))
+    ∙ cond-true _ _ _ (eq-eqb x.id node.id e)
 
-put_before : (node x : Node) (xs : List Node) → node.id < x.id → put_node node (x ∷ xs) ≡ node ∷ x ∷ xs
-put_before node x xs above = cond-false _ _ _ (le-ltb x.id node.id (omega (arith, above))) ∙ cond-false _ _ _ (ne_eqb x.id node.id (λ e. absurd (omega (arith, above, e))))
+put_before : (node x : Node) (xs : List Node) → node.id < x.id
+    → put_node node (x ∷ xs) ≡ node ∷ x ∷ xs
+put_before node x xs above =
+    cond-false _ _ _ (le-ltb x.id node.id (omega (arith, above)))
+    ∙ cond-false _ _ _ (ne_eqb x.id node.id (λ e. absurd (omega (arith, above, e))))
 
 -- it is found by its number
-pub find-put_same : (node : Node) (nodes : List Node) → find_id node.id (put_node node nodes) ≡ Some node
-find-put_same node [] = find_yes (λ (n : Node). n.id == node.id) node [] (eq-eqb node.id node.id refl)
+pub find-put_same : (node : Node) (nodes : List Node)
+    → find_id node.id (put_node node nodes) ≡ Some node
+find-put_same node [] =
+    find_yes (λ (n : Node). n.id == node.id) node [] (eq-eqb node.id node.id refl)
 find-put_same node (x ∷ xs) =
     let test = λ (n : Node). n.id == node.id in
     let itself = eq-eqb node.id node.id refl in
     elim (cases_order x.id node.id) [
       | inl e ↦ ap (find test) (put_same node x xs e) ∙ find_yes test node xs itself
       | inr apart ↦ elim apart [
-        | inl below ↦ ap (find test) (put_behind node x xs below) ∙ find_no test x (put_node node xs) (ne_eqb x.id node.id (λ e. absurd (omega (arith, below, e)))) ∙ find-put_same node xs
-        | inr above ↦ ap (find test) (put_before node x xs above) ∙ find_yes test node (x ∷ xs) itself
+        | inl below ↦ ap (find test) (put_behind node x xs below)
+            ∙ find_no test x (put_node node xs)
+            (ne_eqb x.id node.id (λ e. absurd (omega (arith, below, e)))) ∙ find-put_same node xs
+        | inr above ↦ ap (find test) (put_before node x xs above)
+            ∙ find_yes test node (x ∷ xs) itself
       ]
     ]
 
 -- by any other number the same is found as before
-pub find-put_other : (node : Node) (nodes : List Node) (id : ℕ) → (id ≡ node.id → ⊥) → find_id id (put_node node nodes) ≡ find_id id nodes
-find-put_other node [] id other = find_no (λ (n : Node). n.id == id) node [] (ne_eqb node.id id (λ e. other (sym e)))
+pub find-put_other : (node : Node) (nodes : List Node) (id : ℕ) → (id ≡ node.id → ⊥)
+    → find_id id (put_node node nodes) ≡ find_id id nodes
+find-put_other node [] id other =
+    find_no (λ (n : Node). n.id == id) node [] (ne_eqb node.id id (λ e. other (sym e)))
 find-put_other node (x ∷ xs) id other =
     let test = λ (n : Node). n.id == id in
     let fails : test node ≡ false = ne_eqb node.id id (λ e. other (sym e)) in
     elim (cases_order x.id node.id) [
-      | inl e ↦ ap (find test) (put_same node x xs e) ∙ find_no test node xs fails ∙ sym (find_no test x xs (ne_eqb x.id id (λ e'. other (sym e' ∙ e))))
+      | inl e ↦ ap (find test) (put_same node x xs e) ∙ find_no test node xs fails
+          ∙ sym (find_no test x xs (ne_eqb x.id id (λ e'. other (sym e' ∙ e))))
       | inr apart ↦ elim apart [
-        | inl below ↦ ap (find test) (put_behind node x xs below) ∙ (elim (cases_Bool (x.id == id)) [
-          | inl is ↦ find_yes test x (put_node node xs) is ∙ sym (find_yes test x xs is)
-          | inr isnt ↦ find_no test x (put_node node xs) isnt ∙ find-put_other node xs id other ∙ sym (find_no test x xs isnt)
-        ])
+        | inl below ↦ ap (find test) (put_behind node x xs below)
+            ∙ (elim (cases_Bool (x.id == id)) [
+              | inl is ↦ find_yes test x (put_node node xs) is ∙ sym (find_yes test x xs is)
+              | inr isnt ↦ find_no test x (put_node node xs) isnt ∙ find-put_other node xs id other
+                  ∙ sym (find_no test x xs isnt)
+            ])
         | inr above ↦ ap (find test) (put_before node x xs above) ∙ find_no test node (x ∷ xs) fails
       ]
     ]
 
 -- a new object that fails a test leaves what the test finds
-pub find-put_failing : (p : Node → Bool) (node : Node) (nodes : List Node) → p node ≡ false → find_id node.id nodes ≡ None → find p (put_node node nodes) ≡ find p nodes
+pub find-put_failing : (p : Node → Bool) (node : Node) (nodes : List Node) → p node ≡ false
+    → find_id node.id nodes ≡ None → find p (put_node node nodes) ≡ find p nodes
 find-put_failing p node [] fails unused = find_no p node [] fails
 find-put_failing p node (x ∷ xs) fails unused =
     let parts = none_found (λ (n : Node). n.id == node.id) x xs unused in
@@ -271,34 +341,42 @@ find-put_failing p node (x ∷ xs) fails unused =
       | inr apart ↦ elim apart [
         | inl below ↦ ap (find p) (put_behind node x xs below) ∙ (elim (cases_Bool (p x)) [
           | inl is ↦ find_yes p x (put_node node xs) is ∙ sym (find_yes p x xs is)
-          | inr isnt ↦ find_no p x (put_node node xs) isnt ∙ find-put_failing p node xs fails parts.1 ∙ sym (find_no p x xs isnt)
+          | inr isnt ↦ find_no p x (put_node node xs) isnt
+              ∙ find-put_failing p node xs fails parts.1 ∙ sym (find_no p x xs isnt)
         ])
         | inr above ↦ ap (find p) (put_before node x xs above) ∙ find_no p node (x ∷ xs) fails
       ]
     ]
 
 -- an object that passes a test which none passed is what the test finds
-pub find-put_passing : (p : Node → Bool) (node : Node) (nodes : List Node) → p node ≡ true → find p nodes ≡ None → find p (put_node node nodes) ≡ Some node
+pub find-put_passing : (p : Node → Bool) (node : Node) (nodes : List Node) → p node ≡ true
+    → find p nodes ≡ None → find p (put_node node nodes) ≡ Some node
 find-put_passing p node [] passes none = find_yes p node [] passes
 find-put_passing p node (x ∷ xs) passes none =
     let parts = none_found p x xs none in
     elim (cases_order x.id node.id) [
       | inl e ↦ ap (find p) (put_same node x xs e) ∙ find_yes p node xs passes
       | inr apart ↦ elim apart [
-        | inl below ↦ ap (find p) (put_behind node x xs below) ∙ find_no p x (put_node node xs) parts.0 ∙ find-put_passing p node xs passes parts.1
+        | inl below ↦ ap (find p) (put_behind node x xs below)
+            ∙ find_no p x (put_node node xs) parts.0 ∙ find-put_passing p node xs passes parts.1
         | inr above ↦ ap (find p) (put_before node x xs above) ∙ find_yes p node (x ∷ xs) passes
       ]
     ]
 
 -- of two with the same number the later one stays
-pub put-put : (first second : Node) (nodes : List Node) → first.id ≡ second.id → put_node second (put_node first nodes) ≡ put_node second nodes
+pub put-put : (first second : Node) (nodes : List Node) → first.id ≡ second.id
+    → put_node second (put_node first nodes) ≡ put_node second nodes
 put-put first second [] e = put_same second first [] e
 put-put first second (x ∷ xs) e = elim (cases_order x.id first.id) [
-  | inl same ↦ ap (put_node second) (put_same first x xs same) ∙ put_same second first xs e ∙ sym (put_same second x xs (same ∙ e))
+  | inl same ↦ ap (put_node second) (put_same first x xs same) ∙ put_same second first xs e
+      ∙ sym (put_same second x xs (same ∙ e))
   | inr apart ↦ elim apart [
-    | inl below ↦ ap (put_node second) (put_behind first x xs below) ∙ put_behind second x (put_node first xs) (omega (arith, below, e)) ∙ ap (λ (l : List Node). x ∷ l) (put-put first second xs e)
+    | inl below ↦ ap (put_node second) (put_behind first x xs below)
+        ∙ put_behind second x (put_node first xs) (omega (arith, below, e))
+        ∙ ap (λ (l : List Node). x ∷ l) (put-put first second xs e)
         ∙ sym (put_behind second x xs (omega (arith, below, e)))
-    | inr above ↦ ap (put_node second) (put_before first x xs above) ∙ put_same second first (x ∷ xs) e ∙ sym (put_before second x xs (omega (arith, above, e)))
+    | inr above ↦ ap (put_node second) (put_before first x xs above)
+        ∙ put_same second first (x ∷ xs) e ∙ sym (put_before second x xs (omega (arith, above, e)))
   ]
 ]
 
@@ -326,7 +404,9 @@ replaced_here new node e = cond-true _ _ _ (eq-eqb node.id new.id e)
 pub replaced_elsewhere : (new node : Node) → (node.id ≡ new.id → ⊥) → replaced new node ≡ node
 replaced_elsewhere new node isnt = cond-false _ _ _ (ne_eqb node.id new.id isnt)
 
-untouched : (k : ℕ) (nodes : List Node) (new : Node) → is_rising (k ∷ map (λ (n : Node). n.id) nodes) ≡ true → new.id ≤ k → map (replaced new) nodes ≡ nodes
+untouched : (k : ℕ) (nodes : List Node) (new : Node)
+    → is_rising (k ∷ map (λ (n : Node). n.id) nodes) ≡ true → new.id ≤ k
+    → map (replaced new) nodes ≡ nodes
 untouched k [] new rises below = refl
 untouched k (x ∷ xs) new rises below =
     let parts = and_parts (nat_lt k x.id) (is_rising (x.id ∷ map (λ (n : Node). n.id) xs)) rises in
@@ -336,7 +416,9 @@ untouched k (x ∷ xs) new rises below =
     ap (λ (n : Node). n ∷ map (replaced new) xs) same ∙ ap (λ (l : List Node). x ∷ l) rest
 
 -- where its number is in use, an object that is put replaces that one and leaves the others
-pub put-replaces : (k : ℕ) (nodes : List Node) (id : ℕ) (node new : Node) → is_rising (k ∷ map (λ (n : Node). n.id) nodes) ≡ true → find_id id nodes ≡ Some node → new.id ≡ id → put_node new nodes ≡ map (replaced new) nodes
+pub put-replaces : (k : ℕ) (nodes : List Node) (id : ℕ) (node new : Node)
+    → is_rising (k ∷ map (λ (n : Node). n.id) nodes) ≡ true → find_id id nodes ≡ Some node
+    → new.id ≡ id → put_node new nodes ≡ map (replaced new) nodes
 put-replaces k [] id node new rises found same = absurd (not_none node found)
 put-replaces k (x ∷ xs) id node new rises found same =
     let parts = and_parts (nat_lt k x.id) (is_rising (x.id ∷ map (λ (n : Node). n.id) xs)) rises in
@@ -344,42 +426,57 @@ put-replaces k (x ∷ xs) id node new rises found same =
       | inl is ↦
           let e : x.id ≡ new.id = eqb-true x.id id is ∙ sym same in
           let rest = untouched x.id xs new parts.1 (omega (arith, e)) in
-          put_same new x xs e ∙ sym (ap (λ (n : Node). n ∷ map (replaced new) xs) (replaced_here new x e) ∙ ap (λ (l : List Node). new ∷ l) rest)
+          put_same new x xs e
+          ∙ sym (ap (λ (n : Node). n ∷ map (replaced new) xs) (replaced_here new x e)
+          ∙ ap (λ (l : List Node). new ∷ l) rest)
       | inr isnt ↦
           let later = sym (find_no (λ (n : Node). n.id == id) x xs isnt) ∙ found in
           let above = found_above x.id xs id node parts.1 later in
           let number = found_number id xs node later in
           let below : x.id < new.id = omega (arith, above, number, same) in
-          put_behind new x xs below ∙ ap (λ (l : List Node). x ∷ l) (put-replaces x.id xs id node new parts.1 later same)
-          ∙ sym (ap (λ (n : Node). n ∷ map (replaced new) xs) (replaced_elsewhere new x (λ e. absurd (omega (arith, below, e)))))
+          put_behind new x xs below
+          ∙ ap (λ (l : List Node). x ∷ l) (put-replaces x.id xs id node new parts.1 later same)
+          ∙ sym (ap (λ (n : Node). n ∷ map (replaced new) xs)
+          (replaced_elsewhere new x (λ e. absurd (omega (arith, below, e)))))
     ]
 
 -- an object that is there, put once more, leaves all as it is
-pub put_there : (k : ℕ) (nodes : List Node) (node : Node) → is_rising (k ∷ map (λ (n : Node). n.id) nodes) ≡ true → find_id node.id nodes ≡ Some node → put_node node nodes ≡ nodes
+pub put_there : (k : ℕ) (nodes : List Node) (node : Node)
+    → is_rising (k ∷ map (λ (n : Node). n.id) nodes) ≡ true → find_id node.id nodes ≡ Some node
+    → put_node node nodes ≡ nodes
 put_there k [] node rises found = absurd (not_none node found)
 put_there k (x ∷ xs) node rises found =
     let parts = and_parts (nat_lt k x.id) (is_rising (x.id ∷ map (λ (n : Node). n.id) xs)) rises in
     elim (cases_Bool (x.id == node.id)) [
       | inl is ↦
-          let here = same_some x node (sym (find_yes (λ (n : Node). n.id == node.id) x xs is) ∙ found) in
+          let here = same_some x node
+          (sym (find_yes (λ (n : Node). n.id == node.id) x xs is) ∙ found) in
           put_same node x xs (eqb-true x.id node.id is) ∙ ap (λ (n : Node). n ∷ xs) (sym here)
       | inr isnt ↦
           let later = sym (find_no (λ (n : Node). n.id == node.id) x xs isnt) ∙ found in
-          put_behind node x xs (found_above x.id xs node.id node parts.1 later) ∙ ap (λ (l : List Node). x ∷ l) (put_there x.id xs node parts.1 later)
+          put_behind node x xs (found_above x.id xs node.id node parts.1 later)
+          ∙ ap (λ (l : List Node). x ∷ l) (put_there x.id xs node parts.1 later)
     ]
 
 place_of : (a b c : Node) → a ≡ b → IsSamePlace b c → IsSamePlace a c
 place_of a b c e same = subst (λ (n : Node). IsSamePlace n c) (sym e) same
 
-untouched_places : (k : ℕ) (nodes : List Node) (new : Node) → is_rising (k ∷ map (λ (n : Node). n.id) nodes) ≡ true → new.id ≤ k → AllByRecursion (λ (n : Node). IsSamePlace (replaced new n) n) nodes
+untouched_places : (k : ℕ) (nodes : List Node) (new : Node)
+    → is_rising (k ∷ map (λ (n : Node). n.id) nodes) ≡ true → new.id ≤ k
+    → AllByRecursion (λ (n : Node). IsSamePlace (replaced new n) n) nodes
 untouched_places k [] new rises below = tt
 untouched_places k (x ∷ xs) new rises below =
     let parts = and_parts (nat_lt k x.id) (is_rising (x.id ∷ map (λ (n : Node). n.id) xs)) rises in
-    let up = ltb-true k x.id parts.0 in
-    (place_of (replaced new x) x x (replaced_elsewhere new x (λ e. absurd (omega (arith, up, below, e)))) (same_place x), untouched_places x.id xs new parts.1 (omega (arith, up, below)))
+    let up = ltb-true k x.id parts.0 in (
+      place_of (replaced new x) x x
+          (replaced_elsewhere new x (λ e. absurd (omega (arith, up, below, e)))) (same_place x),
+      untouched_places x.id xs new parts.1 (omega (arith, up, below)),
+    )
 
 -- an object that replaces one of the same place leaves all places
-pub replaced_places : (k : ℕ) (nodes : List Node) (id : ℕ) (node new : Node) → is_rising (k ∷ map (λ (n : Node). n.id) nodes) ≡ true → find_id id nodes ≡ Some node → IsSamePlace new node
+pub replaced_places : (k : ℕ) (nodes : List Node) (id : ℕ) (node new : Node)
+    → is_rising (k ∷ map (λ (n : Node). n.id) nodes) ≡ true → find_id id nodes ≡ Some node
+    → IsSamePlace new node
     → AllByRecursion (λ (n : Node). IsSamePlace (replaced new n) n) nodes
 replaced_places k [] id node new rises found same = tt
 replaced_places k (x ∷ xs) id node new rises found same =
@@ -387,57 +484,86 @@ replaced_places k (x ∷ xs) id node new rises found same =
     elim (cases_Bool (x.id == id)) [
       | inl is ↦
           let it = same_some x node (sym (find_yes (λ (n : Node). n.id == id) x xs is) ∙ found) in
-          let e : x.id ≡ new.id = ap (λ (n : Node). n.id) it ∙ sym same.number in
-          (place_of (replaced new x) new x (replaced_here new x e) (subst (λ (n : Node). IsSamePlace new n) (sym it) same), untouched_places x.id xs new parts.1 (omega (arith, e)))
+          let e : x.id ≡ new.id = ap (λ (n : Node). n.id) it ∙ sym same.number in (
+            place_of (replaced new x) new x (replaced_here new x e)
+                (subst (λ (n : Node). IsSamePlace new n) (sym it) same),
+            untouched_places x.id xs new parts.1 (omega (arith, e)),
+          )
       | inr isnt ↦
           let later = sym (find_no (λ (n : Node). n.id == id) x xs isnt) ∙ found in
           let above = found_above x.id xs id node parts.1 later in
           let number = same.number in
-          let below : x.id < new.id = omega (arith, above, number) in
-          (place_of (replaced new x) x x (replaced_elsewhere new x (λ e. absurd (omega (arith, below, e)))) (same_place x), replaced_places x.id xs id node new parts.1 later same)
+          let below : x.id < new.id = omega (arith, above, number) in (
+            place_of (replaced new x) x x
+                (replaced_elsewhere new x (λ e. absurd (omega (arith, below, e)))) (same_place x),
+            replaced_places x.id xs id node new parts.1 later same,
+          )
     ]
 
 -- ---- changes that leave number, parent and name
 
 module _ (change : Node → Node) where
   -- a test of the place finds the changed object
-  pub find-changed : (p : Node → Bool) → ((a b : Node) → IsSamePlace a b → p a ≡ p b) → (nodes : List Node) → AllByRecursion (λ (n : Node). IsSamePlace (change n) n) nodes → find p (map change nodes) ≡ option_map change (find p nodes)
+  pub find-changed : (p : Node → Bool) → ((a b : Node) → IsSamePlace a b → p a ≡ p b)
+      → (nodes : List Node) → AllByRecursion (λ (n : Node). IsSamePlace (change n) n) nodes
+      → find p (map change nodes) ≡ option_map change (find p nodes)
   find-changed p of_place [] same = refl
   find-changed p of_place (x ∷ xs) same =
       let as_before = of_place (change x) x same.0 in
       elim (cases_Bool (p x)) [
-        | inl is ↦ find_yes p (change x) (map change xs) (as_before ∙ is) ∙ sym (ap (option_map change) (find_yes p x xs is))
-        | inr isnt ↦ find_no p (change x) (map change xs) (as_before ∙ isnt) ∙ find-changed p of_place xs same.1 ∙ sym (ap (option_map change) (find_no p x xs isnt))
+        | inl is ↦ find_yes p (change x) (map change xs) (as_before ∙ is)
+            ∙ sym (ap (option_map change) (find_yes p x xs is))
+        | inr isnt ↦ find_no p (change x) (map change xs) (as_before ∙ isnt)
+            ∙ find-changed p of_place xs same.1 ∙ sym (ap (option_map change) (find_no p x xs isnt))
       ]
 
   -- a test of the place keeps those of the changed objects that it kept before the change
-  pub filter-changed : (p : Node → Bool) → ((a b : Node) → IsSamePlace a b → p a ≡ p b) → (nodes : List Node) → AllByRecursion (λ (n : Node). IsSamePlace (change n) n) nodes → filter p (map change nodes) ≡ map change (filter p nodes)
+  pub filter-changed : (p : Node → Bool) → ((a b : Node) → IsSamePlace a b → p a ≡ p b)
+      → (nodes : List Node) → AllByRecursion (λ (n : Node). IsSamePlace (change n) n) nodes
+      → filter p (map change nodes) ≡ map change (filter p nodes)
   filter-changed p of_place [] same = refl
   filter-changed p of_place (x ∷ xs) same =
       let as_before = of_place (change x) x same.0 in
       elim (cases_Bool (p x)) [
-        | inl is ↦ keep_yes p (change x) (map change xs) (as_before ∙ is) ∙ ap (λ (l : List Node). change x ∷ l) (filter-changed p of_place xs same.1) ∙ sym (ap (map change) (keep_yes p x xs is))
-        | inr isnt ↦ keep_no p (change x) (map change xs) (as_before ∙ isnt) ∙ filter-changed p of_place xs same.1 ∙ sym (ap (map change) (keep_no p x xs isnt))
+        | inl is ↦ keep_yes p (change x) (map change xs) (as_before ∙ is)
+            ∙ ap (λ (l : List Node). change x ∷ l) (filter-changed p of_place xs same.1)
+            ∙ sym (ap (map change) (keep_yes p x xs is))
+        | inr isnt ↦ keep_no p (change x) (map change xs) (as_before ∙ isnt)
+            ∙ filter-changed p of_place xs same.1 ∙ sym (ap (map change) (keep_no p x xs isnt))
       ]
 
-  put_by_name-changed : (node : Node) (nodes : List Node) → IsSamePlace (change node) node → AllByRecursion (λ (n : Node). IsSamePlace (change n) n) nodes → put_by_name (change node) (map change nodes) ≡ map change (put_by_name node nodes)
+  put_by_name-changed : (node : Node) (nodes : List Node) → IsSamePlace (change node) node
+      → AllByRecursion (λ (n : Node). IsSamePlace (change n) n) nodes
+      → put_by_name (change node) (map change nodes) ≡ map change (put_by_name node nodes)
   put_by_name-changed node [] here same = refl
   put_by_name-changed node (x ∷ xs) here same =
-      let as_before : is_before (change x).name (change node).name ≡ is_before x.name node.name = ap (λ n. is_before n (change node).name) same.0.name ∙ ap (is_before x.name) here.name in
+      let as_before : is_before (change x).name (change node).name ≡ is_before x.name node.name = ap
+      (λ n. is_before n (change node).name) same.0.name ∙ ap (is_before x.name) here.name in
       elim (cases_Bool (is_before x.name node.name)) [
         | inl is ↦
-            name_behind (change node) (change x) (map change xs) (as_before ∙ is) ∙ ap (λ (l : List Node). change x ∷ l) (put_by_name-changed node xs here same.1)
+            name_behind (change node) (change x) (map change xs) (as_before ∙ is)
+            ∙ ap (λ (l : List Node). change x ∷ l) (put_by_name-changed node xs here same.1)
             ∙ sym (ap (map change) (name_behind node x xs is))
-        | inr isnt ↦ name_here (change node) (change x) (map change xs) (as_before ∙ isnt) ∙ sym (ap (map change) (name_here node x xs isnt))
+        | inr isnt ↦ name_here (change node) (change x) (map change xs) (as_before ∙ isnt)
+            ∙ sym (ap (map change) (name_here node x xs isnt))
       ]
 
   -- changed objects, sorted by name, stand in the order in which they stood before the change
-  pub sorted-changed : (nodes : List Node) → AllByRecursion (λ (n : Node). IsSamePlace (change n) n) nodes → sorted_by_name (map change nodes) ≡ map change (sorted_by_name nodes)
+  pub sorted-changed : (nodes : List Node)
+      → AllByRecursion (λ (n : Node). IsSamePlace (change n) n) nodes
+      → sorted_by_name (map change nodes) ≡ map change (sorted_by_name nodes)
   sorted-changed [] same = refl
   sorted-changed (x ∷ xs) same =
-      ap (put_by_name (change x)) (sorted-changed xs same.1) ∙ put_by_name-changed x (sorted_by_name xs) same.0 (each-sorted (λ (n : Node). IsSamePlace (change n) n) xs same.1)
+      ap (put_by_name (change x)) (sorted-changed xs same.1)
+      ∙ put_by_name-changed x (sorted_by_name xs) same.0
+      (each-sorted (λ (n : Node). IsSamePlace (change n) n) xs same.1)
 
   -- what depends on the place alone stays
-  pub map-changed : {A : Type 0} (part : Node → A) → ((a b : Node) → IsSamePlace a b → part a ≡ part b) → (nodes : List Node) → AllByRecursion (λ (n : Node). IsSamePlace (change n) n) nodes → map part (map change nodes) ≡ map part nodes
+  pub map-changed : {A : Type 0} (part : Node → A)
+      → ((a b : Node) → IsSamePlace a b → part a ≡ part b) → (nodes : List Node)
+      → AllByRecursion (λ (n : Node). IsSamePlace (change n) n) nodes
+      → map part (map change nodes) ≡ map part nodes
   map-changed part of_place [] same = refl
-  map-changed part of_place (x ∷ xs) same = ap (λ a. a ∷ map part (map change xs)) (of_place (change x) x same.0) ∙ ap (λ l. part x ∷ l) (map-changed part of_place xs same.1)
+  map-changed part of_place (x ∷ xs) same =
+      ap (λ a. a ∷ map part (map change xs)) (of_place (change x) x same.0)
+      ∙ ap (λ l. part x ∷ l) (map-changed part of_place xs same.1)

@@ -16,65 +16,87 @@ use Rattle.room_rows.proofs.Utf8.{ascii_at, passes_as_utf8, text_from}
 -- ---- one name
 
 no_slash : (byte : ℕ) → is_name_byte byte ≡ true → (byte == 47) ≡ false
-no_slash byte is = not-true (byte == 47) (and_parts (nat_le 0x20 byte && not (byte == 0x7F)) (not (byte == 47)) is).1
+no_slash byte is =
+    not-true (byte == 47)
+    (and_parts (nat_le 0x20 byte && not (byte == 0x7F)) (not (byte == 47)) is).1
 
-cut_name : (name rest : List ℕ) → list_all is_name_byte name ≡ true → pieces 47 (name ++ 47 ∷ rest) ≡ name ∷ pieces 47 rest
+cut_name : (name rest : List ℕ) → list_all is_name_byte name ≡ true
+    → pieces 47 (name ++ 47 ∷ rest) ≡ name ∷ pieces 47 rest
 cut_name [] rest all = slice_split-cons_yes (λ byte. byte == 47) 47 rest refl
 cut_name (b ∷ bs) rest all =
     let parts = and_parts (is_name_byte b) (list_all is_name_byte bs) all in
-    slice_split-cons_no (λ byte. byte == 47) b (bs ++ 47 ∷ rest) (no_slash b parts.0) ∙ ap (onto_first b) (cut_name bs rest parts.1)
+    slice_split-cons_no (λ byte. byte == 47) b (bs ++ 47 ∷ rest) (no_slash b parts.0)
+    ∙ ap (onto_first b) (cut_name bs rest parts.1)
 
 last_name : (name : List ℕ) → list_all is_name_byte name ≡ true → pieces 47 name ≡ name ∷ []
 last_name [] all = refl
 last_name (b ∷ bs) all =
     let parts = and_parts (is_name_byte b) (list_all is_name_byte bs) all in
-    slice_split-cons_no (λ byte. byte == 47) b bs (no_slash b parts.0) ∙ ap (onto_first b) (last_name bs parts.1)
+    slice_split-cons_no (λ byte. byte == 47) b bs (no_slash b parts.0)
+    ∙ ap (onto_first b) (last_name bs parts.1)
 
 -- ---- what makes a name
 
 but_utf8 : (name : List ℕ) → is_object_name name ≡ true → is_utf8 name ≡ true
 but_utf8 name is =
-    (and_parts (nat_lt 0 (length name) && nat_le (length name) 255 && list_all is_name_byte name && not (same_text name (codes ".")) && not (same_text name (codes ".."))) (is_utf8 name) is).1
+    (and_parts (nat_lt 0 (length name) && nat_le (length name) 255 && list_all is_name_byte name
+    && not (same_text name (codes ".")) && not (same_text name (codes ".."))) (is_utf8 name) is).1
 
-first_tests : (name : List ℕ) → is_object_name name ≡ true → (nat_lt 0 (length name) && nat_le (length name) 255 && list_all is_name_byte name) ≡ true
+first_tests : (name : List ℕ) → is_object_name name ≡ true
+    → (nat_lt 0 (length name) && nat_le (length name) 255 && list_all is_name_byte name) ≡ true
 first_tests name is =
     let bytes = nat_lt 0 (length name) && nat_le (length name) 255 && list_all is_name_byte name in
     let no_dot = not (same_text name (codes ".")) in
     let no_dots = not (same_text name (codes "..")) in
-    (and_parts bytes no_dot (and_parts (bytes && no_dot) no_dots (and_parts (bytes && no_dot && no_dots) (is_utf8 name) is).0).0).0
+    (and_parts bytes no_dot
+    (and_parts (bytes && no_dot) no_dots
+    (and_parts (bytes && no_dot && no_dots) (is_utf8 name) is).0).0).0
 
 name_bytes : (name : List ℕ) → is_object_name name ≡ true → list_all is_name_byte name ≡ true
-name_bytes name is = (and_parts (nat_lt 0 (length name) && nat_le (length name) 255) (list_all is_name_byte name) (first_tests name is)).1
+name_bytes name is =
+    (and_parts (nat_lt 0 (length name) && nat_le (length name) 255) (list_all is_name_byte name)
+    (first_tests name is)).1
 
 some_bytes : (name : List ℕ) → is_object_name name ≡ true → 0 < length name
 some_bytes name is =
-    let lengths = (and_parts (nat_lt 0 (length name) && nat_le (length name) 255) (list_all is_name_byte name) (first_tests name is)).0 in
-    ltb-true 0 (length name) (and_parts (nat_lt 0 (length name)) (nat_le (length name) 255) lengths).0
+    let lengths =
+    (and_parts (nat_lt 0 (length name) && nat_le (length name) 255) (list_all is_name_byte name)
+    (first_tests name is)).0 in
+    ltb-true 0 (length name)
+    (and_parts (nat_lt 0 (length name)) (nat_le (length name) 255) lengths).0
 
 -- ---- all names
 
-pieces_joined : (name : List ℕ) (names : List (List ℕ)) → list_all is_object_name (name ∷ names) ≡ true → pieces 47 (name ++ joined names) ≡ name ∷ names
+pieces_joined : (name : List ℕ) (names : List (List ℕ))
+    → list_all is_object_name (name ∷ names) ≡ true
+    → pieces 47 (name ++ joined names) ≡ name ∷ names
 pieces_joined name [] good =
     let parts = and_parts (is_object_name name) true good in
     ap (pieces 47) (append-nil name) ∙ last_name name (name_bytes name parts.0)
 pieces_joined name (next ∷ names) good =
     let parts = and_parts (is_object_name name) (list_all is_object_name (next ∷ names)) good in
-    cut_name name (next ++ joined names) (name_bytes name parts.0) ∙ ap (λ (others : List (List ℕ)). name ∷ others) (pieces_joined next names parts.1)
+    cut_name name (next ++ joined names) (name_bytes name parts.0)
+    ∙ ap (λ (others : List (List ℕ)). name ∷ others) (pieces_joined next names parts.1)
 
 joined_utf8 : (names : List (List ℕ)) → list_all is_object_name names ≡ true → IsUtf8 (joined names)
 joined_utf8 [] good = IsUtf8-nil
 joined_utf8 (name ∷ names) good =
     let parts = and_parts (is_object_name name) (list_all is_object_name names) good in
-    IsUtf8-append (47 ∷ name) (joined names) (IsUtf8-append (47 ∷ []) name (IsUtf8-from_ascii (47 ∷ []) (ascii_at (47 ∷ []) refl)) (text_from name (but_utf8 name parts.0))) (joined_utf8 names parts.1)
+    IsUtf8-append (47 ∷ name) (joined names)
+    (IsUtf8-append (47 ∷ []) name (IsUtf8-from_ascii (47 ∷ []) (ascii_at (47 ∷ []) refl))
+    (text_from name (but_utf8 name parts.0))) (joined_utf8 names parts.1)
 
 pub path_reads_back : PathReadsBack
 path_reads_back [] is = refl
 path_reads_back (name ∷ names) is =
-    let parts = and_parts (list_all is_object_name (name ∷ names)) (nat_le (length (path_text (name ∷ names))) 4096) is in
+    let parts = and_parts (list_all is_object_name (name ∷ names))
+    (nat_le (length (path_text (name ∷ names))) 4096) is in
     let good = and_parts (is_object_name name) (list_all is_object_name names) parts.0 in
-    let some : 0 < length (name ++ joined names) = (let first = some_bytes name good.0 in omega (arith, first, length-append name (joined names))) in
+    let some : 0 < length (name ++ joined names) = (let first = some_bytes name good.0 in
+    omega (arith, first, length-append name (joined names))) in
     within (path_text (name ∷ names)) (leb-true _ _ parts.1)
-    ∙ cond-true _ _ _ (passes_as_utf8 (path_text (name ∷ names)) (joined_utf8 (name ∷ names) parts.0))
+    ∙ cond-true _ _ _ (passes_as_utf8 (path_text (name ∷ names))
+    (joined_utf8 (name ∷ names) parts.0))
     ∙ slash_first (name ++ joined names) some
     ∙ ap object_names (pieces_joined name names parts.0)
     ∙ good_names (name ∷ names) parts.0

@@ -37,7 +37,16 @@ abbrev plain : Held
 plain = record { flags = record { auto = true; protect = false }; own = []; inh = [] }
 
 abbrev object : ℕ → Option ℕ → List ℕ → ObjKind → Node
-object id parent name kind = record { id = id; parent = parent; name = name; kind = kind; owners = record { owner = codes "root"; group = codes "staff" }; dacl = plain; sacl = plain }
+object id parent name kind =
+    record {
+      id = id;
+      parent = parent;
+      name = name;
+      kind = kind;
+      owners = record { owner = codes "root"; group = codes "staff" };
+      dacl = plain;
+      sacl = plain;
+    }
 
 abbrev the_root : Node
 the_root = object 1 None [] Folder
@@ -49,20 +58,41 @@ abbrev document : Node
 document = object 3 (Some 2) (codes "f") Document
 
 abbrev small : Content
-small = record { nodes = the_root ∷ folder ∷ document ∷ []; bodies = (3, codes "hi") ∷ []; members = []; audits = [] }
+small =
+    record {
+      nodes = the_root ∷ folder ∷ document ∷ [];
+      bodies = (3, codes "hi") ∷ [];
+      members = [];
+      audits = [];
+    }
 
-past_a_document : walk_of small (codes "a" ∷ codes "f" ∷ codes "x" ∷ []) ≡ record { chain = the_root ∷ folder ∷ document ∷ []; rest = 1 }
+past_a_document : walk_of small (codes "a" ∷ codes "f" ∷ codes "x" ∷ [])
+    ≡ record { chain = the_root ∷ folder ∷ document ∷ []; rest = 1 }
 past_a_document = refl
 
-nothing_there : walk_of small (codes "q" ∷ codes "r" ∷ []) ≡ record { chain = the_root ∷ []; rest = 2 }
+nothing_there : walk_of small (codes "q" ∷ codes "r" ∷ [])
+    ≡ record { chain = the_root ∷ []; rest = 2 }
 nothing_there = refl
 
 at_the_root : walk_of small [] ≡ record { chain = the_root ∷ []; rest = 0 }
 at_the_root = refl
 
 it_is_a_content : IsContent small
-it_is_a_content = record { numbers = refl; one_root = refl; parents = refl; connected = refl; names = refl; bodies = refl; kept = refl; members = refl }
+it_is_a_content =
+    record {
+      numbers = refl;
+      one_root = refl;
+      parents = refl;
+      connected = refl;
+      names = refl;
+      bodies = refl;
+      kept = refl;
+      members = refl;
+    }
 
-pairs_in_order : set_of ((codes "sales", codes "bob") ∷ (codes "ops", codes "carol") ∷ (codes "sales", codes "alice") ∷ (codes "sales", codes "bob") ∷ [])
-    ≡ (codes "ops", codes "carol") ∷ (codes "sales", codes "alice") ∷ (codes "sales", codes "bob") ∷ []
+pairs_in_order : set_of
+    ((codes "sales", codes "bob") ∷ (codes "ops", codes "carol") ∷ (codes "sales", codes "alice")
+    ∷ (codes "sales", codes "bob") ∷ [])
+    ≡ (codes "ops", codes "carol") ∷ (codes "sales", codes "alice") ∷ (codes "sales", codes "bob")
+    ∷ []
 pairs_in_order = refl

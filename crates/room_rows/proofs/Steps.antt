@@ -7,18 +7,22 @@ use Rattle.room_rows.specs.Rows.{Rows}
 use Rattle.room_rows.specs.Keep.{HasCause, IfSeen, IsRead, KeepLaws}
 
 -- an error that `?` hands on
-pub handed_on : {X E : Type 0} (r : Result X E) (e : E) → Rattle.std.specs.Result.IsErrAnd r (λ x. x ≡ e) → r ≡ Err e
+pub handed_on : {X E : Type 0} (r : Result X E) (e : E)
+    → Rattle.std.specs.Result.IsErrAnd r (λ x. x ≡ e) → r ≡ Err e
 handed_on (Ok x) e h = absurd h
 handed_on (Err x) e h = ap Err h
 
 -- a cause of a later call is one of all calls since an earlier state
-pub later_cause : (first mid last : ℕ) (e : KeepFault) (D E : ℕ → Type 0) → first ≤ mid → mid ≤ last → ((id : ℕ) → D id → E id) → HasCause mid last D e → HasCause first last E e
+pub later_cause : (first mid last : ℕ) (e : KeepFault) (D E : ℕ → Type 0) → first ≤ mid → mid ≤ last
+    → ((id : ℕ) → D id → E id) → HasCause mid last D e → HasCause first last E e
 later_cause first mid last Memory D E up up' damaged h = tt
 later_cause first mid last Store D E up up' damaged (inl h) = inl (omega arith)
-later_cause first mid last Store D E up up' damaged (inr h) = elim (cases_lt first last) [ inl below ↦ inl below | inr not_below ↦ inr (omega arith) ]
+later_cause first mid last Store D E up up' damaged (inr h) =
+    elim (cases_lt first last) [ inl below ↦ inl below | inr not_below ↦ inr (omega arith) ]
 later_cause first mid last (Damaged id) D E up up' damaged h = damaged id h
 
-module _ {S : Type 0} (rows : S → Rows) (failures writes : S → ℕ) (Follows IsTrusted : S → S → Type 0) where
+module _ {S : Type 0} (rows : S → Rows) (failures writes : S → ℕ)
+    (Follows IsTrusted : S → S → Type 0) where
   -- calls that read, each of which answered
   pub record HasRead (a b : S) : Type 0 where
     pub follows : Follows a b
@@ -28,23 +32,37 @@ module _ {S : Type 0} (rows : S → Rows) (failures writes : S → ℕ) (Follows
 
   -- before the first read nothing was written, nothing failed, and the rows are the same
   pub none_yet : KeepLaws rows failures writes Follows IsTrusted → (a : S) → HasRead a a
-  none_yet laws a = record { follows = laws.itself a; unwritten = refl; unfailed = refl; same = λ _. refl }
+  none_yet laws a =
+      record { follows = laws.itself a; unwritten = refl; unfailed = refl; same = λ _. refl }
 
   -- a read that answered is by itself a run of reads, each of which answered
-  pub seen : {X : Type 0} (a b : S) (x : X) {Blames : Rows → ℕ → Type 0} {Answers : Rows → X → Type 0} → IsRead rows failures writes Follows IsTrusted a b (Ok x) Blames Answers → HasRead a b
-  seen a b x read = record { follows = read.follows; unwritten = read.unwritten; unfailed = read.unfailed; same = read.same }
+  pub seen : {X : Type 0} (a b : S) (x : X) {Blames : Rows → ℕ → Type 0}
+      {Answers : Rows → X → Type 0}
+      → IsRead rows failures writes Follows IsTrusted a b (Ok x) Blames Answers → HasRead a b
+  seen a b x read =
+      record {
+        follows = read.follows;
+        unwritten = read.unwritten;
+        unfailed = read.unfailed;
+        same = read.same;
+      }
 
-  seen_on : {X : Type 0} (r : Result X KeepFault) (old mid new : Rows) → mid ≡ old → IfSeen r (new ≡ mid) → IfSeen r (new ≡ old)
+  seen_on : {X : Type 0} (r : Result X KeepFault) (old mid new : Rows) → mid ≡ old
+      → IfSeen r (new ≡ mid) → IfSeen r (new ≡ old)
   seen_on (Ok x) old mid new e h = h ∙ e
   seen_on (Err Memory) old mid new e h = tt
   seen_on (Err Store) old mid new e h = tt
   seen_on (Err (Damaged id)) old mid new e h = h ∙ e
 
   -- a read after others
-  pub read_on : KeepLaws rows failures writes Follows IsTrusted → {X : Type 0} (a b c : S) (r : Result X KeepFault) {Blames : Rows → ℕ → Type 0} {Answers : Rows → X → Type 0}
-      → HasRead a b → IsRead rows failures writes Follows IsTrusted b c r Blames Answers → IsRead rows failures writes Follows IsTrusted a c r Blames Answers
+  pub read_on : KeepLaws rows failures writes Follows IsTrusted
+      → {X : Type 0} (a b c : S) (r : Result X KeepFault) {Blames : Rows → ℕ → Type 0}
+      {Answers : Rows → X → Type 0}
+      → HasRead a b → IsRead rows failures writes Follows IsTrusted b c r Blames Answers
+      → IsRead rows failures writes Follows IsTrusted a c r Blames Answers
   read_on laws {X = X} a b c r {Blames} {Answers} sofar read =
-      let before = λ (t : IsTrusted a c). sofar.same (laws.first a b c sofar.follows read.follows t) in
+      let before = λ (t : IsTrusted a c). sofar.same
+      (laws.first a b c sofar.follows read.follows t) in
       let now = λ (t : IsTrusted a c). laws.last a b c sofar.follows read.follows t in
       record {
         follows = laws.on a b c sofar.follows read.follows;
@@ -52,27 +70,44 @@ module _ {S : Type 0} (rows : S → Rows) (failures writes : S → ℕ) (Follows
         same = λ t. seen_on r (rows a) (rows b) (rows c) (before t) (read.same (now t));
         answers = λ t. subst (λ w. IfOk r (Answers w)) (before t) (read.answers (now t));
         unfailed = unfailed r read.unfailed;
-        fault = cause r read.fault (λ at damaged t. subst (λ w. Blames w at) (before t) (damaged (now t))) (laws.rise a b sofar.follows) (laws.rise b c read.follows);
+        fault =
+            cause r read.fault (λ at damaged t. subst (λ w. Blames w at) (before t)
+            (damaged (now t))) (laws.rise a b sofar.follows) (laws.rise b c read.follows);
       }
     where
-      unfailed : (r : Result X KeepFault) → IfOk r (λ _. failures c ≡ failures b) → IfOk r (λ _. failures c ≡ failures a)
+      unfailed : (r : Result X KeepFault) → IfOk r (λ _. failures c ≡ failures b)
+          → IfOk r (λ _. failures c ≡ failures a)
       unfailed (Ok x) h = h ∙ sofar.unfailed
       unfailed (Err e) h = tt
 
-      cause : (r : Result X KeepFault) → IfErr r (HasCause (failures b) (failures c) (λ at. IsTrusted b c → Blames (rows b) at))
-          → ((at : ℕ) → (IsTrusted b c → Blames (rows b) at) → IsTrusted a c → Blames (rows a) at) → failures a ≤ failures b → failures b ≤ failures c
+      cause : (r : Result X KeepFault)
+          → IfErr r (HasCause (failures b) (failures c) (λ at. IsTrusted b c → Blames (rows b) at))
+          → ((at : ℕ) → (IsTrusted b c → Blames (rows b) at) → IsTrusted a c → Blames (rows a) at)
+          → failures a ≤ failures b → failures b ≤ failures c
           → IfErr r (HasCause (failures a) (failures c) (λ at. IsTrusted a c → Blames (rows a) at))
       cause (Ok x) h on up up' = tt
       cause (Err e) h on up up' = later_cause _ _ _ e _ _ up up' on h
 
   -- where all reads answered, the call that made them answers
-  pub answered : {Y : Type 0} (a c : S) (y : Y) {Blames : Rows → ℕ → Type 0} {Answers : Rows → Y → Type 0} → HasRead a c → (IsTrusted a c → Answers (rows a) y) → IsRead rows failures writes Follows IsTrusted a c (Ok y) Blames Answers
-  answered a c y sofar answers = record { follows = sofar.follows; unwritten = sofar.unwritten; same = sofar.same; answers = answers; unfailed = sofar.unfailed; fault = tt }
+  pub answered : {Y : Type 0} (a c : S) (y : Y) {Blames : Rows → ℕ → Type 0}
+      {Answers : Rows → Y → Type 0} → HasRead a c → (IsTrusted a c → Answers (rows a) y)
+      → IsRead rows failures writes Follows IsTrusted a c (Ok y) Blames Answers
+  answered a c y sofar answers =
+      record {
+        follows = sofar.follows;
+        unwritten = sofar.unwritten;
+        same = sofar.same;
+        answers = answers;
+        unfailed = sofar.unfailed;
+        fault = tt;
+      }
 
   -- a fault of a read is the fault of the call that made it
-  pub gives_up : {X Y : Type 0} (a c : S) (e : KeepFault) {Blames Blames' : Rows → ℕ → Type 0} {Answers : Rows → X → Type 0} {Answers' : Rows → Y → Type 0}
+  pub gives_up : {X Y : Type 0} (a c : S) (e : KeepFault) {Blames Blames' : Rows → ℕ → Type 0}
+      {Answers : Rows → X → Type 0} {Answers' : Rows → Y → Type 0}
       → ((w : Rows) (at : ℕ) → Blames w at → Blames' w at)
-      → IsRead rows failures writes Follows IsTrusted {X = X} a c (Err e) Blames Answers → IsRead rows failures writes Follows IsTrusted {X = Y} a c (Err e) Blames' Answers'
+      → IsRead rows failures writes Follows IsTrusted {X = X} a c (Err e) Blames Answers
+      → IsRead rows failures writes Follows IsTrusted {X = Y} a c (Err e) Blames' Answers'
   gives_up {X = X} {Y = Y} a c e {Blames} {Blames'} weaker read = record {
     follows = read.follows;
     unwritten = read.unwritten;
@@ -82,16 +117,29 @@ module _ {S : Type 0} (rows : S → Rows) (failures writes : S → ℕ) (Follows
     fault = cause e read.fault;
   }
     where
-      same : (e : KeepFault) → IfSeen {X = X} (Err e) (rows c ≡ rows a) → IfSeen {X = Y} (Err e) (rows c ≡ rows a)
+      same : (e : KeepFault) → IfSeen {X = X} (Err e) (rows c ≡ rows a)
+          → IfSeen {X = Y} (Err e) (rows c ≡ rows a)
       same Memory h = tt
       same Store h = tt
       same (Damaged id) h = h
 
-      cause : (e : KeepFault) → HasCause (failures a) (failures c) (λ at. IsTrusted a c → Blames (rows a) at) e → HasCause (failures a) (failures c) (λ at. IsTrusted a c → Blames' (rows a) at) e
+      cause : (e : KeepFault)
+          → HasCause (failures a) (failures c) (λ at. IsTrusted a c → Blames (rows a) at) e
+          → HasCause (failures a) (failures c) (λ at. IsTrusted a c → Blames' (rows a) at) e
       cause Memory h = tt
       cause Store h = h
       cause (Damaged id) h = λ t. weaker (rows a) id (h t)
 
   -- after reads that answered, the call that made them may run out of memory, whatever the rows
-  pub no_memory : {Y : Type 0} (a c : S) {Blames : Rows → ℕ → Type 0} {Answers : Rows → Y → Type 0} → HasRead a c → IsRead rows failures writes Follows IsTrusted {X = Y} a c (Err Memory) Blames Answers
-  no_memory a c sofar = record { follows = sofar.follows; unwritten = sofar.unwritten; same = λ t. tt; answers = λ t. tt; unfailed = tt; fault = tt }
+  pub no_memory : {Y : Type 0} (a c : S) {Blames : Rows → ℕ → Type 0} {Answers : Rows → Y → Type 0}
+      → HasRead a c → IsRead rows failures writes Follows IsTrusted {X = Y} a c
+      (Err Memory) Blames Answers
+  no_memory a c sofar =
+      record {
+        follows = sofar.follows;
+        unwritten = sofar.unwritten;
+        same = λ t. tt;
+        answers = λ t. tt;
+        unfailed = tt;
+        fault = tt;
+      }

@@ -10,20 +10,27 @@ use Rattle.room_entry.specs.Utf8.{is_utf8}
 
 -- bytes that are UTF-8 pass the test
 pub passes_as_utf8 : (bytes : List ℕ) → IsUtf8 bytes → is_utf8 bytes ≡ true
-passes_as_utf8 bytes h = or_right (list_all (λ byte. nat_lt byte 128) bytes) (utf8_valid_len bytes == length bytes) (eq-eqb _ _ (utf8_valid_len-IsUtf8 bytes h))
+passes_as_utf8 bytes h =
+    or_right (list_all (λ byte. nat_lt byte 128) bytes) (utf8_valid_len bytes == length bytes)
+    (eq-eqb _ _ (utf8_valid_len-IsUtf8 bytes h))
 
 -- where all bytes are below 128, the byte at any place is, and so is the 0 past the end
-pub ascii_at : (bytes : List ℕ) → list_all (λ byte. nat_lt byte 128) bytes ≡ true → (i : ℕ) → get_or bytes i 0 < 128
+pub ascii_at : (bytes : List ℕ) → list_all (λ byte. nat_lt byte 128) bytes ≡ true → (i : ℕ)
+    → get_or bytes i 0 < 128
 ascii_at [] h i = omega arith
-ascii_at (b ∷ bs) h zero = ltb-true b 128 (and_parts (nat_lt b 128) (list_all (λ byte. nat_lt byte 128) bs) h).0
-ascii_at (b ∷ bs) h (suc i) = ascii_at bs (and_parts (nat_lt b 128) (list_all (λ byte. nat_lt byte 128) bs) h).1 i
+ascii_at (b ∷ bs) h zero =
+    ltb-true b 128 (and_parts (nat_lt b 128) (list_all (λ byte. nat_lt byte 128) bs) h).0
+ascii_at (b ∷ bs) h (suc i) =
+    ascii_at bs (and_parts (nat_lt b 128) (list_all (λ byte. nat_lt byte 128) bs) h).1 i
 
 -- bytes that are UTF-8 up to a place, and no further, fail the test
-pub fails_as_utf8 : (bytes : List ℕ) (n : ℕ) → ¬ (IsUtf8 bytes) → IsValidUpTo bytes n → is_utf8 bytes ≡ false
+pub fails_as_utf8 : (bytes : List ℕ) (n : ℕ) → ¬ (IsUtf8 bytes) → IsValidUpTo bytes n
+    → is_utf8 bytes ≡ false
 fails_as_utf8 bytes n isnt upto =
     or_from (list_all (λ byte. nat_lt byte 128) bytes) (utf8_valid_len bytes == length bytes)
     (false_from_ne_true _ (λ e. isnt (IsUtf8-from_ascii bytes (ascii_at bytes e))))
-    (ne_eqb _ _ (λ e. let at = utf8_valid_len-IsValidUpTo bytes n upto in let short = upto.short in absurd (omega (arith, at, e, short))))
+    (ne_eqb _ _ (λ e. let at = utf8_valid_len-IsValidUpTo bytes n upto in let short = upto.short in
+    absurd (omega (arith, at, e, short))))
 
 -- ---- what passes is UTF-8
 
@@ -31,12 +38,22 @@ fails_as_utf8 bytes n isnt upto =
 abbrev Front : List ℕ → Type 0
 Front bytes = (n : ℕ) × IsValidUpTo bytes n
 
-front_below : (bytes : List ℕ) (k : ℕ) → k ≤ length bytes → ((m : ℕ) → k ≤ m → ¬ (IsUtf8 (take m bytes))) → Front bytes
+front_below : (bytes : List ℕ) (k : ℕ) → k ≤ length bytes
+    → ((m : ℕ) → k ≤ m → ¬ (IsUtf8 (take m bytes))) → Front bytes
 front_below bytes zero within none = absurd (none 0 (omega arith) IsUtf8-nil)
 front_below bytes (suc k) within none = elim (cases_Bool (is_text (take k bytes))) [
-  | inl holds ↦ (k, record { short = omega (arith, within); front = IsUtf8-from_is_utf8 (take k bytes) holds; longest = λ m more. none m (omega (arith, more)) })
+  | inl holds ↦ (
+    k,
+    record {
+      short = omega (arith, within);
+      front = IsUtf8-from_is_utf8 (take k bytes) holds;
+      longest = λ m more. none m (omega (arith, more));
+    },
+  )
   | inr isnt ↦ front_below bytes k (omega (arith, within)) (λ m at is. elim (cases_Bool (k == m)) [
-    | inl same ↦ false≢true (sym isnt ∙ is_utf8-from_IsUtf8 (take k bytes) (subst (λ (n : ℕ). IsUtf8 (take n bytes)) (sym (equal k m same)) is))
+    | inl same ↦
+        false≢true (sym isnt ∙ is_utf8-from_IsUtf8 (take k bytes)
+        (subst (λ (n : ℕ). IsUtf8 (take n bytes)) (sym (equal k m same)) is))
     | inr apart ↦ none m (above k m at apart) is
   ])
 ]
@@ -50,12 +67,17 @@ front_below bytes (suc k) within none = elim (cases_Bool (is_text (take k bytes)
 -- bytes that aren't UTF-8 fail the test, with nothing known of such a place
 pub other_as_utf8 : (bytes : List ℕ) → ¬ (IsUtf8 bytes) → is_utf8 bytes ≡ false
 other_as_utf8 bytes isnt =
-    let (n, up_to) = front_below bytes (length bytes) (omega arith) (λ m past is. isnt (subst IsUtf8 (take_all m bytes past) is)) in
+    let (n, up_to) = front_below bytes (length bytes) (omega arith)
+    (λ m past is. isnt (subst IsUtf8 (take_all m bytes past) is)) in
     fails_as_utf8 bytes n isnt up_to
 
 -- bytes that pass the test are UTF-8
 pub text_from : (bytes : List ℕ) → is_utf8 bytes ≡ true → IsUtf8 bytes
 text_from bytes passed = elim (cases_Bool (is_text bytes)) [
   | inl holds ↦ IsUtf8-from_is_utf8 bytes holds
-  | inr isnt ↦ absurd (false≢true (sym (other_as_utf8 bytes (λ is. false≢true (sym isnt ∙ is_utf8-from_IsUtf8 bytes is))) ∙ passed))
+  | inr isnt ↦
+      absurd
+      (false≢true
+      (sym (other_as_utf8 bytes (λ is. false≢true (sym isnt ∙ is_utf8-from_IsUtf8 bytes is)))
+      ∙ passed))
 ]

@@ -5,29 +5,47 @@ use Rattle.room_rows.specs.Content.{Content, child_of}
 use Rattle.room_rows.specs.Along.{after_chain}
 use Rattle.room_rows.specs.Walk.{walk_from, behind}
 
-pub next_name : (names : List (List ℕ)) (i : ℕ) (name : List ℕ) → i < length names → name ≡ get_or names i name → drop i names ≡ name ∷ drop (i + 1) names
-next_name names i name below is = drop-cons names i name below ∙ ap (λ (x : List ℕ). x ∷ drop (suc i) names) (sym is) ∙ ap (λ (j : ℕ). name ∷ drop j names) (sym (add-one i))
+pub next_name : (names : List (List ℕ)) (i : ℕ) (name : List ℕ) → i < length names
+    → name ≡ get_or names i name → drop i names ≡ name ∷ drop (i + 1) names
+next_name names i name below is =
+    drop-cons names i name below ∙ ap (λ (x : List ℕ). x ∷ drop (suc i) names) (sym is)
+    ∙ ap (λ (j : ℕ). name ∷ drop j names) (sym (add-one i))
 
-pub none_further : (content : Content) (node : Node) (name : List ℕ) (names : List (List ℕ)) → child_of content node.id name ≡ None → walk_from content node (name ∷ names) ≡ record { chain = node ∷ []; rest = length (name ∷ names) }
+pub none_further : (content : Content) (node : Node) (name : List ℕ) (names : List (List ℕ))
+    → child_of content node.id name ≡ None
+    → walk_from content node (name ∷ names)
+    ≡ record { chain = node ∷ []; rest = length (name ∷ names) }
 none_further content node name names none = rw none refl
 
-pub one_further : (content : Content) (node next : Node) (name : List ℕ) (names : List (List ℕ)) → child_of content node.id name ≡ Some next → walk_from content node (name ∷ names) ≡ behind node (walk_from content next names)
+pub one_further : (content : Content) (node next : Node) (name : List ℕ) (names : List (List ℕ))
+    → child_of content node.id name ≡ Some next
+    → walk_from content node (name ∷ names) ≡ behind node (walk_from content next names)
 one_further content node next name names is = rw is refl
 
 -- no child of the next name
-pub walk_ends : (content : Content) (node : Node) (chain : List Node) (names : List (List ℕ)) (i : ℕ) (name : List ℕ) → i < length names → name ≡ get_or names i name → child_of content node.id name ≡ None
-    → after_chain chain (walk_from content node (drop i names)) ≡ record { chain = chain ++ node ∷ []; rest = length names - i }
+pub walk_ends : (content : Content) (node : Node) (chain : List Node) (names : List (List ℕ))
+    (i : ℕ) (name : List ℕ) → i < length names → name ≡ get_or names i name
+    → child_of content node.id name ≡ None
+    → after_chain chain (walk_from content node (drop i names))
+    ≡ record { chain = chain ++ node ∷ []; rest = length names - i }
 walk_ends content node chain names i name below is none =
     let rest = next_name names i name below is in
     ap (λ (l : List (List ℕ)). after_chain chain (walk_from content node l)) rest
     ∙ ap (after_chain chain) (none_further content node name (drop (i + 1) names) none)
-    ∙ ap (λ (n : ℕ). record { chain = chain ++ node ∷ []; rest = n }) (sym (ap length rest) ∙ length-drop i names)
+    ∙ ap (λ (n : ℕ). record { chain = chain ++ node ∷ []; rest = n })
+    (sym (ap length rest) ∙ length-drop i names)
 
 -- a child of the next name
-pub walk_goes_on : (content : Content) (node next : Node) (chain : List Node) (names : List (List ℕ)) (i : ℕ) (name : List ℕ) → i < length names → name ≡ get_or names i name → child_of content node.id name ≡ Some next
-    → after_chain chain (walk_from content node (drop i names)) ≡ after_chain (chain ++ node ∷ []) (walk_from content next (drop (i + 1) names))
+pub walk_goes_on : (content : Content) (node next : Node) (chain : List Node)
+    (names : List (List ℕ)) (i : ℕ) (name : List ℕ) → i < length names → name ≡ get_or names i name
+    → child_of content node.id name ≡ Some next
+    → after_chain chain (walk_from content node (drop i names))
+    ≡ after_chain (chain ++ node ∷ []) (walk_from content next (drop (i + 1) names))
 walk_goes_on content node next chain names i name below is found =
     let rest = next_name names i name below is in
     ap (λ (l : List (List ℕ)). after_chain chain (walk_from content node l)) rest
     ∙ ap (after_chain chain) (one_further content node next name (drop (i + 1) names) found)
-    ∙ ap (λ (l : List Node). record { chain = l; rest = (walk_from content next (drop (i + 1) names)).rest }) (sym (append_assoc chain (node ∷ []) (walk_from content next (drop (i + 1) names)).chain))
+    ∙ ap
+    (λ (l : List Node).
+    record { chain = l; rest = (walk_from content next (drop (i + 1) names)).rest })
+    (sym (append_assoc chain (node ∷ []) (walk_from content next (drop (i + 1) names)).chain))

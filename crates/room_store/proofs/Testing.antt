@@ -7,7 +7,8 @@ use Rattle.sqlite.specs.State.{State, HasCleanDisk, IsUnchanged, IsRolledBack, I
 use Rattle.store_tables.specs.Shown.{Stays}
 use Rattle.store_tables.proofs.Calls.{unchanged_stays, rolled_back_stays}
 
-left_by : (sql : List ℕ) (old new : State) (params : Row) (why : Error) → IsNotRun old new sql params why → IsUnchanged old new ⊎ IsRolledBack old new
+left_by : (sql : List ℕ) (old new : State) (params : Row) (why : Error)
+    → IsNotRun old new sql params why → IsUnchanged old new ⊎ IsRolledBack old new
 unfolding IsNotRun
 left_by sql old new params why (inl h) = inl h.1
 left_by sql old new params why (inr h) = inr h.3
@@ -26,7 +27,8 @@ module _ (sql : List ℕ) (old new : State) (clean : doubt old.is_clean ≤ doub
   stays_by (inl same) = unchanged_stays old new clean same
   stays_by (inr undone) = rolled_back_stays old new clean undone
 
-  pub failed : (why : Error) → (HasCleanDisk new → (params : Row) → IsNotRun old new sql params why) → Stays old new
+  pub failed : (why : Error) → (HasCleanDisk new → (params : Row) → IsNotRun old new sql params why)
+      → Stays old new
   failed why err = record {
     clean = clean;
     was_open = λ now. (at now).was_open now;

@@ -35,16 +35,19 @@ damage_of keep.Memory is = absurd (let e = is in cc)
 damage_of keep.Store is = absurd (let e = is in cc)
 damage_of (keep.Damaged id) is = (id, refl)
 
-no_damage : {X : Type 0} (fault : StoreFault) → fault ≡ Db → ◌≡◌ {A = Result X StoreFault} (Err fault) (Err Damaged) → ⊥
+no_damage : {X : Type 0} (fault : StoreFault) → fault ≡ Db
+    → ◌≡◌ {A = Result X StoreFault} (Err fault) (Err Damaged) → ⊥
 no_damage fault is damaged = absurd (let e = sym is ∙ fault_in damaged in cc)
   where
-    fault_in : {X : Type 0} {a b : StoreFault} → ◌≡◌ {A = Result X StoreFault} (Err a) (Err b) → a ≡ b
+    fault_in : {X : Type 0} {a b : StoreFault} → ◌≡◌ {A = Result X StoreFault} (Err a) (Err b)
+        → a ≡ b
     fault_in e = cc
 
 same_fault : {X : Type 0} {a b : StoreFault} → ◌≡◌ {A = Result X StoreFault} (Err a) (Err b) → a ≡ b
 same_fault e = cc
 
-pub refused : {X : Type 0} (old : State) (Blames : Rows → Type 0) (Becomes : Rows → X → Rows → Type 0) → Ran {X = X} old old (Err Db) Blames Becomes
+pub refused : {X : Type 0} (old : State) (Blames : Rows → Type 0)
+    (Becomes : Rows → X → Rows → Type 0) → Ran {X = X} old old (Err Db) Blames Becomes
 refused old Blames Becomes = record {
   leaves = record { ended = λ h. h; clean = λ h. h; was_open = λ _ h. h };
   answers = λ _. tt;
@@ -56,7 +59,8 @@ refused old Blames Becomes = record {
   damaged = λ _ _ is. absurd (no_damage Db refl is);
 }
 
-pub not_looked : {X : Type 0} (old : State) (Blames : Database → Type 0) (Answers : Database → X → Type 0) → Looked {X = X} old old (Err Db) Blames Answers
+pub not_looked : {X : Type 0} (old : State) (Blames : Database → Type 0)
+    (Answers : Database → X → Type 0) → Looked {X = X} old old (Err Db) Blames Answers
 not_looked old Blames Answers = record {
   leaves = record { ended = λ h. h; clean = λ h. h; was_open = λ _ h. h };
   same = λ _ _. refl;
@@ -65,7 +69,8 @@ not_looked old Blames Answers = record {
   damaged = λ _ _ is. absurd (no_damage Db refl is);
 }
 
-module _ (old begun mid end : State) (begins : Begins old begun) (stays : Stays begun mid) (ended : end.in_transaction ≡ false) (clean : doubt mid.is_clean ≤ doubt end.is_clean) where
+module _ (old begun mid end : State) (begins : Begins old begun) (stays : Stays begun mid)
+    (ended : end.in_transaction ≡ false) (clean : doubt mid.is_clean ≤ doubt end.is_clean) where
   clean_mid : HasCleanDisk end → HasCleanDisk mid
   clean_mid h = omega arith
 
@@ -94,28 +99,49 @@ module _ (old begun mid end : State) (begins : Begins old begun) (stays : Stays 
       let one = subst IsRoom (sym begins.now) room in
       let two = subst IsRoom (sym begins.committed) (subst IsRoom same room) in
       let kept = stays.kept (clean_mid now) open' two one in
-      record { same = same; trusted = record { clean = clean_mid now; is_open = open'; now = one; committed = two }; committed = kept.0 ∙ begins.committed ∙ sym same; room = kept.1; retains = subst (λ (db : Database). Retains db.trees mid.now.trees) (kept.0 ∙ begins.committed ∙ sym same) (stays.retains (clean_mid now) open' two one (retains_same _ _ (begins.now ∙ same ∙ sym begins.committed))) }
+      record {
+        same = same;
+        trusted = record { clean = clean_mid now; is_open = open'; now = one; committed = two };
+        committed = kept.0 ∙ begins.committed ∙ sym same;
+        room = kept.1;
+        retains =
+            subst (λ (db : Database). Retains db.trees mid.now.trees)
+            (kept.0 ∙ begins.committed ∙ sym same)
+            (stays.retains (clean_mid now) open' two one
+            (retains_same _ _ (begins.now ∙ same ∙ sym begins.committed)));
+      }
 
   leaves : (HasCleanDisk end → IsTrue end.is_open → IsTrue mid.is_open) → LeavesOpen old end
-  leaves was = record { ended = λ _. ended; clean = old_clean; was_open = λ now open'. old_open now (was now open') }
+  leaves was =
+      record {
+        ended = λ _. ended;
+        clean = old_clean;
+        was_open = λ now open'. old_open now (was now open');
+      }
 
-  undone_at : HasCleanDisk end → IsTrue end.is_open → HasTables old.now → IsRolledBack mid end → end.now ≡ old.now
-  undone_at now open' tables back = (back.undone open').0 ∙ (made now (back.was_open open') tables).committed
+  undone_at : HasCleanDisk end → IsTrue end.is_open → HasTables old.now → IsRolledBack mid end
+      → end.now ≡ old.now
+  undone_at now open' tables back =
+      (back.undone open').0 ∙ (made now (back.was_open open') tables).committed
 
   was_at : IsTrue end.is_open → (why : Error) → FailsToCommit mid end why → IsTrue mid.is_open
   was_at open' why (inl fails) = fails.3.was_open open'
   was_at open' why (inr (is, mode, same)) = same.0.was_open
 
-  left_at : HasCleanDisk end → IsTrue end.is_open → HasTables old.now → (why : Error) → FailsToCommit mid end why → end.now ≡ old.now
+  left_at : HasCleanDisk end → IsTrue end.is_open → HasTables old.now → (why : Error)
+      → FailsToCommit mid end why → end.now ≡ old.now
   left_at now open' tables why (inl fails) = undone_at now open' tables fails.3
   left_at now open' tables why (inr (is, mode, same)) =
       let m = made now same.0.was_open tables in
-      let settled = stays.settled (clean_mid now) same.0.was_open m.trusted.committed m.trusted.now (λ off. absurd (let e' = sym off ∙ begins.mode in cc)) mode in
+      let settled = stays.settled (clean_mid now) same.0.was_open m.trusted.committed m.trusted.now
+      (λ off. absurd (let e' = sym off ∙ begins.mode in cc)) mode in
       same.0.now_is ∙ settled ∙ m.committed
 
   -- what is so of the tables after the calls is so once they are committed
-  pub after : {X : Type 0} (P : Database → Type 0) (done : Result X KeepFault) (result : Result X StoreFault) → (IsTrusted begun mid → OnOk done (P mid.now))
-      → (HasCleanDisk end → Finishes mid end done result) → StorePremise old end → OnOk result (P end.now)
+  pub after : {X : Type 0} (P : Database → Type 0) (done : Result X KeepFault)
+      (result : Result X StoreFault) → (IsTrusted begun mid → OnOk done (P mid.now))
+      → (HasCleanDisk end → Finishes mid end done result) → StorePremise old end
+      → OnOk result (P end.now)
   after P (Ok x) (Ok y) holds ends premise =
       let s = (ends premise.disk).2 in
       subst P (sym s.now_is) (holds (made premise.disk s.was_open premise.tables).trusted)
@@ -124,7 +150,10 @@ module _ (old begun mid end : State) (begins : Begins old begun) (stays : Stays 
   after P (Err why) (Err fault) holds ends premise = tt
 
   module _ {X : Type 0} (Blames : Rows → Type 0) (Becomes : Rows → X → Rows → Type 0) where
-    committed : (x y : X) → (HasCleanDisk end → y ≡ x) → (IsTrusted begun mid → Becomes (rows_of begun.now) x (rows_of mid.now)) → (HasCleanDisk end → Shows mid end mid.now mid.now false) → Ran old end (Ok y) Blames Becomes
+    committed : (x y : X) → (HasCleanDisk end → y ≡ x)
+        → (IsTrusted begun mid → Becomes (rows_of begun.now) x (rows_of mid.now))
+        → (HasCleanDisk end → Shows mid end mid.now mid.now false)
+        → Ran old end (Ok y) Blames Becomes
     committed x y same becomes shows = record {
       leaves = leaves (λ now _. (shows now).was_open);
       answers = λ now. (old_open now (shows now).was_open, (shows now).is_open);
@@ -132,41 +161,59 @@ module _ (old begun mid end : State) (begins : Begins old begun) (stays : Stays 
       step = λ premise.
           let s = shows premise.disk in
           let m = made premise.disk s.was_open premise.tables in
-          subst (λ z. Becomes (rows_of old.now) z (rows_of end.now)) (sym (same premise.disk)) (subst₂ (λ a b. Becomes (rows_of a) x (rows_of b)) begins.now (sym s.now_is) (becomes m.trusted));
+          subst (λ z. Becomes (rows_of old.now) z (rows_of end.now)) (sym (same premise.disk))
+          (subst₂ (λ a b. Becomes (rows_of a) x (rows_of b)) begins.now (sym s.now_is)
+          (becomes m.trusted));
       kept = λ _ _. tt;
       tables = λ premise _.
           let s = shows premise.disk in
-          subst HasTables (sym s.now_is) (tables_of (made premise.disk s.was_open premise.tables).room);
+          subst HasTables (sym s.now_is)
+          (tables_of (made premise.disk s.was_open premise.tables).room);
       retains = λ premise _.
           let s = shows premise.disk in
-          subst (λ (db : Database). Retains old.now.trees db.trees) (sym s.now_is) (made premise.disk s.was_open premise.tables).retains;
+          subst (λ (db : Database). Retains old.now.trees db.trees) (sym s.now_is)
+          (made premise.disk s.was_open premise.tables).retains;
       damaged = λ _ _ is. absurd (let e = is in cc);
     }
 
-    given_up : (fault : StoreFault) → (HasCleanDisk end → IsTrue end.is_open → IsTrue mid.is_open) → (HasCleanDisk end → IsTrue end.is_open → HasTables old.now → end.now ≡ old.now)
-        → (StorePremise old end → IsTrue end.is_open → fault ≡ Damaged → Blames (rows_of old.now)) → Ran {X = X} old end (Err fault) Blames Becomes
+    given_up : (fault : StoreFault) → (HasCleanDisk end → IsTrue end.is_open → IsTrue mid.is_open)
+        → (HasCleanDisk end → IsTrue end.is_open → HasTables old.now → end.now ≡ old.now)
+        → (StorePremise old end → IsTrue end.is_open → fault ≡ Damaged → Blames (rows_of old.now))
+        → Ran {X = X} old end (Err fault) Blames Becomes
     given_up fault was left damaged = record {
       leaves = leaves was;
       answers = λ _. tt;
       committed = λ _. tt;
       step = λ _. tt;
       kept = λ premise open'. left premise.disk open' premise.tables;
-      tables = λ premise open'. subst HasTables (sym (left premise.disk open' premise.tables)) premise.tables;
-      retains = λ premise open'. retains_same old.now end.now (left premise.disk open' premise.tables);
+      tables =
+          λ premise open'. subst HasTables
+          (sym (left premise.disk open' premise.tables)) premise.tables;
+      retains =
+          λ premise open'. retains_same old.now end.now (left premise.disk open' premise.tables);
       damaged = λ premise open' is. damaged premise open' (same_fault is);
     }
 
-    blamed : (why : KeepFault) (fault : StoreFault) → CallsInside {X = X} begun mid (Err why) (OnRows Blames) (ByRows Becomes) → StorePremise old end → IsTrue mid.is_open → fault ≡ fault_as why → fault ≡ Damaged → Blames (rows_of old.now)
+    blamed : (why : KeepFault) (fault : StoreFault)
+        → CallsInside {X = X} begun mid (Err why) (OnRows Blames) (ByRows Becomes)
+        → StorePremise old end → IsTrue mid.is_open → fault ≡ fault_as why → fault ≡ Damaged
+        → Blames (rows_of old.now)
     blamed why fault carries premise open' is damaged =
         let named = damage_of why (sym is ∙ damaged) in
         let m = made premise.disk open' premise.tables in
-        subst (λ db. Blames (rows_of db)) begins.now (carries.blames m.trusted named.0 (ap Err named.1))
+        subst (λ db. Blames (rows_of db)) begins.now
+        (carries.blames m.trusted named.0 (ap Err named.1))
 
-    pub ran : (done : Result X KeepFault) (result : Result X StoreFault) → CallsInside begun mid done (OnRows Blames) (ByRows Becomes) → (HasCleanDisk end → Finishes mid end done result) → Ran old end result Blames Becomes
-    ran (Ok x) (Ok y) carries ends = committed x y (λ now. (ends now).0) (λ trust. carries.becomes trust) (λ now. (ends now).2)
+    pub ran : (done : Result X KeepFault) (result : Result X StoreFault)
+        → CallsInside begun mid done (OnRows Blames) (ByRows Becomes)
+        → (HasCleanDisk end → Finishes mid end done result) → Ran old end result Blames Becomes
+    ran (Ok x) (Ok y) carries ends =
+        committed x y (λ now. (ends now).0) (λ trust. carries.becomes trust) (λ now. (ends now).2)
     ran (Ok x) (Err fault) carries ends =
-        given_up fault (λ now open'. was_at open' (ends now).0 (ends now).2) (λ now open' tables. left_at now open' tables (ends now).0 (ends now).2)
-        (λ premise _ is. absurd (never_damage (ends premise.disk).0 (sym (ends premise.disk).1 ∙ is)))
+        given_up fault (λ now open'. was_at open' (ends now).0 (ends now).2)
+        (λ now open' tables. left_at now open' tables (ends now).0 (ends now).2)
+        (λ premise _ is. absurd
+        (never_damage (ends premise.disk).0 (sym (ends premise.disk).1 ∙ is)))
     ran (Err why) (Ok y) carries ends = record {
       leaves = leaves (λ now _. absurd (ends now));
       answers = λ now. absurd (ends now);
@@ -178,13 +225,17 @@ module _ (old begun mid end : State) (begins : Begins old begun) (stays : Stays 
       damaged = λ premise _ _. absurd (ends premise.disk);
     }
     ran (Err why) (Err fault) carries ends =
-        given_up fault (λ now open'. (ends now).1.was_open open') (λ now open' tables. undone_at now open' tables (ends now).1)
-        (λ premise open' is. blamed why fault carries premise ((ends premise.disk).1.was_open open') (ends premise.disk).0 is)
+        given_up fault (λ now open'. (ends now).1.was_open open')
+        (λ now open' tables. undone_at now open' tables (ends now).1)
+        (λ premise open' is. blamed why fault carries premise ((ends premise.disk).1.was_open open')
+        (ends premise.disk).0 is)
 
   module _ {X : Type 0} (Blames : Database → Type 0) (Answers : Database → X → Type 0) where
     -- calls that only read, and are rolled back whatever they answer
-    look : (result : Result X StoreFault) → (HasCleanDisk end → IsRolledBack mid end) → (HasCleanDisk end → OnOk result (IsTrue old.is_open))
-        → (StorePremise old end → IfOk result (Answers old.now)) → (StorePremise old end → IsTrue mid.is_open → result ≡ Err Damaged → Blames old.now)
+    look : (result : Result X StoreFault) → (HasCleanDisk end → IsRolledBack mid end)
+        → (HasCleanDisk end → OnOk result (IsTrue old.is_open))
+        → (StorePremise old end → IfOk result (Answers old.now))
+        → (StorePremise old end → IsTrue mid.is_open → result ≡ Err Damaged → Blames old.now)
         → Looked old end result Blames Answers
     look result back answers answer damaged = record {
       leaves = leaves (λ now open'. (back now).was_open open');
@@ -194,16 +245,23 @@ module _ (old begun mid end : State) (begins : Begins old begun) (stays : Stays 
       damaged = λ premise open' is. damaged premise ((back premise.disk).was_open open') is;
     }
 
-    pub looked : (done : Result X KeepFault) (result : Result X StoreFault) → CallsInside begun mid done Blames (Reading Answers) → AnswersOpen begun mid done → (HasCleanDisk end → GivesUp mid end done result)
+    pub looked : (done : Result X KeepFault) (result : Result X StoreFault)
+        → CallsInside begun mid done Blames (Reading Answers) → AnswersOpen begun mid done
+        → (HasCleanDisk end → GivesUp mid end done result)
         → Looked old end result Blames Answers
     looked (Ok x) (Ok y) carries opens ends =
         look (Ok y) (λ now. (ends now).1) (λ now. sym begins.same_open ∙ (opens (clean_mid now)).0)
         (λ premise.
         let m = made premise.disk (opens (clean_mid premise.disk)).1 premise.tables in
-        subst (Answers old.now) (sym (ends premise.disk).0) (subst (λ db. Answers db x) begins.now (carries.becomes m.trusted)))
+        subst (Answers old.now) (sym (ends premise.disk).0)
+        (subst (λ db. Answers db x) begins.now (carries.becomes m.trusted)))
         (λ _ _ is. absurd (let e = is in cc))
-    looked (Ok x) (Err fault) carries opens ends = look (Err fault) (λ now. absurd (ends now)) (λ _. tt) (λ _. tt) (λ premise. absurd (ends premise.disk))
-    looked (Err why) (Ok y) carries opens ends = look (Ok y) (λ now. absurd (ends now)) (λ now. absurd (ends now)) (λ premise. absurd (ends premise.disk)) (λ premise. absurd (ends premise.disk))
+    looked (Ok x) (Err fault) carries opens ends =
+        look (Err fault) (λ now. absurd (ends now)) (λ _. tt) (λ _. tt)
+        (λ premise. absurd (ends premise.disk))
+    looked (Err why) (Ok y) carries opens ends =
+        look (Ok y) (λ now. absurd (ends now)) (λ now. absurd (ends now))
+        (λ premise. absurd (ends premise.disk)) (λ premise. absurd (ends premise.disk))
     looked (Err why) (Err fault) carries opens ends =
         look (Err fault) (λ now. (ends now).1) (λ _. tt) (λ _. tt)
         (λ premise open' is.

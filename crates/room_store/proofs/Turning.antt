@@ -12,13 +12,23 @@ use Rattle.store_admin.specs.Carries.{ByRows, CallsInside, NoTables, OnRows, Rea
 
 pub carried : {X : Type 0} (begun mid : State) (result : Result X KeepFault)
     (Becomes : Rows → X → Rows → Type 0) (before after : ℕ) → Stays begun mid
-    → (IsTrusted begun mid → IfOk result (λ answer. Becomes (rows_of begun.now) answer (rows_of mid.now)))
-    → IfErr result (HasCause before after (λ at. IsTrusted begun mid → IsDamaged (rows_of begun.now) at))
+    → (IsTrusted begun mid
+    → IfOk result (λ answer. Becomes (rows_of begun.now) answer (rows_of mid.now)))
+    → IfErr result
+    (HasCause before after (λ at. IsTrusted begun mid → IsDamaged (rows_of begun.now) at))
     → CallsInside begun mid result (OnRows HasDamage) (ByRows Becomes)
 carried begun mid result Becomes before after stays becomes fault = record {
   stays = stays;
   becomes = becomes;
-  blames = λ trust id is. (id, subst (λ r. IfErr r (HasCause before after (λ at. IsTrusted begun mid → IsDamaged (rows_of begun.now) at))) is fault trust);
+  blames =
+      λ trust id is. (
+        id,
+        subst
+            (λ r. IfErr r
+            (HasCause before after (λ at. IsTrusted begun mid → IsDamaged (rows_of begun.now) at)))
+            is
+            fault trust,
+      );
 }
 
 -- the same for the test of all rows, which never fails because of a row
@@ -30,5 +40,7 @@ pub looked_through : {X : Type 0} (begun mid : State) (result : Result X KeepFau
 looked_through begun mid result Answers before after stays answers fault = record {
   stays = stays;
   becomes = answers;
-  blames = λ trust id is. subst (λ r. IfErr r (HasCause before after (λ at. IsTrusted begun mid → ⊥))) is fault trust;
+  blames =
+      λ trust id is. subst
+      (λ r. IfErr r (HasCause before after (λ at. IsTrusted begun mid → ⊥))) is fault trust;
 }

@@ -26,49 +26,88 @@ use Rattle.room_tree.proofs.Tying.{no_less}
 
 -- ---- a call that memory ended
 
-pub err_writes : {X : Type 0} (r : Result X KeepFault) (e : KeepFault) (n : ℕ) → r ≡ Err e → n ≡ writes_after r n
+pub err_writes : {X : Type 0} (r : Result X KeepFault) (e : KeepFault) (n : ℕ) → r ≡ Err e
+    → n ≡ writes_after r n
 err_writes r e n is = sym (ap (λ q. writes_after q n) is)
 
-pub err_becomes : {X : Type 0} (r : Result X KeepFault) (e : KeepFault) (P : X → Type 0) → r ≡ Err e → IfOk r P
+pub err_becomes : {X : Type 0} (r : Result X KeepFault) (e : KeepFault) (P : X → Type 0) → r ≡ Err e
+    → IfOk r P
 err_becomes r e P is = subst (λ q. IfOk q P) (sym is) tt
 
-pub err_fault : {X : Type 0} (r : Result X KeepFault) (before after : ℕ) (damaged : ℕ → Type 0) → r ≡ Err Memory → IfErr r (HasCause before after damaged)
-err_fault r before after damaged is = subst (λ q. IfErr q (HasCause before after damaged)) (sym is) tt
+pub err_fault : {X : Type 0} (r : Result X KeepFault) (before after : ℕ) (damaged : ℕ → Type 0)
+    → r ≡ Err Memory → IfErr r (HasCause before after damaged)
+err_fault r before after damaged is =
+    subst (λ q. IfErr q (HasCause before after damaged)) (sym is) tt
 
 -- ---- an object that changes
 
-pub found_itself : (nodes : List Node) (id : ℕ) (node : Node) → find_id id nodes ≡ Some node → find_id node.id nodes ≡ Some node
+pub found_itself : (nodes : List Node) (id : ℕ) (node : Node) → find_id id nodes ≡ Some node
+    → find_id node.id nodes ≡ Some node
 found_itself nodes id node found = ap (λ i. find_id i nodes) (found_id id nodes node found) ∙ found
 
 pub held_id : (which : Which) (held : Held) (node : Node) → (with_held which held node).id ≡ node.id
 held_id Dacl held node = refl
 held_id Sacl held node = refl
 
-pub stands_held : (which : Which) (held : Held) (nodes : List Node) (id : ℕ) (node new : Node) → find_id id nodes ≡ Some node → new ≡ with_held which held node → StandsAsBefore new nodes
-stands_held which held nodes id node new found is = subst (λ (n : Node). StandsAsBefore n nodes) (sym is) (at which)
+pub stands_held : (which : Which) (held : Held) (nodes : List Node) (id : ℕ) (node new : Node)
+    → find_id id nodes ≡ Some node → new ≡ with_held which held node → StandsAsBefore new nodes
+stands_held which held nodes id node new found is =
+    subst (λ (n : Node). StandsAsBefore n nodes) (sym is) (at which)
   where
     at : (w : Which) → StandsAsBefore (with_held w held node) nodes
-    at Dacl = record { before = node; is_there = found_itself nodes id node found; same_parent = refl; same_name = refl }
-    at Sacl = record { before = node; is_there = found_itself nodes id node found; same_parent = refl; same_name = refl }
+    at Dacl =
+        record {
+          before = node;
+          is_there = found_itself nodes id node found;
+          same_parent = refl;
+          same_name = refl;
+        }
+    at Sacl =
+        record {
+          before = node;
+          is_there = found_itself nodes id node found;
+          same_parent = refl;
+          same_name = refl;
+        }
 
-pub stands_owned : (owners : Owners) (nodes : List Node) (id : ℕ) (node new : Node) → find_id id nodes ≡ Some node → new ≡ with_owners owners node → StandsAsBefore new nodes
+pub stands_owned : (owners : Owners) (nodes : List Node) (id : ℕ) (node new : Node)
+    → find_id id nodes ≡ Some node → new ≡ with_owners owners node → StandsAsBefore new nodes
 stands_owned owners nodes id node new found is =
-    subst (λ (n : Node). StandsAsBefore n nodes) (sym is) (record { before = node; is_there = found_itself nodes id node found; same_parent = refl; same_name = refl })
+    subst (λ (n : Node). StandsAsBefore n nodes) (sym is)
+    (record {
+      before = node;
+      is_there = found_itself nodes id node found;
+      same_parent = refl;
+      same_name = refl;
+    })
 
-number_above : (nodes : List Node) (id : ℕ) (node : Node) → is_rising (0 ∷ map (λ (n : Node). n.id) nodes) ≡ true → find_id id nodes ≡ Some node → 0 < node.id
-number_above nodes id node rises found = found_above (λ (m : Node). m.id == id) 0 nodes node rises found
+number_above : (nodes : List Node) (id : ℕ) (node : Node)
+    → is_rising (0 ∷ map (λ (n : Node). n.id) nodes) ≡ true → find_id id nodes ≡ Some node
+    → 0 < node.id
+number_above nodes id node rises found =
+    found_above (λ (m : Node). m.id == id) 0 nodes node rises found
 
 -- an object that is there is put at its number
-pub keeps_rows : (nodes new_nodes : List Node) (bodies : List (ℕ × List ℕ)) (members : List (List ℕ × List ℕ)) (audits : List AuditRow) (id : ℕ) (node new : Node) → find_id id nodes ≡ Some node → new.id ≡ node.id → new_nodes ≡ put_node new nodes
-    → AreRows (memory_rows nodes bodies members audits) → AreRows (memory_rows new_nodes bodies members audits)
+pub keeps_rows : (nodes new_nodes : List Node) (bodies : List (ℕ × List ℕ))
+    (members : List (List ℕ × List ℕ)) (audits : List AuditRow) (id : ℕ) (node new : Node)
+    → find_id id nodes ≡ Some node → new.id ≡ node.id → new_nodes ≡ put_node new nodes
+    → AreRows (memory_rows nodes bodies members audits)
+    → AreRows (memory_rows new_nodes bodies members audits)
 keeps_rows nodes new_nodes bodies members audits id node new found same puts old =
     let above = number_above nodes id node old.numbers found in
-    subst (λ (l : List Node). AreRows (memory_rows l bodies members audits)) (sym puts) (put_rows nodes bodies members audits new (omega (arith, above, same)) old)
+    subst (λ (l : List Node). AreRows (memory_rows l bodies members audits)) (sym puts)
+    (put_rows nodes bodies members audits new (omega (arith, above, same)) old)
 
-pub changes : (nodes new_nodes : List Node) (bodies : List (ℕ × List ℕ)) (members : List (List ℕ × List ℕ)) (audits : List AuditRow) (id : ℕ) (change : Node → Node) (node new : Node) → find_id id nodes ≡ Some node → new ≡ change node → new_nodes ≡ put_node new nodes
-    → Changes id change (memory_rows nodes bodies members audits) (memory_rows new_nodes bodies members audits)
+pub changes : (nodes new_nodes : List Node) (bodies : List (ℕ × List ℕ))
+    (members : List (List ℕ × List ℕ)) (audits : List AuditRow) (id : ℕ) (change : Node → Node)
+    (node new : Node) → find_id id nodes ≡ Some node → new ≡ change node
+    → new_nodes ≡ put_node new nodes
+    → Changes id change (memory_rows nodes bodies members audits)
+    (memory_rows new_nodes bodies members audits)
 changes nodes new_nodes bodies members audits id change node new found is puts = λ other at.
-    ap (λ (l : List Node). memory_rows l bodies members audits) (puts ∙ ap (λ (n : Node). put_node n nodes) (is ∙ ap change (same_object node other (sym found ∙ at))))
+    ap (λ (l : List Node). memory_rows l bodies members audits)
+    (puts ∙ ap (λ (n : Node). put_node n nodes)
+    (is ∙ ap change (same_object node other (sym found ∙ at))))
 
 -- ---- a new object
 
@@ -79,50 +118,100 @@ none_past nodes id past = by (find_id id nodes) refl
     by None is = is
     by (Some n) is = let least = no_less id nodes n is in absurd (omega (arith, least, past))
 
-pub added : (nodes new_nodes : List Node) (bodies new_bodies : List (ℕ × List ℕ)) (members : List (List ℕ × List ℕ)) (audits : List AuditRow) (id : ℕ) (new : NewNode) → new_nodes ≡ put_node (node_of id new) nodes
+pub added : (nodes new_nodes : List Node) (bodies new_bodies : List (ℕ × List ℕ))
+    (members : List (List ℕ × List ℕ)) (audits : List AuditRow) (id : ℕ) (new : NewNode)
+    → new_nodes ≡ put_node (node_of id new) nodes
     → new_bodies ≡ (if is_document new.kind then put_body id new.bytes bodies else bodies)
-    → memory_rows new_nodes new_bodies members audits ≡ reading (memory_rows nodes bodies members audits) (with_new (memory_rows nodes bodies members audits).read id new)
+    → memory_rows new_nodes new_bodies members audits
+    ≡ reading (memory_rows nodes bodies members audits)
+    (with_new (memory_rows nodes bodies members audits).read id new)
 added nodes new_nodes bodies new_bodies members audits id new puts fills =
-    (λ i. memory_rows (puts i) (fills i) members audits) ∙ elim (cases_Bool (is_document new.kind)) [
-      | inl is ↦ ap (λ (l : List (ℕ × List ℕ)). memory_rows (put_node (node_of id new) nodes) l members audits) (cond-true _ _ _ is) ∙ sym (ap (reading (memory_rows nodes bodies members audits)) (cond-true _ _ _ is))
-      | inr isnt ↦ ap (λ (l : List (ℕ × List ℕ)). memory_rows (put_node (node_of id new) nodes) l members audits) (cond-false _ _ _ isnt) ∙ sym (ap (reading (memory_rows nodes bodies members audits)) (cond-false _ _ _ isnt))
+    (λ i. memory_rows (puts i) (fills i) members audits)
+    ∙ elim (cases_Bool (is_document new.kind)) [
+      | inl is ↦
+          ap (λ (l : List (ℕ × List ℕ)). memory_rows
+          (put_node (node_of id new) nodes) l members audits) (cond-true _ _ _ is)
+          ∙ sym (ap (reading (memory_rows nodes bodies members audits)) (cond-true _ _ _ is))
+      | inr isnt ↦
+          ap (λ (l : List (ℕ × List ℕ)). memory_rows
+          (put_node (node_of id new) nodes) l members audits) (cond-false _ _ _ isnt)
+          ∙ sym (ap (reading (memory_rows nodes bodies members audits)) (cond-false _ _ _ isnt))
     ]
 
-pub node_rows : (nodes new_nodes : List Node) (bodies new_bodies : List (ℕ × List ℕ)) (members : List (List ℕ × List ℕ)) (audits : List AuditRow) (new : Node) → 0 < new.id → new_nodes ≡ put_node new nodes → new_bodies ≡ bodies
-    → AreRows (memory_rows nodes bodies members audits) → AreRows (memory_rows new_nodes new_bodies members audits)
+pub node_rows : (nodes new_nodes : List Node) (bodies new_bodies : List (ℕ × List ℕ))
+    (members : List (List ℕ × List ℕ)) (audits : List AuditRow) (new : Node) → 0 < new.id
+    → new_nodes ≡ put_node new nodes → new_bodies ≡ bodies
+    → AreRows (memory_rows nodes bodies members audits)
+    → AreRows (memory_rows new_nodes new_bodies members audits)
 node_rows nodes new_nodes bodies new_bodies members audits new above puts same old =
-    subst (λ (l : List (ℕ × List ℕ)). AreRows (memory_rows new_nodes l members audits)) (sym same) (subst (λ (l : List Node). AreRows (memory_rows l bodies members audits)) (sym puts) (put_rows nodes bodies members audits new above old))
+    subst (λ (l : List (ℕ × List ℕ)). AreRows (memory_rows new_nodes l members audits)) (sym same)
+    (subst (λ (l : List Node). AreRows (memory_rows l bodies members audits)) (sym puts)
+    (put_rows nodes bodies members audits new above old))
 
-pub added_rows : (nodes new_nodes : List Node) (bodies new_bodies : List (ℕ × List ℕ)) (members : List (List ℕ × List ℕ)) (audits : List AuditRow) (id : ℕ) (new : NewNode) → 0 < id → new_nodes ≡ put_node (node_of id new) nodes
+pub added_rows : (nodes new_nodes : List Node) (bodies new_bodies : List (ℕ × List ℕ))
+    (members : List (List ℕ × List ℕ)) (audits : List AuditRow) (id : ℕ) (new : NewNode) → 0 < id
+    → new_nodes ≡ put_node (node_of id new) nodes
     → new_bodies ≡ (if is_document new.kind then put_body id new.bytes bodies else bodies)
-    → AreRows (memory_rows nodes bodies members audits) → AreRows (memory_rows new_nodes new_bodies members audits)
+    → AreRows (memory_rows nodes bodies members audits)
+    → AreRows (memory_rows new_nodes new_bodies members audits)
 added_rows nodes new_nodes bodies new_bodies members audits id new above puts fills old =
     let nodes_in = put_rows nodes bodies members audits (node_of id new) above old in
-    let there : is_some (find_id id (put_node (node_of id new) nodes)) ≡ true = ap is_some (found_put (node_of id new) id nodes ∙ cond-true _ _ _ (eq-eqb id id refl)) in
-    subst (λ (l : List Node). AreRows (memory_rows l new_bodies members audits)) (sym puts) (elim (cases_Bool (is_document new.kind)) [
-      | inl is ↦ subst (λ (l : List (ℕ × List ℕ)). AreRows (memory_rows (put_node (node_of id new) nodes) l members audits)) (sym (fills ∙ cond-true _ _ _ is)) (body_rows (put_node (node_of id new) nodes) bodies members audits id new.bytes above there nodes_in)
-      | inr isnt ↦ subst (λ (l : List (ℕ × List ℕ)). AreRows (memory_rows (put_node (node_of id new) nodes) l members audits)) (sym (fills ∙ cond-false _ _ _ isnt)) nodes_in
+    let there : is_some (find_id id (put_node (node_of id new) nodes)) ≡ true = ap is_some
+    (found_put (node_of id new) id nodes ∙ cond-true _ _ _ (eq-eqb id id refl)) in
+    subst (λ (l : List Node). AreRows (memory_rows l new_bodies members audits)) (sym puts)
+    (elim (cases_Bool (is_document new.kind)) [
+      | inl is ↦
+          subst (λ (l : List (ℕ × List ℕ)). AreRows
+          (memory_rows (put_node (node_of id new) nodes) l members audits))
+          (sym (fills ∙ cond-true _ _ _ is))
+          (body_rows (put_node (node_of id new) nodes) bodies members audits id new.bytes above
+          there nodes_in)
+      | inr isnt ↦
+          subst (λ (l : List (ℕ × List ℕ)). AreRows
+          (memory_rows (put_node (node_of id new) nodes) l members audits))
+          (sym (fills ∙ cond-false _ _ _ isnt)) nodes_in
     ])
 
 -- ---- an object that is gone, and bytes
 
-pub gone_rows : (nodes new_nodes : List Node) (bodies new_bodies : List (ℕ × List ℕ)) (members : List (List ℕ × List ℕ)) (audits : List AuditRow) (id : ℕ) → new_nodes ≡ filter (λ node. not (node.id == id)) nodes → new_bodies ≡ filter (λ row. not (row.0 == id)) bodies
-    → AreRows (memory_rows nodes bodies members audits) → AreRows (memory_rows new_nodes new_bodies members audits)
+pub gone_rows : (nodes new_nodes : List Node) (bodies new_bodies : List (ℕ × List ℕ))
+    (members : List (List ℕ × List ℕ)) (audits : List AuditRow) (id : ℕ)
+    → new_nodes ≡ filter (λ node. not (node.id == id)) nodes
+    → new_bodies ≡ filter (λ row. not (row.0 == id)) bodies
+    → AreRows (memory_rows nodes bodies members audits)
+    → AreRows (memory_rows new_nodes new_bodies members audits)
 gone_rows nodes new_nodes bodies new_bodies members audits id left rest old =
-    subst (λ (l : List Node). AreRows (memory_rows l new_bodies members audits)) (sym left) (subst (λ (l : List (ℕ × List ℕ)). AreRows (memory_rows (filter (λ node. not (node.id == id)) nodes) l members audits)) (sym rest) (removed_rows nodes bodies members audits id old))
+    subst (λ (l : List Node). AreRows (memory_rows l new_bodies members audits)) (sym left)
+    (subst (λ (l : List (ℕ × List ℕ)). AreRows
+    (memory_rows (filter (λ node. not (node.id == id)) nodes) l members audits)) (sym rest)
+    (removed_rows nodes bodies members audits id old))
 
-pub gone : (nodes new_nodes : List Node) (bodies new_bodies : List (ℕ × List ℕ)) (members : List (List ℕ × List ℕ)) (audits : List AuditRow) (id : ℕ) → new_nodes ≡ filter (λ node. not (node.id == id)) nodes → new_bodies ≡ filter (λ row. not (row.0 == id)) bodies
-    → memory_rows new_nodes new_bodies members audits ≡ reading (memory_rows nodes bodies members audits) (without_node (memory_rows nodes bodies members audits).read id)
-gone nodes new_nodes bodies new_bodies members audits id left rest = λ i. memory_rows (left i) (rest i) members audits
+pub gone : (nodes new_nodes : List Node) (bodies new_bodies : List (ℕ × List ℕ))
+    (members : List (List ℕ × List ℕ)) (audits : List AuditRow) (id : ℕ)
+    → new_nodes ≡ filter (λ node. not (node.id == id)) nodes
+    → new_bodies ≡ filter (λ row. not (row.0 == id)) bodies
+    → memory_rows new_nodes new_bodies members audits
+    ≡ reading (memory_rows nodes bodies members audits)
+    (without_node (memory_rows nodes bodies members audits).read id)
+gone nodes new_nodes bodies new_bodies members audits id left rest =
+    λ i. memory_rows (left i) (rest i) members audits
 
-pub filled_rows : (nodes : List Node) (bodies new_bodies : List (ℕ × List ℕ)) (members : List (List ℕ × List ℕ)) (audits : List AuditRow) (id : ℕ) (bytes : List ℕ) → option_map_or (λ (node : Node). is_document node.kind) (find_id id nodes) false ≡ true → new_bodies ≡ put_body id bytes bodies
-    → AreRows (memory_rows nodes bodies members audits) → AreRows (memory_rows nodes new_bodies members audits)
+pub filled_rows : (nodes : List Node) (bodies new_bodies : List (ℕ × List ℕ))
+    (members : List (List ℕ × List ℕ)) (audits : List AuditRow) (id : ℕ) (bytes : List ℕ)
+    → option_map_or (λ (node : Node). is_document node.kind) (find_id id nodes) false ≡ true
+    → new_bodies ≡ put_body id bytes bodies
+    → AreRows (memory_rows nodes bodies members audits)
+    → AreRows (memory_rows nodes new_bodies members audits)
 filled_rows nodes bodies new_bodies members audits id bytes document fills old =
-    subst (λ (l : List (ℕ × List ℕ)). AreRows (memory_rows nodes l members audits)) (sym fills) (by (find_id id nodes) refl (document))
+    subst (λ (l : List (ℕ × List ℕ)). AreRows (memory_rows nodes l members audits)) (sym fills)
+    (by (find_id id nodes) refl (document))
   where
-    by : (o : Option Node) → find_id id nodes ≡ o → option_map_or (λ (node : Node). is_document node.kind) o false ≡ true → AreRows (memory_rows nodes (put_body id bytes bodies) members audits)
+    by : (o : Option Node) → find_id id nodes ≡ o
+        → option_map_or (λ (node : Node). is_document node.kind) o false ≡ true
+        → AreRows (memory_rows nodes (put_body id bytes bodies) members audits)
     by None is document = absurd (false≢true document)
     by (Some n) is document =
         let above = number_above nodes id n old.numbers is in
         let same = found_id id nodes n is in
-        body_rows nodes bodies members audits id bytes (omega (arith, above, same)) (ap is_some is) old
+        body_rows nodes bodies members audits id bytes (omega (arith, above, same))
+        (ap is_some is) old

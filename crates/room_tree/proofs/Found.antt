@@ -17,14 +17,16 @@ same_object x y e = ap (λ (o : Option Node). option_map_or (λ (n : Node). n) o
 found_first : (t : Node → Bool) (x : Node) (xs : List Node) → t x ≡ true → find t (x ∷ xs) ≡ Some x
 found_first t x xs is = rw is refl
 
-found_later : (t : Node → Bool) (x : Node) (xs : List Node) → t x ≡ false → find t (x ∷ xs) ≡ find t xs
+found_later : (t : Node → Bool) (x : Node) (xs : List Node) → t x ≡ false
+    → find t (x ∷ xs) ≡ find t xs
 found_later t x xs isnt = rw isnt refl
 
 -- an object that is found passes the test
 pub found_passes : (t : Node → Bool) (xs : List Node) (n : Node) → find t xs ≡ Some n → t n ≡ true
 found_passes t [] n found = absurd (false≢true (sym (ap is_none found)))
 found_passes t (x ∷ xs) n found = elim (cases_Bool (t x)) [
-  | inl is ↦ subst (λ (m : Node). t m ≡ true) (same_object x n (sym (found_first t x xs is) ∙ found)) is
+  | inl is ↦
+      subst (λ (m : Node). t m ≡ true) (same_object x n (sym (found_first t x xs is) ∙ found)) is
   | inr isnt ↦ found_passes t xs n (sym (found_later t x xs isnt) ∙ found)
 ]
 
@@ -34,39 +36,56 @@ found_id id xs n found = eqb-true n.id id (found_passes (λ (m : Node). m.id == 
 -- ---- numbers that rise
 
 -- an object that any test finds stands above what comes before the list
-pub found_above : (t : Node → Bool) (k : ℕ) (xs : List Node) (n : Node) → is_rising (k ∷ map (λ (m : Node). m.id) xs) ≡ true → find t xs ≡ Some n → k < n.id
+pub found_above : (t : Node → Bool) (k : ℕ) (xs : List Node) (n : Node)
+    → is_rising (k ∷ map (λ (m : Node). m.id) xs) ≡ true → find t xs ≡ Some n → k < n.id
 found_above t k [] n rises found = absurd (false≢true (sym (ap is_none found)))
 found_above t k (x ∷ xs) n rises found =
     let parts = and_parts (nat_lt k x.id) (is_rising (x.id ∷ ids_of xs)) rises in
     let up = ltb-true k x.id parts.0 in
     elim (cases_Bool (t x)) [
-      | inl is ↦ subst (λ (m : Node). k < m.id) (same_object x n (sym (found_first t x xs is) ∙ found)) up
-      | inr isnt ↦ let next = found_above t x.id xs n parts.1 (sym (found_later t x xs isnt) ∙ found) in omega (arith, up, next)
+      | inl is ↦
+          subst (λ (m : Node). k < m.id) (same_object x n (sym (found_first t x xs is) ∙ found)) up
+      | inr isnt ↦ let next =
+          found_above t x.id xs n parts.1 (sym (found_later t x xs isnt) ∙ found) in
+          omega (arith, up, next)
     ]
 
 -- an object that any test finds is found by its number
-pub found_self : (t : Node → Bool) (k : ℕ) (xs : List Node) (n : Node) → is_rising (k ∷ map (λ (m : Node). m.id) xs) ≡ true → find t xs ≡ Some n → find_id n.id xs ≡ Some n
+pub found_self : (t : Node → Bool) (k : ℕ) (xs : List Node) (n : Node)
+    → is_rising (k ∷ map (λ (m : Node). m.id) xs) ≡ true → find t xs ≡ Some n
+    → find_id n.id xs ≡ Some n
 found_self t k [] n rises found = absurd (false≢true (sym (ap is_none found)))
 found_self t k (x ∷ xs) n rises found =
     let parts = and_parts (nat_lt k x.id) (is_rising (x.id ∷ ids_of xs)) rises in
     elim (cases_Bool (t x)) [
       | inl is ↦
           let it = same_object x n (sym (found_first t x xs is) ∙ found) in
-          found_first (λ (m : Node). m.id == n.id) x xs (eq-eqb x.id n.id (ap (λ (m : Node). m.id) it)) ∙ ap Some it
+          found_first (λ (m : Node). m.id == n.id) x xs
+          (eq-eqb x.id n.id (ap (λ (m : Node). m.id) it)) ∙ ap Some it
       | inr isnt ↦
           let later = sym (found_later t x xs isnt) ∙ found in
           let up = found_above t x.id xs n parts.1 later in
-          found_later (λ (m : Node). m.id == n.id) x xs (ne_eqb x.id n.id (λ e. absurd (omega (arith, up, e)))) ∙ found_self t x.id xs n parts.1 later
+          found_later (λ (m : Node). m.id == n.id) x xs
+          (ne_eqb x.id n.id (λ e. absurd (omega (arith, up, e))))
+          ∙ found_self t x.id xs n parts.1 later
     ]
 
 -- what is found by its number and passes a test, is found by the test too
-pub some_passes : (t : Node → Bool) (id : ℕ) (xs : List Node) (n : Node) → find_id id xs ≡ Some n → t n ≡ true → find t xs ≡ None → ⊥
+pub some_passes : (t : Node → Bool) (id : ℕ) (xs : List Node) (n : Node) → find_id id xs ≡ Some n
+    → t n ≡ true → find t xs ≡ None → ⊥
 some_passes t id [] n found is none = absurd (false≢true (sym (ap is_none found)))
 some_passes t id (x ∷ xs) n found is none = elim (cases_Bool (t x)) [
   | inl passes ↦ absurd (false≢true (ap is_none (sym (found_first t x xs passes) ∙ none)))
   | inr fails ↦ elim (cases_Bool (x.id == id)) [
-    | inl same ↦ absurd (false≢true (sym fails ∙ ap t (same_object x n (sym (found_first (λ (m : Node). m.id == id) x xs same) ∙ found)) ∙ is))
-    | inr apart ↦ some_passes t id xs n (sym (found_later (λ (m : Node). m.id == id) x xs apart) ∙ found) is (sym (found_later t x xs fails) ∙ none)
+    | inl same ↦
+        absurd
+        (false≢true
+        (sym fails
+        ∙ ap t (same_object x n (sym (found_first (λ (m : Node). m.id == id) x xs same) ∙ found))
+        ∙ is))
+    | inr apart ↦
+        some_passes t id xs n (sym (found_later (λ (m : Node). m.id == id) x xs apart) ∙ found) is
+        (sym (found_later t x xs fails) ∙ none)
   ]
 ]
 
@@ -75,97 +94,148 @@ some_passes t id (x ∷ xs) n found is none = elim (cases_Bool (t x)) [
 abbrev both : (Node → Bool) → ℕ → Node → Bool
 both t id n = (n.id == id) && t n
 
-pub passing : (t : Node → Bool) (id : ℕ) (xs : List Node) (n : Node) → find_id id xs ≡ Some n → t n ≡ true → find (λ (m : Node). (m.id == id) && t m) xs ≡ Some n
+pub passing : (t : Node → Bool) (id : ℕ) (xs : List Node) (n : Node) → find_id id xs ≡ Some n
+    → t n ≡ true → find (λ (m : Node). (m.id == id) && t m) xs ≡ Some n
 passing t id [] n found is = absurd (false≢true (sym (ap is_none found)))
 passing t id (x ∷ xs) n found is = elim (cases_Bool (x.id == id)) [
   | inl same ↦
       let it = same_object x n (sym (found_first (λ (m : Node). m.id == id) x xs same) ∙ found) in
       found_first (both t id) x xs (and_from (x.id == id) (t x) same (ap t it ∙ is)) ∙ ap Some it
-  | inr apart ↦ found_later (both t id) x xs (and_left (x.id == id) (t x) apart) ∙ passing t id xs n (sym (found_later (λ (m : Node). m.id == id) x xs apart) ∙ found) is
+  | inr apart ↦ found_later (both t id) x xs (and_left (x.id == id) (t x) apart)
+      ∙ passing t id xs n (sym (found_later (λ (m : Node). m.id == id) x xs apart) ∙ found) is
 ]
 
-pub none_above : (t : Node → Bool) (id k : ℕ) (xs : List Node) → is_rising (k ∷ map (λ (m : Node). m.id) xs) ≡ true → id ≤ k → find (λ (m : Node). (m.id == id) && t m) xs ≡ None
+pub none_above : (t : Node → Bool) (id k : ℕ) (xs : List Node)
+    → is_rising (k ∷ map (λ (m : Node). m.id) xs) ≡ true → id ≤ k
+    → find (λ (m : Node). (m.id == id) && t m) xs ≡ None
 none_above t id k [] rises below = refl
 none_above t id k (x ∷ xs) rises below =
     let parts = and_parts (nat_lt k x.id) (is_rising (x.id ∷ ids_of xs)) rises in
     let up = ltb-true k x.id parts.0 in
-    found_later (both t id) x xs (and_left (x.id == id) (t x) (ne_eqb x.id id (λ e. absurd (omega (arith, up, below, e))))) ∙ none_above t id x.id xs parts.1 (omega (arith, up, below))
+    found_later (both t id) x xs
+    (and_left (x.id == id) (t x) (ne_eqb x.id id (λ e. absurd (omega (arith, up, below, e)))))
+    ∙ none_above t id x.id xs parts.1 (omega (arith, up, below))
 
-pub failing : (t : Node → Bool) (id k : ℕ) (xs : List Node) (n : Node) → is_rising (k ∷ map (λ (m : Node). m.id) xs) ≡ true → find_id id xs ≡ Some n → t n ≡ false → find (λ (m : Node). (m.id == id) && t m) xs ≡ None
+pub failing : (t : Node → Bool) (id k : ℕ) (xs : List Node) (n : Node)
+    → is_rising (k ∷ map (λ (m : Node). m.id) xs) ≡ true → find_id id xs ≡ Some n → t n ≡ false
+    → find (λ (m : Node). (m.id == id) && t m) xs ≡ None
 failing t id k [] n rises found isnt = refl
 failing t id k (x ∷ xs) n rises found isnt =
     let parts = and_parts (nat_lt k x.id) (is_rising (x.id ∷ ids_of xs)) rises in
     elim (cases_Bool (x.id == id)) [
       | inl same ↦
-          let it = same_object x n (sym (found_first (λ (m : Node). m.id == id) x xs same) ∙ found) in
+          let it = same_object x n
+          (sym (found_first (λ (m : Node). m.id == id) x xs same) ∙ found) in
           let e = eqb-true x.id id same in
-          found_later (both t id) x xs (and_right (x.id == id) (t x) (ap t it ∙ isnt)) ∙ none_above t id x.id xs parts.1 (omega (arith, e))
-      | inr apart ↦ found_later (both t id) x xs (and_left (x.id == id) (t x) apart) ∙ failing t id x.id xs n parts.1 (sym (found_later (λ (m : Node). m.id == id) x xs apart) ∙ found) isnt
+          found_later (both t id) x xs (and_right (x.id == id) (t x) (ap t it ∙ isnt))
+          ∙ none_above t id x.id xs parts.1 (omega (arith, e))
+      | inr apart ↦ found_later (both t id) x xs (and_left (x.id == id) (t x) apart)
+          ∙ failing t id x.id xs n parts.1
+          (sym (found_later (λ (m : Node). m.id == id) x xs apart) ∙ found) isnt
     ]
 
-pub missing : (t : Node → Bool) (id : ℕ) (xs : List Node) → find_id id xs ≡ None → find (λ (m : Node). (m.id == id) && t m) xs ≡ None
+pub missing : (t : Node → Bool) (id : ℕ) (xs : List Node) → find_id id xs ≡ None
+    → find (λ (m : Node). (m.id == id) && t m) xs ≡ None
 missing t id [] none = refl
 missing t id (x ∷ xs) none = elim (cases_Bool (x.id == id)) [
-  | inl same ↦ absurd (false≢true (ap is_none (sym (found_first (λ (m : Node). m.id == id) x xs same) ∙ none)))
-  | inr apart ↦ found_later (both t id) x xs (and_left (x.id == id) (t x) apart) ∙ missing t id xs (sym (found_later (λ (m : Node). m.id == id) x xs apart) ∙ none)
+  | inl same ↦
+      absurd
+      (false≢true (ap is_none (sym (found_first (λ (m : Node). m.id == id) x xs same) ∙ none)))
+  | inr apart ↦ found_later (both t id) x xs (and_left (x.id == id) (t x) apart)
+      ∙ missing t id xs (sym (found_later (λ (m : Node). m.id == id) x xs apart) ∙ none)
 ]
 
 -- ---- after a change
 
-pub found_put : (new : Node) (id : ℕ) (xs : List Node) → find_id id (put_node new xs) ≡ (if new.id == id then Some new else find_id id xs)
+pub found_put : (new : Node) (id : ℕ) (xs : List Node)
+    → find_id id (put_node new xs) ≡ (if new.id == id then Some new else find_id id xs)
 found_put new id [] = refl
 found_put new id (x ∷ xs) = elim (cases_order x.id new.id) [
   | inl same ↦
-      ap (find_id id) (cond-false _ _ _ (le-ltb x.id new.id (omega (arith, same))) ∙ cond-true _ _ _ (eq-eqb x.id new.id same)) ∙ elim (cases_Bool (new.id == id)) [
+      ap (find_id id) (cond-false _ _ _ (le-ltb x.id new.id (omega (arith, same)))
+      ∙ cond-true _ _ _ (eq-eqb x.id new.id same)) ∙ elim (cases_Bool (new.id == id)) [
         | inl is ↦ cond-true _ _ _ is ∙ sym (cond-true _ _ _ is)
-        | inr isnt ↦ cond-false _ _ _ isnt ∙ sym (found_later (λ (m : Node). m.id == id) x xs (ap (λ (k : ℕ). k == id) same ∙ isnt)) ∙ sym (cond-false _ _ _ isnt)
+        | inr isnt ↦ cond-false _ _ _ isnt
+            ∙ sym (found_later (λ (m : Node). m.id == id) x xs
+            (ap (λ (k : ℕ). k == id) same ∙ isnt)) ∙ sym (cond-false _ _ _ isnt)
       ]
   | inr apart ↦ elim apart [
     | inl below ↦
-        ap (find_id id) (cond-true _ _ _ (lt-ltb x.id new.id below)) ∙ elim (cases_Bool (x.id == id)) [
+        ap (find_id id) (cond-true _ _ _ (lt-ltb x.id new.id below))
+        ∙ elim (cases_Bool (x.id == id)) [
           | inl is ↦
               let e = eqb-true x.id id is in
-              found_first (λ (m : Node). m.id == id) x (put_node new xs) is ∙ sym (found_first (λ (m : Node). m.id == id) x xs is) ∙ sym (cond-false _ _ _ (ne_eqb new.id id (λ h. absurd (omega (arith, h, e, below)))))
-          | inr isnt ↦ found_later (λ (m : Node). m.id == id) x (put_node new xs) isnt ∙ found_put new id xs ∙ ap (λ o. if new.id == id then Some new else o) (sym (found_later (λ (m : Node). m.id == id) x xs isnt))
+              found_first (λ (m : Node). m.id == id) x (put_node new xs) is
+              ∙ sym (found_first (λ (m : Node). m.id == id) x xs is)
+              ∙ sym (cond-false _ _ _ (ne_eqb new.id id (λ h. absurd (omega (arith, h, e, below)))))
+          | inr isnt ↦ found_later (λ (m : Node). m.id == id) x (put_node new xs) isnt
+              ∙ found_put new id xs
+              ∙ ap (λ o. if new.id == id then Some new else o)
+              (sym (found_later (λ (m : Node). m.id == id) x xs isnt))
         ]
-    | inr past ↦ ap (find_id id) (cond-false _ _ _ (le-ltb x.id new.id (omega (arith, past))) ∙ cond-false _ _ _ (ne_eqb x.id new.id (λ h. absurd (omega (arith, h, past)))))
+    | inr past ↦
+        ap (find_id id) (cond-false _ _ _ (le-ltb x.id new.id (omega (arith, past)))
+        ∙ cond-false _ _ _ (ne_eqb x.id new.id (λ h. absurd (omega (arith, h, past)))))
   ]
 ]
 
-pub found_without : (gone id : ℕ) (xs : List Node) → find_id id (filter (λ (n : Node). not (n.id == gone)) xs) ≡ (if gone == id then None else find_id id xs)
-found_without gone id [] = elim (cases_Bool (gone == id)) [ inl is ↦ sym (cond-true _ _ _ is) | inr isnt ↦ sym (cond-false _ _ _ isnt) ]
+pub found_without : (gone id : ℕ) (xs : List Node)
+    → find_id id (filter (λ (n : Node). not (n.id == gone)) xs)
+    ≡ (if gone == id then None else find_id id xs)
+found_without gone id [] =
+    elim (cases_Bool (gone == id))
+    [ inl is ↦ sym (cond-true _ _ _ is) | inr isnt ↦ sym (cond-false _ _ _ isnt) ]
 found_without gone id (x ∷ xs) = elim (cases_Bool (x.id == gone)) [
   | inl is ↦
       let e = eqb-true x.id gone is in
-      ap (find_id id) (cond-false _ _ _ (ap not is)) ∙ found_without gone id xs ∙ elim (cases_Bool (gone == id)) [
+      ap (find_id id) (cond-false _ _ _ (ap not is)) ∙ found_without gone id xs
+      ∙ elim (cases_Bool (gone == id)) [
         | inl it ↦ cond-true _ _ _ it ∙ sym (cond-true _ _ _ it)
-        | inr other ↦ ap (λ o. if gone == id then None else o) (sym (found_later (λ (m : Node). m.id == id) x xs (ap (λ (k : ℕ). k == id) e ∙ other)))
+        | inr other ↦
+            ap (λ o. if gone == id then None else o)
+            (sym (found_later (λ (m : Node). m.id == id) x xs (ap (λ (k : ℕ). k == id) e ∙ other)))
       ]
   | inr isnt ↦
       ap (find_id id) (cond-true _ _ _ (ap not isnt)) ∙ elim (cases_Bool (x.id == id)) [
         | inl same ↦
             let e = eqb-true x.id id same in
             let no_e = eqb-false x.id gone isnt in
-            found_first (λ (m : Node). m.id == id) x _ same ∙ sym (found_first (λ (m : Node). m.id == id) x xs same) ∙ sym (cond-false _ _ _ (ne_eqb gone id (λ h. absurd (no_e (e ∙ sym h)))))
-        | inr apart ↦ found_later (λ (m : Node). m.id == id) x _ apart ∙ found_without gone id xs ∙ ap (λ o. if gone == id then None else o) (sym (found_later (λ (m : Node). m.id == id) x xs apart))
+            found_first (λ (m : Node). m.id == id) x _ same
+            ∙ sym (found_first (λ (m : Node). m.id == id) x xs same)
+            ∙ sym (cond-false _ _ _ (ne_eqb gone id (λ h. absurd (no_e (e ∙ sym h)))))
+        | inr apart ↦ found_later (λ (m : Node). m.id == id) x _ apart ∙ found_without gone id xs
+            ∙ ap (λ o. if gone == id then None else o)
+            (sym (found_later (λ (m : Node). m.id == id) x xs apart))
       ]
 ]
 
-pub put_rises : (k : ℕ) (new : Node) (xs : List Node) → k < new.id → is_rising (k ∷ map (λ (n : Node). n.id) xs) ≡ true → is_rising (k ∷ map (λ (n : Node). n.id) (put_node new xs)) ≡ true
+pub put_rises : (k : ℕ) (new : Node) (xs : List Node) → k < new.id
+    → is_rising (k ∷ map (λ (n : Node). n.id) xs) ≡ true
+    → is_rising (k ∷ map (λ (n : Node). n.id) (put_node new xs)) ≡ true
 put_rises k new [] up rises = and_from _ _ (lt-ltb k new.id up) refl
 put_rises k new (x ∷ xs) up rises =
     let parts = and_parts (nat_lt k x.id) (is_rising (x.id ∷ ids_of xs)) rises in
     elim (cases_order x.id new.id) [
       | inl same ↦
-          ap (λ (l : List Node). is_rising (k ∷ ids_of l)) (cond-false _ _ _ (le-ltb x.id new.id (omega (arith, same))) ∙ cond-true _ _ _ (eq-eqb x.id new.id same))
+          ap (λ (l : List Node). is_rising (k ∷ ids_of l))
+          (cond-false _ _ _ (le-ltb x.id new.id (omega (arith, same)))
+          ∙ cond-true _ _ _ (eq-eqb x.id new.id same))
           ∙ subst (λ (i : ℕ). is_rising (k ∷ i ∷ ids_of xs) ≡ true) same rises
       | inr apart ↦ elim apart [
         | inl below ↦
-            ap (λ (l : List Node). is_rising (k ∷ ids_of l)) (cond-true _ (x ∷ put_node new xs) _ (lt-ltb x.id new.id below))
-            ∙ and_from (nat_lt k x.id) (is_rising (x.id ∷ ids_of (put_node new xs))) parts.0 (put_rises x.id new xs below parts.1)
+            ap (λ (l : List Node). is_rising (k ∷ ids_of l))
+            (cond-true _ (x ∷ put_node new xs) _ (lt-ltb x.id new.id below))
+            ∙ and_from (nat_lt k x.id) (is_rising (x.id ∷ ids_of (put_node new xs))) parts.0
+            (put_rises x.id new xs below parts.1)
         | inr past ↦
-            ap (λ (l : List Node). is_rising (k ∷ ids_of l)) (cond-false _ _ _ (le-ltb x.id new.id (omega (arith, past))) ∙ cond-false _ _ (new ∷ x ∷ xs) (ne_eqb x.id new.id (λ h. absurd (omega (arith, h, past)))))
-            ∙ and_from (nat_lt k new.id) (is_rising (new.id ∷ x.id ∷ ids_of xs)) (lt-ltb k new.id up) (and_from (nat_lt new.id x.id) (is_rising (x.id ∷ ids_of xs)) (lt-ltb new.id x.id past) parts.1)
+            ap (λ (l : List Node). is_rising (k ∷ ids_of l))
+            (cond-false _ _ _ (le-ltb x.id new.id (omega (arith, past)))
+            ∙ cond-false _ _ (new ∷ x ∷ xs)
+            (ne_eqb x.id new.id (λ h. absurd (omega (arith, h, past)))))
+            ∙ and_from (nat_lt k new.id) (is_rising (new.id ∷ x.id ∷ ids_of xs))
+            (lt-ltb k new.id up)
+            (and_from (nat_lt new.id x.id) (is_rising (x.id ∷ ids_of xs))
+            (lt-ltb new.id x.id past) parts.1)
       ]
     ]
 
@@ -176,12 +246,19 @@ lower k l (i ∷ ids) down rises =
     let up = ltb-true l i parts.0 in
     and_from _ _ (lt-ltb k i (omega (arith, up, down))) parts.1
 
-pub filter_rises : (t : Node → Bool) (k : ℕ) (xs : List Node) → is_rising (k ∷ map (λ (n : Node). n.id) xs) ≡ true → is_rising (k ∷ map (λ (n : Node). n.id) (filter t xs)) ≡ true
+pub filter_rises : (t : Node → Bool) (k : ℕ) (xs : List Node)
+    → is_rising (k ∷ map (λ (n : Node). n.id) xs) ≡ true
+    → is_rising (k ∷ map (λ (n : Node). n.id) (filter t xs)) ≡ true
 filter_rises t k [] rises = refl
 filter_rises t k (x ∷ xs) rises =
     let parts = and_parts (nat_lt k x.id) (is_rising (x.id ∷ ids_of xs)) rises in
     let up = ltb-true k x.id parts.0 in
     elim (cases_Bool (t x)) [
-      | inl is ↦ ap (λ (l : List Node). is_rising (k ∷ ids_of l)) (cond-true _ (x ∷ filter t xs) _ is) ∙ and_from (nat_lt k x.id) (is_rising (x.id ∷ ids_of (filter t xs))) parts.0 (filter_rises t x.id xs parts.1)
-      | inr isnt ↦ ap (λ (l : List Node). is_rising (k ∷ ids_of l)) (cond-false _ _ (filter t xs) isnt) ∙ lower k x.id (ids_of (filter t xs)) (omega (arith, up)) (filter_rises t x.id xs parts.1)
+      | inl is ↦
+          ap (λ (l : List Node). is_rising (k ∷ ids_of l)) (cond-true _ (x ∷ filter t xs) _ is)
+          ∙ and_from (nat_lt k x.id) (is_rising (x.id ∷ ids_of (filter t xs))) parts.0
+          (filter_rises t x.id xs parts.1)
+      | inr isnt ↦
+          ap (λ (l : List Node). is_rising (k ∷ ids_of l)) (cond-false _ _ (filter t xs) isnt)
+          ∙ lower k x.id (ids_of (filter t xs)) (omega (arith, up)) (filter_rises t x.id xs parts.1)
     ]

@@ -22,39 +22,61 @@ use Rattle.room_tree.proofs.Numbered.{is_key, cmp_less, cmp_equal, cmp_greater, 
 
 -- ---- bytes at numbers
 
-pub body_kept : (id : ℕ) (es : List (ℕ × List ℕ)) → lookup (λ k. is_eq (nat_cmp id k)) es ≡ body_at es id
+pub body_kept : (id : ℕ) (es : List (ℕ × List ℕ))
+    → lookup (λ k. is_eq (nat_cmp id k)) es ≡ body_at es id
 body_kept id [] = refl
-body_kept id (e ∷ es) = ap (λ b. if b then Some e.1 else lookup (λ k. is_eq (nat_cmp id k)) es) (is_key id e.0) ∙ ap (λ o. if e.0 == id then Some e.1 else o) (body_kept id es)
+body_kept id (e ∷ es) =
+    ap (λ b. if b then Some e.1 else lookup (λ k. is_eq (nat_cmp id k)) es) (is_key id e.0)
+    ∙ ap (λ o. if e.0 == id then Some e.1 else o) (body_kept id es)
 
-pub body_put : (id : ℕ) (bytes : List ℕ) (es : List (ℕ × List ℕ)) → insert_entry nat_cmp es id bytes ≡ put_body id bytes es
+pub body_put : (id : ℕ) (bytes : List ℕ) (es : List (ℕ × List ℕ))
+    → insert_entry nat_cmp es id bytes ≡ put_body id bytes es
 body_put id bytes [] = refl
 body_put id bytes (e ∷ es) = elim (cases_order id e.0) [
-  | inl same ↦ ap (λ o. match_ordering o ((id, bytes) ∷ e ∷ es) ((e.0, bytes) ∷ es) (e ∷ insert_entry nat_cmp es id bytes)) (cmp_equal id e.0 same)
+  | inl same ↦
+      ap (λ o. match_ordering o ((id, bytes) ∷ e ∷ es) ((e.0, bytes) ∷ es)
+      (e ∷ insert_entry nat_cmp es id bytes)) (cmp_equal id e.0 same)
       ∙ ap (λ (k : ℕ). (k, bytes) ∷ es) (sym same)
-      ∙ sym (cond-false _ _ _ (le-ltb e.0 id (omega (arith, same))) ∙ cond-true _ _ _ (eq-eqb e.0 id (sym same)))
+      ∙ sym (cond-false _ _ _ (le-ltb e.0 id (omega (arith, same)))
+      ∙ cond-true _ _ _ (eq-eqb e.0 id (sym same)))
   | inr apart ↦ elim apart [
-    | inl below ↦ ap (λ o. match_ordering o ((id, bytes) ∷ e ∷ es) ((e.0, bytes) ∷ es) (e ∷ insert_entry nat_cmp es id bytes)) (cmp_less id e.0 below)
-        ∙ sym (cond-false _ _ _ (le-ltb e.0 id (omega (arith, below))) ∙ cond-false _ _ _ (ne_eqb e.0 id (λ h. absurd (omega (arith, below, h)))))
-    | inr above ↦ ap (λ o. match_ordering o ((id, bytes) ∷ e ∷ es) ((e.0, bytes) ∷ es) (e ∷ insert_entry nat_cmp es id bytes)) (cmp_greater id e.0 above)
+    | inl below ↦
+        ap (λ o. match_ordering o ((id, bytes) ∷ e ∷ es) ((e.0, bytes) ∷ es)
+        (e ∷ insert_entry nat_cmp es id bytes)) (cmp_less id e.0 below)
+        ∙ sym (cond-false _ _ _ (le-ltb e.0 id (omega (arith, below)))
+        ∙ cond-false _ _ _ (ne_eqb e.0 id (λ h. absurd (omega (arith, below, h)))))
+    | inr above ↦
+        ap (λ o. match_ordering o ((id, bytes) ∷ e ∷ es) ((e.0, bytes) ∷ es)
+        (e ∷ insert_entry nat_cmp es id bytes)) (cmp_greater id e.0 above)
         ∙ ap (λ (l : List (ℕ × List ℕ)). e ∷ l) (body_put id bytes es)
         ∙ sym (cond-true _ _ _ (lt-ltb e.0 id above))
   ]
 ]
 
-none_later : (id : ℕ) (es : List (ℕ × List ℕ)) → AllByRecursion (λ y. nat_cmp id y ≡ Less) (keys_of es) → filter (λ (row : ℕ × List ℕ). not (row.0 == id)) es ≡ es
+none_later : (id : ℕ) (es : List (ℕ × List ℕ))
+    → AllByRecursion (λ y. nat_cmp id y ≡ Less) (keys_of es)
+    → filter (λ (row : ℕ × List ℕ). not (row.0 == id)) es ≡ es
 none_later id [] later = refl
 none_later id (e ∷ es) later =
     let up = less_below id e.0 later.0 in
-    cond-true _ _ _ (ap not (ne_eqb e.0 id (λ h. absurd (omega (arith, up, h))))) ∙ ap (λ (l : List (ℕ × List ℕ)). e ∷ l) (none_later id es later.1)
+    cond-true _ _ _ (ap not (ne_eqb e.0 id (λ h. absurd (omega (arith, up, h)))))
+    ∙ ap (λ (l : List (ℕ × List ℕ)). e ∷ l) (none_later id es later.1)
 
-pub body_taken : (id : ℕ) (es : List (ℕ × List ℕ)) → IsStrictlySortedBy nat_cmp (keys_of es) → remove_entry (λ k. is_eq (nat_cmp id k)) es ≡ filter (λ (row : ℕ × List ℕ). not (row.0 == id)) es
+pub body_taken : (id : ℕ) (es : List (ℕ × List ℕ)) → IsStrictlySortedBy nat_cmp (keys_of es)
+    → remove_entry (λ k. is_eq (nat_cmp id k)) es
+    ≡ filter (λ (row : ℕ × List ℕ). not (row.0 == id)) es
 body_taken id [] sorted = refl
 body_taken id (e ∷ es) sorted = elim (cases_Bool (e.0 == id)) [
   | inl is ↦
-      let later = subst (λ (k : ℕ). AllByRecursion (λ y. nat_cmp k y ≡ Less) (keys_of es)) (eqb-true e.0 id is) (sorted_head nat_cmp e.0 (keys_of es) sorted) in
-      cond-true _ es (e ∷ remove_entry (λ k. is_eq (nat_cmp id k)) es) (is_key id e.0 ∙ is) ∙ sym (cond-false _ _ _ (ap not is) ∙ none_later id es later)
+      let later = subst (λ (k : ℕ). AllByRecursion (λ y. nat_cmp k y ≡ Less) (keys_of es))
+      (eqb-true e.0 id is) (sorted_head nat_cmp e.0 (keys_of es) sorted) in
+      cond-true _ es (e ∷ remove_entry (λ k. is_eq (nat_cmp id k)) es) (is_key id e.0 ∙ is)
+      ∙ sym (cond-false _ _ _ (ap not is) ∙ none_later id es later)
   | inr isnt ↦
-      cond-false _ es (e ∷ remove_entry (λ k. is_eq (nat_cmp id k)) es) (is_key id e.0 ∙ isnt) ∙ ap (λ (l : List (ℕ × List ℕ)). e ∷ l) (body_taken id es (sorted_tail nat_cmp e.0 (keys_of es) sorted)) ∙ sym (cond-true _ _ _ (ap not isnt))
+      cond-false _ es (e ∷ remove_entry (λ k. is_eq (nat_cmp id k)) es) (is_key id e.0 ∙ isnt)
+      ∙ ap (λ (l : List (ℕ × List ℕ)). e ∷ l)
+      (body_taken id es (sorted_tail nat_cmp e.0 (keys_of es) sorted))
+      ∙ sym (cond-true _ _ _ (ap not isnt))
 ]
 
 -- ---- numbers of bytes
@@ -62,21 +84,31 @@ body_taken id (e ∷ es) sorted = elim (cases_Bool (e.0 == id)) [
 abbrev keys : List (ℕ × List ℕ) → List ℕ
 keys es = map (λ (row : ℕ × List ℕ). row.0) es
 
-body_rises : (k id : ℕ) (bytes : List ℕ) (es : List (ℕ × List ℕ)) → k < id → is_rising (k ∷ map (λ (row : ℕ × List ℕ). row.0) es) ≡ true → is_rising (k ∷ map (λ (row : ℕ × List ℕ). row.0) (put_body id bytes es)) ≡ true
+body_rises : (k id : ℕ) (bytes : List ℕ) (es : List (ℕ × List ℕ)) → k < id
+    → is_rising (k ∷ map (λ (row : ℕ × List ℕ). row.0) es) ≡ true
+    → is_rising (k ∷ map (λ (row : ℕ × List ℕ). row.0) (put_body id bytes es)) ≡ true
 body_rises k id bytes [] up rises = and_from _ _ (lt-ltb k id up) refl
 body_rises k id bytes (e ∷ es) up rises =
     let parts = and_parts (nat_lt k e.0) (is_rising (e.0 ∷ keys es)) rises in
     elim (cases_order e.0 id) [
       | inl same ↦
-          ap (λ (l : List (ℕ × List ℕ)). is_rising (k ∷ keys l)) (cond-false _ _ _ (le-ltb e.0 id (omega (arith, same))) ∙ cond-true _ _ _ (eq-eqb e.0 id same))
+          ap (λ (l : List (ℕ × List ℕ)). is_rising (k ∷ keys l))
+          (cond-false _ _ _ (le-ltb e.0 id (omega (arith, same)))
+          ∙ cond-true _ _ _ (eq-eqb e.0 id same))
           ∙ subst (λ (i : ℕ). is_rising (k ∷ i ∷ keys es) ≡ true) same rises
       | inr apart ↦ elim apart [
         | inl below ↦
-            ap (λ (l : List (ℕ × List ℕ)). is_rising (k ∷ keys l)) (cond-true _ (e ∷ put_body id bytes es) _ (lt-ltb e.0 id below))
-            ∙ and_from (nat_lt k e.0) (is_rising (e.0 ∷ keys (put_body id bytes es))) parts.0 (body_rises e.0 id bytes es below parts.1)
+            ap (λ (l : List (ℕ × List ℕ)). is_rising (k ∷ keys l))
+            (cond-true _ (e ∷ put_body id bytes es) _ (lt-ltb e.0 id below))
+            ∙ and_from (nat_lt k e.0) (is_rising (e.0 ∷ keys (put_body id bytes es))) parts.0
+            (body_rises e.0 id bytes es below parts.1)
         | inr past ↦
-            ap (λ (l : List (ℕ × List ℕ)). is_rising (k ∷ keys l)) (cond-false _ _ _ (le-ltb e.0 id (omega (arith, past))) ∙ cond-false _ _ ((id, bytes) ∷ e ∷ es) (ne_eqb e.0 id (λ h. absurd (omega (arith, h, past)))))
-            ∙ and_from (nat_lt k id) (is_rising (id ∷ e.0 ∷ keys es)) (lt-ltb k id up) (and_from (nat_lt id e.0) (is_rising (e.0 ∷ keys es)) (lt-ltb id e.0 past) parts.1)
+            ap (λ (l : List (ℕ × List ℕ)). is_rising (k ∷ keys l))
+            (cond-false _ _ _ (le-ltb e.0 id (omega (arith, past)))
+            ∙ cond-false _ _ ((id, bytes) ∷ e ∷ es)
+            (ne_eqb e.0 id (λ h. absurd (omega (arith, h, past)))))
+            ∙ and_from (nat_lt k id) (is_rising (id ∷ e.0 ∷ keys es)) (lt-ltb k id up)
+            (and_from (nat_lt id e.0) (is_rising (e.0 ∷ keys es)) (lt-ltb id e.0 past) parts.1)
       ]
     ]
 
@@ -87,14 +119,22 @@ lower k l (i ∷ ids) down rises =
     let up = ltb-true l i parts.0 in
     and_from _ _ (lt-ltb k i (omega (arith, up, down))) parts.1
 
-bodies_left_rise : (t : ℕ × List ℕ → Bool) (k : ℕ) (es : List (ℕ × List ℕ)) → is_rising (k ∷ map (λ (row : ℕ × List ℕ). row.0) es) ≡ true → is_rising (k ∷ map (λ (row : ℕ × List ℕ). row.0) (filter t es)) ≡ true
+bodies_left_rise : (t : ℕ × List ℕ → Bool) (k : ℕ) (es : List (ℕ × List ℕ))
+    → is_rising (k ∷ map (λ (row : ℕ × List ℕ). row.0) es) ≡ true
+    → is_rising (k ∷ map (λ (row : ℕ × List ℕ). row.0) (filter t es)) ≡ true
 bodies_left_rise t k [] rises = refl
 bodies_left_rise t k (e ∷ es) rises =
     let parts = and_parts (nat_lt k e.0) (is_rising (e.0 ∷ keys es)) rises in
     let up = ltb-true k e.0 parts.0 in
     elim (cases_Bool (t e)) [
-      | inl is ↦ ap (λ (l : List (ℕ × List ℕ)). is_rising (k ∷ keys l)) (cond-true _ (e ∷ filter t es) _ is) ∙ and_from (nat_lt k e.0) (is_rising (e.0 ∷ keys (filter t es))) parts.0 (bodies_left_rise t e.0 es parts.1)
-      | inr isnt ↦ ap (λ (l : List (ℕ × List ℕ)). is_rising (k ∷ keys l)) (cond-false _ _ (filter t es) isnt) ∙ lower k e.0 (keys (filter t es)) (omega (arith, up)) (bodies_left_rise t e.0 es parts.1)
+      | inl is ↦
+          ap (λ (l : List (ℕ × List ℕ)). is_rising (k ∷ keys l))
+          (cond-true _ (e ∷ filter t es) _ is)
+          ∙ and_from (nat_lt k e.0) (is_rising (e.0 ∷ keys (filter t es))) parts.0
+          (bodies_left_rise t e.0 es parts.1)
+      | inr isnt ↦
+          ap (λ (l : List (ℕ × List ℕ)). is_rising (k ∷ keys l)) (cond-false _ _ (filter t es) isnt)
+          ∙ lower k e.0 (keys (filter t es)) (omega (arith, up)) (bodies_left_rise t e.0 es parts.1)
     ]
 
 -- ---- numbers that are in use
@@ -102,109 +142,167 @@ bodies_left_rise t k (e ∷ es) rises =
 abbrev ids : List Node → List ℕ
 ids nodes = map (λ (n : Node). n.id) nodes
 
-among_put : (new : Node) (nodes : List Node) (id : ℕ) → is_among (map (λ (n : Node). n.id) nodes) id ≡ true → is_among (map (λ (n : Node). n.id) (put_node new nodes)) id ≡ true
+among_put : (new : Node) (nodes : List Node) (id : ℕ)
+    → is_among (map (λ (n : Node). n.id) nodes) id ≡ true
+    → is_among (map (λ (n : Node). n.id) (put_node new nodes)) id ≡ true
 among_put new [] id is = absurd (false≢true is)
 among_put new (x ∷ xs) id is = elim (cases_order x.id new.id) [
   | inl same ↦
-      ap (λ (l : List Node). is_among (ids l) id) (cond-false _ _ _ (le-ltb x.id new.id (omega (arith, same))) ∙ cond-true _ (new ∷ xs) _ (eq-eqb x.id new.id same))
+      ap (λ (l : List Node). is_among (ids l) id)
+      (cond-false _ _ _ (le-ltb x.id new.id (omega (arith, same)))
+      ∙ cond-true _ (new ∷ xs) _ (eq-eqb x.id new.id same))
       ∙ subst (λ (i : ℕ). ((i == id) || is_among (ids xs) id) ≡ true) same is
   | inr apart ↦ elim apart [
     | inl below ↦
-        ap (λ (l : List Node). is_among (ids l) id) (cond-true _ (x ∷ put_node new xs) _ (lt-ltb x.id new.id below)) ∙ elim (or_cases (x.id == id) (is_among (ids xs) id) is) [
+        ap (λ (l : List Node). is_among (ids l) id)
+        (cond-true _ (x ∷ put_node new xs) _ (lt-ltb x.id new.id below))
+        ∙ elim (or_cases (x.id == id) (is_among (ids xs) id) is) [
           | inl here ↦ or_left (x.id == id) _ here
           | inr later ↦ or_right (x.id == id) _ (among_put new xs id later)
         ]
     | inr past ↦
-        ap (λ (l : List Node). is_among (ids l) id) (cond-false _ _ _ (le-ltb x.id new.id (omega (arith, past))) ∙ cond-false _ _ (new ∷ x ∷ xs) (ne_eqb x.id new.id (λ h. absurd (omega (arith, h, past)))))
+        ap (λ (l : List Node). is_among (ids l) id)
+        (cond-false _ _ _ (le-ltb x.id new.id (omega (arith, past)))
+        ∙ cond-false _ _ (new ∷ x ∷ xs) (ne_eqb x.id new.id (λ h. absurd (omega (arith, h, past)))))
         ∙ or_right (new.id == id) _ is
   ]
 ]
 
-among_left : (gone : ℕ) (nodes : List Node) (id : ℕ) → (id == gone) ≡ false → is_among (map (λ (n : Node). n.id) nodes) id ≡ true → is_among (map (λ (n : Node). n.id) (filter (λ (n : Node). not (n.id == gone)) nodes)) id ≡ true
+among_left : (gone : ℕ) (nodes : List Node) (id : ℕ) → (id == gone) ≡ false
+    → is_among (map (λ (n : Node). n.id) nodes) id ≡ true
+    → is_among (map (λ (n : Node). n.id) (filter (λ (n : Node). not (n.id == gone)) nodes)) id
+    ≡ true
 among_left gone [] id other is = absurd (false≢true is)
 among_left gone (x ∷ xs) id other is = elim (cases_Bool (x.id == gone)) [
   | inl here ↦
-      ap (λ (l : List Node). is_among (ids l) id) (cond-false _ _ (filter (λ (n : Node). not (n.id == gone)) xs) (ap not here)) ∙ elim (or_cases (x.id == id) (is_among (ids xs) id) is) [
-        | inl it ↦ (let e = eqb-true x.id id it in let f = eqb-true x.id gone here in absurd (eqb-false id gone other (omega (arith, e, f))))
+      ap (λ (l : List Node). is_among (ids l) id)
+      (cond-false _ _ (filter (λ (n : Node). not (n.id == gone)) xs) (ap not here))
+      ∙ elim (or_cases (x.id == id) (is_among (ids xs) id) is) [
+        | inl it ↦
+            (let e = eqb-true x.id id it in let f = eqb-true x.id gone here in
+            absurd (eqb-false id gone other (omega (arith, e, f))))
         | inr later ↦ among_left gone xs id other later
       ]
   | inr isnt ↦
-      ap (λ (l : List Node). is_among (ids l) id) (cond-true _ (x ∷ filter (λ (n : Node). not (n.id == gone)) xs) _ (ap not isnt)) ∙ elim (or_cases (x.id == id) (is_among (ids xs) id) is) [
+      ap (λ (l : List Node). is_among (ids l) id)
+      (cond-true _ (x ∷ filter (λ (n : Node). not (n.id == gone)) xs) _ (ap not isnt))
+      ∙ elim (or_cases (x.id == id) (is_among (ids xs) id) is) [
         | inl it ↦ or_left (x.id == id) _ it
         | inr later ↦ or_right (x.id == id) _ (among_left gone xs id other later)
       ]
 ]
 
-among_found : (nodes : List Node) (id : ℕ) → is_some (find_id id nodes) ≡ true → is_among (map (λ (n : Node). n.id) nodes) id ≡ true
+among_found : (nodes : List Node) (id : ℕ) → is_some (find_id id nodes) ≡ true
+    → is_among (map (λ (n : Node). n.id) nodes) id ≡ true
 among_found [] id is = absurd (false≢true is)
 among_found (x ∷ xs) id is = elim (cases_Bool (x.id == id)) [
   | inl here ↦ or_left (x.id == id) _ here
-  | inr isnt ↦ or_right (x.id == id) _ (among_found xs id (sym (ap is_some (cond-false _ (Some x) (find_id id xs) isnt)) ∙ is))
+  | inr isnt ↦
+      or_right (x.id == id) _
+      (among_found xs id (sym (ap is_some (cond-false _ (Some x) (find_id id xs) isnt)) ∙ is))
 ]
 
-all_more : (t u : ℕ × List ℕ → Bool) (es : List (ℕ × List ℕ)) → ((e : ℕ × List ℕ) → t e ≡ true → u e ≡ true) → list_all t es ≡ true → list_all u es ≡ true
+all_more : (t u : ℕ × List ℕ → Bool) (es : List (ℕ × List ℕ))
+    → ((e : ℕ × List ℕ) → t e ≡ true → u e ≡ true) → list_all t es ≡ true → list_all u es ≡ true
 all_more t u [] more all = refl
-all_more t u (e ∷ es) more all = let parts = and_parts (t e) (list_all t es) all in and_from _ _ (more e parts.0) (all_more t u es more parts.1)
+all_more t u (e ∷ es) more all = let parts = and_parts (t e) (list_all t es) all in
+    and_from _ _ (more e parts.0) (all_more t u es more parts.1)
 
-all_put : (t : ℕ × List ℕ → Bool) (id : ℕ) (bytes : List ℕ) (es : List (ℕ × List ℕ)) → t (id, bytes) ≡ true → list_all t es ≡ true → list_all t (put_body id bytes es) ≡ true
+all_put : (t : ℕ × List ℕ → Bool) (id : ℕ) (bytes : List ℕ) (es : List (ℕ × List ℕ))
+    → t (id, bytes) ≡ true → list_all t es ≡ true → list_all t (put_body id bytes es) ≡ true
 all_put t id bytes [] new all = and_from _ _ new refl
 all_put t id bytes (e ∷ es) new all =
     let parts = and_parts (t e) (list_all t es) all in
     elim (cases_Bool (nat_lt e.0 id)) [
-      | inl below ↦ ap (list_all t) (cond-true _ (e ∷ put_body id bytes es) _ below) ∙ and_from _ _ parts.0 (all_put t id bytes es new parts.1)
-      | inr isnt ↦ ap (list_all t) (cond-false _ (e ∷ put_body id bytes es) _ isnt) ∙ elim (cases_Bool (e.0 == id)) [
-        | inl same ↦ ap (list_all t) (cond-true _ ((id, bytes) ∷ es) _ same) ∙ and_from _ _ new parts.1
-        | inr apart ↦ ap (list_all t) (cond-false _ ((id, bytes) ∷ es) _ apart) ∙ and_from _ _ new all
-      ]
+      | inl below ↦ ap (list_all t) (cond-true _ (e ∷ put_body id bytes es) _ below)
+          ∙ and_from _ _ parts.0 (all_put t id bytes es new parts.1)
+      | inr isnt ↦ ap (list_all t) (cond-false _ (e ∷ put_body id bytes es) _ isnt)
+          ∙ elim (cases_Bool (e.0 == id)) [
+            | inl same ↦ ap (list_all t) (cond-true _ ((id, bytes) ∷ es) _ same)
+                ∙ and_from _ _ new parts.1
+            | inr apart ↦ ap (list_all t) (cond-false _ ((id, bytes) ∷ es) _ apart)
+                ∙ and_from _ _ new all
+          ]
     ]
 
-all_left : (t u : ℕ × List ℕ → Bool) (p : ℕ × List ℕ → Bool) (es : List (ℕ × List ℕ)) → ((e : ℕ × List ℕ) → p e ≡ true → t e ≡ true → u e ≡ true) → list_all t es ≡ true → list_all u (filter p es) ≡ true
+all_left : (t u : ℕ × List ℕ → Bool) (p : ℕ × List ℕ → Bool) (es : List (ℕ × List ℕ))
+    → ((e : ℕ × List ℕ) → p e ≡ true → t e ≡ true → u e ≡ true) → list_all t es ≡ true
+    → list_all u (filter p es) ≡ true
 all_left t u p [] more all = refl
 all_left t u p (e ∷ es) more all =
     let parts = and_parts (t e) (list_all t es) all in
     elim (cases_Bool (p e)) [
-      | inl is ↦ ap (list_all u) (cond-true _ (e ∷ filter p es) _ is) ∙ and_from _ _ (more e is parts.0) (all_left t u p es more parts.1)
-      | inr isnt ↦ ap (list_all u) (cond-false _ (e ∷ filter p es) _ isnt) ∙ all_left t u p es more parts.1
+      | inl is ↦ ap (list_all u) (cond-true _ (e ∷ filter p es) _ is)
+          ∙ and_from _ _ (more e is parts.0) (all_left t u p es more parts.1)
+      | inr isnt ↦ ap (list_all u) (cond-false _ (e ∷ filter p es) _ isnt)
+          ∙ all_left t u p es more parts.1
     ]
 
 -- ---- rows
 
 -- an object is put at its number
-pub put_rows : (nodes : List Node) (bodies : List (ℕ × List ℕ)) (members : List (List ℕ × List ℕ)) (audits : List AuditRow) (new : Node) → 0 < new.id → AreRows (memory_rows nodes bodies members audits) → AreRows (memory_rows (put_node new nodes) bodies members audits)
+pub put_rows : (nodes : List Node) (bodies : List (ℕ × List ℕ)) (members : List (List ℕ × List ℕ))
+    (audits : List AuditRow) (new : Node) → 0 < new.id
+    → AreRows (memory_rows nodes bodies members audits)
+    → AreRows (memory_rows (put_node new nodes) bodies members audits)
 put_rows nodes bodies members audits new above old = record {
   numbers = put_rises 0 new nodes above old.numbers;
   unreadable = old.unreadable;
   apart = old.apart;
   body_numbers = old.body_numbers;
-  bodies = all_more (λ row. is_among (ids nodes) row.0) (λ row. is_among (ids (put_node new nodes)) row.0) bodies (λ e is. among_put new nodes e.0 is) old.bodies;
+  bodies =
+      all_more (λ row. is_among (ids nodes) row.0)
+      (λ row. is_among (ids (put_node new nodes)) row.0) bodies
+      (λ e is. among_put new nodes e.0 is) old.bodies;
   members = old.members;
 }
 
 -- bytes are put at a number in use
-pub body_rows : (nodes : List Node) (bodies : List (ℕ × List ℕ)) (members : List (List ℕ × List ℕ)) (audits : List AuditRow) (id : ℕ) (bytes : List ℕ) → 0 < id → is_some (find_id id nodes) ≡ true
-    → AreRows (memory_rows nodes bodies members audits) → AreRows (memory_rows nodes (put_body id bytes bodies) members audits)
+pub body_rows : (nodes : List Node) (bodies : List (ℕ × List ℕ)) (members : List (List ℕ × List ℕ))
+    (audits : List AuditRow) (id : ℕ) (bytes : List ℕ) → 0 < id → is_some (find_id id nodes) ≡ true
+    → AreRows (memory_rows nodes bodies members audits)
+    → AreRows (memory_rows nodes (put_body id bytes bodies) members audits)
 body_rows nodes bodies members audits id bytes above is old = record {
   numbers = old.numbers;
   unreadable = old.unreadable;
   apart = old.apart;
   body_numbers = body_rises 0 id bytes bodies above old.body_numbers;
-  bodies = all_put (λ row. is_among (ids nodes) row.0) id bytes bodies (among_found nodes id is) old.bodies;
+  bodies =
+      all_put (λ row. is_among (ids nodes) row.0) id bytes bodies
+      (among_found nodes id is) old.bodies;
   members = old.members;
 }
 
 -- an object is gone with its bytes
-pub removed_rows : (nodes : List Node) (bodies : List (ℕ × List ℕ)) (members : List (List ℕ × List ℕ)) (audits : List AuditRow) (id : ℕ) → AreRows (memory_rows nodes bodies members audits)
-    → AreRows (memory_rows (filter (λ node. not (node.id == id)) nodes) (filter (λ row. not (row.0 == id)) bodies) members audits)
+pub removed_rows : (nodes : List Node) (bodies : List (ℕ × List ℕ))
+    (members : List (List ℕ × List ℕ)) (audits : List AuditRow) (id : ℕ)
+    → AreRows (memory_rows nodes bodies members audits)
+    → AreRows (memory_rows (filter (λ node. not (node.id == id)) nodes)
+    (filter (λ row. not (row.0 == id)) bodies) members audits)
 removed_rows nodes bodies members audits id old = record {
   numbers = filter_rises (λ node. not (node.id == id)) 0 nodes old.numbers;
   unreadable = old.unreadable;
   apart = old.apart;
   body_numbers = bodies_left_rise (λ row. not (row.0 == id)) 0 bodies old.body_numbers;
-  bodies = all_left (λ row. is_among (ids nodes) row.0) (λ row. is_among (ids (filter (λ node. not (node.id == id)) nodes)) row.0) (λ row. not (row.0 == id)) bodies
+  bodies =
+      all_left (λ row. is_among (ids nodes) row.0)
+      (λ row. is_among (ids (filter (λ node. not (node.id == id)) nodes)) row.0)
+      (λ row. not (row.0 == id)) bodies
       (λ e other is. among_left id nodes e.0 (not-true (e.0 == id) other) is) old.bodies;
   members = old.members;
 }
 
 -- other pairs in order, or other records
-pub member_rows : (nodes : List Node) (bodies : List (ℕ × List ℕ)) (members pairs : List (List ℕ × List ℕ)) (audits : List AuditRow) → set_of pairs ≡ pairs → AreRows (memory_rows nodes bodies members audits) → AreRows (memory_rows nodes bodies pairs audits)
-member_rows nodes bodies members pairs audits ordered old = record { numbers = old.numbers; unreadable = old.unreadable; apart = old.apart; body_numbers = old.body_numbers; bodies = old.bodies; members = ordered }
+pub member_rows : (nodes : List Node) (bodies : List (ℕ × List ℕ))
+    (members pairs : List (List ℕ × List ℕ)) (audits : List AuditRow) → set_of pairs ≡ pairs
+    → AreRows (memory_rows nodes bodies members audits)
+    → AreRows (memory_rows nodes bodies pairs audits)
+member_rows nodes bodies members pairs audits ordered old =
+    record {
+      numbers = old.numbers;
+      unreadable = old.unreadable;
+      apart = old.apart;
+      body_numbers = old.body_numbers;
+      bodies = old.bodies;
+      members = ordered;
+    }

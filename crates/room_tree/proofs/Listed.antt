@@ -29,25 +29,35 @@ pub same_itself : (a : List ℕ) → same_text a a ≡ true
 same_itself a = (bytes_eq-Decides a a).1 refl
 
 pub same_back : (a b : List ℕ) → same_text a b ≡ false → same_text b a ≡ false
-same_back a b apart = false_from_ne_true (same_text b a) (λ same. true≢false (sym (subst (λ (x : List ℕ). same_text a x ≡ true) (sym (same_bytes b a same)) (same_itself a)) ∙ apart))
+same_back a b apart =
+    false_from_ne_true (same_text b a)
+    (λ same. true≢false
+    (sym (subst (λ (x : List ℕ). same_text a x ≡ true) (sym (same_bytes b a same)) (same_itself a))
+    ∙ apart))
 
-parent_in : (o : Option ℕ) (parent : ℕ) → option_map_or (λ p. p == parent) o false ≡ true → o ≡ Some parent
+parent_in : (o : Option ℕ) (parent : ℕ) → option_map_or (λ p. p == parent) o false ≡ true
+    → o ≡ Some parent
 parent_in None parent is = absurd (false≢true is)
 parent_in (Some p) parent is = ap Some (eqb-true p parent is)
 
-pub parent_is : (parent : ℕ) (node : Node) → has_parent parent node ≡ true → node.parent ≡ Some parent
+pub parent_is : (parent : ℕ) (node : Node) → has_parent parent node ≡ true
+    → node.parent ≡ Some parent
 parent_is parent node is = parent_in node.parent parent is
 
-pub parent_has : (parent : ℕ) (node : Node) → node.parent ≡ Some parent → has_parent parent node ≡ true
-parent_has parent node is = ap (λ o. option_map_or (λ p. p == parent) o false) is ∙ eq-eqb parent parent refl
+pub parent_has : (parent : ℕ) (node : Node) → node.parent ≡ Some parent
+    → has_parent parent node ≡ true
+parent_has parent node is =
+    ap (λ o. option_map_or (λ p. p == parent) o false) is ∙ eq-eqb parent parent refl
 
 not_less_itself : (a : List ℕ) → slice_cmp nat_cmp a a ≡ Less → ⊥
 not_less_itself a less = true≢false (ap is_eq (sym (tied_itself nat_list_cmp_total a) ∙ less))
 
 after : (a b : List ℕ) → slice_cmp nat_cmp a b ≡ Less → is_before b a ≡ false
-after a b less = ap is_lt (nat_list_cmp_total.antisymm b a) ∙ ap (λ o. is_lt (ordering_reverse o)) less
+after a b less =
+    ap is_lt (nat_list_cmp_total.antisymm b a) ∙ ap (λ o. is_lt (ordering_reverse o)) less
 
-standing_name : (id parent : ℕ) (name : List ℕ) (nodes : List Node) (m : Node) → standing id parent name nodes ≡ Some m → m.name ≡ name
+standing_name : (id parent : ℕ) (name : List ℕ) (nodes : List Node) (m : Node)
+    → standing id parent name nodes ≡ Some m → m.name ≡ name
 standing_name id parent name nodes m found =
     let passes = found_passes (is_standing id parent name) nodes m found in
     same_bytes m.name name (and_parts (has_parent parent m) _ (and_parts (m.id == id) _ passes).1).1
@@ -57,52 +67,75 @@ place_cmp x y = ordering_then (nat_cmp x.0 y.0) (string_cmp x.1 y.1)
 
 module _ {Y : Type 0} where
   abbrev pub IsListed : List ((ℕ × String Y) × ℕ) → Node → Type 0
-  IsListed places node = (parent : ℕ) → node.parent ≡ Some parent → id_at parent node.name places ≡ Some node.id
+  IsListed places node = (parent : ℕ) → node.parent ≡ Some parent
+      → id_at parent node.name places ≡ Some node.id
 
   -- every object that is found by its number is listed, so each of them is
-  pub all_listed : (places : List ((ℕ × String Y) × ℕ)) (k : ℕ) (nodes : List Node) → is_rising (k ∷ map (λ (n : Node). n.id) nodes) ≡ true
-      → ((id parent : ℕ) (node : Node) → find_id id nodes ≡ Some node → node.parent ≡ Some parent → id_at parent node.name places ≡ Some id)
+  pub all_listed : (places : List ((ℕ × String Y) × ℕ)) (k : ℕ) (nodes : List Node)
+      → is_rising (k ∷ map (λ (n : Node). n.id) nodes) ≡ true
+      → ((id parent : ℕ) (node : Node) → find_id id nodes ≡ Some node → node.parent ≡ Some parent
+      → id_at parent node.name places ≡ Some id)
       → AllByRecursion (IsListed places) nodes
   all_listed places k [] rises listed = tt
   all_listed places k (n ∷ ns) rises listed =
-      let parts = and_parts (nat_lt k n.id) (is_rising (n.id ∷ map (λ (m : Node). m.id) ns)) rises in (
+      let parts = and_parts (nat_lt k n.id)
+      (is_rising (n.id ∷ map (λ (m : Node). m.id) ns)) rises in (
         λ parent has. listed n.id parent n (cond-true _ _ _ (eq-eqb n.id n.id refl)) has,
         all_listed places n.id ns parts.1 (λ id parent node found has.
             let up = found_above (λ (m : Node). m.id == id) n.id ns node parts.1 found in
             let is = found_id id ns node found in
-            listed id parent node (cond-false _ _ _ (ne_eqb n.id id (λ e. absurd (omega (arith, up, is, e)))) ∙ found) has),
+            listed id parent node
+            (cond-false _ _ _ (ne_eqb n.id id (λ e. absurd (omega (arith, up, is, e)))) ∙ found)
+            has),
       )
 
   -- ---- one object by its place
 
-  pub named_none : (places : List ((ℕ × String Y) × ℕ)) (parent : ℕ) (name : List ℕ) (nodes : List Node) → AllByRecursion (IsListed places) nodes → id_at parent name places ≡ None → find_named parent name nodes ≡ None
+  pub named_none : (places : List ((ℕ × String Y) × ℕ)) (parent : ℕ) (name : List ℕ)
+      (nodes : List Node) → AllByRecursion (IsListed places) nodes → id_at parent name places ≡ None
+      → find_named parent name nodes ≡ None
   named_none places parent name [] all none = refl
-  named_none places parent name (n ∷ ns) all none = elim (cases_Bool (has_parent parent n && same_text n.name name)) [
-    | inl is ↦
-        let parts = and_parts (has_parent parent n) (same_text n.name name) is in
-        let listed : id_at parent name places ≡ Some n.id = subst (λ (t : List ℕ). id_at parent t places ≡ Some n.id) (same_bytes n.name name parts.1) (all.0 parent (parent_is parent n parts.0)) in
-        absurd (false≢true (ap is_none (sym listed ∙ none)))
-    | inr isnt ↦ cond-false _ _ _ isnt ∙ named_none places parent name ns all.1 none
-  ]
+  named_none places parent name (n ∷ ns) all none =
+      elim (cases_Bool (has_parent parent n && same_text n.name name)) [
+        | inl is ↦
+            let parts = and_parts (has_parent parent n) (same_text n.name name) is in
+            let listed : id_at parent name places ≡ Some n.id = subst
+            (λ (t : List ℕ). id_at parent t places ≡ Some n.id) (same_bytes n.name name parts.1)
+            (all.0 parent (parent_is parent n parts.0)) in
+            absurd (false≢true (ap is_none (sym listed ∙ none)))
+        | inr isnt ↦ cond-false _ _ _ isnt ∙ named_none places parent name ns all.1 none
+      ]
 
-  pub named_some : (places : List ((ℕ × String Y) × ℕ)) (parent : ℕ) (name : List ℕ) (id : ℕ) (nodes : List Node) → AllByRecursion (IsListed places) nodes → id_at parent name places ≡ Some id → standing id parent name nodes ≡ find_named parent name nodes
+  pub named_some : (places : List ((ℕ × String Y) × ℕ)) (parent : ℕ) (name : List ℕ) (id : ℕ)
+      (nodes : List Node) → AllByRecursion (IsListed places) nodes
+      → id_at parent name places ≡ Some id
+      → standing id parent name nodes ≡ find_named parent name nodes
   named_some places parent name id [] all at = refl
-  named_some places parent name id (n ∷ ns) all at = elim (cases_Bool (has_parent parent n && same_text n.name name)) [
-    | inl is ↦
-        let parts = and_parts (has_parent parent n) (same_text n.name name) is in
-        let listed : id_at parent name places ≡ Some n.id = subst (λ (t : List ℕ). id_at parent t places ≡ Some n.id) (same_bytes n.name name parts.1) (all.0 parent (parent_is parent n parts.0)) in
-        let same : n.id ≡ id = (let e : Some n.id ≡ Some id = sym listed ∙ at in cc) in
-        cond-true _ _ _ (and_from (n.id == id) _ (eq-eqb n.id id same) is) ∙ sym (cond-true _ _ _ is)
-    | inr isnt ↦ cond-false _ _ _ (and_right (n.id == id) _ isnt) ∙ named_some places parent name id ns all.1 at ∙ sym (cond-false _ _ _ isnt)
-  ]
+  named_some places parent name id (n ∷ ns) all at =
+      elim (cases_Bool (has_parent parent n && same_text n.name name)) [
+        | inl is ↦
+            let parts = and_parts (has_parent parent n) (same_text n.name name) is in
+            let listed : id_at parent name places ≡ Some n.id = subst
+            (λ (t : List ℕ). id_at parent t places ≡ Some n.id) (same_bytes n.name name parts.1)
+            (all.0 parent (parent_is parent n parts.0)) in
+            let same : n.id ≡ id = (let e : Some n.id ≡ Some id = sym listed ∙ at in cc) in
+            cond-true _ _ _ (and_from (n.id == id) _ (eq-eqb n.id id same) is)
+            ∙ sym (cond-true _ _ _ is)
+        | inr isnt ↦ cond-false _ _ _ (and_right (n.id == id) _ isnt)
+            ∙ named_some places parent name id ns all.1 at ∙ sym (cond-false _ _ _ isnt)
+      ]
 
   -- ---- children in order
 
-  picks_is : (parent : ℕ) (nodes : List Node) (es : List ((ℕ × String Y) × ℕ)) → standing_all parent nodes (places_under parent es) ≡ standing_under parent nodes es
+  picks_is : (parent : ℕ) (nodes : List Node) (es : List ((ℕ × String Y) × ℕ))
+      → standing_all parent nodes (places_under parent es) ≡ standing_under parent nodes es
   picks_is parent nodes [] = refl
   picks_is parent nodes (e ∷ es) = elim (cases_Bool (e.0.0 == parent)) [
-    | inl is ↦ ap (standing_all parent nodes) (cond-true _ (e ∷ places_under parent es) _ is) ∙ ap (cons_option (standing e.1 parent (string_bytes e.0.1) nodes)) (picks_is parent nodes es) ∙ sym (cond-true _ _ _ is)
-    | inr isnt ↦ ap (standing_all parent nodes) (cond-false _ (e ∷ places_under parent es) _ isnt) ∙ picks_is parent nodes es ∙ sym (cond-false _ _ _ isnt)
+    | inl is ↦ ap (standing_all parent nodes) (cond-true _ (e ∷ places_under parent es) _ is)
+        ∙ ap (cons_option (standing e.1 parent (string_bytes e.0.1) nodes))
+        (picks_is parent nodes es) ∙ sym (cond-true _ _ _ is)
+    | inr isnt ↦ ap (standing_all parent nodes) (cond-false _ (e ∷ places_under parent es) _ isnt)
+        ∙ picks_is parent nodes es ∙ sym (cond-false _ _ _ isnt)
   ]
 
   picks_none : (parent : ℕ) (es : List ((ℕ × String Y) × ℕ)) → standing_under parent [] es ≡ []
@@ -114,109 +147,181 @@ module _ {Y : Type 0} where
 
   -- an object that stands at none of the places isn't picked
   abbrev StandsAtNone : ℕ → Node → List ((ℕ × String Y) × ℕ) → Type 0
-  StandsAtNone parent n es = AllByRecursion (λ (e : (ℕ × String Y) × ℕ). (e.0.0 == parent) ≡ true → is_standing e.1 parent (string_bytes e.0.1) n ≡ false) es
+  StandsAtNone parent n es =
+      AllByRecursion (λ (e : (ℕ × String Y) × ℕ). (e.0.0 == parent) ≡ true
+      → is_standing e.1 parent (string_bytes e.0.1) n ≡ false) es
 
-  picks_other : (parent : ℕ) (n : Node) (nodes : List Node) (es : List ((ℕ × String Y) × ℕ)) → StandsAtNone parent n es → standing_under parent (n ∷ nodes) es ≡ standing_under parent nodes es
+  picks_other : (parent : ℕ) (n : Node) (nodes : List Node) (es : List ((ℕ × String Y) × ℕ))
+      → StandsAtNone parent n es
+      → standing_under parent (n ∷ nodes) es ≡ standing_under parent nodes es
   picks_other parent n nodes [] none = refl
   picks_other parent n nodes (e ∷ es) none = elim (cases_Bool (e.0.0 == parent)) [
-    | inl is ↦ cond-true _ _ _ is ∙ ap (λ o. cons_option o (standing_under parent (n ∷ nodes) es)) (cond-false _ _ _ (none.0 is)) ∙ ap (cons_option (standing e.1 parent (string_bytes e.0.1) nodes)) (picks_other parent n nodes es none.1) ∙ sym (cond-true _ _ _ is)
-    | inr isnt ↦ cond-false _ _ _ isnt ∙ picks_other parent n nodes es none.1 ∙ sym (cond-false _ _ _ isnt)
+    | inl is ↦ cond-true _ _ _ is
+        ∙ ap (λ o. cons_option o (standing_under parent (n ∷ nodes) es))
+        (cond-false _ _ _ (none.0 is))
+        ∙ ap (cons_option (standing e.1 parent (string_bytes e.0.1) nodes))
+        (picks_other parent n nodes es none.1) ∙ sym (cond-true _ _ _ is)
+    | inr isnt ↦ cond-false _ _ _ isnt ∙ picks_other parent n nodes es none.1
+        ∙ sym (cond-false _ _ _ isnt)
   ]
 
-  no_child : (parent : ℕ) (n : Node) (es : List ((ℕ × String Y) × ℕ)) → has_parent parent n ≡ false → StandsAtNone parent n es
+  no_child : (parent : ℕ) (n : Node) (es : List ((ℕ × String Y) × ℕ)) → has_parent parent n ≡ false
+      → StandsAtNone parent n es
   no_child parent n [] isnt = tt
-  no_child parent n (e ∷ es) isnt = (λ is. and_right (n.id == e.1) _ (and_left (has_parent parent n) (same_text n.name (string_bytes e.0.1)) isnt), no_child parent n es isnt)
+  no_child parent n (e ∷ es) isnt = (
+    λ is. and_right (n.id == e.1) _
+        (and_left (has_parent parent n) (same_text n.name (string_bytes e.0.1)) isnt),
+    no_child parent n es isnt,
+  )
 
   -- the names of places under one parent rise
-  name_less : (a b : ℕ × String Y) → a.0 ≡ b.0 → place_cmp a b ≡ Less → slice_cmp nat_cmp (string_bytes a.1) (string_bytes b.1) ≡ Less
-  name_less a b same less = ap (λ o. ordering_then o (string_cmp a.1 b.1)) (sym (cmp_equal a.0 b.0 same)) ∙ less
+  name_less : (a b : ℕ × String Y) → a.0 ≡ b.0 → place_cmp a b ≡ Less
+      → slice_cmp nat_cmp (string_bytes a.1) (string_bytes b.1) ≡ Less
+  name_less a b same less =
+      ap (λ o. ordering_then o (string_cmp a.1 b.1)) (sym (cmp_equal a.0 b.0 same)) ∙ less
 
   -- no place after its own is that of an object
-  behind : (parent : ℕ) (n : Node) (at : ℕ × String Y) (es : List ((ℕ × String Y) × ℕ)) → at.0 ≡ parent → string_bytes at.1 ≡ n.name → AllByRecursion (λ y. place_cmp at y ≡ Less) (keys_of es) → StandsAtNone parent n es
+  behind : (parent : ℕ) (n : Node) (at : ℕ × String Y) (es : List ((ℕ × String Y) × ℕ))
+      → at.0 ≡ parent → string_bytes at.1 ≡ n.name
+      → AllByRecursion (λ y. place_cmp at y ≡ Less) (keys_of es) → StandsAtNone parent n es
   behind parent n at [] is named later = tt
   behind parent n at (e ∷ es) is named later = (
-    λ under. and_right (n.id == e.1) _ (and_right (has_parent parent n) _ (false_from_ne_true (same_text n.name (string_bytes e.0.1)) (λ same.
+    λ under. and_right (n.id == e.1) _
+        (and_right (has_parent parent n) _
+        (false_from_ne_true (same_text n.name (string_bytes e.0.1)) (λ same.
         let less = name_less at e.0 (is ∙ sym (eqb-true e.0.0 parent under)) later.0 in
-        not_less_itself (string_bytes at.1) (subst (λ (t : List ℕ). slice_cmp nat_cmp (string_bytes at.1) t ≡ Less) (sym (named ∙ same_bytes n.name (string_bytes e.0.1) same)) less)))),
+        not_less_itself (string_bytes at.1)
+        (subst (λ (t : List ℕ). slice_cmp nat_cmp (string_bytes at.1) t ≡ Less)
+        (sym (named ∙ same_bytes n.name (string_bytes e.0.1) same)) less)))),
     behind parent n at es is named later.1,
   )
 
   -- an object whose place is before all others comes first
-  comes_first : (parent : ℕ) (n : Node) (at : ℕ × String Y) (nodes : List Node) (es : List ((ℕ × String Y) × ℕ)) → at.0 ≡ parent → string_bytes at.1 ≡ n.name → AllByRecursion (λ y. place_cmp at y ≡ Less) (keys_of es)
+  comes_first : (parent : ℕ) (n : Node) (at : ℕ × String Y) (nodes : List Node)
+      (es : List ((ℕ × String Y) × ℕ)) → at.0 ≡ parent → string_bytes at.1 ≡ n.name
+      → AllByRecursion (λ y. place_cmp at y ≡ Less) (keys_of es)
       → put_by_name n (standing_under parent nodes es) ≡ n ∷ standing_under parent nodes es
   comes_first parent n at nodes [] is named later = refl
   comes_first parent n at nodes (e ∷ es) is named later = elim (cases_Bool (e.0.0 == parent)) [
     | inl under ↦
         let less = name_less at e.0 (is ∙ sym (eqb-true e.0.0 parent under)) later.0 in
-        ap (put_by_name n) (cond-true _ _ _ under) ∙ first (comes_first parent n at nodes es is named later.1) (standing e.1 parent (string_bytes e.0.1) nodes) refl less ∙ ap (λ (l : List Node). n ∷ l) (sym (cond-true _ _ _ under))
-    | inr isnt ↦ ap (put_by_name n) (cond-false _ _ _ isnt) ∙ comes_first parent n at nodes es is named later.1 ∙ ap (λ (l : List Node). n ∷ l) (sym (cond-false _ _ _ isnt))
+        ap (put_by_name n) (cond-true _ _ _ under)
+        ∙ first (comes_first parent n at nodes es is named later.1)
+        (standing e.1 parent (string_bytes e.0.1) nodes) refl less
+        ∙ ap (λ (l : List Node). n ∷ l) (sym (cond-true _ _ _ under))
+    | inr isnt ↦ ap (put_by_name n) (cond-false _ _ _ isnt)
+        ∙ comes_first parent n at nodes es is named later.1
+        ∙ ap (λ (l : List Node). n ∷ l) (sym (cond-false _ _ _ isnt))
   ]
     where
-      first : put_by_name n (standing_under parent nodes es) ≡ n ∷ standing_under parent nodes es → (o : Option Node) → standing e.1 parent (string_bytes e.0.1) nodes ≡ o → slice_cmp nat_cmp (string_bytes at.1) (string_bytes e.0.1) ≡ Less
-          → put_by_name n (cons_option o (standing_under parent nodes es)) ≡ n ∷ cons_option o (standing_under parent nodes es)
+      first : put_by_name n (standing_under parent nodes es) ≡ n ∷ standing_under parent nodes es
+          → (o : Option Node) → standing e.1 parent (string_bytes e.0.1) nodes ≡ o
+          → slice_cmp nat_cmp (string_bytes at.1) (string_bytes e.0.1) ≡ Less
+          → put_by_name n (cons_option o (standing_under parent nodes es)) ≡ n
+          ∷ cons_option o (standing_under parent nodes es)
       first rest None o-is less = rest
       first rest (Some m) o-is less =
           let name = standing_name e.1 parent (string_bytes e.0.1) nodes m o-is in
-          cond-false _ _ _ (ap (λ (t : List ℕ). is_before t n.name) name ∙ subst (λ (t : List ℕ). is_before (string_bytes e.0.1) t ≡ false) named (after (string_bytes at.1) (string_bytes e.0.1) less))
+          cond-false _ _ _ (ap (λ (t : List ℕ). is_before t n.name) name
+          ∙ subst (λ (t : List ℕ). is_before (string_bytes e.0.1) t ≡ false) named
+          (after (string_bytes at.1) (string_bytes e.0.1) less))
 
   -- the name of a place that is listed further on
-  later_name : (at : ℕ × String Y) (parent : ℕ) (name : List ℕ) (id : ℕ) (es : List ((ℕ × String Y) × ℕ)) → at.0 ≡ parent → AllByRecursion (λ y. place_cmp at y ≡ Less) (keys_of es) → id_at parent name es ≡ Some id
+  later_name : (at : ℕ × String Y) (parent : ℕ) (name : List ℕ) (id : ℕ)
+      (es : List ((ℕ × String Y) × ℕ)) → at.0 ≡ parent
+      → AllByRecursion (λ y. place_cmp at y ≡ Less) (keys_of es) → id_at parent name es ≡ Some id
       → slice_cmp nat_cmp (string_bytes at.1) name ≡ Less
   later_name at parent name id [] is later found = absurd (false≢true (sym (ap is_none found)))
-  later_name at parent name id (e ∷ es) is later found = elim (cases_Bool (is_place parent name e.0)) [
-    | inl here ↦
-        let parts = and_parts (e.0.0 == parent) (same_text (string_bytes e.0.1) name) here in
-        subst (λ (t : List ℕ). slice_cmp nat_cmp (string_bytes at.1) t ≡ Less) (same_bytes (string_bytes e.0.1) name parts.1) (name_less at e.0 (is ∙ sym (eqb-true e.0.0 parent parts.0)) later.0)
-    | inr isnt ↦ later_name at parent name id es is later.1 (sym (cond-false _ _ _ isnt) ∙ found)
-  ]
+  later_name at parent name id (e ∷ es) is later found =
+      elim (cases_Bool (is_place parent name e.0)) [
+        | inl here ↦
+            let parts = and_parts (e.0.0 == parent) (same_text (string_bytes e.0.1) name) here in
+            subst (λ (t : List ℕ). slice_cmp nat_cmp (string_bytes at.1) t ≡ Less)
+            (same_bytes (string_bytes e.0.1) name parts.1)
+            (name_less at e.0 (is ∙ sym (eqb-true e.0.0 parent parts.0)) later.0)
+        | inr isnt ↦
+            later_name at parent name id es is later.1 (sym (cond-false _ _ _ isnt) ∙ found)
+      ]
 
   -- one more child is put among the others by its name
-  picks_more : (parent : ℕ) (n : Node) (nodes : List Node) (es : List ((ℕ × String Y) × ℕ)) → IsStrictlySortedBy place_cmp (keys_of es) → has_parent parent n ≡ true → id_at parent n.name es ≡ Some n.id → is_rising (n.id ∷ map (λ (m : Node). m.id) nodes) ≡ true
+  picks_more : (parent : ℕ) (n : Node) (nodes : List Node) (es : List ((ℕ × String Y) × ℕ))
+      → IsStrictlySortedBy place_cmp (keys_of es) → has_parent parent n ≡ true
+      → id_at parent n.name es ≡ Some n.id
+      → is_rising (n.id ∷ map (λ (m : Node). m.id) nodes) ≡ true
       → standing_under parent (n ∷ nodes) es ≡ put_by_name n (standing_under parent nodes es)
-  picks_more parent n nodes [] sorted has listed rises = absurd (false≢true (sym (ap is_none listed)))
-  picks_more parent n nodes (e ∷ es) sorted has listed rises = elim (cases_Bool (is_place parent n.name e.0)) [
-    | inl here ↦
-        let parts = and_parts (e.0.0 == parent) (same_text (string_bytes e.0.1) n.name) here in
-        let is : e.0.0 ≡ parent = eqb-true e.0.0 parent parts.0 in
-        let named : string_bytes e.0.1 ≡ n.name = same_bytes _ _ parts.1 in
-        let its : e.1 ≡ n.id = (let f : Some e.1 ≡ Some n.id = sym (cond-true _ _ _ here) ∙ listed in cc) in
-        let later = sorted_head place_cmp e.0 (keys_of es) sorted in
-        let stands : is_standing e.1 parent (string_bytes e.0.1) n ≡ true = and_from (n.id == e.1) _ (eq-eqb n.id e.1 (sym its)) (and_from (has_parent parent n) _ has (subst (λ (t : List ℕ). same_text n.name t ≡ true) (sym named) (same_itself n.name))) in
-        let gone : standing e.1 parent (string_bytes e.0.1) nodes ≡ None = none_above (λ (m : Node). has_parent parent m && same_text m.name (string_bytes e.0.1)) e.1 n.id nodes rises (omega (arith, its)) in
-        cond-true _ _ _ parts.0
-        ∙ ap (λ o. cons_option o (standing_under parent (n ∷ nodes) es)) (cond-true _ _ _ stands)
-        ∙ ap (λ (l : List Node). n ∷ l) (picks_other parent n nodes es (behind parent n e.0 es is named later))
-        ∙ sym (ap (put_by_name n) (cond-true _ _ _ parts.0 ∙ ap (λ o. cons_option o (standing_under parent nodes es)) gone) ∙ comes_first parent n e.0 nodes es is named later)
-    | inr isnt ↦
-        let tail = sorted_tail place_cmp e.0 (keys_of es) sorted in
-        let listed' : id_at parent n.name es ≡ Some n.id = sym (cond-false _ _ _ isnt) ∙ listed in
-        let more = picks_more parent n nodes es tail has listed' rises in
-        elim (cases_Bool (e.0.0 == parent)) [
-          | inl under ↦
-              let is : e.0.0 ≡ parent = eqb-true e.0.0 parent under in
-              let apart : same_text (string_bytes e.0.1) n.name ≡ false = false_from_ne_true _ (λ same. true≢false (sym (and_from (e.0.0 == parent) _ under same) ∙ isnt)) in
-              let other : is_standing e.1 parent (string_bytes e.0.1) n ≡ false = and_right (n.id == e.1) _ (and_right (has_parent parent n) _ (same_back (string_bytes e.0.1) n.name apart)) in
-              let less = later_name e.0 parent n.name n.id es is (sorted_head place_cmp e.0 (keys_of es) sorted) listed' in
-              cond-true _ _ _ under
-              ∙ ap (λ o. cons_option o (standing_under parent (n ∷ nodes) es)) (cond-false _ _ _ other)
-              ∙ ap (cons_option (standing e.1 parent (string_bytes e.0.1) nodes)) more
-              ∙ passes (standing e.1 parent (string_bytes e.0.1) nodes) refl less
-              ∙ ap (put_by_name n) (sym (cond-true _ _ _ under))
-          | inr elsewhere ↦ cond-false _ _ _ elsewhere ∙ more ∙ ap (put_by_name n) (sym (cond-false _ _ _ elsewhere))
-        ]
-  ]
+  picks_more parent n nodes [] sorted has listed rises =
+      absurd (false≢true (sym (ap is_none listed)))
+  picks_more parent n nodes (e ∷ es) sorted has listed rises =
+      elim (cases_Bool (is_place parent n.name e.0)) [
+        | inl here ↦
+            let parts = and_parts (e.0.0 == parent) (same_text (string_bytes e.0.1) n.name) here in
+            let is : e.0.0 ≡ parent = eqb-true e.0.0 parent parts.0 in
+            let named : string_bytes e.0.1 ≡ n.name = same_bytes _ _ parts.1 in
+            let its : e.1 ≡ n.id =
+            (let f : Some e.1 ≡ Some n.id = sym (cond-true _ _ _ here) ∙ listed in cc) in
+            let later = sorted_head place_cmp e.0 (keys_of es) sorted in
+            let stands : is_standing e.1 parent (string_bytes e.0.1) n ≡ true = and_from
+            (n.id == e.1) _
+            (eq-eqb n.id e.1 (sym its))
+            (and_from (has_parent parent n) _ has
+            (subst (λ (t : List ℕ). same_text n.name t ≡ true) (sym named) (same_itself n.name))) in
+            let gone : standing e.1 parent (string_bytes e.0.1) nodes ≡ None = none_above
+            (λ (m : Node). has_parent parent m && same_text m.name (string_bytes e.0.1)) e.1 n.id
+            nodes rises (omega (arith, its)) in
+            cond-true _ _ _ parts.0
+            ∙ ap (λ o. cons_option o (standing_under parent (n ∷ nodes) es))
+            (cond-true _ _ _ stands)
+            ∙ ap (λ (l : List Node). n ∷ l)
+            (picks_other parent n nodes es (behind parent n e.0 es is named later))
+            ∙ sym (ap (put_by_name n)
+            (cond-true _ _ _ parts.0
+            ∙ ap (λ o. cons_option o (standing_under parent nodes es)) gone)
+            ∙ comes_first parent n e.0 nodes es is named later)
+        | inr isnt ↦
+            let tail = sorted_tail place_cmp e.0 (keys_of es) sorted in
+            let listed' : id_at parent n.name es ≡ Some n.id = sym (cond-false _ _ _ isnt)
+            ∙ listed in
+            let more = picks_more parent n nodes es tail has listed' rises in
+            elim (cases_Bool (e.0.0 == parent)) [
+              | inl under ↦
+                  let is : e.0.0 ≡ parent = eqb-true e.0.0 parent under in
+                  let apart : same_text (string_bytes e.0.1) n.name ≡ false = false_from_ne_true _
+                  (λ same. true≢false (sym (and_from (e.0.0 == parent) _ under same) ∙ isnt)) in
+                  let other : is_standing e.1 parent (string_bytes e.0.1) n ≡ false = and_right
+                  (n.id == e.1) _ (and_right (has_parent parent n) _
+                  (same_back (string_bytes e.0.1) n.name apart)) in
+                  let less = later_name e.0 parent n.name n.id es is
+                  (sorted_head place_cmp e.0 (keys_of es) sorted) listed' in
+                  cond-true _ _ _ under
+                  ∙ ap (λ o. cons_option o (standing_under parent (n ∷ nodes) es))
+                  (cond-false _ _ _ other)
+                  ∙ ap (cons_option (standing e.1 parent (string_bytes e.0.1) nodes)) more
+                  ∙ passes (standing e.1 parent (string_bytes e.0.1) nodes) refl less
+                  ∙ ap (put_by_name n) (sym (cond-true _ _ _ under))
+              | inr elsewhere ↦ cond-false _ _ _ elsewhere ∙ more
+                  ∙ ap (put_by_name n) (sym (cond-false _ _ _ elsewhere))
+            ]
+      ]
     where
-      passes : (o : Option Node) → standing e.1 parent (string_bytes e.0.1) nodes ≡ o → slice_cmp nat_cmp (string_bytes e.0.1) n.name ≡ Less → cons_option o (put_by_name n (standing_under parent nodes es)) ≡ put_by_name n (cons_option o (standing_under parent nodes es))
+      passes : (o : Option Node) → standing e.1 parent (string_bytes e.0.1) nodes ≡ o
+          → slice_cmp nat_cmp (string_bytes e.0.1) n.name ≡ Less
+          → cons_option o (put_by_name n (standing_under parent nodes es))
+          ≡ put_by_name n (cons_option o (standing_under parent nodes es))
       passes None o-is less = refl
       passes (Some m) o-is less =
           let name = standing_name e.1 parent (string_bytes e.0.1) nodes m o-is in
           sym (cond-true _ _ _ (ap (λ (t : List ℕ). is_before t n.name) name ∙ ap is_lt less))
 
-  picks_sorted : (parent : ℕ) (es : List ((ℕ × String Y) × ℕ)) (nodes : List Node) (k : ℕ) → IsStrictlySortedBy place_cmp (keys_of es) → is_rising (k ∷ map (λ (m : Node). m.id) nodes) ≡ true
-      → AllByRecursion (λ (n : Node). (p : ℕ) → n.parent ≡ Some p → id_at p n.name es ≡ Some n.id) nodes → standing_under parent nodes es ≡ sorted_by_name (filter (has_parent parent) nodes)
+  picks_sorted : (parent : ℕ) (es : List ((ℕ × String Y) × ℕ)) (nodes : List Node) (k : ℕ)
+      → IsStrictlySortedBy place_cmp (keys_of es)
+      → is_rising (k ∷ map (λ (m : Node). m.id) nodes) ≡ true
+      → AllByRecursion (λ (n : Node). (p : ℕ) → n.parent ≡ Some p
+      → id_at p n.name es ≡ Some n.id) nodes
+      → standing_under parent nodes es ≡ sorted_by_name (filter (has_parent parent) nodes)
   picks_sorted parent es [] k sorted rises all = picks_none parent es
   picks_sorted parent es (n ∷ ns) k sorted rises all =
-      let parts = and_parts (nat_lt k n.id) (is_rising (n.id ∷ map (λ (m : Node). m.id) ns)) rises in
+      let parts = and_parts (nat_lt k n.id)
+      (is_rising (n.id ∷ map (λ (m : Node). m.id) ns)) rises in
       elim (cases_Bool (has_parent parent n)) [
         | inl has ↦
             picks_more parent n ns es sorted has (all.0 parent (parent_is parent n has)) parts.1
@@ -229,7 +334,11 @@ module _ {Y : Type 0} where
       ]
 
   -- the objects that stand where they are listed under a parent are its children in order of name
-  pub children_are : (parent : ℕ) (es some : List ((ℕ × String Y) × ℕ)) (nodes : List Node) (k : ℕ) → IsStrictlySortedBy place_cmp (keys_of es) → is_rising (k ∷ map (λ (m : Node). m.id) nodes) ≡ true
-      → AllByRecursion (IsListed es) nodes → places_under parent some ≡ places_under parent es → standing_under parent nodes some ≡ sorted_by_name (filter (has_parent parent) nodes)
+  pub children_are : (parent : ℕ) (es some : List ((ℕ × String Y) × ℕ)) (nodes : List Node) (k : ℕ)
+      → IsStrictlySortedBy place_cmp (keys_of es)
+      → is_rising (k ∷ map (λ (m : Node). m.id) nodes) ≡ true
+      → AllByRecursion (IsListed es) nodes → places_under parent some ≡ places_under parent es
+      → standing_under parent nodes some ≡ sorted_by_name (filter (has_parent parent) nodes)
   children_are parent es some nodes k sorted rises all same =
-      sym (picks_is parent nodes some) ∙ ap (standing_all parent nodes) same ∙ picks_is parent nodes es ∙ picks_sorted parent es nodes k sorted rises all
+      sym (picks_is parent nodes some) ∙ ap (standing_all parent nodes) same
+      ∙ picks_is parent nodes es ∙ picks_sorted parent es nodes k sorted rises all

@@ -18,17 +18,22 @@ pub cmp_less : (a b : ℕ) → a < b → nat_cmp a b ≡ Less
 cmp_less a b below = cond-true _ _ _ (lt-ltb a b below)
 
 pub cmp_equal : (a b : ℕ) → a ≡ b → nat_cmp a b ≡ Equal
-cmp_equal a b same = cond-false _ _ _ (le-ltb a b (omega (arith, same))) ∙ cond-true _ _ _ (eq-eqb a b same)
+cmp_equal a b same =
+    cond-false _ _ _ (le-ltb a b (omega (arith, same))) ∙ cond-true _ _ _ (eq-eqb a b same)
 
 pub cmp_greater : (a b : ℕ) → b < a → nat_cmp a b ≡ Greater
-cmp_greater a b above = cond-false _ _ _ (le-ltb a b (omega (arith, above))) ∙ cond-false _ _ _ (ne_eqb a b (λ e. absurd (omega (arith, e, above))))
+cmp_greater a b above =
+    cond-false _ _ _ (le-ltb a b (omega (arith, above)))
+    ∙ cond-false _ _ _ (ne_eqb a b (λ e. absurd (omega (arith, e, above))))
 
 pub is_key : (a b : ℕ) → is_eq (nat_cmp a b) ≡ (b == a)
 is_key a b = elim (cases_order a b) [
   | inl same ↦ ap is_eq (cmp_equal a b same) ∙ sym (eq-eqb b a (sym same))
   | inr apart ↦ elim apart [
-    | inl below ↦ ap is_eq (cmp_less a b below) ∙ sym (ne_eqb b a (λ e. absurd (omega (arith, e, below))))
-    | inr above ↦ ap is_eq (cmp_greater a b above) ∙ sym (ne_eqb b a (λ e. absurd (omega (arith, e, above))))
+    | inl below ↦ ap is_eq (cmp_less a b below)
+        ∙ sym (ne_eqb b a (λ e. absurd (omega (arith, e, below))))
+    | inr above ↦ ap is_eq (cmp_greater a b above)
+        ∙ sym (ne_eqb b a (λ e. absurd (omega (arith, e, above))))
   ]
 ]
 
@@ -46,76 +51,112 @@ less_below a b less = elim (cases_order a b) [
 abbrev pub is_keyed : ℕ × Node → Bool
 is_keyed entry = entry.0 == entry.1.id
 
-pub lookup_at : (id : ℕ) (es : List (ℕ × Node)) → list_all is_keyed es ≡ true → lookup (λ k. is_eq (nat_cmp id k)) es ≡ find_id id (values_of es)
+pub lookup_at : (id : ℕ) (es : List (ℕ × Node)) → list_all is_keyed es ≡ true
+    → lookup (λ k. is_eq (nat_cmp id k)) es ≡ find_id id (values_of es)
 lookup_at id [] keyed = refl
 lookup_at id (e ∷ es) keyed =
     let parts = and_parts (is_keyed e) (list_all is_keyed es) keyed in
-    let test : is_eq (nat_cmp id e.0) ≡ (e.1.id == id) = is_key id e.0 ∙ ap (λ (k : ℕ). k == id) (eqb-true e.0 e.1.id parts.0) in
-    ap (λ b. if b then Some e.1 else lookup (λ k. is_eq (nat_cmp id k)) es) test ∙ ap (λ o. if e.1.id == id then Some e.1 else o) (lookup_at id es parts.1)
+    let test : is_eq (nat_cmp id e.0) ≡ (e.1.id == id) = is_key id e.0
+    ∙ ap (λ (k : ℕ). k == id) (eqb-true e.0 e.1.id parts.0) in
+    ap (λ b. if b then Some e.1 else lookup (λ k. is_eq (nat_cmp id k)) es) test
+    ∙ ap (λ o. if e.1.id == id then Some e.1 else o) (lookup_at id es parts.1)
 
-pub inserted : (node : Node) (es : List (ℕ × Node)) → list_all is_keyed es ≡ true → values_of (insert_entry nat_cmp es node.id node) ≡ put_node node (values_of es)
+pub inserted : (node : Node) (es : List (ℕ × Node)) → list_all is_keyed es ≡ true
+    → values_of (insert_entry nat_cmp es node.id node) ≡ put_node node (values_of es)
 inserted node [] keyed = refl
 inserted node (e ∷ es) keyed =
     let parts = and_parts (is_keyed e) (list_all is_keyed es) keyed in
     let key : e.0 ≡ e.1.id = eqb-true e.0 e.1.id parts.0 in
     elim (cases_order node.id e.0) [
-      | inl same ↦ ap (λ o. values_of (match_ordering o ((node.id, node) ∷ e ∷ es) ((e.0, node) ∷ es) (e ∷ insert_entry nat_cmp es node.id node))) (cmp_equal node.id e.0 same)
-          ∙ sym (cond-false _ _ _ (le-ltb e.1.id node.id (omega (arith, key, same))) ∙ cond-true _ _ _ (eq-eqb e.1.id node.id (omega (arith, key, same))))
+      | inl same ↦
+          ap (λ o. values_of (match_ordering o ((node.id, node) ∷ e ∷ es) ((e.0, node) ∷ es)
+          (e ∷ insert_entry nat_cmp es node.id node))) (cmp_equal node.id e.0 same)
+          ∙ sym (cond-false _ _ _ (le-ltb e.1.id node.id (omega (arith, key, same)))
+          ∙ cond-true _ _ _ (eq-eqb e.1.id node.id (omega (arith, key, same))))
       | inr apart ↦ elim apart [
-        | inl below ↦ ap (λ o. values_of (match_ordering o ((node.id, node) ∷ e ∷ es) ((e.0, node) ∷ es) (e ∷ insert_entry nat_cmp es node.id node))) (cmp_less node.id e.0 below)
-            ∙ sym (cond-false _ _ _ (le-ltb e.1.id node.id (omega (arith, key, below))) ∙ cond-false _ _ _ (ne_eqb e.1.id node.id (λ h. absurd (omega (arith, key, below, h)))))
-        | inr above ↦ ap (λ o. values_of (match_ordering o ((node.id, node) ∷ e ∷ es) ((e.0, node) ∷ es) (e ∷ insert_entry nat_cmp es node.id node))) (cmp_greater node.id e.0 above)
+        | inl below ↦
+            ap (λ o. values_of (match_ordering o ((node.id, node) ∷ e ∷ es) ((e.0, node) ∷ es)
+            (e ∷ insert_entry nat_cmp es node.id node))) (cmp_less node.id e.0 below)
+            ∙ sym (cond-false _ _ _ (le-ltb e.1.id node.id (omega (arith, key, below)))
+            ∙ cond-false _ _ _ (ne_eqb e.1.id node.id (λ h. absurd (omega (arith, key, below, h)))))
+        | inr above ↦
+            ap (λ o. values_of (match_ordering o ((node.id, node) ∷ e ∷ es) ((e.0, node) ∷ es)
+            (e ∷ insert_entry nat_cmp es node.id node))) (cmp_greater node.id e.0 above)
             ∙ ap (λ (l : List Node). e.1 ∷ l) (inserted node es parts.1)
             ∙ sym (cond-true _ _ _ (lt-ltb e.1.id node.id (omega (arith, key, above))))
       ]
     ]
 
-pub inserted_keyed : (node : Node) (es : List (ℕ × Node)) → list_all is_keyed es ≡ true → list_all is_keyed (insert_entry nat_cmp es node.id node) ≡ true
+pub inserted_keyed : (node : Node) (es : List (ℕ × Node)) → list_all is_keyed es ≡ true
+    → list_all is_keyed (insert_entry nat_cmp es node.id node) ≡ true
 inserted_keyed node [] keyed = and_from _ _ (eq-eqb node.id node.id refl) refl
 inserted_keyed node (e ∷ es) keyed =
     let parts = and_parts (is_keyed e) (list_all is_keyed es) keyed in
     let key : e.0 ≡ e.1.id = eqb-true e.0 e.1.id parts.0 in
     elim (cases_order node.id e.0) [
-      | inl same ↦ ap (λ o. list_all is_keyed (match_ordering o ((node.id, node) ∷ e ∷ es) ((e.0, node) ∷ es) (e ∷ insert_entry nat_cmp es node.id node))) (cmp_equal node.id e.0 same)
+      | inl same ↦
+          ap (λ o. list_all is_keyed
+          (match_ordering o ((node.id, node) ∷ e ∷ es) ((e.0, node) ∷ es)
+          (e ∷ insert_entry nat_cmp es node.id node))) (cmp_equal node.id e.0 same)
           ∙ and_from _ _ (eq-eqb e.0 node.id (sym same)) parts.1
       | inr apart ↦ elim apart [
-        | inl below ↦ ap (λ o. list_all is_keyed (match_ordering o ((node.id, node) ∷ e ∷ es) ((e.0, node) ∷ es) (e ∷ insert_entry nat_cmp es node.id node))) (cmp_less node.id e.0 below)
+        | inl below ↦
+            ap (λ o. list_all is_keyed
+            (match_ordering o ((node.id, node) ∷ e ∷ es) ((e.0, node) ∷ es)
+            (e ∷ insert_entry nat_cmp es node.id node))) (cmp_less node.id e.0 below)
             ∙ and_from _ _ (eq-eqb node.id node.id refl) keyed
-        | inr above ↦ ap (λ o. list_all is_keyed (match_ordering o ((node.id, node) ∷ e ∷ es) ((e.0, node) ∷ es) (e ∷ insert_entry nat_cmp es node.id node))) (cmp_greater node.id e.0 above)
+        | inr above ↦
+            ap (λ o. list_all is_keyed
+            (match_ordering o ((node.id, node) ∷ e ∷ es) ((e.0, node) ∷ es)
+            (e ∷ insert_entry nat_cmp es node.id node))) (cmp_greater node.id e.0 above)
             ∙ and_from _ _ parts.0 (inserted_keyed node es parts.1)
       ]
     ]
 
 -- no later entry has the number
-none_later : (id : ℕ) (es : List (ℕ × Node)) → list_all is_keyed es ≡ true → AllByRecursion (λ y. nat_cmp id y ≡ Less) (keys_of es) → filter (λ node. not (node.id == id)) (values_of es) ≡ values_of es
+none_later : (id : ℕ) (es : List (ℕ × Node)) → list_all is_keyed es ≡ true
+    → AllByRecursion (λ y. nat_cmp id y ≡ Less) (keys_of es)
+    → filter (λ node. not (node.id == id)) (values_of es) ≡ values_of es
 none_later id [] keyed later = refl
 none_later id (e ∷ es) keyed later =
     let parts = and_parts (is_keyed e) (list_all is_keyed es) keyed in
     let up = less_below id e.0 later.0 in
     let key : e.0 ≡ e.1.id = eqb-true e.0 e.1.id parts.0 in
-    let test : not (e.1.id == id) ≡ true = ap not (ne_eqb e.1.id id (λ h. absurd (omega (arith, up, key, h)))) in
+    let test : not (e.1.id == id) ≡ true =
+    ap not (ne_eqb e.1.id id (λ h. absurd (omega (arith, up, key, h)))) in
     cond-true _ _ _ test ∙ ap (λ (l : List Node). e.1 ∷ l) (none_later id es parts.1 later.1)
 
-pub removed : (id : ℕ) (es : List (ℕ × Node)) → list_all is_keyed es ≡ true → IsStrictlySortedBy nat_cmp (keys_of es) → values_of (remove_entry (λ k. is_eq (nat_cmp id k)) es) ≡ filter (λ node. not (node.id == id)) (values_of es)
+pub removed : (id : ℕ) (es : List (ℕ × Node)) → list_all is_keyed es ≡ true
+    → IsStrictlySortedBy nat_cmp (keys_of es)
+    → values_of (remove_entry (λ k. is_eq (nat_cmp id k)) es)
+    ≡ filter (λ node. not (node.id == id)) (values_of es)
 removed id [] keyed sorted = refl
 removed id (e ∷ es) keyed sorted =
     let parts = and_parts (is_keyed e) (list_all is_keyed es) keyed in
     let key : e.0 ≡ e.1.id = eqb-true e.0 e.1.id parts.0 in
-    let test : is_eq (nat_cmp id e.0) ≡ (e.1.id == id) = is_key id e.0 ∙ ap (λ (k : ℕ). k == id) key in
+    let test : is_eq (nat_cmp id e.0) ≡ (e.1.id == id) = is_key id e.0
+    ∙ ap (λ (k : ℕ). k == id) key in
     elim (cases_Bool (e.1.id == id)) [
       | inl is ↦
           let it : e.0 ≡ id = key ∙ eqb-true e.1.id id is in
-          let later = subst (λ (k : ℕ). AllByRecursion (λ y. nat_cmp k y ≡ Less) (keys_of es)) it (sorted_head nat_cmp e.0 (keys_of es) sorted) in
-          ap values_of (cond-true _ es (e ∷ remove_entry (λ k. is_eq (nat_cmp id k)) es) (test ∙ is)) ∙ sym (cond-false _ _ _ (ap not is) ∙ none_later id es parts.1 later)
+          let later = subst (λ (k : ℕ). AllByRecursion (λ y. nat_cmp k y ≡ Less) (keys_of es)) it
+          (sorted_head nat_cmp e.0 (keys_of es) sorted) in
+          ap values_of (cond-true _ es (e ∷ remove_entry (λ k. is_eq (nat_cmp id k)) es)
+          (test ∙ is)) ∙ sym (cond-false _ _ _ (ap not is) ∙ none_later id es parts.1 later)
       | inr isnt ↦
-          ap values_of (cond-false _ es (e ∷ remove_entry (λ k. is_eq (nat_cmp id k)) es) (test ∙ isnt)) ∙ ap (λ (l : List Node). e.1 ∷ l) (removed id es parts.1 (sorted_tail nat_cmp e.0 (keys_of es) sorted)) ∙ sym (cond-true _ _ _ (ap not isnt))
+          ap values_of (cond-false _ es (e ∷ remove_entry (λ k. is_eq (nat_cmp id k)) es)
+          (test ∙ isnt)) ∙ ap (λ (l : List Node). e.1 ∷ l)
+          (removed id es parts.1 (sorted_tail nat_cmp e.0 (keys_of es) sorted))
+          ∙ sym (cond-true _ _ _ (ap not isnt))
     ]
 
-pub removed_keyed : (test : ℕ → Bool) (es : List (ℕ × Node)) → list_all is_keyed es ≡ true → list_all is_keyed (remove_entry test es) ≡ true
+pub removed_keyed : (test : ℕ → Bool) (es : List (ℕ × Node)) → list_all is_keyed es ≡ true
+    → list_all is_keyed (remove_entry test es) ≡ true
 removed_keyed test [] keyed = refl
 removed_keyed test (e ∷ es) keyed =
     let parts = and_parts (is_keyed e) (list_all is_keyed es) keyed in
     elim (cases_Bool (test e.0)) [
       | inl is ↦ ap (list_all is_keyed) (cond-true _ es (e ∷ remove_entry test es) is) ∙ parts.1
-      | inr isnt ↦ ap (list_all is_keyed) (cond-false _ es (e ∷ remove_entry test es) isnt) ∙ and_from _ _ parts.0 (removed_keyed test es parts.1)
+      | inr isnt ↦ ap (list_all is_keyed) (cond-false _ es (e ∷ remove_entry test es) isnt)
+          ∙ and_from _ _ parts.0 (removed_keyed test es parts.1)
     ]

@@ -20,16 +20,28 @@ abbrev Pair : Type 0
 Pair = List ℕ × List ℕ
 
 total : IsTotalOrder pair_cmp
-total = then_total (on_total (λ (p : Pair). p.0) nat_list_cmp_total) (on_total (λ (p : Pair). p.1) nat_list_cmp_total)
+total =
+    then_total (on_total (λ (p : Pair). p.0) nat_list_cmp_total)
+    (on_total (λ (p : Pair). p.1) nat_list_cmp_total)
 
 -- what comes before by group, then user
 pub before_is : (a b : Pair) → is_pair_before a b ≡ is_lt (pair_cmp a b)
 before_is a b = by (slice_cmp nat_cmp a.0 b.0) refl
   where
-    by : (o : Ordering) → slice_cmp nat_cmp a.0 b.0 ≡ o → (is_lt (slice_cmp nat_cmp a.0 b.0) || (same_text a.0 b.0 && is_before a.1 b.1)) ≡ is_lt (ordering_then (slice_cmp nat_cmp a.0 b.0) (slice_cmp nat_cmp a.1 b.1))
-    by Less e = ap (λ o. is_lt o || (same_text a.0 b.0 && is_before a.1 b.1)) e ∙ sym (ap (λ o. is_lt (ordering_then o (slice_cmp nat_cmp a.1 b.1))) e)
-    by Equal e = ap (λ o. is_lt o || (same_text a.0 b.0 && is_before a.1 b.1)) e ∙ ap (λ t. t && is_before a.1 b.1) (sym (is_eq-slice_cmp a.0 b.0) ∙ ap is_eq e) ∙ sym (ap (λ o. is_lt (ordering_then o (slice_cmp nat_cmp a.1 b.1))) e)
-    by Greater e = ap (λ o. is_lt o || (same_text a.0 b.0 && is_before a.1 b.1)) e ∙ ap (λ t. t && is_before a.1 b.1) (sym (is_eq-slice_cmp a.0 b.0) ∙ ap is_eq e) ∙ sym (ap (λ o. is_lt (ordering_then o (slice_cmp nat_cmp a.1 b.1))) e)
+    by : (o : Ordering) → slice_cmp nat_cmp a.0 b.0 ≡ o
+        → (is_lt (slice_cmp nat_cmp a.0 b.0) || (same_text a.0 b.0 && is_before a.1 b.1))
+        ≡ is_lt (ordering_then (slice_cmp nat_cmp a.0 b.0) (slice_cmp nat_cmp a.1 b.1))
+    by Less e =
+        ap (λ o. is_lt o || (same_text a.0 b.0 && is_before a.1 b.1)) e
+        ∙ sym (ap (λ o. is_lt (ordering_then o (slice_cmp nat_cmp a.1 b.1))) e)
+    by Equal e =
+        ap (λ o. is_lt o || (same_text a.0 b.0 && is_before a.1 b.1)) e
+        ∙ ap (λ t. t && is_before a.1 b.1) (sym (is_eq-slice_cmp a.0 b.0) ∙ ap is_eq e)
+        ∙ sym (ap (λ o. is_lt (ordering_then o (slice_cmp nat_cmp a.1 b.1))) e)
+    by Greater e =
+        ap (λ o. is_lt o || (same_text a.0 b.0 && is_before a.1 b.1)) e
+        ∙ ap (λ t. t && is_before a.1 b.1) (sym (is_eq-slice_cmp a.0 b.0) ∙ ap is_eq e)
+        ∙ sym (ap (λ o. is_lt (ordering_then o (slice_cmp nat_cmp a.1 b.1))) e)
 
 less_is : (o : Ordering) → is_lt o ≡ true → o ≡ Less
 less_is Less is = refl
@@ -45,50 +57,78 @@ before a b is = before_is a b ∙ ap is_lt is
 not_back : (a b : Pair) → pair_cmp a b ≡ Less → is_pair_before b a ≡ false
 not_back a b is = before_is b a ∙ ap is_lt (total.antisymm b a ∙ ap ordering_reverse is)
 
-all_put : (Q : Pair → Type 0) (p : Pair) (l : List Pair) → Q p → AllByRecursion Q l → AllByRecursion Q (put_pair p l)
+all_put : (Q : Pair → Type 0) (p : Pair) (l : List Pair) → Q p → AllByRecursion Q l
+    → AllByRecursion Q (put_pair p l)
 all_put Q p [] new all = (new, tt)
 all_put Q p (o ∷ os) new all = elim (cases_Bool (is_pair_before o p)) [
-  | inl is ↦ subst (AllByRecursion Q) (sym (cond-true _ (o ∷ put_pair p os) _ is)) (all.0, all_put Q p os new all.1)
-  | inr isnt ↦ subst (AllByRecursion Q) (sym (cond-false _ (o ∷ put_pair p os) _ isnt)) (elim (cases_Bool (is_pair_before p o)) [
-    | inl back ↦ subst (AllByRecursion Q) (sym (cond-true _ (p ∷ o ∷ os) (o ∷ os) back)) (new, all)
-    | inr same ↦ subst (AllByRecursion Q) (sym (cond-false _ (p ∷ o ∷ os) (o ∷ os) same)) all
-  ])
+  | inl is ↦
+      subst (AllByRecursion Q) (sym (cond-true _ (o ∷ put_pair p os) _ is))
+      (all.0, all_put Q p os new all.1)
+  | inr isnt ↦
+      subst (AllByRecursion Q) (sym (cond-false _ (o ∷ put_pair p os) _ isnt))
+      (elim (cases_Bool (is_pair_before p o)) [
+        | inl back ↦
+            subst (AllByRecursion Q) (sym (cond-true _ (p ∷ o ∷ os) (o ∷ os) back)) (new, all)
+        | inr same ↦ subst (AllByRecursion Q) (sym (cond-false _ (p ∷ o ∷ os) (o ∷ os) same)) all
+      ])
 ]
 
-all_past : (p o : Pair) (l : List Pair) → pair_cmp p o ≡ Less → AllByRecursion (λ y. pair_cmp o y ≡ Less) l → AllByRecursion (λ y. pair_cmp p y ≡ Less) l
+all_past : (p o : Pair) (l : List Pair) → pair_cmp p o ≡ Less
+    → AllByRecursion (λ y. pair_cmp o y ≡ Less) l → AllByRecursion (λ y. pair_cmp p y ≡ Less) l
 all_past p o [] up all = tt
 all_past p o (x ∷ xs) up all = (total.trans p o x up all.0, all_past p o xs up all.1)
 
-all_filter : (Q : Pair → Type 0) (t : Pair → Bool) (l : List Pair) → AllByRecursion Q l → AllByRecursion Q (filter t l)
+all_filter : (Q : Pair → Type 0) (t : Pair → Bool) (l : List Pair) → AllByRecursion Q l
+    → AllByRecursion Q (filter t l)
 all_filter Q t [] all = tt
 all_filter Q t (x ∷ xs) all = elim (cases_Bool (t x)) [
-  | inl is ↦ subst (AllByRecursion Q) (sym (cond-true _ (x ∷ filter t xs) _ is)) (all.0, all_filter Q t xs all.1)
-  | inr isnt ↦ subst (AllByRecursion Q) (sym (cond-false _ (x ∷ filter t xs) _ isnt)) (all_filter Q t xs all.1)
+  | inl is ↦
+      subst (AllByRecursion Q) (sym (cond-true _ (x ∷ filter t xs) _ is))
+      (all.0, all_filter Q t xs all.1)
+  | inr isnt ↦
+      subst (AllByRecursion Q) (sym (cond-false _ (x ∷ filter t xs) _ isnt))
+      (all_filter Q t xs all.1)
 ]
 
 -- one more pair at its place
-pub put_sorted : (p : Pair) (l : List Pair) → IsStrictlySortedBy pair_cmp l → IsStrictlySortedBy pair_cmp (put_pair p l)
+pub put_sorted : (p : Pair) (l : List Pair) → IsStrictlySortedBy pair_cmp l
+    → IsStrictlySortedBy pair_cmp (put_pair p l)
 unfolding IsStrictlySortedBy
 put_sorted p [] sorted = (tt, tt)
 put_sorted p (o ∷ os) sorted = elim (cases_Bool (is_pair_before o p)) [
-  | inl is ↦ subst (IsStrictlySortedBy pair_cmp) (sym (cond-true _ (o ∷ put_pair p os) _ is)) (all_put (λ y. pair_cmp o y ≡ Less) p os (less o p is) sorted.0, put_sorted p os sorted.1)
-  | inr isnt ↦ subst (IsStrictlySortedBy pair_cmp) (sym (cond-false _ (o ∷ put_pair p os) _ isnt)) (elim (cases_Bool (is_pair_before p o)) [
-    | inl back ↦ subst (IsStrictlySortedBy pair_cmp) (sym (cond-true _ (p ∷ o ∷ os) (o ∷ os) back)) ((less p o back, all_past p o os (less p o back) sorted.0), sorted)
-    | inr same ↦ subst (IsStrictlySortedBy pair_cmp) (sym (cond-false _ (p ∷ o ∷ os) (o ∷ os) same)) sorted
-  ])
+  | inl is ↦
+      subst (IsStrictlySortedBy pair_cmp) (sym (cond-true _ (o ∷ put_pair p os) _ is))
+      (all_put (λ y. pair_cmp o y ≡ Less) p os (less o p is) sorted.0, put_sorted p os sorted.1)
+  | inr isnt ↦
+      subst (IsStrictlySortedBy pair_cmp) (sym (cond-false _ (o ∷ put_pair p os) _ isnt))
+      (elim (cases_Bool (is_pair_before p o)) [
+        | inl back ↦
+            subst (IsStrictlySortedBy pair_cmp) (sym (cond-true _ (p ∷ o ∷ os) (o ∷ os) back))
+            ((less p o back, all_past p o os (less p o back) sorted.0), sorted)
+        | inr same ↦
+            subst (IsStrictlySortedBy pair_cmp)
+            (sym (cond-false _ (p ∷ o ∷ os) (o ∷ os) same)) sorted
+      ])
 ]
 
-pub filter_sorted : (t : Pair → Bool) (l : List Pair) → IsStrictlySortedBy pair_cmp l → IsStrictlySortedBy pair_cmp (filter t l)
+pub filter_sorted : (t : Pair → Bool) (l : List Pair) → IsStrictlySortedBy pair_cmp l
+    → IsStrictlySortedBy pair_cmp (filter t l)
 unfolding IsStrictlySortedBy
 filter_sorted t [] sorted = tt
 filter_sorted t (x ∷ xs) sorted = elim (cases_Bool (t x)) [
-  | inl is ↦ subst (IsStrictlySortedBy pair_cmp) (sym (cond-true _ (x ∷ filter t xs) _ is)) (all_filter (λ y. pair_cmp x y ≡ Less) t xs sorted.0, filter_sorted t xs sorted.1)
-  | inr isnt ↦ subst (IsStrictlySortedBy pair_cmp) (sym (cond-false _ (x ∷ filter t xs) _ isnt)) (filter_sorted t xs sorted.1)
+  | inl is ↦
+      subst (IsStrictlySortedBy pair_cmp) (sym (cond-true _ (x ∷ filter t xs) _ is))
+      (all_filter (λ y. pair_cmp x y ≡ Less) t xs sorted.0, filter_sorted t xs sorted.1)
+  | inr isnt ↦
+      subst (IsStrictlySortedBy pair_cmp) (sym (cond-false _ (x ∷ filter t xs) _ isnt))
+      (filter_sorted t xs sorted.1)
 ]
 
-put_first : (p : Pair) (l : List Pair) → AllByRecursion (λ y. pair_cmp p y ≡ Less) l → put_pair p l ≡ p ∷ l
+put_first : (p : Pair) (l : List Pair) → AllByRecursion (λ y. pair_cmp p y ≡ Less) l
+    → put_pair p l ≡ p ∷ l
 put_first p [] all = refl
-put_first p (o ∷ os) all = cond-false _ _ _ (not_back p o all.0) ∙ cond-true _ (p ∷ o ∷ os) (o ∷ os) (before p o all.0)
+put_first p (o ∷ os) all =
+    cond-false _ _ _ (not_back p o all.0) ∙ cond-true _ (p ∷ o ∷ os) (o ∷ os) (before p o all.0)
 
 -- pairs in order are the set of them
 pub sorted_set : (l : List Pair) → IsStrictlySortedBy pair_cmp l → set_of l ≡ l
@@ -102,8 +142,10 @@ empty_sorted = tt
 
 -- ---- by place
 
-neither : (p o : Pair) → is_pair_before o p ≡ false → is_same_pair p o ≡ false → is_pair_before p o ≡ true
-neither p o before_not same_not = before_is p o ∙ ap is_lt (total.antisymm p o) ∙ by (pair_cmp o p) refl
+neither : (p o : Pair) → is_pair_before o p ≡ false → is_same_pair p o ≡ false
+    → is_pair_before p o ≡ true
+neither p o before_not same_not =
+    before_is p o ∙ ap is_lt (total.antisymm p o) ∙ by (pair_cmp o p) refl
   where
     equal : (x y : Ordering) → ordering_then x y ≡ Equal → (x ≡ Equal) × (y ≡ Equal)
     equal Less y e = absurd (true≢false (sym (ap is_eq e)))
@@ -114,7 +156,11 @@ neither p o before_not same_not = before_is p o ∙ ap is_lt (total.antisymm p o
     by Less e = absurd (true≢false (sym (before o p e) ∙ before_not))
     by Equal e =
         let parts = equal (slice_cmp nat_cmp o.0 p.0) (slice_cmp nat_cmp o.1 p.1) e in
-        absurd (true≢false (sym (and_from (same_text o.0 p.0) (same_text o.1 p.1) (sym (is_eq-slice_cmp o.0 p.0) ∙ ap is_eq parts.0) (sym (is_eq-slice_cmp o.1 p.1) ∙ ap is_eq parts.1)) ∙ same_not))
+        absurd
+        (true≢false
+        (sym (and_from (same_text o.0 p.0) (same_text o.1 p.1)
+        (sym (is_eq-slice_cmp o.0 p.0) ∙ ap is_eq parts.0)
+        (sym (is_eq-slice_cmp o.1 p.1) ∙ ap is_eq parts.1)) ∙ same_not))
     by Greater e = ap (λ r. is_lt (ordering_reverse r)) e
 
 itself : (p : Pair) → is_pair_before p p ≡ false
@@ -124,33 +170,46 @@ itself p = by (is_pair_before p p) refl
     by true e = absurd (true≢false (sym e ∙ not_back p p (less p p e)))
     by false e = e
 
-pub put_in_place : (p : Pair) (l : List Pair) (k : ℕ) → k < length l → take k l ++ put_pair p (drop k l) ≡ put_pair p l → is_pair_before (get_or l k p) p ≡ false → is_same_pair p (get_or l k p) ≡ false → insert l k p ≡ put_pair p l
+pub put_in_place : (p : Pair) (l : List Pair) (k : ℕ) → k < length l
+    → take k l ++ put_pair p (drop k l) ≡ put_pair p l → is_pair_before (get_or l k p) p ≡ false
+    → is_same_pair p (get_or l k p) ≡ false → insert l k p ≡ put_pair p l
 put_in_place p l k below puts stops other =
     let step : drop k l ≡ get_or l k p ∷ drop (suc k) l = drop-cons l k p below in
     let front : put_pair p (drop k l) ≡ p ∷ drop k l =
-    ap (put_pair p) step ∙ cond-false _ _ _ stops ∙ cond-true _ (p ∷ get_or l k p ∷ drop (suc k) l) (get_or l k p ∷ drop (suc k) l) (neither p (get_or l k p) stops other) ∙ ap (λ (m : List Pair). p ∷ m) (sym step) in
+    ap (put_pair p) step ∙ cond-false _ _ _ stops
+    ∙ cond-true _ (p ∷ get_or l k p ∷ drop (suc k) l) (get_or l k p ∷ drop (suc k) l)
+    (neither p (get_or l k p) stops other) ∙ ap (λ (m : List Pair). p ∷ m) (sym step) in
     ap (λ (m : List Pair). take k l ++ m) (sym front) ∙ puts
 
 -- a pair that is there already
-pub put_there : (p : Pair) (l : List Pair) (k : ℕ) → k < length l → take k l ++ put_pair p (drop k l) ≡ put_pair p l → is_pair_before (get_or l k p) p ≡ false → is_same_pair p (get_or l k p) ≡ true → l ≡ put_pair p l
+pub put_there : (p : Pair) (l : List Pair) (k : ℕ) → k < length l
+    → take k l ++ put_pair p (drop k l) ≡ put_pair p l → is_pair_before (get_or l k p) p ≡ false
+    → is_same_pair p (get_or l k p) ≡ true → l ≡ put_pair p l
 put_there p l k below puts stops same =
     let step : drop k l ≡ get_or l k p ∷ drop (suc k) l = drop-cons l k p below in
     let parts = and_parts (same_text (get_or l k p).0 p.0) (same_text (get_or l k p).1 p.1) same in
-    let is : get_or l k p ≡ p = (let a = same_bytes (get_or l k p).0 p.0 parts.0 in let b = same_bytes (get_or l k p).1 p.1 parts.1 in λ i. (a i, b i)) in
+    let is : get_or l k p ≡ p = (let a = same_bytes (get_or l k p).0 p.0 parts.0 in
+    let b = same_bytes (get_or l k p).1 p.1 parts.1 in λ i. (a i, b i)) in
     let back : is_pair_before p (get_or l k p) ≡ false = ap (is_pair_before p) is ∙ itself p in
     let front : put_pair p (drop k l) ≡ drop k l =
-    ap (put_pair p) step ∙ cond-false _ _ _ stops ∙ cond-false _ (p ∷ get_or l k p ∷ drop (suc k) l) (get_or l k p ∷ drop (suc k) l) back ∙ sym step in
+    ap (put_pair p) step ∙ cond-false _ _ _ stops
+    ∙ cond-false _ (p ∷ get_or l k p ∷ drop (suc k) l) (get_or l k p ∷ drop (suc k) l) back
+    ∙ sym step in
     sym (take-append-drop k l) ∙ ap (λ (m : List Pair). take k l ++ m) (sym front) ∙ puts
 
 -- a pair that comes after all others
-pub put_last : (p : Pair) (l : List Pair) (k : ℕ) → length l ≤ k → take k l ++ put_pair p (drop k l) ≡ put_pair p l → insert l k p ≡ put_pair p l
+pub put_last : (p : Pair) (l : List Pair) (k : ℕ) → length l ≤ k
+    → take k l ++ put_pair p (drop k l) ≡ put_pair p l → insert l k p ≡ put_pair p l
 put_last p l k past puts =
     let none : drop k l ≡ [] = drop_all k l past in
-    ap (λ (m : List Pair). take k l ++ p ∷ m) none ∙ sym (ap (λ (m : List Pair). take k l ++ put_pair p m) none) ∙ puts
+    ap (λ (m : List Pair). take k l ++ p ∷ m) none
+    ∙ sym (ap (λ (m : List Pair). take k l ++ put_pair p m) none) ∙ puts
 
-pub joined : (p : Pair) (l : List Pair) → IsStrictlySortedBy pair_cmp l → put_pair p l ≡ set_of (p ∷ l)
+pub joined : (p : Pair) (l : List Pair) → IsStrictlySortedBy pair_cmp l
+    → put_pair p l ≡ set_of (p ∷ l)
 joined p l sorted = ap (put_pair p) (sym (sorted_set l sorted))
 
 -- an item within the list doesn't depend on the default for a missing one
-pub item_is : (l : List Pair) (k : ℕ) (x d : Pair) → k < length l → x ≡ get_or l k x → x ≡ get_or l k d
+pub item_is : (l : List Pair) (k : ℕ) (x d : Pair) → k < length l → x ≡ get_or l k x
+    → x ≡ get_or l k d
 item_is l k x d below is = is ∙ get_or_default l k x d below

@@ -17,120 +17,209 @@ use Rattle.room_tree.specs.Places.{text_place, is_place, id_at, places_under, Li
 use Rattle.room_tree.proofs.Numbered.{cmp_less, cmp_equal, cmp_greater}
 use Rattle.room_tree.proofs.Listed.{place_cmp, same_bytes}
 
-lookup_same : {K X : Type 0} (t u : K → Bool) → ((k : K) → t k ≡ u k) → (es : List (K × X)) → lookup t es ≡ lookup u es
+lookup_same : {K X : Type 0} (t u : K → Bool) → ((k : K) → t k ≡ u k) → (es : List (K × X))
+    → lookup t es ≡ lookup u es
 lookup_same t u same [] = refl
-lookup_same t u same (e ∷ es) = ap (λ b. if b then Some e.1 else lookup t es) (same e.0) ∙ ap (λ o. if u e.0 then Some e.1 else o) (lookup_same t u same es)
+lookup_same t u same (e ∷ es) =
+    ap (λ b. if b then Some e.1 else lookup t es) (same e.0)
+    ∙ ap (λ o. if u e.0 then Some e.1 else o) (lookup_same t u same es)
 
 empty_first : (t : List ℕ) → is_le (slice_cmp nat_cmp [] t) ≡ true
 empty_first [] = refl
 empty_first (x ∷ xs) = refl
 
 -- filtered twice, where the first test lets all pass that the second does
-filter_twice : {X : Type 0} (t u : X → Bool) → ((x : X) → t x ≡ true → u x ≡ true) → (xs : List X) → filter t (filter u xs) ≡ filter t xs
+filter_twice : {X : Type 0} (t u : X → Bool) → ((x : X) → t x ≡ true → u x ≡ true) → (xs : List X)
+    → filter t (filter u xs) ≡ filter t xs
 filter_twice t u lets [] = refl
 filter_twice t u lets (x ∷ xs) = elim (cases_Bool (t x)) [
-  | inl is ↦ ap (filter t) (cond-true _ (x ∷ filter u xs) _ (lets x is)) ∙ cond-true _ (x ∷ filter t (filter u xs)) _ is ∙ ap (λ l. x ∷ l) (filter_twice t u lets xs) ∙ sym (cond-true _ _ _ is)
+  | inl is ↦ ap (filter t) (cond-true _ (x ∷ filter u xs) _ (lets x is))
+      ∙ cond-true _ (x ∷ filter t (filter u xs)) _ is ∙ ap (λ l. x ∷ l) (filter_twice t u lets xs)
+      ∙ sym (cond-true _ _ _ is)
   | inr isnt ↦ elim (cases_Bool (u x)) [
-    | inl kept ↦ ap (filter t) (cond-true _ (x ∷ filter u xs) _ kept) ∙ cond-false _ _ (filter t (filter u xs)) isnt ∙ filter_twice t u lets xs ∙ sym (cond-false _ _ _ isnt)
-    | inr dropped ↦ ap (filter t) (cond-false _ (x ∷ filter u xs) _ dropped) ∙ filter_twice t u lets xs ∙ sym (cond-false _ _ _ isnt)
+    | inl kept ↦ ap (filter t) (cond-true _ (x ∷ filter u xs) _ kept)
+        ∙ cond-false _ _ (filter t (filter u xs)) isnt ∙ filter_twice t u lets xs
+        ∙ sym (cond-false _ _ _ isnt)
+    | inr dropped ↦ ap (filter t) (cond-false _ (x ∷ filter u xs) _ dropped)
+        ∙ filter_twice t u lets xs ∙ sym (cond-false _ _ _ isnt)
   ]
 ]
 
 module _ {Y : Type 0} where
   -- a place compares as equal to a key where both are the same
-  pub is_place_key : (place key : ℕ × String Y) → is_eq (ordering_then (nat_cmp place.0 key.0) (string_cmp place.1 key.1)) ≡ is_place place.0 (string_bytes place.1) key
+  pub is_place_key : (place key : ℕ × String Y)
+      → is_eq (ordering_then (nat_cmp place.0 key.0) (string_cmp place.1 key.1))
+      ≡ is_place place.0 (string_bytes place.1) key
   is_place_key place key = elim (cases_order place.0 key.0) [
     | inl same ↦
         ap (λ o. is_eq (ordering_then o (string_cmp place.1 key.1))) (cmp_equal place.0 key.0 same)
         ∙ is_eq-slice_cmp (string_bytes place.1) (string_bytes key.1)
         ∙ nat_list_eq_equiv.symm (string_bytes place.1) (string_bytes key.1)
-        ∙ sym (ap (λ b. b && same_text (string_bytes key.1) (string_bytes place.1)) (eq-eqb key.0 place.0 (sym same)))
+        ∙ sym (ap (λ b. b && same_text (string_bytes key.1) (string_bytes place.1))
+        (eq-eqb key.0 place.0 (sym same)))
     | inr apart ↦ elim apart [
-      | inl below ↦ ap (λ o. is_eq (ordering_then o (string_cmp place.1 key.1))) (cmp_less place.0 key.0 below) ∙ sym (and_left (key.0 == place.0) _ (ne_eqb key.0 place.0 (λ e. absurd (omega (arith, e, below)))))
-      | inr above ↦ ap (λ o. is_eq (ordering_then o (string_cmp place.1 key.1))) (cmp_greater place.0 key.0 above) ∙ sym (and_left (key.0 == place.0) _ (ne_eqb key.0 place.0 (λ e. absurd (omega (arith, e, above)))))
+      | inl below ↦
+          ap (λ o. is_eq (ordering_then o (string_cmp place.1 key.1)))
+          (cmp_less place.0 key.0 below)
+          ∙ sym (and_left (key.0 == place.0) _
+          (ne_eqb key.0 place.0 (λ e. absurd (omega (arith, e, below)))))
+      | inr above ↦
+          ap (λ o. is_eq (ordering_then o (string_cmp place.1 key.1)))
+          (cmp_greater place.0 key.0 above)
+          ∙ sym (and_left (key.0 == place.0) _
+          (ne_eqb key.0 place.0 (λ e. absurd (omega (arith, e, above)))))
     ]
   ]
 
-  pub looked_up : (place : ℕ × String Y) (es : List ((ℕ × String Y) × ℕ)) → lookup (λ key. is_eq (ordering_then (nat_cmp place.0 key.0) (string_cmp place.1 key.1))) es ≡ id_at place.0 (string_bytes place.1) es
-  looked_up place es = lookup_same _ (is_place place.0 (string_bytes place.1)) (is_place_key place) es
+  pub looked_up : (place : ℕ × String Y) (es : List ((ℕ × String Y) × ℕ))
+      → lookup (λ key. is_eq (ordering_then (nat_cmp place.0 key.0) (string_cmp place.1 key.1))) es
+      ≡ id_at place.0 (string_bytes place.1) es
+  looked_up place es =
+      lookup_same _ (is_place place.0 (string_bytes place.1)) (is_place_key place) es
 
-  equal_places : (place key : ℕ × String Y) → is_eq (ordering_then (nat_cmp place.0 key.0) (string_cmp place.1 key.1)) ≡ true → (key.0 ≡ place.0) × (string_bytes key.1 ≡ string_bytes place.1)
+  equal_places : (place key : ℕ × String Y)
+      → is_eq (ordering_then (nat_cmp place.0 key.0) (string_cmp place.1 key.1)) ≡ true
+      → (key.0 ≡ place.0) × (string_bytes key.1 ≡ string_bytes place.1)
   equal_places place key is =
-      let parts = and_parts (key.0 == place.0) _ (sym (is_place_key place key) ∙ is) in
-      (eqb-true key.0 place.0 parts.0, same_bytes (string_bytes key.1) (string_bytes place.1) parts.1)
+      let parts = and_parts (key.0 == place.0) _ (sym (is_place_key place key) ∙ is) in (
+        eqb-true key.0 place.0 parts.0,
+        same_bytes (string_bytes key.1) (string_bytes place.1) parts.1,
+      )
 
-  same_test : (p : ℕ) (n : List ℕ) (place key : ℕ × String Y) → is_eq (ordering_then (nat_cmp place.0 key.0) (string_cmp place.1 key.1)) ≡ true → is_place p n key ≡ is_place p n place
+  same_test : (p : ℕ) (n : List ℕ) (place key : ℕ × String Y)
+      → is_eq (ordering_then (nat_cmp place.0 key.0) (string_cmp place.1 key.1)) ≡ true
+      → is_place p n key ≡ is_place p n place
   same_test p n place key is =
       let same = equal_places place key is in
-      ap (λ (k : ℕ). (k == p) && same_text (string_bytes key.1) n) same.0 ∙ ap (λ (t : List ℕ). (place.0 == p) && same_text t n) same.1
+      ap (λ (k : ℕ). (k == p) && same_text (string_bytes key.1) n) same.0
+      ∙ ap (λ (t : List ℕ). (place.0 == p) && same_text t n) same.1
 
   -- two places that pass the same test are equal
-  apart_tests : (p : ℕ) (n : List ℕ) (place key : ℕ × String Y) → ordering_then (nat_cmp place.0 key.0) (string_cmp place.1 key.1) ≡ Greater → is_place p n key ≡ true → is_place p n place ≡ false
+  apart_tests : (p : ℕ) (n : List ℕ) (place key : ℕ × String Y)
+      → ordering_then (nat_cmp place.0 key.0) (string_cmp place.1 key.1) ≡ Greater
+      → is_place p n key ≡ true → is_place p n place ≡ false
   apart_tests p n place key greater is = false_from_ne_true (is_place p n place) (λ its.
       let a = and_parts (key.0 == p) _ is in
       let b = and_parts (place.0 == p) _ its in
       let number : key.0 ≡ place.0 = eqb-true key.0 p a.0 ∙ sym (eqb-true place.0 p b.0) in
       let name : string_bytes key.1 ≡ n = same_bytes (string_bytes key.1) n a.1 in
       let name' : string_bytes place.1 ≡ n = same_bytes (string_bytes place.1) n b.1 in
-      let same : is_place place.0 (string_bytes place.1) key ≡ true = and_from (key.0 == place.0) _ (eq-eqb key.0 place.0 number) (subst (λ (t : List ℕ). same_text (string_bytes key.1) t ≡ true) (sym name') a.1) in
+      let same : is_place place.0 (string_bytes place.1) key ≡ true = and_from (key.0 == place.0) _
+      (eq-eqb key.0 place.0 number)
+      (subst (λ (t : List ℕ). same_text (string_bytes key.1) t ≡ true) (sym name') a.1) in
       false≢true (sym (ap is_eq greater) ∙ is_place_key place key ∙ same))
 
   put_listed : (p : ℕ) (n : List ℕ) (place : ℕ × String Y) (id : ℕ) (es : List ((ℕ × String Y) × ℕ))
-      → id_at p n (insert_entry (λ x y. ordering_then (nat_cmp x.0 y.0) (string_cmp x.1 y.1)) es place id) ≡ (if is_place p n place then Some id else id_at p n es)
+      → id_at p n
+      (insert_entry (λ x y. ordering_then (nat_cmp x.0 y.0) (string_cmp x.1 y.1)) es place id)
+      ≡ (if is_place p n place then Some id else id_at p n es)
   put_listed p n place id [] = refl
   put_listed p n place id (e ∷ es) = by (place_cmp place e.0) refl (put_listed p n place id es)
     where
-      by : (o : Ordering) → place_cmp place e.0 ≡ o → id_at p n (insert_entry (λ x y. ordering_then (nat_cmp x.0 y.0) (string_cmp x.1 y.1)) es place id) ≡ (if is_place p n place then Some id else id_at p n es)
-          → id_at p n (match_ordering (place_cmp place e.0) ((place, id) ∷ e ∷ es) ((e.0, id) ∷ es) (e ∷ insert_entry (λ x y. ordering_then (nat_cmp x.0 y.0) (string_cmp x.1 y.1)) es place id)) ≡ (if is_place p n place then Some id else id_at p n (e ∷ es))
-      by Less is rest = ap (λ o. id_at p n (match_ordering o ((place, id) ∷ e ∷ es) ((e.0, id) ∷ es) (e ∷ insert_entry (λ x y. ordering_then (nat_cmp x.0 y.0) (string_cmp x.1 y.1)) es place id))) is
+      by : (o : Ordering) → place_cmp place e.0 ≡ o
+          → id_at p n
+          (insert_entry (λ x y. ordering_then (nat_cmp x.0 y.0) (string_cmp x.1 y.1)) es place id)
+          ≡ (if is_place p n place then Some id else id_at p n es)
+          → id_at p n (match_ordering (place_cmp place e.0) ((place, id) ∷ e ∷ es) ((e.0, id) ∷ es)
+          (e ∷ insert_entry (λ x y. ordering_then (nat_cmp x.0 y.0) (string_cmp x.1 y.1)) es place
+          id)) ≡ (if is_place p n place then Some id else id_at p n (e ∷ es))
+      by Less is rest =
+          ap (λ o. id_at p n (match_ordering o ((place, id) ∷ e ∷ es) ((e.0, id) ∷ es)
+          (e ∷ insert_entry (λ x y. ordering_then (nat_cmp x.0 y.0) (string_cmp x.1 y.1)) es place
+          id))) is
       by Equal is rest =
           let test = same_test p n place e.0 (ap is_eq is) in
-          ap (λ o. id_at p n (match_ordering o ((place, id) ∷ e ∷ es) ((e.0, id) ∷ es) (e ∷ insert_entry (λ x y. ordering_then (nat_cmp x.0 y.0) (string_cmp x.1 y.1)) es place id))) is
+          ap (λ o. id_at p n (match_ordering o ((place, id) ∷ e ∷ es) ((e.0, id) ∷ es)
+          (e ∷ insert_entry (λ x y. ordering_then (nat_cmp x.0 y.0) (string_cmp x.1 y.1)) es place
+          id))) is
           ∙ elim (cases_Bool (is_place p n place)) [
             | inl here ↦ cond-true _ _ _ (test ∙ here) ∙ sym (cond-true _ _ _ here)
-            | inr isnt ↦ cond-false _ _ _ (test ∙ isnt) ∙ sym (cond-false _ (Some e.1) _ (test ∙ isnt)) ∙ sym (cond-false _ _ _ isnt)
+            | inr isnt ↦ cond-false _ _ _ (test ∙ isnt)
+                ∙ sym (cond-false _ (Some e.1) _ (test ∙ isnt)) ∙ sym (cond-false _ _ _ isnt)
           ]
       by Greater is rest =
-          ap (λ o. id_at p n (match_ordering o ((place, id) ∷ e ∷ es) ((e.0, id) ∷ es) (e ∷ insert_entry (λ x y. ordering_then (nat_cmp x.0 y.0) (string_cmp x.1 y.1)) es place id))) is
+          ap (λ o. id_at p n (match_ordering o ((place, id) ∷ e ∷ es) ((e.0, id) ∷ es)
+          (e ∷ insert_entry (λ x y. ordering_then (nat_cmp x.0 y.0) (string_cmp x.1 y.1)) es place
+          id))) is
           ∙ elim (cases_Bool (is_place p n e.0)) [
-            | inl here ↦ cond-true _ _ _ here ∙ sym (cond-true _ _ _ here) ∙ sym (cond-false _ _ _ (apart_tests p n place e.0 is here))
-            | inr isnt ↦ cond-false _ _ _ isnt ∙ rest ∙ ap (λ o. if is_place p n place then Some id else o) (sym (cond-false _ _ _ isnt))
+            | inl here ↦ cond-true _ _ _ here ∙ sym (cond-true _ _ _ here)
+                ∙ sym (cond-false _ _ _ (apart_tests p n place e.0 is here))
+            | inr isnt ↦ cond-false _ _ _ isnt ∙ rest
+                ∙ ap (λ o. if is_place p n place then Some id else o) (sym (cond-false _ _ _ isnt))
           ]
 
-  pub puts : (place : ℕ × String Y) (id : ℕ) (old new : List ((ℕ × String Y) × ℕ)) → new ≡ insert_entry (λ x y. ordering_then (nat_cmp x.0 y.0) (string_cmp x.1 y.1)) old place id → Lists place.0 (string_bytes place.1) id old new
+  pub puts : (place : ℕ × String Y) (id : ℕ) (old new : List ((ℕ × String Y) × ℕ))
+      → new ≡ insert_entry (λ x y. ordering_then (nat_cmp x.0 y.0) (string_cmp x.1 y.1)) old place
+      id → Lists place.0 (string_bytes place.1) id old new
   puts place id old new is p n = ap (id_at p n) is ∙ put_listed p n place id old
 
-  take_others : (p : ℕ) (n : List ℕ) (place : ℕ × String Y) (es : List ((ℕ × String Y) × ℕ)) → is_place p n place ≡ false
-      → id_at p n (remove_entry (λ key. is_eq (ordering_then (nat_cmp place.0 key.0) (string_cmp place.1 key.1))) es) ≡ id_at p n es
+  take_others : (p : ℕ) (n : List ℕ) (place : ℕ × String Y) (es : List ((ℕ × String Y) × ℕ))
+      → is_place p n place ≡ false
+      → id_at p n
+      (remove_entry
+      (λ key. is_eq (ordering_then (nat_cmp place.0 key.0) (string_cmp place.1 key.1))) es)
+      ≡ id_at p n es
   take_others p n place [] apart = refl
-  take_others p n place (e ∷ es) apart = elim (cases_Bool (is_eq (ordering_then (nat_cmp place.0 e.0.0) (string_cmp place.1 e.0.1)))) [
-    | inl is ↦ ap (id_at p n) (cond-true _ es (e ∷ remove_entry (λ key. is_eq (ordering_then (nat_cmp place.0 key.0) (string_cmp place.1 key.1))) es) is) ∙ sym (cond-false _ _ _ (same_test p n place e.0 is ∙ apart))
-    | inr isnt ↦ ap (id_at p n) (cond-false _ es (e ∷ remove_entry (λ key. is_eq (ordering_then (nat_cmp place.0 key.0) (string_cmp place.1 key.1))) es) isnt) ∙ ap (λ o. if is_place p n e.0 then Some e.1 else o) (take_others p n place es apart)
-  ]
+  take_others p n place (e ∷ es) apart =
+      elim (cases_Bool (is_eq (ordering_then (nat_cmp place.0 e.0.0) (string_cmp place.1 e.0.1)))) [
+        | inl is ↦
+            ap (id_at p n)
+            (cond-true _ es
+            (e ∷ remove_entry
+            (λ key. is_eq (ordering_then (nat_cmp place.0 key.0) (string_cmp place.1 key.1))) es)
+            is)
+            ∙ sym (cond-false _ _ _ (same_test p n place e.0 is ∙ apart))
+        | inr isnt ↦
+            ap (id_at p n)
+            (cond-false _ es
+            (e ∷ remove_entry
+            (λ key. is_eq (ordering_then (nat_cmp place.0 key.0) (string_cmp place.1 key.1))) es)
+            isnt)
+            ∙ ap (λ o. if is_place p n e.0 then Some e.1 else o) (take_others p n place es apart)
+      ]
 
-  pub takes : (place : ℕ × String Y) (old new : List ((ℕ × String Y) × ℕ)) → new ≡ remove_entry (λ key. is_eq (ordering_then (nat_cmp place.0 key.0) (string_cmp place.1 key.1))) old → KeepsOtherPlaces (Some (text_place place)) old new
+  pub takes : (place : ℕ × String Y) (old new : List ((ℕ × String Y) × ℕ))
+      → new
+      ≡ remove_entry
+      (λ key. is_eq (ordering_then (nat_cmp place.0 key.0) (string_cmp place.1 key.1))) old
+      → KeepsOtherPlaces (Some (text_place place)) old new
   takes place old new is p n apart = ap (id_at p n) is ∙ take_others p n place old apart
 
   -- ---- what stands between two places
 
-  from_start : (start key : ℕ × String Y) → string_bytes start.1 ≡ [] → start.0 ≤ key.0 → is_le (ordering_then (nat_cmp start.0 key.0) (string_cmp start.1 key.1)) ≡ true
+  from_start : (start key : ℕ × String Y) → string_bytes start.1 ≡ [] → start.0 ≤ key.0
+      → is_le (ordering_then (nat_cmp start.0 key.0) (string_cmp start.1 key.1)) ≡ true
   from_start start key empty up = elim (cases_order start.0 key.0) [
-    | inl same ↦ ap (λ o. is_le (ordering_then o (string_cmp start.1 key.1))) (cmp_equal start.0 key.0 same) ∙ ap (λ (t : List ℕ). is_le (slice_cmp nat_cmp t (string_bytes key.1))) empty ∙ empty_first (string_bytes key.1)
+    | inl same ↦
+        ap (λ o. is_le (ordering_then o (string_cmp start.1 key.1))) (cmp_equal start.0 key.0 same)
+        ∙ ap (λ (t : List ℕ). is_le (slice_cmp nat_cmp t (string_bytes key.1))) empty
+        ∙ empty_first (string_bytes key.1)
     | inr apart ↦ elim apart [
-      | inl below ↦ ap (λ o. is_le (ordering_then o (string_cmp start.1 key.1))) (cmp_less start.0 key.0 below)
+      | inl below ↦
+          ap (λ o. is_le (ordering_then o (string_cmp start.1 key.1)))
+          (cmp_less start.0 key.0 below)
       | inr above ↦ absurd (omega (arith, up, above))
     ]
   ]
 
-  pub between : (parent : ℕ) (start end : ℕ × String Y) (es : List ((ℕ × String Y) × ℕ)) → start.0 ≡ parent → string_bytes start.1 ≡ [] → end.0 ≡ parent + 1
-      → places_under parent (filter (λ e. range_contains (λ x y. ordering_then (nat_cmp x.0 y.0) (string_cmp x.1 y.1)) (Included start) (Excluded end) e.0) es) ≡ places_under parent es
-  between parent start end es from empty to = filter_twice (λ (e : (ℕ × String Y) × ℕ). e.0.0 == parent) _ (λ e is.
+  pub between : (parent : ℕ) (start end : ℕ × String Y) (es : List ((ℕ × String Y) × ℕ))
+      → start.0 ≡ parent → string_bytes start.1 ≡ [] → end.0 ≡ parent + 1
+      → places_under parent
+      (filter (λ e. range_contains (λ x y. ordering_then (nat_cmp x.0 y.0) (string_cmp x.1 y.1))
+      (Included start) (Excluded end) e.0) es) ≡ places_under parent es
+  between parent start end es from empty to =
+      filter_twice (λ (e : (ℕ × String Y) × ℕ). e.0.0 == parent) _ (λ e is.
       let at : e.0.0 ≡ parent = eqb-true e.0.0 parent is in
       and_from _ _ (from_start start e.0 empty (omega (arith, at, from)))
-      (ap (λ o. not (is_le (ordering_then o (string_cmp end.1 e.0.1)))) (cmp_greater end.0 e.0.0 (omega (arith, at, to))))) es
+      (ap (λ o. not (is_le (ordering_then o (string_cmp end.1 e.0.1))))
+      (cmp_greater end.0 e.0.0 (omega (arith, at, to))))) es
 
-  pub from : (parent : ℕ) (start : ℕ × String Y) (es : List ((ℕ × String Y) × ℕ)) → start.0 ≡ parent → string_bytes start.1 ≡ []
-      → places_under parent (filter (λ e. range_contains (λ x y. ordering_then (nat_cmp x.0 y.0) (string_cmp x.1 y.1)) (Included start) Unbounded e.0) es) ≡ places_under parent es
-  from parent start es is empty = filter_twice (λ (e : (ℕ × String Y) × ℕ). e.0.0 == parent) _ (λ e under.
+  pub from : (parent : ℕ) (start : ℕ × String Y) (es : List ((ℕ × String Y) × ℕ)) → start.0 ≡ parent
+      → string_bytes start.1 ≡ []
+      → places_under parent
+      (filter (λ e. range_contains (λ x y. ordering_then (nat_cmp x.0 y.0) (string_cmp x.1 y.1))
+      (Included start) Unbounded e.0) es) ≡ places_under parent es
+  from parent start es is empty =
+      filter_twice (λ (e : (ℕ × String Y) × ℕ). e.0.0 == parent) _ (λ e under.
       let at : e.0.0 ≡ parent = eqb-true e.0.0 parent under in
       and_from _ _ (from_start start e.0 empty (omega (arith, at, is))) refl) es

@@ -9,17 +9,24 @@ use Rattle.sqlite_schema.specs.declared.command.Returning.{Returning}
 use Rattle.store_tables.specs.Shown.{Stays}
 use Rattle.store_admin.specs.Carries.{AnswersOpen}
 
-at_open : (sql : List ℕ) (c : Compiled) (full : Row) (old new : State) (rows : List Row) (r : Option Returning) → ShowsRows old new sql c full rows r → IsTrue old.is_open × IsTrue new.is_open
+at_open : (sql : List ℕ) (c : Compiled) (full : Row) (old new : State) (rows : List Row)
+    (r : Option Returning) → ShowsRows old new sql c full rows r → IsTrue old.is_open
+    × IsTrue new.is_open
 at_open sql c full old new rows None s = (s.3.0.was_open, s.3.0.is_open)
 at_open sql c full old new rows (Some what) s = (s.1.shown.was_open, s.1.shown.is_open)
 
 -- a query
-pub answered : (sql : List ℕ) (params : Row) (old new : State) (r : Result (Vec Row Global) Error) → (HasCleanDisk new → IfOk r (λ rows. Shown sql params old new rows.items)) → AnswersOpen old new r
+pub answered : (sql : List ℕ) (params : Row) (old new : State) (r : Result (Vec Row Global) Error)
+    → (HasCleanDisk new → IfOk r (λ rows. Shown sql params old new rows.items))
+    → AnswersOpen old new r
 unfolding Shown
-answered sql params old new (Ok rows) ok now = let h = ok now in at_open sql h.0 _ old new rows.items h.0.returning h.2
+answered sql params old new (Ok rows) ok now = let h = ok now in
+    at_open sql h.0 _ old new rows.items h.0.returning h.2
 answered sql params old new (Err e) ok now = tt
 
 -- a call after another one
-pub answered_behind : {X E : Type 0} (a b c : State) (r : Result X E) → Stays a b → doubt b.is_clean ≤ doubt c.is_clean → AnswersOpen b c r → AnswersOpen a c r
-answered_behind a b c (Ok x) stays clean opens now = (stays.was_open (omega (arith, clean, now)) (opens now).0, (opens now).1)
+pub answered_behind : {X E : Type 0} (a b c : State) (r : Result X E) → Stays a b
+    → doubt b.is_clean ≤ doubt c.is_clean → AnswersOpen b c r → AnswersOpen a c r
+answered_behind a b c (Ok x) stays clean opens now =
+    (stays.was_open (omega (arith, clean, now)) (opens now).0, (opens now).1)
 answered_behind a b c (Err e) stays clean opens now = tt

@@ -12,10 +12,13 @@ use Rattle.store_admin.specs.Carries.{CallsInside}
 use Rattle.store_admin.specs.Dump.{HasDamagedRow, TellsObjects}
 
 -- the text of all objects, by the keeper
-pub told_objects : (begun mid : State) (result : Result (String Global) KeepFault) (before after : ℕ) → Stays begun mid
+pub told_objects : (begun mid : State) (result : Result (String Global) KeepFault)
+    (before after : ℕ) → Stays begun mid
     → (IsTrusted begun mid → IfSeen result (rows_of mid.now ≡ rows_of begun.now))
-    → (IsTrusted begun mid → IfOk result (λ text. IsDumpText (rows_of begun.now) (string_bytes text)))
-    → IfErr result (HasCause before after (λ at. IsTrusted begun mid → IsDamaged (rows_of begun.now) at))
+    → (IsTrusted begun mid
+    → IfOk result (λ text. IsDumpText (rows_of begun.now) (string_bytes text)))
+    → IfErr result
+    (HasCause before after (λ at. IsTrusted begun mid → IsDamaged (rows_of begun.now) at))
     → CallsInside begun mid result HasDamagedRow TellsObjects
 told_objects begun mid (Ok text) before after stays same answers fault = record {
   stays = stays;
@@ -25,5 +28,12 @@ told_objects begun mid (Ok text) before after stays same answers fault = record 
 told_objects begun mid (Err why) before after stays same answers fault = record {
   stays = stays;
   becomes = λ trust. tt;
-  blames = λ trust id is. (id, subst (λ (r : Result (String Global) KeepFault). IfErr r (HasCause before after (λ at. IsTrusted begun mid → IsDamaged (rows_of begun.now) at))) is fault trust);
+  blames =
+      λ trust id is. (
+        id,
+        subst (λ (r : Result (String Global) KeepFault). IfErr r
+            (HasCause before after (λ at. IsTrusted begun mid → IsDamaged (rows_of begun.now) at)))
+            is
+            fault trust,
+      );
 }

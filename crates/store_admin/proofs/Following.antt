@@ -12,7 +12,8 @@ use Rattle.store_admin.proofs.Gathering.{replaced}
 
 pub gathered : (a b c : State) (before mid after : List Pair) (r : Result (Unit {0}) KeepFault)
     → CallsInside {X = Unit {0}} a b (Ok tt) NoTables (Gathers before mid)
-    → CallsInside b c r NoTables (Gathers mid after) → CallsInside a c r NoTables (Gathers before after)
+    → CallsInside b c r NoTables (Gathers mid after)
+    → CallsInside a c r NoTables (Gathers before after)
 gathered a b c before mid after (Ok done) p q = record {
   stays = stays_on a b c p.stays q.stays;
   becomes = λ trust held.
@@ -36,7 +37,8 @@ gathered a b c before mid after (Err fault) p q = record {
 
 pub exchanged : (pairs order : List Pair) (a b c : State) (count : ℕ)
     (r : Result (Unit {0}) KeepFault) → IsPermutation pairs order
-    → ExecutesSql (OfAny (Exchanges [])) a b (Ok count) → CallsInside b c r NoTables (Gathers [] order)
+    → ExecutesSql (OfAny (Exchanges [])) a b (Ok count)
+    → CallsInside b c r NoTables (Gathers [] order)
     → CallsInside a c r NoTables (ExchangesMembers pairs)
 exchanged pairs order a b c count (Ok done) moved w q = record {
   stays = stays_on a b c w.stays q.stays;

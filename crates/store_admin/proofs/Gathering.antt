@@ -52,7 +52,8 @@ has_put x new (r ∷ rows) free = step (value_cmp (rowid r) (rowid new)) (has_pu
         has_cons x (pair_in r) (filter_map pair_in (put_row new rows))
         ∙ ap (λ b. reads x (pair_in r) || b) (more free')
         ∙ or_swap (reads x (pair_in r)) (reads x (pair_in new)) left
-        ∙ ap (λ b. reads x (pair_in new) || b) (sym (has_cons x (pair_in r) (filter_map pair_in rows)))
+        ∙ ap (λ b. reads x (pair_in new) || b)
+        (sym (has_cons x (pair_in r) (filter_map pair_in rows)))
     step Equal more free' = absurd (let e = free' in cc)
     step Greater more free' = has_cons x (pair_in new) (filter_map pair_in (r ∷ rows))
 

@@ -55,20 +55,26 @@ or_none : (b c : Bool) → (b || c) ≡ false → (b ≡ false) × (c ≡ false)
 or_none true c h = absurd (let e = h in cc)
 or_none false c h = (refl, h)
 
-any_none : {A : Type 0} (p : A → Bool) (xs : List A) (x : A) → list_any p xs ≡ false → Has xs x → p x ≡ false
+any_none : {A : Type 0} (p : A → Bool) (xs : List A) (x : A) → list_any p xs ≡ false → Has xs x
+    → p x ≡ false
 any_none p [] x none there = absurd there
 any_none p (y ∷ ys) x none (inl e) = ap p e ∙ (or_none (p y) (list_any p ys) none).0
-any_none p (y ∷ ys) x none (inr later) = any_none p ys x (or_none (p y) (list_any p ys) none).1 later
+any_none p (y ∷ ys) x none (inr later) =
+    any_none p ys x (or_none (p y) (list_any p ys) none).1 later
 
-equal_from : (a b : Value) → is_null a ≡ false → is_null b ≡ false → is_eq (value_cmp a b) ≡ true → is_true (binary (Compare Eq Binary) a b) ≡ true
+equal_from : (a b : Value) → is_null a ≡ false → is_null b ≡ false → is_eq (value_cmp a b) ≡ true
+    → is_true (binary (Compare Eq Binary) a b) ≡ true
 unfolding binary
 equal_from a b some other same = rw (some, other) (told (is_eq (value_cmp a b)) ∙ same)
 
-differ_from : (a b : Value) → is_null a ≡ false → is_null b ≡ false → value_cmp a b ≡ Less → differ a b ≡ true
+differ_from : (a b : Value) → is_null a ≡ false → is_null b ≡ false → value_cmp a b ≡ Less
+    → differ a b ≡ true
 unfolding binary
-differ_from a b some other less = rw (some, other) (told (test Ne (value_cmp a b)) ∙ ap (test Ne) less)
+differ_from a b some other less =
+    rw (some, other) (told (test Ne (value_cmp a b)) ∙ ap (test Ne) less)
 
-agrees_by : (a b : Row) → is_true (binary (Compare Eq Binary) (column a 2) (column b 2)) ≡ true → is_true (binary (Compare Eq Binary) (column a 1) (column b 1)) ≡ true
+agrees_by : (a b : Row) → is_true (binary (Compare Eq Binary) (column a 2) (column b 2)) ≡ true
+    → is_true (binary (Compare Eq Binary) (column a 1) (column b 1)) ≡ true
     → agree plain (2 ∷ 1 ∷ []) a (2 ∷ 1 ∷ []) b ≡ true
 unfolding first_key
 agrees_by a b one two = and_from _ _ one (and_from _ true two refl)
@@ -87,7 +93,8 @@ denied false h = refl
 abbrev members_table : Table
 members_table = record members { tree = 3 }
 
-written : (db : Trees) (r : Row) → passes NotNull room_schema db members_table r ≡ true → (is_null (column r 1) ≡ false) × (is_null (column r 2) ≡ false)
+written : (db : Trees) (r : Row) → passes NotNull room_schema db members_table r ≡ true
+    → (is_null (column r 1) ≡ false) × (is_null (column r 2) ≡ false)
 unfolding everything
 written db r h = (denied _ (and_parts _ _ h).0, denied _ (and_parts _ _ (and_parts _ _ h).1).0)
 
@@ -95,7 +102,8 @@ members_listed : Has room_schema.tables members_table
 unfolding everything
 members_listed = inr (inr (inl refl))
 
-then_equal : (x y : Ordering) → is_eq (ordering_then x y) ≡ true → (is_eq x ≡ true) × (is_eq y ≡ true)
+then_equal : (x y : Ordering) → is_eq (ordering_then x y) ≡ true → (is_eq x ≡ true)
+    × (is_eq y ≡ true)
 then_equal Less y e = absurd (true≢false (sym e))
 then_equal Equal y e = (refl, e)
 then_equal Greater y e = absurd (true≢false (sym e))
@@ -108,23 +116,37 @@ module _ (db : Database) (room : IsRoom db) where
   sound = subst (λ s. IsSound s db.trees) room.schema room.sound
 
   present : (r : Row) → Has rows r → (is_null (column r 1) ≡ false) × (is_null (column r 2) ≡ false)
-  present r there = written db.trees r (keeps_at NotNull room_schema db.trees members_table r (sound.obeys.rules NotNull) members_listed there)
+  present r there =
+      written db.trees r (keeps_at NotNull room_schema db.trees members_table r
+      (sound.obeys.rules NotNull) members_listed there)
 
-  apart : (a b : Row) → Has rows a → Has rows b → value_cmp (rowid a) (rowid b) ≡ Less → (t : Bool) → is_eq (by_pair a b) ≡ t → t ≡ false
+  apart : (a b : Row) → Has rows a → Has rows b → value_cmp (rowid a) (rowid b) ≡ Less → (t : Bool)
+      → is_eq (by_pair a b) ≡ t → t ≡ false
   apart a b here there less false is = refl
   apart a b here there less true is =
-      let same = then_equal (value_cmp (column a 1) (column b 1)) (value_cmp (column a 2) (column b 2)) is in
+      let same = then_equal (value_cmp (column a 1) (column b 1))
+      (value_cmp (column a 2) (column b 2)) is in
       let na = present a here in
       let nb = present b there in
-      let agrees : agree plain (2 ∷ 1 ∷ []) a (2 ∷ 1 ∷ []) b ≡ true = agrees_by a b (equal_from (column a 2) (column b 2) na.1 nb.1 same.1) (equal_from (column a 1) (column b 1) na.0 nb.0 same.0) in
-      let differs = differ_from (rowid a) (rowid b) (int_is_some (rowid a) (of_each _ rows room.members.1 a here)) (int_is_some (rowid b) (of_each _ rows room.members.1 b there)) less in
-      let unique = keys_are_unique room_schema db.trees members_table 0 (2 ∷ 1 ∷ []) b sound members_listed refl there in
-      absurd (false≢true (sym (any_none (λ other. agree plain (2 ∷ 1 ∷ []) other (2 ∷ 1 ∷ []) b && differ (rowid other) (rowid b)) rows a unique here) ∙ and_from _ _ agrees differs))
+      let agrees : agree plain (2 ∷ 1 ∷ []) a (2 ∷ 1 ∷ []) b ≡ true = agrees_by a b
+      (equal_from (column a 2) (column b 2) na.1 nb.1 same.1)
+      (equal_from (column a 1) (column b 1) na.0 nb.0 same.0) in
+      let differs = differ_from (rowid a) (rowid b)
+      (int_is_some (rowid a) (of_each _ rows room.members.1 a here))
+      (int_is_some (rowid b) (of_each _ rows room.members.1 b there)) less in
+      let unique = keys_are_unique room_schema db.trees members_table 0
+      (2 ∷ 1 ∷ []) b sound members_listed refl there in
+      absurd
+      (false≢true
+      (sym (any_none (λ other. agree plain (2 ∷ 1 ∷ []) other (2 ∷ 1 ∷ []) b
+      && differ (rowid other) (rowid b)) rows a unique here) ∙ and_from _ _ agrees differs))
 
-  none_tied : (some : List Row) → IsTable some → ((r : Row) → Has some r → Has rows r) → HasNoTies by_pair some
+  none_tied : (some : List Row) → IsTable some → ((r : Row) → Has some r → Has rows r)
+      → HasNoTies by_pair some
   none_tied [] up within = tt
   none_tied (r ∷ some) up within = (
-    each_of _ some (λ y there. apart r y (within r (inl refl)) (within y (inr there)) (of_each _ some up.0 y there) (is_eq (by_pair r y)) refl),
+    each_of _ some (λ y there. apart r y (within r (inl refl)) (within y (inr there))
+        (of_each _ some up.0 y there) (is_eq (by_pair r y)) refl),
     none_tied some up.1 (λ x there. within x (inr there)),
   )
 
@@ -133,7 +155,9 @@ module _ (db : Database) (room : IsRoom db) where
 
 -- ---- what a query shows in this order
 
-module _ (terms : List Term) (db : Trees) (params : Row) (shown_rows : List Row) (a : IsAnswerAs Null (query_of 3 [] terms (ascending_by 1 ∷ ascending_by 2 ∷ [])) db params shown_rows) where
+module _ (terms : List Term) (db : Trees) (params : Row) (shown_rows : List Row)
+    (a : IsAnswerAs Null
+    (query_of 3 [] terms (ascending_by 1 ∷ ascending_by 2 ∷ [])) db params shown_rows) where
   abbrev question : Query
   question = query_of 3 [] terms (ascending_by 1 ∷ ascending_by 2 ∷ [])
 
@@ -144,55 +168,85 @@ module _ (terms : List Term) (db : Trees) (params : Row) (shown_rows : List Row)
   passing = filter (passes_tests [] params) (db 3)
 
   compared : (r s : Row) → output_cmp question (shown r) (shown s) ≡ by_pair r s
-  compared r s = ap (ordering_then (value_cmp (column r 1) (column s 1))) (then-Equal (value_cmp (column r 2) (column s 2)))
+  compared r s =
+      ap (ordering_then (value_cmp (column r 1) (column s 1)))
+      (then-Equal (value_cmp (column r 2) (column s 2)))
 
   passing_are : a.kept ≡ map shown passing
-  passing_are = a.distinct ∙ ap (map (output question)) (a.grouped ∙ each_way Null db [] params (db 3)) ∙ map-map (output question) (way params) passing
+  passing_are =
+      a.distinct ∙ ap (map (output question)) (a.grouped ∙ each_way Null db [] params (db 3))
+      ∙ map-map (output question) (way params) passing
 
-  pub in_pairs : HasNoTies by_pair passing → shown_rows ≡ map (shows terms params) (sort_by by_pair passing)
+  pub in_pairs : HasNoTies by_pair passing
+      → shown_rows ≡ map (shows terms params) (sort_by by_pair passing)
   in_pairs apart =
       let apart' = ascending-map (λ x y. is_eq (output_cmp question x y) ≡ false) shown passing
-      (ascending_weaker _ (λ r s. is_eq (output_cmp question (shown r) (shown s)) ≡ false) (λ r s h. ap is_eq (compared r s) ∙ h) passing apart) in
-      let ordered = sorted_is-sort_by (output_cmp question) (output_cmp_total question) (map shown passing) a.ordered apart' (subst (λ l. IsPermutation l a.ordered) passing_are a.same) a.sorted
-      ∙ sort_by-map (output_cmp question) shown passing ∙ (λ i. map shown (sort_by (λ r s. compared r s i) passing)) in
-      a.shown ∙ ap (λ l. page question params (map (λ (o : Output). o.1) l)) ordered ∙ ap (page question params) (map-map (λ (o : Output). o.1) shown (sort_by by_pair passing))
+      (ascending_weaker _ (λ r s. is_eq (output_cmp question (shown r) (shown s)) ≡ false)
+      (λ r s h. ap is_eq (compared r s) ∙ h) passing apart) in
+      let ordered = sorted_is-sort_by (output_cmp question) (output_cmp_total question)
+      (map shown passing) a.ordered apart'
+      (subst (λ l. IsPermutation l a.ordered) passing_are a.same) a.sorted
+      ∙ sort_by-map (output_cmp question) shown passing
+      ∙ (λ i. map shown (sort_by (λ r s. compared r s i) passing)) in
+      a.shown ∙ ap (λ l. page question params (map (λ (o : Output). o.1) l)) ordered
+      ∙ ap (page question params) (map-map (λ (o : Output). o.1) shown (sort_by by_pair passing))
 
 -- ---- rows in order rise
 
 pub pair_total : IsTotalOrder by_pair
-pair_total = then_total (on_total (λ (r : Row). column r 1) value_cmp_total) (on_total (λ (r : Row). column r 2) value_cmp_total)
+pair_total =
+    then_total (on_total (λ (r : Row). column r 1) value_cmp_total)
+    (on_total (λ (r : Row). column r 2) value_cmp_total)
 
 abbrev Rise : List Row → Type 0
 Rise = IsAscending (λ a b. by_pair a b ≡ Less)
 
-all_inserted : (P : Row → Type 0) (new : Row) (rows : List Row) → P new → AllByRecursion P rows → AllByRecursion P (insert_sorted by_pair new rows)
+all_inserted : (P : Row → Type 0) (new : Row) (rows : List Row) → P new → AllByRecursion P rows
+    → AllByRecursion P (insert_sorted by_pair new rows)
 all_inserted P new [] here all = (here, tt)
-all_inserted P new (r ∷ rows) here all = by (is_gt (by_pair new r)) (all_inserted P new rows here all.1)
+all_inserted P new (r ∷ rows) here all =
+    by (is_gt (by_pair new r)) (all_inserted P new rows here all.1)
   where
-    by : (b : Bool) → AllByRecursion P (insert_sorted by_pair new rows) → AllByRecursion P (cond b (r ∷ insert_sorted by_pair new rows) (new ∷ r ∷ rows))
+    by : (b : Bool) → AllByRecursion P (insert_sorted by_pair new rows)
+        → AllByRecursion P (cond b (r ∷ insert_sorted by_pair new rows) (new ∷ r ∷ rows))
     by true more = (all.0, more)
     by false more = (here, all)
 
-all_sorted : (P : Row → Type 0) (rows : List Row) → AllByRecursion P rows → AllByRecursion P (sort_by by_pair rows)
+all_sorted : (P : Row → Type 0) (rows : List Row) → AllByRecursion P rows
+    → AllByRecursion P (sort_by by_pair rows)
 all_sorted P [] all = tt
-all_sorted P (r ∷ rows) all = all_inserted P r (sort_by by_pair rows) all.0 (all_sorted P rows all.1)
+all_sorted P (r ∷ rows) all =
+    all_inserted P r (sort_by by_pair rows) all.0 (all_sorted P rows all.1)
 
-behind : (new r : Row) (rows : List Row) → by_pair new r ≡ Less → AllByRecursion (λ b. by_pair r b ≡ Less) rows → AllByRecursion (λ b. by_pair new b ≡ Less) rows
+behind : (new r : Row) (rows : List Row) → by_pair new r ≡ Less
+    → AllByRecursion (λ b. by_pair r b ≡ Less) rows
+    → AllByRecursion (λ b. by_pair new b ≡ Less) rows
 behind new r [] less all = tt
-behind new r (b ∷ rows) less all = (pair_total.trans new r b less all.0, behind new r rows less all.1)
+behind new r (b ∷ rows) less all =
+    (pair_total.trans new r b less all.0, behind new r rows less all.1)
 
-rises_inserted : (new : Row) (rows : List Row) → AllByRecursion (λ b. is_eq (by_pair new b) ≡ false) rows → Rise rows → Rise (insert_sorted by_pair new rows)
+rises_inserted : (new : Row) (rows : List Row)
+    → AllByRecursion (λ b. is_eq (by_pair new b) ≡ false) rows → Rise rows
+    → Rise (insert_sorted by_pair new rows)
 rises_inserted new [] apart up = (tt, tt)
-rises_inserted new (r ∷ rows) apart up = by (by_pair new r) refl (rises_inserted new rows apart.1 up.1)
+rises_inserted new (r ∷ rows) apart up =
+    by (by_pair new r) refl (rises_inserted new rows apart.1 up.1)
   where
-    by : (o : Ordering) → by_pair new r ≡ o → Rise (insert_sorted by_pair new rows) → Rise (cond (is_gt o) (r ∷ insert_sorted by_pair new rows) (new ∷ r ∷ rows))
+    by : (o : Ordering) → by_pair new r ≡ o → Rise (insert_sorted by_pair new rows)
+        → Rise (cond (is_gt o) (r ∷ insert_sorted by_pair new rows) (new ∷ r ∷ rows))
     by Less e more = ((e, behind new r rows e up.0), up)
     by Equal e more = absurd (false≢true (sym apart.0 ∙ ap is_eq e))
-    by Greater e more = (all_inserted (λ b. by_pair r b ≡ Less) new rows (pair_total.antisymm r new ∙ ap ordering_reverse e) up.0, more)
+    by Greater e more = (
+      all_inserted (λ b. by_pair r b ≡ Less) new rows
+          (pair_total.antisymm r new ∙ ap ordering_reverse e) up.0,
+      more,
+    )
 
 rises_sorted : (rows : List Row) → HasNoTies by_pair rows → Rise (sort_by by_pair rows)
 rises_sorted [] apart = tt
-rises_sorted (r ∷ rows) apart = rises_inserted r (sort_by by_pair rows) (all_sorted (λ b. is_eq (by_pair r b) ≡ false) rows apart.0) (rises_sorted rows apart.1)
+rises_sorted (r ∷ rows) apart =
+    rises_inserted r (sort_by by_pair rows)
+    (all_sorted (λ b. is_eq (by_pair r b) ≡ false) rows apart.0) (rises_sorted rows apart.1)
 
 -- ---- and so do the pairs that they are read as
 
@@ -203,7 +257,8 @@ name_text (Text s) t is = by (is_utf8 s) is
     named true e = let same : s ≡ t = cc in ap Text same
     named false e = absurd (let z = e in cc)
 
-    by : (b : Bool) → option_and_then name_of_text (if b then Some s else None) ≡ Some t → Text s ≡ Text t
+    by : (b : Bool) → option_and_then name_of_text (if b then Some s else None) ≡ Some t
+        → Text s ≡ Text t
     by true e = named (is_name s) e
     by false e = absurd (let z = e in cc)
 name_text Null t is = absurd (let e = is in cc)
@@ -211,32 +266,44 @@ name_text (Int z) t is = absurd (let e = is in cc)
 name_text (Real x) t is = absurd (let e = is in cc)
 name_text (Blob b) t is = absurd (let e = is in cc)
 
-parts : (g u : Option (List ℕ)) (p : Pair) → option_and_then (λ a. option_map (λ b. (a, b)) u) g ≡ Some p → (g ≡ Some p.0) × (u ≡ Some p.1)
+parts : (g u : Option (List ℕ)) (p : Pair)
+    → option_and_then (λ a. option_map (λ b. (a, b)) u) g ≡ Some p → (g ≡ Some p.0) × (u ≡ Some p.1)
 parts None u p is = absurd (let e = is in cc)
 parts (Some g) None p is = absurd (let e = is in cc)
-parts (Some g) (Some u) p is = let same : (g, u) ≡ p = cc in (ap (λ (x : Pair). Some x.0) same, ap (λ (x : Pair). Some x.1) same)
+parts (Some g) (Some u) p is = let same : (g, u) ≡ p = cc in
+    (ap (λ (x : Pair). Some x.0) same, ap (λ (x : Pair). Some x.1) same)
 
-texts : (r : Row) (p : Pair) → pair_in r ≡ Some p → (column r 1 ≡ Text p.0) × (column r 2 ≡ Text p.1)
+texts : (r : Row) (p : Pair) → pair_in r ≡ Some p → (column r 1 ≡ Text p.0)
+    × (column r 2 ≡ Text p.1)
 texts r p is =
     let both = parts (name_in (column r 1)) (name_in (column r 2)) p is in
     (name_text (column r 1) p.0 both.0, name_text (column r 2) p.1 both.1)
 
-same_cmp : (v w : Value) (s t : List ℕ) → v ≡ Text s → w ≡ Text t → value_cmp v w ≡ slice_cmp nat_cmp s t
-same_cmp v w s t one two = ap (λ x. value_cmp x w) one ∙ ap (value_cmp (Text s)) two ∙ value_cmp-Text s t
+same_cmp : (v w : Value) (s t : List ℕ) → v ≡ Text s → w ≡ Text t
+    → value_cmp v w ≡ slice_cmp nat_cmp s t
+same_cmp v w s t one two =
+    ap (λ x. value_cmp x w) one ∙ ap (value_cmp (Text s)) two ∙ value_cmp-Text s t
 
-less_pairs : (r o : Row) (p m : Pair) → pair_in r ≡ Some p → pair_in o ≡ Some m → by_pair r o ≡ Less → pair_cmp p m ≡ Less
+less_pairs : (r o : Row) (p m : Pair) → pair_in r ≡ Some p → pair_in o ≡ Some m → by_pair r o ≡ Less
+    → pair_cmp p m ≡ Less
 less_pairs r o p m is at less =
     let one = texts r p is in
     let two = texts o m at in
-    sym (ap (λ x. ordering_then x (value_cmp (column r 2) (column o 2))) (same_cmp (column r 1) (column o 1) p.0 m.0 one.0 two.0)
-    ∙ ap (ordering_then (slice_cmp nat_cmp p.0 m.0)) (same_cmp (column r 2) (column o 2) p.1 m.1 one.1 two.1))
+    sym (ap (λ x. ordering_then x (value_cmp (column r 2) (column o 2)))
+    (same_cmp (column r 1) (column o 1) p.0 m.0 one.0 two.0)
+    ∙ ap (ordering_then (slice_cmp nat_cmp p.0 m.0))
+    (same_cmp (column r 2) (column o 2) p.1 m.1 one.1 two.1))
     ∙ less
 
-all_less : (r : Row) (p : Pair) → pair_in r ≡ Some p → (rows : List Row) → AllByRecursion (λ b. by_pair r b ≡ Less) rows → AllByRecursion (λ y. pair_cmp p y ≡ Less) (filter_map pair_in rows)
+all_less : (r : Row) (p : Pair) → pair_in r ≡ Some p → (rows : List Row)
+    → AllByRecursion (λ b. by_pair r b ≡ Less) rows
+    → AllByRecursion (λ y. pair_cmp p y ≡ Less) (filter_map pair_in rows)
 all_less r p is [] all = tt
 all_less r p is (b ∷ rows) all = by (pair_in b) refl (all_less r p is rows all.1)
   where
-    by : (o : Option Pair) → pair_in b ≡ o → AllByRecursion (λ y. pair_cmp p y ≡ Less) (filter_map pair_in rows) → AllByRecursion (λ y. pair_cmp p y ≡ Less) (cons_option o (filter_map pair_in rows))
+    by : (o : Option Pair) → pair_in b ≡ o
+        → AllByRecursion (λ y. pair_cmp p y ≡ Less) (filter_map pair_in rows)
+        → AllByRecursion (λ y. pair_cmp p y ≡ Less) (cons_option o (filter_map pair_in rows))
     by None at more = more
     by (Some m) at more = (less_pairs r b p m is at all.0, more)
 
@@ -245,9 +312,11 @@ unfolding IsStrictlySortedBy
 pairs_rise [] up = tt
 pairs_rise (r ∷ rows) up = by (pair_in r) refl (pairs_rise rows up.1)
   where
-    by : (o : Option Pair) → pair_in r ≡ o → IsStrictlySortedBy pair_cmp (filter_map pair_in rows) → IsStrictlySortedBy pair_cmp (cons_option o (filter_map pair_in rows))
+    by : (o : Option Pair) → pair_in r ≡ o → IsStrictlySortedBy pair_cmp (filter_map pair_in rows)
+        → IsStrictlySortedBy pair_cmp (cons_option o (filter_map pair_in rows))
     by None is more = more
     by (Some p) is more = (all_less r p is rows up.0, more)
 
-pub pairs_in_order : (rows : List Row) → HasNoTies by_pair rows → IsStrictlySortedBy pair_cmp (filter_map pair_in (sort_by by_pair rows))
+pub pairs_in_order : (rows : List Row) → HasNoTies by_pair rows
+    → IsStrictlySortedBy pair_cmp (filter_map pair_in (sort_by by_pair rows))
 pairs_in_order rows apart = pairs_rise (sort_by by_pair rows) (rises_sorted rows apart)

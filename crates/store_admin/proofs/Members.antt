@@ -40,7 +40,8 @@ names = codes "grp" ∷ codes "user" ∷ []
 abbrev asked : Query
 asked = query_of 3 [] columns (ascending_by 1 ∷ ascending_by 2 ∷ [])
 
-members_is : (command_of (understood room_schema members_text) ≡ selects asked names) × (reads_listing room_schema members_text ≡ false)
+members_is : (command_of (understood room_schema members_text) ≡ selects asked names)
+    × (reads_listing room_schema members_text ≡ false)
 unfolding understood everything
 members_is = (refl, refl)
 
@@ -52,11 +53,14 @@ all_kept : {X : Type 0} (l : List X) → filter (λ r. true) l ≡ l
 all_kept [] = refl
 all_kept (x ∷ l) = ap (λ m. x ∷ m) (all_kept l)
 
-pub shows_members : (old new : State) (rows : List Row) → IsRoom old.now → Shown members_text [] old new rows → ShowsMembers old.now.trees rows
+pub shows_members : (old new : State) (rows : List Row) → IsRoom old.now
+    → Shown members_text [] old new rows → ShowsMembers old.now.trees rows
 shows_members old new rows room h =
-    let read = reads_as members_text [] old new room_schema room.schema (selects asked names) members_is.0 plain_members members_is.1 rows h in
+    let read = reads_as members_text [] old new room_schema room.schema
+    (selects asked names) members_is.0 plain_members members_is.1 rows h in
     let all = all_kept (old.now.trees 3) in
-    in_pairs columns (overlay old.now.trees []) [] rows (read.answer Null) (subst (HasNoTies by_pair) (sym all) (pairs_apart old.now room))
+    in_pairs columns (overlay old.now.trees []) [] rows (read.answer Null)
+    (subst (HasNoTies by_pair) (sym all) (pairs_apart old.now room))
     ∙ ap (λ l. map shown_pair (sort_by by_pair l)) all
 
 -- ---- as pairs
@@ -64,11 +68,14 @@ shows_members old new rows room h =
 abbrev pub reads : Pair → Option Pair → Bool
 reads x o = option_map_or (is_at x) o false
 
-has_read : (x : Pair) (rows : List Row) → has x (pairs_seen rows) ≡ list_any (λ r. reads x (pair_seen r)) rows
+has_read : (x : Pair) (rows : List Row)
+    → has x (pairs_seen rows) ≡ list_any (λ r. reads x (pair_seen r)) rows
 has_read x [] = refl
 has_read x (r ∷ rows) = by (pair_seen r) (has_read x rows)
   where
-    by : (o : Option Pair) → has x (pairs_seen rows) ≡ list_any (λ q. reads x (pair_seen q)) rows → has x (cons_option o (pairs_seen rows)) ≡ reads x o || list_any (λ q. reads x (pair_seen q)) rows
+    by : (o : Option Pair) → has x (pairs_seen rows) ≡ list_any (λ q. reads x (pair_seen q)) rows
+        → has x (cons_option o (pairs_seen rows)) ≡ reads x o
+        || list_any (λ q. reads x (pair_seen q)) rows
     by None more = more
     by (Some p) more = ap (λ b. is_at x p || b) more
 
@@ -76,13 +83,20 @@ pairs_shown : (rows : List Row) → pairs_seen (map shown_pair rows) ≡ filter_
 pairs_shown [] = refl
 pairs_shown (r ∷ rows) = ap (cons_option (pair_in r)) (pairs_shown rows)
 
-pub tells_members : (table rows : List Row) → HasNoTies by_pair table → rows ≡ map shown_pair (sort_by by_pair table) → pairs_seen rows ≡ set_of (filter_map pair_in table)
+pub tells_members : (table rows : List Row) → HasNoTies by_pair table
+    → rows ≡ map shown_pair (sort_by by_pair table)
+    → pairs_seen rows ≡ set_of (filter_map pair_in table)
 tells_members table rows apart is =
     let order = sort_by by_pair table in
     let all = pairs_seen (map shown_pair table) in
     let found = pairs_seen (map shown_pair order) in
-    let moved = IsPermutation-map shown_pair table order (IsPermutation-sym order table (IsPermutation-sort_by by_pair pair_total table)) in
+    let moved = IsPermutation-map shown_pair table order
+    (IsPermutation-sym order table (IsPermutation-sort_by by_pair pair_total table)) in
     ap pairs_seen is
-    ∙ same_sets found (set_of all) (subst (IsStrictlySortedBy pair_cmp) (sym (pairs_shown order)) (pairs_in_order table apart)) (set_sorted all)
-    (λ x. has_read x (map shown_pair order) ∙ sym (list_any-IsPermutation (λ r. reads x (pair_seen r)) (map shown_pair table) (map shown_pair order) moved) ∙ sym (has_read x (map shown_pair table)) ∙ sym (has_set x all))
+    ∙ same_sets found (set_of all)
+    (subst (IsStrictlySortedBy pair_cmp) (sym (pairs_shown order)) (pairs_in_order table apart))
+    (set_sorted all)
+    (λ x. has_read x (map shown_pair order)
+    ∙ sym (list_any-IsPermutation (λ r. reads x (pair_seen r)) (map shown_pair table)
+    (map shown_pair order) moved) ∙ sym (has_read x (map shown_pair table)) ∙ sym (has_set x all))
     ∙ ap set_of (pairs_shown table)

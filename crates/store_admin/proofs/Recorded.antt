@@ -99,4 +99,5 @@ pub tells_unread : (db : Database) (rows shown : List Row) → shown ≡ rows
     → HasRecords db.trees rows → (o : Option (Vec AuditRow Global)) → o ≡ None → Told shown o
     → HasUnreadRecord db
 tells_unread db rows shown same has o is told =
-    sym (all_seen (db.trees 7)) ∙ ap (list_all is_read) (sym (same ∙ has)) ∙ subst (Told shown) is told
+    sym (all_seen (db.trees 7)) ∙ ap (list_all is_read) (sym (same ∙ has))
+    ∙ subst (Told shown) is told

@@ -11,22 +11,31 @@ use Rattle.store_schema.specs.Within.{IsWithin}
 use Rattle.store_schema.specs.declared.fault.OpenFault.{OpenFault}
 use Rattle.store_schema.proofs.Founded.{Begins}
 
-module _ (old begun mid end : State) (begins : Begins old begun) (ended : end.in_transaction ≡ false) (clean : doubt mid.is_clean ≤ doubt end.is_clean) (back : HasCleanDisk end → IsRolledBack mid end) where
+module _ (old begun mid end : State) (begins : Begins old begun)
+    (ended : end.in_transaction ≡ false) (clean : doubt mid.is_clean ≤ doubt end.is_clean)
+    (back : HasCleanDisk end → IsRolledBack mid end) where
   module _ (within : IsWithin begun mid) where
     clean_mid : HasCleanDisk end → HasCleanDisk mid
     clean_mid h = omega arith
 
     open_first : HasCleanDisk end → IsTrue end.is_open → IsTrue old.is_open
-    open_first now open' = sym begins.same_open ∙ within.was_open (clean_mid now) ((back now).was_open open')
+    open_first now open' =
+        sym begins.same_open ∙ within.was_open (clean_mid now) ((back now).was_open open')
 
-    adopts : (r : Result (Unit {0}) OpenFault) → (HasCleanDisk end → old.now.schema ≡ room_schema → Says (pos 2) (meta_of old.now) r) → (HasCleanDisk end → old.now.schema ≡ no_schema → IsErrAnd r IsRefusal) → (HasCleanDisk end → AnswersVersion (pos 2) begun.now r × OnOk r (IsTrue begun.is_open)) → Adopts old end r
+    adopts : (r : Result (Unit {0}) OpenFault)
+        → (HasCleanDisk end → old.now.schema ≡ room_schema → Says (pos 2) (meta_of old.now) r)
+        → (HasCleanDisk end → old.now.schema ≡ no_schema → IsErrAnd r IsRefusal)
+        → (HasCleanDisk end → AnswersVersion (pos 2) begun.now r × OnOk r (IsTrue begun.is_open))
+        → Adopts old end r
     adopts r told empty shown = record {
       ended = ended;
-      clean = let same : doubt begun.is_clean ≡ doubt old.is_clean = ap doubt begins.same_clean in omega (arith, same, within.clean, clean);
+      clean = let same : doubt begun.is_clean ≡ doubt old.is_clean = ap doubt begins.same_clean in
+          omega (arith, same, within.clean, clean);
       was_open = open_first;
       kept = λ now open'.
           let undone = (back now).undone open' in
-          let same = within.committed (clean_mid now) ((back now).was_open open') ∙ begins.committed in
+          let same = within.committed (clean_mid now) ((back now).was_open open')
+          ∙ begins.committed in
           (undone.0 ∙ same ∙ sym (begins.settled (open_first now open')), undone.1 ∙ same);
       answers = λ now. subst (λ b. OnOk r (IsTrue b)) begins.same_open (shown now).1;
       shown = λ now. subst (λ d. AnswersVersion (pos 2) d r) begins.now (shown now).0;
@@ -40,5 +49,7 @@ module _ (old begun mid end : State) (begins : Begins old begun) (ended : end.in
   pub adopted : (r : Result (Unit {0}) OpenFault) → Expects (pos 2) begun mid r → Adopts old end r
   adopted r expects =
       let within = expects.within begins.mode in
-      adopts within r (λ now has. subst (λ v. Says (pos 2) v r) (ap meta_of begins.now) (expects.told (clean_mid within now) (schema_begun has)).0)
-      (λ now has. expects.empty (clean_mid within now) (schema_begun has)) (λ now. expects.shown (clean_mid within now))
+      adopts within r (λ now has. subst (λ v. Says (pos 2) v r) (ap meta_of begins.now)
+      (expects.told (clean_mid within now) (schema_begun has)).0)
+      (λ now has. expects.empty (clean_mid within now) (schema_begun has))
+      (λ now. expects.shown (clean_mid within now))

@@ -45,7 +45,8 @@ told true = refl
 told false = refl
 
 -- as SQL's =, of a value that is not NULL
-equals_text : (a : Value) (t : List ℕ) → is_true (binary (Compare Eq Binary) a (Text t)) ≡ is_eq (value_cmp a (Text t))
+equals_text : (a : Value) (t : List ℕ)
+    → is_true (binary (Compare Eq Binary) a (Text t)) ≡ is_eq (value_cmp a (Text t))
 unfolding binary
 equals_text Null t = sym (ap is_eq (value_cmp-Null (Text t)))
 equals_text (Int m) t = told _
@@ -56,9 +57,12 @@ equals_text (Blob b) t = told _
 passes_rooms : (r : Row) → passes (is_rooms ∷ []) [] r ≡ is_version r
 passes_rooms r = and_true _ ∙ equals_text (column r 1) _
 
-same_filter : {A : Type 0} (p q : A → Bool) → ((x : A) → p x ≡ q x) → (xs : List A) → filter p xs ≡ filter q xs
+same_filter : {A : Type 0} (p q : A → Bool) → ((x : A) → p x ≡ q x) → (xs : List A)
+    → filter p xs ≡ filter q xs
 same_filter p q same [] = refl
-same_filter p q same (x ∷ xs) = ap (λ b. cond b (x ∷ filter p xs) (filter p xs)) (same x) ∙ ap (λ l. cond (q x) (x ∷ l) l) (same_filter p q same xs)
+same_filter p q same (x ∷ xs) =
+    ap (λ b. cond b (x ∷ filter p xs) (filter p xs)) (same x)
+    ∙ ap (λ l. cond (q x) (x ∷ l) l) (same_filter p q same xs)
 
 -- a list that isn't of one row has no number, in whatever order
 not_one : (rows : List Row) → (length rows ≡ 1 → ⊥) → number_shown rows ≡ None
@@ -67,17 +71,26 @@ not_one (r ∷ []) other = absurd (other refl)
 not_one (r ∷ s ∷ rows) other = refl
 
 same_number : (all rows : List Row) → IsPermutation all rows → number_shown rows ≡ number_shown all
-same_number [] rows perm = not_one rows (λ one. let e = length_permutation [] rows perm in omega (arith, one, e))
+same_number [] rows perm =
+    not_one rows (λ one. let e = length_permutation [] rows perm in omega (arith, one, e))
 same_number (r ∷ []) rows perm = ap number_shown (one_permutation r rows perm)
-same_number (r ∷ s ∷ all) rows perm = not_one rows (λ one. let e = length_permutation (r ∷ s ∷ all) rows perm in omega (arith, one, e))
+same_number (r ∷ s ∷ all) rows perm =
+    not_one rows (λ one. let e = length_permutation (r ∷ s ∷ all) rows perm in
+    omega (arith, one, e))
 
-shown_number : (old new : State) (rows : List Row) → old.now.schema ≡ room_schema → Shown number_text [] old new rows → number_shown rows ≡ meta_of old.now
+shown_number : (old new : State) (rows : List Row) → old.now.schema ≡ room_schema
+    → Shown number_text [] old new rows → number_shown rows ≡ meta_of old.now
 shown_number old new rows has h =
-    let read = reads_as number_text [] old new room_schema has asks_value asked_is.0 asked_plain asked_is.1 rows h in
-    let perm = selected Null 5 (is_rooms ∷ []) _ [] (overlay old.now.trees []) [] rows (read.answer Null) in
-    same_number _ rows perm ∙ ap (λ l. number_shown (map (λ r. column r 2 ∷ []) l)) (same_filter _ _ passes_rooms (old.now.trees 5))
+    let read = reads_as number_text
+    [] old new room_schema has asks_value asked_is.0 asked_plain asked_is.1 rows h in
+    let perm = selected Null 5 (is_rooms ∷ []) _ [] (overlay old.now.trees []) [] rows
+    (read.answer Null) in
+    same_number _ rows perm
+    ∙ ap (λ l. number_shown (map (λ r. column r 2 ∷ []) l))
+    (same_filter _ _ passes_rooms (old.now.trees 5))
 
-shown_same : (old new : State) (rows : List Row) → old.now.schema ≡ room_schema → Shown number_text [] old new rows → new.now ≡ old.now
+shown_same : (old new : State) (rows : List Row) → old.now.schema ≡ room_schema
+    → Shown number_text [] old new rows → new.now ≡ old.now
 unfolding Shown
 shown_same old new rows has h =
     let plain = subst IsPlain (ap (λ s. understood s number_text) (sym has) ∙ h.1.is) asked_plain in
@@ -86,8 +99,10 @@ shown_same old new rows has h =
 
 -- ---- what a query inside a transaction leaves
 
-module _ (old new : State) (clean : doubt old.is_clean ≤ doubt new.is_clean) (inside : IsTrue old.in_transaction) where
-  shows_within : (sql : List ℕ) (c : Compiled) (full : Row) (rows : List Row) (r : Option Returning) → ShowsRows old new sql c full rows r → IsWithin old new
+module _ (old new : State) (clean : doubt old.is_clean ≤ doubt new.is_clean)
+    (inside : IsTrue old.in_transaction) where
+  shows_within : (sql : List ℕ) (c : Compiled) (full : Row) (rows : List Row) (r : Option Returning)
+      → ShowsRows old new sql c full rows r → IsWithin old new
   shows_within sql c full rows None h = unchanged_within old new clean h.3
   shows_within sql c full rows (Some what) h =
       let it = h.1.shown in
@@ -99,24 +114,29 @@ module _ (old new : State) (clean : doubt old.is_clean ≤ doubt new.is_clean) (
         mode = it.mode ∙ inside;
       })
 
-  shown_within : (sql : List ℕ) (params : Row) (rows : List Row) → Shown sql params old new rows → IsWithin old new
+  shown_within : (sql : List ℕ) (params : Row) (rows : List Row) → Shown sql params old new rows
+      → IsWithin old new
   unfolding Shown
   shown_within sql params rows h = shows_within sql h.0 _ rows h.0.returning h.2
 
-  not_shown : (sql : List ℕ) (c : Compiled) (full : Row) (e : Error) (r : Option Returning) → FailsToShow old new sql c full e r → IsWithin old new
+  not_shown : (sql : List ℕ) (c : Compiled) (full : Row) (e : Error) (r : Option Returning)
+      → FailsToShow old new sql c full e r → IsWithin old new
   not_shown sql c full e None f = unchanged_within old new clean f.3
   not_shown sql c full e (Some what) (inl f) = unchanged_within old new clean f.1
   not_shown sql c full e (Some what) (inr f) = undone_within old new clean f.3
 
-  failed_within : (sql : List ℕ) (params : Row) (e : Error) → FailsToQuery sql params old new e ⊎ IsTooLate sql params old new e → IsWithin old new
+  failed_within : (sql : List ℕ) (params : Row) (e : Error) → FailsToQuery sql params old new e
+      ⊎ IsTooLate sql params old new e → IsWithin old new
   unfolding FailsToQuery IsNotRun
   failed_within sql params e (inl (inl (inl h))) = unchanged_within old new clean h.1
   failed_within sql params e (inl (inl (inr h))) = undone_within old new clean h.3
   failed_within sql params e (inl (inr h)) = not_shown sql h.0 _ e h.0.returning h.2
   failed_within sql params e (inr late) = unchanged_within old new clean late.5
 
-  pub query_within : (sql : List ℕ) (params : Row) (r : Result (Vec Row Global) Error) → (HasCleanDisk new → IfOk r (λ rows. Shown sql params old new rows.items))
-      → (HasCleanDisk new → IfErr r (λ e. FailsToQuery sql params old new e ⊎ IsTooLate sql params old new e)) → IsWithin old new
+  pub query_within : (sql : List ℕ) (params : Row) (r : Result (Vec Row Global) Error)
+      → (HasCleanDisk new → IfOk r (λ rows. Shown sql params old new rows.items))
+      → (HasCleanDisk new → IfErr r (λ e. FailsToQuery sql params old new e
+      ⊎ IsTooLate sql params old new e)) → IsWithin old new
   query_within sql params (Ok rows) ok err = record {
     clean = clean;
     was_open = λ now. (shown_within sql params rows.items (ok now)).was_open now;
@@ -140,41 +160,57 @@ no_input Full fault e = cc
 no_input Broken fault e = cc
 no_input Unstorable fault e = cc
 
-no_refusal : (limit : Option ℕ) (db : Database) (params : Row) (fault : CompileError) → RefusesToRead limit asks_value db params (SqlInputError fault) → ⊥
+no_refusal : (limit : Option ℕ) (db : Database) (params : Row) (fault : CompileError)
+    → RefusesToRead limit asks_value db params (SqlInputError fault) → ⊥
 no_refusal limit db params fault (inl h) = let e = h.0 in cc
 no_refusal limit db params fault (inr (inl h)) = let e = h.0 in cc
 no_refusal limit db params fault (inr (inr h)) = let e = h.0 in cc
 
-understood_here : (old new : State) (fault : CompileError) → old.now.schema ≡ room_schema → FailsToQuery number_text [] old new (SqlInputError fault) ⊎ IsTooLate number_text [] old new (SqlInputError fault) → ⊥
+understood_here : (old new : State) (fault : CompileError) → old.now.schema ≡ room_schema
+    → FailsToQuery number_text [] old new (SqlInputError fault)
+    ⊎ IsTooLate number_text [] old new (SqlInputError fault) → ⊥
 unfolding FailsToQuery IsNotRun
-understood_here old new fault has (inl (inl (inl (inl h, same)))) = subst IsPlain (ap (λ s. understood s number_text) (sym has) ∙ h.1) asked_plain
+understood_here old new fault has (inl (inl (inl (inl h, same)))) =
+    subst IsPlain (ap (λ s. understood s number_text) (sym has) ∙ h.1) asked_plain
 understood_here old new fault has (inl (inl (inl (inr (c, is, inl h), same)))) = let e = h.1 in cc
-understood_here old new fault has (inl (inl (inl (inr (c, is, inr (inl h)), same)))) = let e = h.1 in cc
-understood_here old new fault has (inl (inl (inl (inr (c, is, inr (inr h)), same)))) = let e = h.1 in cc
+understood_here old new fault has (inl (inl (inl (inr (c, is, inr (inl h)), same)))) = let e =
+    h.1 in cc
+understood_here old new fault has (inl (inl (inl (inr (c, is, inr (inr h)), same)))) = let e =
+    h.1 in cc
 understood_here old new fault has (inl (inl (inr h))) = no_input h.0 fault h.1
 understood_here old new fault has (inl (inr h)) =
     let known = ap (λ s. understood s number_text) (sym has) ∙ h.1.is in
     let plain = subst IsPlain known asked_plain in
     let command = ap command_of (sym known) ∙ asked_is.0 in
-    let fails = subst (FailsToShow old new number_text h.0 (timed [] h.0.formats h.1.now) (SqlInputError fault)) plain.0 h.2 in
-    no_refusal old.step_limit fails.0 (timed [] h.0.formats h.1.now) fault (subst (λ k. RefusesToRead old.step_limit k fails.0 (timed [] h.0.formats h.1.now) (SqlInputError fault)) command fails.2)
+    let fails = subst (FailsToShow old new number_text h.0 (timed [] h.0.formats h.1.now)
+    (SqlInputError fault)) plain.0 h.2 in
+    no_refusal old.step_limit fails.0 (timed [] h.0.formats h.1.now) fault
+    (subst (λ k. RefusesToRead old.step_limit k fails.0 (timed [] h.0.formats h.1.now)
+    (SqlInputError fault)) command fails.2)
 understood_here old new fault has (inr late) = let e = late.4 in cc
 
 -- ---- over an empty database it isn't
 
-pub shown_nowhere : (old new : State) (rows : List Row) → old.now.schema ≡ no_schema → Shown number_text [] old new rows → ⊥
+pub shown_nowhere : (old new : State) (rows : List Row) → old.now.schema ≡ no_schema
+    → Shown number_text [] old new rows → ⊥
 unfolding Shown
-shown_nowhere old new rows has h = let e = sym asked_nowhere ∙ ap (λ s. understood s number_text) (sym has) ∙ h.1.is in cc
+shown_nowhere old new rows has h = let e =
+    sym asked_nowhere ∙ ap (λ s. understood s number_text) (sym has) ∙ h.1.is in cc
 
 -- so nothing shows a number over it
-pub no_version : (version : Option ℤ) (db : Database) → db.schema ≡ no_schema → ShowsVersion version db → ⊥
-no_version version db has v = let e = sym asked_nowhere ∙ ap (λ s. understood s number_text) (sym has) ∙ v.is in cc
+pub no_version : (version : Option ℤ) (db : Database) → db.schema ≡ no_schema
+    → ShowsVersion version db → ⊥
+no_version version db has v = let e =
+    sym asked_nowhere ∙ ap (λ s. understood s number_text) (sym has) ∙ v.is in cc
 
-read_as : (old new : State) (c : Compiled) (clock : ℕ) (rows : List Row) (r : Option Returning) → ShowsRows old new number_text c (timed [] c.formats clock) rows r → ReadsAs old.now c clock rows r
+read_as : (old new : State) (c : Compiled) (clock : ℕ) (rows : List Row) (r : Option Returning)
+    → ShowsRows old new number_text c (timed [] c.formats clock) rows r
+    → ReadsAs old.now c clock rows r
 read_as old new c clock rows None h = (h.0, h.1, h.2)
 read_as old new c clock rows (Some what) h = tt
 
-shows_version : (old new : State) (rows : List Row) (version : Option ℤ) → Shown number_text [] old new rows → number_shown rows ≡ version → ShowsVersion version old.now
+shows_version : (old new : State) (rows : List Row) (version : Option ℤ)
+    → Shown number_text [] old new rows → number_shown rows ≡ version → ShowsVersion version old.now
 unfolding Shown
 shows_version old new rows version h is = record {
   command = h.0;
@@ -185,19 +221,24 @@ shows_version old new rows version h is = record {
   number = is;
 }
 
-open_as : (old new : State) (sql : List ℕ) (c : Compiled) (full : Row) (rows : List Row) (r : Option Returning) → ShowsRows old new sql c full rows r → IsTrue old.is_open
+open_as : (old new : State) (sql : List ℕ) (c : Compiled) (full : Row) (rows : List Row)
+    (r : Option Returning) → ShowsRows old new sql c full rows r → IsTrue old.is_open
 open_as old new sql c full rows None h = h.3.0.was_open
 open_as old new sql c full rows (Some what) h = h.1.shown.was_open
 
-shown_open : (old new : State) (sql : List ℕ) (params : Row) (rows : List Row) → Shown sql params old new rows → IsTrue old.is_open
+shown_open : (old new : State) (sql : List ℕ) (params : Row) (rows : List Row)
+    → Shown sql params old new rows → IsTrue old.is_open
 unfolding Shown
 shown_open old new sql params rows h = open_as old new sql h.0 _ rows h.0.returning h.2
 
-tells_by : (wanted : ℤ) (version : Option ℤ) (db : Database) (r : Result (Unit {0}) OpenFault) → Says wanted version r → ShowsVersion version db → AnswersVersion wanted db r
+tells_by : (wanted : ℤ) (version : Option ℤ) (db : Database) (r : Result (Unit {0}) OpenFault)
+    → Says wanted version r → ShowsVersion version db → AnswersVersion wanted db r
 tells_by wanted version db (Ok x) says shows = subst (λ v. ShowsVersion v db) says shows
 tells_by wanted version db (Err NotRooms) says shows = tt
-tells_by wanted version db (Err (OldVersion n)) says shows = (subst (λ v. ShowsVersion v db) says.0 shows, says.1)
-tells_by wanted version db (Err (NewVersion n)) says shows = (subst (λ v. ShowsVersion v db) says.0 shows, says.1)
+tells_by wanted version db (Err (OldVersion n)) says shows =
+    (subst (λ v. ShowsVersion v db) says.0 shows, says.1)
+tells_by wanted version db (Err (NewVersion n)) says shows =
+    (subst (λ v. ShowsVersion v db) says.0 shows, says.1)
 tells_by wanted version db (Err Db) says shows = tt
 tells_by wanted version db (Err Memory) says shows = tt
 
@@ -211,16 +252,28 @@ refusal_of e Memory called = tt
 -- ---- the call
 
 module _ (old new : State) (clean : doubt old.is_clean ≤ doubt new.is_clean) where
-  pub asks_ok : (rows : Vec Row Global) (version : Option ℤ) → version ≡ number_shown rows.items → (HasCleanDisk new → Shown number_text [] old new rows.items) → AsksVersion old new (Ok version)
+  pub asks_ok : (rows : Vec Row Global) (version : Option ℤ) → version ≡ number_shown rows.items
+      → (HasCleanDisk new → Shown number_text [] old new rows.items)
+      → AsksVersion old new (Ok version)
   asks_ok rows version is ok = record {
     clean = clean;
     within = λ inside. query_within old new clean inside number_text [] (Ok rows) ok (λ _. tt);
-    told = λ now has. (is ∙ shown_number old new rows.items has (ok now), shown_same old new rows.items has (ok now));
+    told =
+        λ now has. (
+          is ∙ shown_number old new rows.items has (ok now),
+          shown_same old new rows.items has (ok now),
+        );
     empty = λ now has. absurd (shown_nowhere old new rows.items has (ok now));
-    shown = λ now. (shows_version old new rows.items version (ok now) (sym is), shown_open old new number_text [] rows.items (ok now));
+    shown =
+        λ now. (
+          shows_version old new rows.items version (ok now) (sym is),
+          shown_open old new number_text [] rows.items (ok now),
+        );
   }
 
-  pub asks_err : (e : Error) (fault : OpenFault) → IsCalled e fault → (HasCleanDisk new → FailsToQuery number_text [] old new e ⊎ IsTooLate number_text [] old new e)
+  pub asks_err : (e : Error) (fault : OpenFault) → IsCalled e fault
+      → (HasCleanDisk new → FailsToQuery number_text [] old new e
+      ⊎ IsTooLate number_text [] old new e)
       → AsksVersion old new (Err fault)
   asks_err e fault called err = record {
     clean = clean;
@@ -230,20 +283,34 @@ module _ (old new : State) (clean : doubt old.is_clean ≤ doubt new.is_clean) w
     shown = λ _. refusal_of e fault called;
   }
     where
-      by : (f : OpenFault) → IsCalled e f → old.now.schema ≡ room_schema → FailsToQuery number_text [] old new e ⊎ IsTooLate number_text [] old new e → IsFailure f
-      by NotRooms it has h = understood_here old new it.0 has (subst (λ x. FailsToQuery number_text [] old new x ⊎ IsTooLate number_text [] old new x) it.1 h)
+      by : (f : OpenFault) → IsCalled e f → old.now.schema ≡ room_schema
+          → FailsToQuery number_text [] old new e ⊎ IsTooLate number_text [] old new e → IsFailure f
+      by NotRooms it has h =
+          understood_here old new it.0 has
+          (subst (λ x. FailsToQuery number_text [] old new x
+          ⊎ IsTooLate number_text [] old new x) it.1 h)
       by (OldVersion n) it has h = it
       by (NewVersion n) it has h = it
       by Db it has h = tt
       by Memory it has h = tt
 
-pub expects_ok : (wanted : ℤ) (old new : State) (version : Option ℤ) (r : Result (Unit {0}) OpenFault) → AsksVersion old new (Ok version) → Says wanted version r → Expects wanted old new r
+pub expects_ok : (wanted : ℤ) (old new : State) (version : Option ℤ)
+    (r : Result (Unit {0}) OpenFault) → AsksVersion old new (Ok version) → Says wanted version r
+    → Expects wanted old new r
 expects_ok wanted old new version r asks says = record {
   clean = asks.clean;
   within = asks.within;
-  told = λ now has. (subst (λ v. Says wanted v r) (asks.told now has).0 says, on_ok r (asks.told now has).1);
+  told =
+      λ now has. (
+        subst (λ v. Says wanted v r) (asks.told now has).0 says,
+        on_ok r (asks.told now has).1,
+      );
   empty = λ now has. absurd (asks.empty now has);
-  shown = λ now. (tells_by wanted version old.now r says (asks.shown now).0, open_ok r (asks.shown now).1);
+  shown =
+      λ now. (
+        tells_by wanted version old.now r says (asks.shown now).0,
+        open_ok r (asks.shown now).1,
+      );
 }
   where
     open_ok : (r : Result (Unit {0}) OpenFault) → IsTrue old.is_open → OnOk r (IsTrue old.is_open)
@@ -255,14 +322,16 @@ expects_ok wanted old new version r asks says = record {
     on_ok (Err e) same = tt
 
 -- a query that failed answers no number
-no_number : (wanted : ℤ) (db : Database) (fault : OpenFault) → IsRefusal fault → AnswersVersion wanted db (Err fault)
+no_number : (wanted : ℤ) (db : Database) (fault : OpenFault) → IsRefusal fault
+    → AnswersVersion wanted db (Err fault)
 no_number wanted db NotRooms it = tt
 no_number wanted db (OldVersion n) it = absurd it
 no_number wanted db (NewVersion n) it = absurd it
 no_number wanted db Db it = tt
 no_number wanted db Memory it = tt
 
-pub expects_err : (wanted : ℤ) (old new : State) (fault : OpenFault) → AsksVersion old new (Err fault) → Expects wanted old new (Err fault)
+pub expects_err : (wanted : ℤ) (old new : State) (fault : OpenFault)
+    → AsksVersion old new (Err fault) → Expects wanted old new (Err fault)
 expects_err wanted old new fault asks = record {
   clean = asks.clean;
   within = asks.within;

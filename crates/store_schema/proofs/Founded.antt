@@ -22,7 +22,8 @@ pub record Begins (old begun : State) : Type 0 where
   pub settled : IsTrue old.is_open → old.now ≡ old.committed
 
 -- nothing is begun where the database isn't empty
-pub not_blank : (owners : Owners) (old : State) → old.in_transaction ≡ false → Founds owners old old (Err Db)
+pub not_blank : (owners : Owners) (old : State) → old.in_transaction ≡ false
+    → Founds owners old old (Err Db)
 not_blank owners old ended = record {
   ended = ended;
   clean = omega arith;
@@ -32,13 +33,16 @@ not_blank owners old ended = record {
   kept = λ _ _. (refl, refl);
 }
 
-module _ (owners : Owners) (old begun mid end : State) (blank : old.now.schema ≡ no_schema) (begins : Begins old begun) (ended : end.in_transaction ≡ false) (clean : doubt mid.is_clean ≤ doubt end.is_clean) where
+module _ (owners : Owners) (old begun mid end : State) (blank : old.now.schema ≡ no_schema)
+    (begins : Begins old begun) (ended : end.in_transaction ≡ false)
+    (clean : doubt mid.is_clean ≤ doubt end.is_clean) where
   module _ (within : IsWithin begun mid) where
     clean_mid : HasCleanDisk end → HasCleanDisk mid
     clean_mid h = omega arith
 
     since : doubt old.is_clean ≤ doubt end.is_clean
-    since = let same : doubt begun.is_clean ≡ doubt old.is_clean = ap doubt begins.same_clean in omega (arith, same, within.clean, clean)
+    since = let same : doubt begun.is_clean ≡ doubt old.is_clean = ap doubt begins.same_clean in
+        omega (arith, same, within.clean, clean)
 
     open_first : HasCleanDisk end → IsTrue mid.is_open → IsTrue old.is_open
     open_first now open' = sym begins.same_open ∙ within.was_open (clean_mid now) open'
@@ -46,48 +50,71 @@ module _ (owners : Owners) (old begun mid end : State) (blank : old.now.schema �
     committed_mid : HasCleanDisk end → IsTrue mid.is_open → mid.committed ≡ old.committed
     committed_mid now open' = within.committed (clean_mid now) open' ∙ begins.committed
 
-    given_up : (e : CreateFault) → (HasCleanDisk end → IsTrue end.is_open → IsTrue mid.is_open) → (HasCleanDisk end → IsTrue end.is_open → (end.now ≡ old.committed) × (end.committed ≡ old.committed)) → Founds owners old end (Err e)
+    given_up : (e : CreateFault) → (HasCleanDisk end → IsTrue end.is_open → IsTrue mid.is_open)
+        → (HasCleanDisk end → IsTrue end.is_open → (end.now ≡ old.committed)
+        × (end.committed ≡ old.committed)) → Founds owners old end (Err e)
     given_up e was left = record {
       ended = ended;
       clean = since;
       was_open = λ now open'. open_first now (was now open');
       made = λ _. tt;
       refused = λ other. absurd (other blank);
-      kept = λ now open'. let settled = begins.settled (open_first now (was now open')) in ((left now open').0 ∙ sym settled, (left now open').1);
+      kept = λ now open'. let settled = begins.settled (open_first now (was now open')) in
+          ((left now open').0 ∙ sym settled, (left now open').1);
     }
 
-    undone_at : HasCleanDisk end → IsTrue end.is_open → IsRolledBack mid end → (end.now ≡ old.committed) × (end.committed ≡ old.committed)
+    undone_at : HasCleanDisk end → IsTrue end.is_open → IsRolledBack mid end
+        → (end.now ≡ old.committed) × (end.committed ≡ old.committed)
     undone_at now open' back =
         let same = committed_mid now (back.was_open open') in
         ((back.undone open').0 ∙ same, (back.undone open').1 ∙ same)
 
-    pub undone : (e : CreateFault) → (HasCleanDisk end → IsRolledBack mid end) → Founds owners old end (Err e)
-    undone e back = given_up e (λ now open'. (back now).was_open open') (λ now open'. undone_at now open' (back now))
+    pub undone : (e : CreateFault) → (HasCleanDisk end → IsRolledBack mid end)
+        → Founds owners old end (Err e)
+    undone e back =
+        given_up e (λ now open'. (back now).was_open open')
+        (λ now open'. undone_at now open' (back now))
 
-    pub not_committed : (e : CreateFault) (why : Error) → (HasCleanDisk end → FailsToCommit mid end why) → Founds owners old end (Err e)
-    not_committed e why err = given_up e (λ now open'. was now open' (err now)) (λ now open'. left now open' (err now))
+    pub not_committed : (e : CreateFault) (why : Error)
+        → (HasCleanDisk end → FailsToCommit mid end why) → Founds owners old end (Err e)
+    not_committed e why err =
+        given_up e (λ now open'. was now open' (err now)) (λ now open'. left now open' (err now))
       where
         was : HasCleanDisk end → IsTrue end.is_open → FailsToCommit mid end why → IsTrue mid.is_open
         was now open' (inl fails) = fails.3.was_open open'
         was now open' (inr (is, mode, same)) = same.0.was_open
 
-        left : HasCleanDisk end → IsTrue end.is_open → FailsToCommit mid end why → (end.now ≡ old.committed) × (end.committed ≡ old.committed)
+        left : HasCleanDisk end → IsTrue end.is_open → FailsToCommit mid end why
+            → (end.now ≡ old.committed) × (end.committed ≡ old.committed)
         left now open' (inl fails) = undone_at now open' fails.3
         left now open' (inr (is, mode, same)) =
-            let settled = within.settled (clean_mid now) same.0.was_open (λ off. absurd (let e' : true ≡ false = sym begins.mode ∙ off in cc)) mode in
+            let settled = within.settled (clean_mid now) same.0.was_open
+            (λ off. absurd (let e' : true ≡ false = sym begins.mode ∙ off in cc)) mode in
             let kept = committed_mid now same.0.was_open in
             (same.0.now_is ∙ settled ∙ kept, same.0.committed_is ∙ kept)
 
-  pub committed : Makes {X = Unit {0}} {E = Error} (HasEmpty no_schema []) (IsNewRoom owners) begun mid (Ok tt)
-      → (HasCleanDisk end → IsTrue mid.in_transaction × Shows mid end mid.now mid.now false × KeepsCounts mid end × (end.marks ≡ [])) → Founds owners old end (Ok tt)
+  pub committed : Makes {X = Unit {0}} {E = Error} (HasEmpty no_schema [])
+      (IsNewRoom owners) begun mid (Ok tt)
+      → (HasCleanDisk end → IsTrue mid.in_transaction × Shows mid end mid.now mid.now false
+      × KeepsCounts mid end × (end.marks ≡ [])) → Founds owners old end (Ok tt)
   committed makes ok = record {
     ended = ended;
     clean = since makes.within;
     was_open = λ now open'. open_first makes.within now (ok now).1.was_open;
     made = λ now.
         let shows = (ok now).1 in
-        let room = makes.makes (clean_mid makes.within now) (record { has = ap (λ (d : Rattle.sqlite.specs.Effect.Database). d.schema) begins.now ∙ blank; empty = tt }) in
-        (blank, subst (IsNewRoom owners) (sym shows.now_is) room, shows.committed_is ∙ sym shows.now_is, shows.is_open);
+        let room = makes.makes (clean_mid makes.within now)
+        (record {
+          has = ap (λ (d : Rattle.sqlite.specs.Effect.Database). d.schema) begins.now
+              ∙ blank;
+          empty = tt;
+        }) in (
+          blank,
+          subst (IsNewRoom owners) (sym shows.now_is) room,
+          shows.committed_is
+              ∙ sym shows.now_is,
+          shows.is_open,
+        );
     refused = λ other. absurd (other blank);
     kept = λ _ _. tt;
   }

@@ -32,43 +32,84 @@ no_line_is = refl
 
 abbrev pub root_row : List ℕ → List ℕ → Row
 root_row owner group =
-    Int (pos 1) ∷ Null ∷ Null ∷ Text [] ∷ Int (pos 1) ∷ Text owner ∷ Text group ∷ Int (pos 1) ∷ Int (pos 1) ∷ Text owner_line ∷ Text [] ∷ Text [] ∷ Text [] ∷ []
+    Int (pos 1) ∷ Null ∷ Null ∷ Text [] ∷ Int (pos 1) ∷ Text owner ∷ Text group ∷ Int (pos 1)
+    ∷ Int (pos 1) ∷ Text owner_line ∷ Text [] ∷ Text [] ∷ Text [] ∷ []
 
 -- a node by its columns that may not be read
-abbrev root_of : Option (List ℕ) → Option (List ℕ) → Option (List Ace) → Option (List Ace) → Option Node
+abbrev root_of : Option (List ℕ) → Option (List ℕ) → Option (List Ace) → Option (List Ace)
+    → Option Node
 root_of owner group own none =
     option_and_then (λ owners. option_and_then (λ dacl. option_map (λ sacl.
-    let n : Node = record { id = 1; parent = None; name = []; kind = Folder; owners = owners; dacl = dacl; sacl = sacl } in n)
+    let n : Node = record {
+      id = 1;
+      parent = None;
+      name = [];
+      kind = Folder;
+      owners = owners;
+      dacl = dacl;
+      sacl = sacl;
+    } in n)
     (list_of none none)) (list_of own none))
-    (option_and_then (λ o. option_map (λ g. let w : Owners = record { owner = o; group = g } in w) group) owner)
+    (option_and_then
+    (λ o. option_map (λ g. let w : Owners = record { owner = o; group = g } in w) group) owner)
   where
     list_of : Option (List Ace) → Option (List Ace) → Option Held
-    list_of own inh = option_and_then (λ o. option_map (λ i. let h : Held = record { flags = record { auto = true; protect = false }; own = o; inh = i } in h) inh) own
+    list_of own inh =
+        option_and_then
+        (λ o. option_map
+        (λ i. let h : Held = record {
+          flags = record { auto = true; protect = false };
+          own = o;
+          inh = i;
+        } in h) inh) own
 
-name_read : (text : List ℕ) → IsTrue (is_name text) → IsTrue (is_utf8 text) → name_in (Text text) ≡ Some text
-name_read text name utf8 = ap (λ b. option_and_then name_of_text (if b then Some text else None)) utf8 ∙ ap (λ b. if b then Some text else None) name
+name_read : (text : List ℕ) → IsTrue (is_name text) → IsTrue (is_utf8 text)
+    → name_in (Text text) ≡ Some text
+name_read text name utf8 =
+    ap (λ b. option_and_then name_of_text (if b then Some text else None)) utf8
+    ∙ ap (λ b. if b then Some text else None) name
 
-pub root_read : (owners : Owners) → IsTrue (is_name owners.owner) → IsTrue (is_name owners.group) → IsTrue (is_utf8 owners.owner) → IsTrue (is_utf8 owners.group)
+pub root_read : (owners : Owners) → IsTrue (is_name owners.owner) → IsTrue (is_name owners.group)
+    → IsTrue (is_utf8 owners.owner) → IsTrue (is_utf8 owners.group)
     → node_in (shown_node (root_row owners.owner owners.group)) ≡ Some (new_root owners)
 root_read owners one two three four =
-    let parts : node_in (shown_node (root_row owners.owner owners.group)) ≡ root_of (name_in (Text owners.owner)) (name_in (Text owners.group)) (entries_of owner_line) (entries_of []) = refl in
-    parts ∙ ap (λ o. root_of o (name_in (Text owners.group)) (entries_of owner_line) (entries_of [])) (name_read owners.owner one three)
-    ∙ ap (λ o. root_of (Some owners.owner) o (entries_of owner_line) (entries_of [])) (name_read owners.group two four)
+    let parts : node_in (shown_node (root_row owners.owner owners.group))
+    ≡ root_of (name_in (Text owners.owner)) (name_in (Text owners.group))
+    (entries_of owner_line) (entries_of []) =
+    refl in
+    parts
+    ∙ ap (λ o. root_of o (name_in (Text owners.group)) (entries_of owner_line) (entries_of []))
+    (name_read owners.owner one three)
+    ∙ ap (λ o. root_of (Some owners.owner) o (entries_of owner_line) (entries_of []))
+    (name_read owners.group two four)
     ∙ ap (λ o. root_of (Some owners.owner) (Some owners.group) o (entries_of [])) owner_line_is
     ∙ ap (root_of (Some owners.owner) (Some owners.group) (Some (owner_entry ∷ []))) no_line_is
 
 -- the rows by their parts
-abbrev rows_by : List Node → List ℕ → List (ℕ × List ℕ) → List (List ℕ × List ℕ) → List AuditRow → Rows
-rows_by nodes unreadable bodies members audits = record { read = record { nodes = nodes; bodies = bodies; members = members; audits = audits }; unreadable = unreadable }
+abbrev rows_by : List Node → List ℕ → List (ℕ × List ℕ) → List (List ℕ × List ℕ) → List AuditRow
+    → Rows
+rows_by nodes unreadable bodies members audits =
+    record {
+      read = record { nodes = nodes; bodies = bodies; members = members; audits = audits };
+      unreadable = unreadable;
+    }
 
-pub room_read : (db : Database) (owners : Owners) → IsTrue (is_name owners.owner) → IsTrue (is_name owners.group) → IsTrue (is_utf8 owners.owner) → IsTrue (is_utf8 owners.group)
-    → db.trees 0 ≡ root_row owners.owner owners.group ∷ [] → db.trees 2 ≡ [] → db.trees 3 ≡ [] → db.trees 7 ≡ [] → rows_of db ≡ rows_of_root owners
+pub room_read : (db : Database) (owners : Owners) → IsTrue (is_name owners.owner)
+    → IsTrue (is_name owners.group) → IsTrue (is_utf8 owners.owner) → IsTrue (is_utf8 owners.group)
+    → db.trees 0 ≡ root_row owners.owner owners.group ∷ [] → db.trees 2 ≡ [] → db.trees 3 ≡ []
+    → db.trees 7 ≡ [] → rows_of db ≡ rows_of_root owners
 room_read db owners one two three four nodes bodies members audits =
     let root = root_read owners one two three four in
-    let read : nodes_of (db.trees 0) ≡ new_root owners ∷ [] = ap nodes_of nodes ∙ ap (λ o. cons_option o []) root in
-    let unread : unread_of (db.trees 0) ≡ [] = ap unread_of nodes ∙ ap (λ (o : Option Node). cons_option (if is_none o then Some 1 else None) []) root in
-    ap (λ n. rows_by n (unread_of (db.trees 0)) (bodies_of (db.trees 2)) (pairs_of (db.trees 3)) (filter_map audit_in (db.trees 7))) read
-    ∙ ap (λ u. rows_by (new_root owners ∷ []) u (bodies_of (db.trees 2)) (pairs_of (db.trees 3)) (filter_map audit_in (db.trees 7))) unread
-    ∙ ap (λ t. rows_by (new_root owners ∷ []) [] (bodies_of t) (pairs_of (db.trees 3)) (filter_map audit_in (db.trees 7))) bodies
-    ∙ ap (λ t. rows_by (new_root owners ∷ []) [] [] (pairs_of t) (filter_map audit_in (db.trees 7))) members
+    let read : nodes_of (db.trees 0) ≡ new_root owners ∷ [] = ap nodes_of nodes
+    ∙ ap (λ o. cons_option o []) root in
+    let unread : unread_of (db.trees 0) ≡ [] = ap unread_of nodes
+    ∙ ap (λ (o : Option Node). cons_option (if is_none o then Some 1 else None) []) root in
+    ap (λ n. rows_by n (unread_of (db.trees 0)) (bodies_of (db.trees 2)) (pairs_of (db.trees 3))
+    (filter_map audit_in (db.trees 7))) read
+    ∙ ap (λ u. rows_by (new_root owners ∷ []) u (bodies_of (db.trees 2)) (pairs_of (db.trees 3))
+    (filter_map audit_in (db.trees 7))) unread
+    ∙ ap (λ t. rows_by (new_root owners ∷ []) [] (bodies_of t) (pairs_of (db.trees 3))
+    (filter_map audit_in (db.trees 7))) bodies
+    ∙ ap (λ t. rows_by (new_root owners ∷ []) [] [] (pairs_of t) (filter_map audit_in (db.trees 7)))
+    members
     ∙ ap (λ t. rows_by (new_root owners ∷ []) [] [] [] (filter_map audit_in t)) audits

@@ -18,46 +18,64 @@ use Rattle.store_schema.specs.declared.fault.OpenFault.TheVariants.{NotRooms, Ol
 use Rattle.store_schema.proofs.Founded.{Begins}
 use Rattle.store_schema.proofs.Moving.{by_failure}
 
-module _ (old begun mid end : State) (begins : Begins old begun) (sound : IsTrue old.is_open → IsDatabase old.now) (ended : end.in_transaction ≡ false) (clean : doubt mid.is_clean ≤ doubt end.is_clean) where
+module _ (old begun mid end : State) (begins : Begins old begun)
+    (sound : IsTrue old.is_open → IsDatabase old.now) (ended : end.in_transaction ≡ false)
+    (clean : doubt mid.is_clean ≤ doubt end.is_clean) where
   module _ {r : Result (Unit {0}) MigrateFault} (within : IsInside begun mid r) where
     clean_mid : HasCleanDisk end → HasCleanDisk mid
     clean_mid h = omega arith
 
     since : doubt old.is_clean ≤ doubt end.is_clean
-    since = let same : doubt begun.is_clean ≡ doubt old.is_clean = ap doubt begins.same_clean in omega (arith, same, within.clean, clean)
+    since = let same : doubt begun.is_clean ≡ doubt old.is_clean = ap doubt begins.same_clean in
+        omega (arith, same, within.clean, clean)
 
     open_first : HasCleanDisk end → IsTrue mid.is_open → IsTrue old.is_open
     open_first now open' = sym begins.same_open ∙ within.was_open (clean_mid now) open'
 
     room_now : HasCleanDisk end → IsTrue mid.is_open → HasTables old.now → IsRoom begun.now
-    room_now now open' tables = subst IsRoom (sym begins.now) (room_of tables (sound (open_first now open')))
+    room_now now open' tables =
+        subst IsRoom (sym begins.now) (room_of tables (sound (open_first now open')))
 
-    room_committed : HasCleanDisk end → IsTrue mid.is_open → HasTables old.now → IsRoom begun.committed
+    room_committed : HasCleanDisk end → IsTrue mid.is_open → HasTables old.now
+        → IsRoom begun.committed
     room_committed now open' tables =
         let open'' = open_first now open' in
-        subst IsRoom (sym begins.committed) (subst IsRoom (begins.settled open'') (room_of tables (sound open'')))
+        subst IsRoom (sym begins.committed)
+        (subst IsRoom (begins.settled open'') (room_of tables (sound open'')))
 
-    committed_mid : HasCleanDisk end → IsTrue mid.is_open → HasTables old.now → mid.committed ≡ old.committed
-    committed_mid now open' tables = within.committed (clean_mid now) open' (room_committed now open' tables) (room_now now open' tables) ∙ begins.committed
+    committed_mid : HasCleanDisk end → IsTrue mid.is_open → HasTables old.now
+        → mid.committed ≡ old.committed
+    committed_mid now open' tables =
+        within.committed (clean_mid now) open' (room_committed now open' tables)
+        (room_now now open' tables) ∙ begins.committed
 
     -- what is shown of the tables as they were is shown of them in the transaction
     shown_begun : ShowsVersion (Some (pos 1)) begun.now → ShowsVersion (Some (pos 1)) old.now
     shown_begun shows = subst (ShowsVersion (Some (pos 1))) begins.now shows
 
     -- where the database doesn't answer 1, nothing was committed
-    within_mid : HasCleanDisk end → ¬ (ShowsVersion (Some (pos 1)) old.now) → IsWithin begun mid × IsErrAnd r (λ _. Unit {0})
-    within_mid now none = elim (within.foreign (clean_mid now)) [ inl shows ↦ absurd (none (shown_begun shows)) | inr it ↦ it ]
+    within_mid : HasCleanDisk end → ¬ (ShowsVersion (Some (pos 1)) old.now) → IsWithin begun mid
+        × IsErrAnd r (λ _. Unit {0})
+    within_mid now none =
+        elim (within.foreign (clean_mid now))
+        [ inl shows ↦ absurd (none (shown_begun shows)) | inr it ↦ it ]
 
-    foreign_committed : HasCleanDisk end → IsTrue mid.is_open → ¬ (ShowsVersion (Some (pos 1)) old.now) → mid.committed ≡ old.committed
-    foreign_committed now open' none = (within_mid now none).0.committed (clean_mid now) open' ∙ begins.committed
+    foreign_committed : HasCleanDisk end → IsTrue mid.is_open
+        → ¬ (ShowsVersion (Some (pos 1)) old.now) → mid.committed ≡ old.committed
+    foreign_committed now open' none =
+        (within_mid now none).0.committed (clean_mid now) open' ∙ begins.committed
 
     empty_mid : HasCleanDisk end → old.now.schema ≡ no_schema → IsErrAnd r IsNoRoom
-    empty_mid now has = within.empty (clean_mid now) (ap (λ (d : Database). d.schema) begins.now ∙ has)
+    empty_mid now has =
+        within.empty (clean_mid now) (ap (λ (d : Database). d.schema) begins.now ∙ has)
 
     given_up : (e : MigrateFault) → (HasCleanDisk end → IsTrue end.is_open → IsTrue mid.is_open)
-        → (HasCleanDisk end → IsTrue end.is_open → HasTables old.now → UpgradesTables old.now end.now (Err e))
-        → (HasCleanDisk end → IsTrue end.is_open → HasTables old.now → (end.now ≡ old.committed) × (end.committed ≡ old.committed))
-        → (HasCleanDisk end → IsTrue end.is_open → ¬ (ShowsVersion (Some (pos 1)) old.now) → (end.now ≡ old.committed) × (end.committed ≡ old.committed))
+        → (HasCleanDisk end → IsTrue end.is_open → HasTables old.now
+        → UpgradesTables old.now end.now (Err e))
+        → (HasCleanDisk end → IsTrue end.is_open → HasTables old.now → (end.now ≡ old.committed)
+        × (end.committed ≡ old.committed))
+        → (HasCleanDisk end → IsTrue end.is_open → ¬ (ShowsVersion (Some (pos 1)) old.now)
+        → (end.now ≡ old.committed) × (end.committed ≡ old.committed))
         → (HasCleanDisk end → old.now.schema ≡ no_schema → IsNoRoom e) → Migrates old end (Err e)
     given_up e was leads left alien empty = record {
       ended = ended;
@@ -66,24 +84,31 @@ module _ (old begun mid end : State) (begins : Begins old begun) (sound : IsTrue
       leads = leads;
       committed = λ _. tt;
       answers = λ _. tt;
-      foreign = λ now open' none. let settled = begins.settled (open_first now (was now open')) in ((alien now open' none).0 ∙ sym settled, (alien now open' none).1);
+      foreign = λ now open' none. let settled = begins.settled (open_first now (was now open')) in
+          ((alien now open' none).0 ∙ sym settled, (alien now open' none).1);
       empty = empty;
-      kept = λ now open' tables. let settled = begins.settled (open_first now (was now open')) in ((left now open' tables).0 ∙ sym settled, (left now open' tables).1);
+      kept = λ now open' tables. let settled = begins.settled (open_first now (was now open')) in
+          ((left now open' tables).0 ∙ sym settled, (left now open' tables).1);
     }
 
-    undone_at : HasCleanDisk end → IsTrue end.is_open → HasTables old.now → IsRolledBack mid end → (end.now ≡ old.committed) × (end.committed ≡ old.committed)
+    undone_at : HasCleanDisk end → IsTrue end.is_open → HasTables old.now → IsRolledBack mid end
+        → (end.now ≡ old.committed) × (end.committed ≡ old.committed)
     undone_at now open' tables back =
         let same = committed_mid now (back.was_open open') tables in
         ((back.undone open').0 ∙ same, (back.undone open').1 ∙ same)
 
-    foreign_at : HasCleanDisk end → IsTrue end.is_open → ¬ (ShowsVersion (Some (pos 1)) old.now) → IsRolledBack mid end → (end.now ≡ old.committed) × (end.committed ≡ old.committed)
+    foreign_at : HasCleanDisk end → IsTrue end.is_open → ¬ (ShowsVersion (Some (pos 1)) old.now)
+        → IsRolledBack mid end → (end.now ≡ old.committed) × (end.committed ≡ old.committed)
     foreign_at now open' none back =
         let same = foreign_committed now (back.was_open open') none in
         ((back.undone open').0 ∙ same, (back.undone open').1 ∙ same)
 
-    pub not_committed : (e : OpenFault) (why : Error) → IsFailure e → (HasCleanDisk end → FailsToCommit mid end why) → Migrates old end (Err (Opening e))
+    pub not_committed : (e : OpenFault) (why : Error) → IsFailure e
+        → (HasCleanDisk end → FailsToCommit mid end why) → Migrates old end (Err (Opening e))
     not_committed e why failure err =
-        given_up (Opening e) (λ now open'. was now open' (err now)) (λ now open' tables. by_failure old.now e failure) (λ now open' tables. left now open' tables (err now))
+        given_up (Opening e) (λ now open'. was now open' (err now))
+        (λ now open' tables. by_failure old.now e failure)
+        (λ now open' tables. left now open' tables (err now))
         (λ now open' none. alien now open' none (err now)) (λ now has. no_room e failure)
       where
         no_room : (f : OpenFault) → IsFailure f → IsNoRoom (Opening f)
@@ -93,10 +118,13 @@ module _ (old begun mid end : State) (begins : Begins old begun) (sound : IsTrue
         no_room Db it = tt
         no_room Memory it = tt
 
-        alien : HasCleanDisk end → IsTrue end.is_open → ¬ (ShowsVersion (Some (pos 1)) old.now) → FailsToCommit mid end why → (end.now ≡ old.committed) × (end.committed ≡ old.committed)
+        alien : HasCleanDisk end → IsTrue end.is_open → ¬ (ShowsVersion (Some (pos 1)) old.now)
+            → FailsToCommit mid end why → (end.now ≡ old.committed)
+            × (end.committed ≡ old.committed)
         alien now open' none (inl fails) = foreign_at now open' none fails.3
         alien now open' none (inr (is, mode, same)) =
-            let settled = (within_mid now none).0.settled (clean_mid now) same.0.was_open (λ off. absurd (let e' : true ≡ false = sym begins.mode ∙ off in cc)) mode in
+            let settled = (within_mid now none).0.settled (clean_mid now) same.0.was_open
+            (λ off. absurd (let e' : true ≡ false = sym begins.mode ∙ off in cc)) mode in
             let kept = foreign_committed now same.0.was_open none in
             (same.0.now_is ∙ settled ∙ kept, same.0.committed_is ∙ kept)
 
@@ -104,37 +132,52 @@ module _ (old begun mid end : State) (begins : Begins old begun) (sound : IsTrue
         was now open' (inl fails) = fails.3.was_open open'
         was now open' (inr (is, mode, same)) = same.0.was_open
 
-        left : HasCleanDisk end → IsTrue end.is_open → HasTables old.now → FailsToCommit mid end why → (end.now ≡ old.committed) × (end.committed ≡ old.committed)
+        left : HasCleanDisk end → IsTrue end.is_open → HasTables old.now → FailsToCommit mid end why
+            → (end.now ≡ old.committed) × (end.committed ≡ old.committed)
         left now open' tables (inl fails) = undone_at now open' tables fails.3
         left now open' tables (inr (is, mode, same)) =
             let open'' = same.0.was_open in
-            let settled = within.settled (clean_mid now) open'' (room_committed now open'' tables) (room_now now open'' tables) (λ off. absurd (let e' : true ≡ false = sym begins.mode ∙ off in cc)) mode in
+            let settled = within.settled (clean_mid now) open'' (room_committed now open'' tables)
+            (room_now now open'' tables)
+            (λ off. absurd (let e' : true ≡ false = sym begins.mode ∙ off in cc)) mode in
             let kept = committed_mid now open'' tables in
             (same.0.now_is ∙ settled ∙ kept, same.0.committed_is ∙ kept)
 
   -- a fault says only what was there before
-  told_before : (e : MigrateFault) (db : Database) → UpgradesTables begun.now mid.now (Err e) → UpgradesTables old.now db (Err e)
-  told_before (Opening fault) db leads = subst (λ d. Says (pos 1) (meta_of d) (Err fault)) begins.now leads
-  told_before (Unsound path why) db leads = subst (λ d. UpgradesTables d db (Err (Unsound path why))) begins.now leads
+  told_before : (e : MigrateFault) (db : Database) → UpgradesTables begun.now mid.now (Err e)
+      → UpgradesTables old.now db (Err e)
+  told_before (Opening fault) db leads =
+      subst (λ d. Says (pos 1) (meta_of d) (Err fault)) begins.now leads
+  told_before (Unsound path why) db leads =
+      subst (λ d. UpgradesTables d db (Err (Unsound path why))) begins.now leads
 
-  pub undone : (e : MigrateFault) → IsInside begun mid (Err e) → (HasCleanDisk end → IsRolledBack mid end) → Migrates old end (Err e)
+  pub undone : (e : MigrateFault) → IsInside begun mid (Err e)
+      → (HasCleanDisk end → IsRolledBack mid end) → Migrates old end (Err e)
   undone e within back =
       given_up within e (λ now open'. (back now).was_open open')
       (λ now open' tables.
       let open'' = (back now).was_open open' in
-      told_before e end.now (within.leads (clean_mid within now) open'' (room_committed within now open'' tables) (room_now within now open'' tables)))
+      told_before e end.now
+      (within.leads (clean_mid within now) open'' (room_committed within now open'' tables)
+      (room_now within now open'' tables)))
       (λ now open' tables. undone_at within now open' tables (back now))
-      (λ now open' none. foreign_at within now open' none (back now)) (λ now has. empty_mid within now has)
+      (λ now open' none. foreign_at within now open' none (back now))
+      (λ now has. empty_mid within now has)
 
-  pub committed : IsInside begun mid (Ok tt) → (HasCleanDisk end → IsTrue mid.in_transaction × Shows mid end mid.now mid.now false × KeepsCounts mid end × (end.marks ≡ [])) → Migrates old end (Ok tt)
+  pub committed : IsInside begun mid (Ok tt)
+      → (HasCleanDisk end → IsTrue mid.in_transaction × Shows mid end mid.now mid.now false
+      × KeepsCounts mid end × (end.marks ≡ [])) → Migrates old end (Ok tt)
   committed within ok = record {
     ended = ended;
     clean = since within;
     was_open = λ now open'. open_first within now (ok now).1.was_open;
     leads = λ now open' tables.
         let shows = (ok now).1 in
-        let leads = within.leads (clean_mid within now) shows.was_open (room_committed within now shows.was_open tables) (room_now within now shows.was_open tables) in
-        subst (λ d. UpgradesTables d end.now (Ok tt)) begins.now (subst (λ d. UpgradesTables begun.now d (Ok tt)) (sym shows.now_is) leads);
+        let leads = within.leads (clean_mid within now) shows.was_open
+        (room_committed within now shows.was_open tables)
+        (room_now within now shows.was_open tables) in
+        subst (λ d. UpgradesTables d end.now (Ok tt)) begins.now
+        (subst (λ d. UpgradesTables begun.now d (Ok tt)) (sym shows.now_is) leads);
     committed = λ now. (ok now).1.committed_is ∙ sym (ok now).1.now_is;
     answers = λ now. (open_first within now (ok now).1.was_open, (ok now).1.is_open);
     foreign = λ now _ none. absurd (within_mid within now none).1;

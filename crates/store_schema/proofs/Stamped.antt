@@ -39,7 +39,9 @@ abbrev stamp_edit : Trees → List Row → Edit
 stamp_edit db rows = edit_of db meta_table (ids_of rows) Given 1 rows
 
 not_none : (n : ℕ) → (suc n == 0) ≡ false
-not_none n = elim (cases_Bool (suc n == 0)) [ inl none ↦ absurd (let e = eqb-true (suc n) 0 none in omega (arith, e)) | inr some ↦ some ]
+not_none n =
+    elim (cases_Bool (suc n == 0))
+    [ inl none ↦ absurd (let e = eqb-true (suc n) 0 none in omega (arith, e)) | inr some ↦ some ]
 
 -- nothing refers to the table
 stamp_alone : (olds news : List Row) → works room_schema Enforced 0 5 olds news ≡ []
@@ -50,43 +52,69 @@ stamp_alone olds (r ∷ news) = let some = not_none (length news) in rw some ref
 record Stamped (old new : State) : Type 0 where
   pub schema : new.now.schema ≡ room_schema
   pub sound : IsDatabase new.now
-  pub others : AllByRecursion (λ (t : Table). t.tree ≢ 5 → new.now.trees t.tree ≡ old.now.trees t.tree) room_schema.tables
+  pub others : AllByRecursion
+      (λ (t : Table). t.tree ≢ 5 → new.now.trees t.tree ≡ old.now.trees t.tree) room_schema.tables
 
-stamped : (old new : State) (count : ℕ) → old.now.schema ≡ room_schema → Executes stamp_text [] old new (Ok count) → Stamped old new
+stamped : (old new : State) (count : ℕ) → old.now.schema ≡ room_schema
+    → Executes stamp_text [] old new (Ok count) → Stamped old new
 stamped old new count has h =
     let db = old.now.trees in
-    let command = Update 3 (record { lets = []; body = query_of 5 (is_rooms ∷ []) stamp_terms [] }) in
+    let command = Update 3
+    (record { lets = []; body = query_of 5 (is_rooms ∷ []) stamp_terms [] }) in
     let w = runs_as stamp_text [] old new room_schema has command stamp_is stamp_plain count h in
     let text = statement_of stamp_text (understood room_schema stamp_text) in
-    let done = went (subst (λ s. Does old.step_limit (mode_of old) [] (record old.now { schema = s }) text None command (Ok (w.tally, new.now))) has w.changed) in
+    let done = went
+    (subst (λ s. Does old.step_limit (mode_of old) []
+    (record old.now { schema = s }) text None command (Ok (w.tally, new.now))) has w.changed) in
     let asked = went done.1 in
     let did = went asked.2 in
     let last = same_value (went (went done.2).2).2 in
-    let wrote : done.0 ≡ record { trees = did.0; rows = (stamp_edit db asked.0).news; last = None } = same_value did.2 in
+    let wrote : done.0 ≡ record {
+      trees = did.0;
+      rows = (stamp_edit db asked.0).news;
+      last = None;
+    } =
+    same_value did.2 in
     let now : new.now ≡ record { schema = room_schema; trees = did.0 } =
-    ap (λ (p : Tally × Database). p.1) last ∙ ap (λ (it : Written). let db : Database = record { schema = room_schema; trees = it.trees } in db) wrote in
+    ap (λ (p : Tally × Database). p.1) last
+    ∙ ap
+    (λ (it : Written). let db : Database = record { schema = room_schema; trees = it.trees } in
+    db) wrote in
     let none = stamp_alone (taken_by db (stamp_edit db asked.0)) (stamp_edit db asked.0).news in
     let applies = one_step room_schema Enforced db did.0 (stamp_edit db asked.0) none did.1 in
     record {
       schema = ap (λ (d : Database). d.schema) now;
       sound = w.sound;
-      others = subst (λ (d : Database). AllByRecursion (λ (table : Table). table.tree ≢ 5 → d.trees table.tree ≡ db table.tree) room_schema.tables) (sym now) applies.tables;
+      others =
+          subst
+          (λ (d : Database). AllByRecursion
+          (λ (table : Table). table.tree ≢ 5
+          → d.trees table.tree ≡ db table.tree) room_schema.tables) (sym now) applies.tables;
     }
 
 abbrev rows_from : List Row → List Row → List Row → List Row → Rows
 rows_from nodes bodies members audits = record {
-  read = record { nodes = nodes_of nodes; bodies = bodies_of bodies; members = pairs_of members; audits = filter_map audit_in audits };
+  read =
+      record {
+        nodes = nodes_of nodes;
+        bodies = bodies_of bodies;
+        members = pairs_of members;
+        audits = filter_map audit_in audits;
+      };
   unreadable = unread_of nodes;
 }
 
-same_rows : (old new : Database) → new.trees 0 ≡ old.trees 0 → new.trees 2 ≡ old.trees 2 → new.trees 3 ≡ old.trees 3 → new.trees 7 ≡ old.trees 7 → rows_of new ≡ rows_of old
+same_rows : (old new : Database) → new.trees 0 ≡ old.trees 0 → new.trees 2 ≡ old.trees 2
+    → new.trees 3 ≡ old.trees 3 → new.trees 7 ≡ old.trees 7 → rows_of new ≡ rows_of old
 same_rows old new nodes bodies members audits =
     ap (λ t. rows_from t (new.trees 2) (new.trees 3) (new.trees 7)) nodes
     ∙ ap (λ t. rows_from (old.trees 0) t (new.trees 3) (new.trees 7)) bodies
     ∙ ap (λ t. rows_from (old.trees 0) (old.trees 2) t (new.trees 7)) members
     ∙ ap (λ t. rows_from (old.trees 0) (old.trees 2) (old.trees 3) t) audits
 
-stamp_keeps : (old new : State) (count : ℕ) → IsRoom old.now → Executes stamp_text [] old new (Ok count) → IsRoom new.now × (rows_of new.now ≡ rows_of old.now)
+stamp_keeps : (old new : State) (count : ℕ) → IsRoom old.now
+    → Executes stamp_text [] old new (Ok count) → IsRoom new.now
+    × (rows_of new.now ≡ rows_of old.now)
 stamp_keeps old new count room h =
     let it = stamped old new count room.schema h in
     let nodes = it.others.0 (λ e. let e' : 0 ≡ 5 = e in omega (arith, e')) in
@@ -105,22 +133,33 @@ stamp_keeps old new count room h =
     )
 
 module _ (old new : State) (clean : doubt old.is_clean ≤ doubt new.is_clean) where
-  pub stamps : (r : Result ℕ Error) (e : Error) → (old.in_transaction ≡ false → (r ≡ Err e) × IsWithin old new) → (HasCleanDisk new → IsTrue old.in_transaction → ExecutesInside 0 stamp_text [] old new r)
+  pub stamps : (r : Result ℕ Error) (e : Error)
+      → (old.in_transaction ≡ false → (r ≡ Err e) × IsWithin old new)
+      → (HasCleanDisk new → IsTrue old.in_transaction → ExecutesInside 0 stamp_text [] old new r)
       → Stamps old new r
   stamps r e ended runs = go old.in_transaction refl
     where
-      mode : (q : Result ℕ Error) → ExecutesInside 0 stamp_text [] old new q → OnOk q (new.in_transaction ≡ true)
+      mode : (q : Result ℕ Error) → ExecutesInside 0 stamp_text [] old new q
+          → OnOk q (new.in_transaction ≡ true)
       mode (Ok count) h = h.1.mode
       mode (Err x) h = tt
 
-      keeps : (q : Result ℕ Error) → IsRoom old.now → ExecutesInside 0 stamp_text [] old new q → OnOk q (IsRoom new.now × (rows_of new.now ≡ rows_of old.now))
+      keeps : (q : Result ℕ Error) → IsRoom old.now → ExecutesInside 0 stamp_text [] old new q
+          → OnOk q (IsRoom new.now × (rows_of new.now ≡ rows_of old.now))
       keeps (Ok count) room h = stamp_keeps old new count room h.0
       keeps (Err x) room h = tt
 
       go : (b : Bool) → old.in_transaction ≡ b → Stamps old new r
-      go true is = record { within = within_inside old new clean stamp_text [] r (λ now. runs now is); inside = λ now. mode r (runs now is); keeps = λ now room. keeps r room (runs now is) }
+      go true is =
+          record {
+            within = within_inside old new clean stamp_text [] r (λ now. runs now is);
+            inside = λ now. mode r (runs now is);
+            keeps = λ now room. keeps r room (runs now is);
+          }
       go false is = record {
         within = (ended is).1;
         inside = λ now. subst (λ q. OnOk q (new.in_transaction ≡ true)) (sym (ended is).0) tt;
-        keeps = λ now room. subst (λ q. OnOk q (IsRoom new.now × (rows_of new.now ≡ rows_of old.now))) (sym (ended is).0) tt;
+        keeps =
+            λ now room. subst (λ q. OnOk q (IsRoom new.now × (rows_of new.now ≡ rows_of old.now)))
+            (sym (ended is).0) tt;
       }

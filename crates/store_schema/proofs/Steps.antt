@@ -2,7 +2,8 @@
 use Rattle.std.proofs.Common.{◌≡◌, Result, Ok, Err, inl, inr, ◌⊎◌}
 
 -- a part that returned a value did not stop on the way
-pub went : {B E R : Type 0} {b : B} {Stops : E → Type 0} → ((stop : E) × Stops stop × (Ok b ≡ Err stop)) ⊎ R → R
+pub went : {B E R : Type 0} {b : B} {Stops : E → Type 0}
+    → ((stop : E) × Stops stop × (Ok b ≡ Err stop)) ⊎ R → R
 went (inl stopped) = absurd (let e = stopped.2 in cc)
 went (inr on) = on
 

@@ -22,19 +22,27 @@ use Rattle.store_tables.specs.Tables.{nodes, bodies, members, meta, audits, coun
 use Rattle.store_schema.specs.Opening.{number_text}
 
 abbrev pub nodes_text : List ℕ
-nodes_text = codes "CREATE TABLE nodes (id INTEGER PRIMARY KEY NOT NULL, parent INTEGER REFERENCES nodes ON DELETE RESTRICT ON UPDATE RESTRICT, name TEXT NOT NULL, kind INTEGER NOT NULL, owner TEXT NOT NULL, grp TEXT NOT NULL, dacl_flags INTEGER NOT NULL, sacl_flags INTEGER NOT NULL, dacl_own TEXT NOT NULL, dacl_inh TEXT NOT NULL, sacl_own TEXT NOT NULL, sacl_inh TEXT NOT NULL, UNIQUE (parent, name)) STRICT"
+nodes_text =
+    codes
+    "CREATE TABLE nodes (id INTEGER PRIMARY KEY NOT NULL, parent INTEGER REFERENCES nodes ON DELETE RESTRICT ON UPDATE RESTRICT, name TEXT NOT NULL, kind INTEGER NOT NULL, owner TEXT NOT NULL, grp TEXT NOT NULL, dacl_flags INTEGER NOT NULL, sacl_flags INTEGER NOT NULL, dacl_own TEXT NOT NULL, dacl_inh TEXT NOT NULL, sacl_own TEXT NOT NULL, sacl_inh TEXT NOT NULL, UNIQUE (parent, name)) STRICT"
 
 abbrev pub bodies_text : List ℕ
-bodies_text = codes "CREATE TABLE bodies (node INTEGER PRIMARY KEY NOT NULL REFERENCES nodes ON DELETE CASCADE, bytes BLOB NOT NULL) STRICT"
+bodies_text =
+    codes
+    "CREATE TABLE bodies (node INTEGER PRIMARY KEY NOT NULL REFERENCES nodes ON DELETE CASCADE, bytes BLOB NOT NULL) STRICT"
 
 abbrev pub members_text : List ℕ
-members_text = codes "CREATE TABLE members (grp TEXT NOT NULL, user TEXT NOT NULL, PRIMARY KEY (user, grp)) STRICT"
+members_text =
+    codes
+    "CREATE TABLE members (grp TEXT NOT NULL, user TEXT NOT NULL, PRIMARY KEY (user, grp)) STRICT"
 
 abbrev pub meta_text : List ℕ
 meta_text = codes "CREATE TABLE meta (key TEXT PRIMARY KEY NOT NULL, value INTEGER NOT NULL) STRICT"
 
 abbrev pub audits_text : List ℕ
-audits_text = codes "CREATE TABLE audits (seq INTEGER PRIMARY KEY AUTOINCREMENT NOT NULL, at INTEGER NOT NULL, user TEXT NOT NULL, path TEXT NOT NULL, bits INTEGER NOT NULL, granted INTEGER NOT NULL, entry INTEGER NOT NULL) STRICT"
+audits_text =
+    codes
+    "CREATE TABLE audits (seq INTEGER PRIMARY KEY AUTOINCREMENT NOT NULL, at INTEGER NOT NULL, user TEXT NOT NULL, path TEXT NOT NULL, bits INTEGER NOT NULL, granted INTEGER NOT NULL, entry INTEGER NOT NULL) STRICT"
 
 -- over this schema the text makes this table, and needs nothing else
 pub record IsCreate (schema : Schema) (text : List ℕ) (table : Table) : Type 0 where
@@ -68,7 +76,9 @@ unfolding understood everything
 counters_is = refl
 
 -- a table with AUTOINCREMENT needs the table of its counts
-pub sequences : (lacks_sequence after_nodes ≡ false) × (lacks_sequence after_bodies ≡ false) × (lacks_sequence after_members ≡ false) × (lacks_sequence after_meta ≡ false) × (lacks_sequence after_audits ≡ true)
+pub sequences : (lacks_sequence after_nodes ≡ false) × (lacks_sequence after_bodies ≡ false)
+    × (lacks_sequence after_members ≡ false) × (lacks_sequence after_meta ≡ false)
+    × (lacks_sequence after_audits ≡ true)
 unfolding everything
 sequences = (refl, refl, refl, refl, refl)
 
@@ -80,7 +90,8 @@ version_text = codes "INSERT INTO meta (key, value) VALUES ('rooms', 2)"
 abbrev pub version_terms : List Term
 version_terms = lit Null ∷ lit (Text (codes "rooms")) ∷ lit (Int (pos 2)) ∷ []
 
-pub version_is : command_of (understood room_schema version_text) ≡ Insert 3 (Values version_terms 3)
+pub version_is : command_of (understood room_schema version_text)
+    ≡ Insert 3 (Values version_terms 3)
 unfolding understood everything
 version_is = refl
 
@@ -89,10 +100,15 @@ unfolding understood everything
 version_plain = (refl, refl)
 
 abbrev pub folder_text : List ℕ
-folder_text = codes "INSERT INTO nodes (id, parent, name, kind, owner, grp, dacl_flags, sacl_flags, dacl_own, dacl_inh, sacl_own, sacl_inh) VALUES (1, NULL, '', 1, ?1, ?2, 1, 1, ?3, '', '', '')"
+folder_text =
+    codes
+    "INSERT INTO nodes (id, parent, name, kind, owner, grp, dacl_flags, sacl_flags, dacl_own, dacl_inh, sacl_own, sacl_inh) VALUES (1, NULL, '', 1, ?1, ?2, 1, 1, ?3, '', '', '')"
 
 abbrev pub folder_terms : List Term
-folder_terms = lit (Int (pos 1)) ∷ lit Null ∷ lit Null ∷ lit (Text []) ∷ lit (Int (pos 1)) ∷ col 0 0 ∷ col 0 1 ∷ lit (Int (pos 1)) ∷ lit (Int (pos 1)) ∷ col 0 2 ∷ lit (Text []) ∷ lit (Text []) ∷ lit (Text []) ∷ []
+folder_terms =
+    lit (Int (pos 1)) ∷ lit Null ∷ lit Null ∷ lit (Text []) ∷ lit (Int (pos 1)) ∷ col 0 0 ∷ col 0 1
+    ∷ lit (Int (pos 1)) ∷ lit (Int (pos 1)) ∷ col 0 2 ∷ lit (Text []) ∷ lit (Text [])
+    ∷ lit (Text []) ∷ []
 
 pub folder_is : command_of (understood room_schema folder_text) ≡ Insert 0 (Values folder_terms 13)
 unfolding understood everything
@@ -121,9 +137,12 @@ abbrev pub is_rooms : Term
 is_rooms = op2 (Compare Eq Binary) (col 1 1) (lit (Text (codes "rooms")))
 
 abbrev pub asks_value : Command
-asks_value = Select (record { lets = []; body = query_of 5 (is_rooms ∷ []) (col 1 2 ∷ []) [] }) (codes "value" ∷ [])
+asks_value =
+    Select (record { lets = []; body = query_of 5 (is_rooms ∷ []) (col 1 2 ∷ []) [] })
+    (codes "value" ∷ [])
 
-pub asked_is : (command_of (understood room_schema number_text) ≡ asks_value) × (reads_listing room_schema number_text ≡ false)
+pub asked_is : (command_of (understood room_schema number_text) ≡ asks_value)
+    × (reads_listing room_schema number_text ≡ false)
 unfolding understood everything
 asked_is = (refl, refl)
 
@@ -142,7 +161,8 @@ stamp_text = codes "UPDATE meta SET value = 2 WHERE key = 'rooms'"
 abbrev pub stamp_terms : List Term
 stamp_terms = col 1 0 ∷ col 1 0 ∷ col 1 1 ∷ lit (Int (pos 2)) ∷ []
 
-pub stamp_is : command_of (understood room_schema stamp_text) ≡ Update 3 (record { lets = []; body = query_of 5 (is_rooms ∷ []) stamp_terms [] })
+pub stamp_is : command_of (understood room_schema stamp_text)
+    ≡ Update 3 (record { lets = []; body = query_of 5 (is_rooms ∷ []) stamp_terms [] })
 unfolding understood everything
 stamp_is = refl
 

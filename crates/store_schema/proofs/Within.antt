@@ -9,7 +9,13 @@ use Rattle.store_schema.specs.Making.{Makes}
 use Rattle.store_schema.specs.Within.{IsWithin}
 
 pub within_itself : (a : State) → IsWithin a a
-within_itself a = record { clean = omega arith; was_open = λ _ h. h; committed = λ _ _. refl; settled = λ _ _ was mode. was mode }
+within_itself a =
+    record {
+      clean = omega arith;
+      was_open = λ _ h. h;
+      committed = λ _ _. refl;
+      settled = λ _ _ was mode. was mode;
+    }
 
 pub within_on : (a b c : State) → IsWithin a b → IsWithin b c → IsWithin a c
 within_on a b c p q =
@@ -17,8 +23,10 @@ within_on a b c p q =
     record {
       clean = omega (arith, p.clean, q.clean);
       was_open = λ now open'. p.was_open (clean now) (q.was_open now open');
-      committed = λ now open'. q.committed now open' ∙ p.committed (clean now) (q.was_open now open');
-      settled = λ now open' was. q.settled now open' (p.settled (clean now) (q.was_open now open') was);
+      committed =
+          λ now open'. q.committed now open' ∙ p.committed (clean now) (q.was_open now open');
+      settled =
+          λ now open' was. q.settled now open' (p.settled (clean now) (q.was_open now open') was);
     }
 
 module _ (old new : State) (clean : doubt old.is_clean ≤ doubt new.is_clean) where
@@ -46,12 +54,15 @@ module _ (old new : State) (clean : doubt old.is_clean ≤ doubt new.is_clean) w
     settled = λ _ _ _ mode. absurd (let e : true ≡ false = sym h.mode ∙ mode in cc);
   }
 
-  inside : (sql : List ℕ) (params : Row) (r : Result ℕ Error) → ExecutesInside 0 sql params old new r → IsWithin old new
+  inside : (sql : List ℕ) (params : Row) (r : Result ℕ Error)
+      → ExecutesInside 0 sql params old new r → IsWithin old new
   inside sql params (Ok count) h = wrote_within h.1
-  inside sql params (Err e) (inl ran) = elim ran.1 [ inl same ↦ unchanged_within same | inr undone ↦ undone_within undone ]
+  inside sql params (Err e) (inl ran) =
+      elim ran.1 [ inl same ↦ unchanged_within same | inr undone ↦ undone_within undone ]
   inside sql params (Err e) (inr ends) = unchanged_within ends.2
 
-  pub within_inside : (sql : List ℕ) (params : Row) (r : Result ℕ Error) → (HasCleanDisk new → ExecutesInside 0 sql params old new r) → IsWithin old new
+  pub within_inside : (sql : List ℕ) (params : Row) (r : Result ℕ Error)
+      → (HasCleanDisk new → ExecutesInside 0 sql params old new r) → IsWithin old new
   within_inside sql params r h = record {
     clean = clean;
     was_open = λ now. (inside sql params r (h now)).was_open now;
@@ -60,28 +71,42 @@ module _ (old new : State) (clean : doubt old.is_clean ≤ doubt new.is_clean) w
   }
 
   -- where the transaction has ended, a statement is refused
-  pub makes_by : (sql : List ℕ) (params : Row) (r : Result ℕ Error) (e : Error) (Before After : Database → Type 0)
+  pub makes_by : (sql : List ℕ) (params : Row) (r : Result ℕ Error) (e : Error)
+      (Before After : Database → Type 0)
       → (old.in_transaction ≡ false → (r ≡ Err e) × IsWithin old new)
       → (HasCleanDisk new → IsTrue old.in_transaction → ExecutesInside 0 sql params old new r)
-      → ((count : ℕ) → Before old.now → Executes sql params old new (Ok count) → After new.now) → Makes Before After old new r
+      → ((count : ℕ) → Before old.now → Executes sql params old new (Ok count) → After new.now)
+      → Makes Before After old new r
   makes_by sql params r e Before After ended runs makes = go old.in_transaction refl
     where
-      by : (q : Result ℕ Error) → Before old.now → ExecutesInside 0 sql params old new q → OnOk q (After new.now)
+      by : (q : Result ℕ Error) → Before old.now → ExecutesInside 0 sql params old new q
+          → OnOk q (After new.now)
       by (Ok count) before h = makes count before h.0
       by (Err x) before h = tt
 
       go : (b : Bool) → old.in_transaction ≡ b → Makes Before After old new r
-      go true is = record { makes = λ now before. by r before (runs now is); within = within_inside sql params r (λ now. runs now is) }
-      go false is = record { makes = λ now before. subst (λ q. OnOk q (After new.now)) (sym (ended is).0) tt; within = (ended is).1 }
+      go true is =
+          record {
+            makes = λ now before. by r before (runs now is);
+            within = within_inside sql params r (λ now. runs now is);
+          }
+      go false is =
+          record {
+            makes = λ now before. subst (λ q. OnOk q (After new.now)) (sym (ended is).0) tt;
+            within = (ended is).1;
+          }
 
 -- ---- calls one after the other
 
-pub makes_then : {X Y E F : Type 0} (Before Middle After : Database → Type 0) (a b c : State) (x : X) (r : Result Y F)
-    → Makes {X = X} {E = E} Before Middle a b (Ok x) → Makes Middle After b c r → Makes Before After a c r
+pub makes_then : {X Y E F : Type 0} (Before Middle After : Database → Type 0) (a b c : State)
+    (x : X) (r : Result Y F)
+    → Makes {X = X} {E = E} Before Middle a b (Ok x) → Makes Middle After b c r
+    → Makes Before After a c r
 makes_then Before Middle After a b c x r p q = record {
   makes = λ now before. q.makes now (p.makes (omega (arith, q.within.clean, now)) before);
   within = within_on a b c p.within q.within;
 }
 
-pub makes_none : {X E : Type 0} (Before After : Database → Type 0) (a b : State) (e : E) → IsWithin a b → Makes {X = X} Before After a b (Err e)
+pub makes_none : {X E : Type 0} (Before After : Database → Type 0) (a b : State) (e : E)
+    → IsWithin a b → Makes {X = X} Before After a b (Err e)
 makes_none Before After a b e within = record { makes = λ _ _. tt; within = within }

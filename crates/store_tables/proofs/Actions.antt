@@ -52,18 +52,54 @@ abbrev pub bodies_table : Table
 bodies_table = record bodies { tree = 2 }
 
 abbrev pub to_parent : Reference
-to_parent = record { columns = 2 ∷ []; parent = codes "nodes"; parent_columns = []; on_delete = Restrict; on_update = Restrict; is_deferred = false }
+to_parent =
+    record {
+      columns = 2 ∷ [];
+      parent = codes "nodes";
+      parent_columns = [];
+      on_delete = Restrict;
+      on_update = Restrict;
+      is_deferred = false;
+    }
 
 abbrev pub to_node : Reference
-to_node = record { columns = 0 ∷ []; parent = codes "nodes"; parent_columns = []; on_delete = Cascade; on_update = NoAction; is_deferred = false }
+to_node =
+    record {
+      columns = 0 ∷ [];
+      parent = codes "nodes";
+      parent_columns = [];
+      on_delete = Cascade;
+      on_update = NoAction;
+      is_deferred = false;
+    }
 
 abbrev pub spare_children : Row → Work
-spare_children r = record { depth = 0; child = nodes_table; ref = to_parent; places = 0 ∷ []; order = plain; deed = Refuse; moves = (r, []) ∷ [] }
+spare_children r =
+    record {
+      depth = 0;
+      child = nodes_table;
+      ref = to_parent;
+      places = 0 ∷ [];
+      order = plain;
+      deed = Refuse;
+      moves = (r, []) ∷ [];
+    }
 
 abbrev pub take_bytes : Row → Work
-take_bytes r = record { depth = 0; child = bodies_table; ref = to_node; places = 0 ∷ []; order = plain; deed = Delete; moves = (r, []) ∷ [] }
+take_bytes r =
+    record {
+      depth = 0;
+      child = bodies_table;
+      ref = to_node;
+      places = 0 ∷ [];
+      order = plain;
+      deed = Delete;
+      moves = (r, []) ∷ [];
+    }
 
-pub sets_off : (id : ℤ) (cells : Row) → works room_schema Enforced 0 0 ((Int id ∷ cells) ∷ []) [] ≡ spare_children (Int id ∷ cells) ∷ take_bytes (Int id ∷ cells) ∷ []
+pub sets_off : (id : ℤ) (cells : Row)
+    → works room_schema Enforced 0 0 ((Int id ∷ cells) ∷ []) [] ≡ spare_children (Int id ∷ cells)
+    ∷ take_bytes (Int id ∷ cells) ∷ []
 unfolding everything binary
 sets_off id cells = let same = has_itself id in rw same refl
 
@@ -84,15 +120,20 @@ pub record Follows (id : ℤ) (first next : Trees) : Type 0 where
   pub audits : next 7 ≡ first 7
 
 -- the row is the parent's, so it is a child of the row that is taken out
-is_of : (id : ℤ) (cells : Row) (b : Row) → rowid b ≡ Int id → list_any (is_child_of (take_bytes (Int id ∷ cells)) b) ((Int id ∷ cells, []) ∷ []) ≡ true
+is_of : (id : ℤ) (cells : Row) (b : Row) → rowid b ≡ Int id
+    → list_any (is_child_of (take_bytes (Int id ∷ cells)) b) ((Int id ∷ cells, []) ∷ []) ≡ true
 unfolding everything binary
 is_of id cells b is = let same = has_itself id in rw (same, is, same) refl
 
-not_of : (id at : ℤ) (cells : Row) (b : Row) → rowid b ≡ Int at → is_eq (value_cmp (Int at) (Int id)) ≡ false → list_any (is_child_of (take_bytes (Int id ∷ cells)) b) ((Int id ∷ cells, []) ∷ []) ≡ false
+not_of : (id at : ℤ) (cells : Row) (b : Row) → rowid b ≡ Int at
+    → is_eq (value_cmp (Int at) (Int id)) ≡ false
+    → list_any (is_child_of (take_bytes (Int id ∷ cells)) b) ((Int id ∷ cells, []) ∷ []) ≡ false
 unfolding everything binary
 not_of id at cells b is apart = let same = has_itself id in rw (same, is, apart) refl
 
-of_is : (id at : ℤ) (cells : Row) (b : Row) → rowid b ≡ Int at → list_any (is_child_of (take_bytes (Int id ∷ cells)) b) ((Int id ∷ cells, []) ∷ []) ≡ true → at ≡ id
+of_is : (id at : ℤ) (cells : Row) (b : Row) → rowid b ≡ Int at
+    → list_any (is_child_of (take_bytes (Int id ∷ cells)) b) ((Int id ∷ cells, []) ∷ []) ≡ true
+    → at ≡ id
 of_is id at cells b is h = go (is_eq (value_cmp (Int at) (Int id))) refl
   where
     go : (t : Bool) → is_eq (value_cmp (Int at) (Int id)) ≡ t → at ≡ id
@@ -101,58 +142,87 @@ of_is id at cells b is h = go (is_eq (value_cmp (Int at) (Int id))) refl
 
 -- the children of the row, all of one number, are at most one
 not_below_itself : (id : ℤ) → id <ℤ id → ⊥
-not_below_itself id h = let less = int_cmp_is id id Less h in let tied = tied_itself int_cmp_total id in cc
+not_below_itself id h = let less = int_cmp_is id id Less h in let tied =
+    tied_itself int_cmp_total id in cc
 
-all_one : (id : ℤ) (ids : List ℤ) → Rise ids → ((x : ℤ) → Has ids x → x ≡ id) → (ids ≡ []) ⊎ (ids ≡ id ∷ [])
+all_one : (id : ℤ) (ids : List ℤ) → Rise ids → ((x : ℤ) → Has ids x → x ≡ id) → (ids ≡ [])
+    ⊎ (ids ≡ id ∷ [])
 all_one id [] up all = inl refl
 all_one id (a ∷ []) up all = inr (ap (λ x. x ∷ []) (all a (inl refl)))
-all_one id (a ∷ b ∷ more) up all = absurd (not_below_itself id (subst (λ x. x <ℤ id) (all a (inl refl)) (subst (λ x. a <ℤ x) (all b (inr (inl refl))) up.0)))
+all_one id (a ∷ b ∷ more) up all =
+    absurd
+    (not_below_itself id
+    (subst (λ x. x <ℤ id) (all a (inl refl)) (subst (λ x. a <ℤ x) (all b (inr (inl refl))) up.0)))
 
 -- nothing waits
 pub ends : (n : ℕ) (now next : Trees) → Leads room_schema Enforced n now [] (Ok next) → now ≡ next
 ends zero now next h = let e = h.1 in cc
-ends (suc n) now next h = absurd (let e = ap length h.2 in omega (arith, length-append h.0 (h.1 ∷ []), e))
+ends (suc n) now next h =
+    absurd (let e = ap length h.2 in omega (arith, length-append h.0 (h.1 ∷ []), e))
 
-module _ (id : ℤ) (cells : Row) (first : Trees) (ints : AllByRecursion (λ r. IsTrue (is_int (rowid r))) (first 2)) where
+module _ (id : ℤ) (cells : Row) (first : Trees)
+    (ints : AllByRecursion (λ r. IsTrue (is_int (rowid r))) (first 2)) where
   abbrev row : Row
   row = Int id ∷ cells
 
-  spared : (n : ℕ) (now next : Trees) → Acts room_schema Enforced (Leads room_schema Enforced n) now (spare_children row) [] (Ok next) → now ≡ next
+  spared : (n : ℕ) (now next : Trees)
+      → Acts room_schema Enforced (Leads room_schema Enforced n) now (spare_children row) []
+      (Ok next) → now ≡ next
   spared n now next ([], are, h) = ends n now next h
   spared n now next (x ∷ ids, are, h) = absurd (let e = h in cc)
 
-  left : (n : ℕ) (now next : Trees) → Leads room_schema Enforced n now (spare_children row ∷ []) (Ok next) → now ≡ next
+  left : (n : ℕ) (now next : Trees)
+      → Leads room_schema Enforced n now (spare_children row ∷ []) (Ok next) → now ≡ next
   left zero now next h = absurd (let e = h.0 in cc)
   left (suc n) now next h =
       let last = pop_one _ h.0 h.1 h.2 in
-      spared n now next (subst₂ (λ below w. Acts room_schema Enforced (Leads room_schema Enforced n) now w below (Ok next)) last.0 last.1 h.3)
+      spared n now next
+      (subst₂ (λ below w. Acts room_schema Enforced (Leads room_schema Enforced n) now w below
+      (Ok next)) last.0 last.1 h.3)
 
-  not_there : AreChildren first (take_bytes row) [] → (b : Row) → Has (first 2) b → (t : Bool) → has_rowid id b ≡ t → t ≡ false
+  not_there : AreChildren first (take_bytes row) [] → (b : Row) → Has (first 2) b → (t : Bool)
+      → has_rowid id b ≡ t → t ≡ false
   not_there are b there false is = refl
   not_there are b there true is =
       let rowid' = rowid_is id b (of_each _ (first 2) ints b there) is in
       absurd (are.complete b id there (is_of id cells b rowid') rowid')
 
   nothing_there : AreChildren first (take_bytes row) [] → without_rowid id (first 2) ≡ first 2
-  nothing_there are = none_taken id (first 2) (each_of _ (first 2) (λ b there. not_there are b there (has_rowid id b) refl))
+  nothing_there are =
+      none_taken id (first 2)
+      (each_of _ (first 2) (λ b there. not_there are b there (has_rowid id b) refl))
 
-  only_child : (x : ℤ) (ids : List ℤ) → AreChildren first (take_bytes row) (x ∷ ids) → x ∷ ids ≡ id ∷ []
-  only_child x ids are = go (all_one id (x ∷ ids) are.rise (λ y has. let it = are.sound y has in of_is id y cells it.0 it.3 it.2))
+  only_child : (x : ℤ) (ids : List ℤ) → AreChildren first (take_bytes row) (x ∷ ids)
+      → x ∷ ids ≡ id ∷ []
+  only_child x ids are =
+      go (all_one id (x ∷ ids) are.rise
+      (λ y has. let it = are.sound y has in of_is id y cells it.0 it.3 it.2))
     where
       go : ((x ∷ ids ≡ []) ⊎ (x ∷ ids ≡ id ∷ [])) → x ∷ ids ≡ id ∷ []
       go (inl e) = absurd (let e' = e in cc)
       go (inr e) = e
 
-  taken : (n : ℕ) (next : Trees) (ids : List ℤ) → AreChildren first (take_bytes row) ids → ActsOn room_schema Enforced (Leads room_schema Enforced n) first (take_bytes row) (spare_children row ∷ []) (Ok next) ids
+  taken : (n : ℕ) (next : Trees) (ids : List ℤ) → AreChildren first (take_bytes row) ids
+      → ActsOn room_schema Enforced (Leads room_schema Enforced n) first (take_bytes row)
+      (spare_children row ∷ []) (Ok next) ids
       → Follows id first next
   taken n next [] are h =
       let same = left n first next h in
       let at = λ (tree : ℕ). ap (λ (t : Trees). t tree) (sym same) in
-      record { nodes = at 0; bodies = at 2 ∙ sym (nothing_there are); members = at 3; meta = at 5; audits = at 7 }
+      record {
+        nodes = at 0;
+        bodies = at 2 ∙ sym (nothing_there are);
+        members = at 3;
+        meta = at 5;
+        audits = at 7;
+      }
   taken n next (x ∷ ids) are (inl refused) = absurd (let e = refused.2 in cc)
   taken n next (x ∷ ids) are (inr (inl big)) = absurd (let e = big.3 in cc)
   taken n next (x ∷ ids) are (inr (inr went)) =
-      let same = left n went.0 next (subst (λ more. Leads room_schema Enforced n went.0 (spare_children row ∷ more) (Ok next)) (sets_off_nothing (taken_by first (action_edit first (take_bytes row) (x ∷ ids)))) went.2) in
+      let same = left n went.0 next
+      (subst (λ more. Leads room_schema Enforced n went.0 (spare_children row ∷ more) (Ok next))
+      (sets_off_nothing (taken_by first (action_edit first (take_bytes row) (x ∷ ids)))) went.2)
+      in
       let one = only_child x ids are in
       let at = λ (tree : ℕ). ap (λ (t : Trees). t tree) (sym same) in
       let other = went.1.tables in
@@ -164,27 +234,36 @@ module _ (id : ℤ) (cells : Row) (first : Trees) (ints : AllByRecursion (λ r. 
         audits = at 7 ∙ other.1.1.1.1.0 (λ e. let e' : 7 ≡ 2 = e in omega (arith, e'));
       }
 
-  pub follows : (n : ℕ) (next : Trees) → Leads room_schema Enforced n first (spare_children row ∷ take_bytes row ∷ []) (Ok next) → Follows id first next
+  pub follows : (n : ℕ) (next : Trees)
+      → Leads room_schema Enforced n first (spare_children row ∷ take_bytes row ∷ []) (Ok next)
+      → Follows id first next
   follows zero next h = absurd (let e = h.0 in cc)
   follows (suc n) next h =
       let last = pop_two _ _ h.0 h.1 h.2 in
-      let acts = subst₂ (λ below w. Acts room_schema Enforced (Leads room_schema Enforced n) first w below (Ok next)) last.0 last.1 h.3 in
+      let acts = subst₂ (λ below w. Acts room_schema Enforced
+      (Leads room_schema Enforced n) first w below (Ok next)) last.0 last.1 h.3 in
       taken n next acts.0 acts.1 acts.2
 
 -- the steps of an edit that takes out rows and puts in none
 module _ (id : ℤ) (db next : Trees) (rows : List Row) (bodies : IsShaped Shape.Table (db 2)) where
   -- one row is taken out, with its bytes
-  one_removed : (cells : Row) → rows ≡ (Int id ∷ []) ∷ [] → find (has_rowid id) (db 0) ≡ Some (Int id ∷ cells) → Edited room_schema Enforced db (delete_edit db rows) (Ok next) → RemovesRow id db next
+  one_removed : (cells : Row) → rows ≡ (Int id ∷ []) ∷ []
+      → find (has_rowid id) (db 0) ≡ Some (Int id ∷ cells)
+      → Edited room_schema Enforced db (delete_edit db rows) (Ok next) → RemovesRow id db next
   one_removed cells one there (inl refused) = absurd (let e = refused.2 in cc)
   one_removed cells one there (inr (inl big)) = absurd (let e = big.3 in cc)
   one_removed cells one there (inr (inr went)) =
       let first = went.0 in
       let other = went.1.tables in
       let same : first 2 ≡ db 2 = other.1.0 (λ e. let e' : 2 ≡ 0 = e in omega (arith, e')) in
-      let olds : taken_by db (delete_edit db rows) ≡ (Int id ∷ cells) ∷ [] = ap (λ l. taken_by db (delete_edit db l)) one ∙ ap (λ o. unwrap_or o [] ∷ []) there in
+      let olds : taken_by db (delete_edit db rows) ≡ (Int id ∷ cells) ∷ [] = ap
+      (λ l. taken_by db (delete_edit db l)) one ∙ ap (λ o. unwrap_or o [] ∷ []) there in
       let work = ap (λ l. works room_schema Enforced 0 0 l []) olds ∙ sets_off id cells in
-      let led = subst (λ stack. Leads room_schema Enforced went.2.0 first stack (Ok next)) work went.2.1 in
-      let done = follows id cells first (subst (AllByRecursion (λ r. IsTrue (is_int (rowid r)))) (sym same) bodies.1) went.2.0 next led in
+      let led = subst (λ stack. Leads room_schema Enforced went.2.0 first stack (Ok next)) work
+      went.2.1 in
+      let done = follows id cells first
+      (subst (AllByRecursion (λ r. IsTrue (is_int (rowid r)))) (sym same) bodies.1) went.2.0
+      next led in
       record {
         nodes = done.nodes ∙ went.1.rows ∙ ap (λ l. edited db (delete_edit db l)) one;
         bodies = done.bodies ∙ ap (without_rowid id) same;
@@ -194,16 +273,21 @@ module _ (id : ℤ) (db next : Trees) (rows : List Row) (bodies : IsShaped Shape
       }
 
   -- there was no row to take out
-  none_removed : rows ≡ [] → Edited room_schema Enforced db (delete_edit db rows) (Ok next) → KeepsAll db next
+  none_removed : rows ≡ [] → Edited room_schema Enforced db (delete_edit db rows) (Ok next)
+      → KeepsAll db next
   none_removed none (inl refused) = absurd (let e = refused.2 in cc)
   none_removed none (inr (inl big)) = absurd (let e = big.3 in cc)
   none_removed none (inr (inr went)) =
       let first = went.0 in
       let other = went.1.tables in
-      let work : works room_schema Enforced 0 0 (taken_by db (delete_edit db rows)) [] ≡ [] = ap (λ l. works room_schema Enforced 0 0 (taken_by db (delete_edit db l)) []) none ∙ sets_off_none in
-      let led = subst (λ stack. Leads room_schema Enforced went.2.0 first stack (Ok next)) work went.2.1 in
+      let work : works room_schema Enforced 0 0 (taken_by db (delete_edit db rows)) [] ≡ [] = ap
+      (λ l. works room_schema Enforced 0 0 (taken_by db (delete_edit db l)) []) none
+      ∙ sets_off_none in
+      let led = subst (λ stack. Leads room_schema Enforced went.2.0 first stack (Ok next)) work
+      went.2.1 in
       let same : first ≡ next = ends went.2.0 first next led in
-      let at : (tree : ℕ) → next tree ≡ first tree = λ tree. ap (λ (t : Trees). t tree) (sym same) in
+      let at : (tree : ℕ) → next tree ≡ first tree = λ tree. ap (λ (t : Trees). t tree)
+      (sym same) in
       record {
         nodes = at 0 ∙ went.1.rows ∙ ap (λ l. edited db (delete_edit db l)) none;
         bodies = at 2 ∙ other.1.0 (λ e. let e' : 2 ≡ 0 = e in omega (arith, e'));
@@ -213,28 +297,40 @@ module _ (id : ℤ) (db next : Trees) (rows : List Row) (bodies : IsShaped Shape
       }
 
 -- what a deletion by number does
-pub deletes : (id : ℤ) (old new : State) (count : ℕ) → IsRoom old.now → Deleted id old new count → ((count ≡ 0) × KeepsAll old.now.trees new.now.trees) ⊎ RemovesRow id old.now.trees new.now.trees
+pub deletes : (id : ℤ) (old new : State) (count : ℕ) → IsRoom old.now → Deleted id old new count
+    → ((count ≡ 0) × KeepsAll old.now.trees new.now.trees)
+    ⊎ RemovesRow id old.now.trees new.now.trees
 deletes id old new count room d = go (at_most_one id (old.now.trees 0) room.nodes.0)
   where
     now : new.now.trees ≡ d.next
     now = ap (λ (db : Database). db.trees) d.now
 
-    go : ((filter (has_rowid id) (old.now.trees 0) ≡ []) ⊎ ((r : Row) × (filter (has_rowid id) (old.now.trees 0) ≡ r ∷ [])))
-        → ((count ≡ 0) × KeepsAll old.now.trees new.now.trees) ⊎ RemovesRow id old.now.trees new.now.trees
+    go : ((filter (has_rowid id) (old.now.trees 0) ≡ [])
+        ⊎ ((r : Row) × (filter (has_rowid id) (old.now.trees 0) ≡ r ∷ [])))
+        → ((count ≡ 0) × KeepsAll old.now.trees new.now.trees)
+        ⊎ RemovesRow id old.now.trees new.now.trees
     go (inl none) =
-        let rows = alone_in d.rows (subst (λ l. IsPermutation (map (shows (col 1 0 ∷ []) (Int id ∷ [])) l) d.rows) none d.found) in
+        let rows = alone_in d.rows
+        (subst (λ l. IsPermutation (map (shows (col 1 0 ∷ []) (Int id ∷ [])) l) d.rows) none
+        d.found) in
         let same = none_removed id old.now.trees d.next d.rows room.bodies rows d.edited in
         inl (d.counted ∙ ap length rows, subst (KeepsAll old.now.trees) (sym now) same)
     go (inr (r, one)) =
         let there = only_one (has_rowid id) (old.now.trees 0) r one in
-        let is = rowid_is id r (of_each _ (old.now.trees 0) room.nodes.1 r (has_found (has_rowid id) (old.now.trees 0) r there.0)) there.1 in
-        let rows = one_permutation _ d.rows (subst (λ l. IsPermutation (map (shows (col 1 0 ∷ []) (Int id ∷ [])) l) d.rows) one d.found) in
+        let is = rowid_is id r
+        (of_each _ (old.now.trees 0) room.nodes.1 r
+        (has_found (has_rowid id) (old.now.trees 0) r there.0)) there.1 in
+        let rows = one_permutation _ d.rows
+        (subst (λ l. IsPermutation (map (shows (col 1 0 ∷ []) (Int id ∷ [])) l) d.rows) one
+        d.found) in
         let rows' : d.rows ≡ (Int id ∷ []) ∷ [] = rows ∙ ap (λ v. (v ∷ []) ∷ []) is in
-        let done = one_removed id old.now.trees d.next d.rows room.bodies (drop 1 r) rows' (there.0 ∙ ap Some (cells_of id r is)) d.edited in
+        let done = one_removed id old.now.trees d.next d.rows room.bodies (drop 1 r) rows'
+        (there.0 ∙ ap Some (cells_of id r is)) d.edited in
         inr (subst (RemovesRow id old.now.trees) (sym now) done)
 
 -- the tables are still rooms tables, and nothing is committed
-pub delete_room : (id : ℤ) (old new : State) → IsTrue old.in_transaction → (count : ℕ) → Executes delete_text (Int id ∷ []) old new (Ok count) → IsRoom old.now → WritesRoom old new
+pub delete_room : (id : ℤ) (old new : State) → IsTrue old.in_transaction → (count : ℕ)
+    → Executes delete_text (Int id ∷ []) old new (Ok count) → IsRoom old.now → WritesRoom old new
 delete_room id old new inside count h room =
     let d = deleted id old new count room.schema h in (
       d.shown.committed_is ∙ ap (λ b. if b then old.committed else new.now) inside,
@@ -252,15 +348,27 @@ delete_room id old new inside count h room =
           sound = d.sound;
           members = subst (IsShaped Shape.Table) (sym gone.members) room.members;
           audits = subst (IsShaped Shape.Table) (sym gone.audits) room.audits;
-          nodes = subst (IsShaped Shape.Table) (sym gone.nodes) (IsShaped-filter Shape.Table (λ r. not (has_rowid id r)) _ room.nodes);
-          bodies = subst (IsShaped Shape.Table) (sym gone.bodies) (IsShaped-filter Shape.Table (λ r. not (has_rowid id r)) _ room.bodies);
+          nodes =
+              subst (IsShaped Shape.Table) (sym gone.nodes)
+              (IsShaped-filter Shape.Table (λ r. not (has_rowid id r)) _ room.nodes);
+          bodies =
+              subst (IsShaped Shape.Table) (sym gone.bodies)
+              (IsShaped-filter Shape.Table (λ r. not (has_rowid id r)) _ room.bodies);
         }
       ],
       d.shown.mode ∙ inside,
-      elim (deletes id old new count room d) [ inl same ↦ retains_by _ _ same.1.meta same.1.audits | inr gone ↦ retains_by _ _ gone.meta gone.audits ],
+      elim (deletes id old new count room d) [
+        | inl same ↦ retains_by _ _ same.1.meta same.1.audits
+        | inr gone ↦
+            retains_by _ _ gone.meta gone.audits
+      ],
     )
 
 -- one row was deleted
-pub delete_one : (id : ℤ) (old new : State) (r : Result ℕ Error) → IsRoom old.now → Executes delete_text (Int id ∷ []) old new r → IfOk r (λ count. count ≡ 1 → RemovesRow id old.now.trees new.now.trees)
+pub delete_one : (id : ℤ) (old new : State) (r : Result ℕ Error) → IsRoom old.now
+    → Executes delete_text (Int id ∷ []) old new r
+    → IfOk r (λ count. count ≡ 1 → RemovesRow id old.now.trees new.now.trees)
 delete_one id old new (Err e) room h = tt
-delete_one id old new (Ok count) room h = λ one. elim (deletes id old new count room (deleted id old new count room.schema h)) [ inl same ↦ absurd (let e : 0 ≡ 1 = sym same.0 ∙ one in omega (arith, e)) | inr gone ↦ gone ]
+delete_one id old new (Ok count) room h =
+    λ one. elim (deletes id old new count room (deleted id old new count room.schema h))
+    [ inl same ↦ absurd (let e : 0 ≡ 1 = sym same.0 ∙ one in omega (arith, e)) | inr gone ↦ gone ]

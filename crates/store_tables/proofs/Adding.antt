@@ -31,7 +31,8 @@ pub same_int : (a b : ℤ) → Int a ≡ Int b → a ≡ b
 same_int a b e = cc
 
 -- the number of an object isn't among its columns
-stores_at : (new : NewNode) (id other : ℕ) (c : Columns) → ReadsAsNode (node_of id new) c → ReadsAsNode (node_of other new) c
+stores_at : (new : NewNode) (id other : ℕ) (c : Columns) → ReadsAsNode (node_of id new) c
+    → ReadsAsNode (node_of other new) c
 stores_at new id other c s = record {
   is_parent = s.is_parent;
   parent = s.parent;
@@ -54,49 +55,83 @@ pub record IsPut (new : NewNode) (old : Rows) (id : ℕ) (mid : Rows) : Type 0 w
   pub is_free : Rattle.room_rows.specs.Rows.is_unreadable old id ≡ false
   pub becomes : mid ≡ reading old (with_node old.read (node_of id new))
 
-pub put_rows : (db next : Database) (id : ℕ) (new : NewNode) (c : Columns) → IsRoom db → 0 < id → ReadsAsNode (node_of 0 new) c → AddsRow (pos id) (values_of c) db.trees next.trees → IsPut new (rows_of db) id (rows_of next)
+pub put_rows : (db next : Database) (id : ℕ) (new : NewNode) (c : Columns) → IsRoom db → 0 < id
+    → ReadsAsNode (node_of 0 new) c → AddsRow (pos id) (values_of c) db.trees next.trees
+    → IsPut new (rows_of db) id (rows_of next)
 put_rows db next id new c room low stores put =
     let n = node_of id new in
     let row = stored_node (pos id) (values_of c) in
     let seen : see row ≡ Some n = stored_back n c low (stores_at new 0 id c stores) in
     let free = none_taken id (Rattle.std.proofs.Common.drop 1 row) (db.trees 0) put.fresh in
     let nodes : nodes_of (next.trees 0) ≡ put_node n (nodes_of (db.trees 0)) =
-    ap nodes_of put.nodes ∙ put_seen see (λ (m : Node). m.id) node_keyed row n seen (db.trees 0) room.nodes.0 free.0 ∙ sym (node_put n (nodes_of (db.trees 0))) in
-    let nothing : unread_in (shown_node row) ≡ None = ap (λ o. if is_none o then number_in (rowid row) else None) seen in
-    let unread : unread_of (next.trees 0) ≡ unread_of (db.trees 0) = ap unread_of put.nodes ∙ unseen (λ r. unread_in (shown_node r)) row id refl (db.trees 0) nothing free.0 in
+    ap nodes_of put.nodes
+    ∙ put_seen see (λ (m : Node). m.id) node_keyed row n seen (db.trees 0) room.nodes.0 free.0
+    ∙ sym (node_put n (nodes_of (db.trees 0))) in
+    let nothing : unread_in (shown_node row) ≡ None = ap
+    (λ o. if is_none o then number_in (rowid row) else None) seen in
+    let unread : unread_of (next.trees 0) ≡ unread_of (db.trees 0) = ap unread_of put.nodes
+    ∙ unseen (λ r. unread_in (shown_node r)) row id refl (db.trees 0) nothing free.0 in
     record {
       from_one = low;
       is_new = node_at_row db id room.nodes.0 ∙ ap (option_and_then see) free.1;
-      is_free = unread_at_row db id room.nodes.0 ∙ ap (λ o. is_some (option_and_then (λ r. unread_in (shown_node r)) o)) free.1;
-      becomes = same_rows nodes unread (ap bodies_of put.bodies) (ap pairs_of put.members) (ap (filter_map audit_in) put.audits);
+      is_free =
+          unread_at_row db id room.nodes.0
+          ∙ ap (λ o. is_some (option_and_then (λ r. unread_in (shown_node r)) o)) free.1;
+      becomes =
+          same_rows nodes unread (ap bodies_of put.bodies) (ap pairs_of put.members)
+          (ap (filter_map audit_in) put.audits);
     }
 
-pub bodied_rows : (db next : Database) (id : ℕ) (bytes : List ℕ) → IsRoom db → 0 < id → Bodies (pos id) bytes db.trees next.trees → rows_of next ≡ reading (rows_of db) (with_body (rows_of db).read id bytes)
+pub bodied_rows : (db next : Database) (id : ℕ) (bytes : List ℕ) → IsRoom db → 0 < id
+    → Bodies (pos id) bytes db.trees next.trees
+    → rows_of next ≡ reading (rows_of db) (with_body (rows_of db).read id bytes)
 bodied_rows db next id bytes room low put =
     let row = stored_body (pos id) bytes in
     let free = none_taken id (Rattle.std.proofs.Common.drop 1 row) (db.trees 2) put.fresh in
     let bodies : bodies_of (next.trees 2) ≡ put_body id bytes (bodies_of (db.trees 2)) =
-    ap bodies_of put.bodies ∙ put_seen body_in number body_rowid row (id, bytes) (stored_bytes id bytes low) (db.trees 2) room.bodies.0 free.0 ∙ sym (body_put id bytes (bodies_of (db.trees 2))) in
-    same_rows (ap nodes_of put.nodes) (ap unread_of put.nodes) bodies (ap pairs_of put.members) (ap (filter_map audit_in) put.audits)
+    ap bodies_of put.bodies
+    ∙ put_seen body_in number body_rowid row (id, bytes) (stored_bytes id bytes low)
+    (db.trees 2) room.bodies.0 free.0 ∙ sym (body_put id bytes (bodies_of (db.trees 2))) in
+    same_rows (ap nodes_of put.nodes) (ap unread_of put.nodes) bodies (ap pairs_of put.members)
+    (ap (filter_map audit_in) put.audits)
 
 -- a folder is its row alone, and a document has bytes
-pub folder_added : (new : NewNode) (old mid : Rows) (id : ℕ) → is_document new.kind ≡ false → IsPut new old id mid → IsAdded new old id mid
+pub folder_added : (new : NewNode) (old mid : Rows) (id : ℕ) → is_document new.kind ≡ false
+    → IsPut new old id mid → IsAdded new old id mid
 folder_added new old mid id folder put = record {
   from_one = put.from_one;
   is_new = put.is_new;
   is_free = put.is_free;
-  becomes = put.becomes ∙ ap (λ b. reading old (if b then with_body (with_node old.read (node_of id new)) id new.bytes else with_node old.read (node_of id new))) (sym folder);
+  becomes =
+      put.becomes
+      ∙ ap
+      (λ b. reading old
+      (if b then with_body
+      (with_node old.read (node_of id new)) id new.bytes else with_node old.read (node_of id new)))
+      (sym folder);
 }
 
-pub document_added : (new : NewNode) (old mid last : Rows) (id : ℕ) → is_document new.kind ≡ true → IsPut new old id mid → last ≡ reading mid (with_body mid.read id new.bytes) → IsAdded new old id last
+pub document_added : (new : NewNode) (old mid last : Rows) (id : ℕ) → is_document new.kind ≡ true
+    → IsPut new old id mid → last ≡ reading mid (with_body mid.read id new.bytes)
+    → IsAdded new old id last
 document_added new old mid last id document put wrote = record {
   from_one = put.from_one;
   is_new = put.is_new;
   is_free = put.is_free;
   becomes = wrote ∙ ap (λ (r : Rows). reading r (with_body r.read id new.bytes)) put.becomes
-      ∙ ap (λ b. reading old (if b then with_body (with_node old.read (node_of id new)) id new.bytes else with_node old.read (node_of id new))) (sym document);
+      ∙ ap
+      (λ b. reading old
+      (if b then with_body
+      (with_node old.read (node_of id new)) id new.bytes else with_node old.read (node_of id new)))
+      (sym document);
 }
 
-pub added : (new : NewNode) (db mid last : Database) (id : ℕ) → IsRoom mid → IsPut new (rows_of db) id (rows_of mid) → (b : Bool) → is_document new.kind ≡ b → GetsBytes b (pos id) new.bytes mid last → IsAdded new (rows_of db) id (rows_of last)
-added new db mid last id room put true is gets = document_added new (rows_of db) (rows_of mid) (rows_of last) id is put (bodied_rows mid last id new.bytes room put.from_one gets)
-added new db mid last id room put false is gets = subst (λ d. IsAdded new (rows_of db) id (rows_of d)) (sym gets) (folder_added new (rows_of db) (rows_of mid) id is put)
+pub added : (new : NewNode) (db mid last : Database) (id : ℕ) → IsRoom mid
+    → IsPut new (rows_of db) id (rows_of mid) → (b : Bool) → is_document new.kind ≡ b
+    → GetsBytes b (pos id) new.bytes mid last → IsAdded new (rows_of db) id (rows_of last)
+added new db mid last id room put true is gets =
+    document_added new (rows_of db) (rows_of mid) (rows_of last) id is put
+    (bodied_rows mid last id new.bytes room put.from_one gets)
+added new db mid last id room put false is gets =
+    subst (λ d. IsAdded new (rows_of db) id (rows_of d)) (sym gets)
+    (folder_added new (rows_of db) (rows_of mid) id is put)

@@ -32,11 +32,13 @@ use Rattle.store_tables.proofs.Updates.{cast_int, cast_null}
 
 -- ---- what is read goes on
 
-given_some : {A B : Type 0} (o : Option A) (f : A → Option B) (b : B) → given o f ≡ Some b → (a : A) × (o ≡ Some a) × (f a ≡ Some b)
+given_some : {A B : Type 0} (o : Option A) (f : A → Option B) (b : B) → given o f ≡ Some b → (a : A)
+    × (o ≡ Some a) × (f a ≡ Some b)
 given_some None f b e = absurd (not_none b e)
 given_some (Some a) f b e = (a, refl, e)
 
-giving_some : {A B : Type 0} (o : Option A) (f : A → B) (b : B) → giving o f ≡ Some b → (a : A) × (o ≡ Some a) × (f a ≡ b)
+giving_some : {A B : Type 0} (o : Option A) (f : A → B) (b : B) → giving o f ≡ Some b → (a : A)
+    × (o ≡ Some a) × (f a ≡ b)
 giving_some None f b e = absurd (not_none b e)
 giving_some (Some a) f b e = (a, refl, let e' = e in cc)
 
@@ -93,7 +95,8 @@ record ReadsHeld (f o i : Value) (h : Held) : Type 0 where
   own : entries_in o ≡ Some h.own
   inh : entries_in i ≡ Some h.inh
 
-reads_held : (flags own inh : Value) (h : Held) → held_in flags own inh ≡ Some h → ReadsHeld flags own inh h
+reads_held : (flags own inh : Value) (h : Held) → held_in flags own inh ≡ Some h
+    → ReadsHeld flags own inh h
 reads_held flags own inh h e =
     let p = given_some (flags_in flags) _ h e in
     let q = given_some (entries_in own) _ h p.2 in
@@ -115,7 +118,9 @@ record ReadsCells (v2 v3 v4 v5 v6 v7 v8 v9 v10 v11 v12 : Value) (n : Node) : Typ
   sacl : ReadsHeld v8 v11 v12 n.sacl
 
 module _ (v2 v3 v4 v5 v6 v7 v8 v9 v10 v11 v12 : Value) (n : Node) where
-  reads_cells : (v0 : Value) → node_in (v0 ∷ v2 ∷ v3 ∷ v4 ∷ v5 ∷ v6 ∷ v7 ∷ v8 ∷ v9 ∷ v10 ∷ v11 ∷ v12 ∷ []) ≡ Some n → ReadsCells v2 v3 v4 v5 v6 v7 v8 v9 v10 v11 v12 n
+  reads_cells : (v0 : Value)
+      → node_in (v0 ∷ v2 ∷ v3 ∷ v4 ∷ v5 ∷ v6 ∷ v7 ∷ v8 ∷ v9 ∷ v10 ∷ v11 ∷ v12 ∷ []) ≡ Some n
+      → ReadsCells v2 v3 v4 v5 v6 v7 v8 v9 v10 v11 v12 n
   reads_cells v0 e =
       let a = given_some (number_in v0) _ n e in
       let b = given_some (parent_in v2) _ n a.2 in
@@ -133,12 +138,18 @@ module _ (v2 v3 v4 v5 v6 v7 v8 v9 v10 v11 v12 : Value) (n : Node) where
         kind = d.1 ∙ ap (λ (m : Node). Some m.kind) y.2;
         owner = first.1 ∙ ap (λ (w : Owners). Some w.owner) (second.2 ∙ owners);
         group = second.1 ∙ ap (λ (w : Owners). Some w.group) (second.2 ∙ owners);
-        dacl = subst (ReadsHeld v7 v9 v10) (ap (λ (m : Node). m.dacl) y.2) (reads_held v7 v9 v10 x.0 x.1);
-        sacl = subst (ReadsHeld v8 v11 v12) (ap (λ (m : Node). m.sacl) y.2) (reads_held v8 v11 v12 y.0 y.1);
+        dacl =
+            subst (ReadsHeld v7 v9 v10) (ap (λ (m : Node). m.dacl) y.2)
+            (reads_held v7 v9 v10 x.0 x.1);
+        sacl =
+            subst (ReadsHeld v8 v11 v12) (ap (λ (m : Node). m.sacl) y.2)
+            (reads_held v8 v11 v12 y.0 y.1);
       }
 
   -- the columns leave cells that are read
-  recast_same : ReadsCells v2 v3 v4 v5 v6 v7 v8 v9 v10 v11 v12 n → recast (v2 ∷ v3 ∷ v4 ∷ v5 ∷ v6 ∷ v7 ∷ v8 ∷ v9 ∷ v10 ∷ v11 ∷ v12 ∷ []) ≡ v2 ∷ v3 ∷ v4 ∷ v5 ∷ v6 ∷ v7 ∷ v8 ∷ v9 ∷ v10 ∷ v11 ∷ v12 ∷ []
+  recast_same : ReadsCells v2 v3 v4 v5 v6 v7 v8 v9 v10 v11 v12 n
+      → recast (v2 ∷ v3 ∷ v4 ∷ v5 ∷ v6 ∷ v7 ∷ v8 ∷ v9 ∷ v10 ∷ v11 ∷ v12 ∷ []) ≡ v2 ∷ v3 ∷ v4 ∷ v5
+      ∷ v6 ∷ v7 ∷ v8 ∷ v9 ∷ v10 ∷ v11 ∷ v12 ∷ []
   recast_same s = rw (
     parent_typed v2 _ s.parent,
     text_typed v3 _ s.name,
@@ -154,23 +165,44 @@ module _ (v2 v3 v4 v5 v6 v7 v8 v9 v10 v11 v12 : Value) (n : Node) where
   ) refl
 
   -- and they are read back
-  read_back : (id : ℕ) → number_in (Int (pos id)) ≡ Some n.id → ReadsCells v2 v3 v4 v5 v6 v7 v8 v9 v10 v11 v12 n → node_in (shown_node (stored_node (pos id) (v2 ∷ v3 ∷ v4 ∷ v5 ∷ v6 ∷ v7 ∷ v8 ∷ v9 ∷ v10 ∷ v11 ∷ v12 ∷ []))) ≡ Some n
+  read_back : (id : ℕ) → number_in (Int (pos id)) ≡ Some n.id
+      → ReadsCells v2 v3 v4 v5 v6 v7 v8 v9 v10 v11 v12 n
+      → node_in
+      (shown_node
+      (stored_node (pos id) (v2 ∷ v3 ∷ v4 ∷ v5 ∷ v6 ∷ v7 ∷ v8 ∷ v9 ∷ v10 ∷ v11 ∷ v12 ∷ [])))
+      ≡ Some n
   read_back id number s =
       let owners : owners_in v5 v6 ≡ Some n.owners = rw (s.owner, s.group) refl in
       let dacl : held_in v7 v9 v10 ≡ Some n.dacl = rw (s.dacl.flags, s.dacl.own, s.dacl.inh) refl in
-      let sacl : held_in v8 v11 v12 ≡ Some n.sacl = rw (s.sacl.flags, s.sacl.own, s.sacl.inh) refl in
+      let sacl : held_in v8 v11 v12 ≡ Some n.sacl =
+      rw (s.sacl.flags, s.sacl.own, s.sacl.inh) refl in
       rw (number, s.parent, s.name, s.kind, owners, dacl, sacl) refl
 
-  stored_again : (id : ℕ) → number_in (Int (pos id)) ≡ Some n.id → ReadsCells v2 v3 v4 v5 v6 v7 v8 v9 v10 v11 v12 n → node_in (shown_node (stored_node (pos id) (recast (v2 ∷ v3 ∷ v4 ∷ v5 ∷ v6 ∷ v7 ∷ v8 ∷ v9 ∷ v10 ∷ v11 ∷ v12 ∷ [])))) ≡ Some n
-  stored_again id number s = ap (λ l. node_in (shown_node (stored_node (pos id) l))) (recast_same s) ∙ read_back id number s
+  stored_again : (id : ℕ) → number_in (Int (pos id)) ≡ Some n.id
+      → ReadsCells v2 v3 v4 v5 v6 v7 v8 v9 v10 v11 v12 n
+      → node_in
+      (shown_node
+      (stored_node (pos id)
+      (recast (v2 ∷ v3 ∷ v4 ∷ v5 ∷ v6 ∷ v7 ∷ v8 ∷ v9 ∷ v10 ∷ v11 ∷ v12 ∷ [])))) ≡ Some n
+  stored_again id number s =
+      ap (λ l. node_in (shown_node (stored_node (pos id) l))) (recast_same s)
+      ∙ read_back id number s
 
 -- ---- some columns written
 
-module _ (id : ℕ) (r : Row) (before : Node) (number : number_in (Int (pos id)) ≡ Some before.id) (e : node_in (shown_node r) ≡ Some before) where
-  inherits_back : (which : Which) (text : List ℕ) (entries : List Ace) → entries_in (Text text) ≡ Some entries → node_in (shown_node (stored_node (pos id) (recast (inheriting which text r)))) ≡ Some (with_inh which entries before)
+module _ (id : ℕ) (r : Row) (before : Node) (number : number_in (Int (pos id)) ≡ Some before.id)
+    (e : node_in (shown_node r) ≡ Some before) where
+  inherits_back : (which : Which) (text : List ℕ) (entries : List Ace)
+      → entries_in (Text text) ≡ Some entries
+      → node_in (shown_node (stored_node (pos id) (recast (inheriting which text r))))
+      ≡ Some (with_inh which entries before)
   inherits_back Dacl text entries back =
-      let s = reads_cells (column r 2) (column r 3) (column r 4) (column r 5) (column r 6) (column r 7) (column r 8) (column r 9) (column r 10) (column r 11) (column r 12) before (column r 0) e in
-      stored_again (column r 2) (column r 3) (column r 4) (column r 5) (column r 6) (column r 7) (column r 8) (column r 9) (Text text) (column r 11) (column r 12) (with_inh Dacl entries before) id number (record {
+      let s = reads_cells (column r 2) (column r 3) (column r 4) (column r 5) (column r 6)
+      (column r 7) (column r 8) (column r 9) (column r 10) (column r 11) (column r 12) before
+      (column r 0) e in
+      stored_again (column r 2) (column r 3) (column r 4) (column r 5) (column r 6) (column r 7)
+      (column r 8) (column r 9) (Text text) (column r 11) (column r 12)
+      (with_inh Dacl entries before) id number (record {
         parent = s.parent;
         name = s.name;
         kind = s.kind;
@@ -180,8 +212,12 @@ module _ (id : ℕ) (r : Row) (before : Node) (number : number_in (Int (pos id))
         sacl = s.sacl;
       })
   inherits_back Sacl text entries back =
-      let s = reads_cells (column r 2) (column r 3) (column r 4) (column r 5) (column r 6) (column r 7) (column r 8) (column r 9) (column r 10) (column r 11) (column r 12) before (column r 0) e in
-      stored_again (column r 2) (column r 3) (column r 4) (column r 5) (column r 6) (column r 7) (column r 8) (column r 9) (column r 10) (column r 11) (Text text) (with_inh Sacl entries before) id number (record {
+      let s = reads_cells (column r 2) (column r 3) (column r 4) (column r 5) (column r 6)
+      (column r 7) (column r 8) (column r 9) (column r 10) (column r 11) (column r 12) before
+      (column r 0) e in
+      stored_again (column r 2) (column r 3) (column r 4) (column r 5) (column r 6) (column r 7)
+      (column r 8) (column r 9) (column r 10) (column r 11) (Text text)
+      (with_inh Sacl entries before) id number (record {
         parent = s.parent;
         name = s.name;
         kind = s.kind;
@@ -191,10 +227,18 @@ module _ (id : ℕ) (r : Row) (before : Node) (number : number_in (Int (pos id))
         sacl = record { flags = s.sacl.flags; own = s.sacl.own; inh = back };
       })
 
-  holds_back : (which : Which) (flags : ℤ) (own inh : List ℕ) (held : Held) → flags_in (Int flags) ≡ Some held.flags → entries_in (Text own) ≡ Some held.own → entries_in (Text inh) ≡ Some held.inh → node_in (shown_node (stored_node (pos id) (recast (holding which flags own inh r)))) ≡ Some (with_held which held before)
+  holds_back : (which : Which) (flags : ℤ) (own inh : List ℕ) (held : Held)
+      → flags_in (Int flags) ≡ Some held.flags → entries_in (Text own) ≡ Some held.own
+      → entries_in (Text inh) ≡ Some held.inh
+      → node_in (shown_node (stored_node (pos id) (recast (holding which flags own inh r))))
+      ≡ Some (with_held which held before)
   holds_back Dacl flags own inh held p q t =
-      let s = reads_cells (column r 2) (column r 3) (column r 4) (column r 5) (column r 6) (column r 7) (column r 8) (column r 9) (column r 10) (column r 11) (column r 12) before (column r 0) e in
-      stored_again (column r 2) (column r 3) (column r 4) (column r 5) (column r 6) (Int flags) (column r 8) (Text own) (Text inh) (column r 11) (column r 12) (with_held Dacl held before) id number (record {
+      let s = reads_cells (column r 2) (column r 3) (column r 4) (column r 5) (column r 6)
+      (column r 7) (column r 8) (column r 9) (column r 10) (column r 11) (column r 12) before
+      (column r 0) e in
+      stored_again (column r 2) (column r 3) (column r 4) (column r 5) (column r 6) (Int flags)
+      (column r 8) (Text own) (Text inh) (column r 11) (column r 12)
+      (with_held Dacl held before) id number (record {
         parent = s.parent;
         name = s.name;
         kind = s.kind;
@@ -204,8 +248,12 @@ module _ (id : ℕ) (r : Row) (before : Node) (number : number_in (Int (pos id))
         sacl = s.sacl;
       })
   holds_back Sacl flags own inh held p q t =
-      let s = reads_cells (column r 2) (column r 3) (column r 4) (column r 5) (column r 6) (column r 7) (column r 8) (column r 9) (column r 10) (column r 11) (column r 12) before (column r 0) e in
-      stored_again (column r 2) (column r 3) (column r 4) (column r 5) (column r 6) (column r 7) (Int flags) (column r 9) (column r 10) (Text own) (Text inh) (with_held Sacl held before) id number (record {
+      let s = reads_cells (column r 2) (column r 3) (column r 4) (column r 5) (column r 6)
+      (column r 7) (column r 8) (column r 9) (column r 10) (column r 11) (column r 12) before
+      (column r 0) e in
+      stored_again (column r 2) (column r 3) (column r 4) (column r 5) (column r 6) (column r 7)
+      (Int flags) (column r 9) (column r 10) (Text own) (Text inh)
+      (with_held Sacl held before) id number (record {
         parent = s.parent;
         name = s.name;
         kind = s.kind;
@@ -215,10 +263,17 @@ module _ (id : ℕ) (r : Row) (before : Node) (number : number_in (Int (pos id))
         sacl = record { flags = p; own = q; inh = t };
       })
 
-  owns_back : (owner group : List ℕ) (owners : Owners) → name_in (Text owner) ≡ Some owners.owner → name_in (Text group) ≡ Some owners.group → node_in (shown_node (stored_node (pos id) (recast (owning owner group r)))) ≡ Some (with_owners owners before)
+  owns_back : (owner group : List ℕ) (owners : Owners) → name_in (Text owner) ≡ Some owners.owner
+      → name_in (Text group) ≡ Some owners.group
+      → node_in (shown_node (stored_node (pos id) (recast (owning owner group r))))
+      ≡ Some (with_owners owners before)
   owns_back owner group owners p q =
-      let s = reads_cells (column r 2) (column r 3) (column r 4) (column r 5) (column r 6) (column r 7) (column r 8) (column r 9) (column r 10) (column r 11) (column r 12) before (column r 0) e in
-      stored_again (column r 2) (column r 3) (column r 4) (Text owner) (Text group) (column r 7) (column r 8) (column r 9) (column r 10) (column r 11) (column r 12) (with_owners owners before) id number (record {
+      let s = reads_cells (column r 2) (column r 3) (column r 4) (column r 5) (column r 6)
+      (column r 7) (column r 8) (column r 9) (column r 10) (column r 11) (column r 12) before
+      (column r 0) e in
+      stored_again (column r 2) (column r 3) (column r 4) (Text owner) (Text group) (column r 7)
+      (column r 8) (column r 9) (column r 10) (column r 11) (column r 12)
+      (with_owners owners before) id number (record {
         parent = s.parent;
         name = s.name;
         kind = s.kind;
@@ -228,10 +283,17 @@ module _ (id : ℕ) (r : Row) (before : Node) (number : number_in (Int (pos id))
         sacl = s.sacl;
       })
 
-  lies_back : (at : ℤ) (text : List ℕ) (parent : ℕ) (name : List ℕ) → parent_in (Int at) ≡ Some (Some parent) → text_in (Text text) ≡ Some name → node_in (shown_node (stored_node (pos id) (recast (lying at text r)))) ≡ Some (with_place parent name before)
+  lies_back : (at : ℤ) (text : List ℕ) (parent : ℕ) (name : List ℕ)
+      → parent_in (Int at) ≡ Some (Some parent) → text_in (Text text) ≡ Some name
+      → node_in (shown_node (stored_node (pos id) (recast (lying at text r))))
+      ≡ Some (with_place parent name before)
   lies_back at text parent name p q =
-      let s = reads_cells (column r 2) (column r 3) (column r 4) (column r 5) (column r 6) (column r 7) (column r 8) (column r 9) (column r 10) (column r 11) (column r 12) before (column r 0) e in
-      stored_again (Int at) (Text text) (column r 4) (column r 5) (column r 6) (column r 7) (column r 8) (column r 9) (column r 10) (column r 11) (column r 12) (with_place parent name before) id number (record {
+      let s = reads_cells (column r 2) (column r 3) (column r 4) (column r 5) (column r 6)
+      (column r 7) (column r 8) (column r 9) (column r 10) (column r 11) (column r 12) before
+      (column r 0) e in
+      stored_again (Int at) (Text text) (column r 4) (column r 5) (column r 6) (column r 7)
+      (column r 8) (column r 9) (column r 10) (column r 11) (column r 12)
+      (with_place parent name before) id number (record {
         parent = p;
         name = q;
         kind = s.kind;
@@ -243,27 +305,60 @@ module _ (id : ℕ) (r : Row) (before : Node) (number : number_in (Int (pos id))
 
 -- ---- the object is changed
 
-module _ (db next : Database) (id : ℕ) (room : IsRoom db) (number : number_in (Int (pos id)) ≡ Some id) where
+module _ (db next : Database) (id : ℕ) (room : IsRoom db)
+    (number : number_in (Int (pos id)) ≡ Some id) where
   -- the row is written with cells that are read as the changed object
-  altered : (cells : Row → Row) (change : Node → Node) → ((n : Node) → (change n).id ≡ n.id) → ((r : Row) (before : Node) → number_in (Int (pos id)) ≡ Some before.id → node_in (shown_node r) ≡ Some before → node_in (shown_node (stored_node (pos id) (recast (cells r)))) ≡ Some (change before))
+  altered : (cells : Row → Row) (change : Node → Node) → ((n : Node) → (change n).id ≡ n.id)
+      → ((r : Row) (before : Node) → number_in (Int (pos id)) ≡ Some before.id
+      → node_in (shown_node r) ≡ Some before
+      → node_in (shown_node (stored_node (pos id) (recast (cells r)))) ≡ Some (change before))
       → Recasts cells (pos id) db.trees next.trees → Alters id change db next
-  altered cells change keeps back put before there = by (find (has_rowid (pos id)) (db.trees 0)) refl
+  altered cells change keeps back put before there =
+      by (find (has_rowid (pos id)) (db.trees 0)) refl
     where
-      by : (o : Option Row) → find (has_rowid (pos id)) (db.trees 0) ≡ o → rows_of next ≡ reading (rows_of db) (with_node (rows_of db).read (change before))
-      by None found = absurd (not_none before (sym (ap (option_and_then (λ r. node_in (shown_node r))) found) ∙ sym (node_at_row db id room.nodes.0) ∙ there))
+      by : (o : Option Row) → find (has_rowid (pos id)) (db.trees 0) ≡ o
+          → rows_of next ≡ reading (rows_of db) (with_node (rows_of db).read (change before))
+      by None found =
+          absurd
+          (not_none before (sym (ap (option_and_then (λ r. node_in (shown_node r))) found)
+          ∙ sym (node_at_row db id room.nodes.0) ∙ there))
       by (Some r) found =
-          let seen : node_in (shown_node r) ≡ Some before = sym (ap (option_and_then (λ r. node_in (shown_node r))) found) ∙ sym (node_at_row db id room.nodes.0) ∙ there in
+          let seen : node_in (shown_node r) ≡ Some before =
+          sym (ap (option_and_then (λ r. node_in (shown_node r))) found)
+          ∙ sym (node_at_row db id room.nodes.0) ∙ there in
           let is = node_at-number (rows_of db).read id before there in
-          replaced_rows db next id (recast (cells r)) before (change before) room there (back r before (number ∙ ap Some (sym is)) seen) (keeps before ∙ is) (put r found)
+          replaced_rows db next id (recast (cells r)) before (change before) room there
+          (back r before (number ∙ ap Some (sym is)) seen) (keeps before ∙ is) (put r found)
 
-  pub inherited_rows : (which : Which) (text : List ℕ) (entries : List Ace) → entries_in (Text text) ≡ Some entries → Recasts (inheriting which text) (pos id) db.trees next.trees → Alters id (with_inh which entries) db next
-  inherited_rows which text entries back = altered (inheriting which text) (with_inh which entries) (inh_id which entries) (λ r before n e. inherits_back id r before n e which text entries back)
+  pub inherited_rows : (which : Which) (text : List ℕ) (entries : List Ace)
+      → entries_in (Text text) ≡ Some entries
+      → Recasts (inheriting which text) (pos id) db.trees next.trees
+      → Alters id (with_inh which entries) db next
+  inherited_rows which text entries back =
+      altered (inheriting which text) (with_inh which entries) (inh_id which entries)
+      (λ r before n e. inherits_back id r before n e which text entries back)
 
-  pub held_rows : (which : Which) (flags : ℤ) (own inh : List ℕ) (held : Held) → flags_in (Int flags) ≡ Some held.flags → entries_in (Text own) ≡ Some held.own → entries_in (Text inh) ≡ Some held.inh → Recasts (holding which flags own inh) (pos id) db.trees next.trees → Alters id (with_held which held) db next
-  held_rows which flags own inh held p q t = altered (holding which flags own inh) (with_held which held) (held_id which held) (λ r before n e. holds_back id r before n e which flags own inh held p q t)
+  pub held_rows : (which : Which) (flags : ℤ) (own inh : List ℕ) (held : Held)
+      → flags_in (Int flags) ≡ Some held.flags → entries_in (Text own) ≡ Some held.own
+      → entries_in (Text inh) ≡ Some held.inh
+      → Recasts (holding which flags own inh) (pos id) db.trees next.trees
+      → Alters id (with_held which held) db next
+  held_rows which flags own inh held p q t =
+      altered (holding which flags own inh) (with_held which held) (held_id which held)
+      (λ r before n e. holds_back id r before n e which flags own inh held p q t)
 
-  pub owned_rows : (owner group : List ℕ) (owners : Owners) → name_in (Text owner) ≡ Some owners.owner → name_in (Text group) ≡ Some owners.group → Recasts (owning owner group) (pos id) db.trees next.trees → Alters id (with_owners owners) db next
-  owned_rows owner group owners p q = altered (owning owner group) (with_owners owners) (λ n. refl) (λ r before n e. owns_back id r before n e owner group owners p q)
+  pub owned_rows : (owner group : List ℕ) (owners : Owners)
+      → name_in (Text owner) ≡ Some owners.owner → name_in (Text group) ≡ Some owners.group
+      → Recasts (owning owner group) (pos id) db.trees next.trees
+      → Alters id (with_owners owners) db next
+  owned_rows owner group owners p q =
+      altered (owning owner group) (with_owners owners) (λ n. refl)
+      (λ r before n e. owns_back id r before n e owner group owners p q)
 
-  pub placed_rows : (at : ℤ) (text : List ℕ) (parent : ℕ) (name : List ℕ) → parent_in (Int at) ≡ Some (Some parent) → text_in (Text text) ≡ Some name → Recasts (lying at text) (pos id) db.trees next.trees → Alters id (with_place parent name) db next
-  placed_rows at text parent name p q = altered (lying at text) (with_place parent name) (λ n. refl) (λ r before n e. lies_back id r before n e at text parent name p q)
+  pub placed_rows : (at : ℤ) (text : List ℕ) (parent : ℕ) (name : List ℕ)
+      → parent_in (Int at) ≡ Some (Some parent) → text_in (Text text) ≡ Some name
+      → Recasts (lying at text) (pos id) db.trees next.trees
+      → Alters id (with_place parent name) db next
+  placed_rows at text parent name p q =
+      altered (lying at text) (with_place parent name) (λ n. refl)
+      (λ r before n e. lies_back id r before n e at text parent name p q)

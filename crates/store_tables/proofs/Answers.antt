@@ -25,24 +25,41 @@ way params r = params ∷ r ∷ []
 
 -- a query over one table goes through just the rows that pass its tests, in their order
 pub each_way : (lost : Value) (db : Trees) (tests : List Term) (params : Row) (rows : List Row)
-    → flat_map (λ r. matches_as lost db tests end (way params r)) rows ≡ map (way params) (filter (passes tests params) rows)
+    → flat_map (λ r. matches_as lost db tests end (way params r)) rows
+    ≡ map (way params) (filter (passes tests params) rows)
 each_way lost db tests params [] = refl
 each_way lost db tests params (r ∷ rows) =
-    elim (passes tests params r) as (λ b. cond b (way params r ∷ []) [] ++ flat_map (λ r. matches_as lost db tests end (way params r)) rows ≡ map (way params) (cond b (r ∷ filter (passes tests params) rows) (filter (passes tests params) rows)))
-    [ true ↦ ap (λ l. way params r ∷ l) (each_way lost db tests params rows) | false ↦ each_way lost db tests params rows ]
+    elim (passes tests params r) as (λ b. cond b (way params r ∷ []) []
+    ++ flat_map (λ r. matches_as lost db tests end (way params r)) rows
+    ≡ map (way params) (cond b (r ∷ filter (passes tests params) rows)
+    (filter (passes tests params) rows))) [
+      | true ↦ ap (λ l. way params r ∷ l) (each_way lost db tests params rows)
+      | false ↦
+          each_way lost db tests params rows
+    ]
 
-outputs : (q : Query) (params : Row) (rows : List Row) → map (λ (o : Output). o.1) (map (output q) (map (way params) rows)) ≡ map (shows q.project params) rows
+outputs : (q : Query) (params : Row) (rows : List Row)
+    → map (λ (o : Output). o.1) (map (output q) (map (way params) rows))
+    ≡ map (shows q.project params) rows
 outputs q params [] = refl
 outputs q params (r ∷ rows) = ap (λ l. shows q.project params r ∷ l) (outputs q params rows)
 
-module _ (lost : Value) (tree : ℕ) (tests terms : List Term) (order : List (Term × Key)) (db : Trees) (params : Row) (rows : List Row) (a : IsAnswerAs lost (query_of tree tests terms order) db params rows) where
-  kept_is : a.kept ≡ map (output (query_of tree tests terms order)) (map (way params) (filter (passes tests params) (db tree)))
-  kept_is = a.distinct ∙ ap (map (output (query_of tree tests terms order))) (a.grouped ∙ each_way lost db tests params (db tree))
+module _ (lost : Value) (tree : ℕ) (tests terms : List Term) (order : List (Term × Key))
+    (db : Trees) (params : Row) (rows : List Row)
+    (a : IsAnswerAs lost (query_of tree tests terms order) db params rows) where
+  kept_is : a.kept ≡ map (output (query_of tree tests terms order))
+      (map (way params) (filter (passes tests params) (db tree)))
+  kept_is =
+      a.distinct ∙ ap (map (output (query_of tree tests terms order)))
+      (a.grouped ∙ each_way lost db tests params (db tree))
 
   -- the rows that pass, as they are shown
-  pub selected : IsPermutation (map (shows terms params) (filter (passes tests params) (db tree))) rows
+  pub selected : IsPermutation
+      (map (shows terms params) (filter (passes tests params) (db tree))) rows
   selected =
       let q = query_of tree tests terms order in
       let all = IsPermutation-map (λ (o : Output). o.1) a.kept a.ordered a.same in
-      let from : map (λ (o : Output). o.1) a.kept ≡ map (shows terms params) (filter (passes tests params) (db tree)) = ap (map (λ (o : Output). o.1)) kept_is ∙ outputs q params _ in
+      let from : map (λ (o : Output). o.1) a.kept
+      ≡ map (shows terms params) (filter (passes tests params) (db tree)) =
+      ap (map (λ (o : Output). o.1)) kept_is ∙ outputs q params _ in
       subst (λ l. IsPermutation l rows) from (subst (IsPermutation _) (sym a.shown) all)

@@ -37,31 +37,40 @@ or_none : (b c : Bool) → (b || c) ≡ false → (b ≡ false) × (c ≡ false)
 or_none true c h = absurd (let e = h in cc)
 or_none false c h = (refl, h)
 
-any_none : {A : Type 0} (p : A → Bool) (xs : List A) (x : A) → list_any p xs ≡ false → Has xs x → p x ≡ false
+any_none : {A : Type 0} (p : A → Bool) (xs : List A) (x : A) → list_any p xs ≡ false → Has xs x
+    → p x ≡ false
 any_none p [] x none there = absurd there
 any_none p (y ∷ ys) x none (inl e) = ap p e ∙ (or_none (p y) (list_any p ys) none).0
-any_none p (y ∷ ys) x none (inr later) = any_none p ys x (or_none (p y) (list_any p ys) none).1 later
+any_none p (y ∷ ys) x none (inr later) =
+    any_none p ys x (or_none (p y) (list_any p ys) none).1 later
 
-pub kept_passes : {A : Type 0} (p : A → Bool) (xs : List A) (x : A) → Has (filter p xs) x → p x ≡ true
+pub kept_passes : {A : Type 0} (p : A → Bool) (xs : List A) (x : A) → Has (filter p xs) x
+    → p x ≡ true
 kept_passes p [] x there = absurd there
 kept_passes p (y ∷ ys) x there = by (p y) refl there (kept_passes p ys x)
   where
-    by : (b : Bool) → p y ≡ b → Has (cond b (y ∷ filter p ys) (filter p ys)) x → (Has (filter p ys) x → p x ≡ true) → p x ≡ true
+    by : (b : Bool) → p y ≡ b → Has (cond b (y ∷ filter p ys) (filter p ys)) x
+        → (Has (filter p ys) x → p x ≡ true) → p x ≡ true
     by true is (inl e) more = ap p e ∙ is
     by true is (inr later) more = more later
     by false is later more = more later
 
 -- ---- = and <> of values that are not NULL
 
-equal_from : (a b : Value) → is_null a ≡ false → is_null b ≡ false → is_eq (value_cmp a b) ≡ true → is_true (binary (Compare Eq Binary) a b) ≡ true
+equal_from : (a b : Value) → is_null a ≡ false → is_null b ≡ false → is_eq (value_cmp a b) ≡ true
+    → is_true (binary (Compare Eq Binary) a b) ≡ true
 unfolding binary
 equal_from a b some other same = rw (some, other) (told (is_eq (value_cmp a b)) ∙ same)
 
-differ_from : (a b : Value) → is_null a ≡ false → is_null b ≡ false → value_cmp a b ≡ Less → differ a b ≡ true
+differ_from : (a b : Value) → is_null a ≡ false → is_null b ≡ false → value_cmp a b ≡ Less
+    → differ a b ≡ true
 unfolding binary
-differ_from a b some other less = rw (some, other) (told (test Ne (value_cmp a b)) ∙ ap (test Ne) less)
+differ_from a b some other less =
+    rw (some, other) (told (test Ne (value_cmp a b)) ∙ ap (test Ne) less)
 
-agrees_by : (first second : ℕ) (a b : Row) → is_true (binary (Compare Eq Binary) (column a first) (column b first)) ≡ true → is_true (binary (Compare Eq Binary) (column a second) (column b second)) ≡ true
+agrees_by : (first second : ℕ) (a b : Row)
+    → is_true (binary (Compare Eq Binary) (column a first) (column b first)) ≡ true
+    → is_true (binary (Compare Eq Binary) (column a second) (column b second)) ≡ true
     → agree plain (first ∷ second ∷ []) a (first ∷ second ∷ []) b ≡ true
 unfolding first_key
 agrees_by first second a b one two = and_from _ _ one (and_from _ true two refl)
@@ -75,34 +84,53 @@ int_is_some (Blob b) int = absurd (let e = int in cc)
 
 -- ---- rows that agree in the first column of a key differ in the second
 
-module _ (rows : List Row) (table : IsTable rows) (ints : AllByRecursion (λ r. IsTrue (is_int (rowid r))) rows) (first second : ℕ) (v : Value) (p : Row → Bool)
-    (unique : (r : Row) → Has rows r → clashes plain (first ∷ second ∷ []) rows r ≡ false) (fixes : (r : Row) → p r ≡ true → is_eq (value_cmp (column r first) v) ≡ true)
-    (present : (r : Row) → Has rows r → p r ≡ true → (is_null (column r first) ≡ false) × (is_null (column r second) ≡ false)) where
-  same_first : (a b : Row) → p a ≡ true → p b ≡ true → is_eq (value_cmp (column a first) (column b first)) ≡ true
+module _ (rows : List Row) (table : IsTable rows)
+    (ints : AllByRecursion (λ r. IsTrue (is_int (rowid r))) rows) (first second : ℕ) (v : Value)
+    (p : Row → Bool)
+    (unique : (r : Row) → Has rows r → clashes plain (first ∷ second ∷ []) rows r ≡ false)
+    (fixes : (r : Row) → p r ≡ true → is_eq (value_cmp (column r first) v) ≡ true)
+    (present : (r : Row) → Has rows r → p r ≡ true → (is_null (column r first) ≡ false)
+    × (is_null (column r second) ≡ false)) where
+  same_first : (a b : Row) → p a ≡ true → p b ≡ true
+      → is_eq (value_cmp (column a first) (column b first)) ≡ true
   same_first a b one two =
-      ap is_eq (alike_right value_cmp_total (column b first) v (column a first) (is_equal _ (fixes b two))) ∙ fixes a one
+      ap is_eq (alike_right value_cmp_total (column b first) v (column a first)
+      (is_equal _ (fixes b two))) ∙ fixes a one
 
-  apart : (a b : Row) → Has rows a → Has rows b → p a ≡ true → p b ≡ true → value_cmp (rowid a) (rowid b) ≡ Less → (t : Bool) → is_eq (by_column second a b) ≡ t → t ≡ false
+  apart : (a b : Row) → Has rows a → Has rows b → p a ≡ true → p b ≡ true
+      → value_cmp (rowid a) (rowid b) ≡ Less → (t : Bool) → is_eq (by_column second a b) ≡ t
+      → t ≡ false
   apart a b here there one two less false is = refl
   apart a b here there one two less true is =
       let na = present a here one in
       let nb = present b there two in
       let agrees : agree plain (first ∷ second ∷ []) a (first ∷ second ∷ []) b ≡ true =
-      agrees_by first second a b (equal_from (column a first) (column b first) na.0 nb.0 (same_first a b one two)) (equal_from (column a second) (column b second) na.1 nb.1 is) in
-      let differs = differ_from (rowid a) (rowid b) (int_is_some (rowid a) (of_each _ rows ints a here)) (int_is_some (rowid b) (of_each _ rows ints b there)) less in
-      absurd (false≢true (sym (any_none (λ other. agree plain (first ∷ second ∷ []) other (first ∷ second ∷ []) b && differ (rowid other) (rowid b)) rows a (unique b there) here)
+      agrees_by first second a b
+      (equal_from (column a first) (column b first) na.0 nb.0 (same_first a b one two))
+      (equal_from (column a second) (column b second) na.1 nb.1 is) in
+      let differs = differ_from (rowid a) (rowid b)
+      (int_is_some (rowid a) (of_each _ rows ints a here))
+      (int_is_some (rowid b) (of_each _ rows ints b there)) less in
+      absurd
+      (false≢true
+      (sym (any_none (λ other. agree plain (first ∷ second ∷ []) other (first ∷ second ∷ []) b
+      && differ (rowid other) (rowid b)) rows a (unique b there) here)
       ∙ and_from _ _ agrees differs))
 
-  none_tied : (some : List Row) → IsTable some → ((r : Row) → Has some r → Has rows r) → HasNoTies (by_column second) (filter p some)
+  none_tied : (some : List Row) → IsTable some → ((r : Row) → Has some r → Has rows r)
+      → HasNoTies (by_column second) (filter p some)
   none_tied [] up within = tt
-  none_tied (r ∷ some) up within = step (p r) refl (none_tied some up.1 (λ x there. within x (inr there)))
+  none_tied (r ∷ some) up within =
+      step (p r) refl (none_tied some up.1 (λ x there. within x (inr there)))
     where
-      step : (b : Bool) → p r ≡ b → HasNoTies (by_column second) (filter p some) → HasNoTies (by_column second) (cond b (r ∷ filter p some) (filter p some))
+      step : (b : Bool) → p r ≡ b → HasNoTies (by_column second) (filter p some)
+          → HasNoTies (by_column second) (cond b (r ∷ filter p some) (filter p some))
       step false is more = more
       step true is more = (
         each_of _ (filter p some) (λ y there.
             let behind = kept_from p some y there in
-            apart r y (within r (inl refl)) (within y (inr behind)) is (kept_passes p some y there) (of_each _ some up.0 y behind) (is_eq (by_column second r y)) refl),
+            apart r y (within r (inl refl)) (within y (inr behind)) is (kept_passes p some y there)
+            (of_each _ some up.0 y behind) (is_eq (by_column second r y)) refl),
         more,
       )
 
@@ -122,7 +150,8 @@ denied : (b : Bool) → not b ≡ true → b ≡ false
 denied true h = absurd (let e = h in cc)
 denied false h = refl
 
-named : (db : Trees) (r : Row) → passes NotNull room_schema db nodes_table r ≡ true → is_null (column r 3) ≡ false
+named : (db : Trees) (r : Row) → passes NotNull room_schema db nodes_table r ≡ true
+    → is_null (column r 3) ≡ false
 unfolding everything
 named db r h = denied _ (and_parts _ _ h).0
 
@@ -130,13 +159,19 @@ nodes_listed : Has room_schema.tables nodes_table
 unfolding everything
 nodes_listed = inl refl
 
-pub children_apart : (db : Database) → IsRoom db → (parent : ℤ) → HasNoTies (by_column 3) (filter (is_child parent) (db.trees 0))
+pub children_apart : (db : Database) → IsRoom db → (parent : ℤ)
+    → HasNoTies (by_column 3) (filter (is_child parent) (db.trees 0))
 children_apart db room parent =
     let sound = subst (λ s. IsSound s db.trees) room.schema room.sound in
     no_ties (db.trees 0) room.nodes.0 room.nodes.1 2 3 (Int parent) (is_child parent)
-    (λ r there. keys_are_unique room_schema db.trees nodes_table 0 (2 ∷ 3 ∷ []) r sound nodes_listed refl there)
+    (λ r there. keys_are_unique room_schema db.trees nodes_table 0
+    (2 ∷ 3 ∷ []) r sound nodes_listed refl there)
     (λ r under. (and_parts _ (is_numbered r) under).0)
-    (λ r there under. (like_int (column r 2) parent (and_parts _ (is_numbered r) under).0, named db.trees r (keeps_at NotNull room_schema db.trees nodes_table r (sound.obeys.rules NotNull) nodes_listed there)))
+    (λ r there under. (
+      like_int (column r 2) parent (and_parts _ (is_numbered r) under).0,
+      named db.trees r (keeps_at NotNull room_schema db.trees nodes_table r
+          (sound.obeys.rules NotNull) nodes_listed there),
+    ))
 
 -- ---- pairs
 
@@ -150,7 +185,8 @@ like_text (Real x) t same = refl
 like_text (Text s) t same = refl
 like_text (Blob b) t same = refl
 
-grouped : (db : Trees) (r : Row) → passes NotNull room_schema db members_table r ≡ true → is_null (column r 1) ≡ false
+grouped : (db : Trees) (r : Row) → passes NotNull room_schema db members_table r ≡ true
+    → is_null (column r 1) ≡ false
 unfolding everything
 grouped db r h = denied _ (and_parts _ _ h).0
 
@@ -158,10 +194,16 @@ members_listed : Has room_schema.tables members_table
 unfolding everything
 members_listed = inr (inr (inl refl))
 
-pub members_apart : (db : Database) → IsRoom db → (user : List ℕ) → HasNoTies (by_column 1) (filter (is_user_row user) (db.trees 3))
+pub members_apart : (db : Database) → IsRoom db → (user : List ℕ)
+    → HasNoTies (by_column 1) (filter (is_user_row user) (db.trees 3))
 members_apart db room user =
     let sound = subst (λ s. IsSound s db.trees) room.schema room.sound in
     no_ties (db.trees 3) room.members.0 room.members.1 2 1 (Text user) (is_user_row user)
-    (λ r there. keys_are_unique room_schema db.trees members_table 0 (2 ∷ 1 ∷ []) r sound members_listed refl there)
+    (λ r there. keys_are_unique room_schema db.trees members_table 0
+    (2 ∷ 1 ∷ []) r sound members_listed refl there)
     (λ r mine. mine)
-    (λ r there mine. (like_text (column r 2) user mine, grouped db.trees r (keeps_at NotNull room_schema db.trees members_table r (sound.obeys.rules NotNull) members_listed there)))
+    (λ r there mine. (
+      like_text (column r 2) user mine,
+      grouped db.trees r (keeps_at NotNull room_schema db.trees members_table r
+          (sound.obeys.rules NotNull) members_listed there),
+    ))

@@ -16,9 +16,14 @@ use Rattle.store_tables.proofs.Inside.{did_inside, query_inside, write_inside}
 use Rattle.store_tables.proofs.Tests.{if_ok}
 
 -- a query inside a transaction keeps `QueriesSql`, once it is known what its rows show of a room
-pub asks : (sql : List ℕ) (params : Row) (old new : State) (r : Result (Vec Row Global) Error) (Shows : Trees → List Row → Type 0) → IsPlain (understood room_schema sql) → doubt old.is_clean ≤ doubt new.is_clean
-    → ((rows : List Row) → IsRoom old.now → Shown sql params old new rows → Shows old.now.trees rows) → (HasCleanDisk new → IfOk r (λ rows. Shown sql params old new rows.items))
-    → (HasCleanDisk new → IfErr r (λ e. FailsToQuery sql params old new e ⊎ IsTooLate sql params old new e)) → QueriesSql Shows old new r
+pub asks : (sql : List ℕ) (params : Row) (old new : State) (r : Result (Vec Row Global) Error)
+    (Shows : Trees → List Row → Type 0) → IsPlain (understood room_schema sql)
+    → doubt old.is_clean ≤ doubt new.is_clean
+    → ((rows : List Row) → IsRoom old.now → Shown sql params old new rows
+    → Shows old.now.trees rows)
+    → (HasCleanDisk new → IfOk r (λ rows. Shown sql params old new rows.items))
+    → (HasCleanDisk new → IfErr r (λ e. FailsToQuery sql params old new e
+    ⊎ IsTooLate sql params old new e)) → QueriesSql Shows old new r
 asks sql params old new r Shows plain clean shows ok err = record {
   rows = λ now room. if_ok r _ _ (λ rows shown. shows rows.items room shown) (ok now);
   same = λ now room. same_ok sql params old new r plain room.schema (ok now);
@@ -26,15 +31,22 @@ asks sql params old new r Shows plain clean shows ok err = record {
 }
 
 -- a write inside a transaction keeps `ExecutesSql`, once it is known what it leaves by its count
-pub writes : (sql : List ℕ) (params : Row) (old new : State) (r : Result ℕ Error) (e : Error) (Leaves : ℕ → State → State → Type 0) → doubt old.is_clean ≤ doubt new.is_clean
-    → (IsTrue old.in_transaction → (count : ℕ) → Executes sql params old new (Ok count) → IsRoom old.now → WritesRoom old new)
-    → ((count : ℕ) → IsRoom old.now → Executes sql params old new (Ok count) → Leaves count old new) → (old.in_transaction ≡ false → (r ≡ Err e) × Stays old new)
-    → (HasCleanDisk new → IsTrue old.in_transaction → ExecutesInside 0 sql params old new r) → ExecutesSql Leaves old new r
+pub writes : (sql : List ℕ) (params : Row) (old new : State) (r : Result ℕ Error) (e : Error)
+    (Leaves : ℕ → State → State → Type 0) → doubt old.is_clean ≤ doubt new.is_clean
+    → (IsTrue old.in_transaction → (count : ℕ) → Executes sql params old new (Ok count)
+    → IsRoom old.now → WritesRoom old new)
+    → ((count : ℕ) → IsRoom old.now → Executes sql params old new (Ok count) → Leaves count old new)
+    → (old.in_transaction ≡ false → (r ≡ Err e) × Stays old new)
+    → (HasCleanDisk new → IsTrue old.in_transaction → ExecutesInside 0 sql params old new r)
+    → ExecutesSql Leaves old new r
 writes sql params old new r e Leaves clean room_stays leaves ended runs = record {
-  leaves = λ now room. did_inside sql params old new r e (λ count. Leaves count old new) (λ off. (ended off).0) (runs now) (by room);
+  leaves =
+      λ now room. did_inside sql params old new r e (λ count. Leaves count old new)
+      (λ off. (ended off).0) (runs now) (by room);
   stays = write_inside sql params old new r clean room_stays (λ off. (ended off).1) runs;
 }
   where
-    by : IsRoom old.now → (q : Result ℕ Error) → Executes sql params old new q → IfOk q (λ count. Leaves count old new)
+    by : IsRoom old.now → (q : Result ℕ Error) → Executes sql params old new q
+        → IfOk q (λ count. Leaves count old new)
     by room (Ok count) h = leaves count room h
     by room (Err x) h = tt

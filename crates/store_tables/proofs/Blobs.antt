@@ -22,40 +22,61 @@ use Rattle.store_tables.proofs.Rowids.{alone_in, at_most_one, has_found, of_each
 abbrev Blobbed : Type 0
 Blobbed = ℕ × List ℕ
 
-pub found_bytes : (id : ℕ) (rows : List Blobbed) → content.body_at rows id ≡ option_map (λ (x : Blobbed). x.1) (find (λ (x : Blobbed). x.0 == id) rows)
+pub found_bytes : (id : ℕ) (rows : List Blobbed)
+    → content.body_at rows id
+    ≡ option_map (λ (x : Blobbed). x.1) (find (λ (x : Blobbed). x.0 == id) rows)
 found_bytes id [] = refl
 found_bytes id (row ∷ rows) = by (row.0 == id) (found_bytes id rows)
   where
-    by : (b : Bool) → content.body_at rows id ≡ option_map (λ (x : Blobbed). x.1) (find (λ (x : Blobbed). x.0 == id) rows)
-        → (if b then Some row.1 else content.body_at rows id) ≡ option_map (λ (x : Blobbed). x.1) (cond b (Some row) (find (λ (x : Blobbed). x.0 == id) rows))
+    by : (b : Bool) → content.body_at rows id
+        ≡ option_map (λ (x : Blobbed). x.1) (find (λ (x : Blobbed). x.0 == id) rows)
+        → (if b then Some row.1 else content.body_at rows id)
+        ≡ option_map (λ (x : Blobbed). x.1)
+        (cond b (Some row) (find (λ (x : Blobbed). x.0 == id) rows))
     by true more = refl
     by false more = more
 
 module _ (db : Database) (room : IsRoom db) (id : ℕ) (low : 0 < id) where
-  body_at : content.body_of (rows_of db).read id ≡ option_map (λ (x : Blobbed). x.1) (option_and_then body_in (find (has_rowid (pos id)) (db.trees 2)))
-  body_at = found_bytes id _ ∙ ap (option_map (λ (x : Blobbed). x.1)) (find_key body_in (λ (x : Blobbed). x.0) body_rowid id (db.trees 2) room.bodies.0)
+  body_at : content.body_of (rows_of db).read id
+      ≡ option_map (λ (x : Blobbed). x.1)
+      (option_and_then body_in (find (has_rowid (pos id)) (db.trees 2)))
+  body_at =
+      found_bytes id _ ∙ ap (option_map (λ (x : Blobbed). x.1))
+      (find_key body_in (λ (x : Blobbed). x.0) body_rowid id (db.trees 2) room.bodies.0)
 
-  blob_told : (r : Row) → find (has_rowid (pos id)) (db.trees 2) ≡ Some r → number_in (rowid r) ≡ Some id → (v : Value) → column r 2 ≡ v
+  blob_told : (r : Row) → find (has_rowid (pos id)) (db.trees 2) ≡ Some r
+      → number_in (rowid r) ≡ Some id → (v : Value) → column r 2 ≡ v
       → Tells IsNever (IsBodyOf id) (rows_of db) (result_of_seen (bytes_as v))
   blob_told r found number (Blob bytes) is =
-      sym (body_at ∙ ap (λ o. option_map (λ (x : Blobbed). x.1) (option_and_then body_in o)) found ∙ ap (λ n. option_map (λ (x : Blobbed). x.1) (body_row n (column r 2))) number
+      sym (body_at ∙ ap (λ o. option_map (λ (x : Blobbed). x.1) (option_and_then body_in o)) found
+      ∙ ap (λ n. option_map (λ (x : Blobbed). x.1) (body_row n (column r 2))) number
       ∙ ap (λ v. option_map (λ (x : Blobbed). x.1) (body_row (Some id) v)) is)
   blob_told r found number Null is = tt
   blob_told r found number (Int n) is = tt
   blob_told r found number (Real x) is = tt
   blob_told r found number (Text t) is = tt
 
-  pub tells_bytes : (rows : List Row) → HasBytes (pos id) db.trees rows → Tells IsNever (IsBodyOf id) (rows_of db) (result_of_seen (bytes_seen rows))
+  pub tells_bytes : (rows : List Row) → HasBytes (pos id) db.trees rows
+      → Tells IsNever (IsBodyOf id) (rows_of db) (result_of_seen (bytes_seen rows))
   tells_bytes rows perm = by (at_most_one (pos id) (db.trees 2) room.bodies.0)
     where
-      by : ((filter (has_rowid (pos id)) (db.trees 2) ≡ []) ⊎ ((r : Row) × (filter (has_rowid (pos id)) (db.trees 2) ≡ r ∷ []))) → Tells IsNever (IsBodyOf id) (rows_of db) (result_of_seen (bytes_seen rows))
+      by : ((filter (has_rowid (pos id)) (db.trees 2) ≡ [])
+          ⊎ ((r : Row) × (filter (has_rowid (pos id)) (db.trees 2) ≡ r ∷ [])))
+          → Tells IsNever (IsBodyOf id) (rows_of db) (result_of_seen (bytes_seen rows))
       by (inl none) =
-          let empty = alone_in rows (subst (λ l. IsPermutation (map shown_bytes l) rows) none perm) in
-          subst (λ l. Tells IsNever (IsBodyOf id) (rows_of db) (result_of_seen (bytes_seen l))) (sym empty)
-          (sym (body_at ∙ ap (λ o. option_map (λ (x : Blobbed). x.1) (option_and_then body_in o)) (none_passes (has_rowid (pos id)) (db.trees 2) none)))
+          let empty = alone_in rows
+          (subst (λ l. IsPermutation (map shown_bytes l) rows) none perm) in
+          subst (λ l. Tells IsNever (IsBodyOf id) (rows_of db) (result_of_seen (bytes_seen l)))
+          (sym empty)
+          (sym (body_at ∙ ap (λ o. option_map (λ (x : Blobbed). x.1) (option_and_then body_in o))
+          (none_passes (has_rowid (pos id)) (db.trees 2) none)))
       by (inr (r, one)) =
           let there = only_one (has_rowid (pos id)) (db.trees 2) r one in
-          let is = rowid_is (pos id) r (of_each _ (db.trees 2) room.bodies.1 r (has_found (has_rowid (pos id)) (db.trees 2) r there.0)) there.1 in
-          let alone = one_permutation (shown_bytes r) rows (subst (λ l. IsPermutation (map shown_bytes l) rows) one perm) in
-          subst (λ l. Tells IsNever (IsBodyOf id) (rows_of db) (result_of_seen (bytes_seen l))) (sym alone)
+          let is = rowid_is (pos id) r
+          (of_each _ (db.trees 2) room.bodies.1 r
+          (has_found (has_rowid (pos id)) (db.trees 2) r there.0)) there.1 in
+          let alone = one_permutation (shown_bytes r) rows
+          (subst (λ l. IsPermutation (map shown_bytes l) rows) one perm) in
+          subst (λ l. Tells IsNever (IsBodyOf id) (rows_of db) (result_of_seen (bytes_seen l)))
+          (sym alone)
           (blob_told r there.0 (ap number_in is ∙ number_in-low id low) (column r 2) refl)

@@ -35,16 +35,22 @@ pub record Bodied (id : ℤ) (bytes : List ℕ) (old new : State) : Type 0 where
   pub schema : new.now.schema ≡ room_schema
   pub sound : IsDatabase new.now
   pub puts : Bodies id bytes old.now.trees new.now.trees
-  pub shown : Shows old new new.now (if old.in_transaction then old.committed else new.now) old.in_transaction
+  pub shown : Shows old new new.now
+      (if old.in_transaction then old.committed else new.now) old.in_transaction
 
-pub bodied : (id : ℤ) (bytes : List ℕ) (old new : State) (count : ℕ) → old.now.schema ≡ room_schema → Executes put_text (Int id ∷ Blob bytes ∷ []) old new (Ok count) → Bodied id bytes old new
+pub bodied : (id : ℤ) (bytes : List ℕ) (old new : State) (count : ℕ) → old.now.schema ≡ room_schema
+    → Executes put_text (Int id ∷ Blob bytes ∷ []) old new (Ok count) → Bodied id bytes old new
 bodied id bytes old new count has h =
     let params = Int id ∷ Blob bytes ∷ [] in
     let db = old.now.trees in
-    let command = Insert 1 (Values (Rattle.sqlite.specs.Term.col 0 0 ∷ Rattle.sqlite.specs.Term.lit Null ∷ Rattle.sqlite.specs.Term.col 0 1 ∷ []) 3) in
+    let command = Insert 1
+    (Values (Rattle.sqlite.specs.Term.col 0 0 ∷ Rattle.sqlite.specs.Term.lit Null
+    ∷ Rattle.sqlite.specs.Term.col 0 1 ∷ []) 3) in
     let w = runs_as put_text params old new room_schema has command put_is plain_put count h in
     let text = statement_of put_text (understood room_schema put_text) in
-    let done = went (subst (λ s. Does old.step_limit (mode_of old) params (record old.now { schema = s }) text None command (Ok (w.tally, new.now))) has w.changed) in
+    let done = went
+    (subst (λ s. Does old.step_limit (mode_of old) params
+    (record old.now { schema = s }) text None command (Ok (w.tally, new.now))) has w.changed) in
     let concluded = same_value (went (went done.2).2).2 in
     let now = ap (λ (p : Tally × Database). p.1) concluded in
     let given = went done.1 in
@@ -52,18 +58,23 @@ bodied id bytes old new count has h =
     let written = went counter.2 in
     let counted = went written.2 in
     let wrote = same_value counted.2 in
-    let trees : done.0.trees ≡ written.0 = ap (λ (it : Written). it.trees) wrote ∙ same_value counted.1 in
+    let trees : done.0.trees ≡ written.0 = ap (λ (it : Written). it.trees) wrote
+    ∙ same_value counted.1 in
     let source : given.0 ≡ stored_body id bytes ∷ [] = given.1.1 in
     let news : (put_edit db given.0).news ≡ stored_body id bytes ∷ [] =
-    ap (λ l. (put_edit db l).news) source ∙ ap (λ r. numbered Chosen (db 2) (r ∷ [])) (cast_body id bytes) in
+    ap (λ l. (put_edit db l).news) source
+    ∙ ap (λ r. numbered Chosen (db 2) (r ∷ [])) (cast_body id bytes) in
     let none = ap (works room_schema Enforced 0 2 []) news ∙ one_off [] (stored_body id bytes) in
     let applies = one_step room_schema Enforced db written.0 (put_edit db given.0) none written.1 in
-    let at : (tree : ℕ) → new.now.trees tree ≡ written.0 tree = λ tree. ap (λ (d : Database). d.trees tree) now ∙ ap (λ (t : Trees). t tree) trees in
+    let at : (tree : ℕ) → new.now.trees tree ≡ written.0 tree = λ tree. ap
+    (λ (d : Database). d.trees tree) now ∙ ap (λ (t : Trees). t tree) trees in
     record {
       schema = ap (λ (d : Database). d.schema) now;
       sound = w.sound;
       puts = record {
-        fresh = fresh_alone (db 2) (stored_body id bytes) (subst (λ l. are_fresh (db 2) l ≡ true) news applies.fresh);
+        fresh =
+            fresh_alone (db 2) (stored_body id bytes)
+            (subst (λ l. are_fresh (db 2) l ≡ true) news applies.fresh);
         bodies = at 2 ∙ applies.rows ∙ ap (put_all (db 2)) news;
         nodes = at 0 ∙ applies.tables.0 (λ e. let e' : 0 ≡ 2 = e in omega (arith, e'));
         members = at 3 ∙ applies.tables.1.1.0 (λ e. let e' : 3 ≡ 2 = e in omega (arith, e'));
@@ -73,7 +84,9 @@ bodied id bytes old new count has h =
       shown = w.shown;
     }
 
-pub put_room : (id : ℤ) (bytes : List ℕ) (old new : State) → IsTrue old.in_transaction → (count : ℕ) → Executes put_text (Int id ∷ Blob bytes ∷ []) old new (Ok count) → IsRoom old.now → WritesRoom old new
+pub put_room : (id : ℤ) (bytes : List ℕ) (old new : State) → IsTrue old.in_transaction → (count : ℕ)
+    → Executes put_text (Int id ∷ Blob bytes ∷ []) old new (Ok count) → IsRoom old.now
+    → WritesRoom old new
 put_room id bytes old new inside count h room =
     let d = bodied id bytes old new count room.schema h in (
       d.shown.committed_is ∙ ap (λ b. if b then old.committed else new.now) inside,
@@ -83,7 +96,9 @@ put_room id bytes old new inside count h room =
         nodes = subst (IsShaped Shape.Table) (sym d.puts.nodes) room.nodes;
         members = subst (IsShaped Shape.Table) (sym d.puts.members) room.members;
         audits = subst (IsShaped Shape.Table) (sym d.puts.audits) room.audits;
-        bodies = subst (IsShaped Shape.Table) (sym d.puts.bodies) (IsShaped-put_row (stored_body id bytes) _ refl room.bodies);
+        bodies =
+            subst (IsShaped Shape.Table) (sym d.puts.bodies)
+            (IsShaped-put_row (stored_body id bytes) _ refl room.bodies);
       },
       d.shown.mode ∙ inside,
       retains_by _ _ d.puts.meta d.puts.audits,

@@ -25,93 +25,155 @@ use Rattle.store_tables.proofs.Answers.{passes, shows, selected}
 
 -- where `meta` and `audits` are as they were, no record is lost
 pub retains_by : (db next : Trees) → next 5 ≡ db 5 → next 7 ≡ db 7 → Retains db next
-retains_by db next meta audits = record { meta = meta; more = []; audits = audits ∙ sym (append-nil (db 7)) }
+retains_by db next meta audits =
+    record { meta = meta; more = []; audits = audits ∙ sym (append-nil (db 7)) }
 
 -- two changes, each of which keeps `meta` and all records, keep them together
 pub retains_on : (a b c : Trees) → Retains a b → Retains b c → Retains a c
-retains_on a b c p q = record { meta = q.meta ∙ p.meta; more = p.more ++ q.more; audits = q.audits ∙ ap (λ l. l ++ q.more) p.audits ∙ append_assoc (a 7) p.more q.more }
+retains_on a b c p q =
+    record {
+      meta = q.meta ∙ p.meta;
+      more = p.more ++ q.more;
+      audits = q.audits ∙ ap (λ l. l ++ q.more) p.audits ∙ append_assoc (a 7) p.more q.more;
+    }
 
 -- a database that is as it was has `meta` and all its records
 pub retains_same : (db next : Database) → next ≡ db → Retains db.trees next.trees
-retains_same db next same = subst (λ (d : Database). Retains db.trees d.trees) (sym same) (retains_by db.trees db.trees refl refl)
+retains_same db next same =
+    subst (λ (d : Database). Retains db.trees d.trees) (sym same)
+    (retains_by db.trees db.trees refl refl)
 
-retains_at : (a b c d : Database) → c ≡ a → d ≡ b → Retains a.trees b.trees → Retains c.trees d.trees
-retains_at a b c d one two h = subst (λ (x : Database). Retains x.trees d.trees) (sym one) (subst (λ (x : Database). Retains a.trees x.trees) (sym two) h)
+retains_at : (a b c d : Database) → c ≡ a → d ≡ b → Retains a.trees b.trees
+    → Retains c.trees d.trees
+retains_at a b c d one two h =
+    subst (λ (x : Database). Retains x.trees d.trees) (sym one)
+    (subst (λ (x : Database). Retains a.trees x.trees) (sym two) h)
 
 -- ---- calls
 
 module _ (old new : State) (clean : doubt old.is_clean ≤ doubt new.is_clean) where
   -- a call that leaves the state unchanged leaves all that any call has to
   pub unchanged_stays : IsUnchanged old new → Stays old new
-  unchanged_stays h = record { clean = clean; was_open = λ _ _. h.0.was_open; kept = λ _ _ _ room. (h.0.committed_is, subst IsRoom (sym h.0.now_is) room); retains = λ _ _ _ _ was. retains_at _ _ _ _ h.0.committed_is h.0.now_is was; settled = λ _ _ _ _ was now. h.0.now_is ∙ was (sym h.0.mode ∙ now) ∙ sym h.0.committed_is }
+  unchanged_stays h =
+      record {
+        clean = clean;
+        was_open = λ _ _. h.0.was_open;
+        kept = λ _ _ _ room. (h.0.committed_is, subst IsRoom (sym h.0.now_is) room);
+        retains =
+            λ _ _ _ _ was. retains_at _ _ _ _ h.0.committed_is h.0.now_is was;
+        settled =
+            λ _ _ _ _ was now. h.0.now_is ∙ was (sym h.0.mode ∙ now) ∙ sym h.0.committed_is;
+      }
 
   -- so does one that undoes the transaction, after which what was committed is seen
   pub rolled_back_stays : IsRolledBack old new → Stays old new
-  rolled_back_stays h = record { clean = clean; was_open = λ _. h.was_open; kept = λ _ open' room _. ((h.undone open').1, subst IsRoom (sym (h.undone open').0) room); retains = λ _ open' _ _ _. retains_same _ _ ((h.undone open').0 ∙ sym (h.undone open').1); settled = λ _ open' _ _ _ _. (h.undone open').0 ∙ sym (h.undone open').1 }
+  rolled_back_stays h =
+      record {
+        clean = clean;
+        was_open = λ _. h.was_open;
+        kept = λ _ open' room _. ((h.undone open').1, subst IsRoom (sym (h.undone open').0) room);
+        retains = λ _ open' _ _ _. retains_same _ _ ((h.undone open').0 ∙ sym (h.undone open').1);
+        settled = λ _ open' _ _ _ _. (h.undone open').0 ∙ sym (h.undone open').1;
+      }
 
-not_shown : (sql : List ℕ) (c : Compiled) (full : Row) (old new : State) (e : Error) (r : Option Returning) → FailsToShow old new sql c full e r → IsUnchanged old new ⊎ IsRolledBack old new
+not_shown : (sql : List ℕ) (c : Compiled) (full : Row) (old new : State) (e : Error)
+    (r : Option Returning) → FailsToShow old new sql c full e r → IsUnchanged old new
+    ⊎ IsRolledBack old new
 not_shown sql c full old new e None f = inl f.3
 not_shown sql c full old new e (Some what) (inl f) = inl f.1
 not_shown sql c full old new e (Some what) (inr f) = inr f.3
 
 -- a query that is refused or fails leaves all, or the transaction is undone
-pub failed_query : (sql : List ℕ) (params : Row) (old new : State) (e : Error) → FailsToQuery sql params old new e → IsUnchanged old new ⊎ IsRolledBack old new
+pub failed_query : (sql : List ℕ) (params : Row) (old new : State) (e : Error)
+    → FailsToQuery sql params old new e → IsUnchanged old new ⊎ IsRolledBack old new
 unfolding FailsToQuery IsNotRun
 failed_query sql params old new e (inl (inl h)) = inl h.1
 failed_query sql params old new e (inl (inr h)) = inr h.3
 failed_query sql params old new e (inr h) = not_shown sql h.0 _ old new e h.0.returning h.2
 
-open_shown : (sql : List ℕ) (c : Compiled) (full : Row) (old new : State) (rows : List Row) (r : Option Returning) → ShowsRows old new sql c full rows r → IsTrue old.is_open
+open_shown : (sql : List ℕ) (c : Compiled) (full : Row) (old new : State) (rows : List Row)
+    (r : Option Returning) → ShowsRows old new sql c full rows r → IsTrue old.is_open
 open_shown sql c full old new rows None s = s.3.0.was_open
 open_shown sql c full old new rows (Some what) s = s.1.shown.was_open
 
 -- where a statement showed rows, the connection was open
-pub shown_open : (sql : List ℕ) (params : Row) (old new : State) (rows : List Row) → Shown sql params old new rows → IsTrue old.is_open
+pub shown_open : (sql : List ℕ) (params : Row) (old new : State) (rows : List Row)
+    → Shown sql params old new rows → IsTrue old.is_open
 unfolding Shown
 shown_open sql params old new rows h = open_shown sql h.0 _ old new rows h.0.returning h.2
 
 -- a statement with no RETURNING that showed rows left the connection unchanged
-pub shown_same : (sql : List ℕ) (params : Row) (old new : State) (rows : List Row) → IsPlain (understood old.now.schema sql) → Shown sql params old new rows → IsUnchanged old new
+pub shown_same : (sql : List ℕ) (params : Row) (old new : State) (rows : List Row)
+    → IsPlain (understood old.now.schema sql) → Shown sql params old new rows → IsUnchanged old new
 unfolding Shown
 shown_same sql params old new rows plain h =
     let bare = subst IsPlain h.1.is plain in
     let it = subst (ShowsRows old new sql h.0 _ rows) bare.0 h.2 in
     it.3
 
-module _ (sql : List ℕ) (params : Row) (old new : State) (plain : IsPlain (understood room_schema sql)) (clean : doubt old.is_clean ≤ doubt new.is_clean) where
+module _ (sql : List ℕ) (params : Row) (old new : State)
+    (plain : IsPlain (understood room_schema sql))
+    (clean : doubt old.is_clean ≤ doubt new.is_clean) where
   -- a query that showed its rows leaves what any call has to, as it changed nothing
   pub shown_stays : (rows : List Row) → Shown sql params old new rows → Stays old new
   shown_stays rows h = record {
     clean = clean;
     was_open = λ _ _. shown_open sql params old new rows h;
-    kept = λ _ _ _ room. let same = shown_same sql params old new rows (subst (λ s. IsPlain (understood s sql)) (sym room.schema) plain) h in
+    kept = λ _ _ _ room. let same =
+        shown_same sql params old new rows
+        (subst (λ s. IsPlain (understood s sql)) (sym room.schema) plain) h in
         (same.0.committed_is, subst IsRoom (sym same.0.now_is) room);
-    retains = λ now open' one room. (unchanged_stays old new clean (shown_same sql params old new rows (subst (λ s. IsPlain (understood s sql)) (sym room.schema) plain) h)).retains now open' one room;
-    settled = λ now open' one room. (unchanged_stays old new clean (shown_same sql params old new rows (subst (λ s. IsPlain (understood s sql)) (sym room.schema) plain) h)).settled now open' one room;
+    retains =
+        λ now open' one room.
+        (unchanged_stays old new clean
+        (shown_same sql params old new rows
+        (subst (λ s. IsPlain (understood s sql)) (sym room.schema) plain) h)).retains now open' one
+        room;
+    settled =
+        λ now open' one room.
+        (unchanged_stays old new clean
+        (shown_same sql params old new rows
+        (subst (λ s. IsPlain (understood s sql)) (sym room.schema) plain) h)).settled now open' one
+        room;
   }
 
   -- a query that is refused or fails does, too, with its transaction undone or all unchanged
   pub failed_stays : (e : Error) → FailsToQuery sql params old new e → Stays old new
-  failed_stays e h = elim (failed_query sql params old new e h) [ inl same ↦ unchanged_stays old new clean same | inr undone ↦ rolled_back_stays old new clean undone ]
+  failed_stays e h =
+      elim (failed_query sql params old new e h) [
+        | inl same ↦ unchanged_stays old new clean same
+        | inr undone ↦
+            rolled_back_stays old new clean undone
+      ]
 
 -- what a text that selects from one table shows
-pub selects_rows : (sql : List ℕ) (params : Row) (old new : State) (tree : ℕ) (tests terms : List Term) (order : List (Term × Key)) (names : List (List ℕ))
-    → (command_of (understood room_schema sql) ≡ selects (query_of tree tests terms order) names) × (reads_listing room_schema sql ≡ false) → IsPlain (understood room_schema sql) → old.now.schema ≡ room_schema
+pub selects_rows : (sql : List ℕ) (params : Row) (old new : State) (tree : ℕ)
+    (tests terms : List Term) (order : List (Term × Key)) (names : List (List ℕ))
+    → (command_of (understood room_schema sql) ≡ selects (query_of tree tests terms order) names)
+    × (reads_listing room_schema sql ≡ false) → IsPlain (understood room_schema sql)
+    → old.now.schema ≡ room_schema
     → (rows : List Row) → Shown sql params old new rows
-    → IsPermutation (map (shows terms params) (filter (passes tests params) (overlay old.now.trees [] tree))) rows
+    → IsPermutation (map (shows terms params)
+    (filter (passes tests params) (overlay old.now.trees [] tree))) rows
 selects_rows sql params old new tree tests terms order names is plain has rows h =
     let read = reads_as sql params old new room_schema has _ is.0 plain is.1 rows h in
     selected Null tree tests terms order (overlay old.now.trees []) params rows (read.answer Null)
 
 -- over a room's schema, a query that answered Ok changed nothing; of an error nothing is said
-pub same_ok : (sql : List ℕ) (params : Row) (old new : State) (r : Result (Vec Row Global) Error) → IsPlain (understood room_schema sql) → old.now.schema ≡ room_schema
+pub same_ok : (sql : List ℕ) (params : Row) (old new : State) (r : Result (Vec Row Global) Error)
+    → IsPlain (understood room_schema sql) → old.now.schema ≡ room_schema
     → IfOk r (λ rows. Shown sql params old new rows.items) → OnOk r (IsUnchanged old new)
-same_ok sql params old new (Ok rows) plain has h = shown_same sql params old new rows.items (subst (λ s. IsPlain (understood s sql)) (sym has) plain) h
+same_ok sql params old new (Ok rows) plain has h =
+    shown_same sql params old new rows.items
+    (subst (λ s. IsPlain (understood s sql)) (sym has) plain) h
 same_ok sql params old new (Err e) plain has h = tt
 
 -- what a query leaves, whatever it answers
-pub query_stays : (sql : List ℕ) (params : Row) (old new : State) (r : Result (Vec Row Global) Error) → IsPlain (understood room_schema sql) → doubt old.is_clean ≤ doubt new.is_clean
-    → (HasCleanDisk new → IfOk r (λ rows. Shown sql params old new rows.items)) → (HasCleanDisk new → IfErr r (FailsToQuery sql params old new)) → Stays old new
+pub query_stays : (sql : List ℕ) (params : Row) (old new : State)
+    (r : Result (Vec Row Global) Error) → IsPlain (understood room_schema sql)
+    → doubt old.is_clean ≤ doubt new.is_clean
+    → (HasCleanDisk new → IfOk r (λ rows. Shown sql params old new rows.items))
+    → (HasCleanDisk new → IfErr r (FailsToQuery sql params old new)) → Stays old new
 query_stays sql params old new (Ok rows) plain clean ok err = record {
   clean = clean;
   was_open = λ now. (shown_stays sql params old new plain clean rows.items (ok now)).was_open now;

@@ -11,7 +11,9 @@ abbrev answer_for : Bool → Result (Unit {0}) KeepFault
 answer_for one = if one then Ok tt else Err Store
 
 -- what it did, where one was changed
-pub of_one : (done : Result ℕ Error) (P : Type 0) (x : Unit {0}) → ◌≡◌ {A = Result (Unit {0}) KeepFault} (Ok x) (one_changed done) → IfOk done (λ count. count ≡ 1 → P) → P
+pub of_one : (done : Result ℕ Error) (P : Type 0) (x : Unit {0})
+    → ◌≡◌ {A = Result (Unit {0}) KeepFault} (Ok x) (one_changed done)
+    → IfOk done (λ count. count ≡ 1 → P) → P
 of_one (Ok count) P x is did = elim (cases_Bool (count == 1)) [
   | inl one ↦ did (eqb-true count 1 one)
   | inr other ↦ absurd (refused x (is ∙ ap answer_for other))

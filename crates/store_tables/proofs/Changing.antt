@@ -20,6 +20,9 @@ inh_id Dacl entries n = refl
 inh_id Sacl entries n = refl
 
 -- a fault of the later of two calls
-pub cause_later : {X : Type 0} (r : Result X KeepFault) (first mid last : ℕ) (E : ℕ → Type 0) → first ≤ mid → mid ≤ last → IfErr r (HasCause mid last Nowhere) → IfErr r (HasCause first last E)
+pub cause_later : {X : Type 0} (r : Result X KeepFault) (first mid last : ℕ) (E : ℕ → Type 0)
+    → first ≤ mid → mid ≤ last → IfErr r (HasCause mid last Nowhere)
+    → IfErr r (HasCause first last E)
 cause_later (Ok x) first mid last E up on h = tt
-cause_later (Err e) first mid last E up on h = later_cause first mid last e Nowhere E up on (λ id never. absurd never) h
+cause_later (Err e) first mid last E up on h =
+    later_cause first mid last e Nowhere E up on (λ id never. absurd never) h

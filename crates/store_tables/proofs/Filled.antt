@@ -33,7 +33,8 @@ use Rattle.store_tables.proofs.Texts.{fill_is, fill_terms, fill_text, matches_pa
 use Rattle.store_tables.proofs.Updates.{cast_int, cast_null}
 use Rattle.store_tables.proofs.Writes.{same_value, went}
 
-pub cast_body : (id : ℤ) (bytes : List ℕ) → cast_row bodies_table (stored_body id bytes) ≡ stored_body id bytes
+pub cast_body : (id : ℤ) (bytes : List ℕ)
+    → cast_row bodies_table (stored_body id bytes) ≡ stored_body id bytes
 cast_body id bytes = rw (cast_int id, cast_null) refl
 
 abbrev fill_edit : Trees → List Row → Edit
@@ -50,37 +51,54 @@ one_off olds r = refl
 
 pub record Filled (id : ℤ) (bytes : List ℕ) (old new : State) (count : ℕ) : Type 0 where
   pub rows : List Row
-  pub found : IsPermutation (map (shows fill_terms (Int id ∷ Blob bytes ∷ [])) (filter (has_rowid id) (old.now.trees 2))) rows
+  pub found : IsPermutation
+      (map (shows fill_terms (Int id ∷ Blob bytes ∷ [])) (filter (has_rowid id) (old.now.trees 2)))
+      rows
   pub next : Trees
   pub edited : Edited room_schema Enforced old.now.trees (fill_edit old.now.trees rows) (Ok next)
   pub now : new.now ≡ record { schema = room_schema; trees = next }
   pub sound : IsDatabase new.now
   pub counted : count ≡ length (fill_edit old.now.trees rows).news
-  pub shown : Shows old new new.now (if old.in_transaction then old.committed else new.now) old.in_transaction
+  pub shown : Shows old new new.now
+      (if old.in_transaction then old.committed else new.now) old.in_transaction
 
-pub filled : (id : ℤ) (bytes : List ℕ) (old new : State) (count : ℕ) → old.now.schema ≡ room_schema → Executes fill_text (Int id ∷ Blob bytes ∷ []) old new (Ok count) → Filled id bytes old new count
+pub filled : (id : ℤ) (bytes : List ℕ) (old new : State) (count : ℕ) → old.now.schema ≡ room_schema
+    → Executes fill_text (Int id ∷ Blob bytes ∷ []) old new (Ok count)
+    → Filled id bytes old new count
 filled id bytes old new count has h =
     let params = Int id ∷ Blob bytes ∷ [] in
     let db = old.now.trees in
-    let command = Update 1 (record { lets = []; body = query_of 2 (matches_parameter 0 0 ∷ []) fill_terms [] }) in
+    let command = Update 1
+    (record { lets = []; body = query_of 2 (matches_parameter 0 0 ∷ []) fill_terms [] }) in
     let w = runs_as fill_text params old new room_schema has command fill_is plain_fill count h in
     let text = statement_of fill_text (understood room_schema fill_text) in
-    let done = went (subst (λ s. Does old.step_limit (mode_of old) params (record old.now { schema = s }) text None command (Ok (w.tally, new.now))) has w.changed) in
+    let done = went
+    (subst (λ s. Does old.step_limit (mode_of old) params
+    (record old.now { schema = s }) text None command (Ok (w.tally, new.now))) has w.changed) in
     let asked = went done.1 in
     let did = went asked.2 in
     let last = same_value (went (went done.2).2).2 in
-    let wrote : done.0 ≡ record { trees = did.0; rows = (fill_edit db asked.0).news; last = None } = same_value did.2 in
-    let found = selected Null 2 (matches_parameter 0 0 ∷ []) fill_terms [] (overlay db []) params asked.0 (asked.1.answer Null) in
+    let wrote : done.0 ≡ record { trees = did.0; rows = (fill_edit db asked.0).news; last = None } =
+    same_value did.2 in
+    let found = selected Null 2 (matches_parameter 0 0 ∷ []) fill_terms []
+    (overlay db []) params asked.0 (asked.1.answer Null) in
     let now : new.now ≡ record { schema = room_schema; trees = did.0 } =
-    ap (λ (p : Tally × Database). p.1) last ∙ ap (λ (it : Written). let db : Database = record { schema = room_schema; trees = it.trees } in db) wrote in
+    ap (λ (p : Tally × Database). p.1) last
+    ∙ ap
+    (λ (it : Written). let db : Database = record { schema = room_schema; trees = it.trees } in
+    db) wrote in
     record {
       rows = asked.0;
-      found = subst (λ l. IsPermutation (map (shows fill_terms params) l) asked.0) (filter_same _ _ (passes_id id) (db 2)) found;
+      found =
+          subst (λ l. IsPermutation (map (shows fill_terms params) l) asked.0)
+          (filter_same _ _ (passes_id id) (db 2)) found;
       next = did.0;
       edited = did.1;
       now = now;
       sound = w.sound;
-      counted = w.counted ∙ ap (λ (p : Tally × Database). unwrap_or p.0.rows 0) last ∙ ap (λ (it : Written). length it.rows) wrote;
+      counted =
+          w.counted ∙ ap (λ (p : Tally × Database). unwrap_or p.0.rows 0) last
+          ∙ ap (λ (it : Written). length it.rows) wrote;
       shown = w.shown;
     }
 
@@ -93,10 +111,13 @@ record Left (old new : State) (rows : List Row) : Type 0 where
   pub audits : new.now.trees 7 ≡ old.now.trees 7
 
 left : (id : ℤ) (bytes : List ℕ) (old new : State) (count : ℕ) (d : Filled id bytes old new count)
-    → works room_schema Enforced 0 2 (taken_by old.now.trees (fill_edit old.now.trees d.rows)) (fill_edit old.now.trees d.rows).news ≡ [] → Left old new d.rows
+    → works room_schema Enforced 0 2 (taken_by old.now.trees (fill_edit old.now.trees d.rows))
+    (fill_edit old.now.trees d.rows).news ≡ [] → Left old new d.rows
 left id bytes old new count d none =
-    let applies = one_step room_schema Enforced old.now.trees d.next (fill_edit old.now.trees d.rows) none d.edited in
-    let at : (tree : ℕ) → new.now.trees tree ≡ d.next tree = λ tree. ap (λ (db : Database). db.trees tree) d.now in
+    let applies = one_step room_schema Enforced old.now.trees d.next
+    (fill_edit old.now.trees d.rows) none d.edited in
+    let at : (tree : ℕ) → new.now.trees tree ≡ d.next tree = λ tree. ap
+    (λ (db : Database). db.trees tree) d.now in
     record {
       bodies = at 2 ∙ applies.rows;
       nodes = at 0 ∙ applies.tables.0 (λ e. let e' : 0 ≡ 2 = e in omega (arith, e'));
@@ -105,36 +126,62 @@ left id bytes old new count d none =
       audits = at 7 ∙ applies.tables.1.1.1.1.0 (λ e. let e' : 7 ≡ 2 = e in omega (arith, e'));
     }
 
-pub fills : (id : ℤ) (bytes : List ℕ) (old new : State) (count : ℕ) → IsRoom old.now → Filled id bytes old new count → ((count ≡ 0) × KeepsAll old.now.trees new.now.trees) ⊎ Fills id bytes old.now.trees new.now.trees
+pub fills : (id : ℤ) (bytes : List ℕ) (old new : State) (count : ℕ) → IsRoom old.now
+    → Filled id bytes old new count → ((count ≡ 0) × KeepsAll old.now.trees new.now.trees)
+    ⊎ Fills id bytes old.now.trees new.now.trees
 fills id bytes old new count room d = go (at_most_one id (old.now.trees 2) room.bodies.0)
   where
-    go : ((filter (has_rowid id) (old.now.trees 2) ≡ []) ⊎ ((r : Row) × (filter (has_rowid id) (old.now.trees 2) ≡ r ∷ [])))
-        → ((count ≡ 0) × KeepsAll old.now.trees new.now.trees) ⊎ Fills id bytes old.now.trees new.now.trees
+    go : ((filter (has_rowid id) (old.now.trees 2) ≡ [])
+        ⊎ ((r : Row) × (filter (has_rowid id) (old.now.trees 2) ≡ r ∷ [])))
+        → ((count ≡ 0) × KeepsAll old.now.trees new.now.trees)
+        ⊎ Fills id bytes old.now.trees new.now.trees
     go (inl none) =
-        let rows = alone_in d.rows (subst (λ l. IsPermutation (map (shows fill_terms (Int id ∷ Blob bytes ∷ [])) l) d.rows) none d.found) in
+        let rows = alone_in d.rows
+        (subst (λ l. IsPermutation (map (shows fill_terms (Int id ∷ Blob bytes ∷ [])) l) d.rows)
+        none d.found) in
         let db = old.now.trees in
-        let it = left id bytes old new count d (ap (λ l. works room_schema Enforced 0 2 (taken_by db (fill_edit db l)) (fill_edit db l).news) rows ∙ none_off []) in
+        let it = left id bytes old new count d
+        (ap (λ l. works room_schema Enforced 0 2 (taken_by db (fill_edit db l))
+        (fill_edit db l).news) rows ∙ none_off []) in
         inl (
           d.counted ∙ ap (λ l. length (fill_edit db l).news) rows,
-          record { nodes = it.nodes; bodies = it.bodies ∙ ap (λ l. edited db (fill_edit db l)) rows; members = it.members; meta = it.meta; audits = it.audits },
+          record {
+            nodes = it.nodes;
+            bodies = it.bodies ∙ ap (λ l. edited db (fill_edit db l)) rows;
+            members = it.members;
+            meta = it.meta;
+            audits = it.audits;
+          },
         )
     go (inr (r, one)) =
         let there = only_one (has_rowid id) (old.now.trees 2) r one in
-        let is = rowid_is id r (of_each _ (old.now.trees 2) room.bodies.1 r (has_found (has_rowid id) (old.now.trees 2) r there.0)) there.1 in
-        let rows = one_permutation _ d.rows (subst (λ l. IsPermutation (map (shows fill_terms (Int id ∷ Blob bytes ∷ [])) l) d.rows) one d.found) in
-        let rows' : d.rows ≡ (Int id ∷ stored_body id bytes) ∷ [] = rows ∙ ap (λ v. (v ∷ v ∷ Null ∷ Blob bytes ∷ []) ∷ []) is in
+        let is = rowid_is id r
+        (of_each _ (old.now.trees 2) room.bodies.1 r
+        (has_found (has_rowid id) (old.now.trees 2) r there.0)) there.1 in
+        let rows = one_permutation _ d.rows
+        (subst (λ l. IsPermutation (map (shows fill_terms (Int id ∷ Blob bytes ∷ [])) l) d.rows)
+        one d.found) in
+        let rows' : d.rows ≡ (Int id ∷ stored_body id bytes) ∷ [] = rows
+        ∙ ap (λ v. (v ∷ v ∷ Null ∷ Blob bytes ∷ []) ∷ []) is in
         let db = old.now.trees in
-        let news : (fill_edit db d.rows).news ≡ stored_body id bytes ∷ [] = ap (λ l. (fill_edit db l).news) rows' ∙ ap (λ r. r ∷ []) (cast_body id bytes) in
-        let it = left id bytes old new count d (ap (works room_schema Enforced 0 2 (taken_by db (fill_edit db d.rows))) news ∙ one_off (taken_by db (fill_edit db d.rows)) (stored_body id bytes)) in
+        let news : (fill_edit db d.rows).news ≡ stored_body id bytes ∷ [] = ap
+        (λ l. (fill_edit db l).news) rows' ∙ ap (λ r. r ∷ []) (cast_body id bytes) in
+        let it = left id bytes old new count d
+        (ap (works room_schema Enforced 0 2 (taken_by db (fill_edit db d.rows))) news
+        ∙ one_off (taken_by db (fill_edit db d.rows)) (stored_body id bytes)) in
         inr (record {
           nodes = it.nodes;
-          bodies = it.bodies ∙ ap (λ l. edited old.now.trees (fill_edit old.now.trees l)) rows' ∙ ap (λ r. put_row r (without_rowid id (old.now.trees 2))) (cast_body id bytes);
+          bodies =
+              it.bodies ∙ ap (λ l. edited old.now.trees (fill_edit old.now.trees l)) rows'
+              ∙ ap (λ r. put_row r (without_rowid id (old.now.trees 2))) (cast_body id bytes);
           members = it.members;
           meta = it.meta;
           audits = it.audits;
         })
 
-pub fill_room : (id : ℤ) (bytes : List ℕ) (old new : State) → IsTrue old.in_transaction → (count : ℕ) → Executes fill_text (Int id ∷ Blob bytes ∷ []) old new (Ok count) → IsRoom old.now → WritesRoom old new
+pub fill_room : (id : ℤ) (bytes : List ℕ) (old new : State) → IsTrue old.in_transaction
+    → (count : ℕ) → Executes fill_text (Int id ∷ Blob bytes ∷ []) old new (Ok count)
+    → IsRoom old.now → WritesRoom old new
 fill_room id bytes old new inside count h room =
     let d = filled id bytes old new count room.schema h in (
       d.shown.committed_is ∙ ap (λ b. if b then old.committed else new.now) inside,
@@ -153,13 +200,23 @@ fill_room id bytes old new inside count h room =
           nodes = subst (IsShaped Shape.Table) (sym put.nodes) room.nodes;
           members = subst (IsShaped Shape.Table) (sym put.members) room.members;
           audits = subst (IsShaped Shape.Table) (sym put.audits) room.audits;
-          bodies = subst (IsShaped Shape.Table) (sym put.bodies) (IsShaped-put_row (stored_body id bytes) _ refl (IsShaped-filter Shape.Table (λ r. not (has_rowid id r)) _ room.bodies));
+          bodies =
+              subst (IsShaped Shape.Table) (sym put.bodies)
+              (IsShaped-put_row (stored_body id bytes) _ refl
+              (IsShaped-filter Shape.Table (λ r. not (has_rowid id r)) _ room.bodies));
         }
       ],
       d.shown.mode ∙ inside,
-      elim (fills id bytes old new count room d) [ inl same ↦ retains_by _ _ same.1.meta same.1.audits | inr put ↦ retains_by _ _ put.meta put.audits ],
+      elim (fills id bytes old new count room d) [
+        | inl same ↦ retains_by _ _ same.1.meta same.1.audits
+        | inr put ↦
+            retains_by _ _ put.meta put.audits
+      ],
     )
 
-pub fill_one : (id : ℤ) (bytes : List ℕ) (old new : State) (count : ℕ) → IsRoom old.now → Executes fill_text (Int id ∷ Blob bytes ∷ []) old new (Ok count) → count ≡ 1 → Fills id bytes old.now.trees new.now.trees
+pub fill_one : (id : ℤ) (bytes : List ℕ) (old new : State) (count : ℕ) → IsRoom old.now
+    → Executes fill_text (Int id ∷ Blob bytes ∷ []) old new (Ok count) → count ≡ 1
+    → Fills id bytes old.now.trees new.now.trees
 fill_one id bytes old new count room h one =
-    elim (fills id bytes old new count room (filled id bytes old new count room.schema h)) [ inl same ↦ absurd (let e : 0 ≡ 1 = sym same.0 ∙ one in omega (arith, e)) | inr put ↦ put ]
+    elim (fills id bytes old new count room (filled id bytes old new count room.schema h))
+    [ inl same ↦ absurd (let e : 0 ≡ 1 = sym same.0 ∙ one in omega (arith, e)) | inr put ↦ put ]

@@ -22,20 +22,32 @@ Bytes = ℕ × List ℕ
 abbrev pub number : Bytes → ℕ
 number x = x.0
 
-pub body_put : (id : ℕ) (bytes : List ℕ) (rows : List Bytes) → put_body id bytes rows ≡ put_by number (id, bytes) rows
+pub body_put : (id : ℕ) (bytes : List ℕ) (rows : List Bytes)
+    → put_body id bytes rows ≡ put_by number (id, bytes) rows
 body_put id bytes [] = refl
-body_put id bytes (row ∷ rows) = ap (λ l. if nat_lt row.0 id then row ∷ l else if row.0 == id then (id, bytes) ∷ rows else (id, bytes) ∷ row ∷ rows) (body_put id bytes rows)
+body_put id bytes (row ∷ rows) =
+    ap (λ l. if nat_lt row.0 id then row ∷ l else if row.0 == id then (id, bytes)
+    ∷ rows else (id, bytes) ∷ row ∷ rows) (body_put id bytes rows)
 
-pub stored_bytes : (id : ℕ) (bytes : List ℕ) → 0 < id → body_in (stored_body (pos id) bytes) ≡ Some (id, bytes)
+pub stored_bytes : (id : ℕ) (bytes : List ℕ) → 0 < id
+    → body_in (stored_body (pos id) bytes) ≡ Some (id, bytes)
 stored_bytes id bytes low = ap (λ n. body_row n (Blob bytes)) (number_in-low id low)
 
-pub filled_rows : (db next : Database) (id : ℕ) (bytes : List ℕ) → IsRoom db → 0 < id → Fills (pos id) bytes db.trees next.trees → rows_of next ≡ reading (rows_of db) (with_body (rows_of db).read id bytes)
+pub filled_rows : (db next : Database) (id : ℕ) (bytes : List ℕ) → IsRoom db → 0 < id
+    → Fills (pos id) bytes db.trees next.trees
+    → rows_of next ≡ reading (rows_of db) (with_body (rows_of db).read id bytes)
 filled_rows db next id bytes room low put =
     let new = stored_body (pos id) bytes in
     let left = without_rowid (pos id) (db.trees 2) in
-    let table : IsTable left = (IsShaped-filter Shape.Table (λ r. not (has_rowid (pos id) r)) (db.trees 2) room.bodies).0 in
+    let table : IsTable left =
+    (IsShaped-filter Shape.Table (λ r. not (has_rowid (pos id) r)) (db.trees 2) room.bodies).0
+    in
     let bodies : bodies_of (next.trees 2) ≡ put_body id bytes (bodies_of (db.trees 2)) =
-    ap bodies_of put.bodies ∙ put_seen body_in number body_rowid new (id, bytes) (stored_bytes id bytes low) left table (others id (db.trees 2))
+    ap bodies_of put.bodies
+    ∙ put_seen body_in number body_rowid new (id, bytes) (stored_bytes id bytes low) left table
+    (others id (db.trees 2))
     ∙ ap (put_by number (id, bytes)) (read_without body_in number body_rowid id (db.trees 2))
-    ∙ put_again number (id, bytes) (bodies_of (db.trees 2)) 0 (bodies_rise (db.trees 2) room.bodies.0) ∙ sym (body_put id bytes (bodies_of (db.trees 2))) in
-    same_rows (ap nodes_of put.nodes) (ap unread_of put.nodes) bodies (ap pairs_of put.members) (ap (filter_map audit_in) put.audits)
+    ∙ put_again number (id, bytes) (bodies_of (db.trees 2)) 0
+    (bodies_rise (db.trees 2) room.bodies.0) ∙ sym (body_put id bytes (bodies_of (db.trees 2))) in
+    same_rows (ap nodes_of put.nodes) (ap unread_of put.nodes) bodies (ap pairs_of put.members)
+    (ap (filter_map audit_in) put.audits)

@@ -49,52 +49,73 @@ equal_pairs p o same =
     same_list : (s t : List ℕ) → slice_cmp nat_cmp s t ≡ Equal → s ≡ t
     same_list s t e = (bytes_eq-Decides s t).0 (sym (is_eq-slice_cmp s t) ∙ ap is_eq e)
 
-put_behind : (p o : Pair) (l : List Pair) → pair_cmp o p ≡ Less → put_pair p (o ∷ l) ≡ o ∷ put_pair p l
+put_behind : (p o : Pair) (l : List Pair) → pair_cmp o p ≡ Less
+    → put_pair p (o ∷ l) ≡ o ∷ put_pair p l
 put_behind p o l less = cond-true _ (o ∷ put_pair p l) _ (before o p less)
 
 put_there : (p o : Pair) (l : List Pair) → pair_cmp o p ≡ Equal → put_pair p (o ∷ l) ≡ o ∷ l
 put_there p o l same =
     cond-false _ (o ∷ put_pair p l) _ (before_is o p ∙ ap is_lt same)
-    ∙ cond-false _ (p ∷ o ∷ l) (o ∷ l) (before_is p o ∙ ap is_lt (total.antisymm p o ∙ ap ordering_reverse same))
+    ∙ cond-false _ (p ∷ o ∷ l) (o ∷ l)
+    (before_is p o ∙ ap is_lt (total.antisymm p o ∙ ap ordering_reverse same))
 
 module _ (q : Pair → Bool) where
   abbrev Put : Bool → Pair → List Pair → List Pair
   Put b p l = cond b (put_pair p l) l
 
-  less_step : (p o : Pair) (os : List Pair) (b c : Bool) → pair_cmp o p ≡ Less → q o ≡ b → q p ≡ c → filter q (put_pair p os) ≡ Put c p (filter q os) → filter q (o ∷ put_pair p os) ≡ Put c p (filter q (o ∷ os))
+  less_step : (p o : Pair) (os : List Pair) (b c : Bool) → pair_cmp o p ≡ Less → q o ≡ b → q p ≡ c
+      → filter q (put_pair p os) ≡ Put c p (filter q os)
+      → filter q (o ∷ put_pair p os) ≡ Put c p (filter q (o ∷ os))
   less_step p o os true true less is has more =
-      cond-true _ (o ∷ filter q (put_pair p os)) _ is ∙ ap (λ l. o ∷ l) more ∙ sym (put_behind p o (filter q os) less) ∙ ap (put_pair p) (sym (cond-true _ (o ∷ filter q os) _ is))
-  less_step p o os true false less is has more = cond-true _ (o ∷ filter q (put_pair p os)) _ is ∙ ap (λ l. o ∷ l) more ∙ sym (cond-true _ (o ∷ filter q os) _ is)
-  less_step p o os false c less is has more = cond-false _ (o ∷ filter q (put_pair p os)) _ is ∙ more ∙ ap (Put c p) (sym (cond-false _ (o ∷ filter q os) _ is))
+      cond-true _ (o ∷ filter q (put_pair p os)) _ is ∙ ap (λ l. o ∷ l) more
+      ∙ sym (put_behind p o (filter q os) less)
+      ∙ ap (put_pair p) (sym (cond-true _ (o ∷ filter q os) _ is))
+  less_step p o os true false less is has more =
+      cond-true _ (o ∷ filter q (put_pair p os)) _ is ∙ ap (λ l. o ∷ l) more
+      ∙ sym (cond-true _ (o ∷ filter q os) _ is)
+  less_step p o os false c less is has more =
+      cond-false _ (o ∷ filter q (put_pair p os)) _ is ∙ more
+      ∙ ap (Put c p) (sym (cond-false _ (o ∷ filter q os) _ is))
 
-  there_step : (p o : Pair) (os : List Pair) (c : Bool) → pair_cmp o p ≡ Equal → q p ≡ c → filter q (o ∷ os) ≡ Put c p (filter q (o ∷ os))
+  there_step : (p o : Pair) (os : List Pair) (c : Bool) → pair_cmp o p ≡ Equal → q p ≡ c
+      → filter q (o ∷ os) ≡ Put c p (filter q (o ∷ os))
   there_step p o os false same has = refl
   there_step p o os true same has =
       let is : q o ≡ true = ap q (equal_pairs p o same) ∙ has in
-      cond-true _ (o ∷ filter q os) _ is ∙ sym (put_there p o (filter q os) same) ∙ ap (put_pair p) (sym (cond-true _ (o ∷ filter q os) _ is))
+      cond-true _ (o ∷ filter q os) _ is ∙ sym (put_there p o (filter q os) same)
+      ∙ ap (put_pair p) (sym (cond-true _ (o ∷ filter q os) _ is))
 
-  first_step : (p : Pair) (l : List Pair) (c : Bool) → q p ≡ c → AllByRecursion (λ y. pair_cmp p y ≡ Less) l → filter q (p ∷ l) ≡ Put c p (filter q l)
-  first_step p l true has all = cond-true _ (p ∷ filter q l) _ has ∙ sym (put_first p (filter q l) (all_filter (λ y. pair_cmp p y ≡ Less) q l all))
+  first_step : (p : Pair) (l : List Pair) (c : Bool) → q p ≡ c
+      → AllByRecursion (λ y. pair_cmp p y ≡ Less) l → filter q (p ∷ l) ≡ Put c p (filter q l)
+  first_step p l true has all =
+      cond-true _ (p ∷ filter q l) _ has
+      ∙ sym (put_first p (filter q l) (all_filter (λ y. pair_cmp p y ≡ Less) q l all))
   first_step p l false has all = cond-false _ (p ∷ filter q l) _ has
 
-  filter_put : (p : Pair) (l : List Pair) → IsStrictlySortedBy pair_cmp l → filter q (put_pair p l) ≡ Put (q p) p (filter q l)
+  filter_put : (p : Pair) (l : List Pair) → IsStrictlySortedBy pair_cmp l
+      → filter q (put_pair p l) ≡ Put (q p) p (filter q l)
   unfolding IsStrictlySortedBy
   filter_put p [] sorted = refl
   filter_put p (o ∷ os) sorted = by (pair_cmp o p) refl (filter_put p os sorted.1)
     where
-      by : (x : Ordering) → pair_cmp o p ≡ x → filter q (put_pair p os) ≡ Put (q p) p (filter q os) → filter q (put_pair p (o ∷ os)) ≡ Put (q p) p (filter q (o ∷ os))
-      by Less e more = ap (filter q) (put_behind p o os e) ∙ less_step p o os (q o) (q p) e refl refl more
+      by : (x : Ordering) → pair_cmp o p ≡ x → filter q (put_pair p os) ≡ Put (q p) p (filter q os)
+          → filter q (put_pair p (o ∷ os)) ≡ Put (q p) p (filter q (o ∷ os))
+      by Less e more =
+          ap (filter q) (put_behind p o os e) ∙ less_step p o os (q o) (q p) e refl refl more
       by Equal e more = ap (filter q) (put_there p o os e) ∙ there_step p o os (q p) e refl
       by Greater e more =
           let up : pair_cmp p o ≡ Less = total.antisymm p o ∙ ap ordering_reverse e in
-          let all : AllByRecursion (λ y. pair_cmp p y ≡ Less) (o ∷ os) = (up, all_past p o os up sorted.0) in
+          let all : AllByRecursion (λ y. pair_cmp p y ≡ Less) (o ∷ os) =
+          (up, all_past p o os up sorted.0) in
           ap (filter q) (put_first p (o ∷ os) all) ∙ first_step p (o ∷ os) (q p) refl all
 
   pub filter_set : (l : List Pair) → filter q (set_of l) ≡ set_of (filter q l)
   filter_set [] = refl
-  filter_set (p ∷ l) = filter_put p (set_of l) (set_sorted l) ∙ ap (Put (q p) p) (filter_set l) ∙ by (q p)
+  filter_set (p ∷ l) =
+      filter_put p (set_of l) (set_sorted l) ∙ ap (Put (q p) p) (filter_set l) ∙ by (q p)
     where
-      by : (b : Bool) → cond b (put_pair p (set_of (filter q l))) (set_of (filter q l)) ≡ set_of (cond b (p ∷ filter q l) (filter q l))
+      by : (b : Bool) → cond b (put_pair p (set_of (filter q l))) (set_of (filter q l))
+          ≡ set_of (cond b (p ∷ filter q l) (filter q l))
       by true = refl
       by false = refl
 
@@ -103,17 +124,22 @@ module _ (q : Pair → Bool) where
 abbrev by_group : Row → Row → Ordering
 by_group = by_column 1
 
-all_inserted : (P : Row → Type 0) (new : Row) (rows : List Row) → P new → AllByRecursion P rows → AllByRecursion P (insert_sorted by_group new rows)
+all_inserted : (P : Row → Type 0) (new : Row) (rows : List Row) → P new → AllByRecursion P rows
+    → AllByRecursion P (insert_sorted by_group new rows)
 all_inserted P new [] here all = (here, tt)
-all_inserted P new (r ∷ rows) here all = by (is_gt (by_group new r)) (all_inserted P new rows here all.1)
+all_inserted P new (r ∷ rows) here all =
+    by (is_gt (by_group new r)) (all_inserted P new rows here all.1)
   where
-    by : (b : Bool) → AllByRecursion P (insert_sorted by_group new rows) → AllByRecursion P (cond b (r ∷ insert_sorted by_group new rows) (new ∷ r ∷ rows))
+    by : (b : Bool) → AllByRecursion P (insert_sorted by_group new rows)
+        → AllByRecursion P (cond b (r ∷ insert_sorted by_group new rows) (new ∷ r ∷ rows))
     by true more = (all.0, more)
     by false more = (here, all)
 
-all_sorted : (P : Row → Type 0) (rows : List Row) → AllByRecursion P rows → AllByRecursion P (sort_by by_group rows)
+all_sorted : (P : Row → Type 0) (rows : List Row) → AllByRecursion P rows
+    → AllByRecursion P (sort_by by_group rows)
 all_sorted P [] all = tt
-all_sorted P (r ∷ rows) all = all_inserted P r (sort_by by_group rows) all.0 (all_sorted P rows all.1)
+all_sorted P (r ∷ rows) all =
+    all_inserted P r (sort_by by_group rows) all.0 (all_sorted P rows all.1)
 
 abbrev Rise : List Row → Type 0
 Rise = IsAscending (λ a b. by_group a b ≡ Less)
@@ -121,22 +147,35 @@ Rise = IsAscending (λ a b. by_group a b ≡ Less)
 group_total : Rattle.std.specs.Cmp.IsTotalOrder by_group
 group_total = on_total (λ (r : Row). column r 1) value_cmp_total
 
-behind : (new r : Row) (rows : List Row) → by_group new r ≡ Less → AllByRecursion (λ b. by_group r b ≡ Less) rows → AllByRecursion (λ b. by_group new b ≡ Less) rows
+behind : (new r : Row) (rows : List Row) → by_group new r ≡ Less
+    → AllByRecursion (λ b. by_group r b ≡ Less) rows
+    → AllByRecursion (λ b. by_group new b ≡ Less) rows
 behind new r [] less all = tt
-behind new r (b ∷ rows) less all = (group_total.trans new r b less all.0, behind new r rows less all.1)
+behind new r (b ∷ rows) less all =
+    (group_total.trans new r b less all.0, behind new r rows less all.1)
 
-rises_inserted : (new : Row) (rows : List Row) → AllByRecursion (λ b. is_eq (by_group new b) ≡ false) rows → Rise rows → Rise (insert_sorted by_group new rows)
+rises_inserted : (new : Row) (rows : List Row)
+    → AllByRecursion (λ b. is_eq (by_group new b) ≡ false) rows → Rise rows
+    → Rise (insert_sorted by_group new rows)
 rises_inserted new [] apart up = (tt, tt)
-rises_inserted new (r ∷ rows) apart up = by (by_group new r) refl (rises_inserted new rows apart.1 up.1)
+rises_inserted new (r ∷ rows) apart up =
+    by (by_group new r) refl (rises_inserted new rows apart.1 up.1)
   where
-    by : (o : Ordering) → by_group new r ≡ o → Rise (insert_sorted by_group new rows) → Rise (cond (is_gt o) (r ∷ insert_sorted by_group new rows) (new ∷ r ∷ rows))
+    by : (o : Ordering) → by_group new r ≡ o → Rise (insert_sorted by_group new rows)
+        → Rise (cond (is_gt o) (r ∷ insert_sorted by_group new rows) (new ∷ r ∷ rows))
     by Less e more = ((e, behind new r rows e up.0), up)
     by Equal e more = absurd (false≢true (sym apart.0 ∙ ap is_eq e))
-    by Greater e more = (all_inserted (λ b. by_group r b ≡ Less) new rows (group_total.antisymm r new ∙ ap ordering_reverse e) up.0, more)
+    by Greater e more = (
+      all_inserted (λ b. by_group r b ≡ Less) new rows
+          (group_total.antisymm r new ∙ ap ordering_reverse e) up.0,
+      more,
+    )
 
 rises_sorted : (rows : List Row) → HasNoTies by_group rows → Rise (sort_by by_group rows)
 rises_sorted [] apart = tt
-rises_sorted (r ∷ rows) apart = rises_inserted r (sort_by by_group rows) (all_sorted (λ b. is_eq (by_group r b) ≡ false) rows apart.0) (rises_sorted rows apart.1)
+rises_sorted (r ∷ rows) apart =
+    rises_inserted r (sort_by by_group rows)
+    (all_sorted (λ b. is_eq (by_group r b) ≡ false) rows apart.0) (rises_sorted rows apart.1)
 
 -- ---- what they are read as
 
@@ -147,7 +186,8 @@ name_text (Text s) t is = by (is_utf8 s) is
     named true e = let same : s ≡ t = cc in ap Text same
     named false e = absurd (let z = e in cc)
 
-    by : (b : Bool) → option_and_then name_of_text (if b then Some s else None) ≡ Some t → Text s ≡ Text t
+    by : (b : Bool) → option_and_then name_of_text (if b then Some s else None) ≡ Some t
+        → Text s ≡ Text t
     by true e = named (is_name s) e
     by false e = absurd (let z = e in cc)
 name_text Null t is = absurd (let e = is in cc)
@@ -155,65 +195,98 @@ name_text (Int z) t is = absurd (let e = is in cc)
 name_text (Real x) t is = absurd (let e = is in cc)
 name_text (Blob b) t is = absurd (let e = is in cc)
 
-pair_group : (g u : Option (List ℕ)) (p : Pair) → option_and_then (λ a. option_map (λ b. (a, b)) u) g ≡ Some p → g ≡ Some p.0
+pair_group : (g u : Option (List ℕ)) (p : Pair)
+    → option_and_then (λ a. option_map (λ b. (a, b)) u) g ≡ Some p → g ≡ Some p.0
 pair_group None u p is = absurd (let e = is in cc)
 pair_group (Some g) None p is = absurd (let e = is in cc)
 pair_group (Some g) (Some u) p is = let same : (g, u) ≡ p = cc in ap (λ (x : Pair). Some x.0) same
 
-pair_user : (g u : Option (List ℕ)) (p : Pair) → option_and_then (λ a. option_map (λ b. (a, b)) u) g ≡ Some p → u ≡ Some p.1
+pair_user : (g u : Option (List ℕ)) (p : Pair)
+    → option_and_then (λ a. option_map (λ b. (a, b)) u) g ≡ Some p → u ≡ Some p.1
 pair_user None u p is = absurd (let e = is in cc)
 pair_user (Some g) None p is = absurd (let e = is in cc)
 pair_user (Some g) (Some u) p is = let same : (g, u) ≡ p = cc in ap (λ (x : Pair). Some x.1) same
 
-less_pairs : (r o : Row) (p m : Pair) → pair_in r ≡ Some p → pair_in o ≡ Some m → by_group r o ≡ Less → pair_cmp p m ≡ Less
+less_pairs : (r o : Row) (p m : Pair) → pair_in r ≡ Some p → pair_in o ≡ Some m
+    → by_group r o ≡ Less → pair_cmp p m ≡ Less
 less_pairs r o p m is at less =
-    let a : column r 1 ≡ Text p.0 = name_text (column r 1) p.0 (pair_group (name_in (column r 1)) (name_in (column r 2)) p is) in
-    let b : column o 1 ≡ Text m.0 = name_text (column o 1) m.0 (pair_group (name_in (column o 1)) (name_in (column o 2)) m at) in
-    let groups : slice_cmp nat_cmp p.0 m.0 ≡ Less = sym (ap (λ v. value_cmp v (column o 1)) a ∙ ap (value_cmp (Text p.0)) b ∙ value_cmp-Text p.0 m.0) ∙ less in
+    let a : column r 1 ≡ Text p.0 = name_text (column r 1) p.0
+    (pair_group (name_in (column r 1)) (name_in (column r 2)) p is) in
+    let b : column o 1 ≡ Text m.0 = name_text (column o 1) m.0
+    (pair_group (name_in (column o 1)) (name_in (column o 2)) m at) in
+    let groups : slice_cmp nat_cmp p.0 m.0 ≡ Less =
+    sym (ap (λ v. value_cmp v (column o 1)) a ∙ ap (value_cmp (Text p.0)) b
+    ∙ value_cmp-Text p.0 m.0) ∙ less in
     ap (λ x. ordering_then x (slice_cmp nat_cmp p.1 m.1)) groups
 
-all_less : (r : Row) (p : Pair) → pair_in r ≡ Some p → (rows : List Row) → AllByRecursion (λ b. by_group r b ≡ Less) rows → AllByRecursion (λ y. pair_cmp p y ≡ Less) (filter_map pair_in rows)
+all_less : (r : Row) (p : Pair) → pair_in r ≡ Some p → (rows : List Row)
+    → AllByRecursion (λ b. by_group r b ≡ Less) rows
+    → AllByRecursion (λ y. pair_cmp p y ≡ Less) (filter_map pair_in rows)
 all_less r p is [] all = tt
 all_less r p is (b ∷ rows) all = by (pair_in b) refl (all_less r p is rows all.1)
   where
-    by : (o : Option Pair) → pair_in b ≡ o → AllByRecursion (λ y. pair_cmp p y ≡ Less) (filter_map pair_in rows) → AllByRecursion (λ y. pair_cmp p y ≡ Less) (cons_option o (filter_map pair_in rows))
+    by : (o : Option Pair) → pair_in b ≡ o
+        → AllByRecursion (λ y. pair_cmp p y ≡ Less) (filter_map pair_in rows)
+        → AllByRecursion (λ y. pair_cmp p y ≡ Less) (cons_option o (filter_map pair_in rows))
     by None at more = more
     by (Some m) at more = (less_pairs r b p m is at all.0, more)
 
-insert_pair : (r : Row) (p : Pair) → pair_in r ≡ Some p → (rows : List Row) → AllByRecursion (λ b. is_eq (by_group r b) ≡ false) rows → Rise rows → filter_map pair_in (insert_sorted by_group r rows) ≡ put_pair p (filter_map pair_in rows)
+insert_pair : (r : Row) (p : Pair) → pair_in r ≡ Some p → (rows : List Row)
+    → AllByRecursion (λ b. is_eq (by_group r b) ≡ false) rows → Rise rows
+    → filter_map pair_in (insert_sorted by_group r rows) ≡ put_pair p (filter_map pair_in rows)
 insert_pair r p is [] apart up = ap (λ o. cons_option o []) is
-insert_pair r p is (o ∷ rows) apart up = by (by_group r o) refl (insert_pair r p is rows apart.1 up.1)
+insert_pair r p is (o ∷ rows) apart up =
+    by (by_group r o) refl (insert_pair r p is rows apart.1 up.1)
   where
-    later : (x : Option Pair) → pair_in o ≡ x → by_group o r ≡ Less → filter_map pair_in (insert_sorted by_group r rows) ≡ put_pair p (filter_map pair_in rows)
-        → cons_option x (filter_map pair_in (insert_sorted by_group r rows)) ≡ put_pair p (cons_option x (filter_map pair_in rows))
+    later : (x : Option Pair) → pair_in o ≡ x → by_group o r ≡ Less
+        → filter_map pair_in (insert_sorted by_group r rows) ≡ put_pair p (filter_map pair_in rows)
+        → cons_option x (filter_map pair_in (insert_sorted by_group r rows))
+        ≡ put_pair p (cons_option x (filter_map pair_in rows))
     later None at less more = more
-    later (Some m) at less more = ap (λ l. m ∷ l) more ∙ sym (put_behind p m (filter_map pair_in rows) (less_pairs o r m p at is less))
+    later (Some m) at less more =
+        ap (λ l. m ∷ l) more
+        ∙ sym (put_behind p m (filter_map pair_in rows) (less_pairs o r m p at is less))
 
-    by : (x : Ordering) → by_group r o ≡ x → filter_map pair_in (insert_sorted by_group r rows) ≡ put_pair p (filter_map pair_in rows)
-        → filter_map pair_in (cond (is_gt x) (o ∷ insert_sorted by_group r rows) (r ∷ o ∷ rows)) ≡ put_pair p (filter_map pair_in (o ∷ rows))
+    by : (x : Ordering) → by_group r o ≡ x
+        → filter_map pair_in (insert_sorted by_group r rows) ≡ put_pair p (filter_map pair_in rows)
+        → filter_map pair_in (cond (is_gt x) (o ∷ insert_sorted by_group r rows) (r ∷ o ∷ rows))
+        ≡ put_pair p (filter_map pair_in (o ∷ rows))
     by Less e more =
-        ap (λ x. cons_option x (filter_map pair_in (o ∷ rows))) is ∙ sym (put_first p (filter_map pair_in (o ∷ rows)) (all_less r p is (o ∷ rows) (e, behind r o rows e up.0)))
+        ap (λ x. cons_option x (filter_map pair_in (o ∷ rows))) is
+        ∙ sym (put_first p (filter_map pair_in (o ∷ rows))
+        (all_less r p is (o ∷ rows) (e, behind r o rows e up.0)))
     by Equal e more = absurd (false≢true (sym apart.0 ∙ ap is_eq e))
-    by Greater e more = later (pair_in o) refl (group_total.antisymm o r ∙ ap ordering_reverse e) more
+    by Greater e more =
+        later (pair_in o) refl (group_total.antisymm o r ∙ ap ordering_reverse e) more
 
-skip_pair : (r : Row) → pair_in r ≡ None → (rows : List Row) → filter_map pair_in (insert_sorted by_group r rows) ≡ filter_map pair_in rows
+skip_pair : (r : Row) → pair_in r ≡ None → (rows : List Row)
+    → filter_map pair_in (insert_sorted by_group r rows) ≡ filter_map pair_in rows
 skip_pair r none [] = ap (λ o. cons_option o []) none
 skip_pair r none (o ∷ rows) = by (is_gt (by_group r o)) (skip_pair r none rows)
   where
-    by : (b : Bool) → filter_map pair_in (insert_sorted by_group r rows) ≡ filter_map pair_in rows → filter_map pair_in (cond b (o ∷ insert_sorted by_group r rows) (r ∷ o ∷ rows)) ≡ filter_map pair_in (o ∷ rows)
+    by : (b : Bool) → filter_map pair_in (insert_sorted by_group r rows) ≡ filter_map pair_in rows
+        → filter_map pair_in (cond b (o ∷ insert_sorted by_group r rows) (r ∷ o ∷ rows))
+        ≡ filter_map pair_in (o ∷ rows)
     by true more = ap (cons_option (pair_in o)) more
     by false more = ap (λ x. cons_option x (filter_map pair_in (o ∷ rows))) none
 
-set_of_rows : (rows : List Row) → HasNoTies by_group rows → set_of (filter_map pair_in rows) ≡ filter_map pair_in (sort_by by_group rows)
+set_of_rows : (rows : List Row) → HasNoTies by_group rows
+    → set_of (filter_map pair_in rows) ≡ filter_map pair_in (sort_by by_group rows)
 set_of_rows [] apart = refl
 set_of_rows (r ∷ rows) apart = by (pair_in r) refl (set_of_rows rows apart.1)
   where
-    by : (x : Option Pair) → pair_in r ≡ x → set_of (filter_map pair_in rows) ≡ filter_map pair_in (sort_by by_group rows)
-        → set_of (cons_option x (filter_map pair_in rows)) ≡ filter_map pair_in (insert_sorted by_group r (sort_by by_group rows))
+    by : (x : Option Pair) → pair_in r ≡ x
+        → set_of (filter_map pair_in rows) ≡ filter_map pair_in (sort_by by_group rows)
+        → set_of (cons_option x (filter_map pair_in rows))
+        ≡ filter_map pair_in (insert_sorted by_group r (sort_by by_group rows))
     by None is more = more ∙ sym (skip_pair r is (sort_by by_group rows))
-    by (Some p) is more = ap (put_pair p) more ∙ sym (insert_pair r p is (sort_by by_group rows) (all_sorted (λ b. is_eq (by_group r b) ≡ false) rows apart.0) (rises_sorted rows apart.1))
+    by (Some p) is more =
+        ap (put_pair p) more
+        ∙ sym (insert_pair r p is (sort_by by_group rows)
+        (all_sorted (λ b. is_eq (by_group r b) ≡ false) rows apart.0) (rises_sorted rows apart.1))
 
-names_shown : (rows : List Row) → names_seen (map shown_group rows) ≡ filter_map (λ r. name_in (column r 1)) rows
+names_shown : (rows : List Row)
+    → names_seen (map shown_group rows) ≡ filter_map (λ r. name_in (column r 1)) rows
 names_shown [] = refl
 names_shown (r ∷ rows) = ap (cons_option (name_in (column r 1))) (names_shown rows)
 
@@ -225,40 +298,76 @@ module _ (user : List ℕ) (named : IsTrue (is_name user)) (text : IsTrue (is_ut
   IsOf r = column r 2 ≡ Text user
 
   user_is : (v : Value) → is_eq (value_cmp v (Text user)) ≡ true → v ≡ Text user
-  user_is (Text s) same = ap Text ((bytes_eq-Decides s user).0 (sym (ap is_eq (value_cmp-Text s user) ∙ is_eq-slice_cmp s user) ∙ same))
+  user_is (Text s) same =
+      ap Text
+      ((bytes_eq-Decides s user).0
+      (sym (ap is_eq (value_cmp-Text s user) ∙ is_eq-slice_cmp s user) ∙ same))
   user_is Null same = absurd (false≢true (sym (ap is_eq (value_cmp-Null (Text user))) ∙ same))
-  user_is (Int z) same = absurd (false≢true (sym (ap is_eq (value_cmp-apart (Int z) (Text user) (λ e. let e' : 1 ≡ 2 = e in omega (arith, e')))) ∙ same))
-  user_is (Real x) same = absurd (false≢true (sym (ap is_eq (value_cmp-apart (Real x) (Text user) (λ e. let e' : 1 ≡ 2 = e in omega (arith, e')))) ∙ same))
-  user_is (Blob b) same = absurd (false≢true (sym (ap is_eq (value_cmp-apart (Blob b) (Text user) (λ e. let e' : 3 ≡ 2 = e in omega (arith, e')))) ∙ same))
+  user_is (Int z) same =
+      absurd
+      (false≢true
+      (sym (ap is_eq (value_cmp-apart (Int z) (Text user)
+      (λ e. let e' : 1 ≡ 2 = e in omega (arith, e')))) ∙ same))
+  user_is (Real x) same =
+      absurd
+      (false≢true
+      (sym (ap is_eq (value_cmp-apart (Real x) (Text user)
+      (λ e. let e' : 1 ≡ 2 = e in omega (arith, e')))) ∙ same))
+  user_is (Blob b) same =
+      absurd
+      (false≢true
+      (sym (ap is_eq (value_cmp-apart (Blob b) (Text user)
+      (λ e. let e' : 3 ≡ 2 = e in omega (arith, e')))) ∙ same))
 
   user_named : (v : Value) → v ≡ Text user → name_in v ≡ Some user
-  user_named v is = ap name_in is ∙ ap (option_and_then name_of_text) (cond-true (is_utf8 user) (Some user) None text) ∙ cond-true (is_name user) (Some user) None named
+  user_named v is =
+      ap name_in is ∙ ap (option_and_then name_of_text)
+      (cond-true (is_utf8 user) (Some user) None text)
+      ∙ cond-true (is_name user) (Some user) None named
 
   pair_is : (r : Row) → IsOf r → pair_in r ≡ option_map (λ g. (g, user)) (group r)
-  pair_is r is = ap (λ o. option_and_then {U = Pair} (λ a. option_map (λ b. (a, b)) o) (group r)) (user_named (column r 2) is) ∙ by (group r)
+  pair_is r is =
+      ap (λ o. option_and_then {U = Pair} (λ a. option_map (λ b. (a, b)) o) (group r))
+      (user_named (column r 2) is) ∙ by (group r)
     where
-      by : (o : Option (List ℕ)) → option_and_then {U = Pair} (λ a. option_map (λ b. (a, b)) (Some user)) o ≡ option_map (λ g. (g, user)) o
+      by : (o : Option (List ℕ))
+          → option_and_then {U = Pair} (λ a. option_map (λ b. (a, b)) (Some user)) o
+          ≡ option_map (λ g. (g, user)) o
       by None = refl
       by (Some g) = refl
 
   agrees : (r : Row) (p : Pair) → pair_in r ≡ Some p → same_text p.1 user ≡ is_user_row user r
   agrees r p is =
       let t = name_text (column r 2) p.1 (pair_user (group r) (name_in (column r 2)) p is) in
-      sym (ap (λ v. is_eq (value_cmp v (Text user))) t ∙ ap is_eq (value_cmp-Text p.1 user) ∙ is_eq-slice_cmp p.1 user)
+      sym (ap (λ v. is_eq (value_cmp v (Text user))) t ∙ ap is_eq (value_cmp-Text p.1 user)
+      ∙ is_eq-slice_cmp p.1 user)
 
-  groups_read : (rows : List Row) → AllByRecursion IsOf rows → map (λ (p : Pair). p.0) (filter_map pair_in rows) ≡ filter_map group rows
+  groups_read : (rows : List Row) → AllByRecursion IsOf rows
+      → map (λ (p : Pair). p.0) (filter_map pair_in rows) ≡ filter_map group rows
   groups_read [] all = refl
-  groups_read (r ∷ rows) all = ap (λ o. map (λ (p : Pair). p.0) (cons_option o (filter_map pair_in rows))) (pair_is r all.0) ∙ by (group r) (groups_read rows all.1)
+  groups_read (r ∷ rows) all =
+      ap (λ o. map (λ (p : Pair). p.0) (cons_option o (filter_map pair_in rows))) (pair_is r all.0)
+      ∙ by (group r) (groups_read rows all.1)
     where
-      by : (o : Option (List ℕ)) → map (λ (p : Pair). p.0) (filter_map pair_in rows) ≡ filter_map group rows
-          → map (λ (p : Pair). p.0) (cons_option (option_map (λ g. (g, user)) o) (filter_map pair_in rows)) ≡ cons_option o (filter_map group rows)
+      by : (o : Option (List ℕ))
+          → map (λ (p : Pair). p.0) (filter_map pair_in rows) ≡ filter_map group rows
+          → map (λ (p : Pair). p.0)
+          (cons_option (option_map (λ g. (g, user)) o) (filter_map pair_in rows))
+          ≡ cons_option o (filter_map group rows)
       by None more = more
       by (Some g) more = ap (λ l. g ∷ l) more
 
-  pub tells_groups : (db : Database) → HasNoTies by_group (filter (is_user_row user) (db.trees 3)) → (rows : List Row) → HasGroups user db.trees rows → AreGroupsOf user (rows_of db) (names_seen rows)
+  pub tells_groups : (db : Database) → HasNoTies by_group (filter (is_user_row user) (db.trees 3))
+      → (rows : List Row) → HasGroups user db.trees rows
+      → AreGroupsOf user (rows_of db) (names_seen rows)
   tells_groups db apart rows shown =
       let kept = filter (is_user_row user) (db.trees 3) in
-      let mine = all_sorted IsOf kept (each_of IsOf kept (λ r there. user_is (column r 2) (kept_passes (is_user_row user) (db.trees 3) r there))) in
+      let mine = all_sorted IsOf kept
+      (each_of IsOf kept (λ r there. user_is (column r 2)
+      (kept_passes (is_user_row user) (db.trees 3) r there))) in
       let q : Pair → Bool = λ p. same_text p.1 user in
-      let pairs = filter_set q (filter_map pair_in (db.trees 3)) ∙ ap set_of (filter_read pair_in q (is_user_row user) agrees (db.trees 3)) ∙ set_of_rows kept apart in
-      ap names_seen shown ∙ names_shown (sort_by by_group kept) ∙ sym (groups_read (sort_by by_group kept) mine) ∙ ap (map (λ (p : Pair). p.0)) (sym pairs)
+      let pairs = filter_set q (filter_map pair_in (db.trees 3))
+      ∙ ap set_of (filter_read pair_in q (is_user_row user) agrees (db.trees 3))
+      ∙ set_of_rows kept apart in
+      ap names_seen shown ∙ names_shown (sort_by by_group kept)
+      ∙ sym (groups_read (sort_by by_group kept) mine) ∙ ap (map (λ (p : Pair). p.0)) (sym pairs)

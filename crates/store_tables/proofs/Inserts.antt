@@ -33,10 +33,12 @@ insert_edit db rows = edit_of db nodes_table [] Chosen 0 rows
 
 -- the new row before its number is chosen
 cast_new : (c : Columns) → cast_row nodes_table (Null ∷ Null ∷ values c) ≡ Null ∷ Null ∷ values c
-cast_new c = rw (cast_null, c.whole, cast_int c.kind, cast_int c.dacl_flags, cast_int c.sacl_flags) refl
+cast_new c =
+    rw (cast_null, c.whole, cast_int c.kind, cast_int c.dacl_flags, cast_int c.sacl_flags) refl
 
 -- where one row is put in and its number is fresh, no row of the table has that number
-pub fresh_alone : (rows : List Row) (r : Row) → are_fresh rows (r ∷ []) ≡ true → is_taken rows r ≡ false
+pub fresh_alone : (rows : List Row) (r : Row) → are_fresh rows (r ∷ []) ≡ true
+    → is_taken rows r ≡ false
 fresh_alone rows r h = go (is_taken rows r) h
   where
     go : (b : Bool) → not b && true ≡ true → b ≡ false
@@ -53,17 +55,23 @@ pub record Inserted (c : Columns) (old new : State) : Type 0 where
   pub sound : IsDatabase new.now
   pub adds : AddsRow (next_rowid (old.now.trees 0)) (values c) old.now.trees new.now.trees
   pub last : new.last_rowid ≡ next_rowid (old.now.trees 0)
-  pub shown : Shows old new new.now (if old.in_transaction then old.committed else new.now) old.in_transaction
+  pub shown : Shows old new new.now
+      (if old.in_transaction then old.committed else new.now) old.in_transaction
 
 -- an INSERT into `nodes` that answered a count put in one row, with the next number
-pub inserted : (c : Columns) (old new : State) (count : ℕ) → old.now.schema ≡ room_schema → Executes insert_text (values c) old new (Ok count) → Inserted c old new
+pub inserted : (c : Columns) (old new : State) (count : ℕ) → old.now.schema ≡ room_schema
+    → Executes insert_text (values c) old new (Ok count) → Inserted c old new
 inserted c old new count has h =
     let params = values c in
     let db = old.now.trees in
     let command = Insert 0 (Values insert_terms 13) in
-    let w = runs_as insert_text params old new room_schema has command insert_is plain_texts.7 count h in
+    let w =
+    runs_as insert_text params old new room_schema has command insert_is plain_texts.7 count h
+    in
     let text = statement_of insert_text (understood room_schema insert_text) in
-    let done = went (subst (λ s. Does old.step_limit (mode_of old) params (record old.now { schema = s }) text None command (Ok (w.tally, new.now))) has w.changed) in
+    let done = went
+    (subst (λ s. Does old.step_limit (mode_of old) params
+    (record old.now { schema = s }) text None command (Ok (w.tally, new.now))) has w.changed) in
     let concluded = same_value (went (went done.2).2).2 in
     let now = ap (λ (p : Tally × Database). p.1) concluded in
     let given = went done.1 in
@@ -71,32 +79,42 @@ inserted c old new count has h =
     let written = went counter.2 in
     let counted = went written.2 in
     let wrote = same_value counted.2 in
-    let trees : done.0.trees ≡ written.0 = ap (λ (it : Written). it.trees) wrote ∙ same_value counted.1 in
+    let trees : done.0.trees ≡ written.0 = ap (λ (it : Written). it.trees) wrote
+    ∙ same_value counted.1 in
     let source : given.0 ≡ (Null ∷ Null ∷ values c) ∷ [] = given.1.1 in
     let news : (insert_edit db given.0).news ≡ stored_node (next_rowid (db 0)) (values c) ∷ [] =
-    ap (λ l. (insert_edit db l).news) source ∙ ap (λ r. Rattle.sqlite.specs.Edit.numbered Chosen (db 0) (r ∷ [])) (cast_new c) in
-    let none = ap (works room_schema Enforced 0 0 []) news ∙ new_sets_off_nothing (stored_node (next_rowid (db 0)) (values c)) in
-    let applies = one_step room_schema Enforced db written.0 (insert_edit db given.0) none written.1 in
-    let at : (tree : ℕ) → new.now.trees tree ≡ written.0 tree = λ tree. ap (λ (d : Database). d.trees tree) now ∙ ap (λ (t : Trees). t tree) trees in
+    ap (λ l. (insert_edit db l).news) source
+    ∙ ap (λ r. Rattle.sqlite.specs.Edit.numbered Chosen (db 0) (r ∷ [])) (cast_new c) in
+    let none = ap (works room_schema Enforced 0 0 []) news
+    ∙ new_sets_off_nothing (stored_node (next_rowid (db 0)) (values c)) in
+    let applies = one_step room_schema Enforced db written.0
+    (insert_edit db given.0) none written.1 in
+    let at : (tree : ℕ) → new.now.trees tree ≡ written.0 tree = λ tree. ap
+    (λ (d : Database). d.trees tree) now ∙ ap (λ (t : Trees). t tree) trees in
     record {
       schema = ap (λ (d : Database). d.schema) now;
       sound = w.sound;
       adds = record {
         number = refl;
-        fresh = fresh_alone (db 0) (stored_node (next_rowid (db 0)) (values c)) (subst (λ l. are_fresh (db 0) l ≡ true) news applies.fresh);
+        fresh =
+            fresh_alone (db 0) (stored_node (next_rowid (db 0)) (values c))
+            (subst (λ l. are_fresh (db 0) l ≡ true) news applies.fresh);
         nodes = at 0 ∙ applies.rows ∙ ap (Rattle.sqlite.specs.Edit.put_all (db 0)) news;
         bodies = at 2 ∙ applies.tables.1.0 (λ e. let e' : 2 ≡ 0 = e in omega (arith, e'));
         members = at 3 ∙ applies.tables.1.1.0 (λ e. let e' : 3 ≡ 0 = e in omega (arith, e'));
         meta = at 5 ∙ applies.tables.1.1.1.0 (λ e. let e' : 5 ≡ 0 = e in omega (arith, e'));
         audits = at 7 ∙ applies.tables.1.1.1.1.0 (λ e. let e' : 7 ≡ 0 = e in omega (arith, e'));
       };
-      last = w.last_rowid ∙ ap (λ (p : Tally × Database). unwrap_or p.0.last old.last_rowid) concluded ∙ ap (λ (it : Written). unwrap_or it.last old.last_rowid) wrote
+      last =
+          w.last_rowid ∙ ap (λ (p : Tally × Database). unwrap_or p.0.last old.last_rowid) concluded
+          ∙ ap (λ (it : Written). unwrap_or it.last old.last_rowid) wrote
           ∙ ap (λ l. unwrap_or (Rattle.sqlite.specs.Rows.last_id l) old.last_rowid) news;
       shown = w.shown;
     }
 
 -- inside a transaction, an INSERT into `nodes` leaves the tables of a room and commits nothing
-pub insert_room : (c : Columns) (old new : State) → IsTrue old.in_transaction → (count : ℕ) → Executes insert_text (values c) old new (Ok count) → IsRoom old.now → WritesRoom old new
+pub insert_room : (c : Columns) (old new : State) → IsTrue old.in_transaction → (count : ℕ)
+    → Executes insert_text (values c) old new (Ok count) → IsRoom old.now → WritesRoom old new
 insert_room c old new inside count h room =
     let d = inserted c old new count room.schema h in (
       d.shown.committed_is ∙ ap (λ b. if b then old.committed else new.now) inside,
@@ -105,7 +123,10 @@ insert_room c old new inside count h room =
         sound = d.sound;
         members = subst (IsShaped Shape.Table) (sym d.adds.members) room.members;
         audits = subst (IsShaped Shape.Table) (sym d.adds.audits) room.audits;
-        nodes = subst (IsShaped Shape.Table) (sym d.adds.nodes) (IsShaped-put_row (stored_node (next_rowid (old.now.trees 0)) (values c)) _ refl room.nodes);
+        nodes =
+            subst (IsShaped Shape.Table) (sym d.adds.nodes)
+            (IsShaped-put_row (stored_node (next_rowid (old.now.trees 0)) (values c)) _ refl
+            room.nodes);
         bodies = subst (IsShaped Shape.Table) (sym d.adds.bodies) room.bodies;
       },
       d.shown.mode ∙ inside,

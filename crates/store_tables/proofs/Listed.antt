@@ -47,33 +47,41 @@ name_of n = (n.name, n.kind)
 -- ---- where all rows can be read
 
 -- an integer that isn't below 1 is a number
-number_kept : (v : Value) → IsTrue (is_int v) → not (is_lt (value_cmp v (Int (pos 1)))) ≡ true → (id : ℕ) × (number_in v ≡ Some id)
-number_kept (Int (pos zero)) int high = absurd (let e = sym (ap (λ o. not (is_lt o)) (value_cmp-Int (pos 0) (pos 1))) ∙ high in cc)
+number_kept : (v : Value) → IsTrue (is_int v) → not (is_lt (value_cmp v (Int (pos 1)))) ≡ true
+    → (id : ℕ) × (number_in v ≡ Some id)
+number_kept (Int (pos zero)) int high =
+    absurd (let e = sym (ap (λ o. not (is_lt o)) (value_cmp-Int (pos 0) (pos 1))) ∙ high in cc)
 number_kept (Int (pos (suc n))) int high = (suc n, number_in-low (suc n) (omega arith))
-number_kept (Int (negsuc n)) int high = absurd (let e = sym (ap (λ o. not (is_lt o)) (value_cmp-Int (negsuc n) (pos 1))) ∙ high in cc)
+number_kept (Int (negsuc n)) int high =
+    absurd (let e = sym (ap (λ o. not (is_lt o)) (value_cmp-Int (negsuc n) (pos 1))) ∙ high in cc)
 number_kept Null int high = absurd (let e = int in cc)
 number_kept (Real x) int high = absurd (let e = int in cc)
 number_kept (Text t) int high = absurd (let e = int in cc)
 number_kept (Blob b) int high = absurd (let e = int in cc)
 
-read_if : (o : Option Node) (m : Option ℕ) (id : ℕ) → m ≡ Some id → (if is_none o then m else None) ≡ None → (n : Node) × (o ≡ Some n)
+read_if : (o : Option Node) (m : Option ℕ) (id : ℕ) → m ≡ Some id
+    → (if is_none o then m else None) ≡ None → (n : Node) × (o ≡ Some n)
 read_if (Some n) m id is none = (n, refl)
 read_if None m id is none = absurd (not_none id (sym none ∙ is))
 
-nothing_of : {X : Type 0} (f : Row → Option X) (rows : List Row) → filter_map f rows ≡ [] → (r : Row) → Has rows r → f r ≡ None
+nothing_of : {X : Type 0} (f : Row → Option X) (rows : List Row) → filter_map f rows ≡ []
+    → (r : Row) → Has rows r → f r ≡ None
 nothing_of f [] none r there = absurd there
 nothing_of f (x ∷ rows) none r there = by (f x) refl none there (λ e. nothing_of f rows e r)
   where
-    by : (o : Option _) → f x ≡ o → cons_option o (filter_map f rows) ≡ [] → Has (x ∷ rows) r → (filter_map f rows ≡ [] → Has rows r → f r ≡ None) → f r ≡ None
+    by : (o : Option _) → f x ≡ o → cons_option o (filter_map f rows) ≡ [] → Has (x ∷ rows) r
+        → (filter_map f rows ≡ [] → Has rows r → f r ≡ None) → f r ≡ None
     by None is e (inl same) more = ap f same ∙ is
     by None is e (inr later) more = more e later
     by (Some y) is e there more = absurd (let z = e in cc)
 
 module _ (db : Database) (room : IsRoom db) where
-  seen_there : (rows_of db).unreadable ≡ [] → (r : Row) → Has (db.trees 0) r → is_numbered r ≡ true → IsSeen r
+  seen_there : (rows_of db).unreadable ≡ [] → (r : Row) → Has (db.trees 0) r → is_numbered r ≡ true
+      → IsSeen r
   seen_there none r there numbered =
       let number = number_kept (rowid r) (of_each _ (db.trees 0) room.nodes.1 r there) numbered in
-      read_if (see r) (number_in (rowid r)) number.0 number.1 (nothing_of (λ r. unread_in (shown_node r)) (db.trees 0) none r there)
+      read_if (see r) (number_in (rowid r)) number.0 number.1
+      (nothing_of (λ r. unread_in (shown_node r)) (db.trees 0) none r there)
 
   abbrev under : ℕ → List Row
   under parent = filter (is_child (pos parent)) (db.trees 0)
@@ -81,7 +89,8 @@ module _ (db : Database) (room : IsRoom db) where
   under_seen : (parent : ℕ) → (rows_of db).unreadable ≡ [] → AllByRecursion IsSeen (under parent)
   under_seen parent none =
       each_of IsSeen (under parent) (λ r there.
-      seen_there none r (kept_from (is_child (pos parent)) (db.trees 0) r there) (and_parts _ (is_numbered r) (kept_passes (is_child (pos parent)) (db.trees 0) r there)).1)
+      seen_there none r (kept_from (is_child (pos parent)) (db.trees 0) r there)
+      (and_parts _ (is_numbered r) (kept_passes (is_child (pos parent)) (db.trees 0) r there)).1)
 
 -- ---- whether there is a child
 
@@ -97,56 +106,88 @@ module _ (db : Database) (room : IsRoom db) (parent : ℕ) where
   abbrev kept : List Row
   kept = filter (is_child (pos parent)) (db.trees 0)
 
-  some_child : (rows all : List Row) → kept ≡ rows → AllByRecursion IsSeen rows → IsPermutation (map shown_number rows) all → (length (take 1 all) == 0) ≡ is_empty (sorted_by_name (filter_map see rows))
+  some_child : (rows all : List Row) → kept ≡ rows → AllByRecursion IsSeen rows
+      → IsPermutation (map shown_number rows) all
+      → (length (take 1 all) == 0) ≡ is_empty (sorted_by_name (filter_map see rows))
   some_child [] all is seen perm = ap (λ l. length (take 1 l) == 0) (alone_in all perm)
-  some_child (r ∷ rows) [] is seen perm = absurd (let e = no_map shown_number (r ∷ rows) (alone_in (map shown_number (r ∷ rows)) (IsPermutation-sym (map shown_number (r ∷ rows)) [] perm)) in cc)
+  some_child (r ∷ rows) [] is seen perm =
+      absurd (let e = no_map shown_number (r ∷ rows)
+      (alone_in (map shown_number (r ∷ rows))
+      (IsPermutation-sym (map shown_number (r ∷ rows)) [] perm)) in cc)
   some_child (r ∷ rows) (x ∷ more) is seen perm =
-      sym (ap (λ o. is_empty (sorted_by_name (cons_option o (filter_map see rows)))) seen.0.1 ∙ put_is_some seen.0.0 (sorted_by_name (filter_map see rows)))
+      sym (ap (λ o. is_empty (sorted_by_name (cons_option o (filter_map see rows)))) seen.0.1
+      ∙ put_is_some seen.0.0 (sorted_by_name (filter_map see rows)))
 
-  pub tells_some : (rows : List Row) → HasSome (pos parent) db.trees rows → HasChildren parent (rows_of db) (not (length rows == 0))
+  pub tells_some : (rows : List Row) → HasSome (pos parent) db.trees rows
+      → HasChildren parent (rows_of db) (not (length rows == 0))
   tells_some rows shown none =
-      ap (λ l. not (length l == 0)) shown.2 ∙ ap not (some_child kept shown.0 refl (under_seen db room parent none) shown.1) ∙ sym (ap (λ l. not (is_empty l)) (children_read db parent))
+      ap (λ l. not (length l == 0)) shown.2
+      ∙ ap not (some_child kept shown.0 refl (under_seen db room parent none) shown.1)
+      ∙ sym (ap (λ l. not (is_empty l)) (children_read db parent))
 
   -- ---- names and kinds
 
   named_of : (r : Row) (n : Node) → see r ≡ Some n → named r ≡ Some (name_of n)
   named_of r n is =
       let parts = node_parts (shown_node r) n is in
-      ap (option_and_then (λ kind. option_map (λ name. (name, kind)) (text_in (column r 3)))) parts.kind ∙ ap (option_map (λ name. (name, n.kind))) parts.name
+      ap (option_and_then (λ kind. option_map (λ name. (name, kind)) (text_in (column r 3))))
+      parts.kind ∙ ap (option_map (λ name. (name, n.kind))) parts.name
 
   -- what has no name or no kind is no object
   not_named : (r : Row) (o : Option Node) → see r ≡ o → named r ≡ None → see r ≡ None
   not_named r None is none = is
   not_named r (Some n) is none = absurd (not_none (name_of n) (sym none ∙ named_of r n is))
 
-  names_read : (rows : List Row) → AllByRecursion IsSeen rows → filter_map named rows ≡ map name_of (filter_map see rows)
+  names_read : (rows : List Row) → AllByRecursion IsSeen rows
+      → filter_map named rows ≡ map name_of (filter_map see rows)
   names_read [] all = refl
   names_read (r ∷ rows) all =
-      ap (λ o. cons_option o (filter_map named rows)) (named_of r all.0.0 all.0.1) ∙ ap (λ l. name_of all.0.0 ∷ l) (names_read rows all.1)
+      ap (λ o. cons_option o (filter_map named rows)) (named_of r all.0.0 all.0.1)
+      ∙ ap (λ l. name_of all.0.0 ∷ l) (names_read rows all.1)
       ∙ ap (λ o. map name_of (cons_option o (filter_map see rows))) (sym all.0.1)
 
   abbrev AreNamed : List Named → List Row → Rows → List Named → Type 0
   AreNamed done rows told names = names ≡ done ++ filter_map named rows
 
   name_step : (done : List Named) (r : Row) (rows : List Row) → Has (db.trees 0) r
-      → ((before : List Named) → Tells IsUnreadable (AreNamed before rows) (rows_of db) (result_of_seen (seen_behind named_in before (map shown_name rows)))) → (o : Option Named) → named r ≡ o → (m : Option ℕ)
-      → number_in (rowid r) ≡ m → Tells IsUnreadable (AreNamed done (r ∷ rows)) (rows_of db) (result_of_seen (seen_then (seen_as o m) (λ before. seen_behind named_in before (map shown_name rows)) done))
+      → ((before : List Named)
+      → Tells IsUnreadable (AreNamed before rows) (rows_of db)
+      (result_of_seen (seen_behind named_in before (map shown_name rows)))) → (o : Option Named)
+      → named r ≡ o → (m : Option ℕ)
+      → number_in (rowid r) ≡ m
+      → Tells IsUnreadable (AreNamed done (r ∷ rows)) (rows_of db)
+      (result_of_seen (seen_then (seen_as o m)
+      (λ before. seen_behind named_in before (map shown_name rows)) done))
   name_step done r rows there more (Some p) is m number =
       tells_by IsUnreadable (AreNamed (done ++ p ∷ []) rows) (AreNamed done (r ∷ rows)) (rows_of db)
-      (λ names read. read ∙ append_assoc done (p ∷ []) (filter_map named rows) ∙ ap (λ x. done ++ cons_option x (filter_map named rows)) (sym is))
-      (result_of_seen (seen_behind named_in (done ++ p ∷ []) (map shown_name rows))) (more (done ++ p ∷ []))
+      (λ names read. read ∙ append_assoc done (p ∷ []) (filter_map named rows)
+      ∙ ap (λ x. done ++ cons_option x (filter_map named rows)) (sym is))
+      (result_of_seen (seen_behind named_in (done ++ p ∷ []) (map shown_name rows)))
+      (more (done ++ p ∷ []))
   name_step done r rows there more None is None number = tt
-  name_step done r rows there more None is (Some id) number = unread_row db room r id there (not_named r (see r) refl is) number
+  name_step done r rows there more None is (Some id) number =
+      unread_row db room r id there (not_named r (see r) refl is) number
 
-  reads_names : (rows : List Row) → ((r : Row) → Has rows r → Has (db.trees 0) r) → (done : List Named) → Tells IsUnreadable (AreNamed done rows) (rows_of db) (result_of_seen (seen_behind named_in done (map shown_name rows)))
+  reads_names : (rows : List Row) → ((r : Row) → Has rows r → Has (db.trees 0) r)
+      → (done : List Named)
+      → Tells IsUnreadable (AreNamed done rows) (rows_of db)
+      (result_of_seen (seen_behind named_in done (map shown_name rows)))
   reads_names [] within done = sym (append-nil done)
-  reads_names (r ∷ rows) within done = name_step done r rows (within r (inl refl)) (reads_names rows (λ x there. within x (inr there))) (named r) refl (number_in (rowid r)) refl
+  reads_names (r ∷ rows) within done =
+      name_step done r rows (within r (inl refl))
+      (reads_names rows (λ x there. within x (inr there))) (named r) refl (number_in (rowid r)) refl
 
-  pub tells_names : (rows : List Row) → HasNames (pos parent) db.trees rows → Tells IsUnreadable (AreNamedUnder parent) (rows_of db) (result_of_seen (seen_behind named_in [] rows))
+  pub tells_names : (rows : List Row) → HasNames (pos parent) db.trees rows
+      → Tells IsUnreadable (AreNamedUnder parent) (rows_of db)
+      (result_of_seen (seen_behind named_in [] rows))
   tells_names rows shown =
-      subst (λ l. Tells IsUnreadable (AreNamedUnder parent) (rows_of db) (result_of_seen (seen_behind named_in [] l))) (sym shown)
-      (tells_by IsUnreadable (AreNamed [] (sort_by by_name kept)) (AreNamedUnder parent) (rows_of db)
+      subst (λ l. Tells IsUnreadable (AreNamedUnder parent) (rows_of db)
+      (result_of_seen (seen_behind named_in [] l))) (sym shown)
+      (tells_by IsUnreadable (AreNamed [] (sort_by by_name kept)) (AreNamedUnder parent)
+      (rows_of db)
       (λ names read none.
       let all = under_seen db room parent none in
-      read ∙ names_read (sort_by by_name kept) (seen_in_order kept all) ∙ ap (map name_of) (sorted_read kept all ∙ sym (children_read db parent)))
-      (result_of_seen (seen_behind named_in [] (map shown_name (sort_by by_name kept)))) (reads_names (sort_by by_name kept) (sorted_within db room parent) []))
+      read ∙ names_read (sort_by by_name kept) (seen_in_order kept all)
+      ∙ ap (map name_of) (sorted_read kept all ∙ sym (children_read db parent)))
+      (result_of_seen (seen_behind named_in [] (map shown_name (sort_by by_name kept))))
+      (reads_names (sort_by by_name kept) (sorted_within db room parent) []))

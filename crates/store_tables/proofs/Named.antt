@@ -37,7 +37,8 @@ pub no_map : {A B : Type 0} (f : A → B) (xs : List A) → map f xs ≡ [] → 
 no_map f [] h = refl
 no_map f (x ∷ xs) h = absurd (let e = h in cc)
 
-one_of_map : {A B : Type 0} (f : A → B) (xs : List A) (y : B) → map f xs ≡ y ∷ [] → (x : A) × (xs ≡ x ∷ []) × (f x ≡ y)
+one_of_map : {A B : Type 0} (f : A → B) (xs : List A) (y : B) → map f xs ≡ y ∷ [] → (x : A)
+    × (xs ≡ x ∷ []) × (f x ≡ y)
 one_of_map f [] y h = absurd (let e = h in cc)
 one_of_map f (x ∷ []) y h = (x, refl, let e = h in cc)
 one_of_map f (x ∷ z ∷ more) y h = absurd (let e = h in cc)
@@ -48,12 +49,15 @@ abbrev filter_map_step : {X : Type 0} → Option X → Bool → List X → List 
 filter_map_step o true kept = cons_option o kept
 filter_map_step o false kept = kept
 
-module _ {X : Type 0} (f : Row → Option X) (q : X → Bool) (p : Row → Bool) (same : (r : Row) (x : X) → f r ≡ Some x → q x ≡ p r) where
-  none_step : (r : Row) (rest : List X) (o : Option X) → f r ≡ o → p r ≡ false → find q rest ≡ None → find q (cons_option o rest) ≡ None
+module _ {X : Type 0} (f : Row → Option X) (q : X → Bool) (p : Row → Bool)
+    (same : (r : Row) (x : X) → f r ≡ Some x → q x ≡ p r) where
+  none_step : (r : Row) (rest : List X) (o : Option X) → f r ≡ o → p r ≡ false → find q rest ≡ None
+      → find q (cons_option o rest) ≡ None
   none_step r rest None is fails none = none
   none_step r rest (Some x) is fails none = find_no q x rest (same r x is ∙ fails) ∙ none
 
-  skip_step : (r : Row) (rest : List X) (x : X) (o : Option X) → f r ≡ o → p r ≡ false → find q rest ≡ Some x → find q (cons_option o rest) ≡ Some x
+  skip_step : (r : Row) (rest : List X) (x : X) (o : Option X) → f r ≡ o → p r ≡ false
+      → find q rest ≡ Some x → find q (cons_option o rest) ≡ Some x
   skip_step r rest x None is fails found = found
   skip_step r rest x (Some y) is fails found = find_no q y rest (same r y is ∙ fails) ∙ found
 
@@ -61,33 +65,43 @@ module _ {X : Type 0} (f : Row → Option X) (q : X → Bool) (p : Row → Bool)
   none_read [] none = refl
   none_read (r ∷ rows) none = by (p r) refl none (none_read rows)
     where
-      by : (b : Bool) → p r ≡ b → cond b (r ∷ filter p rows) (filter p rows) ≡ [] → (filter p rows ≡ [] → find q (filter_map f rows) ≡ None) → find q (filter_map f (r ∷ rows)) ≡ None
+      by : (b : Bool) → p r ≡ b → cond b (r ∷ filter p rows) (filter p rows) ≡ []
+          → (filter p rows ≡ [] → find q (filter_map f rows) ≡ None)
+          → find q (filter_map f (r ∷ rows)) ≡ None
       by true is e more = absurd (let z = e in cc)
       by false is e more = none_step r (filter_map f rows) (f r) refl is (more e)
 
-  pub first_read : (rows : List Row) (r : Row) (later : List Row) (x : X) → filter p rows ≡ r ∷ later → f r ≡ Some x → find q (filter_map f rows) ≡ Some x
+  pub first_read : (rows : List Row) (r : Row) (later : List Row) (x : X)
+      → filter p rows ≡ r ∷ later → f r ≡ Some x → find q (filter_map f rows) ≡ Some x
   first_read [] r later x one is = absurd (let z = one in cc)
   first_read (y ∷ rows) r later x one is = by (p y) refl one (first_read rows r later x)
     where
-      by : (b : Bool) → p y ≡ b → cond b (y ∷ filter p rows) (filter p rows) ≡ r ∷ later → (filter p rows ≡ r ∷ later → f r ≡ Some x → find q (filter_map f rows) ≡ Some x) → find q (filter_map f (y ∷ rows)) ≡ Some x
+      by : (b : Bool) → p y ≡ b → cond b (y ∷ filter p rows) (filter p rows) ≡ r ∷ later
+          → (filter p rows ≡ r ∷ later → f r ≡ Some x → find q (filter_map f rows) ≡ Some x)
+          → find q (filter_map f (y ∷ rows)) ≡ Some x
       by true passes e more =
           let it : y ≡ r = cc in
           let here : f y ≡ Some x = ap f it ∙ is in
-          ap (λ o. find q (cons_option o (filter_map f rows))) here ∙ find_yes q x (filter_map f rows) (same y x here ∙ passes)
+          ap (λ o. find q (cons_option o (filter_map f rows))) here
+          ∙ find_yes q x (filter_map f rows) (same y x here ∙ passes)
       by false fails e more = skip_step y (filter_map f rows) x (f y) refl fails (more e is)
 
-  read_step : (r : Row) (o : Option X) (b : Bool) (kept rest : List X) → f r ≡ o → p r ≡ b → filter q rest ≡ kept → filter q (cons_option o rest) ≡ filter_map_step o b kept
+  read_step : (r : Row) (o : Option X) (b : Bool) (kept rest : List X) → f r ≡ o → p r ≡ b
+      → filter q rest ≡ kept → filter q (cons_option o rest) ≡ filter_map_step o b kept
   read_step r None true kept rest is has more = more
   read_step r None false kept rest is has more = more
-  read_step r (Some x) true kept rest is has more = cond-true _ _ _ (same r x is ∙ has) ∙ ap (λ l. x ∷ l) more
+  read_step r (Some x) true kept rest is has more =
+      cond-true _ _ _ (same r x is ∙ has) ∙ ap (λ l. x ∷ l) more
   read_step r (Some x) false kept rest is has more = cond-false _ _ _ (same r x is ∙ has) ∙ more
 
   -- to be read and to pass can change places
   pub filter_read : (rows : List Row) → filter q (filter_map f rows) ≡ filter_map f (filter p rows)
   filter_read [] = refl
-  filter_read (r ∷ rows) = read_step r (f r) (p r) _ (filter_map f rows) refl refl (filter_read rows) ∙ by (p r)
+  filter_read (r ∷ rows) =
+      read_step r (f r) (p r) _ (filter_map f rows) refl refl (filter_read rows) ∙ by (p r)
     where
-      by : (b : Bool) → filter_map_step (f r) b (filter_map f (filter p rows)) ≡ filter_map f (cond b (r ∷ filter p rows) (filter p rows))
+      by : (b : Bool) → filter_map_step (f r) b (filter_map f (filter p rows))
+          ≡ filter_map f (cond b (r ∷ filter p rows) (filter p rows))
       by true = refl
       by false = refl
 
@@ -99,18 +113,27 @@ at_least_by false true e = refl
 at_least_by false false e = refl
 
 pub at_least_one : (k : ℕ) → 0 < k → not (is_lt (value_cmp (Int (pos k)) (Int (pos 1)))) ≡ true
-at_least_one k low = ap (λ o. not (is_lt o)) (value_cmp-Int (pos k) (pos 1)) ∙ at_least_by (nat_lt k 1) (nat_lt 1 k) (le-ltb k 1 (omega (arith, low)))
+at_least_one k low =
+    ap (λ o. not (is_lt o)) (value_cmp-Int (pos k) (pos 1))
+    ∙ at_least_by (nat_lt k 1) (nat_lt 1 k) (le-ltb k 1 (omega (arith, low)))
 
-pub mapped : (o : Option ℕ) (p : Option ℕ) → option_map Some o ≡ Some p → (id : ℕ) × (o ≡ Some id) × (p ≡ Some id)
+pub mapped : (o : Option ℕ) (p : Option ℕ) → option_map Some o ≡ Some p → (id : ℕ) × (o ≡ Some id)
+    × (p ≡ Some id)
 mapped None p is = absurd (let e = is in cc)
 mapped (Some id) p is = (id, refl, let e = is in cc)
 
-number_agrees : (parent : ℕ) (z : ℤ) (p : Option ℕ) → (id : ℕ) × (number_in (Int z) ≡ Some id) × (p ≡ Some id) → option_map_or (λ id. id == parent) p false ≡ is_eq (value_cmp (Int z) (Int (pos parent)))
+number_agrees : (parent : ℕ) (z : ℤ) (p : Option ℕ) → (id : ℕ) × (number_in (Int z) ≡ Some id)
+    × (p ≡ Some id) → option_map_or (λ id. id == parent) p false
+    ≡ is_eq (value_cmp (Int z) (Int (pos parent)))
 number_agrees parent z p (id, number, is) =
-    ap (λ o. option_map_or (λ id. id == parent) o false) is ∙ sym (same_number id parent) ∙ ap (λ v. is_eq (value_cmp v (Int (pos parent)))) (sym (number_is (Int z) id number).0)
+    ap (λ o. option_map_or (λ id. id == parent) o false) is ∙ sym (same_number id parent)
+    ∙ ap (λ v. is_eq (value_cmp v (Int (pos parent)))) (sym (number_is (Int z) id number).0)
 
-pub parent_agrees : (parent : ℕ) (v : Value) (p : Option ℕ) → parent_in v ≡ Some p → option_map_or (λ id. id == parent) p false ≡ is_eq (value_cmp v (Int (pos parent)))
-parent_agrees parent Null p is = ap (λ o. option_map_or (λ id. id == parent) o false) (let same : p ≡ None = cc in same) ∙ sym (ap is_eq (value_cmp-Null (Int (pos parent))))
+pub parent_agrees : (parent : ℕ) (v : Value) (p : Option ℕ) → parent_in v ≡ Some p
+    → option_map_or (λ id. id == parent) p false ≡ is_eq (value_cmp v (Int (pos parent)))
+parent_agrees parent Null p is =
+    ap (λ o. option_map_or (λ id. id == parent) o false) (let same : p ≡ None = cc in same)
+    ∙ sym (ap is_eq (value_cmp-Null (Int (pos parent))))
 parent_agrees parent (Int z) p is = number_agrees parent z p (mapped (number_in (Int z)) p is)
 parent_agrees parent (Real x) p is = absurd (let e = is in cc)
 parent_agrees parent (Text t) p is = absurd (let e = is in cc)
@@ -120,44 +143,69 @@ pub utf8_is : (s t : List ℕ) (b : Bool) → (if b then Some s else None) ≡ S
 utf8_is s t true is = let e = is in cc
 utf8_is s t false is = absurd (let e = is in cc)
 
-text_agrees : (name : List ℕ) (v : Value) (t : List ℕ) → text_in v ≡ Some t → same_text t name ≡ is_eq (value_cmp v (Text name))
-text_agrees name (Text s) t is = sym (ap is_eq (value_cmp-Text s name) ∙ is_eq-slice_cmp s name ∙ ap (λ x. same_text x name) (utf8_is s t (is_utf8 s) is))
+text_agrees : (name : List ℕ) (v : Value) (t : List ℕ) → text_in v ≡ Some t
+    → same_text t name ≡ is_eq (value_cmp v (Text name))
+text_agrees name (Text s) t is =
+    sym (ap is_eq (value_cmp-Text s name) ∙ is_eq-slice_cmp s name
+    ∙ ap (λ x. same_text x name) (utf8_is s t (is_utf8 s) is))
 text_agrees name Null t is = absurd (let e = is in cc)
 text_agrees name (Int z) t is = absurd (let e = is in cc)
 text_agrees name (Real x) t is = absurd (let e = is in cc)
 text_agrees name (Blob b) t is = absurd (let e = is in cc)
 
-child_agrees : (parent : ℕ) (name : List ℕ) (r : Row) (n : Node) → node_in (shown_node r) ≡ Some n → (has_parent parent n && same_text n.name name) ≡ is_child_named (pos parent) name r
+child_agrees : (parent : ℕ) (name : List ℕ) (r : Row) (n : Node) → node_in (shown_node r) ≡ Some n
+    → (has_parent parent n && same_text n.name name) ≡ is_child_named (pos parent) name r
 child_agrees parent name r n is =
     let parts = node_parts (shown_node r) n is in
     let number = number_is (rowid r) n.id parts.number in
     ap (λ b. b && same_text n.name name) (parent_agrees parent (column r 2) n.parent parts.parent)
-    ∙ ap (λ b. is_eq (value_cmp (column r 2) (Int (pos parent))) && b) (text_agrees name (column r 3) n.name parts.name)
-    ∙ ap (λ b. is_eq (value_cmp (column r 2) (Int (pos parent))) && b) (sym (ap (λ b. is_eq (value_cmp (column r 3) (Text name)) && b) (ap (λ v. not (is_lt (value_cmp v (Int (pos 1))))) number.0 ∙ at_least_one n.id number.1) ∙ and_true _))
+    ∙ ap (λ b. is_eq (value_cmp (column r 2) (Int (pos parent))) && b)
+    (text_agrees name (column r 3) n.name parts.name)
+    ∙ ap (λ b. is_eq (value_cmp (column r 2) (Int (pos parent))) && b)
+    (sym (ap (λ b. is_eq (value_cmp (column r 3) (Text name)) && b)
+    (ap (λ v. not (is_lt (value_cmp v (Int (pos 1))))) number.0 ∙ at_least_one n.id number.1)
+    ∙ and_true _))
 
 -- a row that is there and isn't read as an object is one that can't be read
-pub unread_row : (db : Database) → IsRoom db → (r : Row) (id : ℕ) → Has (db.trees 0) r → node_in (shown_node r) ≡ None → number_in (rowid r) ≡ Some id → IsUnreadable (rows_of db) id
+pub unread_row : (db : Database) → IsRoom db → (r : Row) (id : ℕ) → Has (db.trees 0) r
+    → node_in (shown_node r) ≡ None → number_in (rowid r) ≡ Some id → IsUnreadable (rows_of db) id
 unread_row db room r id there seen number =
-    unread_at_row db id room.nodes.0 ∙ ap (λ o. is_some (option_and_then (λ r. unread_in (shown_node r)) o)) (row_found (db.trees 0) r id room.nodes.0 there (number_is (rowid r) id number).0)
+    unread_at_row db id room.nodes.0
+    ∙ ap (λ o. is_some (option_and_then (λ r. unread_in (shown_node r)) o))
+    (row_found (db.trees 0) r id room.nodes.0 there (number_is (rowid r) id number).0)
     ∙ ap (λ o. is_some (if is_none o then number_in (rowid r) else None)) seen ∙ ap is_some number
 
 module _ (db : Database) (room : IsRoom db) (parent : ℕ) (name : List ℕ) where
   abbrev test : Row → Bool
   test = is_child_named (pos parent) name
 
-  abbrev told : Result (Option Node) Rattle.room_rows.specs.declared.keep.KeepFault.KeepFault → Type 0
+  abbrev told : Result (Option Node) Rattle.room_rows.specs.declared.keep.KeepFault.KeepFault
+      → Type 0
   told = Tells IsUnreadable (IsChildOf parent name) (rows_of db)
 
-  something : (r : Row) → filter test (db.trees 0) ≡ r ∷ [] → (o : Option Node) → node_in (shown_node r) ≡ o → (m : Option ℕ) → number_in (rowid r) ≡ m → told (result_of_seen (seen_as (option_map Some o) m))
-  something r one (Some n) seen m number = sym (first_read (λ r. node_in (shown_node r)) (λ (n : Node). has_parent parent n && same_text n.name name) test (child_agrees parent name) (db.trees 0) r [] n one seen)
+  something : (r : Row) → filter test (db.trees 0) ≡ r ∷ [] → (o : Option Node)
+      → node_in (shown_node r) ≡ o → (m : Option ℕ) → number_in (rowid r) ≡ m
+      → told (result_of_seen (seen_as (option_map Some o) m))
+  something r one (Some n) seen m number =
+      sym (first_read (λ r. node_in (shown_node r))
+      (λ (n : Node). has_parent parent n && same_text n.name name) test (child_agrees parent name)
+      (db.trees 0) r [] n one seen)
   something r one None seen None number = tt
-  something r one None seen (Some id) number = unread_row db room r id (has_found test (db.trees 0) r (only_one test (db.trees 0) r one).0) seen number
+  something r one None seen (Some id) number =
+      unread_row db room r id
+      (has_found test (db.trees 0) r (only_one test (db.trees 0) r one).0) seen number
 
   -- what the rows that were found by their parent and their name answer
-  pub tells_child : (rows : List Row) → IsPermutation (map shown_node (filter test (db.trees 0))) rows → told (result_of_seen (seen_only rows))
-  tells_child [] perm = sym (none_read (λ r. node_in (shown_node r)) (λ (n : Node). has_parent parent n && same_text n.name name) test (child_agrees parent name) (db.trees 0) (no_map shown_node _ (alone_in _ (IsPermutation-sym _ [] perm))))
+  pub tells_child : (rows : List Row)
+      → IsPermutation (map shown_node (filter test (db.trees 0))) rows
+      → told (result_of_seen (seen_only rows))
+  tells_child [] perm =
+      sym (none_read (λ r. node_in (shown_node r))
+      (λ (n : Node). has_parent parent n && same_text n.name name) test (child_agrees parent name)
+      (db.trees 0) (no_map shown_node _ (alone_in _ (IsPermutation-sym _ [] perm))))
   tells_child (x ∷ []) perm =
       let shown = one_permutation x _ (IsPermutation-sym _ (x ∷ []) perm) in
       let one = one_of_map shown_node (filter test (db.trees 0)) x shown in
-      subst (λ y. told (result_of_seen (seen_only (y ∷ [])))) one.2 (something one.0 one.1 (node_in (shown_node one.0)) refl (number_in (rowid one.0)) refl)
+      subst (λ y. told (result_of_seen (seen_only (y ∷ [])))) one.2
+      (something one.0 one.1 (node_in (shown_node one.0)) refl (number_in (rowid one.0)) refl)
   tells_child (x ∷ y ∷ more) perm = tt

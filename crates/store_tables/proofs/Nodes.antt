@@ -20,24 +20,29 @@ use Rattle.store_tables.specs.Seeing.{result_of_seen, seen_only, seen_as, counte
 use Rattle.store_tables.proofs.Rowids.{alone_in, at_most_one, only_one, has_found, rowid_is, of_each}
 
 -- an answer, or a row that is blamed
-abbrev pub Tells : {X : Type 0} → (Rows → ℕ → Type 0) → (Rows → X → Type 0) → Rows → Result X KeepFault → Type 0
+abbrev pub Tells : {X : Type 0} → (Rows → ℕ → Type 0) → (Rows → X → Type 0) → Rows
+    → Result X KeepFault → Type 0
 Tells Blames Answers rows (Ok x) = Answers rows x
 Tells Blames Answers rows (Err Memory) = Unit {0}
 Tells Blames Answers rows (Err Store) = Unit {0}
 Tells Blames Answers rows (Err (Damaged at)) = Blames rows at
 
-pub told_answers : {X : Type 0} (Blames : Rows → ℕ → Type 0) (Answers : Rows → X → Type 0) (rows : Rows) (r : Result X KeepFault) → Tells Blames Answers rows r → IfOk r (Answers rows)
+pub told_answers : {X : Type 0} (Blames : Rows → ℕ → Type 0) (Answers : Rows → X → Type 0)
+    (rows : Rows) (r : Result X KeepFault) → Tells Blames Answers rows r → IfOk r (Answers rows)
 told_answers Blames Answers rows (Ok x) t = t
 told_answers Blames Answers rows (Err e) t = tt
 
-pub told_cause : {X Trusted : Type 0} (Blames : Rows → ℕ → Type 0) (Answers : Rows → X → Type 0) (rows : Rows) (r : Result X KeepFault) (before after : ℕ) → counted_by r before after
-    → (Trusted → Tells Blames Answers rows r) → IfErr r (HasCause before after (λ at. Trusted → Blames rows at))
+pub told_cause : {X Trusted : Type 0} (Blames : Rows → ℕ → Type 0) (Answers : Rows → X → Type 0)
+    (rows : Rows) (r : Result X KeepFault) (before after : ℕ) → counted_by r before after
+    → (Trusted → Tells Blames Answers rows r)
+    → IfErr r (HasCause before after (λ at. Trusted → Blames rows at))
 told_cause Blames Answers rows (Ok x) before after counted t = tt
 told_cause Blames Answers rows (Err Memory) before after counted t = tt
 told_cause Blames Answers rows (Err Store) before after counted t = counted
 told_cause Blames Answers rows (Err (Damaged at)) before after counted t = t
 
-pub told_unfailed : {X : Type 0} (r : Result X KeepFault) (before after : ℕ) → counted_by r before after → IfOk r (λ _. after ≡ before)
+pub told_unfailed : {X : Type 0} (r : Result X KeepFault) (before after : ℕ)
+    → counted_by r before after → IfOk r (λ _. after ≡ before)
 told_unfailed (Ok x) before after counted = counted
 told_unfailed (Err e) before after counted = tt
 
@@ -51,36 +56,62 @@ pub none_passes : {A : Type 0} (p : A → Bool) (xs : List A) → filter p xs �
 none_passes p [] none = refl
 none_passes p (x ∷ xs) none = by (p x) none (none_passes p xs)
   where
-    by : (b : Bool) → cond b (x ∷ filter p xs) (filter p xs) ≡ [] → (filter p xs ≡ [] → find p xs ≡ None) → cond b (Some x) (find p xs) ≡ None
+    by : (b : Bool) → cond b (x ∷ filter p xs) (filter p xs) ≡ []
+        → (filter p xs ≡ [] → find p xs ≡ None) → cond b (Some x) (find p xs) ≡ None
     by true e more = absurd (let z = e in cc)
     by false e more = more e
 
 module _ (db : Database) (room : IsRoom db) (id : ℕ) (low : 0 < id) where
   nothing : find (has_rowid (pos id)) (db.trees 0) ≡ None → IsNodeAt id (rows_of db) None
-  nothing none =
-      (sym (node_at_row db id room.nodes.0 ∙ ap (option_and_then (λ r. node_in (shown_node r))) none), unread_at_row db id room.nodes.0 ∙ ap (λ o. is_some (option_and_then (λ r. unread_in (shown_node r)) o)) none)
+  nothing none = (
+    sym (node_at_row db id room.nodes.0
+        ∙ ap (option_and_then (λ r. node_in (shown_node r))) none),
+    unread_at_row db id room.nodes.0
+        ∙ ap (λ o. is_some (option_and_then (λ r. unread_in (shown_node r)) o)) none,
+  )
 
-  something : (r : Row) → find (has_rowid (pos id)) (db.trees 0) ≡ Some r → rowid r ≡ Int (pos id) → (o : Option Node) → node_in (shown_node r) ≡ o
-      → Tells (IsUnreadableAt id) (IsNodeAt id) (rows_of db) (result_of_seen (seen_as (option_map Some o) (number_in (rowid r))))
+  something : (r : Row) → find (has_rowid (pos id)) (db.trees 0) ≡ Some r → rowid r ≡ Int (pos id)
+      → (o : Option Node) → node_in (shown_node r) ≡ o
+      → Tells (IsUnreadableAt id) (IsNodeAt id) (rows_of db)
+      (result_of_seen (seen_as (option_map Some o) (number_in (rowid r))))
   something r found is (Some n) seen = (
-    sym (node_at_row db id room.nodes.0 ∙ ap (option_and_then (λ r. node_in (shown_node r))) found ∙ seen),
-    unread_at_row db id room.nodes.0 ∙ ap (λ o. is_some (option_and_then (λ r. unread_in (shown_node r)) o)) found ∙ ap (λ o. is_some (if is_none o then number_in (rowid r) else None)) seen,
+    sym (node_at_row db id room.nodes.0 ∙ ap (option_and_then (λ r. node_in (shown_node r))) found
+        ∙ seen),
+    unread_at_row db id room.nodes.0
+        ∙ ap (λ o. is_some (option_and_then (λ r. unread_in (shown_node r)) o)) found
+        ∙ ap (λ o. is_some (if is_none o then number_in (rowid r) else None)) seen,
   )
   something r found is None seen =
       let number : number_in (rowid r) ≡ Some id = ap number_in is ∙ number_in-low id low in
-      let bad = unread_at_row db id room.nodes.0 ∙ ap (λ o. is_some (option_and_then (λ r. unread_in (shown_node r)) o)) found ∙ ap (λ o. is_some (if is_none o then number_in (rowid r) else None)) seen ∙ ap is_some number in
-      subst (λ o. Tells (IsUnreadableAt id) (IsNodeAt id) (rows_of db) (result_of_seen (seen_as None o))) (sym number) (refl, bad)
+      let bad = unread_at_row db id room.nodes.0
+      ∙ ap (λ o. is_some (option_and_then (λ r. unread_in (shown_node r)) o)) found
+      ∙ ap (λ o. is_some (if is_none o then number_in (rowid r) else None)) seen
+      ∙ ap is_some number in
+      subst (λ o. Tells (IsUnreadableAt id) (IsNodeAt id) (rows_of db)
+      (result_of_seen (seen_as None o))) (sym number) (refl, bad)
 
   -- what the rows that were found by this number answer
-  pub tells_node : (rows : List Row) → IsPermutation (map shown_node (filter (has_rowid (pos id)) (db.trees 0))) rows → Tells (IsUnreadableAt id) (IsNodeAt id) (rows_of db) (result_of_seen (seen_only rows))
+  pub tells_node : (rows : List Row)
+      → IsPermutation (map shown_node (filter (has_rowid (pos id)) (db.trees 0))) rows
+      → Tells (IsUnreadableAt id) (IsNodeAt id) (rows_of db) (result_of_seen (seen_only rows))
   tells_node rows perm = by (at_most_one (pos id) (db.trees 0) room.nodes.0)
     where
-      by : ((filter (has_rowid (pos id)) (db.trees 0) ≡ []) ⊎ ((r : Row) × (filter (has_rowid (pos id)) (db.trees 0) ≡ r ∷ []))) → Tells (IsUnreadableAt id) (IsNodeAt id) (rows_of db) (result_of_seen (seen_only rows))
+      by : ((filter (has_rowid (pos id)) (db.trees 0) ≡ [])
+          ⊎ ((r : Row) × (filter (has_rowid (pos id)) (db.trees 0) ≡ r ∷ [])))
+          → Tells (IsUnreadableAt id) (IsNodeAt id) (rows_of db) (result_of_seen (seen_only rows))
       by (inl none) =
-          let empty = alone_in rows (subst (λ l. IsPermutation (map shown_node l) rows) none perm) in
-          subst (λ l. Tells (IsUnreadableAt id) (IsNodeAt id) (rows_of db) (result_of_seen (seen_only l))) (sym empty) (nothing (none_passes (has_rowid (pos id)) (db.trees 0) none))
+          let empty = alone_in rows
+          (subst (λ l. IsPermutation (map shown_node l) rows) none perm) in
+          subst (λ l. Tells (IsUnreadableAt id) (IsNodeAt id) (rows_of db)
+          (result_of_seen (seen_only l))) (sym empty)
+          (nothing (none_passes (has_rowid (pos id)) (db.trees 0) none))
       by (inr (r, one)) =
           let there = only_one (has_rowid (pos id)) (db.trees 0) r one in
-          let is = rowid_is (pos id) r (of_each _ (db.trees 0) room.nodes.1 r (has_found (has_rowid (pos id)) (db.trees 0) r there.0)) there.1 in
-          let alone = one_permutation (shown_node r) rows (subst (λ l. IsPermutation (map shown_node l) rows) one perm) in
-          subst (λ l. Tells (IsUnreadableAt id) (IsNodeAt id) (rows_of db) (result_of_seen (seen_only l))) (sym alone) (something r there.0 is (node_in (shown_node r)) refl)
+          let is = rowid_is (pos id) r
+          (of_each _ (db.trees 0) room.nodes.1 r
+          (has_found (has_rowid (pos id)) (db.trees 0) r there.0)) there.1 in
+          let alone = one_permutation (shown_node r) rows
+          (subst (λ l. IsPermutation (map shown_node l) rows) one perm) in
+          subst (λ l. Tells (IsUnreadableAt id) (IsNodeAt id) (rows_of db)
+          (result_of_seen (seen_only l))) (sym alone)
+          (something r there.0 is (node_in (shown_node r)) refl)

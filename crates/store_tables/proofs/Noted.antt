@@ -53,31 +53,48 @@ next top r = id_in (rowid r) +ℤ pos 1
 abbrev HaveNumbers : List Row → Type 0
 HaveNumbers rows = AllByRecursion (λ r. IsTrue (is_int (rowid r))) rows
 
-below_next : (x : Row) (rows : List Row) → IsTable (x ∷ rows) → HaveNumbers (x ∷ rows) → AllByRecursion (λ r. id_in (rowid r) <ℤ fold next (next (pos 1) x) rows) (x ∷ rows)
+below_next : (x : Row) (rows : List Row) → IsTable (x ∷ rows) → HaveNumbers (x ∷ rows)
+    → AllByRecursion (λ r. id_in (rowid r) <ℤ fold next (next (pos 1) x) rows) (x ∷ rows)
 below_next x [] up keyed = (omega (arith, ints), tt)
 below_next x (y ∷ rows) up keyed =
     let later = below_next y rows up.1 keyed.1 in
-    let lower = rw (int_is (rowid x) keyed.0, int_is (rowid y) keyed.1.0, value_cmp-Int (id_in (rowid x)) (id_in (rowid y))) at up.0.0 in
+    let lower =
+    rw (
+      int_is (rowid x) keyed.0,
+      int_is (rowid y) keyed.1.0,
+      value_cmp-Int (id_in (rowid x)) (id_in (rowid y)),
+    ) at up.0.0 in
     let first = later.0 in
     (lower_than (id_in (rowid x)) (id_in (rowid y)) _ lower first, later)
 
 still_below : (last a b : ℤ) → a <ℤ b → a <ℤ at_least (Above last) b
 still_below last a b h = grind (arith, ints, nat_tests)
 
-each_before : (last top : ℤ) (rows : List Row) → HaveNumbers rows → AllByRecursion (λ r. id_in (rowid r) <ℤ top) rows → AllByRecursion (λ r. value_cmp (rowid r) (Int (at_least (Above last) top)) ≡ Less) rows
+each_before : (last top : ℤ) (rows : List Row) → HaveNumbers rows
+    → AllByRecursion (λ r. id_in (rowid r) <ℤ top) rows
+    → AllByRecursion (λ r. value_cmp (rowid r) (Int (at_least (Above last) top)) ≡ Less) rows
 each_before last top [] keyed low = tt
 each_before last top (r ∷ rows) keyed low = (
-  ap (λ v. value_cmp v (Int (at_least (Above last) top))) (int_is (rowid r) keyed.0) ∙ below (id_in (rowid r)) (at_least (Above last) top) (still_below last (id_in (rowid r)) top low.0),
+  ap (λ v. value_cmp v (Int (at_least (Above last) top))) (int_is (rowid r) keyed.0)
+      ∙ below (id_in (rowid r)) (at_least (Above last) top)
+      (still_below last (id_in (rowid r)) top low.0),
   each_before last top rows keyed.1 low.1,
 )
 
-all_before : (last : ℤ) (rows : List Row) → IsTable rows → HaveNumbers rows → AllByRecursion (λ r. value_cmp (rowid r) (Int (at_least (Above last) (next_rowid rows))) ≡ Less) rows
+all_before : (last : ℤ) (rows : List Row) → IsTable rows → HaveNumbers rows
+    → AllByRecursion (λ r. value_cmp (rowid r) (Int (at_least (Above last) (next_rowid rows)))
+    ≡ Less) rows
 all_before last [] up keyed = tt
-all_before last (x ∷ rows) up keyed = each_before last (next_rowid (x ∷ rows)) (x ∷ rows) keyed (below_next x rows up keyed)
+all_before last (x ∷ rows) up keyed =
+    each_before last (next_rowid (x ∷ rows)) (x ∷ rows) keyed (below_next x rows up keyed)
 
-put_last : (new : Row) (rows : List Row) → AllByRecursion (λ r. value_cmp (rowid r) (rowid new) ≡ Less) rows → put_row new rows ≡ rows ++ new ∷ []
+put_last : (new : Row) (rows : List Row)
+    → AllByRecursion (λ r. value_cmp (rowid r) (rowid new) ≡ Less) rows
+    → put_row new rows ≡ rows ++ new ∷ []
 put_last new [] all = refl
-put_last new (r ∷ rows) all = ap (λ o. match_ordering o (r ∷ put_row new rows) (new ∷ rows) (new ∷ r ∷ rows)) all.0 ∙ ap (λ l. r ∷ l) (put_last new rows all.1)
+put_last new (r ∷ rows) all =
+    ap (λ o. match_ordering o (r ∷ put_row new rows) (new ∷ rows) (new ∷ r ∷ rows)) all.0
+    ∙ ap (λ l. r ∷ l) (put_last new rows all.1)
 
 -- ---- the two edits
 
@@ -90,8 +107,16 @@ counters_table = record counters { tree = 8 }
 abbrev note_edit : Trees → ℤ → List Row → Edit
 note_edit db last rows = edit_of db audits_table [] (Above last) 0 rows
 
-cast_record : (r : Record) → cast_row audits_table (Null ∷ Null ∷ record_values r) ≡ Null ∷ Null ∷ record_values r
-cast_record r = rw (cast_null, cast_int r.at, cast_int (pos r.bits), cast_int (if r.granted then pos 1 else pos 0), cast_int r.entry) refl
+cast_record : (r : Record)
+    → cast_row audits_table (Null ∷ Null ∷ record_values r) ≡ Null ∷ Null ∷ record_values r
+cast_record r =
+    rw (
+      cast_null,
+      cast_int r.at,
+      cast_int (pos r.bits),
+      cast_int (if r.granted then pos 1 else pos 0),
+      cast_int r.entry,
+    ) refl
 
 -- nothing refers to records, nor to their count
 record_off : (r : Row) → works room_schema Enforced 0 7 [] (r ∷ []) ≡ []
@@ -109,13 +134,18 @@ record Same (db now : Trees) : Type 0 where
   pub meta : now 5 ≡ db 5
   pub audits : now 7 ≡ db 7
 
-counted_edit : (db now : Trees) (top : ℤ) (counter : Option Row) → Edited room_schema Enforced db (counting db audits_table counters_table top counter) (Ok now) → Same db now
+counted_edit : (db now : Trees) (top : ℤ) (counter : Option Row)
+    → Edited room_schema Enforced db (counting db audits_table counters_table top counter) (Ok now)
+    → Same db now
 counted_edit db now top counter did = by counter did
   where
-    left : (gone : List ℤ) (new : Row) → Edited room_schema Enforced db (record { table = counters_table; gone = gone; news = new ∷ [] }) (Ok now) → Same db now
+    left : (gone : List ℤ) (new : Row)
+        → Edited room_schema Enforced db
+        (record { table = counters_table; gone = gone; news = new ∷ [] }) (Ok now) → Same db now
     left gone new did =
         let edit : Edit = record { table = counters_table; gone = gone; news = new ∷ [] } in
-        let applies = one_step room_schema Enforced db now edit (count_off (taken_by db edit) new) did in
+        let applies = one_step room_schema Enforced db now edit
+        (count_off (taken_by db edit) new) did in
         record {
           nodes = applies.tables.0 (λ e. let e' : 0 ≡ 8 = e in omega (arith, e'));
           bodies = applies.tables.1.0 (λ e. let e' : 2 ≡ 8 = e in omega (arith, e'));
@@ -124,26 +154,48 @@ counted_edit db now top counter did = by counter did
           audits = applies.tables.1.1.1.1.0 (λ e. let e' : 7 ≡ 8 = e in omega (arith, e'));
         }
 
-    by : (counter : Option Row) → Edited room_schema Enforced db (counting db audits_table counters_table top counter) (Ok now) → Same db now
+    by : (counter : Option Row)
+        → Edited room_schema Enforced db (counting db audits_table counters_table top counter)
+        (Ok now) → Same db now
     by None did = left _ _ did
     by (Some r) did = left _ _ did
 
 abbrev note_task : Option ℕ → Row → Task
-note_task limit params = record { limit = limit; keys = Enforced; schema = room_schema; table = audits_table; params = params }
+note_task limit params =
+    record {
+      limit = limit;
+      keys = Enforced;
+      schema = room_schema;
+      table = audits_table;
+      params = params;
+    }
 
 counters_are : sequence room_schema ≡ Some counters_table
 unfolding everything
 counters_are = refl
 
 -- the count, which may follow the new number, is of no table that is read
-counts_keep : (limit : Option ℕ) (params : Row) (db now : Trees) (counter : Option Row) (top : ℤ) → Counts (note_task limit params) db counter top (Ok now) → Same db now
-counts_keep limit params db now counter top counts = by (is_lt (int_cmp (count_of counter) top)) counts
+counts_keep : (limit : Option ℕ) (params : Row) (db now : Trees) (counter : Option Row) (top : ℤ)
+    → Counts (note_task limit params) db counter top (Ok now) → Same db now
+counts_keep limit params db now counter top counts =
+    by (is_lt (int_cmp (count_of counter) top)) counts
   where
-    by : (b : Bool) → MatchBool b (CountsIn (note_task limit params) db counter top (sequence room_schema) (Ok now)) (Gives db (Ok now)) → Same db now
-    by true did = counted_edit db now top counter (subst (λ t. CountsIn (note_task limit params) db counter top t (Ok now)) counters_are did)
+    by : (b : Bool)
+        → MatchBool b (CountsIn (note_task limit params) db counter top (sequence room_schema)
+        (Ok now)) (Gives db (Ok now)) → Same db now
+    by true did =
+        counted_edit db now top counter
+        (subst (λ t. CountsIn (note_task limit params) db counter top t (Ok now)) counters_are did)
     by false is =
         let same : now ≡ db = same_value is in
-        record { nodes = ap (λ (t : Trees). t 0) same; bodies = ap (λ (t : Trees). t 2) same; members = ap (λ (t : Trees). t 3) same; meta = ap (λ (t : Trees). t 5) same; audits = ap (λ (t : Trees). t 7) same }
+        record {
+          nodes = ap (λ (t : Trees). t 0) same;
+          bodies = ap (λ (t : Trees). t 2) same;
+          members = ap (λ (t : Trees). t 3) same;
+          meta = ap (λ (t : Trees). t 5) same;
+          audits =
+              ap (λ (t : Trees). t 7) same;
+        }
 
 abbrev note_terms : List Term
 note_terms = lit Null ∷ lit Null ∷ col 0 0 ∷ col 0 1 ∷ col 0 2 ∷ col 0 3 ∷ col 0 4 ∷ col 0 5 ∷ []
@@ -157,17 +209,23 @@ pub record Noted (r : Record) (old new : State) : Type 0 where
   pub members : new.now.trees 3 ≡ old.now.trees 3
   pub meta : new.now.trees 5 ≡ old.now.trees 5
   pub audits : new.now.trees 7 ≡ put_row (stored_record seq (record_values r)) (old.now.trees 7)
-  pub last : IsRoom old.now → AllByRecursion (λ x. value_cmp (rowid x) (Int seq) ≡ Less) (old.now.trees 7)
-  pub shown : Shows old new new.now (if old.in_transaction then old.committed else new.now) old.in_transaction
+  pub last : IsRoom old.now
+      → AllByRecursion (λ x. value_cmp (rowid x) (Int seq) ≡ Less) (old.now.trees 7)
+  pub shown : Shows old new new.now
+      (if old.in_transaction then old.committed else new.now) old.in_transaction
 
-pub noted : (r : Record) (old new : State) (count : ℕ) → old.now.schema ≡ room_schema → Executes note_text (record_values r) old new (Ok count) → Noted r old new
+pub noted : (r : Record) (old new : State) (count : ℕ) → old.now.schema ≡ room_schema
+    → Executes note_text (record_values r) old new (Ok count) → Noted r old new
 noted r old new count has h =
     let params = record_values r in
     let db = old.now.trees in
     let command = Insert 4 (Values note_terms 8) in
-    let w = runs_as note_text params old new room_schema has command note_is plain_texts.9 count h in
+    let w =
+    runs_as note_text params old new room_schema has command note_is plain_texts.9 count h in
     let text = statement_of note_text (understood room_schema note_text) in
-    let done = went (subst (λ s. Does old.step_limit (mode_of old) params (record old.now { schema = s }) text None command (Ok (w.tally, new.now))) has w.changed) in
+    let done = went
+    (subst (λ s. Does old.step_limit (mode_of old) params
+    (record old.now { schema = s }) text None command (Ok (w.tally, new.now))) has w.changed) in
     let concluded = same_value (went (went done.2).2).2 in
     let now = ap (λ (p : Tally × Database). p.1) concluded in
     let given = went done.1 in
@@ -180,25 +238,34 @@ noted r old new count has h =
     let trees : done.0.trees ≡ counted.0 = ap (λ (it : Written). it.trees) wrote in
     let source : given.0 ≡ (Null ∷ Null ∷ record_values r) ∷ [] = given.1.1 in
     let news : (note_edit db last given.0).news ≡ stored_record seq (record_values r) ∷ [] =
-    ap (λ l. (note_edit db last l).news) source ∙ ap (λ x. numbered (Above last) (db 7) (x ∷ [])) (cast_record r) in
-    let none = ap (works room_schema Enforced 0 7 []) news ∙ record_off (stored_record seq (record_values r)) in
-    let applies = one_step room_schema Enforced db written.0 (note_edit db last given.0) none written.1 in
+    ap (λ l. (note_edit db last l).news) source
+    ∙ ap (λ x. numbered (Above last) (db 7) (x ∷ [])) (cast_record r) in
+    let none = ap (works room_schema Enforced 0 7 []) news
+    ∙ record_off (stored_record seq (record_values r)) in
+    let applies = one_step room_schema Enforced db written.0
+    (note_edit db last given.0) none written.1 in
     let kept = counts_keep old.step_limit params written.0 counted.0 counter.0 _ counted.1 in
-    let at : (tree : ℕ) → new.now.trees tree ≡ counted.0 tree = λ tree. ap (λ (d : Database). d.trees tree) now ∙ ap (λ (t : Trees). t tree) trees in
+    let at : (tree : ℕ) → new.now.trees tree ≡ counted.0 tree = λ tree. ap
+    (λ (d : Database). d.trees tree) now ∙ ap (λ (t : Trees). t tree) trees in
     record {
       schema = ap (λ (d : Database). d.schema) now;
       sound = w.sound;
       seq = seq;
       nodes = at 0 ∙ kept.nodes ∙ applies.tables.0 (λ e. let e' : 0 ≡ 7 = e in omega (arith, e'));
-      bodies = at 2 ∙ kept.bodies ∙ applies.tables.1.0 (λ e. let e' : 2 ≡ 7 = e in omega (arith, e'));
-      members = at 3 ∙ kept.members ∙ applies.tables.1.1.0 (λ e. let e' : 3 ≡ 7 = e in omega (arith, e'));
-      meta = at 5 ∙ kept.meta ∙ applies.tables.1.1.1.0 (λ e. let e' : 5 ≡ 7 = e in omega (arith, e'));
+      bodies =
+          at 2 ∙ kept.bodies ∙ applies.tables.1.0 (λ e. let e' : 2 ≡ 7 = e in omega (arith, e'));
+      members =
+          at 3 ∙ kept.members ∙ applies.tables.1.1.0 (λ e. let e' : 3 ≡ 7 = e in omega (arith, e'));
+      meta =
+          at 5 ∙ kept.meta ∙ applies.tables.1.1.1.0 (λ e. let e' : 5 ≡ 7 = e in omega (arith, e'));
       audits = at 7 ∙ kept.audits ∙ applies.rows ∙ ap (put_all (db 7)) news;
       last = λ room. all_before last (db 7) room.audits.0 room.audits.1;
       shown = w.shown;
     }
 
-pub notes : (r : Record) (old new : State) (count : ℕ) → IsRoom old.now → Executes note_text (record_values r) old new (Ok count) → AddsRecordRow (record_values r) old.now.trees new.now.trees
+pub notes : (r : Record) (old new : State) (count : ℕ) → IsRoom old.now
+    → Executes note_text (record_values r) old new (Ok count)
+    → AddsRecordRow (record_values r) old.now.trees new.now.trees
 notes r old new count room h =
     let d = noted r old new count room.schema h in
     record {
@@ -207,10 +274,13 @@ notes r old new count room h =
       bodies = d.bodies;
       members = d.members;
       meta = d.meta;
-      audits = d.audits ∙ put_last (stored_record d.seq (record_values r)) (old.now.trees 7) (d.last room);
+      audits =
+          d.audits ∙ put_last (stored_record d.seq (record_values r)) (old.now.trees 7)
+          (d.last room);
     }
 
-pub note_room : (r : Record) (old new : State) → IsTrue old.in_transaction → (count : ℕ) → Executes note_text (record_values r) old new (Ok count) → IsRoom old.now → WritesRoom old new
+pub note_room : (r : Record) (old new : State) → IsTrue old.in_transaction → (count : ℕ)
+    → Executes note_text (record_values r) old new (Ok count) → IsRoom old.now → WritesRoom old new
 note_room r old new inside count h room =
     let d = noted r old new count room.schema h in (
       d.shown.committed_is ∙ ap (λ b. if b then old.committed else new.now) inside,
@@ -220,8 +290,11 @@ note_room r old new inside count h room =
         nodes = subst (IsShaped Shape.Table) (sym d.nodes) room.nodes;
         bodies = subst (IsShaped Shape.Table) (sym d.bodies) room.bodies;
         members = subst (IsShaped Shape.Table) (sym d.members) room.members;
-        audits = subst (IsShaped Shape.Table) (sym d.audits) (IsShaped-put_row (stored_record d.seq (record_values r)) _ refl room.audits);
+        audits =
+            subst (IsShaped Shape.Table) (sym d.audits)
+            (IsShaped-put_row (stored_record d.seq (record_values r)) _ refl room.audits);
       },
       d.shown.mode ∙ inside,
-      (let added = notes r old new count room h in record { meta = added.meta; more = _; audits = added.audits }),
+      (let added = notes r old new count room h in
+          record { meta = added.meta; more = _; audits = added.audits }),
     )

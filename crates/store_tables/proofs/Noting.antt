@@ -18,10 +18,14 @@ use Rattle.store_tables.proofs.Removed.{same_rows}
 
 -- ---- a record that is stored is read back
 
-pub mask_back : (n : ℕ) (mask : List ℕ) → bits_of n ≡ mask → number_of mask ≡ n → mask_in (Int (pos n)) ≡ Some mask
-mask_back n mask bits number = cond-true (nat_eq (number_of (bits_of n)) n) (Some (bits_of n)) None (eq-eqb (number_of (bits_of n)) n (ap number_of bits ∙ number)) ∙ ap Some bits
+pub mask_back : (n : ℕ) (mask : List ℕ) → bits_of n ≡ mask → number_of mask ≡ n
+    → mask_in (Int (pos n)) ≡ Some mask
+mask_back n mask bits number =
+    cond-true (nat_eq (number_of (bits_of n)) n) (Some (bits_of n)) None
+    (eq-eqb (number_of (bits_of n)) n (ap number_of bits ∙ number)) ∙ ap Some bits
 
-pub user_named : (text name : List ℕ) → name_in (Text text) ≡ Some name → user_in (Text text) ≡ Some (Some name)
+pub user_named : (text name : List ℕ) → name_in (Text text) ≡ Some name
+    → user_in (Text text) ≡ Some (Some name)
 unfolding is_name
 user_named [] name is = absurd (let e = is in cc)
 user_named (b ∷ text) name is = ap (option_map Some) is
@@ -30,11 +34,16 @@ granted_back : (b : Bool) → granted_in (Int (if b then pos 1 else pos 0)) ≡ 
 granted_back true = refl
 granted_back false = refl
 
-recalled : (seq : ℤ) (a : AuditRow) (r : Record) → Recalls a r → audit_in (stored_record seq (record_values r)) ≡ Some a
-recalled seq a r s = rw (granted_back r.granted, s.user, s.path, s.bits, s.entry, s.at, s.granted) refl
+recalled : (seq : ℤ) (a : AuditRow) (r : Record) → Recalls a r
+    → audit_in (stored_record seq (record_values r)) ≡ Some a
+recalled seq a r s =
+    rw (granted_back r.granted, s.user, s.path, s.bits, s.entry, s.at, s.granted) refl
 
-pub noted_rows : (db now : Database) (a : AuditRow) (r : Record) → Recalls a r → AddsRecordRow (record_values r) db.trees now.trees → HasNoted a db now
+pub noted_rows : (db now : Database) (a : AuditRow) (r : Record) → Recalls a r
+    → AddsRecordRow (record_values r) db.trees now.trees → HasNoted a db now
 noted_rows db now a r recalls put =
     let row = stored_record put.seq (record_values r) in
-    same_rows (ap nodes_of put.nodes) (ap unread_of put.nodes) (ap bodies_of put.bodies) (ap pairs_of put.members)
-    (ap (filter_map audit_in) put.audits ∙ filter_map-append audit_in (db.trees 7) (row ∷ []) ∙ ap (λ o. filter_map audit_in (db.trees 7) ++ cons_option o []) (recalled put.seq a r recalls))
+    same_rows (ap nodes_of put.nodes) (ap unread_of put.nodes) (ap bodies_of put.bodies)
+    (ap pairs_of put.members)
+    (ap (filter_map audit_in) put.audits ∙ filter_map-append audit_in (db.trees 7) (row ∷ [])
+    ∙ ap (λ o. filter_map audit_in (db.trees 7) ++ cons_option o []) (recalled put.seq a r recalls))

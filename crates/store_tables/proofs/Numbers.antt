@@ -26,14 +26,23 @@ AllPast id ids = AllByRecursion (λ k. id < k) ids
 
 -- ---- rows after a row have greater numbers
 
-module _ (f : Row → Option ℕ) (keyed : (r : Row) (k : ℕ) → f r ≡ Some k → rowid r ≡ Int (pos k)) (id : ℕ) (r : Row) (is : rowid r ≡ Int (pos id)) where
-  past_step : (b : Row) (rest : List ℕ) (o : Option ℕ) → f b ≡ o → value_cmp (rowid r) (rowid b) ≡ Less → AllPast id rest → AllPast id (cons_option o rest)
+module _ (f : Row → Option ℕ) (keyed : (r : Row) (k : ℕ) → f r ≡ Some k → rowid r ≡ Int (pos k))
+    (id : ℕ) (r : Row) (is : rowid r ≡ Int (pos id)) where
+  past_step : (b : Row) (rest : List ℕ) (o : Option ℕ) → f b ≡ o
+      → value_cmp (rowid r) (rowid b) ≡ Less → AllPast id rest → AllPast id (cons_option o rest)
   past_step b rest None at less all = all
-  past_step b rest (Some k) at less all = (below id k (sym (ap (λ v. value_cmp v (rowid b)) is ∙ ap (value_cmp (Int (pos id))) (keyed b k at)) ∙ less), all)
+  past_step b rest (Some k) at less all = (
+    below id k
+        (sym (ap (λ v. value_cmp v (rowid b)) is ∙ ap (value_cmp (Int (pos id))) (keyed b k at))
+        ∙ less),
+    all,
+  )
 
-  all_past : (rows : List Row) → AllByRecursion (λ b. value_cmp (rowid r) (rowid b) ≡ Less) rows → AllPast id (filter_map f rows)
+  all_past : (rows : List Row) → AllByRecursion (λ b. value_cmp (rowid r) (rowid b) ≡ Less) rows
+      → AllPast id (filter_map f rows)
   all_past [] later = tt
-  all_past (b ∷ rows) later = past_step b (filter_map f rows) (f b) refl later.0 (all_past rows later.1)
+  all_past (b ∷ rows) later =
+      past_step b (filter_map f rows) (f b) refl later.0 (all_past rows later.1)
 
 -- ---- merging
 
@@ -44,41 +53,67 @@ put_first id (k ∷ ids) all = let up = all.0 in cond-false _ _ _ (le-ltb k id (
 put_behind : (id x : ℕ) (ids : List ℕ) → x < id → put_number id (x ∷ ids) ≡ x ∷ put_number id ids
 put_behind id x ids up = cond-true _ _ _ (lt-ltb x id up)
 
-put_under : (x : ℕ) (us ids : List ℕ) → AllPast x us → put_numbers us (x ∷ ids) ≡ x ∷ put_numbers us ids
+put_under : (x : ℕ) (us ids : List ℕ) → AllPast x us
+    → put_numbers us (x ∷ ids) ≡ x ∷ put_numbers us ids
 put_under x [] ids all = refl
-put_under x (u ∷ us) ids all = ap (put_number u) (put_under x us ids all.1) ∙ put_behind u x (put_numbers us ids) all.0
+put_under x (u ∷ us) ids all =
+    ap (put_number u) (put_under x us ids all.1) ∙ put_behind u x (put_numbers us ids) all.0
 
 number_keyed : (r : Row) (k : ℕ) → number_of_row r ≡ Some k → rowid r ≡ Int (pos k)
 number_keyed r k is = (number_is (rowid r) k is).0
 
-merge_step : (r : Row) (rows : List Row) (o : Option Node) (m : Option ℕ) → node_in (shown_node r) ≡ o → number_of_row r ≡ m → AllByRecursion (λ b. value_cmp (rowid r) (rowid b) ≡ Less) rows
-    → put_numbers (unread_of rows) (map (λ (n : Node). n.id) (nodes_of rows)) ≡ filter_map number_of_row rows
-    → put_numbers (cons_option (if is_none o then m else None) (unread_of rows)) (map (λ (n : Node). n.id) (cons_option o (nodes_of rows))) ≡ cons_option m (filter_map number_of_row rows)
+merge_step : (r : Row) (rows : List Row) (o : Option Node) (m : Option ℕ)
+    → node_in (shown_node r) ≡ o → number_of_row r ≡ m
+    → AllByRecursion (λ b. value_cmp (rowid r) (rowid b) ≡ Less) rows
+    → put_numbers (unread_of rows) (map (λ (n : Node). n.id) (nodes_of rows))
+    ≡ filter_map number_of_row rows
+    → put_numbers (cons_option (if is_none o then m else None) (unread_of rows))
+    (map (λ (n : Node). n.id) (cons_option o (nodes_of rows)))
+    ≡ cons_option m (filter_map number_of_row rows)
 merge_step r rows (Some n) m seen is later more =
     let number : number_of_row r ≡ Some n.id = (node_parts (shown_node r) n seen).number in
-    put_under n.id (unread_of rows) (map (λ (n : Node). n.id) (nodes_of rows)) (all_past (λ b. unread_in (shown_node b)) unread_keyed n.id r (number_keyed r n.id number) rows later)
-    ∙ ap (λ l. n.id ∷ l) more ∙ ap (λ o. cons_option o (filter_map number_of_row rows)) (sym number ∙ is)
+    put_under n.id (unread_of rows) (map (λ (n : Node). n.id) (nodes_of rows))
+    (all_past (λ b. unread_in (shown_node b)) unread_keyed n.id r
+    (number_keyed r n.id number) rows later)
+    ∙ ap (λ l. n.id ∷ l) more
+    ∙ ap (λ o. cons_option o (filter_map number_of_row rows)) (sym number ∙ is)
 merge_step r rows None (Some id) seen is later more =
-    ap (put_number id) more ∙ put_first id (filter_map number_of_row rows) (all_past number_of_row number_keyed id r (number_keyed r id is) rows later)
+    ap (put_number id) more
+    ∙ put_first id (filter_map number_of_row rows)
+    (all_past number_of_row number_keyed id r (number_keyed r id is) rows later)
 merge_step r rows None None seen is later more = more
 
-merged : (rows : List Row) → IsTable rows → put_numbers (unread_of rows) (map (λ (n : Node). n.id) (nodes_of rows)) ≡ filter_map number_of_row rows
+merged : (rows : List Row) → IsTable rows
+    → put_numbers (unread_of rows) (map (λ (n : Node). n.id) (nodes_of rows))
+    ≡ filter_map number_of_row rows
 merged [] table = refl
-merged (r ∷ rows) table = merge_step r rows (node_in (shown_node r)) (number_of_row r) refl refl table.0 (merged rows table.1)
+merged (r ∷ rows) table =
+    merge_step r rows (node_in (shown_node r)) (number_of_row r) refl refl table.0
+    (merged rows table.1)
 
 -- ---- what is shown
 
-kept_step : (r : Row) (rest : List ℕ) (o : Option ℕ) (b : Bool) → number_of_row r ≡ o → is_numbered r ≡ b → (kept : List Row) → numbers_seen (map shown_number kept) ≡ rest
+kept_step : (r : Row) (rest : List ℕ) (o : Option ℕ) (b : Bool) → number_of_row r ≡ o
+    → is_numbered r ≡ b → (kept : List Row) → numbers_seen (map shown_number kept) ≡ rest
     → numbers_seen (map shown_number (cond b (r ∷ kept) kept)) ≡ cons_option o rest
-kept_step r rest o true is has kept more = ap (cons_option (number_of_row r)) more ∙ ap (λ x. cons_option x rest) is
+kept_step r rest o true is has kept more =
+    ap (cons_option (number_of_row r)) more ∙ ap (λ x. cons_option x rest) is
 kept_step r rest None false is has kept more = more
 kept_step r rest (Some k) false is has kept more =
     let number = number_is (rowid r) k is in
-    absurd (let e = sym has ∙ (ap (λ v. not (is_lt (value_cmp v (Int (pos 1))))) number.0 ∙ at_least_one k number.1) in cc)
+    absurd
+    (let e =
+    sym has ∙ (ap (λ v. not (is_lt (value_cmp v (Int (pos 1))))) number.0
+    ∙ at_least_one k number.1) in cc)
 
-shown_are : (rows : List Row) → numbers_seen (map shown_number (filter is_numbered rows)) ≡ filter_map number_of_row rows
+shown_are : (rows : List Row)
+    → numbers_seen (map shown_number (filter is_numbered rows)) ≡ filter_map number_of_row rows
 shown_are [] = refl
-shown_are (r ∷ rows) = kept_step r (filter_map number_of_row rows) (number_of_row r) (is_numbered r) refl refl (filter is_numbered rows) (shown_are rows)
+shown_are (r ∷ rows) =
+    kept_step r (filter_map number_of_row rows) (number_of_row r) (is_numbered r) refl refl
+    (filter is_numbered rows) (shown_are rows)
 
-pub tells_numbers : (db : Database) → IsRoom db → (rows : List Row) → HasNumbers db.trees rows → AreNumbers (rows_of db) (numbers_seen rows)
-tells_numbers db room rows shown = ap numbers_seen shown ∙ shown_are (db.trees 0) ∙ sym (merged (db.trees 0) room.nodes.0)
+pub tells_numbers : (db : Database) → IsRoom db → (rows : List Row) → HasNumbers db.trees rows
+    → AreNumbers (rows_of db) (numbers_seen rows)
+tells_numbers db room rows shown =
+    ap numbers_seen shown ∙ shown_are (db.trees 0) ∙ sym (merged (db.trees 0) room.nodes.0)

@@ -19,20 +19,25 @@ use Rattle.store_tables.specs.Statements.{by_column}
 use Rattle.store_tables.proofs.Answers.{each_way, passes, shows, way}
 use Rattle.store_tables.proofs.Texts.{ascending_by, query_of}
 
-first_stays : {X : Type 0} (cmp : X → X → Ordering) (x : X) (xs : List X) → AllByRecursion (λ y. cmp x y ≡ Less) xs → insert_sorted cmp x xs ≡ x ∷ xs
+first_stays : {X : Type 0} (cmp : X → X → Ordering) (x : X) (xs : List X)
+    → AllByRecursion (λ y. cmp x y ≡ Less) xs → insert_sorted cmp x xs ≡ x ∷ xs
 first_stays cmp x [] up = refl
 first_stays cmp x (y ∷ ys) up = cond-false _ _ _ (ap is_gt up.0)
 
 -- what rises is in order
-pub already_sorted : {X : Type 0} (cmp : X → X → Ordering) (xs : List X) → IsAscending (λ a b. cmp a b ≡ Less) xs → sort_by cmp xs ≡ xs
+pub already_sorted : {X : Type 0} (cmp : X → X → Ordering) (xs : List X)
+    → IsAscending (λ a b. cmp a b ≡ Less) xs → sort_by cmp xs ≡ xs
 already_sorted cmp [] up = refl
-already_sorted cmp (x ∷ xs) up = ap (insert_sorted cmp x) (already_sorted cmp xs up.1) ∙ first_stays cmp x xs up.0
+already_sorted cmp (x ∷ xs) up =
+    ap (insert_sorted cmp x) (already_sorted cmp xs up.1) ∙ first_stays cmp x xs up.0
 
 -- the same query with this LIMIT
 abbrev pub cut_to : Term → Query → Query
 cut_to limit q = record q { limit = limit }
 
-module _ (tree : ℕ) (tests terms : List Term) (order : List (Term × Key)) (limit : Term) (db : Trees) (params : Row) (rows : List Row) (a : IsAnswerAs Null (cut_to limit (query_of tree tests terms order)) db params rows) where
+module _ (tree : ℕ) (tests terms : List Term) (order : List (Term × Key)) (limit : Term)
+    (db : Trees) (params : Row) (rows : List Row)
+    (a : IsAnswerAs Null (cut_to limit (query_of tree tests terms order)) db params rows) where
   abbrev asked : Query
   asked = cut_to limit (query_of tree tests terms order)
 
@@ -43,20 +48,30 @@ module _ (tree : ℕ) (tests terms : List Term) (order : List (Term × Key)) (li
   kept = filter (passes tests params) (db tree)
 
   kept_are : a.kept ≡ map out kept
-  kept_are = a.distinct ∙ ap (map (output asked)) (a.grouped ∙ each_way Null db tests params (db tree)) ∙ map-map (output asked) (way params) kept
+  kept_are =
+      a.distinct ∙ ap (map (output asked)) (a.grouped ∙ each_way Null db tests params (db tree))
+      ∙ map-map (output asked) (way params) kept
 
   -- the rows that pass, in any order, and then cut
-  pub cut : (all : List Row) × IsPermutation (map (shows terms params) kept) all × (rows ≡ page asked params all)
+  pub cut : (all : List Row) × IsPermutation (map (shows terms params) kept) all
+      × (rows ≡ page asked params all)
   cut =
       let all = IsPermutation-map (λ (o : Output). o.1) a.kept a.ordered a.same in
-      let from : map (λ (o : Output). o.1) a.kept ≡ map (shows terms params) kept = ap (map (λ (o : Output). o.1)) kept_are ∙ map-map (λ (o : Output). o.1) out kept in
-      (map (λ (o : Output). o.1) a.ordered, subst (λ l. IsPermutation l (map (λ (o : Output). o.1) a.ordered)) from all, a.shown)
+      let from : map (λ (o : Output). o.1) a.kept ≡ map (shows terms params) kept = ap
+      (map (λ (o : Output). o.1)) kept_are ∙ map-map (λ (o : Output). o.1) out kept in (
+        map (λ (o : Output). o.1) a.ordered,
+        subst (λ l. IsPermutation l (map (λ (o : Output). o.1) a.ordered)) from all,
+        a.shown,
+      )
 
 -- no two are equal
 abbrev pub HasNoTies : {X : Type 0} → (X → X → Ordering) → List X → Type 0
 HasNoTies cmp xs = IsAscending (λ a b. is_eq (cmp a b) ≡ false) xs
 
-module _ (tree place : ℕ) (tests terms : List Term) (limit : Term) (db : Trees) (params : Row) (rows : List Row) (a : IsAnswerAs Null (cut_to limit (query_of tree tests terms (ascending_by place ∷ []))) db params rows) where
+module _ (tree place : ℕ) (tests terms : List Term) (limit : Term) (db : Trees) (params : Row)
+    (rows : List Row)
+    (a : IsAnswerAs Null
+    (cut_to limit (query_of tree tests terms (ascending_by place ∷ []))) db params rows) where
   abbrev question : Query
   question = cut_to limit (query_of tree tests terms (ascending_by place ∷ []))
 
@@ -70,18 +85,31 @@ module _ (tree place : ℕ) (tests terms : List Term) (limit : Term) (db : Trees
   compared r s = then-Equal (value_cmp (column r place) (column s place))
 
   passing_are : a.kept ≡ map shown passing
-  passing_are = a.distinct ∙ ap (map (output question)) (a.grouped ∙ each_way Null db tests params (db tree)) ∙ map-map (output question) (way params) passing
+  passing_are =
+      a.distinct ∙ ap (map (output question)) (a.grouped ∙ each_way Null db tests params (db tree))
+      ∙ map-map (output question) (way params) passing
 
   -- the rows that pass, in order, where no two of them are equal in that column
-  pub in_order : HasNoTies (by_column place) passing → rows ≡ page question params (map (shows terms params) (sort_by (by_column place) passing))
+  pub in_order : HasNoTies (by_column place) passing
+      → rows ≡ page question params (map (shows terms params) (sort_by (by_column place) passing))
   in_order apart =
       let apart' = ascending-map (λ x y. is_eq (output_cmp question x y) ≡ false) shown passing
-      (ascending_weaker _ (λ r s. is_eq (output_cmp question (shown r) (shown s)) ≡ false) (λ r s h. ap is_eq (compared r s) ∙ h) passing apart) in
-      let ordered = sorted_is-sort_by (output_cmp question) (output_cmp_total question) (map shown passing) a.ordered apart' (subst (λ l. IsPermutation l a.ordered) passing_are a.same) a.sorted
-      ∙ sort_by-map (output_cmp question) shown passing ∙ (λ i. map shown (sort_by (λ r s. compared r s i) passing)) in
-      a.shown ∙ ap (λ l. page question params (map (λ (o : Output). o.1) l)) ordered ∙ ap (page question params) (map-map (λ (o : Output). o.1) shown (sort_by (by_column place) passing))
+      (ascending_weaker _ (λ r s. is_eq (output_cmp question (shown r) (shown s)) ≡ false)
+      (λ r s h. ap is_eq (compared r s) ∙ h) passing apart) in
+      let ordered = sorted_is-sort_by (output_cmp question) (output_cmp_total question)
+      (map shown passing) a.ordered apart'
+      (subst (λ l. IsPermutation l a.ordered) passing_are a.same) a.sorted
+      ∙ sort_by-map (output_cmp question) shown passing
+      ∙ (λ i. map shown (sort_by (λ r s. compared r s i) passing)) in
+      a.shown ∙ ap (λ l. page question params (map (λ (o : Output). o.1) l)) ordered
+      ∙ ap (page question params)
+      (map-map (λ (o : Output). o.1) shown (sort_by (by_column place) passing))
 
   -- the same, where the table has them in that order already
-  pub as_stored : IsAscending (λ r s. by_column place r s ≡ Less) passing → rows ≡ page question params (map (shows terms params) passing)
+  pub as_stored : IsAscending (λ r s. by_column place r s ≡ Less) passing
+      → rows ≡ page question params (map (shows terms params) passing)
   as_stored up =
-      in_order (ascending_weaker (λ r s. by_column place r s ≡ Less) (λ r s. is_eq (by_column place r s) ≡ false) (λ r s less. ap is_eq less) passing up) ∙ ap (λ l. page question params (map (shows terms params) l)) (already_sorted (by_column place) passing up)
+      in_order (ascending_weaker (λ r s. by_column place r s ≡ Less)
+      (λ r s. is_eq (by_column place r s) ≡ false) (λ r s less. ap is_eq less) passing up)
+      ∙ ap (λ l. page question params (map (shows terms params) l))
+      (already_sorted (by_column place) passing up)

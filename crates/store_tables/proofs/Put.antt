@@ -17,100 +17,158 @@ use Rattle.store_tables.specs.Keyed.{below}
 abbrev pub IsOther : ℕ → Row → Type 0
 IsOther id r = has_rowid (pos id) r ≡ false
 
-others_step : (id : ℕ) (r : Row) (rest : List Row) (b : Bool) → has_rowid (pos id) r ≡ b → AllByRecursion (IsOther id) rest → AllByRecursion (IsOther id) (cond (not b) (r ∷ rest) rest)
+others_step : (id : ℕ) (r : Row) (rest : List Row) (b : Bool) → has_rowid (pos id) r ≡ b
+    → AllByRecursion (IsOther id) rest → AllByRecursion (IsOther id) (cond (not b) (r ∷ rest) rest)
 others_step id r rest true is all = all
 others_step id r rest false is all = (is, all)
 
 -- no row of that number is left
 pub others : (id : ℕ) (rows : List Row) → AllByRecursion (IsOther id) (without_rowid (pos id) rows)
 others id [] = tt
-others id (r ∷ rows) = others_step id r (without_rowid (pos id) rows) (has_rowid (pos id) r) refl (others id rows)
+others id (r ∷ rows) =
+    others_step id r (without_rowid (pos id) rows) (has_rowid (pos id) r) refl (others id rows)
 
-not_equal : (id : ℕ) (r new : Row) → rowid new ≡ Int (pos id) → IsOther id r → value_cmp (rowid r) (rowid new) ≡ Equal → ⊥
-not_equal id r new is other equal = false≢true (sym other ∙ ap is_eq (ap (value_cmp (rowid r)) (sym is) ∙ equal))
+not_equal : (id : ℕ) (r new : Row) → rowid new ≡ Int (pos id) → IsOther id r
+    → value_cmp (rowid r) (rowid new) ≡ Equal → ⊥
+not_equal id r new is other equal =
+    false≢true (sym other ∙ ap is_eq (ap (value_cmp (rowid r)) (sym is) ∙ equal))
 
 -- ---- a row that is read as nothing isn't seen
 
-module _ {X : Type 0} (f : Row → Option X) (new : Row) (id : ℕ) (number : rowid new ≡ Int (pos id)) where
-  unseen_step : (r : Row) (rows : List Row) (o : Ordering) → value_cmp (rowid r) (rowid new) ≡ o → f new ≡ None → IsOther id r → filter_map f (put_row new rows) ≡ filter_map f rows
-      → filter_map f (match_ordering o (r ∷ put_row new rows) (new ∷ rows) (new ∷ r ∷ rows)) ≡ filter_map f (r ∷ rows)
+module _ {X : Type 0} (f : Row → Option X) (new : Row) (id : ℕ)
+    (number : rowid new ≡ Int (pos id)) where
+  unseen_step : (r : Row) (rows : List Row) (o : Ordering) → value_cmp (rowid r) (rowid new) ≡ o
+      → f new ≡ None → IsOther id r → filter_map f (put_row new rows) ≡ filter_map f rows
+      → filter_map f (match_ordering o (r ∷ put_row new rows) (new ∷ rows) (new ∷ r ∷ rows))
+      ≡ filter_map f (r ∷ rows)
   unseen_step r rows Less is nothing other more = ap (cons_option (f r)) more
   unseen_step r rows Equal is nothing other more = absurd (not_equal id r new number other is)
-  unseen_step r rows Greater is nothing other more = ap (λ o. cons_option o (filter_map f (r ∷ rows))) nothing
+  unseen_step r rows Greater is nothing other more =
+      ap (λ o. cons_option o (filter_map f (r ∷ rows))) nothing
 
-  pub unseen : (rows : List Row) → f new ≡ None → AllByRecursion (IsOther id) rows → filter_map f (put_row new rows) ≡ filter_map f rows
+  pub unseen : (rows : List Row) → f new ≡ None → AllByRecursion (IsOther id) rows
+      → filter_map f (put_row new rows) ≡ filter_map f rows
   unseen [] nothing all = ap (λ o. cons_option o []) nothing
-  unseen (r ∷ rows) nothing all = unseen_step r rows (value_cmp (rowid r) (rowid new)) refl nothing all.0 (unseen rows nothing all.1)
+  unseen (r ∷ rows) nothing all =
+      unseen_step r rows (value_cmp (rowid r) (rowid new)) refl nothing all.0
+      (unseen rows nothing all.1)
 
 -- ---- a list of things in the order of their numbers
 
 abbrev pub put_by : {X : Type 0} → (X → ℕ) → X → List X → List X
 put_by key x [] = x ∷ []
-put_by key x (y ∷ ys) = if nat_lt (key y) (key x) then y ∷ put_by key x ys else if key y == key x then x ∷ ys else x ∷ y ∷ ys
+put_by key x (y ∷ ys) =
+    if nat_lt (key y) (key x) then y ∷ put_by key x ys else if key y == key x then x ∷ ys else x ∷ y
+    ∷ ys
 
 module _ {X : Type 0} (key : X → ℕ) where
-  put_first : (n : X) (items : List X) (k : ℕ) → (key n) ≤ k → is_rising (k ∷ map key items) ≡ true → put_by key n items ≡ n ∷ items
+  put_first : (n : X) (items : List X) (k : ℕ) → (key n) ≤ k → is_rising (k ∷ map key items) ≡ true
+      → put_by key n items ≡ n ∷ items
   put_first n [] k low rises = refl
   put_first n (other ∷ others) k low rises =
-      let up : k < (key other) = ltb-true k (key other) (and_parts (nat_lt k (key other)) (is_rising ((key other) ∷ map key others)) rises).0 in
-      cond-false _ _ _ (le-ltb (key other) (key n) (omega (arith, up, low))) ∙ cond-false _ _ _ (ne_eqb (key other) (key n) (λ e. absurd (omega (arith, up, low, e))))
+      let up : k < (key other) = ltb-true k (key other)
+      (and_parts (nat_lt k (key other)) (is_rising ((key other) ∷ map key others)) rises).0 in
+      cond-false _ _ _ (le-ltb (key other) (key n) (omega (arith, up, low)))
+      ∙ cond-false _ _ _ (ne_eqb (key other) (key n) (λ e. absurd (omega (arith, up, low, e))))
 
-  none_gone : (n : X) (items : List X) (k : ℕ) → (key n) ≤ k → is_rising (k ∷ map key items) ≡ true → filter (λ (m : X). not ((key m) == (key n))) items ≡ items
+  none_gone : (n : X) (items : List X) (k : ℕ) → (key n) ≤ k → is_rising (k ∷ map key items) ≡ true
+      → filter (λ (m : X). not ((key m) == (key n))) items ≡ items
   none_gone n [] k low rises = refl
   none_gone n (other ∷ others) k low rises =
-      let parts = and_parts (nat_lt k (key other)) (is_rising ((key other) ∷ map key others)) rises in
+      let parts = and_parts (nat_lt k (key other))
+      (is_rising ((key other) ∷ map key others)) rises in
       let up : k < (key other) = ltb-true k (key other) parts.0 in
-      cond-true _ _ _ (ap not (ne_eqb (key other) (key n) (λ e. absurd (omega (arith, up, low, e))))) ∙ ap (λ l. other ∷ l) (none_gone n others (key other) (omega (arith, up, low)) parts.1)
+      cond-true _ _ _
+      (ap not (ne_eqb (key other) (key n) (λ e. absurd (omega (arith, up, low, e)))))
+      ∙ ap (λ l. other ∷ l) (none_gone n others (key other) (omega (arith, up, low)) parts.1)
 
   -- what is there is replaced
-  pub put_again : (n : X) (items : List X) (k : ℕ) → is_rising (k ∷ map key items) ≡ true → put_by key n (filter (λ (m : X). not ((key m) == (key n))) items) ≡ put_by key n items
+  pub put_again : (n : X) (items : List X) (k : ℕ) → is_rising (k ∷ map key items) ≡ true
+      → put_by key n (filter (λ (m : X). not ((key m) == (key n))) items) ≡ put_by key n items
   put_again n [] k rises = refl
   put_again n (other ∷ others) k rises =
-      let parts = and_parts (nat_lt k (key other)) (is_rising ((key other) ∷ map key others)) rises in
+      let parts = and_parts (nat_lt k (key other))
+      (is_rising ((key other) ∷ map key others)) rises in
       let kept = λ (b : Bool) (l : List X). cond b (other ∷ l) l in
       elim (cases_order (key other) (key n)) [
         | inl same ↦
-            ap (put_by key n) (cond-false _ _ _ (ap not (eq-eqb (key other) (key n) same)) ∙ none_gone n others (key other) (omega (arith, same)) parts.1)
-            ∙ put_first n others (key other) (omega (arith, same)) parts.1 ∙ sym (cond-false _ _ _ (le-ltb (key other) (key n) (omega (arith, same))) ∙ cond-true _ _ _ (eq-eqb (key other) (key n) same))
+            ap (put_by key n) (cond-false _ _ _ (ap not (eq-eqb (key other) (key n) same))
+            ∙ none_gone n others (key other) (omega (arith, same)) parts.1)
+            ∙ put_first n others (key other) (omega (arith, same)) parts.1
+            ∙ sym (cond-false _ _ _ (le-ltb (key other) (key n) (omega (arith, same)))
+            ∙ cond-true _ _ _ (eq-eqb (key other) (key n) same))
         | inr apart ↦ elim apart [
           | inl low ↦
-              ap (put_by key n) (cond-true _ _ _ (ap not (ne_eqb (key other) (key n) (λ e. absurd (omega (arith, low, e))))))
-              ∙ cond-true _ _ _ (lt-ltb (key other) (key n) low) ∙ ap (λ l. other ∷ l) (put_again n others (key other) parts.1) ∙ sym (cond-true _ _ _ (lt-ltb (key other) (key n) low))
-          | inr high ↦ ap (put_by key n) (cond-true _ _ _ (ap not (ne_eqb (key other) (key n) (λ e. absurd (omega (arith, high, e))))) ∙ ap (λ l. other ∷ l) (none_gone n others (key other) (omega (arith, high)) parts.1))
+              ap (put_by key n)
+              (cond-true _ _ _
+              (ap not (ne_eqb (key other) (key n) (λ e. absurd (omega (arith, low, e))))))
+              ∙ cond-true _ _ _ (lt-ltb (key other) (key n) low)
+              ∙ ap (λ l. other ∷ l) (put_again n others (key other) parts.1)
+              ∙ sym (cond-true _ _ _ (lt-ltb (key other) (key n) low))
+          | inr high ↦
+              ap (put_by key n)
+              (cond-true _ _ _
+              (ap not (ne_eqb (key other) (key n) (λ e. absurd (omega (arith, high, e)))))
+              ∙ ap (λ l. other ∷ l) (none_gone n others (key other) (omega (arith, high)) parts.1))
         ]
       ]
 
-module _ {X : Type 0} (f : Row → Option X) (key : X → ℕ) (keyed : (r : Row) (x : X) → f r ≡ Some x → rowid r ≡ Int (pos (key x))) where
+module _ {X : Type 0} (f : Row → Option X) (key : X → ℕ)
+    (keyed : (r : Row) (x : X) → f r ≡ Some x → rowid r ≡ Int (pos (key x))) where
   module _ (new : Row) (n : X) (seen : f new ≡ Some n) where
     number : rowid new ≡ Int (pos (key n))
     number = keyed new n seen
 
-    after_step : (r : Row) (rest : List X) (o : Option X) → f r ≡ o → value_cmp (rowid r) (rowid new) ≡ Less → put_by key n (cons_option o rest) ≡ cons_option o (put_by key n rest)
+    after_step : (r : Row) (rest : List X) (o : Option X) → f r ≡ o
+        → value_cmp (rowid r) (rowid new) ≡ Less
+        → put_by key n (cons_option o rest) ≡ cons_option o (put_by key n rest)
     after_step r rest None is less = refl
     after_step r rest (Some m) is less =
-        let low : (key m) < (key n) = below (key m) (key n) (ap (λ v. value_cmp v (Int (pos (key n)))) (sym (keyed r m is)) ∙ ap (value_cmp (rowid r)) (sym number) ∙ less) in
+        let low : (key m) < (key n) = below (key m) (key n)
+        (ap (λ v. value_cmp v (Int (pos (key n)))) (sym (keyed r m is))
+        ∙ ap (value_cmp (rowid r)) (sym number) ∙ less) in
         cond-true _ _ _ (lt-ltb (key m) (key n) low)
 
-    before_all : (rows : List Row) → AllByRecursion (λ (r : Row). (m : X) → f r ≡ Some m → (key n) < (key m)) rows → put_by key n (filter_map f rows) ≡ n ∷ filter_map f rows
+    before_all : (rows : List Row)
+        → AllByRecursion (λ (r : Row). (m : X) → f r ≡ Some m → (key n) < (key m)) rows
+        → put_by key n (filter_map f rows) ≡ n ∷ filter_map f rows
     before_all [] all = refl
     before_all (r ∷ rows) all = by (f r) refl (before_all rows all.1)
       where
-        by : (o : Option X) → f r ≡ o → put_by key n (filter_map f rows) ≡ n ∷ filter_map f rows → put_by key n (cons_option o (filter_map f rows)) ≡ n ∷ cons_option o (filter_map f rows)
+        by : (o : Option X) → f r ≡ o → put_by key n (filter_map f rows) ≡ n ∷ filter_map f rows
+            → put_by key n (cons_option o (filter_map f rows)) ≡ n
+            ∷ cons_option o (filter_map f rows)
         by None is more = more
-        by (Some m) is more = let up = all.0 m is in cond-false _ _ _ (le-ltb (key m) (key n) (omega (arith, up))) ∙ cond-false _ _ _ (ne_eqb (key m) (key n) (λ e. absurd (omega (arith, up, e))))
+        by (Some m) is more = let up = all.0 m is in
+            cond-false _ _ _ (le-ltb (key m) (key n) (omega (arith, up)))
+            ∙ cond-false _ _ _ (ne_eqb (key m) (key n) (λ e. absurd (omega (arith, up, e))))
 
-    later : (x : Row) (m : X) → value_cmp (rowid new) (rowid x) ≡ Less → f x ≡ Some m → (key n) < (key m)
-    later x m up is = below (key n) (key m) (ap (λ v. value_cmp v (Int (pos (key m)))) (sym number) ∙ ap (value_cmp (rowid new)) (sym (keyed x m is)) ∙ up)
+    later : (x : Row) (m : X) → value_cmp (rowid new) (rowid x) ≡ Less → f x ≡ Some m
+        → (key n) < (key m)
+    later x m up is =
+        below (key n) (key m)
+        (ap (λ v. value_cmp v (Int (pos (key m)))) (sym number)
+        ∙ ap (value_cmp (rowid new)) (sym (keyed x m is)) ∙ up)
 
-    pub put_seen : (rows : List Row) → IsTable rows → AllByRecursion (IsOther (key n)) rows → filter_map f (put_row new rows) ≡ put_by key n (filter_map f rows)
+    pub put_seen : (rows : List Row) → IsTable rows → AllByRecursion (IsOther (key n)) rows
+        → filter_map f (put_row new rows) ≡ put_by key n (filter_map f rows)
     put_seen [] table all = ap (λ o. cons_option o []) seen
-    put_seen (r ∷ rows) table all = by (value_cmp (rowid r) (rowid new)) refl (put_seen rows table.1 all.1)
+    put_seen (r ∷ rows) table all =
+        by (value_cmp (rowid r) (rowid new)) refl (put_seen rows table.1 all.1)
       where
-        by : (o : Ordering) → value_cmp (rowid r) (rowid new) ≡ o → filter_map f (put_row new rows) ≡ put_by key n (filter_map f rows)
-            → filter_map f (match_ordering o (r ∷ put_row new rows) (new ∷ rows) (new ∷ r ∷ rows)) ≡ put_by key n (cons_option (f r) (filter_map f rows))
-        by Less is more = ap (cons_option (f r)) more ∙ sym (after_step r (filter_map f rows) (f r) refl is)
+        by : (o : Ordering) → value_cmp (rowid r) (rowid new) ≡ o
+            → filter_map f (put_row new rows) ≡ put_by key n (filter_map f rows)
+            → filter_map f (match_ordering o (r ∷ put_row new rows) (new ∷ rows) (new ∷ r ∷ rows))
+            ≡ put_by key n (cons_option (f r) (filter_map f rows))
+        by Less is more =
+            ap (cons_option (f r)) more ∙ sym (after_step r (filter_map f rows) (f r) refl is)
         by Equal is more = absurd (not_equal (key n) r new number all.0 is)
         by Greater is more =
-            let up : value_cmp (rowid new) (rowid r) ≡ Less = value_cmp_total.antisymm (rowid new) (rowid r) ∙ ap ordering_reverse is in
-            let each = each-weaker (λ b. value_cmp (rowid r) (rowid b) ≡ Less) (λ b. (m : X) → f b ≡ Some m → (key n) < (key m)) (λ x less m at. later x m (value_cmp_total.trans (rowid new) (rowid r) (rowid x) up less) at) rows table.0 in
-            ap (λ o. cons_option o (filter_map f (r ∷ rows))) seen ∙ sym (before_all (r ∷ rows) (λ m at. later r m up at, each))
+            let up : value_cmp (rowid new) (rowid r) ≡ Less = value_cmp_total.antisymm (rowid new)
+            (rowid r) ∙ ap ordering_reverse is in
+            let each = each-weaker (λ b. value_cmp (rowid r) (rowid b) ≡ Less)
+            (λ b. (m : X) → f b ≡ Some m → (key n) < (key m))
+            (λ x less m at. later x m
+            (value_cmp_total.trans (rowid new) (rowid r) (rowid x) up less) at) rows table.0 in
+            ap (λ o. cons_option o (filter_map f (r ∷ rows))) seen
+            ∙ sym (before_all (r ∷ rows) (λ m at. later r m up at, each))

@@ -37,74 +37,117 @@ use Rattle.store_tables.proofs.Updates.{cast_int, cast_null, keeps_number, updat
 abbrev pub recast : Row → Row
 recast cells = cast_all (drop 1 nodes.columns) cells
 
-cast_head : (id : ℤ) (cells : Row) → cast_row nodes_table (Int id ∷ Null ∷ cells) ≡ stored_node id (recast cells)
+cast_head : (id : ℤ) (cells : Row)
+    → cast_row nodes_table (Int id ∷ Null ∷ cells) ≡ stored_node id (recast cells)
 cast_head id cells = rw (cast_int id, cast_null) refl
 
 -- which rows are found, and what the edit then leaves
-pub record Rewritten (terms : List Term) (id : ℤ) (given : Row) (old new : State) (count : ℕ) : Type 0 where
+pub record Rewritten (terms : List Term) (id : ℤ) (given : Row) (old new : State)
+    (count : ℕ) : Type 0 where
   pub rows : List Row
-  pub found : IsPermutation (map (shows terms (Int id ∷ given)) (filter (has_rowid id) (old.now.trees 0))) rows
+  pub found : IsPermutation
+      (map (shows terms (Int id ∷ given)) (filter (has_rowid id) (old.now.trees 0))) rows
   pub next : Trees
   pub edited : Edited room_schema Enforced old.now.trees (update_edit old.now.trees rows) (Ok next)
   pub now : new.now ≡ record { schema = room_schema; trees = next }
   pub counted : count ≡ length (update_edit old.now.trees rows).news
   pub sound : IsDatabase new.now
-  pub shown : Shows old new new.now (if old.in_transaction then old.committed else new.now) old.in_transaction
+  pub shown : Shows old new new.now
+      (if old.in_transaction then old.committed else new.now) old.in_transaction
 
-pub rewritten : (text : List ℕ) (terms : List Term) → command_of (understood room_schema text) ≡ updates_nodes terms → IsPlain (understood room_schema text) → (id : ℤ) (given : Row) (old new : State) (count : ℕ) → old.now.schema ≡ room_schema → Executes text (Int id ∷ given) old new (Ok count) → Rewritten terms id given old new count
+pub rewritten : (text : List ℕ) (terms : List Term)
+    → command_of (understood room_schema text) ≡ updates_nodes terms
+    → IsPlain (understood room_schema text) → (id : ℤ) (given : Row) (old new : State) (count : ℕ)
+    → old.now.schema ≡ room_schema → Executes text (Int id ∷ given) old new (Ok count)
+    → Rewritten terms id given old new count
 rewritten sql terms is plain id given old new count has h =
     let params = Int id ∷ given in
     let command = updates_nodes terms in
     let w = runs_as sql params old new room_schema has command is plain count h in
     let text = statement_of sql (understood room_schema sql) in
-    let done = went (subst (λ s. Does old.step_limit (mode_of old) params (record old.now { schema = s }) text None command (Ok (w.tally, new.now))) has w.changed) in
+    let done = went
+    (subst (λ s. Does old.step_limit (mode_of old) params
+    (record old.now { schema = s }) text None command (Ok (w.tally, new.now))) has w.changed) in
     let asked = went done.1 in
     let did = went asked.2 in
     let last = same_value (went (went done.2).2).2 in
-    let wrote : done.0 ≡ record { trees = did.0; rows = (update_edit old.now.trees asked.0).news; last = None } = same_value did.2 in
-    let found = selected Null 0 (matches_parameter 0 0 ∷ []) terms [] (overlay old.now.trees []) params asked.0 (asked.1.answer Null) in
+    let wrote : done.0 ≡ record {
+      trees = did.0;
+      rows = (update_edit old.now.trees asked.0).news;
+      last = None;
+    } =
+    same_value did.2 in
+    let found = selected Null 0 (matches_parameter 0 0 ∷ []) terms []
+    (overlay old.now.trees []) params asked.0 (asked.1.answer Null) in
     record {
       rows = asked.0;
-      found = subst (λ l. IsPermutation (map (shows terms params) l) asked.0) (filter_same _ _ (passes_id id) (old.now.trees 0)) found;
+      found =
+          subst (λ l. IsPermutation (map (shows terms params) l) asked.0)
+          (filter_same _ _ (passes_id id) (old.now.trees 0)) found;
       next = did.0;
       edited = did.1;
-      now = ap (λ (p : Tally × Database). p.1) last ∙ ap (λ (it : Written). let db : Database = record { schema = room_schema; trees = it.trees } in db) wrote;
+      now =
+          ap (λ (p : Tally × Database). p.1) last
+          ∙ ap
+          (λ (it : Written). let db : Database = record {
+            schema = room_schema;
+            trees = it.trees;
+          } in db) wrote;
       sound = w.sound;
       shown = w.shown;
-      counted = w.counted ∙ ap (λ (p : Tally × Database). unwrap_or p.0.rows 0) last ∙ ap (λ (it : Written). length it.rows) wrote;
+      counted =
+          w.counted ∙ ap (λ (p : Tally × Database). unwrap_or p.0.rows 0) last
+          ∙ ap (λ (it : Written). length it.rows) wrote;
     }
 
 module _ (id : ℤ) (db next : Trees) (rows : List Row) where
-  one_recast : (cells old : Row) → rows ≡ (Int id ∷ Int id ∷ Null ∷ cells) ∷ [] → find (has_rowid id) (db 0) ≡ Some (Int id ∷ old) → Edited room_schema Enforced db (update_edit db rows) (Ok next) → Replaces id (recast cells) db next
+  one_recast : (cells old : Row) → rows ≡ (Int id ∷ Int id ∷ Null ∷ cells) ∷ []
+      → find (has_rowid id) (db 0) ≡ Some (Int id ∷ old)
+      → Edited room_schema Enforced db (update_edit db rows) (Ok next)
+      → Replaces id (recast cells) db next
   one_recast cells old one there (inl refused) = absurd (let e = refused.2 in cc)
   one_recast cells old one there (inr (inl big)) = absurd (let e = big.3 in cc)
   one_recast cells old one there (inr (inr went)) =
       let first = went.0 in
       let other = went.1.tables in
-      let olds : taken_by db (update_edit db rows) ≡ (Int id ∷ old) ∷ [] = ap (λ l. taken_by db (update_edit db l)) one ∙ ap (λ o. unwrap_or o [] ∷ []) there in
-      let news : (update_edit db rows).news ≡ stored_node id (recast cells) ∷ [] = ap (λ l. (update_edit db l).news) one ∙ ap (λ r. r ∷ []) (cast_head id cells) in
-      let work = ap (λ l. works room_schema Enforced 0 0 l (update_edit db rows).news) olds ∙ ap (works room_schema Enforced 0 0 ((Int id ∷ old) ∷ [])) news ∙ keeps_number id old (Null ∷ recast cells) in
-      let led = subst (λ stack. Leads room_schema Enforced went.2.0 first stack (Ok next)) work went.2.1 in
+      let olds : taken_by db (update_edit db rows) ≡ (Int id ∷ old) ∷ [] = ap
+      (λ l. taken_by db (update_edit db l)) one ∙ ap (λ o. unwrap_or o [] ∷ []) there in
+      let news : (update_edit db rows).news ≡ stored_node id (recast cells) ∷ [] = ap
+      (λ l. (update_edit db l).news) one ∙ ap (λ r. r ∷ []) (cast_head id cells) in
+      let work = ap (λ l. works room_schema Enforced 0 0 l (update_edit db rows).news) olds
+      ∙ ap (works room_schema Enforced 0 0 ((Int id ∷ old) ∷ [])) news
+      ∙ keeps_number id old (Null ∷ recast cells) in
+      let led = subst (λ stack. Leads room_schema Enforced went.2.0 first stack (Ok next)) work
+      went.2.1 in
       let same : first ≡ next = ends went.2.0 first next led in
-      let at : (tree : ℕ) → next tree ≡ first tree = λ tree. ap (λ (t : Trees). t tree) (sym same) in
+      let at : (tree : ℕ) → next tree ≡ first tree = λ tree. ap (λ (t : Trees). t tree)
+      (sym same) in
       record {
-        nodes = at 0 ∙ went.1.rows ∙ ap (λ l. edited db (update_edit db l)) one ∙ ap (λ r. put_row r (without_rowid id (db 0))) (cast_head id cells);
+        nodes =
+            at 0 ∙ went.1.rows ∙ ap (λ l. edited db (update_edit db l)) one
+            ∙ ap (λ r. put_row r (without_rowid id (db 0))) (cast_head id cells);
         bodies = at 2 ∙ other.1.0 (λ e. let e' : 2 ≡ 0 = e in omega (arith, e'));
         members = at 3 ∙ other.1.1.0 (λ e. let e' : 3 ≡ 0 = e in omega (arith, e'));
         meta = at 5 ∙ other.1.1.1.0 (λ e. let e' : 5 ≡ 0 = e in omega (arith, e'));
         audits = at 7 ∙ other.1.1.1.1.0 (λ e. let e' : 7 ≡ 0 = e in omega (arith, e'));
       }
 
-  none_recast : rows ≡ [] → Edited room_schema Enforced db (update_edit db rows) (Ok next) → KeepsAll db next
+  none_recast : rows ≡ [] → Edited room_schema Enforced db (update_edit db rows) (Ok next)
+      → KeepsAll db next
   none_recast none (inl refused) = absurd (let e = refused.2 in cc)
   none_recast none (inr (inl big)) = absurd (let e = big.3 in cc)
   none_recast none (inr (inr went)) =
       let first = went.0 in
       let other = went.1.tables in
-      let work : works room_schema Enforced 0 0 (taken_by db (update_edit db rows)) (update_edit db rows).news ≡ [] = ap (λ l. works room_schema Enforced 0 0 (taken_by db (update_edit db l)) (update_edit db l).news) none ∙ sets_off_none in
-      let led = subst (λ stack. Leads room_schema Enforced went.2.0 first stack (Ok next)) work went.2.1 in
+      let work : works room_schema Enforced 0 0 (taken_by db (update_edit db rows))
+      (update_edit db rows).news ≡ [] =
+      ap (λ l. works room_schema Enforced 0 0 (taken_by db (update_edit db l))
+      (update_edit db l).news) none ∙ sets_off_none in
+      let led = subst (λ stack. Leads room_schema Enforced went.2.0 first stack (Ok next)) work
+      went.2.1 in
       let same : first ≡ next = ends went.2.0 first next led in
-      let at : (tree : ℕ) → next tree ≡ first tree = λ tree. ap (λ (t : Trees). t tree) (sym same) in
+      let at : (tree : ℕ) → next tree ≡ first tree = λ tree. ap (λ (t : Trees). t tree)
+      (sym same) in
       record {
         nodes = at 0 ∙ went.1.rows ∙ ap (λ l. edited db (update_edit db l)) none;
         bodies = at 2 ∙ other.1.0 (λ e. let e' : 2 ≡ 0 = e in omega (arith, e'));
@@ -115,33 +158,55 @@ module _ (id : ℤ) (db next : Trees) (rows : List Row) where
 
 -- the terms keep the number, and give the other cells so
 abbrev pub Gives : List Term → ℤ → Row → (Row → Row) → Type 0
-Gives terms id given change = (r : Row) → shows terms (Int id ∷ given) r ≡ rowid r ∷ rowid r ∷ Null ∷ change r
+Gives terms id given change = (r : Row)
+    → shows terms (Int id ∷ given) r ≡ rowid r ∷ rowid r ∷ Null ∷ change r
 
 -- no row was found, or this one was written
 abbrev pub Did : ℤ → (Row → Row) → ℕ → Trees → Trees → Type 0
-Did id change count db next = ((count ≡ 0) × KeepsAll db next) ⊎ ((r : Row) × (find (has_rowid id) (db 0) ≡ Some r) × Replaces id (recast (change r)) db next)
+Did id change count db next = ((count ≡ 0) × KeepsAll db next)
+    ⊎ ((r : Row) × (find (has_rowid id) (db 0) ≡ Some r) × Replaces id (recast (change r)) db next)
 
-pub did : (terms : List Term) (id : ℤ) (given : Row) (change : Row → Row) → Gives terms id given change → (old new : State) (count : ℕ) → IsRoom old.now → Rewritten terms id given old new count → Did id change count old.now.trees new.now.trees
-did terms id given change gives old new count room d = go (at_most_one id (old.now.trees 0) room.nodes.0)
+pub did : (terms : List Term) (id : ℤ) (given : Row) (change : Row → Row)
+    → Gives terms id given change → (old new : State) (count : ℕ) → IsRoom old.now
+    → Rewritten terms id given old new count → Did id change count old.now.trees new.now.trees
+did terms id given change gives old new count room d =
+    go (at_most_one id (old.now.trees 0) room.nodes.0)
   where
     now : new.now.trees ≡ d.next
     now = ap (λ (db : Database). db.trees) d.now
 
-    go : ((filter (has_rowid id) (old.now.trees 0) ≡ []) ⊎ ((r : Row) × (filter (has_rowid id) (old.now.trees 0) ≡ r ∷ []))) → Did id change count old.now.trees new.now.trees
+    go : ((filter (has_rowid id) (old.now.trees 0) ≡ [])
+        ⊎ ((r : Row) × (filter (has_rowid id) (old.now.trees 0) ≡ r ∷ [])))
+        → Did id change count old.now.trees new.now.trees
     go (inl none) =
-        let rows = alone_in d.rows (subst (λ l. IsPermutation (map (shows terms (Int id ∷ given)) l) d.rows) none d.found) in
+        let rows = alone_in d.rows
+        (subst (λ l. IsPermutation (map (shows terms (Int id ∷ given)) l) d.rows) none d.found)
+        in
         let same = none_recast id old.now.trees d.next d.rows rows d.edited in
-        inl (d.counted ∙ ap (λ l. length (update_edit old.now.trees l).news) rows, subst (KeepsAll old.now.trees) (sym now) same)
+        inl (
+          d.counted ∙ ap (λ l. length (update_edit old.now.trees l).news) rows,
+          subst (KeepsAll old.now.trees) (sym now) same,
+        )
     go (inr (r, one)) =
         let there = only_one (has_rowid id) (old.now.trees 0) r one in
-        let is = rowid_is id r (of_each _ (old.now.trees 0) room.nodes.1 r (has_found (has_rowid id) (old.now.trees 0) r there.0)) there.1 in
-        let rows = one_permutation _ d.rows (subst (λ l. IsPermutation (map (shows terms (Int id ∷ given)) l) d.rows) one d.found) in
-        let rows' : d.rows ≡ (Int id ∷ Int id ∷ Null ∷ change r) ∷ [] = rows ∙ ap (λ l. l ∷ []) (gives r) ∙ ap (λ v. (v ∷ v ∷ Null ∷ change r) ∷ []) is in
-        let done = one_recast id old.now.trees d.next d.rows (change r) (drop 1 r) rows' (there.0 ∙ ap Some (cells_of id r is)) d.edited in
+        let is = rowid_is id r
+        (of_each _ (old.now.trees 0) room.nodes.1 r
+        (has_found (has_rowid id) (old.now.trees 0) r there.0)) there.1 in
+        let rows = one_permutation _ d.rows
+        (subst (λ l. IsPermutation (map (shows terms (Int id ∷ given)) l) d.rows) one d.found)
+        in
+        let rows' : d.rows ≡ (Int id ∷ Int id ∷ Null ∷ change r) ∷ [] = rows
+        ∙ ap (λ l. l ∷ []) (gives r) ∙ ap (λ v. (v ∷ v ∷ Null ∷ change r) ∷ []) is in
+        let done = one_recast id old.now.trees d.next d.rows (change r) (drop 1 r) rows'
+        (there.0 ∙ ap Some (cells_of id r is)) d.edited in
         inr (r, there.0, subst (Replaces id (recast (change r)) old.now.trees) (sym now) done)
 
-module _ (text : List ℕ) (terms : List Term) (is : command_of (understood room_schema text) ≡ updates_nodes terms) (plain : IsPlain (understood room_schema text)) (id : ℤ) (given : Row) (change : Row → Row) (gives : Gives terms id given change) where
-  pub recast_room : (old new : State) → IsTrue old.in_transaction → (count : ℕ) → Executes text (Int id ∷ given) old new (Ok count) → IsRoom old.now → WritesRoom old new
+module _ (text : List ℕ) (terms : List Term)
+    (is : command_of (understood room_schema text) ≡ updates_nodes terms)
+    (plain : IsPlain (understood room_schema text)) (id : ℤ) (given : Row) (change : Row → Row)
+    (gives : Gives terms id given change) where
+  pub recast_room : (old new : State) → IsTrue old.in_transaction → (count : ℕ)
+      → Executes text (Int id ∷ given) old new (Ok count) → IsRoom old.now → WritesRoom old new
   recast_room old new inside count h room =
       let d = rewritten text terms is plain id given old new count room.schema h in (
         d.shown.committed_is ∙ ap (λ b. if b then old.committed else new.now) inside,
@@ -159,17 +224,30 @@ module _ (text : List ℕ) (terms : List Term) (is : command_of (understood room
             sound = d.sound;
             members = subst (IsShaped Shape.Table) (sym put.2.members) room.members;
             audits = subst (IsShaped Shape.Table) (sym put.2.audits) room.audits;
-            nodes = subst (IsShaped Shape.Table) (sym put.2.nodes) (IsShaped-put_row (stored_node id (recast (change put.0))) _ refl (IsShaped-filter Shape.Table (λ r. not (has_rowid id r)) _ room.nodes));
+            nodes =
+                subst (IsShaped Shape.Table) (sym put.2.nodes)
+                (IsShaped-put_row (stored_node id (recast (change put.0))) _ refl
+                (IsShaped-filter Shape.Table (λ r. not (has_rowid id r)) _ room.nodes));
             bodies = subst (IsShaped Shape.Table) (sym put.2.bodies) room.bodies;
           }
         ],
         d.shown.mode ∙ inside,
-        elim (did terms id given change gives old new count room d) [ inl same ↦ retains_by _ _ same.1.meta same.1.audits | inr put ↦ retains_by _ _ put.2.meta put.2.audits ],
+        elim (did terms id given change gives old new count room d) [
+          | inl same ↦ retains_by _ _ same.1.meta same.1.audits
+          | inr put ↦
+              retains_by _ _ put.2.meta put.2.audits
+        ],
       )
 
-  pub recast_one : (old new : State) (count : ℕ) → IsRoom old.now → Executes text (Int id ∷ given) old new (Ok count) → count ≡ 1 → Recasts change id old.now.trees new.now.trees
+  pub recast_one : (old new : State) (count : ℕ) → IsRoom old.now
+      → Executes text (Int id ∷ given) old new (Ok count) → count ≡ 1
+      → Recasts change id old.now.trees new.now.trees
   recast_one old new count room h one =
-      elim (did terms id given change gives old new count room (rewritten text terms is plain id given old new count room.schema h)) [
+      elim (did terms id given change gives old new count room
+      (rewritten text terms is plain id given old new count room.schema h)) [
         | inl same ↦ absurd (let e : 0 ≡ 1 = sym same.0 ∙ one in omega (arith, e))
-        | inr put ↦ λ r there. subst (λ (x : Row). Replaces id (recast (change x)) old.now.trees new.now.trees) (same_some put.0 r (sym put.1 ∙ there)) put.2
+        | inr put ↦
+            λ r there. subst (λ (x : Row). Replaces id
+            (recast (change x)) old.now.trees new.now.trees)
+            (same_some put.0 r (sym put.1 ∙ there)) put.2
       ]

@@ -20,54 +20,98 @@ use Rattle.store_tables.specs.Filed.{node_keyed, unread_keyed, body_rowid, node_
 
 -- ---- rows that stay, and what they are read as
 
-module _ {X : Type 0} (f : Row → Option X) (key : X → ℕ) (keyed : (r : Row) (x : X) → f r ≡ Some x → rowid r ≡ Rattle.sqlite.specs.declared.types.Value.TheVariants.Int (pos (key x))) where
-  stay_step : (id : ℕ) (r : Row) (rows : List Row) (o : Option X) (b : Bool) → f r ≡ o → has_rowid (pos id) r ≡ b
-      → filter_map f (without_rowid (pos id) rows) ≡ filter (λ x. not (key x == id)) (filter_map f rows)
-      → filter_map f (cond (not b) (r ∷ without_rowid (pos id) rows) (without_rowid (pos id) rows)) ≡ filter (λ x. not (key x == id)) (cons_option o (filter_map f rows))
+module _ {X : Type 0} (f : Row → Option X) (key : X → ℕ)
+    (keyed : (r : Row) (x : X) → f r ≡ Some x
+    → rowid r ≡ Rattle.sqlite.specs.declared.types.Value.TheVariants.Int (pos (key x))) where
+  stay_step : (id : ℕ) (r : Row) (rows : List Row) (o : Option X) (b : Bool) → f r ≡ o
+      → has_rowid (pos id) r ≡ b
+      → filter_map f (without_rowid (pos id) rows)
+      ≡ filter (λ x. not (key x == id)) (filter_map f rows)
+      → filter_map f (cond (not b) (r ∷ without_rowid (pos id) rows) (without_rowid (pos id) rows))
+      ≡ filter (λ x. not (key x == id)) (cons_option o (filter_map f rows))
   stay_step id r rows None true is has more = more
-  stay_step id r rows None false is has more = ap (λ o. cons_option o (filter_map f (without_rowid (pos id) rows))) is ∙ more
-  stay_step id r rows (Some x) true is has more = more ∙ sym (cond-false _ _ _ (ap not (sym (has_key f key keyed id r x is) ∙ has)))
+  stay_step id r rows None false is has more =
+      ap (λ o. cons_option o (filter_map f (without_rowid (pos id) rows))) is ∙ more
+  stay_step id r rows (Some x) true is has more =
+      more ∙ sym (cond-false _ _ _ (ap not (sym (has_key f key keyed id r x is) ∙ has)))
   stay_step id r rows (Some x) false is has more =
-      ap (λ o. cons_option o (filter_map f (without_rowid (pos id) rows))) is ∙ ap (λ l. x ∷ l) more ∙ sym (cond-true _ _ _ (ap not (sym (has_key f key keyed id r x is) ∙ has)))
+      ap (λ o. cons_option o (filter_map f (without_rowid (pos id) rows))) is ∙ ap (λ l. x ∷ l) more
+      ∙ sym (cond-true _ _ _ (ap not (sym (has_key f key keyed id r x is) ∙ has)))
 
   -- a table without the row of a number is read as before, less what was read of that number
-  pub read_without : (id : ℕ) (rows : List Row) → filter_map f (without_rowid (pos id) rows) ≡ filter (λ x. not (key x == id)) (filter_map f rows)
+  pub read_without : (id : ℕ) (rows : List Row)
+      → filter_map f (without_rowid (pos id) rows)
+      ≡ filter (λ x. not (key x == id)) (filter_map f rows)
   read_without id [] = refl
-  read_without id (r ∷ rows) = stay_step id r rows (f r) (has_rowid (pos id) r) refl refl (read_without id rows)
+  read_without id (r ∷ rows) =
+      stay_step id r rows (f r) (has_rowid (pos id) r) refl refl (read_without id rows)
 
 -- a number that isn't there is not missed
-pub none_missed : (id : ℕ) (ids : List ℕ) → is_among ids id ≡ false → filter (λ x. not (x == id)) ids ≡ ids
+pub none_missed : (id : ℕ) (ids : List ℕ) → is_among ids id ≡ false
+    → filter (λ x. not (x == id)) ids ≡ ids
 none_missed id [] none = refl
 none_missed id (x ∷ ids) none = by (x == id) refl none (none_missed id ids)
   where
-    by : (b : Bool) → (x == id) ≡ b → (b || is_among ids id) ≡ false → (is_among ids id ≡ false → filter (λ x. not (x == id)) ids ≡ ids) → cond (not b) (x ∷ filter (λ x. not (x == id)) ids) (filter (λ x. not (x == id)) ids) ≡ x ∷ ids
+    by : (b : Bool) → (x == id) ≡ b → (b || is_among ids id) ≡ false
+        → (is_among ids id ≡ false → filter (λ x. not (x == id)) ids ≡ ids)
+        → cond (not b) (x ∷ filter (λ x. not (x == id)) ids) (filter (λ x. not (x == id)) ids) ≡ x
+        ∷ ids
     by true is e more = absurd (let z = e in cc)
     by false is e more = ap (λ l. x ∷ l) (more e)
 
 -- an object that is there can be read
-pub readable : (db : Database) (id : ℕ) (n : Node) → IsTable (db.trees 0) → node_at (rows_of db).read id ≡ Some n → is_unreadable (rows_of db) id ≡ false
+pub readable : (db : Database) (id : ℕ) (n : Node) → IsTable (db.trees 0)
+    → node_at (rows_of db).read id ≡ Some n → is_unreadable (rows_of db) id ≡ false
 readable db id n table there = by (find (has_rowid (pos id)) (db.trees 0)) refl
   where
-    seen : (o : Option Node) (m : Option ℕ) → o ≡ Some n → is_some (if is_none o then m else None) ≡ false
+    seen : (o : Option Node) (m : Option ℕ) → o ≡ Some n
+        → is_some (if is_none o then m else None) ≡ false
     seen (Some x) m e = refl
     seen None m e = absurd (not_none n e)
 
-    by : (o : Option Row) → find (has_rowid (pos id)) (db.trees 0) ≡ o → is_unreadable (rows_of db) id ≡ false
-    by None found = absurd (not_none n (sym (ap (option_and_then (λ r. node_in (shown_node r))) found) ∙ sym (node_at_row db id table) ∙ there))
+    by : (o : Option Row) → find (has_rowid (pos id)) (db.trees 0) ≡ o
+        → is_unreadable (rows_of db) id ≡ false
+    by None found =
+        absurd
+        (not_none n (sym (ap (option_and_then (λ r. node_in (shown_node r))) found)
+        ∙ sym (node_at_row db id table) ∙ there))
     by (Some r) found =
-        unread_at_row db id table ∙ ap (λ o. is_some (option_and_then (λ r. unread_in (shown_node r)) o)) found
-        ∙ seen (node_in (shown_node r)) (number_in (rowid r)) (sym (ap (option_and_then (λ r. node_in (shown_node r))) found) ∙ sym (node_at_row db id table) ∙ there)
+        unread_at_row db id table
+        ∙ ap (λ o. is_some (option_and_then (λ r. unread_in (shown_node r)) o)) found
+        ∙ seen (node_in (shown_node r)) (number_in (rowid r))
+        (sym (ap (option_and_then (λ r. node_in (shown_node r))) found)
+        ∙ sym (node_at_row db id table) ∙ there)
 
 -- what is read of a file is equal where nodes, unreadable numbers, bytes, pairs and records are
-pub same_rows : {a b : List Node} {u v : List ℕ} {c d : List (ℕ × List ℕ)} {m k : List (List ℕ × List ℕ)} {x y : List AuditRow} → a ≡ b → u ≡ v → c ≡ d → m ≡ k → x ≡ y
-    → ◌≡◌ {A = Rows} (record { read = record { nodes = a; bodies = c; members = m; audits = x }; unreadable = u }) (record { read = record { nodes = b; bodies = d; members = k; audits = y }; unreadable = v })
+pub same_rows : {a b : List Node} {u v : List ℕ} {c d : List (ℕ × List ℕ)}
+    {m k : List (List ℕ × List ℕ)} {x y : List AuditRow} → a ≡ b → u ≡ v → c ≡ d → m ≡ k → x ≡ y
+    → ◌≡◌ {A = Rows}
+    (record {
+      read = record { nodes = a; bodies = c; members = m; audits = x };
+      unreadable = u;
+    })
+    (record {
+      read = record { nodes = b; bodies = d; members = k; audits = y };
+      unreadable = v;
+    })
 same_rows p q r s t = cc
 
 -- where the row of an object went, what is read is as it was, without the object and its bytes
-pub removed_rows : (db next : Database) (id : ℕ) → IsRoom db → RemovesRow (pos id) db.trees next.trees → CanRemove id (rows_of db) → rows_of next ≡ reading (rows_of db) (without_node (rows_of db).read id)
+pub removed_rows : (db next : Database) (id : ℕ) → IsRoom db
+    → RemovesRow (pos id) db.trees next.trees → CanRemove id (rows_of db)
+    → rows_of next ≡ reading (rows_of db) (without_node (rows_of db).read id)
 removed_rows db next id room gone can =
-    let nodes : nodes_of (next.trees 0) ≡ filter (λ (n : Node). not (n.id == id)) (nodes_of (db.trees 0)) = ap nodes_of gone.nodes ∙ read_without (λ r. node_in (shown_node r)) (λ (n : Node). n.id) node_keyed id (db.trees 0) in
+    let nodes : nodes_of (next.trees 0)
+    ≡ filter (λ (n : Node). not (n.id == id)) (nodes_of (db.trees 0)) =
+    ap nodes_of gone.nodes
+    ∙ read_without (λ r. node_in (shown_node r)) (λ (n : Node). n.id) node_keyed id
+    (db.trees 0) in
     let unread : unread_of (next.trees 0) ≡ unread_of (db.trees 0) =
-    ap unread_of gone.nodes ∙ read_without (λ r. unread_in (shown_node r)) (λ n. n) unread_keyed id (db.trees 0) ∙ none_missed id (unread_of (db.trees 0)) (readable db id can.node room.nodes.0 can.is_there) in
-    let bodies : bodies_of (next.trees 2) ≡ filter (λ (x : ℕ × List ℕ). not (x.0 == id)) (bodies_of (db.trees 2)) = ap bodies_of gone.bodies ∙ read_without body_in (λ (x : ℕ × List ℕ). x.0) body_rowid id (db.trees 2) in
+    ap unread_of gone.nodes
+    ∙ read_without (λ r. unread_in (shown_node r)) (λ n. n) unread_keyed id (db.trees 0)
+    ∙ none_missed id (unread_of (db.trees 0)) (readable db id can.node room.nodes.0 can.is_there) in
+    let bodies : bodies_of (next.trees 2)
+    ≡ filter (λ (x : ℕ × List ℕ). not (x.0 == id)) (bodies_of (db.trees 2)) =
+    ap bodies_of gone.bodies
+    ∙ read_without body_in (λ (x : ℕ × List ℕ). x.0) body_rowid id (db.trees 2) in
     same_rows nodes unread bodies (ap pairs_of gone.members) (ap (filter_map audit_in) gone.audits)

@@ -16,27 +16,43 @@ use Rattle.store_tables.proofs.Put.{IsOther, others, put_again, put_by, put_seen
 use Rattle.store_tables.specs.Filed.{node_keyed, unread_keyed, nodes_rise}
 use Rattle.store_tables.proofs.Removed.{read_without, none_missed, readable, same_rows}
 
-pub node_put : (n : Node) (nodes : List Node) → put_node n nodes ≡ put_by (λ (m : Node). m.id) n nodes
+pub node_put : (n : Node) (nodes : List Node)
+    → put_node n nodes ≡ put_by (λ (m : Node). m.id) n nodes
 node_put n [] = refl
-node_put n (other ∷ others) = ap (λ l. if nat_lt other.id n.id then other ∷ l else if other.id == n.id then n ∷ others else n ∷ other ∷ others) (node_put n others)
+node_put n (other ∷ others) =
+    ap (λ l. if nat_lt other.id n.id then other ∷ l else if other.id == n.id then n ∷ others else n
+    ∷ other ∷ others) (node_put n others)
 
 abbrev see : Row → Option Node
 see r = node_in (shown_node r)
 
 -- the row of an object is written anew, and so is the object
-pub replaced_rows : (db next : Database) (id : ℕ) (values : Row) (before n : Node) → IsRoom db → node_at (rows_of db).read id ≡ Some before → node_in (shown_node (stored_node (pos id) values)) ≡ Some n → n.id ≡ id
-    → Replaces (pos id) values db.trees next.trees → rows_of next ≡ reading (rows_of db) (with_node (rows_of db).read n)
+pub replaced_rows : (db next : Database) (id : ℕ) (values : Row) (before n : Node) → IsRoom db
+    → node_at (rows_of db).read id ≡ Some before
+    → node_in (shown_node (stored_node (pos id) values)) ≡ Some n → n.id ≡ id
+    → Replaces (pos id) values db.trees next.trees
+    → rows_of next ≡ reading (rows_of db) (with_node (rows_of db).read n)
 replaced_rows db next id values before n room there seen is put =
     let new = stored_node (pos id) values in
     let left = without_rowid (pos id) (db.trees 0) in
-    let table : IsTable left = (IsShaped-filter Shape.Table (λ r. not (has_rowid (pos id) r)) (db.trees 0) room.nodes).0 in
+    let table : IsTable left =
+    (IsShaped-filter Shape.Table (λ r. not (has_rowid (pos id) r)) (db.trees 0) room.nodes).0 in
     let gone : AllByRecursion (IsOther id) left = others id (db.trees 0) in
     let nodes : nodes_of (next.trees 0) ≡ put_node n (nodes_of (db.trees 0)) =
-    ap nodes_of put.nodes ∙ put_seen see (λ (m : Node). m.id) node_keyed new n seen left table (subst (λ k. AllByRecursion (IsOther k) left) (sym is) gone)
-    ∙ ap (put_by (λ (m : Node). m.id) n) (read_without (λ r. node_in (shown_node r)) (λ (m : Node). m.id) node_keyed id (db.trees 0))
-    ∙ ap (λ k. put_by (λ (m : Node). m.id) n (filter (λ (m : Node). not (m.id == k)) (nodes_of (db.trees 0)))) (sym is) ∙ put_again (λ (m : Node). m.id) n (nodes_of (db.trees 0)) 0 (nodes_rise (db.trees 0) room.nodes.0) ∙ sym (node_put n (nodes_of (db.trees 0))) in
-    let nothing : unread_in (shown_node new) ≡ None = ap (λ o. if is_none o then number_in (rowid new) else None) seen in
+    ap nodes_of put.nodes
+    ∙ put_seen see (λ (m : Node). m.id) node_keyed new n seen left table
+    (subst (λ k. AllByRecursion (IsOther k) left) (sym is) gone)
+    ∙ ap (put_by (λ (m : Node). m.id) n)
+    (read_without (λ r. node_in (shown_node r)) (λ (m : Node). m.id) node_keyed id (db.trees 0))
+    ∙ ap (λ k. put_by (λ (m : Node). m.id) n
+    (filter (λ (m : Node). not (m.id == k)) (nodes_of (db.trees 0)))) (sym is)
+    ∙ put_again (λ (m : Node). m.id) n (nodes_of (db.trees 0)) 0
+    (nodes_rise (db.trees 0) room.nodes.0) ∙ sym (node_put n (nodes_of (db.trees 0))) in
+    let nothing : unread_in (shown_node new) ≡ None = ap
+    (λ o. if is_none o then number_in (rowid new) else None) seen in
     let unread : unread_of (next.trees 0) ≡ unread_of (db.trees 0) =
     ap unread_of put.nodes ∙ unseen (λ r. unread_in (shown_node r)) new id refl left nothing gone
-    ∙ read_without (λ r. unread_in (shown_node r)) (λ k. k) unread_keyed id (db.trees 0) ∙ none_missed id (unread_of (db.trees 0)) (readable db id before room.nodes.0 there) in
-    same_rows nodes unread (ap bodies_of put.bodies) (ap pairs_of put.members) (ap (filter_map audit_in) put.audits)
+    ∙ read_without (λ r. unread_in (shown_node r)) (λ k. k) unread_keyed id (db.trees 0)
+    ∙ none_missed id (unread_of (db.trees 0)) (readable db id before room.nodes.0 there) in
+    same_rows nodes unread (ap bodies_of put.bodies) (ap pairs_of put.members)
+    (ap (filter_map audit_in) put.audits)

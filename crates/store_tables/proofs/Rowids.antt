@@ -33,7 +33,8 @@ pub same_int : (m n : ℤ) → is_eq (value_cmp (Int m) (Int n)) ≡ true → m 
 same_int m n h = int_cmp-IsAntisymmetric m n (is_equal _ (ap is_eq (sym (value_cmp-Int m n)) ∙ h))
 
 -- a row that is found by an integer has it as its rowid, where the rowid is an integer at all
-pub rowid_is : (id : ℤ) (r : Row) → IsTrue (is_int (rowid r)) → has_rowid id r ≡ true → rowid r ≡ Int id
+pub rowid_is : (id : ℤ) (r : Row) → IsTrue (is_int (rowid r)) → has_rowid id r ≡ true
+    → rowid r ≡ Int id
 rowid_is id r int h = go (rowid r) int h
   where
     go : (v : Value) → IsTrue (is_int v) → is_eq (value_cmp v (Int id)) ≡ true → v ≡ Int id
@@ -43,50 +44,61 @@ rowid_is id r int h = go (rowid r) int h
     go (Text t) i e = absurd (let y = i in cc)
     go (Blob b) i e = absurd (let y = i in cc)
 
-first_step : {A : Type 0} (p : A → Bool) (y : A) (ys : List A) (x : A) (more : List A) (b : Bool) → p y ≡ b → (filter p ys ≡ x ∷ more → (find p ys ≡ Some x) × (p x ≡ true))
-    → cond b (y ∷ filter p ys) (filter p ys) ≡ x ∷ more → (cond b (Some y) (find p ys) ≡ Some x) × (p x ≡ true)
-first_step p y ys x more true is later e = let same : y ≡ x = cc in (ap Some same, subst (λ z. p z ≡ true) same is)
+first_step : {A : Type 0} (p : A → Bool) (y : A) (ys : List A) (x : A) (more : List A) (b : Bool)
+    → p y ≡ b → (filter p ys ≡ x ∷ more → (find p ys ≡ Some x) × (p x ≡ true))
+    → cond b (y ∷ filter p ys) (filter p ys) ≡ x ∷ more → (cond b (Some y) (find p ys) ≡ Some x)
+    × (p x ≡ true)
+first_step p y ys x more true is later e = let same : y ≡ x = cc in
+    (ap Some same, subst (λ z. p z ≡ true) same is)
 first_step p y ys x more false is later e = later e
 
 -- the first of the rows that pass a test is the one that `find` gives, and it passes
-pub first_one : {A : Type 0} (p : A → Bool) (xs : List A) (x : A) (more : List A) → filter p xs ≡ x ∷ more → (find p xs ≡ Some x) × (p x ≡ true)
+pub first_one : {A : Type 0} (p : A → Bool) (xs : List A) (x : A) (more : List A)
+    → filter p xs ≡ x ∷ more → (find p xs ≡ Some x) × (p x ≡ true)
 first_one p [] x more h = absurd (let e = h in cc)
 first_one p (y ∷ ys) x more h = first_step p y ys x more (p y) refl (first_one p ys x more) h
 
 -- where just one row passes a test, `find` gives it, and it passes
-pub only_one : {A : Type 0} (p : A → Bool) (xs : List A) (x : A) → filter p xs ≡ x ∷ [] → (find p xs ≡ Some x) × (p x ≡ true)
+pub only_one : {A : Type 0} (p : A → Bool) (xs : List A) (x : A) → filter p xs ≡ x ∷ []
+    → (find p xs ≡ Some x) × (p x ≡ true)
 only_one p xs x h = first_one p xs x [] h
 
 -- taking a number out changes nothing where it is known of each row that it has another
-pub none_taken : (id : ℤ) (rows : List Row) → AllByRecursion (λ r. has_rowid id r ≡ false) rows → without_rowid id rows ≡ rows
+pub none_taken : (id : ℤ) (rows : List Row) → AllByRecursion (λ r. has_rowid id r ≡ false) rows
+    → without_rowid id rows ≡ rows
 none_taken id [] all = refl
 none_taken id (r ∷ rows) all = rw all.0 (ap (λ l. r ∷ l) (none_taken id rows all.1))
 
 -- a property of each row that a list has, as one of the whole list
-pub each_of : {X : Type 0} (P : X → Type 0) (rows : List X) → ((x : X) → Has rows x → P x) → AllByRecursion P rows
+pub each_of : {X : Type 0} (P : X → Type 0) (rows : List X) → ((x : X) → Has rows x → P x)
+    → AllByRecursion P rows
 each_of P [] h = tt
 each_of P (x ∷ rows) h = (h x (inl refl), each_of P rows (λ y there. h y (inr there)))
 
 -- the way back: from a property of a whole list of rows to one row of it
-pub of_each : {X : Type 0} (P : X → Type 0) (rows : List X) → AllByRecursion P rows → (x : X) → Has rows x → P x
+pub of_each : {X : Type 0} (P : X → Type 0) (rows : List X) → AllByRecursion P rows → (x : X)
+    → Has rows x → P x
 of_each P (y ∷ rows) all x (inl e) = subst P (sym e) all.0
 of_each P (y ∷ rows) all x (inr there) = of_each P rows all.1 x there
 of_each P [] all x there = absurd there
 
 -- of two steps that wait, the last is taken off the stack and the first still waits
-pub pop_two : {A : Type 0} (a b : A) (below : List A) (w : A) → a ∷ b ∷ [] ≡ below ++ w ∷ [] → (below ≡ a ∷ []) × (w ≡ b)
+pub pop_two : {A : Type 0} (a b : A) (below : List A) (w : A) → a ∷ b ∷ [] ≡ below ++ w ∷ []
+    → (below ≡ a ∷ []) × (w ≡ b)
 pop_two a b [] w h = absurd (let e = h in cc)
 pop_two a b (x ∷ []) w h = (let e = h in cc, let e = h in cc)
 pop_two a b (x ∷ y ∷ []) w h = absurd (let e = h in cc)
 pop_two a b (x ∷ y ∷ z ∷ more) w h = absurd (let e = h in cc)
 
 -- of one step that waits, it is taken off the stack and nothing waits any more
-pub pop_one : {A : Type 0} (a : A) (below : List A) (w : A) → a ∷ [] ≡ below ++ w ∷ [] → (below ≡ []) × (w ≡ a)
+pub pop_one : {A : Type 0} (a : A) (below : List A) (w : A) → a ∷ [] ≡ below ++ w ∷ []
+    → (below ≡ []) × (w ≡ a)
 pop_one a [] w h = (refl, let e = h in cc)
 pop_one a (x ∷ []) w h = absurd (let e = h in cc)
 pop_one a (x ∷ y ∷ more) w h = absurd (let e = h in cc)
 
-none_pass : {A : Type 0} (p : A → Bool) (xs : List A) → AllByRecursion (λ x. p x ≡ false) xs → filter p xs ≡ []
+none_pass : {A : Type 0} (p : A → Bool) (xs : List A) → AllByRecursion (λ x. p x ≡ false) xs
+    → filter p xs ≡ []
 none_pass p [] all = refl
 none_pass p (x ∷ xs) all = rw all.0 (none_pass p xs all.1)
 
@@ -96,21 +108,32 @@ is_not_less Equal h = refl
 is_not_less Greater h = refl
 
 -- a table has a rowid at most once
-pub at_most_one : (id : ℤ) (rows : List Row) → IsTable rows → (filter (has_rowid id) rows ≡ []) ⊎ ((r : Row) × (filter (has_rowid id) rows ≡ r ∷ []))
+pub at_most_one : (id : ℤ) (rows : List Row) → IsTable rows → (filter (has_rowid id) rows ≡ [])
+    ⊎ ((r : Row) × (filter (has_rowid id) rows ≡ r ∷ []))
 at_most_one id [] table = inl refl
 at_most_one id (r ∷ rows) table = go (has_rowid id r) refl (at_most_one id rows table.1)
   where
-    go : (b : Bool) → has_rowid id r ≡ b → ((filter (has_rowid id) rows ≡ []) ⊎ ((x : Row) × (filter (has_rowid id) rows ≡ x ∷ [])))
-        → (cond b (r ∷ filter (has_rowid id) rows) (filter (has_rowid id) rows) ≡ []) ⊎ ((x : Row) × (cond b (r ∷ filter (has_rowid id) rows) (filter (has_rowid id) rows) ≡ x ∷ []))
-    go true is more = inr (r, ap (λ l. r ∷ l) (none_pass _ rows (later_rowids (Int id) r rows (is_not_less _ is) table.0)))
+    go : (b : Bool) → has_rowid id r ≡ b
+        → ((filter (has_rowid id) rows ≡ []) ⊎ ((x : Row) × (filter (has_rowid id) rows ≡ x ∷ [])))
+        → (cond b (r ∷ filter (has_rowid id) rows) (filter (has_rowid id) rows) ≡ [])
+        ⊎ ((x : Row)
+        × (cond b (r ∷ filter (has_rowid id) rows) (filter (has_rowid id) rows) ≡ x ∷ []))
+    go true is more =
+        inr (
+          r,
+          ap (λ l. r ∷ l)
+              (none_pass _ rows (later_rowids (Int id) r rows (is_not_less _ is) table.0)),
+        )
     go false is more = more
 
 -- taking a number out changes nothing where the search for it comes back empty
-pub kept_all : (id : ℤ) (rows : List Row) → filter (has_rowid id) rows ≡ [] → without_rowid id rows ≡ rows
+pub kept_all : (id : ℤ) (rows : List Row) → filter (has_rowid id) rows ≡ []
+    → without_rowid id rows ≡ rows
 kept_all id [] none = refl
 kept_all id (r ∷ rows) none = go (has_rowid id r) none (kept_all id rows)
   where
-    go : (b : Bool) → cond b (r ∷ filter (has_rowid id) rows) (filter (has_rowid id) rows) ≡ [] → (filter (has_rowid id) rows ≡ [] → without_rowid id rows ≡ rows)
+    go : (b : Bool) → cond b (r ∷ filter (has_rowid id) rows) (filter (has_rowid id) rows) ≡ []
+        → (filter (has_rowid id) rows ≡ [] → without_rowid id rows ≡ rows)
         → cond (not b) (r ∷ without_rowid id rows) (without_rowid id rows) ≡ r ∷ rows
     go true e more = absurd (let x = e in cc)
     go false e more = ap (λ l. r ∷ l) (more e)
@@ -120,7 +143,8 @@ pub has_found : {A : Type 0} (p : A → Bool) (xs : List A) (x : A) → find p x
 has_found p [] x h = absurd (let e = h in cc)
 has_found p (y ∷ ys) x h = go (p y) h (has_found p ys x)
   where
-    go : (b : Bool) → cond b (Some y) (find p ys) ≡ Some x → (find p ys ≡ Some x → Has ys x) → Has (y ∷ ys) x
+    go : (b : Bool) → cond b (Some y) (find p ys) ≡ Some x → (find p ys ≡ Some x → Has ys x)
+        → Has (y ∷ ys) x
     go true e more = inl (let e' = e in cc)
     go false e more = inr (more e)
 

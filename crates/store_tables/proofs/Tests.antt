@@ -22,12 +22,16 @@ and_true true = refl
 and_true false = refl
 
 -- two tests that agree on each row keep the same rows
-pub filter_same : {A : Type 0} (p q : A → Bool) → ((x : A) → p x ≡ q x) → (xs : List A) → filter p xs ≡ filter q xs
+pub filter_same : {A : Type 0} (p q : A → Bool) → ((x : A) → p x ≡ q x) → (xs : List A)
+    → filter p xs ≡ filter q xs
 filter_same p q same [] = refl
-filter_same p q same (x ∷ xs) = ap (λ b. cond b (x ∷ filter p xs) (filter p xs)) (same x) ∙ ap (λ l. cond (q x) (x ∷ l) l) (filter_same p q same xs)
+filter_same p q same (x ∷ xs) =
+    ap (λ b. cond b (x ∷ filter p xs) (filter p xs)) (same x)
+    ∙ ap (λ l. cond (q x) (x ∷ l) l) (filter_same p q same xs)
 
 -- from what is known of the value of a result, if it is Ok, to what follows from it
-pub if_ok : {A E : Type 0} (r : Result A E) (P Q : A → Type 0) → ((a : A) → P a → Q a) → IfOk r P → IfOk r Q
+pub if_ok : {A E : Type 0} (r : Result A E) (P Q : A → Type 0) → ((a : A) → P a → Q a) → IfOk r P
+    → IfOk r Q
 if_ok (Ok a) P Q f p = f a p
 if_ok (Err e) P Q f p = tt
 
@@ -37,7 +41,8 @@ told true = refl
 told false = refl
 
 -- equality with an integer in SQL is that of the order of values, by which NULL equals none
-pub equals_int : (a : Value) (n : ℤ) → is_true (binary (Compare Eq Binary) a (Int n)) ≡ is_eq (value_cmp a (Int n))
+pub equals_int : (a : Value) (n : ℤ)
+    → is_true (binary (Compare Eq Binary) a (Int n)) ≡ is_eq (value_cmp a (Int n))
 unfolding binary
 equals_int Null n = sym (ap is_eq (value_cmp-Null (Int n)))
 equals_int (Int m) n = told _
@@ -46,7 +51,8 @@ equals_int (Text t) n = told _
 equals_int (Blob b) n = told _
 
 -- equality with a text in SQL, byte by byte, is that of the order of values
-pub equals_text : (a : Value) (t : List ℕ) → is_true (binary (Compare Eq Binary) a (Text t)) ≡ is_eq (value_cmp a (Text t))
+pub equals_text : (a : Value) (t : List ℕ)
+    → is_true (binary (Compare Eq Binary) a (Text t)) ≡ is_eq (value_cmp a (Text t))
 unfolding binary
 equals_text Null t = sym (ap is_eq (value_cmp-Null (Text t)))
 equals_text (Int m) t = told _
@@ -64,7 +70,8 @@ at_least_is Equal = refl
 at_least_is Greater = refl
 
 -- a value is `>=` an integer in SQL where the order doesn't put it below, as it puts NULL
-pub at_least_int : (a : Value) (n : ℤ) → is_true (binary (Compare Ge Binary) a (Int n)) ≡ not (is_lt (value_cmp a (Int n)))
+pub at_least_int : (a : Value) (n : ℤ)
+    → is_true (binary (Compare Ge Binary) a (Int n)) ≡ not (is_lt (value_cmp a (Int n)))
 unfolding binary
 at_least_int Null n = sym (ap (λ o. not (is_lt o)) (value_cmp-Null (Int n)))
 at_least_int (Int m) n = told _ ∙ at_least_is _
@@ -73,19 +80,33 @@ at_least_int (Text t) n = told _ ∙ at_least_is _
 at_least_int (Blob b) n = told _ ∙ at_least_is _
 
 -- the test of queries and writes by number is met by the row with that rowid
-pub passes_id : (id : ℤ) (r : Row) → passes (matches_parameter 0 0 ∷ []) (Int id ∷ []) r ≡ has_rowid id r
+pub passes_id : (id : ℤ) (r : Row)
+    → passes (matches_parameter 0 0 ∷ []) (Int id ∷ []) r ≡ has_rowid id r
 passes_id id r = and_true _ ∙ equals_int (rowid r) id
 
 -- the tests of the queries on a folder's children are met by the numbered rows with that parent
-pub passes_child : (parent : ℤ) (r : Row) → passes (matches_parameter 2 0 ∷ is_kept ∷ []) (Int parent ∷ []) r ≡ is_child parent r
-passes_child parent r = ap (λ b. b && (is_true (binary (Compare Ge Binary) (rowid r) (Int (pos 1))) && true)) (equals_int (column r 2) parent)
-    ∙ ap (λ b. is_eq (value_cmp (column r 2) (Int parent)) && b) (and_true _ ∙ at_least_int (rowid r) (pos 1))
+pub passes_child : (parent : ℤ) (r : Row)
+    → passes (matches_parameter 2 0 ∷ is_kept ∷ []) (Int parent ∷ []) r ≡ is_child parent r
+passes_child parent r =
+    ap (λ b. b && (is_true (binary (Compare Ge Binary) (rowid r) (Int (pos 1))) && true))
+    (equals_int (column r 2) parent)
+    ∙ ap (λ b. is_eq (value_cmp (column r 2) (Int parent)) && b)
+    (and_true _ ∙ at_least_int (rowid r) (pos 1))
 
 -- the tests by parent and name are met by the numbered rows with that parent and that name
-pub passes_child_named : (parent : ℤ) (name : List ℕ) (r : Row) → passes (matches_parameter 2 0 ∷ matches_parameter 3 1 ∷ is_kept ∷ []) (Int parent ∷ Text name ∷ []) r ≡ is_child_named parent name r
-passes_child_named parent name r = ap (λ b. b && (is_true (binary (Compare Eq Binary) (column r 3) (Text name)) && (is_true (binary (Compare Ge Binary) (rowid r) (Int (pos 1))) && true))) (equals_int (column r 2) parent)
-    ∙ ap (λ b. is_eq (value_cmp (column r 2) (Int parent)) && (b && (is_true (binary (Compare Ge Binary) (rowid r) (Int (pos 1))) && true))) (equals_text (column r 3) name)
-    ∙ ap (λ b. is_eq (value_cmp (column r 2) (Int parent)) && (is_eq (value_cmp (column r 3) (Text name)) && b)) (and_true _ ∙ at_least_int (rowid r) (pos 1))
+pub passes_child_named : (parent : ℤ) (name : List ℕ) (r : Row)
+    → passes (matches_parameter 2 0 ∷ matches_parameter 3 1 ∷ is_kept ∷ [])
+    (Int parent ∷ Text name ∷ []) r ≡ is_child_named parent name r
+passes_child_named parent name r =
+    ap (λ b. b && (is_true (binary (Compare Eq Binary) (column r 3) (Text name))
+    && (is_true (binary (Compare Ge Binary) (rowid r) (Int (pos 1))) && true)))
+    (equals_int (column r 2) parent)
+    ∙ ap (λ b. is_eq (value_cmp (column r 2) (Int parent))
+    && (b && (is_true (binary (Compare Ge Binary) (rowid r) (Int (pos 1))) && true)))
+    (equals_text (column r 3) name)
+    ∙ ap (λ b. is_eq (value_cmp (column r 2) (Int parent))
+    && (is_eq (value_cmp (column r 3) (Text name)) && b))
+    (and_true _ ∙ at_least_int (rowid r) (pos 1))
 
 -- the one test of the query for all numbers is met by the rows numbered from 1 on
 pub passes_numbered : (r : Row) → passes (is_kept ∷ []) [] r ≡ is_numbered r
@@ -93,9 +114,13 @@ passes_numbered r = and_true _ ∙ at_least_int (rowid r) (pos 1)
 
 -- the tests of the query for the root are met by the numbered rows that have no parent
 pub passes_top : (r : Row) → passes top_tests [] r ≡ is_top r
-passes_top r = ap (λ b. b && (is_true (binary (Compare Ge Binary) (rowid r) (Int (pos 1))) && true)) (is_null_is (column r 2))
-    ∙ ap (λ b. is_eq (value_cmp (column r 2) Null) && b) (and_true _ ∙ at_least_int (rowid r) (pos 1))
+passes_top r =
+    ap (λ b. b && (is_true (binary (Compare Ge Binary) (rowid r) (Int (pos 1))) && true))
+    (is_null_is (column r 2))
+    ∙ ap (λ b. is_eq (value_cmp (column r 2) Null) && b)
+    (and_true _ ∙ at_least_int (rowid r) (pos 1))
 
 -- the test of the query for groups is met by the rows of `members` with that user
-pub passes_user : (user : List ℕ) (r : Row) → passes (matches_parameter 2 0 ∷ []) (Text user ∷ []) r ≡ is_user_row user r
+pub passes_user : (user : List ℕ) (r : Row)
+    → passes (matches_parameter 2 0 ∷ []) (Text user ∷ []) r ≡ is_user_row user r
 passes_user user r = and_true _ ∙ equals_text (column r 2) user

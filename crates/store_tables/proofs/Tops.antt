@@ -33,47 +33,74 @@ numbered r n is =
 -- ---- the root
 
 no_parent : (v : Value) (p : Option ℕ) → parent_in v ≡ Some p → is_none p ≡ is_eq (value_cmp v Null)
-no_parent Null p is = ap is_none (let same : p ≡ None = cc in same) ∙ sym (ap is_eq (value_cmp-Null Null))
-no_parent (Int z) p is = ap is_none (mapped (number_in (Int z)) p is).2 ∙ sym (ap is_eq (value_cmp-apart (Int z) Null (λ e. let e' : 1 ≡ 0 = e in omega (arith, e'))))
+no_parent Null p is =
+    ap is_none (let same : p ≡ None = cc in same) ∙ sym (ap is_eq (value_cmp-Null Null))
+no_parent (Int z) p is =
+    ap is_none (mapped (number_in (Int z)) p is).2
+    ∙ sym (ap is_eq (value_cmp-apart (Int z) Null (λ e. let e' : 1 ≡ 0 = e in omega (arith, e'))))
 no_parent (Real x) p is = absurd (let e = is in cc)
 no_parent (Text t) p is = absurd (let e = is in cc)
 no_parent (Blob b) p is = absurd (let e = is in cc)
 
 top_agrees : (r : Row) (n : Node) → see r ≡ Some n → is_none n.parent ≡ is_top r
-top_agrees r n is = no_parent (column r 2) n.parent (node_parts (shown_node r) n is).parent ∙ sym (ap (λ b. is_eq (value_cmp (column r 2) Null) && b) (numbered r n is) ∙ and_true _)
+top_agrees r n is =
+    no_parent (column r 2) n.parent (node_parts (shown_node r) n is).parent
+    ∙ sym (ap (λ b. is_eq (value_cmp (column r 2) Null) && b) (numbered r n is) ∙ and_true _)
 
 module _ (db : Database) (room : IsRoom db) where
-  top_found : (r : Row) (more : List Row) → filter is_top (db.trees 0) ≡ r ∷ more → (o : Option Node) → see r ≡ o → (m : Option ℕ) → number_in (rowid r) ≡ m → Tells HasNoRoot IsRootOf (rows_of db) (top_of (seen_as (option_map Some o) m))
-  top_found r more first (Some n) seen m number = first_read see (λ (n : Node). is_none n.parent) is_top top_agrees (db.trees 0) r more n first seen
+  top_found : (r : Row) (more : List Row) → filter is_top (db.trees 0) ≡ r ∷ more
+      → (o : Option Node) → see r ≡ o → (m : Option ℕ) → number_in (rowid r) ≡ m
+      → Tells HasNoRoot IsRootOf (rows_of db) (top_of (seen_as (option_map Some o) m))
+  top_found r more first (Some n) seen m number =
+      first_read see (λ (n : Node). is_none n.parent) is_top top_agrees
+      (db.trees 0) r more n first seen
   top_found r more first None seen None number = tt
-  top_found r more first None seen (Some id) number = inl (unread_row db room r id (has_found is_top (db.trees 0) r (first_one is_top (db.trees 0) r more first).0) seen number)
+  top_found r more first None seen (Some id) number =
+      inl (unread_row db room r id
+      (has_found is_top (db.trees 0) r (first_one is_top (db.trees 0) r more first).0) seen number)
 
-  pub tells_top : (rows : List Row) → HasTop db.trees rows → Tells HasNoRoot IsRootOf (rows_of db) (top_of (seen_only rows))
+  pub tells_top : (rows : List Row) → HasTop db.trees rows
+      → Tells HasNoRoot IsRootOf (rows_of db) (top_of (seen_only rows))
   tells_top rows shown = by (filter is_top (db.trees 0)) refl
     where
-      by : (kept : List Row) → filter is_top (db.trees 0) ≡ kept → Tells HasNoRoot IsRootOf (rows_of db) (top_of (seen_only rows))
+      by : (kept : List Row) → filter is_top (db.trees 0) ≡ kept
+          → Tells HasNoRoot IsRootOf (rows_of db) (top_of (seen_only rows))
       by [] none =
-          subst (λ l. Tells HasNoRoot IsRootOf (rows_of db) (top_of (seen_only l))) (sym (shown ∙ ap (λ l. take 1 (map shown_node l)) none))
-          (inr (refl, none_read see (λ (n : Node). is_none n.parent) is_top top_agrees (db.trees 0) none))
+          subst (λ l. Tells HasNoRoot IsRootOf (rows_of db) (top_of (seen_only l)))
+          (sym (shown ∙ ap (λ l. take 1 (map shown_node l)) none))
+          (inr (
+            refl,
+            none_read see (λ (n : Node). is_none n.parent) is_top top_agrees
+                (db.trees 0) none,
+          ))
       by (r ∷ more) first =
-          subst (λ l. Tells HasNoRoot IsRootOf (rows_of db) (top_of (seen_only l))) (sym (shown ∙ ap (λ l. take 1 (map shown_node l)) first))
+          subst (λ l. Tells HasNoRoot IsRootOf (rows_of db) (top_of (seen_only l)))
+          (sym (shown ∙ ap (λ l. take 1 (map shown_node l)) first))
           (top_found r more first (see r) refl (number_in (rowid r)) refl)
 
 -- ---- children
 
-pub under_agrees : (parent : ℕ) (r : Row) (n : Node) → see r ≡ Some n → has_parent parent n ≡ is_child (pos parent) r
+pub under_agrees : (parent : ℕ) (r : Row) (n : Node) → see r ≡ Some n
+    → has_parent parent n ≡ is_child (pos parent) r
 under_agrees parent r n is =
-    parent_agrees parent (column r 2) n.parent (node_parts (shown_node r) n is).parent ∙ sym (ap (λ b. is_eq (value_cmp (column r 2) (Int (pos parent))) && b) (numbered r n is) ∙ and_true _)
+    parent_agrees parent (column r 2) n.parent (node_parts (shown_node r) n is).parent
+    ∙ sym (ap (λ b. is_eq (value_cmp (column r 2) (Int (pos parent))) && b) (numbered r n is)
+    ∙ and_true _)
 
 -- the children are what the rows of that parent are read as
-pub children_read : (db : Database) (parent : ℕ) → children_of (rows_of db).read parent ≡ sorted_by_name (filter_map see (filter (is_child (pos parent)) (db.trees 0)))
-children_read db parent = ap sorted_by_name (filter_read see (has_parent parent) (is_child (pos parent)) (under_agrees parent) (db.trees 0))
+pub children_read : (db : Database) (parent : ℕ)
+    → children_of (rows_of db).read parent
+    ≡ sorted_by_name (filter_map see (filter (is_child (pos parent)) (db.trees 0)))
+children_read db parent =
+    ap sorted_by_name (filter_read see (has_parent parent) (is_child (pos parent))
+    (under_agrees parent) (db.trees 0))
 
 pub kept_from : {A : Type 0} (p : A → Bool) (xs : List A) (x : A) → Has (filter p xs) x → Has xs x
 kept_from p [] x there = absurd there
 kept_from p (y ∷ ys) x there = by (p y) there (kept_from p ys x)
   where
-    by : (b : Bool) → Has (cond b (y ∷ filter p ys) (filter p ys)) x → (Has (filter p ys) x → Has ys x) → Has (y ∷ ys) x
+    by : (b : Bool) → Has (cond b (y ∷ filter p ys) (filter p ys)) x
+        → (Has (filter p ys) x → Has ys x) → Has (y ∷ ys) x
     by true (inl e) more = inl e
     by true (inr later) more = inr (more later)
     by false later more = inr (more later)

@@ -61,14 +61,17 @@ pub record Columns : Type 0 where
 
 -- the cells of a row of `nodes` after its number, as they are bound to the INSERT of an object
 abbrev pub values : Columns → Row
-values c = c.parent ∷ Text c.name ∷ Int c.kind ∷ Text c.owner ∷ Text c.group ∷ Int c.dacl_flags ∷ Int c.sacl_flags ∷ Text c.dacl_own ∷ Text c.dacl_inh ∷ Text c.sacl_own ∷ Text c.sacl_inh ∷ []
+values c =
+    c.parent ∷ Text c.name ∷ Int c.kind ∷ Text c.owner ∷ Text c.group ∷ Int c.dacl_flags
+    ∷ Int c.sacl_flags ∷ Text c.dacl_own ∷ Text c.dacl_inh ∷ Text c.sacl_own ∷ Text c.sacl_inh ∷ []
 
 -- the edit of an UPDATE of `nodes`: the rows found go, and come back under the same numbers
 abbrev pub update_edit : Trees → List Row → Edit
 update_edit db rows = edit_of db nodes_table (ids_of rows) Given 1 rows
 
 -- a row that keeps its number has no child to spare
-pub keeps_number : (id : ℤ) (old new : Row) → works room_schema Enforced 0 0 ((Int id ∷ old) ∷ []) ((Int id ∷ new) ∷ []) ≡ []
+pub keeps_number : (id : ℤ) (old new : Row)
+    → works room_schema Enforced 0 0 ((Int id ∷ old) ∷ []) ((Int id ∷ new) ∷ []) ≡ []
 unfolding everything binary
 keeps_number id old new = let same = has_itself id in rw same refl
 

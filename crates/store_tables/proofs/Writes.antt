@@ -26,7 +26,8 @@ use Rattle.store_tables.proofs.Answers.{shows, selected}
 use Rattle.store_tables.proofs.Tests.{filter_same, passes_id}
 
 -- a part that gave a value did not stop on the way
-pub went : {B E R : Type 0} {b : B} {Stops : E → Type 0} → ((stop : E) × Stops stop × (Ok b ≡ Err stop)) ⊎ R → R
+pub went : {B E R : Type 0} {b : B} {Stops : E → Type 0}
+    → ((stop : E) × Stops stop × (Ok b ≡ Err stop)) ⊎ R → R
 went (inl stopped) = absurd (let e = stopped.2 in cc)
 went (inr on) = on
 
@@ -45,34 +46,58 @@ delete_edit db rows = edit_of db nodes_table (ids_of rows) Given 0 []
 -- which rows are taken out, and what the edit then leaves
 pub record Deleted (id : ℤ) (old new : State) (count : ℕ) : Type 0 where
   pub rows : List Row
-  pub found : IsPermutation (map (shows (col 1 0 ∷ []) (Int id ∷ [])) (filter (has_rowid id) (old.now.trees 0))) rows
+  pub found : IsPermutation
+      (map (shows (col 1 0 ∷ []) (Int id ∷ [])) (filter (has_rowid id) (old.now.trees 0))) rows
   pub next : Trees
   pub edited : Edited room_schema Enforced old.now.trees (delete_edit old.now.trees rows) (Ok next)
   pub now : new.now ≡ record { schema = room_schema; trees = next }
   pub counted : count ≡ length rows
   pub sound : IsDatabase new.now
-  pub shown : Shows old new new.now (if old.in_transaction then old.committed else new.now) old.in_transaction
+  pub shown : Shows old new new.now
+      (if old.in_transaction then old.committed else new.now) old.in_transaction
 
 -- a DELETE by number that answered a count: it took out the rows with that rowid
-pub deleted : (id : ℤ) (old new : State) (count : ℕ) → old.now.schema ≡ room_schema → Executes delete_text (Int id ∷ []) old new (Ok count) → Deleted id old new count
+pub deleted : (id : ℤ) (old new : State) (count : ℕ) → old.now.schema ≡ room_schema
+    → Executes delete_text (Int id ∷ []) old new (Ok count) → Deleted id old new count
 deleted id old new count has h =
     let params = Int id ∷ [] in
-    let command = Delete 0 (record { lets = []; body = query_of 0 (matches_parameter 0 0 ∷ []) (col 1 0 ∷ []) [] }) in
-    let w = runs_as delete_text params old new room_schema has command delete_is plain_texts.8 count h in
+    let command = Delete 0
+    (record { lets = []; body = query_of 0 (matches_parameter 0 0 ∷ []) (col 1 0 ∷ []) [] }) in
+    let w =
+    runs_as delete_text params old new room_schema has command delete_is plain_texts.8 count h
+    in
     let text = statement_of delete_text (understood room_schema delete_text) in
-    let done = went (subst (λ s. Does old.step_limit (mode_of old) params (record old.now { schema = s }) text None command (Ok (w.tally, new.now))) has w.changed) in
+    let done = went
+    (subst (λ s. Does old.step_limit (mode_of old) params
+    (record old.now { schema = s }) text None command (Ok (w.tally, new.now))) has w.changed) in
     let asked = went done.1 in
     let did = went asked.2 in
     let last = same_value (went (went done.2).2).2 in
-    let wrote : done.0 ≡ record { trees = did.0; rows = taken_by old.now.trees (delete_edit old.now.trees asked.0); last = None } = same_value did.2 in
-    let found = selected Null 0 (matches_parameter 0 0 ∷ []) (col 1 0 ∷ []) [] (overlay old.now.trees []) params asked.0 (asked.1.answer Null) in
+    let wrote : done.0 ≡ record {
+      trees = did.0;
+      rows = taken_by old.now.trees (delete_edit old.now.trees asked.0);
+      last = None;
+    } =
+    same_value did.2 in
+    let found = selected Null 0 (matches_parameter 0 0 ∷ []) (col 1 0 ∷ []) []
+    (overlay old.now.trees []) params asked.0 (asked.1.answer Null) in
     record {
       rows = asked.0;
-      found = subst (λ l. IsPermutation (map (shows (col 1 0 ∷ []) params) l) asked.0) (filter_same _ _ (passes_id id) (old.now.trees 0)) found;
+      found =
+          subst (λ l. IsPermutation (map (shows (col 1 0 ∷ []) params) l) asked.0)
+          (filter_same _ _ (passes_id id) (old.now.trees 0)) found;
       next = did.0;
       edited = did.1;
-      now = ap (λ (p : Tally × Database). p.1) last ∙ ap (λ (it : Written). let db : Database = record { schema = room_schema; trees = it.trees } in db) wrote;
+      now =
+          ap (λ (p : Tally × Database). p.1) last
+          ∙ ap
+          (λ (it : Written). let db : Database = record {
+            schema = room_schema;
+            trees = it.trees;
+          } in db) wrote;
       sound = w.sound;
       shown = w.shown;
-      counted = w.counted ∙ ap (λ (p : Tally × Database). unwrap_or p.0.rows 0) last ∙ ap (λ (it : Written). length it.rows) wrote ∙ length-map _ _ ∙ length-map _ _;
+      counted =
+          w.counted ∙ ap (λ (p : Tally × Database). unwrap_or p.0.rows 0) last
+          ∙ ap (λ (it : Written). length it.rows) wrote ∙ length-map _ _ ∙ length-map _ _;
     }

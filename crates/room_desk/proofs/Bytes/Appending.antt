@@ -30,19 +30,24 @@ use Rattle.room_desk.proofs.Sound.Filled.{plan_judged, target_there}
 use Rattle.room_desk.proofs.Steps.Stepping.{refused_step, changed_step}
 use Rattle.room_desk.proofs.Steps.Serving.{DocumentAt, document_there, no_bytes}
 
-pub put_refused : (path : List (List ℕ)) (id : ℕ) (bytes : List ℕ) (old new : Rows) (reply : Reply) → nat_lt 1048576 (length bytes) ≡ true → reply ≡ Refused path TooLarge → new ≡ old → IsPut path id bytes old reply new
+pub put_refused : (path : List (List ℕ)) (id : ℕ) (bytes : List ℕ) (old new : Rows) (reply : Reply)
+    → nat_lt 1048576 (length bytes) ≡ true → reply ≡ Refused path TooLarge → new ≡ old
+    → IsPut path id bytes old reply new
 put_refused path id bytes old new reply many replies same = record {
   replies = replies ∙ ap (λ t. cond t (Refused path TooLarge) Done) (sym many);
   becomes = subst (λ t. TakesBytes t id bytes old new) (sym many) same;
 }
 
-pub put_set : (path : List (List ℕ)) (id : ℕ) (bytes : List ℕ) (old new : Rows) → nat_lt 1048576 (length bytes) ≡ false → SetsBody id bytes old new → IsPut path id bytes old Done new
+pub put_set : (path : List (List ℕ)) (id : ℕ) (bytes : List ℕ) (old new : Rows)
+    → nat_lt 1048576 (length bytes) ≡ false → SetsBody id bytes old new
+    → IsPut path id bytes old Done new
 put_set path id bytes old new few sets = record {
   replies = ap (λ t. cond t (Refused path TooLarge) Done) (sym few);
   becomes = subst (λ t. TakesBytes t id bytes old new) (sym few) sets;
 }
 
-pub no_bytes_more : (bytes items : List ℕ) (t : Bool) → items ≡ bytes → t ≡ (length items == 0) → t ≡ true → bytes ≡ []
+pub no_bytes_more : (bytes items : List ℕ) (t : Bool) → items ≡ bytes → t ≡ (length items == 0)
+    → t ≡ true → bytes ≡ []
 no_bytes_more [] items t same is holds = refl
 no_bytes_more (byte ∷ more) items t same is holds =
     let none = eqb-true (length items) 0 (sym is ∙ holds) in
@@ -50,85 +55,146 @@ no_bytes_more (byte ∷ more) items t same is holds =
     absurd (let wrong : ⊥ = omega (arith, long) in wrong)
 
 -- adding no bytes changes nothing
-pub put_kept : (path : List (List ℕ)) (id : ℕ) (before bytes : List ℕ) (old new : Rows) (reply : Reply) → AreRows old → body_of old.read id ≡ Some before → bytes ≡ [] → reply ≡ sized_reply path (length before) → new ≡ old → IsPut path id (before ++ bytes) old reply new
+pub put_kept : (path : List (List ℕ)) (id : ℕ) (before bytes : List ℕ) (old new : Rows)
+    (reply : Reply) → AreRows old → body_of old.read id ≡ Some before → bytes ≡ []
+    → reply ≡ sized_reply path (length before) → new ≡ old
+    → IsPut path id (before ++ bytes) old reply new
 put_kept path id before bytes old new reply are were none replies same =
-    subst (λ (b : List ℕ). IsPut path id b old reply new) (sym (ap (λ (b : List ℕ). before ++ b) none ∙ append-nil before))
+    subst (λ (b : List ℕ). IsPut path id b old reply new)
+    (sym (ap (λ (b : List ℕ). before ++ b) none ∙ append-nil before))
     (record { replies = replies; becomes = on (nat_lt 1048576 (length before)) })
   where
     on : (t : Bool) → TakesBytes t id before old new
     on true = same
     on false = λ document. same ∙ sym (ap (reading old) (with_body-there old are id before were))
 
-pub put_as : (path : List (List ℕ)) (id : ℕ) {bytes : List ℕ} (old mid new : Rows) (reply : Reply) → mid ≡ old → IsPut path id bytes mid reply new → IsPut path id bytes old reply new
-put_as path id {bytes} old mid new reply unread put = subst (λ (r : Rows). IsPut path id bytes r reply new) unread put
+pub put_as : (path : List (List ℕ)) (id : ℕ) {bytes : List ℕ} (old mid new : Rows) (reply : Reply)
+    → mid ≡ old → IsPut path id bytes mid reply new → IsPut path id bytes old reply new
+put_as path id {bytes} old mid new reply unread put =
+    subst (λ (r : Rows). IsPut path id bytes r reply new) unread put
 
 -- ---- items after others at the target
 
-more_items : (first more : Site → List Item) (front : List Item) (o : Option Site) → front ++ where_found o (λ s. first s ++ more s) ≡ (front ++ where_found o first) ++ where_found o more
+more_items : (first more : Site → List Item) (front : List Item) (o : Option Site)
+    → front ++ where_found o (λ s. first s ++ more s) ≡ (front ++ where_found o first)
+    ++ where_found o more
 more_items first more front None = sym (append-nil (front ++ []))
 more_items first more front (Some site) = sym (append_assoc front (first site) (more site))
 
 module _ (asker : Asker) (path : List (List ℕ)) (bytes : List ℕ) where
   -- the size after the request
   abbrev sized : Rows → Site → List Item
-  sized old site = not_over path (length (unwrap_or (body_of old.read site.node.id) []) + length bytes) ∷ []
+  sized old site =
+      not_over path (length (unwrap_or (body_of old.read site.node.id) []) + length bytes) ∷ []
 
   abbrev items : Rows → Site → List Item
   items old site = DocumentAt (append_data ∷ []) site ++ sized old site
 
   planned : (old new : Rows) (answer : Option Reply) → AreRows old → AreSound old
-      → IsJudged asker (to_stored old.read path (DocumentAt (append_data ∷ [])) ++ where_found (site_at (stored_along old.read path) path) (sized old)) old answer new
+      → IsJudged asker (to_stored old.read path (DocumentAt (append_data ∷ []))
+      ++ where_found (site_at (stored_along old.read path) path) (sized old)) old answer new
       → IsJudged asker (plan_of (meaning old.read) (Append path bytes)) old answer new
   planned old new answer are sound judged =
       plan_judged asker path (items old) old new answer are (sound_parts old sound) (λ site. refl)
-      (subst (λ list. IsJudged asker list old answer new) (sym (more_items (DocumentAt (append_data ∷ [])) (sized old) (way false (stored_along old.read path) path) (site_at (stored_along old.read path) path))) judged)
+      (subst (λ list. IsJudged asker list old answer new)
+      (sym (more_items (DocumentAt (append_data ∷ [])) (sized old)
+      (way false (stored_along old.read path) path) (site_at (stored_along old.read path) path)))
+      judged)
 
-  pub append_ended : (old new : Rows) (reply : Reply) → AreRows old → IsReached asker path (DocumentAt (append_data ∷ [])) old (Ended reply) new → CarriesOut asker (Append path bytes) old reply new
+  pub append_ended : (old new : Rows) (reply : Reply) → AreRows old
+      → IsReached asker path (DocumentAt (append_data ∷ [])) old (Ended reply) new
+      → CarriesOut asker (Append path bytes) old reply new
   append_ended old new reply are reached known sound =
       refused_step asker (Append path bytes) old known sound new reply
-      (planned old new (Some reply) are sound (fails_first asker (to_stored old.read path (DocumentAt (append_data ∷ []))) (where_found (site_at (stored_along old.read path) path) (sized old)) old new reply reached.judged))
+      (planned old new (Some reply) are sound
+      (fails_first asker (to_stored old.read path (DocumentAt (append_data ∷ [])))
+      (where_found (site_at (stored_along old.read path) path) (sized old)) old new reply
+      reached.judged))
 
-  module _ (old mid : Rows) (node : Node) (are : AreRows old) (reached : IsReached asker path (DocumentAt (append_data ∷ [])) old (At node) mid) where
+  module _ (old mid : Rows) (node : Node) (are : AreRows old)
+      (reached : IsReached asker path (DocumentAt (append_data ∷ [])) old (At node) mid) where
     abbrev limit : ℕ → Item
     limit size = not_over path size
 
     -- what the item of the size answers
-    sized_judged : (before : List ℕ) (new : Rows) (answer : Option Reply) → body_of old.read node.id ≡ Some before → IsJudged asker (limit (length (before ++ bytes)) ∷ []) mid answer new → AreSound old
+    sized_judged : (before : List ℕ) (new : Rows) (answer : Option Reply)
+        → body_of old.read node.id ≡ Some before
+        → IsJudged asker (limit (length (before ++ bytes)) ∷ []) mid answer new → AreSound old
         → IsJudged asker (plan_of (meaning old.read) (Append path bytes)) old answer new
     sized_judged before new answer were judged sound =
         planned old new answer are sound
-        (passes_first asker (to_stored old.read path (DocumentAt (append_data ∷ []))) (where_found (site_at (stored_along old.read path) path) (sized old)) old mid new answer reached.judged
+        (passes_first asker (to_stored old.read path (DocumentAt (append_data ∷ [])))
+        (where_found (site_at (stored_along old.read path) path) (sized old)) old mid new answer
+        reached.judged
         (subst (λ list. IsJudged asker list mid answer new)
-        (ap (λ n. limit n ∷ []) (length-append before bytes) ∙ ap (λ (o : Option (List ℕ)). limit (length (unwrap_or o []) + length bytes) ∷ []) (sym were) ∙ ap (λ o. where_found o (sized old)) (sym reached.found))
+        (ap (λ n. limit n ∷ []) (length-append before bytes)
+        ∙ ap (λ (o : Option (List ℕ)). limit (length (unwrap_or o []) + length bytes) ∷ [])
+        (sym were) ∙ ap (λ o. where_found o (sized old)) (sym reached.found))
         judged))
 
-    append_set : (before : List ℕ) (new : Rows) → body_of old.read node.id ≡ Some before → nat_lt 1048576 (length (before ++ bytes)) ≡ false
-        → TakesBytes false node.id (before ++ bytes) mid new → CarriesOut asker (Append path bytes) old Done new
+    append_set : (before : List ℕ) (new : Rows) → body_of old.read node.id ≡ Some before
+        → nat_lt 1048576 (length (before ++ bytes)) ≡ false
+        → TakesBytes false node.id (before ++ bytes) mid new
+        → CarriesOut asker (Append path bytes) old Done new
     append_set before new were few takes known sound =
         let there = document_there asker path (append_data ∷ []) old mid node are reached in
-        let judged = sized_judged before mid None were (passes_on asker path TooLarge (nat_lt 1048576 (length (before ++ bytes))) [] mid mid None few (judged_none asker mid mid refl)) sound in
-        let there_mid : node_at mid.read node.id ≡ Some node = ap (λ (r : Rows). node_at r.read node.id) reached.judged.notes ∙ there.0 in
-        let new_is : new ≡ reading mid (with_body mid.read node.id (before ++ bytes)) = takes (node, there_mid, there.1) in
-        let fits : nat_le (length (before ++ bytes)) 1048576 ≡ true = le-leb (length (before ++ bytes)) 1048576 (ltb-false 1048576 (length (before ++ bytes)) few) in
-        let target = target_there old are (sound_parts old sound) path (stored_site path node) reached.found in
-        changed_step asker (Append path bytes) old known sound mid new Done (with_body (meaning old.read) node.id (before ++ bytes)) judged
-        (λ id. ap (λ o. with_site (meaning old.read) o (λ t. (Done, with_body (meaning old.read) t.node.id (unwrap_or (body_of old.read t.node.id) [] ++ bytes)))) target.at
-        ∙ ap (λ (s : Site). (Done, with_body (meaning old.read) s.node.id (unwrap_or (body_of old.read s.node.id) [] ++ bytes))) target.filled
-        ∙ ap (λ (o : Option (List ℕ)). (Done, with_body (meaning old.read) node.id (unwrap_or o [] ++ bytes))) were)
-        (ap (λ (r : Rows). meaning r.read) new_is ∙ ap (λ (r : Rows). meaning (reading r (with_body r.read node.id (before ++ bytes))).read) judged.notes)
-        (subst AreSound (sym (new_is ∙ ap (λ (r : Rows). reading r (with_body r.read node.id (before ++ bytes))) judged.notes))
-        (sound_noted (reading old (with_body old.read node.id (before ++ bytes))) _ (sound_bytes old node.id node (before ++ bytes) are sound there.0 there.1 fits)))
+        let judged = sized_judged before mid None were
+        (passes_on asker path TooLarge (nat_lt 1048576 (length (before ++ bytes)))
+        [] mid mid None few (judged_none asker mid mid refl)) sound in
+        let there_mid : node_at mid.read node.id ≡ Some node = ap
+        (λ (r : Rows). node_at r.read node.id) reached.judged.notes ∙ there.0 in
+        let new_is : new ≡ reading mid (with_body mid.read node.id (before ++ bytes)) = takes
+        (node, there_mid, there.1) in
+        let fits : nat_le (length (before ++ bytes)) 1048576 ≡ true = le-leb
+        (length (before ++ bytes)) 1048576 (ltb-false 1048576 (length (before ++ bytes)) few) in
+        let target = target_there old are (sound_parts old sound) path
+        (stored_site path node) reached.found in
+        changed_step asker (Append path bytes) old known sound mid new Done
+        (with_body (meaning old.read) node.id (before ++ bytes)) judged
+        (λ id. ap (λ o. with_site (meaning old.read) o
+        (λ t. (
+          Done,
+          with_body (meaning old.read) t.node.id
+              (unwrap_or (body_of old.read t.node.id) [] ++ bytes),
+        ))) target.at
+        ∙ ap
+        (λ (s : Site). (
+          Done,
+          with_body (meaning old.read) s.node.id
+              (unwrap_or (body_of old.read s.node.id) [] ++ bytes),
+        )) target.filled
+        ∙ ap
+        (λ (o : Option (List ℕ)).
+        (Done, with_body (meaning old.read) node.id (unwrap_or o [] ++ bytes))) were)
+        (ap (λ (r : Rows). meaning r.read) new_is
+        ∙ ap (λ (r : Rows). meaning (reading r (with_body r.read node.id (before ++ bytes))).read)
+        judged.notes)
+        (subst AreSound
+        (sym (new_is ∙ ap (λ (r : Rows). reading r (with_body r.read node.id (before ++ bytes)))
+        judged.notes))
+        (sound_noted (reading old (with_body old.read node.id (before ++ bytes))) _
+        (sound_bytes old node.id node (before ++ bytes) are sound there.0 there.1 fits)))
 
-    on_size : (before : List ℕ) (t : Bool) (new : Rows) (reply : Reply) → body_of old.read node.id ≡ Some before → nat_lt 1048576 (length (before ++ bytes)) ≡ t → reply ≡ cond t (Refused path TooLarge) Done
-        → TakesBytes t node.id (before ++ bytes) mid new → CarriesOut asker (Append path bytes) old reply new
+    on_size : (before : List ℕ) (t : Bool) (new : Rows) (reply : Reply)
+        → body_of old.read node.id ≡ Some before → nat_lt 1048576 (length (before ++ bytes)) ≡ t
+        → reply ≡ cond t (Refused path TooLarge) Done
+        → TakesBytes t node.id (before ++ bytes) mid new
+        → CarriesOut asker (Append path bytes) old reply new
     on_size before true new reply were many replies takes known sound =
         refused_step asker (Append path bytes) old known sound new reply
-        (sized_judged before new (Some reply) were (refuses asker path TooLarge (nat_lt 1048576 (length (before ++ bytes))) [] mid new reply replies many takes) sound)
-    on_size before false new reply were few replies takes known sound = subst (λ (r : Reply). CarriesOut asker (Append path bytes) old r new) (sym replies) (append_set before new were few takes) known sound
+        (sized_judged before new (Some reply) were
+        (refuses asker path TooLarge (nat_lt 1048576 (length (before ++ bytes)))
+        [] mid new reply replies many takes) sound)
+    on_size before false new reply were few replies takes known sound =
+        subst (λ (r : Reply). CarriesOut asker (Append path bytes) old r new) (sym replies)
+        (append_set before new were few takes) known sound
 
-    pub append_done : (new : Rows) (reply : Reply) → IsAppended path node.id bytes mid reply new → CarriesOut asker (Append path bytes) old reply new
+    pub append_done : (new : Rows) (reply : Reply) → IsAppended path node.id bytes mid reply new
+        → CarriesOut asker (Append path bytes) old reply new
     append_done new reply appended =
-        on_size appended.before (nat_lt 1048576 (length (appended.before ++ bytes))) new reply (sym (ap (λ (r : Rows). body_of r.read node.id) reached.judged.notes) ∙ appended.were) refl appended.put.replies appended.put.becomes
+        on_size appended.before (nat_lt 1048576 (length (appended.before ++ bytes))) new reply
+        (sym (ap (λ (r : Rows). body_of r.read node.id) reached.judged.notes) ∙ appended.were) refl
+        appended.put.replies appended.put.becomes
 
     pub append_blames : (at : ℕ) → HasNoBytes node.id mid at → IsDamaged old at
     append_blames at h = no_bytes asker path (append_data ∷ []) old mid node at are reached h

@@ -17,31 +17,46 @@ use Rattle.room_rows.specs.Sound.{AreSound, fits_kind, has_sound_body, reaches}
 use Rattle.room_desk.proofs.Sound.SoundParts.{sound_parts, parts_sound, find_same}
 
 -- what passes one test passes another
-none_fails : (test other : Node → Bool) (P : Node → Type 0) → ((node : Node) → P node → test node ≡ true → other node ≡ true) → (nodes : List Node) → AllByRecursion P nodes
+none_fails : (test other : Node → Bool) (P : Node → Type 0)
+    → ((node : Node) → P node → test node ≡ true → other node ≡ true) → (nodes : List Node)
+    → AllByRecursion P nodes
     → find (λ n. not (test n)) nodes ≡ None → find (λ n. not (other n)) nodes ≡ None
 none_fails test other P next [] each none = refl
-none_fails test other P next (x ∷ xs) each none = on (test x) refl (none_fails test other P next xs each.1) none
+none_fails test other P next (x ∷ xs) each none =
+    on (test x) refl (none_fails test other P next xs each.1) none
   where
-    on : (t : Bool) → test x ≡ t → (find (λ n. not (test n)) xs ≡ None → find (λ n. not (other n)) xs ≡ None) → cond (not t) (Some x) (find (λ n. not (test n)) xs) ≡ None
+    on : (t : Bool) → test x ≡ t
+        → (find (λ n. not (test n)) xs ≡ None → find (λ n. not (other n)) xs ≡ None)
+        → cond (not t) (Some x) (find (λ n. not (test n)) xs) ≡ None
         → cond (not (other x)) (Some x) (find (λ n. not (other n)) xs) ≡ None
-    on true passes rest none = ap (λ t. cond (not t) (Some x) (find (λ n. not (other n)) xs)) (next x each.0 passes) ∙ rest none
+    on true passes rest none =
+        ap (λ t. cond (not t) (Some x) (find (λ n. not (other n)) xs)) (next x each.0 passes)
+        ∙ rest none
     on false fails rest none = absurd (let wrong : ⊥ = cc in wrong)
 
-reaches_bytes : (content : Content) (id : ℕ) (bytes : List ℕ) (n : ℕ) (parent : Option ℕ) → reaches_root n (with_body content id bytes) parent ≡ reaches_root n content parent
+reaches_bytes : (content : Content) (id : ℕ) (bytes : List ℕ) (n : ℕ) (parent : Option ℕ)
+    → reaches_root n (with_body content id bytes) parent ≡ reaches_root n content parent
 reaches_bytes content id bytes n None = refl
 reaches_bytes content id bytes zero (Some above) = refl
-reaches_bytes content id bytes (suc n) (Some above) = on (node_at content above) (λ node. reaches_bytes content id bytes n node.parent)
+reaches_bytes content id bytes (suc n) (Some above) =
+    on (node_at content above) (λ node. reaches_bytes content id bytes n node.parent)
   where
-    on : (o : Option Node) → ((node : Node) → reaches_root n (with_body content id bytes) node.parent ≡ reaches_root n content node.parent)
-        → option_map_or (λ node. reaches_root n (with_body content id bytes) node.parent) o false ≡ option_map_or (λ node. reaches_root n content node.parent) o false
+    on : (o : Option Node)
+        → ((node : Node) → reaches_root n (with_body content id bytes) node.parent
+        ≡ reaches_root n content node.parent)
+        → option_map_or (λ node. reaches_root n (with_body content id bytes) node.parent) o false
+        ≡ option_map_or (λ node. reaches_root n content node.parent) o false
     on None same = refl
     on (Some node) same = same node
 
 -- the bytes of a document fit
-document_fits : (kind : ObjKind) (bytes : List ℕ) → is_document kind ≡ true → nat_le (length bytes) 1048576 ≡ true → fits_kind kind (Some bytes) ≡ true
+document_fits : (kind : ObjKind) (bytes : List ℕ) → is_document kind ≡ true
+    → nat_le (length bytes) 1048576 ≡ true → fits_kind kind (Some bytes) ≡ true
 document_fits kind bytes is few = ap (λ t. cond t (nat_le (length bytes) 1048576) false) is ∙ few
 
-pub sound_bytes : (rows : Rows) (id : ℕ) (node : Node) (bytes : List ℕ) → AreRows rows → AreSound rows → node_at rows.read id ≡ Some node → is_document node.kind ≡ true → nat_le (length bytes) 1048576 ≡ true
+pub sound_bytes : (rows : Rows) (id : ℕ) (node : Node) (bytes : List ℕ) → AreRows rows
+    → AreSound rows → node_at rows.read id ≡ Some node → is_document node.kind ≡ true
+    → nat_le (length bytes) 1048576 ≡ true
     → AreSound (reading rows (with_body rows.read id bytes))
 sound_bytes rows id node bytes are sound there document few =
     let parts = sound_parts rows sound in
@@ -49,18 +64,33 @@ sound_bytes rows id node bytes are sound there document few =
       lists = parts.lists;
       root = parts.root;
       parents = parts.parents;
-      reached = find_same (λ n. not (reaches (with_body rows.read id bytes) n)) (λ n. not (reaches rows.read n)) (λ (n : Node). ap not (reaches_bytes rows.read id bytes (length rows.read.nodes) n.parent)) rows.read.nodes ∙ parts.reached;
+      reached =
+          find_same (λ n. not (reaches (with_body rows.read id bytes) n))
+          (λ n. not (reaches rows.read n))
+          (λ (n : Node). ap not (reaches_bytes rows.read id bytes
+          (length rows.read.nodes) n.parent)) rows.read.nodes ∙ parts.reached;
       names = parts.names;
-      bodies = none_fails (has_sound_body rows.read) (has_sound_body (with_body rows.read id bytes)) (λ n. find_id n.id rows.read.nodes ≡ Some n) one rows.read.nodes (each_found 0 rows.read.nodes are.numbers) parts.bodies;
+      bodies =
+          none_fails (has_sound_body rows.read) (has_sound_body (with_body rows.read id bytes))
+          (λ n. find_id n.id rows.read.nodes ≡ Some n) one rows.read.nodes
+          (each_found 0 rows.read.nodes are.numbers) parts.bodies;
       law = parts.law;
     })
   where
-    one : (n : Node) → find_id n.id rows.read.nodes ≡ Some n → has_sound_body rows.read n ≡ true → has_sound_body (with_body rows.read id bytes) n ≡ true
+    one : (n : Node) → find_id n.id rows.read.nodes ≡ Some n → has_sound_body rows.read n ≡ true
+        → has_sound_body (with_body rows.read id bytes) n ≡ true
     one n found fits = elim (cases_Bool (n.id == id)) [
       | inl same ↦
           let at : n.id ≡ id = eqb-true n.id id same in
-          let it : Some n ≡ Some node = sym found ∙ ap (λ (i : ℕ). find_id i rows.read.nodes) at ∙ there in
+          let it : Some n ≡ Some node = sym found ∙ ap (λ (i : ℕ). find_id i rows.read.nodes) at
+          ∙ there in
           let here : n ≡ node = cc in
-          ap (fits_kind n.kind) (ap (λ (i : ℕ). body_of (with_body rows.read id bytes) i) at ∙ body_of-with_body rows.read id bytes) ∙ document_fits n.kind bytes (ap (λ (m : Node). is_document m.kind) here ∙ document) few
-      | inr other ↦ ap (fits_kind n.kind) (body_of-with_body-other rows.read id bytes n.id (λ same. false≢true (sym other ∙ eq-eqb n.id id same))) ∙ fits
+          ap (fits_kind n.kind)
+          (ap (λ (i : ℕ). body_of (with_body rows.read id bytes) i) at
+          ∙ body_of-with_body rows.read id bytes)
+          ∙ document_fits n.kind bytes (ap (λ (m : Node). is_document m.kind) here ∙ document) few
+      | inr other ↦
+          ap (fits_kind n.kind)
+          (body_of-with_body-other rows.read id bytes n.id
+          (λ same. false≢true (sym other ∙ eq-eqb n.id id same))) ∙ fits
     ]

@@ -14,38 +14,94 @@ use Rattle.room_desk.specs.Carrying.{HasLoop, HasLoopFrom, IsCarriedDown, IsCarr
 use Rattle.room_judge.specs.Judged.{IsDone}
 use Rattle.room_judge.proofs.Calls.{as_well}
 
-module _ {S : Type 0} {rows : S → Rows} {failures writes : S → ℕ} {Follows IsTrusted : S → S → Type 0} {a b : S} (which : Which) (id : ℕ) where
-  pub carried_ok : (spread : Spread) → IsCarried rows failures writes Follows IsTrusted {X = Spread} (λ spread. spread.changed) a b (Ok spread) (λ r. IsOwnAncestor r.read id) (λ old spread new. IsSpread which id old new spread.changed)
-      → IsDone rows failures Follows IsTrusted {X = Unit {0}} a b (Ok tt) (HasLoop id) (IsCarriedDown which id)
-  carried_ok spread carried = record { follows = carried.follows; becomes = λ t. (spread.changed, carried.becomes t); fault = tt }
+module _ {S : Type 0} {rows : S → Rows} {failures writes : S → ℕ}
+    {Follows IsTrusted : S → S → Type 0} {a b : S} (which : Which) (id : ℕ) where
+  pub carried_ok : (spread : Spread)
+      → IsCarried rows failures writes Follows IsTrusted {X = Spread} (λ spread. spread.changed) a b
+      (Ok spread) (λ r. IsOwnAncestor r.read id)
+      (λ old spread new. IsSpread which id old new spread.changed)
+      → IsDone rows failures Follows IsTrusted {X = Unit {0}} a b (Ok tt) (HasLoop id)
+      (IsCarriedDown which id)
+  carried_ok spread carried =
+      record {
+        follows = carried.follows;
+        becomes = λ t. (spread.changed, carried.becomes t);
+        fault = tt;
+      }
 
-  pub carried_err : (fault : SpreadFault) (e : KeepFault) → e ≡ keeper_fault id fault → IsCarried rows failures writes Follows IsTrusted {X = Spread} (λ spread. spread.changed) a b (Err fault) (λ r. IsOwnAncestor r.read id) (λ old spread new. IsSpread which id old new spread.changed)
-      → IsDone rows failures Follows IsTrusted {X = Unit {0}} a b (Err e) (HasLoop id) (IsCarriedDown which id)
+  pub carried_err : (fault : SpreadFault) (e : KeepFault) → e ≡ keeper_fault id fault
+      → IsCarried rows failures writes Follows IsTrusted {X = Spread} (λ spread. spread.changed) a b
+      (Err fault) (λ r. IsOwnAncestor r.read id)
+      (λ old spread new. IsSpread which id old new spread.changed)
+      → IsDone rows failures Follows IsTrusted {X = Unit {0}} a b (Err e) (HasLoop id)
+      (IsCarriedDown which id)
   carried_err (Keeper f) e is carried =
-      let unread : IsDone rows failures Follows IsTrusted {X = Unit {0}} a b (Err f) IsUnreadable (IsCarriedDown which id) = record { follows = carried.follows; becomes = λ t. tt; fault = carried.fault } in
-      let known : IsDone rows failures Follows IsTrusted {X = Unit {0}} a b (Err f) (HasLoop id) (IsCarriedDown which id) = as_well unread (λ old at h. inl h) (λ old x new h. h) in
-      subst (λ (k : KeepFault). IsDone rows failures Follows IsTrusted {X = Unit {0}} a b (Err k) (HasLoop id) (IsCarriedDown which id)) (sym is) known
+      let unread : IsDone rows failures Follows IsTrusted {X = Unit {0}} a b (Err f) IsUnreadable
+      (IsCarriedDown which id) =
+      record { follows = carried.follows; becomes = λ t. tt; fault = carried.fault } in
+      let known : IsDone rows failures Follows IsTrusted {X = Unit {0}} a b (Err f) (HasLoop id)
+      (IsCarriedDown which id) =
+      as_well unread (λ old at h. inl h) (λ old x new h. h) in
+      subst (λ (k : KeepFault). IsDone rows failures Follows IsTrusted {X = Unit {0}} a b (Err k)
+      (HasLoop id) (IsCarriedDown which id)) (sym is) known
   carried_err Loop e is carried =
-      let known : IsDone rows failures Follows IsTrusted {X = Unit {0}} a b (Err (keeper_fault id Loop)) (HasLoop id) (IsCarriedDown which id) = record { follows = carried.follows; becomes = λ t. tt; fault = λ t. inr (refl, carried.fault t) } in
-      subst (λ (k : KeepFault). IsDone rows failures Follows IsTrusted {X = Unit {0}} a b (Err k) (HasLoop id) (IsCarriedDown which id)) (sym is) known
+      let known : IsDone rows failures Follows IsTrusted {X = Unit {0}} a b
+      (Err (keeper_fault id Loop)) (HasLoop id) (IsCarriedDown which id) =
+      record {
+        follows = carried.follows;
+        becomes = λ t. tt;
+        fault = λ t. inr (refl, carried.fault t);
+      } in
+      subst (λ (k : KeepFault). IsDone rows failures Follows IsTrusted {X = Unit {0}} a b (Err k)
+      (HasLoop id) (IsCarriedDown which id)) (sym is) known
 
 -- the same from an object, where it stands so in the rows
-module _ {S : Type 0} {rows : S → Rows} {failures writes : S → ℕ} {Follows IsTrusted : S → S → Type 0} {a b : S} (which : Which) (start : Node) where
-  pub given_ok : (spread : Spread) → IsCarried rows failures writes Follows (λ first last. IsTrusted first last × Holds start (rows first)) {X = Spread} (λ spread. spread.changed) a b (Ok spread) (λ r. IsOwnAncestor r.read start.id) (λ old spread new. IsSpread which start.id old new spread.changed)
-      → IsDone rows failures Follows IsTrusted {X = Unit {0}} a b (Ok tt) (HasLoopFrom start) (IsCarriedFrom which start)
-  given_ok spread carried = record { follows = carried.follows; becomes = λ t there. (spread.changed, carried.becomes (t, there)); fault = tt }
+module _ {S : Type 0} {rows : S → Rows} {failures writes : S → ℕ}
+    {Follows IsTrusted : S → S → Type 0} {a b : S} (which : Which) (start : Node) where
+  pub given_ok : (spread : Spread)
+      → IsCarried rows failures writes Follows
+      (λ first last. IsTrusted first last × Holds start (rows first)) {X = Spread}
+      (λ spread. spread.changed) a b (Ok spread) (λ r. IsOwnAncestor r.read start.id)
+      (λ old spread new. IsSpread which start.id old new spread.changed)
+      → IsDone rows failures Follows IsTrusted {X = Unit {0}} a b (Ok tt) (HasLoopFrom start)
+      (IsCarriedFrom which start)
+  given_ok spread carried =
+      record {
+        follows = carried.follows;
+        becomes = λ t there. (spread.changed, carried.becomes (t, there));
+        fault = tt;
+      }
 
-  pub given_err : (fault : SpreadFault) (e : KeepFault) → e ≡ keeper_fault start.id fault → IsCarried rows failures writes Follows (λ first last. IsTrusted first last × Holds start (rows first)) {X = Spread} (λ spread. spread.changed) a b (Err fault) (λ r. IsOwnAncestor r.read start.id) (λ old spread new. IsSpread which start.id old new spread.changed)
-      → IsDone rows failures Follows IsTrusted {X = Unit {0}} a b (Err e) (HasLoopFrom start) (IsCarriedFrom which start)
+  pub given_err : (fault : SpreadFault) (e : KeepFault) → e ≡ keeper_fault start.id fault
+      → IsCarried rows failures writes Follows
+      (λ first last. IsTrusted first last × Holds start (rows first)) {X = Spread}
+      (λ spread. spread.changed) a b (Err fault) (λ r. IsOwnAncestor r.read start.id)
+      (λ old spread new. IsSpread which start.id old new spread.changed)
+      → IsDone rows failures Follows IsTrusted {X = Unit {0}} a b (Err e) (HasLoopFrom start)
+      (IsCarriedFrom which start)
   given_err fault e is carried =
-      subst (λ (k : KeepFault). IsDone rows failures Follows IsTrusted {X = Unit {0}} a b (Err k) (HasLoopFrom start) (IsCarriedFrom which start)) (sym is) (record { follows = carried.follows; becomes = λ t. tt; fault = cause fault carried.fault })
+      subst (λ (k : KeepFault). IsDone rows failures Follows IsTrusted {X = Unit {0}} a b (Err k)
+      (HasLoopFrom start) (IsCarriedFrom which start)) (sym is)
+      (record {
+        follows = carried.follows;
+        becomes = λ t. tt;
+        fault = cause fault carried.fault;
+      })
     where
-      kept : (f : KeepFault) → HasCause (failures a) (failures b) (λ at. IsTrusted a b × Holds start (rows a) → IsUnreadable (rows a) at) f → HasCause (failures a) (failures b) (λ at. IsTrusted a b → HasLoopFrom start (rows a) at) f
+      kept : (f : KeepFault)
+          → HasCause (failures a) (failures b)
+          (λ at. IsTrusted a b × Holds start (rows a) → IsUnreadable (rows a) at) f
+          → HasCause (failures a) (failures b)
+          (λ at. IsTrusted a b → HasLoopFrom start (rows a) at) f
       kept Memory h = h
       kept Store h = h
       kept (Damaged id) h = λ t there. inl (h (t, there))
 
-      cause : (fault : SpreadFault) → HasSpreadCause (failures a) (failures b) (λ at. IsTrusted a b × Holds start (rows a) → IsUnreadable (rows a) at) (IsTrusted a b × Holds start (rows a) → IsOwnAncestor (rows a).read start.id) fault
-          → HasCause (failures a) (failures b) (λ at. IsTrusted a b → HasLoopFrom start (rows a) at) (keeper_fault start.id fault)
+      cause : (fault : SpreadFault)
+          → HasSpreadCause (failures a) (failures b)
+          (λ at. IsTrusted a b × Holds start (rows a) → IsUnreadable (rows a) at)
+          (IsTrusted a b × Holds start (rows a) → IsOwnAncestor (rows a).read start.id) fault
+          → HasCause (failures a) (failures b) (λ at. IsTrusted a b → HasLoopFrom start (rows a) at)
+          (keeper_fault start.id fault)
       cause (Keeper f) h = kept f h
       cause Loop h = λ t there. inr (refl, h (t, there))

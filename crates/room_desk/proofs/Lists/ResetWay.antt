@@ -51,21 +51,30 @@ same_front xs ys x y same = sym (but_last_is xs x) ∙ ap but_last same ∙ but_
 
 -- ---- paths
 
-front_is : (front back : List (List ℕ)) (n : ℕ) → n ≡ length back → take (length (front ++ back) - n) (front ++ back) ≡ front
-front_is front back n is = ap (λ k. take k (front ++ back)) (let e : length (front ++ back) - n ≡ length front = omega (arith, length-append front back) in e) ∙ take-append_seam front back
+front_is : (front back : List (List ℕ)) (n : ℕ) → n ≡ length back
+    → take (length (front ++ back) - n) (front ++ back) ≡ front
+front_is front back n is =
+    ap (λ k. take k (front ++ back))
+    (let e : length (front ++ back) - n ≡ length front = omega (arith, length-append front back) in
+    e) ∙ take-append_seam front back
 
-not_empty : (rows : Content) (p : List (List ℕ)) (node : Node) (names : List (List ℕ)) → is_empty (stored_from rows p node names) ≡ false
+not_empty : (rows : Content) (p : List (List ℕ)) (node : Node) (names : List (List ℕ))
+    → is_empty (stored_from rows p node names) ≡ false
 not_empty rows p node [] = refl
 not_empty rows p node (name ∷ names) = refl
 
-module _ (rows : Content) (rises : Rises rows) (caller : Caller) (items : Site → List Item) (folders : (n child : Node) (name : List ℕ) → node_at rows n.id ≡ Some n → child_of rows n.id name ≡ Some child → is_folder n ≡ true) where
+module _ (rows : Content) (rises : Rises rows) (caller : Caller) (items : Site → List Item)
+    (folders : (n child : Node) (name : List ℕ) → node_at rows n.id ≡ Some n
+    → child_of rows n.id name ≡ Some child → is_folder n ≡ true) where
   abbrev later : List (List ℕ) → List ℕ → List (List ℕ) → Option Node → List Site
   later p name names o = option_map_or (λ child. stored_from rows (p ++ name ∷ []) child names) o []
 
   -- the last object on the way, and how many names are left over
   abbrev pub end_from : Node → List (List ℕ) → Node × ℕ
   end_from node [] = (node, zero)
-  end_from node (name ∷ names) = option_map_or (λ child. end_from child names) (child_of rows node.id name) (node, suc (length names))
+  end_from node (name ∷ names) =
+      option_map_or (λ child. end_from child names) (child_of rows node.id name)
+      (node, suc (length names))
 
   pub record IsWalkEnd (walk : Walk) (end : Node × ℕ) : Type 0 where
     pub front : List Node
@@ -73,52 +82,115 @@ module _ (rows : Content) (rises : Rises rows) (caller : Caller) (items : Site �
     pub rest : walk.rest ≡ end.1
     pub stands : node_at rows end.0.id ≡ Some end.0
 
-  pub walk_end : (names : List (List ℕ)) (node : Node) → node_at rows node.id ≡ Some node → IsWalkEnd (walk_from rows node names) (end_from node names)
+  pub walk_end : (names : List (List ℕ)) (node : Node) → node_at rows node.id ≡ Some node
+      → IsWalkEnd (walk_from rows node names) (end_from node names)
   walk_end [] node there = record { front = []; chain = refl; rest = refl; stands = there }
-  walk_end (name ∷ names) node there = on (child_of rows node.id name) (λ child found. walk_end names child (child_of-is_there rows rises node.id name child found))
+  walk_end (name ∷ names) node there =
+      on (child_of rows node.id name)
+      (λ child found. walk_end names child (child_of-is_there rows rises node.id name child found))
     where
-      on : (o : Option Node) → ((child : Node) → o ≡ Some child → IsWalkEnd (walk_from rows child names) (end_from child names))
-          → IsWalkEnd (option_map_or (λ child. behind node (walk_from rows child names)) o (record { chain = node ∷ []; rest = length (name ∷ names) })) (option_map_or (λ child. end_from child names) o (node, suc (length names)))
+      on : (o : Option Node)
+          → ((child : Node) → o ≡ Some child
+          → IsWalkEnd (walk_from rows child names) (end_from child names))
+          → IsWalkEnd (option_map_or (λ child. behind node (walk_from rows child names)) o
+          (record { chain = node ∷ []; rest = length (name ∷ names) }))
+          (option_map_or (λ child. end_from child names) o (node, suc (length names)))
       on None next = record { front = []; chain = refl; rest = refl; stands = there }
-      on (Some child) next = let end = next child refl in record { front = node ∷ end.front; chain = ap (λ l. node ∷ l) end.chain; rest = end.rest; stands = end.stands }
+      on (Some child) next = let end = next child refl in
+          record {
+            front = node ∷ end.front;
+            chain = ap (λ l. node ∷ l) end.chain;
+            rest = end.rest;
+            stands = end.stands;
+          }
 
   -- the refusals of the way and of the items at its end
   abbrev pub refusals : List Site → List (List ℕ) → List Item
-  refusals sites names = filter is_refusal (way false sites names ++ where_found (site_at sites names) items)
+  refusals sites names =
+      filter is_refusal (way false sites names ++ where_found (site_at sites names) items)
 
   -- the target is there and its items decide, or the walk ended before it
   abbrev pub Comes : List (List ℕ) → List Site → List (List ℕ) → Option Reply → Node → ℕ → Type 0
-  Comes path sites names answer last zero = (site_at sites names ≡ Some (stored_site path last)) × (answer ≡ first_failure caller (filter is_refusal (items (stored_site path last))))
+  Comes path sites names answer last zero = (site_at sites names ≡ Some (stored_site path last))
+      × (answer ≡ first_failure caller (filter is_refusal (items (stored_site path last))))
   Comes path sites names answer last (suc rest) = answer ≡ Some (ended_at path last.kind (suc rest))
 
-  pub comes : (names p path : List (List ℕ)) (node : Node) → node_at rows node.id ≡ Some node → path ≡ p ++ names
-      → Comes path (stored_from rows p node names) names (first_failure caller (refusals (stored_from rows p node names) names)) (end_from node names).0 (end_from node names).1
+  pub comes : (names p path : List (List ℕ)) (node : Node) → node_at rows node.id ≡ Some node
+      → path ≡ p ++ names
+      → Comes path (stored_from rows p node names) names
+      (first_failure caller (refusals (stored_from rows p node names) names))
+      (end_from node names).0 (end_from node names).1
   comes [] p path node there is =
-      let same : p ≡ path = sym (append-nil p) ∙ sym is in
-      (ap (λ q. Some (stored_site q node)) same, ap (λ q. first_failure caller (filter is_refusal (items (stored_site q node)))) same)
+      let same : p ≡ path = sym (append-nil p) ∙ sym is in (
+        ap (λ q. Some (stored_site q node)) same,
+        ap (λ q. first_failure caller (filter is_refusal (items (stored_site q node)))) same,
+      )
   comes (name ∷ names) p path node there is =
-      on (child_of rows node.id name) refl (λ child found. comes names (p ++ name ∷ []) path child (child_of-is_there rows rises node.id name child found) (is ∙ sym (append_assoc p (name ∷ []) names)))
+      on (child_of rows node.id name) refl
+      (λ child found. comes names (p ++ name ∷ []) path child
+      (child_of-is_there rows rises node.id name child found)
+      (is ∙ sym (append_assoc p (name ∷ []) names)))
     where
-      ends : (kind : ObjKind) → or_else (cond (not (not (Rattle.room_entry.specs.Valid.is_document kind))) (Some (Refused p NotFolder)) None) (Some (Refused (p ++ name ∷ []) NoSuch)) ≡ Some (ended_at path kind (suc (length names)))
-      ends Document = ap (λ q. Some (Refused q NotFolder)) (sym (ap (λ whole. take (length whole - suc (length names)) whole) is ∙ front_is p (name ∷ names) (suc (length names)) refl))
+      ends : (kind : ObjKind)
+          → or_else (cond (not (not (Rattle.room_entry.specs.Valid.is_document kind)))
+          (Some (Refused p NotFolder)) None) (Some (Refused (p ++ name ∷ []) NoSuch))
+          ≡ Some (ended_at path kind (suc (length names)))
+      ends Document =
+          ap (λ q. Some (Refused q NotFolder))
+          (sym (ap (λ whole. take (length whole - suc (length names)) whole) is
+          ∙ front_is p (name ∷ names) (suc (length names)) refl))
       ends Folder =
           ap (λ q. Some (Refused q NoSuch))
-          (sym (ap (λ whole. take (length whole - (suc (length names) - 1)) whole) (is ∙ sym (append_assoc p (name ∷ []) names)) ∙ front_is (p ++ name ∷ []) names (suc (length names) - 1) (omega arith)))
+          (sym (ap (λ whole. take (length whole - (suc (length names) - 1)) whole)
+          (is ∙ sym (append_assoc p (name ∷ []) names))
+          ∙ front_is (p ++ name ∷ []) names (suc (length names) - 1) (omega arith)))
 
       passed : (child : Node) → is_folder node ≡ true
-          → first_failure caller (refusals (stored_site p node ∷ stored_from rows (p ++ name ∷ []) child names) (name ∷ names)) ≡ first_failure caller (refusals (stored_from rows (p ++ name ∷ []) child names) names)
+          → first_failure caller
+          (refusals (stored_site p node ∷ stored_from rows (p ++ name ∷ []) child names)
+          (name ∷ names))
+          ≡ first_failure caller (refusals (stored_from rows (p ++ name ∷ []) child names) names)
       passed child folder =
-          ap (λ t. or_else (cond (not t) (Some (Refused p NotFolder)) None) (or_else (cond (is_empty (stored_from rows (p ++ name ∷ []) child names) && not (false && is_empty names)) (Some (Refused (p ++ name ∷ []) NoSuch)) None) (first_failure caller (refusals (stored_from rows (p ++ name ∷ []) child names) names)))) folder
-          ∙ ap (λ t. or_else (cond (t && not (false && is_empty names)) (Some (Refused (p ++ name ∷ []) NoSuch)) None) (first_failure caller (refusals (stored_from rows (p ++ name ∷ []) child names) names))) (not_empty rows (p ++ name ∷ []) child names)
+          ap (λ t. or_else (cond (not t) (Some (Refused p NotFolder)) None)
+          (or_else
+          (cond (is_empty (stored_from rows (p ++ name ∷ []) child names)
+          && not (false && is_empty names)) (Some (Refused (p ++ name ∷ []) NoSuch)) None)
+          (first_failure caller (refusals (stored_from rows (p ++ name ∷ []) child names) names))))
+          folder
+          ∙ ap
+          (λ t. or_else (cond (t && not (false && is_empty names))
+          (Some (Refused (p ++ name ∷ []) NoSuch)) None)
+          (first_failure caller (refusals (stored_from rows (p ++ name ∷ []) child names) names)))
+          (not_empty rows (p ++ name ∷ []) child names)
 
       on : (o : Option Node) → child_of rows node.id name ≡ o
-          → ((child : Node) → o ≡ Some child → Comes path (stored_from rows (p ++ name ∷ []) child names) names (first_failure caller (refusals (stored_from rows (p ++ name ∷ []) child names) names)) (end_from child names).0 (end_from child names).1)
-          → Comes path (stored_site p node ∷ later p name names o) (name ∷ names) (first_failure caller (refusals (stored_site p node ∷ later p name names o) (name ∷ names))) (option_map_or (λ child. end_from child names) o (node, suc (length names))).0 (option_map_or (λ child. end_from child names) o (node, suc (length names))).1
+          → ((child : Node) → o ≡ Some child
+          → Comes path (stored_from rows (p ++ name ∷ []) child names) names
+          (first_failure caller (refusals (stored_from rows (p ++ name ∷ []) child names) names))
+          (end_from child names).0 (end_from child names).1)
+          → Comes path (stored_site p node ∷ later p name names o) (name ∷ names)
+          (first_failure caller
+          (refusals (stored_site p node ∷ later p name names o) (name ∷ names)))
+          (option_map_or (λ child. end_from child names) o (node, suc (length names))).0
+          (option_map_or (λ child. end_from child names) o (node, suc (length names))).1
       on None found next = ends node.kind
-      on (Some child) found next = onward (end_from child names).0 (end_from child names).1 (passed child (folders node child name there found)) (next child refl)
+      on (Some child) found next =
+          onward (end_from child names).0 (end_from child names).1
+          (passed child (folders node child name there found)) (next child refl)
         where
-          onward : (last : Node) (rest : ℕ) → first_failure caller (refusals (stored_site p node ∷ stored_from rows (p ++ name ∷ []) child names) (name ∷ names)) ≡ first_failure caller (refusals (stored_from rows (p ++ name ∷ []) child names) names)
-              → Comes path (stored_from rows (p ++ name ∷ []) child names) names (first_failure caller (refusals (stored_from rows (p ++ name ∷ []) child names) names)) last rest
-              → Comes path (stored_site p node ∷ stored_from rows (p ++ name ∷ []) child names) (name ∷ names) (first_failure caller (refusals (stored_site p node ∷ stored_from rows (p ++ name ∷ []) child names) (name ∷ names))) last rest
+          onward : (last : Node) (rest : ℕ)
+              → first_failure caller
+              (refusals (stored_site p node ∷ stored_from rows (p ++ name ∷ []) child names)
+              (name ∷ names))
+              ≡ first_failure caller
+              (refusals (stored_from rows (p ++ name ∷ []) child names) names)
+              → Comes path (stored_from rows (p ++ name ∷ []) child names) names
+              (first_failure caller
+              (refusals (stored_from rows (p ++ name ∷ []) child names) names)) last rest
+              → Comes path (stored_site p node ∷ stored_from rows (p ++ name ∷ []) child names)
+              (name ∷ names)
+              (first_failure caller
+              (refusals (stored_site p node ∷ stored_from rows (p ++ name ∷ []) child names)
+              (name ∷ names))) last rest
           onward last zero same rest = (rest.0, same ∙ rest.1)
           onward last (suc n) same rest = same ∙ rest

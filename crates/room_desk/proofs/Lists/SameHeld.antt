@@ -25,27 +25,40 @@ beq_itself false = refl
 
 entry_itself : (a : Ace) → same_entry a a ≡ true
 entry_itself a =
-    and_from _ _ ((bytes_eq-Decides (kind_text a.kind) (kind_text a.kind)).1 refl) (and_from _ _ ((bytes_eq-Decides (flags_text a.flags) (flags_text a.flags)).1 refl)
-    (and_from _ _ ((bytes_eq-Decides (who_key a.who) (who_key a.who)).1 refl) ((bytes_eq-Decides a.mask a.mask).1 refl)))
+    and_from _ _ ((bytes_eq-Decides (kind_text a.kind) (kind_text a.kind)).1 refl)
+    (and_from _ _ ((bytes_eq-Decides (flags_text a.flags) (flags_text a.flags)).1 refl)
+    (and_from _ _ ((bytes_eq-Decides (who_key a.who) (who_key a.who)).1 refl)
+    ((bytes_eq-Decides a.mask a.mask).1 refl)))
 
 pub entries_itself : (es : List Ace) → same_entries es es ≡ true
 entries_itself [] = refl
-entries_itself (e ∷ es) = and_from (same_entry e e) (same_entries es es) (entry_itself e) (entries_itself es)
+entries_itself (e ∷ es) =
+    and_from (same_entry e e) (same_entries es es) (entry_itself e) (entries_itself es)
 
-pub held_equal : (held other : Held) → flags_same held.flags other.flags ≡ true → same_entries held.own other.own ≡ true → same_entries held.inh other.inh ≡ true → held ≡ other
+pub held_equal : (held other : Held) → flags_same held.flags other.flags ≡ true
+    → same_entries held.own other.own ≡ true → same_entries held.inh other.inh ≡ true → held ≡ other
 held_equal held other flags own inh =
-    let parts = and_parts (beq held.flags.auto other.flags.auto) (beq held.flags.protect other.flags.protect) flags in
+    let parts = and_parts (beq held.flags.auto other.flags.auto)
+    (beq held.flags.protect other.flags.protect) flags in
     λ i. record {
-      flags = record { auto = beq_equal held.flags.auto other.flags.auto parts.0 i; protect = beq_equal held.flags.protect other.flags.protect parts.1 i };
+      flags =
+          record {
+            auto = beq_equal held.flags.auto other.flags.auto parts.0 i;
+            protect = beq_equal held.flags.protect other.flags.protect parts.1 i;
+          };
       own = entries_equal held.own other.own own i;
       inh = entries_equal held.inh other.inh inh i;
     }
 
 pub flags_itself : (held other : Held) → held ≡ other → flags_same held.flags other.flags ≡ true
-flags_itself held other same = ap (λ (h : Held). flags_same held.flags h.flags) (sym same) ∙ and_from _ _ (beq_itself held.flags.auto) (beq_itself held.flags.protect)
+flags_itself held other same =
+    ap (λ (h : Held). flags_same held.flags h.flags) (sym same)
+    ∙ and_from _ _ (beq_itself held.flags.auto) (beq_itself held.flags.protect)
 
 pub own_itself : (held other : Held) → held ≡ other → same_entries held.own other.own ≡ true
-own_itself held other same = ap (λ (h : Held). same_entries held.own h.own) (sym same) ∙ entries_itself held.own
+own_itself held other same =
+    ap (λ (h : Held). same_entries held.own h.own) (sym same) ∙ entries_itself held.own
 
 pub inh_itself : (held other : Held) → held ≡ other → same_entries held.inh other.inh ≡ true
-inh_itself held other same = ap (λ (h : Held). same_entries held.inh h.inh) (sym same) ∙ entries_itself held.inh
+inh_itself held other same =
+    ap (λ (h : Held). same_entries held.inh h.inh) (sym same) ∙ entries_itself held.inh

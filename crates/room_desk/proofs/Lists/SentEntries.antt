@@ -7,7 +7,8 @@ use Rattle.room_entry.specs.Ace.{Ace}
 use Rattle.room_entry.specs.declared.flags.EntryFlags.{EntryFlags}
 use Rattle.room_desk.specs.Setting.{marked}
 
-module _ (entries : List Ace) (i : ℕ) (entry : Ace) (below : i < length entries) (is : entry ≡ get_or entries i entry) where
+module _ (entries : List Ace) (i : ℕ) (entry : Ace) (below : i < length entries)
+    (is : entry ≡ get_or entries i entry) where
   next : drop i entries ≡ entry ∷ drop (i + 1) entries
   next = drop_more entries i entry below ∙ ap (λ e. e ∷ drop (i + 1) entries) (sym is)
 
@@ -16,24 +17,32 @@ module _ (entries : List Ace) (i : ℕ) (entry : Ace) (below : i < length entrie
     abbrev wanted : Bool → Bool
     wanted mark = cond inherited mark (not mark)
 
-    pub takes_entry : wanted entry.flags.inherited ≡ true → (taken ++ entry ∷ []) ++ marked inherited (drop (i + 1) entries) ≡ taken ++ marked inherited (drop i entries)
+    pub takes_entry : wanted entry.flags.inherited ≡ true
+        → (taken ++ entry ∷ []) ++ marked inherited (drop (i + 1) entries) ≡ taken
+        ++ marked inherited (drop i entries)
     takes_entry is_wanted =
         append_assoc taken (entry ∷ []) (marked inherited (drop (i + 1) entries))
-        ∙ ap (λ t. taken ++ cond t (entry ∷ marked inherited (drop (i + 1) entries)) (marked inherited (drop (i + 1) entries))) (sym is_wanted)
+        ∙ ap (λ t. taken ++ cond t (entry ∷ marked inherited (drop (i + 1) entries))
+        (marked inherited (drop (i + 1) entries))) (sym is_wanted)
         ∙ ap (λ es. taken ++ marked inherited es) (sym next)
 
-    pub leaves_entry : wanted entry.flags.inherited ≡ false → taken ++ marked inherited (drop (i + 1) entries) ≡ taken ++ marked inherited (drop i entries)
+    pub leaves_entry : wanted entry.flags.inherited ≡ false
+        → taken ++ marked inherited (drop (i + 1) entries) ≡ taken
+        ++ marked inherited (drop i entries)
     leaves_entry isnt =
-        ap (λ t. taken ++ cond t (entry ∷ marked inherited (drop (i + 1) entries)) (marked inherited (drop (i + 1) entries))) (sym isnt)
+        ap (λ t. taken ++ cond t (entry ∷ marked inherited (drop (i + 1) entries))
+        (marked inherited (drop (i + 1) entries))) (sym isnt)
         ∙ ap (λ es. taken ++ marked inherited es) (sym next)
 
-pub same_mark : (inherited mark : Bool) → beq mark inherited ≡ true → cond inherited mark (not mark) ≡ true
+pub same_mark : (inherited mark : Bool) → beq mark inherited ≡ true
+    → cond inherited mark (not mark) ≡ true
 same_mark true true same = refl
 same_mark true false same = absurd (false≢true same)
 same_mark false true same = absurd (false≢true same)
 same_mark false false same = refl
 
-pub other_mark : (inherited mark : Bool) → beq mark inherited ≡ false → cond inherited mark (not mark) ≡ false
+pub other_mark : (inherited mark : Bool) → beq mark inherited ≡ false
+    → cond inherited mark (not mark) ≡ false
 other_mark true true isnt = absurd (false≢true (sym isnt))
 other_mark true false isnt = refl
 other_mark false true isnt = refl
@@ -41,21 +50,31 @@ other_mark false false isnt = absurd (false≢true (sym isnt))
 
 -- ---- in terms of the loop
 
-module _ (entries items : List Ace) (same : items ≡ entries) (i : ℕ) (entry : Ace) (below : i < length items) (is : entry ≡ get_or items i entry) (inherited : Bool) (flags : EntryFlags) (of_entry : flags ≡ entry.flags) (taken : List Ace)
+module _ (entries items : List Ace) (same : items ≡ entries) (i : ℕ) (entry : Ace)
+    (below : i < length items) (is : entry ≡ get_or items i entry) (inherited : Bool)
+    (flags : EntryFlags) (of_entry : flags ≡ entry.flags) (taken : List Ace)
     (sofar : taken ++ marked inherited (drop i entries) ≡ marked inherited entries) where
   sofar_items : taken ++ marked inherited (drop i items) ≡ marked inherited entries
   sofar_items = ap (λ es. taken ++ marked inherited (drop i es)) same ∙ sofar
 
-  pub takes_next : (copy : Ace) (grown : List Ace) → beq flags.inherited inherited ≡ true → grown ≡ taken ++ copy ∷ [] → copy ≡ entry → grown ++ marked inherited (drop (i + 1) entries) ≡ marked inherited entries
+  pub takes_next : (copy : Ace) (grown : List Ace) → beq flags.inherited inherited ≡ true
+      → grown ≡ taken ++ copy ∷ [] → copy ≡ entry
+      → grown ++ marked inherited (drop (i + 1) entries) ≡ marked inherited entries
   takes_next copy grown marks adds copied =
-      ap (λ es. es ++ marked inherited (drop (i + 1) entries)) (adds ∙ ap (λ e. taken ++ e ∷ []) copied)
+      ap (λ es. es ++ marked inherited (drop (i + 1) entries))
+      (adds ∙ ap (λ e. taken ++ e ∷ []) copied)
       ∙ ap (λ es. (taken ++ entry ∷ []) ++ marked inherited (drop (i + 1) es)) (sym same)
-      ∙ takes_entry items i entry below is inherited taken (same_mark inherited entry.flags.inherited (ap (λ (f : EntryFlags). beq f.inherited inherited) (sym of_entry) ∙ marks))
+      ∙ takes_entry items i entry below is inherited taken
+      (same_mark inherited entry.flags.inherited
+      (ap (λ (f : EntryFlags). beq f.inherited inherited) (sym of_entry) ∙ marks))
       ∙ sofar_items
 
-  pub leaves_next : (still : List Ace) → beq flags.inherited inherited ≡ false → still ≡ taken → still ++ marked inherited (drop (i + 1) entries) ≡ marked inherited entries
+  pub leaves_next : (still : List Ace) → beq flags.inherited inherited ≡ false → still ≡ taken
+      → still ++ marked inherited (drop (i + 1) entries) ≡ marked inherited entries
   leaves_next still marks stays =
       ap (λ es. es ++ marked inherited (drop (i + 1) entries)) stays
       ∙ ap (λ es. taken ++ marked inherited (drop (i + 1) es)) (sym same)
-      ∙ leaves_entry items i entry below is inherited taken (other_mark inherited entry.flags.inherited (ap (λ (f : EntryFlags). beq f.inherited inherited) (sym of_entry) ∙ marks))
+      ∙ leaves_entry items i entry below is inherited taken
+      (other_mark inherited entry.flags.inherited
+      (ap (λ (f : EntryFlags). beq f.inherited inherited) (sym of_entry) ∙ marks))
       ∙ sofar_items

@@ -25,32 +25,45 @@ use Rattle.room_desk.proofs.Sound.SoundParts.{map_same, none_unreadable, sound_p
 use Rattle.room_desk.proofs.Lists.ValidDown.{are_inherited, are_own, all_found, held_parts, valid_down}
 
 -- two functions that agree on the objects of a content change it alike
-pub each_same : (content : Content) → Rises content → (f g : Node → Node) → ((x : Node) → node_at content x.id ≡ Some x → f x ≡ g x) → with_each content f ≡ with_each content g
+pub each_same : (content : Content) → Rises content → (f g : Node → Node)
+    → ((x : Node) → node_at content x.id ≡ Some x → f x ≡ g x)
+    → with_each content f ≡ with_each content g
 each_same content rises f g same =
-    ap (λ (nodes : List Node). record content { nodes = nodes }) (map_same f g (λ n. find_id n.id content.nodes ≡ Some n) same content.nodes (each_found 0 content.nodes rises))
+    ap (λ (nodes : List Node). record content { nodes = nodes })
+    (map_same f g (λ n. find_id n.id content.nodes ≡ Some n) same content.nodes
+    (each_found 0 content.nodes rises))
 
 pub own_held : (which : Which) (node : Node) → node ≡ with_held which (held_of which node) node
 own_held Dacl node = refl
 own_held Sacl node = refl
 
-renewed_held : (which : Which) (held : Held) (entries : List Ace) (node : Node) → with_inh which entries (with_held which held node) ≡ with_held which (record held { inh = entries }) node
+renewed_held : (which : Which) (held : Held) (entries : List Ace) (node : Node)
+    → with_inh which entries (with_held which held node)
+    ≡ with_held which (record held { inh = entries }) node
 renewed_held Dacl held entries node = refl
 renewed_held Sacl held entries node = refl
 
 -- ---- sound rows have sound lists
 
-all_mapped : (p : ℕ → Bool) (nodes : List Node) → list_all p (map (λ (n : Node). n.id) nodes) ≡ list_all (λ (n : Node). p n.id) nodes
+all_mapped : (p : ℕ → Bool) (nodes : List Node)
+    → list_all p (map (λ (n : Node). n.id) nodes) ≡ list_all (λ (n : Node). p n.id) nodes
 all_mapped p [] = refl
 all_mapped p (x ∷ xs) = ap (λ t. p x.id && t) (all_mapped p xs)
 
-pub lists_of : (old : Rows) → AreSound old → (n : Node) → node_at old.read n.id ≡ Some n → has_sound_lists n ≡ true
+pub lists_of : (old : Rows) → AreSound old → (n : Node) → node_at old.read n.id ≡ Some n
+    → has_sound_lists n ≡ true
 lists_of old sound n found =
     let all : list_all (λ (m : Node). not (has_bad_list old m.id)) old.read.nodes ≡ true =
     sym (all_mapped (λ id. not (has_bad_list old id)) old.read.nodes)
-    ∙ ap (λ l. list_all (λ id. not (has_bad_list old id)) (put_numbers l (map (λ (m : Node). m.id) old.read.nodes))) (sym (none_unreadable old (sound_parts old sound)))
+    ∙ ap (λ l. list_all (λ id. not (has_bad_list old id))
+    (put_numbers l (map (λ (m : Node). m.id) old.read.nodes)))
+    (sym (none_unreadable old (sound_parts old sound)))
     ∙ (no_fault old sound).lists in
     passes (is_unreadable old n.id) (has_sound_lists n)
-    (ap (λ o. not (is_unreadable old n.id || option_map_or (λ node. not (has_sound_lists node)) o false)) (sym found) ∙ all_found (λ (m : Node). not (has_bad_list old m.id)) old.read n.id n all found)
+    (ap
+    (λ o. not (is_unreadable old n.id || option_map_or
+    (λ node. not (has_sound_lists node)) o false)) (sym found)
+    ∙ all_found (λ (m : Node). not (has_bad_list old m.id)) old.read n.id n all found)
   where
     passes : (t u : Bool) → not (t || not u) ≡ true → u ≡ true
     passes true u is = absurd (false≢true is)
@@ -75,22 +88,30 @@ module _ (which : Which) (rows : Content) (node : Node) (held : Held) where
   base_elsewhere n isnt = cond-false (n.id == node.id) held (held_of which n) isnt
 
   -- an object of the rows is that one, or has the list that it had
-  pub same_object : node_at rows node.id ≡ Some node → (n : Node) → node_at rows n.id ≡ Some n → (n.id == node.id) ≡ true → n ≡ node
-  same_object there n found is = same_node n node (sym found ∙ ap (node_at rows) (eqb-true n.id node.id is) ∙ there)
+  pub same_object : node_at rows node.id ≡ Some node → (n : Node) → node_at rows n.id ≡ Some n
+      → (n.id == node.id) ≡ true → n ≡ node
+  same_object there n found is =
+      same_node n node (sym found ∙ ap (node_at rows) (eqb-true n.id node.id is) ∙ there)
 
   -- whether the list of an object is linked then
   abbrev pub links : Node → Bool
   links n = is_linked (base n) (option_map base (parent_of rows n))
 
   -- a parent that isn't the object has the list that it had
-  pub other_parent : (parent : Option ℕ) (above : Node) → option_map_or (λ p. p == node.id) parent false ≡ false → option_and_then (node_at rows) parent ≡ Some above → (above.id == node.id) ≡ false
+  pub other_parent : (parent : Option ℕ) (above : Node)
+      → option_map_or (λ p. p == node.id) parent false ≡ false
+      → option_and_then (node_at rows) parent ≡ Some above → (above.id == node.id) ≡ false
   other_parent None above isnt is = absurd (let wrong : ⊥ = cc in wrong)
-  other_parent (Some p) above isnt is = ap (λ i. i == node.id) (node_at-number rows p above is) ∙ isnt
+  other_parent (Some p) above isnt is =
+      ap (λ i. i == node.id) (node_at-number rows p above is) ∙ isnt
 
-  pub other_links : (n : Node) → has_parent node.id n ≡ false → option_map base (parent_of rows n) ≡ option_map (held_of which) (parent_of rows n)
-  other_links n isnt = on (parent_of rows n) (λ above is. base_elsewhere above (other_parent n.parent above isnt is))
+  pub other_links : (n : Node) → has_parent node.id n ≡ false
+      → option_map base (parent_of rows n) ≡ option_map (held_of which) (parent_of rows n)
+  other_links n isnt =
+      on (parent_of rows n) (λ above is. base_elsewhere above (other_parent n.parent above isnt is))
     where
-      on : (o : Option Node) → ((above : Node) → o ≡ Some above → base above ≡ held_of which above) → option_map base o ≡ option_map (held_of which) o
+      on : (o : Option Node) → ((above : Node) → o ≡ Some above → base above ≡ held_of which above)
+          → option_map base o ≡ option_map (held_of which) o
       on None same = refl
       on (Some above) same = ap (λ h. Some h) (same above refl)
 
@@ -102,10 +123,12 @@ module _ (which : Which) (rows : Content) (node : Node) (held : Held) where
     abbrev pub ends : Content
     ends = relisted which final rows
 
-    pub linked_finally : (n : Node) → is_linked (final n) (option_map final (parent_of rows n)) ≡ links n
+    pub linked_finally : (n : Node)
+        → is_linked (final n) (option_map final (parent_of rows n)) ≡ links n
     linked_finally n = on (parent_of rows n)
       where
-        on : (o : Option Node) → is_linked (final n) (option_map final o) ≡ is_linked (base n) (option_map base o)
+        on : (o : Option Node)
+            → is_linked (final n) (option_map final o) ≡ is_linked (base n) (option_map base o)
         on None = refl
         on (Some above) = refl
 
@@ -114,34 +137,57 @@ module _ (which : Which) (rows : Content) (node : Node) (held : Held) where
 
     module _ (rises : Rises rows) (there : node_at rows node.id ≡ Some node) where
       pub mid_is : mid ≡ relisted which base rows
-      mid_is = with_node-replaces rows rises node.id node (with_held which held node) there (place-with_held which held node) ∙ each_same rows rises (replaced (with_held which held node)) (relist which base) one
+      mid_is =
+          with_node-replaces rows rises node.id node (with_held which held node) there
+          (place-with_held which held node)
+          ∙ each_same rows rises (replaced (with_held which held node)) (relist which base) one
         where
           number : (with_held which held node).id ≡ node.id
           number = (place-with_held which held node).number
 
-          one : (n : Node) → node_at rows n.id ≡ Some n → replaced (with_held which held node) n ≡ relist which base n
-          one n found = ap (λ (i : ℕ). cond (n.id == i) (with_held which held node) n) number ∙ elim (cases_Bool (n.id == node.id)) [
-            | inl is ↦
-                cond-true (n.id == node.id) (with_held which held node) n is ∙ ap (with_held which held) (sym (same_object there n found is))
-                ∙ ap (λ h. with_held which h n) (sym (cond-true (n.id == node.id) held (held_of which n) is))
-            | inr isnt ↦
-                cond-false (n.id == node.id) (with_held which held node) n isnt ∙ own_held which n ∙ ap (λ h. with_held which h n) (sym (base_elsewhere n isnt))
-          ]
+          one : (n : Node) → node_at rows n.id ≡ Some n
+              → replaced (with_held which held node) n ≡ relist which base n
+          one n found =
+              ap (λ (i : ℕ). cond (n.id == i) (with_held which held node) n) number
+              ∙ elim (cases_Bool (n.id == node.id)) [
+                | inl is ↦
+                    cond-true (n.id == node.id) (with_held which held node) n is
+                    ∙ ap (with_held which held) (sym (same_object there n found is))
+                    ∙ ap (λ h. with_held which h n)
+                    (sym (cond-true (n.id == node.id) held (held_of which n) is))
+                | inr isnt ↦
+                    cond-false (n.id == node.id) (with_held which held node) n isnt
+                    ∙ own_held which n
+                    ∙ ap (λ h. with_held which h n) (sym (base_elsewhere n isnt))
+              ]
 
       pub ends_is : with_lists which lists mid ≡ ends
       ends_is =
-          ap (with_lists which lists) mid_is ∙ with_each-with_each rows (relist which base) (λ n. with_inh which (lists n) n)
-          ∙ each_same rows rises (λ n. with_inh which (lists (relist which base n)) (relist which base n)) (relist which final) (λ n found. renewed_held which (base n) (lists (relist which base n)) n)
+          ap (with_lists which lists) mid_is
+          ∙ with_each-with_each rows (relist which base) (λ n. with_inh which (lists n) n)
+          ∙ each_same rows rises
+          (λ n. with_inh which (lists (relist which base n)) (relist which base n))
+          (relist which final)
+          (λ n found. renewed_held which (base n) (lists (relist which base n)) n)
 
       -- where nothing is inherited, the entries are what they were before
-      module _ (kept : (x : Node) → node_at mid x.id ≡ Some x → is_linked_in mid which x ≡ false → lists x ≡ (held_of which x).inh) where
-        pub unlinked_kept : (n : Node) → node_at rows n.id ≡ Some n → links n ≡ false → final n ≡ base n
+      module _
+          (kept : (x : Node) → node_at mid x.id ≡ Some x → is_linked_in mid which x ≡ false
+          → lists x ≡ (held_of which x).inh) where
+        pub unlinked_kept : (n : Node) → node_at rows n.id ≡ Some n → links n ≡ false
+            → final n ≡ base n
         unlinked_kept n found apart =
             let x = relist which base n in
             let found_mid : node_at mid x.id ≡ Some x =
-            ap (λ (c : Content). node_at c x.id) mid_is ∙ ap (node_at (relisted which base rows)) (number_kept which base n) ∙ found_relisted which base rows n.id ∙ ap (option_map (relist which base)) found in
-            let linked_mid : is_linked_in mid which x ≡ links n = ap (λ (c : Content). is_linked_in c which x) mid_is ∙ linked_relisted which base rows n in
-            ap (λ entries. record (base n) { inh = entries }) (kept x found_mid (linked_mid ∙ apart) ∙ ap (λ (h : Held). h.inh) (held_relisted which base n))
+            ap (λ (c : Content). node_at c x.id) mid_is
+            ∙ ap (node_at (relisted which base rows)) (number_kept which base n)
+            ∙ found_relisted which base rows n.id ∙ ap (option_map (relist which base)) found in
+            let linked_mid : is_linked_in mid which x ≡ links n = ap
+            (λ (c : Content). is_linked_in c which x) mid_is
+            ∙ linked_relisted which base rows n in
+            ap (λ entries. record (base n) { inh = entries })
+            (kept x found_mid (linked_mid ∙ apart)
+            ∙ ap (λ (h : Held). h.inh) (held_relisted which base n))
 
         -- and the rows stay sound
         module _
@@ -153,59 +199,109 @@ module _ (which : Which) (rows : Content) (node : Node) (held : Held) where
             ends_law = subst (λ (c : Content). AllAgree c which) ends_is law
 
             -- each object of the end is one of the rows
-            from_rows : (m : Node) → node_at ends m.id ≡ Some m → (n : Node) × (node_at rows n.id ≡ Some n) × (m ≡ relist which final n)
-            from_rows m found = on (node_at rows m.id) refl (sym (found_relisted which final rows m.id) ∙ found)
+            from_rows : (m : Node) → node_at ends m.id ≡ Some m → (n : Node)
+                × (node_at rows n.id ≡ Some n) × (m ≡ relist which final n)
+            from_rows m found =
+                on (node_at rows m.id) refl (sym (found_relisted which final rows m.id) ∙ found)
               where
-                on : (o : Option Node) → node_at rows m.id ≡ o → option_map (relist which final) o ≡ Some m → (n : Node) × (node_at rows n.id ≡ Some n) × (m ≡ relist which final n)
+                on : (o : Option Node) → node_at rows m.id ≡ o
+                    → option_map (relist which final) o ≡ Some m → (n : Node)
+                    × (node_at rows n.id ≡ Some n) × (m ≡ relist which final n)
                 on None before is = absurd (let wrong : ⊥ = cc in wrong)
-                on (Some n) before is = (n, ap (node_at rows) (node_at-number rows m.id n before) ∙ before, same_node m (relist which final n) (sym is))
+                on (Some n) before is = (
+                  n,
+                  ap (node_at rows) (node_at-number rows m.id n before) ∙ before,
+                  same_node m (relist which final n) (sym is),
+                )
 
-            module _ (unreadable : List ℕ) (sound : AreSound (record { read = rows; unreadable = unreadable })) where
+            module _ (unreadable : List ℕ)
+                (sound : AreSound (record { read = rows; unreadable = unreadable })) where
               abbrev old : Rows
               old = record { read = rows; unreadable = unreadable }
 
-              parts_before : (n : Node) → node_at rows n.id ≡ Some n → (are_own which n.kind (held_of which n).own ≡ true) × (are_inherited which n.kind (held_of which n).inh ≡ true)
+              parts_before : (n : Node) → node_at rows n.id ≡ Some n
+                  → (are_own which n.kind (held_of which n).own ≡ true)
+                  × (are_inherited which n.kind (held_of which n).inh ≡ true)
               parts_before n found =
-                  and_parts (are_own which n.kind (held_of which n).own) (are_inherited which n.kind (held_of which n).inh)
-                  (sym (held_parts which n.kind (held_of which n)) ∙ one_list which n (lists_of old sound n found))
+                  and_parts (are_own which n.kind (held_of which n).own)
+                  (are_inherited which n.kind (held_of which n).inh)
+                  (sym (held_parts which n.kind (held_of which n))
+                  ∙ one_list which n (lists_of old sound n found))
 
-              own_parts : (n : Node) → node_at rows n.id ≡ Some n → are_own which n.kind (base n).own ≡ true
+              own_parts : (n : Node) → node_at rows n.id ≡ Some n
+                  → are_own which n.kind (base n).own ≡ true
               own_parts n found = elim (cases_Bool (n.id == node.id)) [
-                | inl is ↦ (let same = same_object there n found is in ap (λ (m : Node). are_own which m.kind (base m).own) same ∙ ap (λ (h : Held). are_own which node.kind h.own) base_here ∙ own)
-                | inr isnt ↦ ap (λ (h : Held). are_own which n.kind h.own) (base_elsewhere n isnt) ∙ (parts_before n found).0
-              ]
-
-              kept_parts : (n : Node) → node_at rows n.id ≡ Some n → links n ≡ false → are_inherited which n.kind (final n).inh ≡ true
-              kept_parts n found apart = ap (λ (h : Held). are_inherited which n.kind h.inh) (unlinked_kept n found apart) ∙ elim (cases_Bool (n.id == node.id)) [
                 | inl is ↦
-                    let same = same_object there n found is in
-                    ap (λ (m : Node). are_inherited which m.kind (base m).inh) same ∙ ap (λ (h : Held). are_inherited which node.kind h.inh) base_here ∙ inherited (ap links (sym same) ∙ apart)
-                | inr isnt ↦ ap (λ (h : Held). are_inherited which n.kind h.inh) (base_elsewhere n isnt) ∙ (parts_before n found).1
+                    (let same = same_object there n found is in
+                    ap (λ (m : Node). are_own which m.kind (base m).own) same
+                    ∙ ap (λ (h : Held). are_own which node.kind h.own) base_here ∙ own)
+                | inr isnt ↦ ap (λ (h : Held). are_own which n.kind h.own) (base_elsewhere n isnt)
+                    ∙ (parts_before n found).0
               ]
 
-              own_ends : (m : Node) → node_at ends m.id ≡ Some m → are_own which m.kind (held_of which m).own ≡ true
+              kept_parts : (n : Node) → node_at rows n.id ≡ Some n → links n ≡ false
+                  → are_inherited which n.kind (final n).inh ≡ true
+              kept_parts n found apart =
+                  ap (λ (h : Held). are_inherited which n.kind h.inh) (unlinked_kept n found apart)
+                  ∙ elim (cases_Bool (n.id == node.id)) [
+                    | inl is ↦
+                        let same = same_object there n found is in
+                        ap (λ (m : Node). are_inherited which m.kind (base m).inh) same
+                        ∙ ap (λ (h : Held). are_inherited which node.kind h.inh) base_here
+                        ∙ inherited (ap links (sym same) ∙ apart)
+                    | inr isnt ↦
+                        ap (λ (h : Held). are_inherited which n.kind h.inh) (base_elsewhere n isnt)
+                        ∙ (parts_before n found).1
+                  ]
+
+              own_ends : (m : Node) → node_at ends m.id ≡ Some m
+                  → are_own which m.kind (held_of which m).own ≡ true
               own_ends m found =
                   let from = from_rows m found in
                   let n = from.0 in
-                  ap (λ (x : Node). are_own which x.kind (held_of which x).own) from.2 ∙ ap (λ k. are_own which k (held_of which (relist which final n)).own) (kind_kept which final n)
-                  ∙ ap (λ (h : Held). are_own which n.kind h.own) (held_relisted which final n) ∙ own_parts n from.1
+                  ap (λ (x : Node). are_own which x.kind (held_of which x).own) from.2
+                  ∙ ap (λ k. are_own which k (held_of which (relist which final n)).own)
+                  (kind_kept which final n)
+                  ∙ ap (λ (h : Held). are_own which n.kind h.own) (held_relisted which final n)
+                  ∙ own_parts n from.1
 
-              kept_ends : (m : Node) → node_at ends m.id ≡ Some m → is_linked_in ends which m ≡ false → are_inherited which m.kind (held_of which m).inh ≡ true
+              kept_ends : (m : Node) → node_at ends m.id ≡ Some m
+                  → is_linked_in ends which m ≡ false
+                  → are_inherited which m.kind (held_of which m).inh ≡ true
               kept_ends m found apart =
                   let from = from_rows m found in
                   let n = from.0 in
-                  ap (λ (x : Node). are_inherited which x.kind (held_of which x).inh) from.2 ∙ ap (λ k. are_inherited which k (held_of which (relist which final n)).inh) (kind_kept which final n)
-                  ∙ ap (λ (h : Held). are_inherited which n.kind h.inh) (held_relisted which final n) ∙ kept_parts n from.1 (sym (linked_in_end n) ∙ ap (is_linked_in ends which) (sym from.2) ∙ apart)
+                  ap (λ (x : Node). are_inherited which x.kind (held_of which x).inh) from.2
+                  ∙ ap (λ k. are_inherited which k (held_of which (relist which final n)).inh)
+                  (kind_kept which final n)
+                  ∙ ap (λ (h : Held). are_inherited which n.kind h.inh)
+                  (held_relisted which final n)
+                  ∙ kept_parts n from.1
+                  (sym (linked_in_end n) ∙ ap (is_linked_in ends which) (sym from.2) ∙ apart)
 
-              inherited_parts : (n : Node) → node_at rows n.id ≡ Some n → are_inherited which n.kind (final n).inh ≡ true
+              inherited_parts : (n : Node) → node_at rows n.id ≡ Some n
+                  → are_inherited which n.kind (final n).inh ≡ true
               inherited_parts n found =
-                  ap (λ (h : Held). are_inherited which n.kind h.inh) (sym (held_relisted which final n)) ∙ ap (λ k. are_inherited which k (held_of which (relist which final n)).inh) (sym (kind_kept which final n))
-                  ∙ valid_down which ends ends_law (folders_kept which final rows (no_fault old sound).parents) own_ends kept_ends (length ends.nodes) (relist which final n)
-                  (ap (node_at ends) (number_kept which final n) ∙ found_relisted which final rows n.id ∙ ap (option_map (relist which final)) found)
-                  (reach_kept which final rows n ∙ all_found (reaches rows) rows n.id n (no_fault old sound).reach found)
+                  ap (λ (h : Held). are_inherited which n.kind h.inh)
+                  (sym (held_relisted which final n))
+                  ∙ ap (λ k. are_inherited which k (held_of which (relist which final n)).inh)
+                  (sym (kind_kept which final n))
+                  ∙ valid_down which ends ends_law
+                  (folders_kept which final rows (no_fault old sound).parents) own_ends kept_ends
+                  (length ends.nodes) (relist which final n)
+                  (ap (node_at ends) (number_kept which final n)
+                  ∙ found_relisted which final rows n.id
+                  ∙ ap (option_map (relist which final)) found)
+                  (reach_kept which final rows n
+                  ∙ all_found (reaches rows) rows n.id n (no_fault old sound).reach found)
 
-              fits : (n : Node) → node_at rows n.id ≡ Some n → is_sound_held which n.kind (final n) ≡ true
-              fits n found = held_parts which n.kind (final n) ∙ and_from (are_own which n.kind (final n).own) (are_inherited which n.kind (final n).inh) (own_parts n found) (inherited_parts n found)
+              fits : (n : Node) → node_at rows n.id ≡ Some n
+                  → is_sound_held which n.kind (final n) ≡ true
+              fits n found =
+                  held_parts which n.kind (final n)
+                  ∙ and_from (are_own which n.kind (final n).own)
+                  (are_inherited which n.kind (final n).inh) (own_parts n found)
+                  (inherited_parts n found)
 
               pub set_sound : AreSound (record { read = ends; unreadable = unreadable })
               set_sound = relisted_sound which final old sound fits ends_law

@@ -25,7 +25,8 @@ use Rattle.room_desk.proofs.Lists.SetHeld.{base, base_here, base_elsewhere, each
 
 -- ---- one list
 
-held_kept : (which : Which) (rows : Content) (n : Node) → held_of which (kept_node rows n) ≡ kept_held (is_linked_in rows which n) (held_of which n)
+held_kept : (which : Which) (rows : Content) (n : Node)
+    → held_of which (kept_node rows n) ≡ kept_held (is_linked_in rows which n) (held_of which n)
 held_kept Dacl rows n = refl
 held_kept Sacl rows n = refl
 
@@ -37,24 +38,37 @@ own_kept : (linked : Bool) (held : Held) → (kept_held linked held).own ≡ hel
 own_kept true held = refl
 own_kept false held = refl
 
-stored_full : (which : Which) (rows : Content) (n : Node) → full_at which (kept_site rows n) ≡ full_of (held_of which n)
+stored_full : (which : Which) (rows : Content) (n : Node)
+    → full_at which (kept_site rows n) ≡ full_of (held_of which n)
 stored_full Dacl rows n = ap (λ own. own ++ n.dacl.inh) (own_kept (is_linked_in rows Dacl n) n.dacl)
 stored_full Sacl rows n = ap (λ own. own ++ n.sacl.inh) (own_kept (is_linked_in rows Sacl n) n.sacl)
 
 -- what a child keeps, by whether the folder's list had AUTO_INHERIT and has it
-child_parts : (kind : ObjKind) (full : List Ace) (auto protect : Bool) (own inh : List Ace) (before after : Bool) → ((not protect && before) ≡ true → inh ≡ pass kind full)
-    → (let held : Held = record { flags = record { auto = auto; protect = protect }; own = own; inh = inh } in kept_held (not protect && after) held ≡ kept_by_child before after kind full (kept_held (not protect && before) held))
+child_parts : (kind : ObjKind) (full : List Ace) (auto protect : Bool) (own inh : List Ace)
+    (before after : Bool) → ((not protect && before) ≡ true → inh ≡ pass kind full)
+    → (let held : Held = record {
+      flags = record { auto = auto; protect = protect };
+      own = own;
+      inh = inh;
+    } in kept_held (not protect && after) held
+    ≡ kept_by_child before after kind full (kept_held (not protect && before) held))
 child_parts kind full auto true own inh before after law = refl
 child_parts kind full auto false own inh true true law = refl
-child_parts kind full auto false own inh true false law = ap (λ (entries : List Ace). record { flags = record { auto = auto; protect = false }; own = own; inh = entries }) (law refl)
+child_parts kind full auto false own inh true false law =
+    ap (λ (entries : List Ace).
+    record { flags = record { auto = auto; protect = false }; own = own; inh = entries }) (law refl)
 child_parts kind full auto false own inh false true law = refl
 child_parts kind full auto false own inh false false law = refl
 
-child_kept : (kind : ObjKind) (full : List Ace) (held : Held) (before after : Bool) → ((not held.flags.protect && before) ≡ true → held.inh ≡ pass kind full)
-    → kept_held (not held.flags.protect && after) held ≡ kept_by_child before after kind full (kept_held (not held.flags.protect && before) held)
-child_kept kind full held before after law = child_parts kind full held.flags.auto held.flags.protect held.own held.inh before after law
+child_kept : (kind : ObjKind) (full : List Ace) (held : Held) (before after : Bool)
+    → ((not held.flags.protect && before) ≡ true → held.inh ≡ pass kind full)
+    → kept_held (not held.flags.protect && after) held
+    ≡ kept_by_child before after kind full (kept_held (not held.flags.protect && before) held)
+child_kept kind full held before after law =
+    child_parts kind full held.flags.auto held.flags.protect held.own held.inh before after law
 
-sent_auto : (linked : Bool) (held : Held) → (cond linked (record held { inh = [] }) held).flags.auto ≡ held.flags.auto
+sent_auto : (linked : Bool) (held : Held)
+    → (cond linked (record held { inh = [] }) held).flags.auto ≡ held.flags.auto
 sent_auto true held = refl
 sent_auto false held = refl
 
@@ -63,23 +77,42 @@ module _ (which : Which) (rows : Content) (sent : Sent) (kind : ObjKind) where
   plain = record { flags = sent.flags; own = own_of sent.entries; inh = inherited_of sent.entries }
 
   -- the list as it is stored means the list as it is sent
-  sent_kept : (o : Option Node) → kept_held (is_linked (stored_held which sent kind o) (option_map (held_of which) o)) (stored_held which sent kind o) ≡ sent_held (option_map (λ n. held_of which (kept_node rows n)) o) sent
+  sent_kept : (o : Option Node)
+      → kept_held (is_linked (stored_held which sent kind o) (option_map (held_of which) o))
+      (stored_held which sent kind o)
+      ≡ sent_held (option_map (λ n. held_of which (kept_node rows n)) o) sent
   sent_kept None = refl
   sent_kept (Some above) =
       on (not sent.flags.protect && (held_of which above).flags.auto)
-      ∙ ap (λ t. cond (not sent.flags.protect && t) (record plain { inh = [] }) plain) (sym (ap (λ (h : Held). h.flags.auto) (held_kept which rows above) ∙ ap (λ f. f.auto) (flags_kept (is_linked_in rows which above) (held_of which above))))
+      ∙ ap (λ t. cond (not sent.flags.protect && t) (record plain { inh = [] }) plain)
+      (sym (ap (λ (h : Held). h.flags.auto) (held_kept which rows above)
+      ∙ ap (λ f. f.auto) (flags_kept (is_linked_in rows which above) (held_of which above))))
     where
-      on : (t : Bool) → kept_held t (record { flags = sent.flags; own = own_of sent.entries; inh = option_map_or (λ up. pass kind (full_of (held_of which up))) (cond t (Some above) None) (inherited_of sent.entries) }) ≡ cond t (record plain { inh = [] }) plain
+      on : (t : Bool)
+          → kept_held t
+          (record {
+            flags = sent.flags;
+            own = own_of sent.entries;
+            inh = option_map_or (λ up. pass kind (full_of (held_of which up)))
+                (cond t (Some above) None) (inherited_of sent.entries);
+          }) ≡ cond t (record plain {
+            inh =
+                [];
+          }) plain
       on true = refl
       on false = refl
 
 -- ---- all objects
 
-module _ (which : Which) (rows : Content) (node : Node) (held : Held) (lists : Node → List Ace) (rises : Rises rows) (there : node_at rows node.id ≡ Some node)
-    (kept : (x : Node) → node_at (mid which rows node held) x.id ≡ Some x → is_linked_in (mid which rows node held) which x ≡ false → lists x ≡ (held_of which x).inh)
+module _ (which : Which) (rows : Content) (node : Node) (held : Held) (lists : Node → List Ace)
+    (rises : Rises rows) (there : node_at rows node.id ≡ Some node)
+    (kept : (x : Node) → node_at (mid which rows node held) x.id ≡ Some x
+    → is_linked_in (mid which rows node held) which x ≡ false → lists x ≡ (held_of which x).inh)
     (sent : Sent) (stored : held ≡ stored_held which sent node.kind (parent_of rows node))
     (apart : has_parent node.id node ≡ false)
-    (law : (n : Node) → node_at rows n.id ≡ Some n → parent_of rows n ≡ Some node → is_linked_in rows which n ≡ true → (held_of which n).inh ≡ pass n.kind (full_of (held_of which node)))
+    (law : (n : Node) → node_at rows n.id ≡ Some n → parent_of rows n ≡ Some node
+    → is_linked_in rows which n ≡ true
+    → (held_of which n).inh ≡ pass n.kind (full_of (held_of which node)))
   where
     abbrev to : Node → Held
     to n = final which rows node held lists n
@@ -91,101 +124,162 @@ module _ (which : Which) (rows : Content) (node : Node) (held : Held) (lists : N
     keeps n = kept_node rows n
 
     abbrev set : Held
-    set = sent_held (option_map (λ site. held_of which site.node) (option_map (kept_site rows) (parent_of rows node))) sent
+    set =
+        sent_held (option_map (λ site. held_of which site.node)
+        (option_map (kept_site rows) (parent_of rows node))) sent
 
     abbrev child : Node → Node
-    child m = with_held which (kept_by_child (held_of which (keeps node)).flags.auto set.flags.auto m.kind (full_at which (kept_site rows node)) (held_of which m)) m
+    child m =
+        with_held which (kept_by_child (held_of which (keeps node)).flags.auto set.flags.auto m.kind
+        (full_at which (kept_site rows node)) (held_of which m)) m
 
     abbrev changed : Node → Node
     changed m = cond (has_parent node.id m) (child m) m
 
     -- an object keeps what it stores under the new lists
-    kept_final : (n : Node) → node_at rows n.id ≡ Some n → (t : Bool) → links which rows node held n ≡ t → kept_held t (to n) ≡ kept_held t (with n)
+    kept_final : (n : Node) → node_at rows n.id ≡ Some n → (t : Bool)
+        → links which rows node held n ≡ t → kept_held t (to n) ≡ kept_held t (with n)
     kept_final n found true is = refl
-    kept_final n found false is = unlinked_kept which rows node held lists rises there kept n found is
+    kept_final n found false is =
+        unlinked_kept which rows node held lists rises there kept n found is
 
     -- the object itself
     here_set : kept_held (links which rows node held node) (to node) ≡ set
     here_set =
         kept_final node there (links which rows node held node) refl
-        ∙ ap (λ h. kept_held (is_linked h (option_map with (parent_of rows node))) h) (base_here which rows node held ∙ stored)
-        ∙ ap (λ o. kept_held (is_linked (stored_held which sent node.kind (parent_of rows node)) o) (stored_held which sent node.kind (parent_of rows node))) (other_links which rows node held node apart)
+        ∙ ap (λ h. kept_held (is_linked h (option_map with (parent_of rows node))) h)
+        (base_here which rows node held ∙ stored)
+        ∙ ap (λ o. kept_held (is_linked (stored_held which sent node.kind (parent_of rows node)) o)
+        (stored_held which sent node.kind (parent_of rows node)))
+        (other_links which rows node held node apart)
         ∙ sent_kept which rows sent node.kind (parent_of rows node)
         ∙ ap (λ o. sent_held o sent) (twice (parent_of rows node))
       where
-        twice : (o : Option Node) → option_map (λ n. held_of which (kept_node rows n)) o ≡ option_map (λ site. held_of which site.node) (option_map (kept_site rows) o)
+        twice : (o : Option Node)
+            → option_map (λ n. held_of which (kept_node rows n)) o
+            ≡ option_map (λ site. held_of which site.node) (option_map (kept_site rows) o)
         twice None = refl
         twice (Some above) = refl
 
     -- one that is neither the object nor a child of it
-    far_kept : (n : Node) → node_at rows n.id ≡ Some n → (n.id == node.id) ≡ false → has_parent node.id n ≡ false → kept_held (links which rows node held n) (to n) ≡ held_of which (keeps n)
+    far_kept : (n : Node) → node_at rows n.id ≡ Some n → (n.id == node.id) ≡ false
+        → has_parent node.id n ≡ false
+        → kept_held (links which rows node held n) (to n) ≡ held_of which (keeps n)
     far_kept n found isnt far =
         kept_final n found (links which rows node held n) refl
-        ∙ ap (λ h. kept_held (is_linked h (option_map with (parent_of rows n))) h) (base_elsewhere which rows node held n isnt)
-        ∙ ap (λ o. kept_held (is_linked (held_of which n) o) (held_of which n)) (other_links which rows node held n far)
+        ∙ ap (λ h. kept_held (is_linked h (option_map with (parent_of rows n))) h)
+        (base_elsewhere which rows node held n isnt)
+        ∙ ap (λ o. kept_held (is_linked (held_of which n) o) (held_of which n))
+        (other_links which rows node held n far)
         ∙ sym (held_kept which rows n)
 
-    child_set : (n : Node) → node_at rows n.id ≡ Some n → (n.id == node.id) ≡ false → has_parent node.id n ≡ true
-        → kept_held (links which rows node held n) (to n) ≡ kept_by_child (held_of which (keeps node)).flags.auto set.flags.auto n.kind (full_at which (kept_site rows node)) (held_of which (keeps n))
+    child_set : (n : Node) → node_at rows n.id ≡ Some n → (n.id == node.id) ≡ false
+        → has_parent node.id n ≡ true
+        → kept_held (links which rows node held n) (to n)
+        ≡ kept_by_child (held_of which (keeps node)).flags.auto set.flags.auto n.kind
+        (full_at which (kept_site rows node)) (held_of which (keeps n))
     child_set n found isnt is =
         kept_final n found (links which rows node held n) refl
-        ∙ ap (λ h. kept_held (is_linked h (option_map with (parent_of rows n))) h) (base_elsewhere which rows node held n isnt)
-        ∙ ap (λ o. kept_held (is_linked (held_of which n) (option_map with o)) (held_of which n)) above
-        ∙ ap (λ (h : Held). kept_held (not (held_of which n).flags.protect && h.flags.auto) (held_of which n)) (base_here which rows node held ∙ stored)
-        ∙ child_kept n.kind (full_of (held_of which node)) (held_of which n) (held_of which node).flags.auto sent.flags.auto (λ linked. law n found above (linked_before ∙ linked))
-        ∙ ap (λ t. kept_by_child (held_of which node).flags.auto sent.flags.auto n.kind (full_of (held_of which node)) (kept_held t (held_of which n))) (sym linked_before)
-        ∙ ap (λ h. kept_by_child (held_of which node).flags.auto sent.flags.auto n.kind (full_of (held_of which node)) h) (sym (held_kept which rows n))
-        ∙ ap (λ full. kept_by_child (held_of which node).flags.auto sent.flags.auto n.kind full (held_of which (keeps n))) (sym (stored_full which rows node))
-        ∙ ap (λ t. kept_by_child (held_of which node).flags.auto t n.kind (full_at which (kept_site rows node)) (held_of which (keeps n)))
-        (sym (sent_auto (is_linked (plain which rows sent n.kind) (option_map (λ site. held_of which site.node) (option_map (kept_site rows) (parent_of rows node)))) (plain which rows sent n.kind)))
-        ∙ ap (λ t. kept_by_child t set.flags.auto n.kind (full_at which (kept_site rows node)) (held_of which (keeps n)))
-        (sym (ap (λ (h : Held). h.flags.auto) (held_kept which rows node) ∙ ap (λ f. f.auto) (flags_kept (is_linked_in rows which node) (held_of which node))))
+        ∙ ap (λ h. kept_held (is_linked h (option_map with (parent_of rows n))) h)
+        (base_elsewhere which rows node held n isnt)
+        ∙ ap (λ o. kept_held (is_linked (held_of which n) (option_map with o)) (held_of which n))
+        above
+        ∙ ap (λ (h : Held). kept_held (not (held_of which n).flags.protect && h.flags.auto)
+        (held_of which n)) (base_here which rows node held ∙ stored)
+        ∙ child_kept n.kind (full_of (held_of which node)) (held_of which n)
+        (held_of which node).flags.auto sent.flags.auto
+        (λ linked. law n found above (linked_before ∙ linked))
+        ∙ ap (λ t. kept_by_child (held_of which node).flags.auto sent.flags.auto n.kind
+        (full_of (held_of which node)) (kept_held t (held_of which n))) (sym linked_before)
+        ∙ ap (λ h. kept_by_child (held_of which node).flags.auto sent.flags.auto n.kind
+        (full_of (held_of which node)) h) (sym (held_kept which rows n))
+        ∙ ap (λ full. kept_by_child (held_of which node).flags.auto sent.flags.auto n.kind full
+        (held_of which (keeps n))) (sym (stored_full which rows node))
+        ∙ ap (λ t. kept_by_child (held_of which node).flags.auto t n.kind
+        (full_at which (kept_site rows node)) (held_of which (keeps n)))
+        (sym (sent_auto (is_linked (plain which rows sent n.kind)
+        (option_map (λ site. held_of which site.node)
+        (option_map (kept_site rows) (parent_of rows node)))) (plain which rows sent n.kind)))
+        ∙ ap (λ t. kept_by_child t set.flags.auto n.kind (full_at which (kept_site rows node))
+        (held_of which (keeps n)))
+        (sym (ap (λ (h : Held). h.flags.auto) (held_kept which rows node)
+        ∙ ap (λ f. f.auto) (flags_kept (is_linked_in rows which node) (held_of which node))))
       where
         above : parent_of rows n ≡ Some node
         above = ap (option_and_then (node_at rows)) (parent_is node.id n is) ∙ there
 
-        linked_before : is_linked_in rows which n ≡ (not (held_of which n).flags.protect && (held_of which node).flags.auto)
+        linked_before : is_linked_in rows which n
+            ≡ (not (held_of which n).flags.protect && (held_of which node).flags.auto)
         linked_before = ap (λ o. is_linked (held_of which n) (option_map (held_of which) o)) above
 
     place_changed : (m : Node) → IsSamePlace (changed m) m
     place_changed m = on (has_parent node.id m)
       where
         on : (t : Bool) → IsSamePlace (cond t (child m) m) m
-        on true = place-with_held which (kept_by_child (held_of which (keeps node)).flags.auto set.flags.auto m.kind (full_at which (kept_site rows node)) (held_of which m)) m
+        on true =
+            place-with_held which
+            (kept_by_child (held_of which (keeps node)).flags.auto set.flags.auto m.kind
+            (full_at which (kept_site rows node)) (held_of which m)) m
         on false = record { number = refl; parent = refl; name = refl }
 
-    one_means : (n : Node) → node_at rows n.id ≡ Some n → kept_node (ends which rows node held lists) (relist which to n) ≡ replaced (with_held which set (keeps node)) (changed (keeps n))
+    one_means : (n : Node) → node_at rows n.id ≡ Some n
+        → kept_node (ends which rows node held lists) (relist which to n)
+        ≡ replaced (with_held which set (keeps node)) (changed (keeps n))
     one_means n found =
         kept_relisted which to rows n
-        ∙ ap (λ t. with_held which (kept_held t (to n)) (keeps n)) (linked_finally which rows node held lists n)
+        ∙ ap (λ t. with_held which (kept_held t (to n)) (keeps n))
+        (linked_finally which rows node held lists n)
         ∙ elim (cases_Bool (n.id == node.id)) [
           | inl is ↦
-              ap (λ m. with_held which (kept_held (links which rows node held m) (to m)) (keeps m)) (same_object which rows node held there n found is)
+              ap (λ m. with_held which (kept_held (links which rows node held m) (to m)) (keeps m))
+              (same_object which rows node held there n found is)
               ∙ ap (λ h. with_held which h (keeps node)) here_set
-              ∙ sym (cond-true ((changed (keeps n)).id == (with_held which set (keeps node)).id) (with_held which set (keeps node)) (changed (keeps n)) (numbers n ∙ is))
+              ∙ sym (cond-true ((changed (keeps n)).id == (with_held which set (keeps node)).id)
+              (with_held which set (keeps node)) (changed (keeps n)) (numbers n ∙ is))
           | inr isnt ↦
               rest n found isnt (has_parent node.id n) refl
-              ∙ sym (cond-false ((changed (keeps n)).id == (with_held which set (keeps node)).id) (with_held which set (keeps node)) (changed (keeps n)) (numbers n ∙ isnt))
+              ∙ sym (cond-false ((changed (keeps n)).id == (with_held which set (keeps node)).id)
+              (with_held which set (keeps node)) (changed (keeps n)) (numbers n ∙ isnt))
         ]
       where
-        numbers : (n : Node) → ((changed (keeps n)).id == (with_held which set (keeps node)).id) ≡ (n.id == node.id)
-        numbers n = ap (λ i. i == (with_held which set (keeps node)).id) (place_changed (keeps n)).number ∙ ap (λ i. n.id == i) (place-with_held which set (keeps node)).number
+        numbers : (n : Node)
+            → ((changed (keeps n)).id == (with_held which set (keeps node)).id) ≡ (n.id == node.id)
+        numbers n =
+            ap (λ i. i == (with_held which set (keeps node)).id) (place_changed (keeps n)).number
+            ∙ ap (λ i. n.id == i) (place-with_held which set (keeps node)).number
 
-        rest : (n : Node) → node_at rows n.id ≡ Some n → (n.id == node.id) ≡ false → (t : Bool) → has_parent node.id n ≡ t → with_held which (kept_held (links which rows node held n) (to n)) (keeps n) ≡ cond t (child (keeps n)) (keeps n)
-        rest n found isnt true is = ap (λ h. with_held which h (keeps n)) (child_set n found isnt is)
-        rest n found isnt false far = ap (λ h. with_held which h (keeps n)) (far_kept n found isnt far) ∙ sym (own_held which (keeps n))
+        rest : (n : Node) → node_at rows n.id ≡ Some n → (n.id == node.id) ≡ false → (t : Bool)
+            → has_parent node.id n ≡ t
+            → with_held which (kept_held (links which rows node held n) (to n)) (keeps n)
+            ≡ cond t (child (keeps n)) (keeps n)
+        rest n found isnt true is =
+            ap (λ h. with_held which h (keeps n)) (child_set n found isnt is)
+        rest n found isnt false far =
+            ap (λ h. with_held which h (keeps n)) (far_kept n found isnt far)
+            ∙ sym (own_held which (keeps n))
 
-    pub set_means : meaning (ends which rows node held lists) ≡ set_list (meaning rows) which sent (option_map (kept_site rows) (parent_of rows node)) (kept_site rows node)
+    pub set_means : meaning (ends which rows node held lists)
+        ≡ set_list (meaning rows) which sent (option_map (kept_site rows) (parent_of rows node))
+        (kept_site rows node)
     set_means =
         with_each-with_each rows (relist which to) (kept_node (ends which rows node held lists))
-        ∙ each_same rows rises (λ n. kept_node (ends which rows node held lists) (relist which to n)) (λ n. replaced (with_held which set (keeps node)) (changed (keeps n))) one_means
-        ∙ sym (with_each-with_each rows (λ n. changed (keeps n)) (replaced (with_held which set (keeps node))))
-        ∙ sym (with_node-replaces (with_each rows (λ n. changed (keeps n))) all_rise node.id (changed (keeps node)) (with_held which set (keeps node))
-        (node_at-with_each rows (λ n. changed (keeps n)) places node.id ∙ ap (option_map (λ n. changed (keeps n))) there) target_place)
-        ∙ ap (λ (c : Content). with_node c (with_held which set (keeps node))) (sym (with_each-with_each rows keeps changed))
+        ∙ each_same rows rises
+        (λ n. kept_node (ends which rows node held lists) (relist which to n))
+        (λ n. replaced (with_held which set (keeps node)) (changed (keeps n))) one_means
+        ∙ sym (with_each-with_each rows (λ n. changed (keeps n))
+        (replaced (with_held which set (keeps node))))
+        ∙ sym (with_node-replaces (with_each rows (λ n. changed (keeps n))) all_rise node.id
+        (changed (keeps node)) (with_held which set (keeps node))
+        (node_at-with_each rows (λ n. changed (keeps n)) places node.id
+        ∙ ap (option_map (λ n. changed (keeps n))) there) target_place)
+        ∙ ap (λ (c : Content). with_node c (with_held which set (keeps node)))
+        (sym (with_each-with_each rows keeps changed))
       where
         places : Rattle.room_rows.proofs.Frames.KeepsPlaces rows (λ n. changed (keeps n))
-        places = keeps_places rows (λ n. changed (keeps n)) (λ n. let p = place_changed (keeps n) in record { number = p.number; parent = p.parent; name = p.name })
+        places =
+            keeps_places rows (λ n. changed (keeps n))
+            (λ n. let p = place_changed (keeps n) in
+            record { number = p.number; parent = p.parent; name = p.name })
 
         all_rise : Rises (with_each rows (λ n. changed (keeps n)))
         all_rise = rises-with_each rows (λ n. changed (keeps n)) places rises
@@ -194,4 +288,8 @@ module _ (which : Which) (rows : Content) (node : Node) (held : Held) (lists : N
         target_place =
             let p = place-with_held which set (keeps node) in
             let q = place_changed (keeps node) in
-            record { number = p.number ∙ sym q.number; parent = p.parent ∙ sym q.parent; name = p.name ∙ sym q.name }
+            record {
+              number = p.number ∙ sym q.number;
+              parent = p.parent ∙ sym q.parent;
+              name = p.name ∙ sym q.name;
+            }

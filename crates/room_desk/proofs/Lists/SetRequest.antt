@@ -48,7 +48,9 @@ use Rattle.room_desk.proofs.Steps.Stepping.{changed_step, refused_step}
 use Rattle.room_desk.proofs.Made.Uplink.{parent_paired, target_stands}
 
 -- items after others at the target
-more_items : (first more : Site → List Item) (front : List Item) (o : Option Site) → front ++ where_found o (λ s. first s ++ more s) ≡ (front ++ where_found o first) ++ where_found o more
+more_items : (first more : Site → List Item) (front : List Item) (o : Option Site)
+    → front ++ where_found o (λ s. first s ++ more s) ≡ (front ++ where_found o first)
+    ++ where_found o more
 more_items first more front None = sym (append-nil (front ++ []))
 more_items first more front (Some site) = sym (append_assoc front (first site) (more site))
 
@@ -61,9 +63,12 @@ module _ (path : List (List ℕ)) (which : Which) (sent : Sent) where
   items site = CheckAt (write_acl ∷ []) site ++ listed site
 
   pub items_filled : (site : Site) → items (fill site) ≡ map fill_item (items site)
-  items_filled site = ap (λ rest. CheckAt (write_acl ∷ []) (fill site) ++ rest) (on (first_bad_entry 1 which site.node.kind sent.entries))
+  items_filled site =
+      ap (λ rest. CheckAt (write_acl ∷ []) (fill site) ++ rest)
+      (on (first_bad_entry 1 which site.node.kind sent.entries))
     where
-      on : (faults : Option EntryFault) → bad_list path faults ≡ map fill_item (bad_list path faults)
+      on : (faults : Option EntryFault)
+          → bad_list path faults ≡ map fill_item (bad_list path faults)
       on None = refl
       on (Some fault) = refl
 
@@ -72,18 +77,29 @@ module _ (asker : Asker) (path : List (List ℕ)) (which : Which) (sent : Sent) 
   refusing site = listed path which sent site
 
   planned : (old new : Rows) (answer : Option Reply) → AreRows old → AreSound old
-      → IsJudged asker (to_stored old.read path (CheckAt (write_acl ∷ [])) ++ where_found (site_at (stored_along old.read path) path) refusing) old answer new
+      → IsJudged asker (to_stored old.read path (CheckAt (write_acl ∷ []))
+      ++ where_found (site_at (stored_along old.read path) path) refusing) old answer new
       → IsJudged asker (plan_of (meaning old.read) (SetList path which sent)) old answer new
   planned old new answer are sound judged =
-      plan_judged asker path (items path which sent) old new answer are (sound_parts old sound) (items_filled path which sent)
-      (subst (λ list. IsJudged asker list old answer new) (sym (more_items (CheckAt (write_acl ∷ [])) refusing (way false (stored_along old.read path) path) (site_at (stored_along old.read path) path))) judged)
+      plan_judged asker path (items path which sent) old new answer are (sound_parts old sound)
+      (items_filled path which sent)
+      (subst (λ list. IsJudged asker list old answer new)
+      (sym (more_items (CheckAt (write_acl ∷ [])) refusing
+      (way false (stored_along old.read path) path) (site_at (stored_along old.read path) path)))
+      judged)
 
-  pub set_ended : (old new : Rows) (reply : Reply) → AreRows old → IsReached asker path (CheckAt (write_acl ∷ [])) old (Ended reply) new → CarriesOut asker (SetList path which sent) old reply new
+  pub set_ended : (old new : Rows) (reply : Reply) → AreRows old
+      → IsReached asker path (CheckAt (write_acl ∷ [])) old (Ended reply) new
+      → CarriesOut asker (SetList path which sent) old reply new
   set_ended old new reply are reached known sound =
       refused_step asker (SetList path which sent) old known sound new reply
-      (planned old new (Some reply) are sound (fails_first asker (to_stored old.read path (CheckAt (write_acl ∷ []))) (where_found (site_at (stored_along old.read path) path) refusing) old new reply reached.judged))
+      (planned old new (Some reply) are sound
+      (fails_first asker (to_stored old.read path (CheckAt (write_acl ∷ [])))
+      (where_found (site_at (stored_along old.read path) path) refusing) old new reply
+      reached.judged))
 
-  module _ (old mid : Rows) (node : Node) (are : AreRows old) (reached : IsReached asker path (CheckAt (write_acl ∷ [])) old (At node) mid) where
+  module _ (old mid : Rows) (node : Node) (are : AreRows old)
+      (reached : IsReached asker path (CheckAt (write_acl ∷ [])) old (At node) mid) where
     there : node_at old.read node.id ≡ Some node
     there = target_stands old.read are.numbers path path node reached.found
 
@@ -91,79 +107,145 @@ module _ (asker : Asker) (path : List (List ℕ)) (which : Which) (sent : Sent) 
     there_mid = ap (λ (r : Rows). node_at r.read node.id) reached.judged.notes ∙ there
 
     -- what the items after the check answer
-    behind : (faults : Option EntryFault) (new : Rows) (answer : Option Reply) → first_bad_entry 1 which node.kind sent.entries ≡ faults → IsJudged asker (bad_list path faults) mid answer new → AreSound old
+    behind : (faults : Option EntryFault) (new : Rows) (answer : Option Reply)
+        → first_bad_entry 1 which node.kind sent.entries ≡ faults
+        → IsJudged asker (bad_list path faults) mid answer new → AreSound old
         → IsJudged asker (plan_of (meaning old.read) (SetList path which sent)) old answer new
     behind faults new answer are_faults judged sound =
         planned old new answer are sound
-        (passes_first asker (to_stored old.read path (CheckAt (write_acl ∷ []))) (where_found (site_at (stored_along old.read path) path) refusing) old mid new answer reached.judged
-        (subst (λ list. IsJudged asker list mid answer new) (ap (bad_list path) (sym are_faults) ∙ ap (λ o. where_found o refusing) (sym reached.found)) judged))
+        (passes_first asker (to_stored old.read path (CheckAt (write_acl ∷ [])))
+        (where_found (site_at (stored_along old.read path) path) refusing) old mid new answer
+        reached.judged
+        (subst (λ list. IsJudged asker list mid answer new)
+        (ap (bad_list path) (sym are_faults) ∙ ap (λ o. where_found o refusing) (sym reached.found))
+        judged))
 
-    set_well : (new : Rows) → first_bad_entry 1 which node.kind sent.entries ≡ None → IsSetWell which sent node mid new → CarriesOut asker (SetList path which sent) old Done new
+    set_well : (new : Rows) → first_bad_entry 1 which node.kind sent.entries ≡ None
+        → IsSetWell which sent node mid new
+        → CarriesOut asker (SetList path which sent) old Done new
     set_well new none well known sound =
         let judged = behind None mid None none (judged_none asker mid mid refl) sound in
-        changed_step asker (SetList path which sent) old known sound mid new Done (set_list (meaning old.read) which sent (option_map (kept_site old.read) (parent_of old.read node)) (kept_site old.read node)) judged
-        (λ id. set_effect old are (sound_parts old sound) which sent node path reached.found asker.caller id)
-        (well.means ∙ ap (λ (r : Rows). set_list (meaning r.read) which sent (option_map (kept_site r.read) (parent_of r.read node)) (kept_site r.read node)) judged.notes)
+        changed_step asker (SetList path which sent) old known sound mid new Done
+        (set_list (meaning old.read) which sent
+        (option_map (kept_site old.read) (parent_of old.read node)) (kept_site old.read node))
+        judged
+        (λ id. set_effect old are
+        (sound_parts old sound) which sent node path reached.found asker.caller id)
+        (well.means
+        ∙ ap (λ (r : Rows). set_list (meaning r.read) which sent
+        (option_map (kept_site r.read) (parent_of r.read node)) (kept_site r.read node))
+        judged.notes)
         well.sound
 
-    on_faults : (faults : Option EntryFault) (new : Rows) (reply : Reply) → first_bad_entry 1 which node.kind sent.entries ≡ faults → IsSetOrRefused path which sent node mid reply new
-        → reply ≡ option_map_or (λ why. Refused path why) (reason_of faults) Done → SetUnless (reason_of faults) which sent node mid new → CarriesOut asker (SetList path which sent) old reply new
+    on_faults : (faults : Option EntryFault) (new : Rows) (reply : Reply)
+        → first_bad_entry 1 which node.kind sent.entries ≡ faults
+        → IsSetOrRefused path which sent node mid reply new
+        → reply ≡ option_map_or (λ why. Refused path why) (reason_of faults) Done
+        → SetUnless (reason_of faults) which sent node mid new
+        → CarriesOut asker (SetList path which sent) old reply new
     on_faults None new reply none said replies becomes known sound =
         subst (λ (r : Reply). CarriesOut asker (SetList path which sent) old r new) (sym replies)
-        (set_well new none (becomes there_mid (ap reason_of none) said.few (subst AreSound (sym reached.judged.notes) (sound_noted old _ sound)))) known sound
+        (set_well new none (becomes there_mid (ap reason_of none) said.few
+        (subst AreSound (sym reached.judged.notes) (sound_noted old _ sound)))) known sound
     on_faults (Some fault) new reply some said replies becomes known sound =
         refused_step asker (SetList path which sent) old known sound new reply
-        (behind (Some fault) new (Some reply) some (refuses asker path (BadList fault.place fault.why) true [] mid new reply replies refl becomes) sound)
+        (behind (Some fault) new (Some reply) some
+        (refuses asker path (BadList fault.place fault.why) true
+        [] mid new reply replies refl becomes) sound)
 
-    pub set_done : (new : Rows) (reply : Reply) → IsSetOrRefused path which sent node mid reply new → CarriesOut asker (SetList path which sent) old reply new
-    set_done new reply said = on_faults (first_bad_entry 1 which node.kind sent.entries) new reply refl said said.replies said.becomes
+    pub set_done : (new : Rows) (reply : Reply) → IsSetOrRefused path which sent node mid reply new
+        → CarriesOut asker (SetList path which sent) old reply new
+    set_done new reply said =
+        on_faults (first_bad_entry 1 which node.kind sent.entries) new reply refl said said.replies
+        said.becomes
 
     pub set_blames : (at : ℕ) → IsUnreadableIfHeld node mid at → IsDamaged old at
     set_blames at fails =
-        let rooted : IsRooted node.id (noted old records) = rooted_along (noted old records) are.numbers path path node (ap (λ sites. site_at sites path) (along_noted old.read records path) ∙ reached.found) in
-        noted_unread old mid records at reached.judged.notes (fails there_mid (subst (IsRooted node.id) (sym reached.judged.notes) rooted))
+        let rooted : IsRooted node.id (noted old records) = rooted_along
+        (noted old records) are.numbers path path node
+        (ap (λ sites. site_at sites path) (along_noted old.read records path) ∙ reached.found)
+        in
+        noted_unread old mid records at reached.judged.notes
+        (fails there_mid (subst (IsRooted node.id) (sym reached.judged.notes) rooted))
       where
         records : List AuditRow
-        records = records_of_plan asker.caller asker.at (to_stored old.read path (CheckAt (write_acl ∷ [])))
+        records =
+            records_of_plan asker.caller asker.at
+            (to_stored old.read path (CheckAt (write_acl ∷ [])))
 
 -- ---- once the way to the target has been walked
 
-module _ (asker : Asker) (path : List (List ℕ)) (which : Which) (sent : Sent) (target : Found) (above : Option Node) (old mid : Rows) (found : IsFoundUnder asker path target above old mid) where
-  checked : (new : Rows) (bits : List ℕ) (refusal place : Option Reply) → bits ≡ write_acl ∷ [] → refusal ≡ place → IsJudged asker (Check (found_site path target) bits ∷ []) mid refusal new
+module _ (asker : Asker) (path : List (List ℕ)) (which : Which) (sent : Sent) (target : Found)
+    (above : Option Node) (old mid : Rows)
+    (found : IsFoundUnder asker path target above old mid) where
+  checked : (new : Rows) (bits : List ℕ) (refusal place : Option Reply) → bits ≡ write_acl ∷ []
+      → refusal ≡ place → IsJudged asker (Check (found_site path target) bits ∷ []) mid refusal new
       → IsReached asker path (CheckAt (write_acl ∷ [])) old (arrival_of target.node place) new
   checked new bits refusal place same comes judged =
-      reaches_with asker path (CheckAt (write_acl ∷ [])) old mid new target.node target place (ap (λ (d : ℕ). record { node = target.node; depth = d }) found.depth) found.reached
-      (subst (λ (b : List ℕ). IsJudged asker (Check (found_site path target) b ∷ []) mid place new) same (subst (λ (o : Option Reply). IsJudged asker (Check (found_site path target) bits ∷ []) mid o new) comes judged))
+      reaches_with asker path (CheckAt (write_acl ∷ [])) old mid new target.node target place
+      (ap (λ (d : ℕ). record { node = target.node; depth = d }) found.depth) found.reached
+      (subst (λ (b : List ℕ). IsJudged asker (Check (found_site path target) b ∷ []) mid place new)
+      same
+      (subst (λ (o : Option Reply). IsJudged asker
+      (Check (found_site path target) bits ∷ []) mid o new) comes judged))
 
-  pub not_allowed : (new : Rows) (bits : List ℕ) (refusal : Option Reply) (reply : Reply) → bits ≡ write_acl ∷ [] → refusal ≡ Some reply → IsJudged asker (Check (found_site path target) bits ∷ []) mid refusal new → CarriesOut asker (SetList path which sent) old reply new
-  not_allowed new bits refusal reply same comes judged = set_ended asker path which sent old new reply found.are (checked new bits refusal (Some reply) same comes judged)
+  pub not_allowed : (new : Rows) (bits : List ℕ) (refusal : Option Reply) (reply : Reply)
+      → bits ≡ write_acl ∷ [] → refusal ≡ Some reply
+      → IsJudged asker (Check (found_site path target) bits ∷ []) mid refusal new
+      → CarriesOut asker (SetList path which sent) old reply new
+  not_allowed new bits refusal reply same comes judged =
+      set_ended asker path which sent old new reply found.are
+      (checked new bits refusal (Some reply) same comes judged)
 
-  module _ (end : Rows) (bits : List ℕ) (refusal : Option Reply) (same : bits ≡ write_acl ∷ []) (comes : refusal ≡ None) (judged : IsJudged asker (Check (found_site path target) bits ∷ []) mid refusal end) where
-    pub allowed_done : (new : Rows) (reply : Reply) → Beneath above target.node (IsSetOrRefused path which sent target.node) end reply new → CarriesOut asker (SetList path which sent) old reply new
+  module _ (end : Rows) (bits : List ℕ) (refusal : Option Reply) (same : bits ≡ write_acl ∷ [])
+      (comes : refusal ≡ None)
+      (judged : IsJudged asker (Check (found_site path target) bits ∷ []) mid refusal end) where
+    pub allowed_done : (new : Rows) (reply : Reply)
+        → Beneath above target.node (IsSetOrRefused path which sent target.node) end reply new
+        → CarriesOut asker (SetList path which sent) old reply new
     allowed_done new reply said =
         let reached = checked end bits refusal None same comes judged in
-        set_done asker path which sent old end target.node found.are reached new reply (said (ap (λ (r : Rows). parent_of r.read target.node) reached.judged.notes ∙ found.parent))
+        set_done asker path which sent old end target.node found.are reached new reply
+        (said (ap (λ (r : Rows). parent_of r.read target.node) reached.judged.notes ∙ found.parent))
 
     pub allowed_blames : (at : ℕ) → IsUnreadableIfHeld target.node end at → IsDamaged old at
-    allowed_blames at fails = set_blames asker path which sent old end target.node found.are (checked end bits refusal None same comes judged) at fails
+    allowed_blames at fails =
+        set_blames asker path which sent old end target.node found.are
+        (checked end bits refusal None same comes judged) at fails
 
 -- ---- where the walk comes to
 
-pub set_halted : (asker : Asker) (path : List (List ℕ)) (which : Which) (sent : Sent) (old new : Rows) (reply : Reply) → AreRows old → IsPaired asker path old (Halted reply) new → CarriesOut asker (SetList path which sent) old reply new
+pub set_halted : (asker : Asker) (path : List (List ℕ)) (which : Which) (sent : Sent)
+    (old new : Rows) (reply : Reply) → AreRows old → IsPaired asker path old (Halted reply) new
+    → CarriesOut asker (SetList path which sent) old reply new
 set_halted asker path which sent old new reply are paired =
-    set_ended asker path which sent old new reply are (not_reached asker path (CheckAt (write_acl ∷ [])) old new reply (pair_reached asker path (Halted reply) old new paired))
+    set_ended asker path which sent old new reply are
+    (not_reached asker path (CheckAt (write_acl ∷ [])) old new reply
+    (pair_reached asker path (Halted reply) old new paired))
 
 -- an object and its folder
-pub found_pair : (asker : Asker) (path : List (List ℕ)) (folder target : Found) (old mid : Rows) → AreRows old → IsPaired asker path old (Both folder target) mid → IsFoundUnder asker path target (Some folder.node) old mid
+pub found_pair : (asker : Asker) (path : List (List ℕ)) (folder target : Found) (old mid : Rows)
+    → AreRows old → IsPaired asker path old (Both folder target) mid
+    → IsFoundUnder asker path target (Some folder.node) old mid
 found_pair asker path folder target old mid are paired = record {
   are = are;
   reached = pair_reached asker path (Both folder target) old mid paired;
   depth = paired.depth;
-  parent = parent_paired old.read are.numbers path (found_site path folder) target.node paired.folder paired.target;
+  parent =
+      parent_paired old.read are.numbers path
+      (found_site path folder) target.node paired.folder paired.target;
 }
 
 -- the root, which nothing is above
-pub found_root : (asker : Asker) (path : List (List ℕ)) (root : Node) (old mid : Rows) → path ≡ [] → AreRows old → root_of old.read ≡ Some root → mid ≡ old → IsFoundUnder asker path (record { node = root; depth = 0 }) None old mid
+pub found_root : (asker : Asker) (path : List (List ℕ)) (root : Node) (old mid : Rows) → path ≡ []
+    → AreRows old → root_of old.read ≡ Some root → mid ≡ old
+    → IsFoundUnder asker path (record { node = root; depth = 0 }) None old mid
 found_root asker path root old mid empty are is same =
-    subst (λ (p : List (List ℕ)). IsFoundUnder asker p (record { node = root; depth = 0 }) None old mid) (sym empty)
-    (record { are = are; reached = root_reached asker [] 0 root old mid refl is same; depth = refl; parent = ap (option_and_then (node_at old.read)) (root_of-parent old.read root is) })
+    subst (λ (p : List (List ℕ)). IsFoundUnder asker p
+    (record { node = root; depth = 0 }) None old mid) (sym empty)
+    (record {
+      are = are;
+      reached = root_reached asker [] 0 root old mid refl is same;
+      depth = refl;
+      parent = ap (option_and_then (node_at old.read)) (root_of-parent old.read root is);
+    })

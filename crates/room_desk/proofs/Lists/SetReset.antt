@@ -44,95 +44,176 @@ abbrev operator : Caller
 operator = record { user = None; groups = [] }
 
 -- refusals don't depend on lists
-refusals_filled : (list : List Item) → first_failure operator (filter is_refusal (map fill_item list)) ≡ first_failure operator (filter is_refusal list)
+refusals_filled : (list : List Item)
+    → first_failure operator (filter is_refusal (map fill_item list))
+    ≡ first_failure operator (filter is_refusal list)
 refusals_filled [] = refl
 refusals_filled (Check site bits ∷ list) = refusals_filled list
 refusals_filled (Deletion target parent ∷ list) = refusals_filled list
-refusals_filled (Refusal path why holds ∷ list) = ap (or_else (cond holds (Some (Refused path why)) None)) (refusals_filled list)
+refusals_filled (Refusal path why holds ∷ list) =
+    ap (or_else (cond holds (Some (Refused path why)) None)) (refusals_filled list)
 
-module _ (old : Rows) (are : AreRows old) (sound : AreSound old) (path : List (List ℕ)) (which : Which) (sent : Sent) where
+module _ (old : Rows) (are : AreRows old) (sound : AreSound old) (path : List (List ℕ))
+    (which : Which) (sent : Sent) where
   abbrev rows : Content
   rows = old.read
 
   -- what is under an object makes it a folder
-  pub folders : (n child : Node) (name : List ℕ) → node_at rows n.id ≡ Some n → child_of rows n.id name ≡ Some child → is_folder n ≡ true
+  pub folders : (n child : Node) (name : List ℕ) → node_at rows n.id ≡ Some n
+      → child_of rows n.id name ≡ Some child → is_folder n ≡ true
   folders n child name there found =
       let parent = child_of-parent rows n.id name child found in
-      let above : parent_of rows child ≡ Some n = ap (option_and_then (node_at rows)) parent ∙ there in
+      let above : parent_of rows child ≡ Some n = ap (option_and_then (node_at rows)) parent
+      ∙ there in
       sym (ap (λ o. option_map_or is_folder o false) above)
       ∙ sym (ap (λ o. is_none o || option_map_or is_folder (parent_of rows child) false) parent)
-      ∙ all_found (has_folder_above rows) rows child.id child (no_fault old sound).parents (child_of-is_there rows are.numbers n.id name child found)
+      ∙ all_found (has_folder_above rows) rows child.id child (no_fault old sound).parents
+      (child_of-is_there rows are.numbers n.id name child found)
 
   -- what the plan refuses is what is refused at the stored lists
   abbrev answer : Option Reply
-  answer = first_failure operator (refusals rows are.numbers operator (items path which sent) folders (stored_along rows path) path)
+  answer =
+      first_failure operator
+      (refusals rows are.numbers operator (items path which sent) folders
+      (stored_along rows path) path)
 
-  plan_refuses : first_failure operator (filter is_refusal (plan_of (meaning rows) (SetList path which sent))) ≡ answer
+  plan_refuses : first_failure operator
+      (filter is_refusal (plan_of (meaning rows) (SetList path which sent))) ≡ answer
   plan_refuses =
-      sym (refusals_filled (way false (sites_along (meaning rows) path) path ++ where_found (site_at (sites_along (meaning rows) path) path) (items path which sent)))
-      ∙ ap (λ list. first_failure operator (filter is_refusal list)) (sym (target_filled path (items path which sent) (items_filled path which sent) (sites_along (meaning rows) path)))
-      ∙ ap (λ sites. first_failure operator (filter is_refusal (way false sites path ++ where_found (site_at sites path) (items path which sent)))) (sites_filled old are (sound_parts old sound) path)
+      sym (refusals_filled
+      (way false (sites_along (meaning rows) path) path
+      ++ where_found (site_at (sites_along (meaning rows) path) path) (items path which sent)))
+      ∙ ap (λ list. first_failure operator (filter is_refusal list))
+      (sym (target_filled path (items path which sent) (items_filled path which sent)
+      (sites_along (meaning rows) path)))
+      ∙ ap
+      (λ sites. first_failure operator
+      (filter is_refusal (way false sites path
+      ++ where_found (site_at sites path) (items path which sent))))
+      (sites_filled old are (sound_parts old sound) path)
 
   -- the walk comes to this object, with n names left over
   pub record CameTo (last : Node) (rest : ℕ) : Type 0 where
     pub stands : node_at rows last.id ≡ Some last
-    pub comes : Comes rows are.numbers operator (items path which sent) folders path (stored_along rows path) path answer last rest
+    pub comes : Comes rows are.numbers operator (items path which sent) folders path
+        (stored_along rows path) path answer last rest
 
-  pub came_to : (walk : Walk) (front : List Node) (last : Node) → walk ≡ walk_of rows path → walk.chain ≡ front ++ last ∷ [] → CameTo last walk.rest
+  pub came_to : (walk : Walk) (front : List Node) (last : Node) → walk ≡ walk_of rows path
+      → walk.chain ≡ front ++ last ∷ [] → CameTo last walk.rest
   came_to walk front last is chain =
       let root = root_there rows.nodes (no_fault old sound).root in
       let there = root_of-is_there rows are.numbers root.0 root.1 in
-      let end = walk_end rows are.numbers operator (items path which sent) folders path root.0 there in
-      let from : walk_of rows path ≡ walk_from rows root.0 path = ap (λ o. option_map_or (λ r. walk_from rows r path) o (record { chain = []; rest = length path })) root.1 in
-      let along : stored_along rows path ≡ stored_from rows [] root.0 path = ap (λ o. option_map_or (λ r. stored_from rows [] r path) o []) root.1 in
-      let reached = end_from rows are.numbers operator (items path which sent) folders root.0 path in
-      let same : last ≡ reached.0 = same_last front end.front last reached.0 (sym chain ∙ ap (λ (w : Walk). w.chain) (is ∙ from) ∙ end.chain) in
+      let end = walk_end rows are.numbers operator
+      (items path which sent) folders path root.0 there in
+      let from : walk_of rows path ≡ walk_from rows root.0 path = ap
+      (λ o. option_map_or (λ r. walk_from rows r path) o
+      (record { chain = []; rest = length path })) root.1 in
+      let along : stored_along rows path ≡ stored_from rows [] root.0 path = ap
+      (λ o. option_map_or (λ r. stored_from rows [] r path) o []) root.1 in
+      let reached = end_from rows are.numbers operator
+      (items path which sent) folders root.0 path in
+      let same : last ≡ reached.0 = same_last front end.front last reached.0
+      (sym chain ∙ ap (λ (w : Walk). w.chain) (is ∙ from) ∙ end.chain) in
       let rest : walk.rest ≡ reached.1 = ap (λ (w : Walk). w.rest) (is ∙ from) ∙ end.rest in
-      let stands : node_at rows last.id ≡ Some last = ap (λ (n : Node). node_at rows n.id) same ∙ end.stands ∙ ap (λ n. Some n) (sym same) in
-      let here : Comes rows are.numbers operator (items path which sent) folders path (stored_from rows [] root.0 path) path
-      (first_failure operator (refusals rows are.numbers operator (items path which sent) folders (stored_from rows [] root.0 path) path)) reached.0 reached.1 = comes rows are.numbers operator (items path which sent) folders path [] path root.0 there refl in
+      let stands : node_at rows last.id ≡ Some last = ap (λ (n : Node). node_at rows n.id) same
+      ∙ end.stands ∙ ap (λ n. Some n) (sym same) in
+      let here : Comes rows are.numbers operator (items path which sent) folders path
+      (stored_from rows [] root.0 path) path
+      (first_failure operator
+      (refusals rows are.numbers operator (items path which sent) folders
+      (stored_from rows [] root.0 path) path)) reached.0 reached.1 =
+      comes rows are.numbers operator (items path which sent) folders path
+      [] path root.0 there refl in
       record {
         stands = stands;
-        comes = subst (λ (sites : List Site). Comes rows are.numbers operator (items path which sent) folders path sites path (first_failure operator (refusals rows are.numbers operator (items path which sent) folders sites path)) last walk.rest) (sym along)
-            (subst (λ (n : ℕ). Comes rows are.numbers operator (items path which sent) folders path (stored_from rows [] root.0 path) path (first_failure operator (refusals rows are.numbers operator (items path which sent) folders (stored_from rows [] root.0 path) path)) last n) (sym rest)
-            (subst (λ (m : Node). Comes rows are.numbers operator (items path which sent) folders path (stored_from rows [] root.0 path) path (first_failure operator (refusals rows are.numbers operator (items path which sent) folders (stored_from rows [] root.0 path) path)) m reached.1) (sym same) here));
+        comes =
+            subst (λ (sites : List Site). Comes rows are.numbers operator
+            (items path which sent) folders path sites path
+            (first_failure operator
+            (refusals rows are.numbers operator (items path which sent) folders sites path)) last
+            walk.rest) (sym along)
+            (subst (λ (n : ℕ). Comes rows are.numbers operator (items path which sent) folders path
+            (stored_from rows [] root.0 path) path
+            (first_failure operator
+            (refusals rows are.numbers operator (items path which sent) folders
+            (stored_from rows [] root.0 path) path)) last n) (sym rest)
+            (subst (λ (m : Node). Comes rows are.numbers operator
+            (items path which sent) folders path (stored_from rows [] root.0 path) path
+            (first_failure operator
+            (refusals rows are.numbers operator (items path which sent) folders
+            (stored_from rows [] root.0 path) path)) m reached.1) (sym same) here));
       }
 
   -- the reply and the content after, by what is refused
-  reset_is : (o : Option Reply) → answer ≡ o → reset (meaning rows) path which sent ≡ answered o (meaning rows) (effect (meaning rows) operator 0 (SetList path which sent))
-  reset_is o is = ap (λ a. answered a (meaning rows) (effect (meaning rows) operator 0 (SetList path which sent))) (plan_refuses ∙ is)
+  reset_is : (o : Option Reply) → answer ≡ o
+      → reset (meaning rows) path which sent
+      ≡ answered o (meaning rows) (effect (meaning rows) operator 0 (SetList path which sent))
+  reset_is o is =
+      ap (λ a. answered a (meaning rows)
+      (effect (meaning rows) operator 0 (SetList path which sent))) (plan_refuses ∙ is)
 
   module _ (last : Node) (new : Rows) (reply : Reply) where
     refused_so : answer ≡ Some reply → new ≡ old → Resets path which sent old reply new
-    refused_so is same _ = record { reset = reset_is (Some reply) is ∙ ap (λ (r : Rows). (reply, meaning r.read)) (sym same); sound = subst AreSound (sym same) sound }
+    refused_so is same _ =
+        record {
+          reset = reset_is (Some reply) is
+              ∙ ap (λ (r : Rows). (reply, meaning r.read)) (sym same);
+          sound =
+              subst AreSound (sym same) sound;
+        }
 
-    at_target : (faults : Option EntryFault) → first_bad_entry 1 which last.kind sent.entries ≡ faults → node_at rows last.id ≡ Some last → site_at (stored_along rows path) path ≡ Some (stored_site path last)
-        → answer ≡ first_failure operator (filter is_refusal (bad_list path faults)) → IsSetOrRefused path which sent last old reply new
-        → reply ≡ option_map_or (λ why. Refused path why) (reason_of faults) Done → SetUnless (reason_of faults) which sent last old new → Resets path which sent old reply new
+    at_target : (faults : Option EntryFault)
+        → first_bad_entry 1 which last.kind sent.entries ≡ faults → node_at rows last.id ≡ Some last
+        → site_at (stored_along rows path) path ≡ Some (stored_site path last)
+        → answer ≡ first_failure operator (filter is_refusal (bad_list path faults))
+        → IsSetOrRefused path which sent last old reply new
+        → reply ≡ option_map_or (λ why. Refused path why) (reason_of faults) Done
+        → SetUnless (reason_of faults) which sent last old new
+        → Resets path which sent old reply new
     at_target None none there found is said replies becomes _ =
         let well = becomes there (ap reason_of none) said.few sound in
         record {
-          reset = reset_is None is ∙ set_effect old are (sound_parts old sound) which sent last path found operator 0
-              ∙ ap (λ (c : Content). (Done, c)) (sym well.means) ∙ ap (λ (r : Reply). (r, meaning new.read)) (sym replies);
+          reset =
+              reset_is None is ∙ set_effect old are (sound_parts old sound) which sent last path
+              found operator 0
+              ∙ ap (λ (c : Content). (Done, c)) (sym well.means)
+              ∙ ap (λ (r : Reply). (r, meaning new.read)) (sym replies);
           sound = well.sound;
         }
-    at_target (Some fault) some there found is said replies becomes known = refused_so (is ∙ ap (λ r. Some r) (sym replies)) becomes known
+    at_target (Some fault) some there found is said replies becomes known =
+        refused_so (is ∙ ap (λ r. Some r) (sym replies)) becomes known
 
-    at_end : (rest : ℕ) → node_at rows last.id ≡ Some last → Comes rows are.numbers operator (items path which sent) folders path (stored_along rows path) path answer last rest → IsResetAtEnd path which sent last rest old reply new
+    at_end : (rest : ℕ) → node_at rows last.id ≡ Some last
+        → Comes rows are.numbers operator (items path which sent) folders path
+        (stored_along rows path) path answer last rest
+        → IsResetAtEnd path which sent last rest old reply new
         → Resets path which sent old reply new
-    at_end zero there came said = at_target (first_bad_entry 1 which last.kind sent.entries) refl there came.0 came.1 said said.replies said.becomes
+    at_end zero there came said =
+        at_target (first_bad_entry 1 which last.kind sent.entries) refl there came.0 came.1 said
+        said.replies said.becomes
     at_end (suc rest) there came said = refused_so (came ∙ ap (λ r. Some r) (sym said.0)) said.1
 
 -- ---- in terms of the calls
 
-module _ (path : List (List ℕ)) (which : Which) (sent : Sent) (old mid : Rows) (walk : Walk) (front : List Node) (last : Node) (is : walk ≡ walk_of old.read path) (same : mid ≡ old) (chain : walk.chain ≡ front ++ last ∷ []) where
-  pub reset_done : (above : Option Node) → above ≡ slice_get front (length front - 1) → (new : Rows) (reply : Reply) → AreRows old → Beneath above last (IsResetAtEnd path which sent last walk.rest) mid reply new → Resets path which sent old reply new
+module _ (path : List (List ℕ)) (which : Which) (sent : Sent) (old mid : Rows) (walk : Walk)
+    (front : List Node) (last : Node) (is : walk ≡ walk_of old.read path) (same : mid ≡ old)
+    (chain : walk.chain ≡ front ++ last ∷ []) where
+  pub reset_done : (above : Option Node) → above ≡ slice_get front (length front - 1)
+      → (new : Rows) (reply : Reply) → AreRows old
+      → Beneath above last (IsResetAtEnd path which sent last walk.rest) mid reply new
+      → Resets path which sent old reply new
   reset_done above read new reply are beneath sound =
-      let said = beneath (ap (λ (r : Rows). parent_of r.read last) same ∙ above_end old are.numbers path walk front last above is chain read) in
+      let said = beneath (ap (λ (r : Rows). parent_of r.read last) same
+      ∙ above_end old are.numbers path walk front last above is chain read) in
       let came = came_to old are sound path which sent walk front last is chain in
-      at_end old are sound path which sent last new reply walk.rest came.stands came.comes (subst (λ (r : Rows). IsResetAtEnd path which sent last walk.rest r reply new) same said) sound
+      at_end old are sound path which sent last new reply walk.rest came.stands came.comes
+      (subst (λ (r : Rows). IsResetAtEnd path which sent last walk.rest r reply new) same said)
+      sound
 
   pub reset_blames : (at : ℕ) → AreRows old → IsUnreadableIfHeld last mid at → IsDamaged old at
   reset_blames at are fails =
       unread_damaged old mid at same
-      (fails (ap (λ (r : Rows). node_at r.read last.id) same ∙ stands_last old are.numbers path walk front last is chain) (subst (IsRooted last.id) (sym same) (rooted_last old are.numbers path walk front last is chain)))
+      (fails (ap (λ (r : Rows). node_at r.read last.id) same
+      ∙ stands_last old are.numbers path walk front last is chain)
+      (subst (IsRooted last.id) (sym same)
+      (rooted_last old are.numbers path walk front last is chain)))

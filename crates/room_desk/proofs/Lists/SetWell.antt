@@ -36,11 +36,14 @@ use Rattle.room_desk.proofs.Lists.ValidDown.{all_found, are_inherited, are_own, 
 
 -- ---- the sent entries
 
-all_filtered : {X : Type 0} (p q : X → Bool) (xs : List X) → list_all p xs ≡ true → list_all p (filter q xs) ≡ true
+all_filtered : {X : Type 0} (p q : X → Bool) (xs : List X) → list_all p xs ≡ true
+    → list_all p (filter q xs) ≡ true
 all_filtered p q [] all = refl
-all_filtered p q (x ∷ xs) all = let parts = and_parts (p x) (list_all p xs) all in on (q x) parts.0 (all_filtered p q xs parts.1)
+all_filtered p q (x ∷ xs) all = let parts = and_parts (p x) (list_all p xs) all in
+    on (q x) parts.0 (all_filtered p q xs parts.1)
   where
-    on : (t : Bool) → p x ≡ true → list_all p (filter q xs) ≡ true → list_all p (cond t (x ∷ filter q xs) (filter q xs)) ≡ true
+    on : (t : Bool) → p x ≡ true → list_all p (filter q xs) ≡ true
+        → list_all p (cond t (x ∷ filter q xs) (filter q xs)) ≡ true
     on true here rest = and_from (p x) (list_all p (filter q xs)) here rest
     on false here rest = rest
 
@@ -48,56 +51,87 @@ each_filtered : {X : Type 0} (q : X → Bool) (xs : List X) → list_all q (filt
 each_filtered q [] = refl
 each_filtered q (x ∷ xs) = on (q x) refl (each_filtered q xs)
   where
-    on : (t : Bool) → q x ≡ t → list_all q (filter q xs) ≡ true → list_all q (cond t (x ∷ filter q xs) (filter q xs)) ≡ true
+    on : (t : Bool) → q x ≡ t → list_all q (filter q xs) ≡ true
+        → list_all q (cond t (x ∷ filter q xs) (filter q xs)) ≡ true
     on true is rest = and_from (q x) (list_all q (filter q xs)) is rest
     on false is rest = rest
 
-valid_entries : (which : Which) (kind : ObjKind) (place : ℕ) (entries : List Ace) → fault_in place which kind entries ≡ None → are_valid which kind entries ≡ true
+valid_entries : (which : Which) (kind : ObjKind) (place : ℕ) (entries : List Ace)
+    → fault_in place which kind entries ≡ None → are_valid which kind entries ≡ true
 valid_entries which kind place [] none = refl
-valid_entries which kind place (entry ∷ entries) none = on (entry_fault entry which kind) (valid_entries which kind (place + 1) entries) none
+valid_entries which kind place (entry ∷ entries) none =
+    on (entry_fault entry which kind) (valid_entries which kind (place + 1) entries) none
   where
-    on : (o : Option ListFault) → (fault_in (place + 1) which kind entries ≡ None → are_valid which kind entries ≡ true)
-        → reason_of (option_map_or (λ (why : ListFault). Some (record { place = place; why = why })) o (first_bad_entry (place + 1) which kind entries)) ≡ None → (is_none o && are_valid which kind entries) ≡ true
+    on : (o : Option ListFault)
+        → (fault_in (place + 1) which kind entries ≡ None → are_valid which kind entries ≡ true)
+        → reason_of
+        (option_map_or (λ (why : ListFault). Some (record { place = place; why = why })) o
+        (first_bad_entry (place + 1) which kind entries)) ≡ None
+        → (is_none o && are_valid which kind entries) ≡ true
     on None rest none = rest none
     on (Some fault) rest none = absurd (let wrong : ⊥ = cc in wrong)
 
-few_own : (entries : List Ace) → limit_fault entries ≡ None → nat_le (length (own_of entries)) 64 ≡ true
-few_own entries none = le-leb (length (own_of entries)) 64 (ltb-false 64 (length (own_of entries)) (on (nat_lt 4096 (length entries)) (nat_lt 64 (length (own_of entries))) none))
+few_own : (entries : List Ace) → limit_fault entries ≡ None
+    → nat_le (length (own_of entries)) 64 ≡ true
+few_own entries none =
+    le-leb (length (own_of entries)) 64
+    (ltb-false 64 (length (own_of entries))
+    (on (nat_lt 4096 (length entries)) (nat_lt 64 (length (own_of entries))) none))
   where
-    on : (t u : Bool) → cond t (Some TooManyEntries) (cond u (Some TooManyOwn) None) ≡ None → u ≡ false
+    on : (t u : Bool) → cond t (Some TooManyEntries) (cond u (Some TooManyOwn) None) ≡ None
+        → u ≡ false
     on true u is = absurd (let wrong : ⊥ = cc in wrong)
     on false true is = absurd (let wrong : ⊥ = cc in wrong)
     on false false is = refl
 
-own_sound : (which : Which) (kind : ObjKind) (entries : List Ace) → fault_in 1 which kind entries ≡ None → limit_fault entries ≡ None → are_own which kind (own_of entries) ≡ true
+own_sound : (which : Which) (kind : ObjKind) (entries : List Ace)
+    → fault_in 1 which kind entries ≡ None → limit_fault entries ≡ None
+    → are_own which kind (own_of entries) ≡ true
 own_sound which kind entries valid few =
-    and_from (nat_le (length (own_of entries)) 64) (list_all (λ entry. not entry.flags.inherited) (own_of entries) && are_valid which kind (own_of entries)) (few_own entries few)
-    (and_from (list_all (λ entry. not entry.flags.inherited) (own_of entries)) (are_valid which kind (own_of entries)) (each_filtered (λ entry. not entry.flags.inherited) entries)
-    (all_filtered (λ entry. is_none (entry_fault entry which kind)) (λ entry. not entry.flags.inherited) entries (valid_entries which kind 1 entries valid)))
+    and_from (nat_le (length (own_of entries)) 64)
+    (list_all (λ entry. not entry.flags.inherited) (own_of entries)
+    && are_valid which kind (own_of entries)) (few_own entries few)
+    (and_from (list_all (λ entry. not entry.flags.inherited) (own_of entries))
+    (are_valid which kind (own_of entries))
+    (each_filtered (λ entry. not entry.flags.inherited) entries)
+    (all_filtered (λ entry. is_none (entry_fault entry which kind))
+    (λ entry. not entry.flags.inherited) entries (valid_entries which kind 1 entries valid)))
 
-inherited_sound : (which : Which) (kind : ObjKind) (entries : List Ace) → fault_in 1 which kind entries ≡ None → are_inherited which kind (inherited_of entries) ≡ true
+inherited_sound : (which : Which) (kind : ObjKind) (entries : List Ace)
+    → fault_in 1 which kind entries ≡ None → are_inherited which kind (inherited_of entries) ≡ true
 inherited_sound which kind entries valid =
-    and_from (list_all (λ entry. entry.flags.inherited) (inherited_of entries)) (are_valid which kind (inherited_of entries)) (each_filtered (λ entry. entry.flags.inherited) entries)
-    (all_filtered (λ entry. is_none (entry_fault entry which kind)) (λ entry. entry.flags.inherited) entries (valid_entries which kind 1 entries valid))
+    and_from (list_all (λ entry. entry.flags.inherited) (inherited_of entries))
+    (are_valid which kind (inherited_of entries))
+    (each_filtered (λ entry. entry.flags.inherited) entries)
+    (all_filtered (λ entry. is_none (entry_fault entry which kind))
+    (λ entry. entry.flags.inherited) entries (valid_entries which kind 1 entries valid))
 
 -- what isn't linked keeps the sent entries
-unlinked_sent : (which : Which) (sent : Sent) (kind : ObjKind) (o : Option Node) → is_linked (stored_held which sent kind o) (option_map (held_of which) o) ≡ false → (stored_held which sent kind o).inh ≡ inherited_of sent.entries
+unlinked_sent : (which : Which) (sent : Sent) (kind : ObjKind) (o : Option Node)
+    → is_linked (stored_held which sent kind o) (option_map (held_of which) o) ≡ false
+    → (stored_held which sent kind o).inh ≡ inherited_of sent.entries
 unlinked_sent which sent kind None apart = refl
-unlinked_sent which sent kind (Some above) apart = on (not sent.flags.protect && (held_of which above).flags.auto) apart
+unlinked_sent which sent kind (Some above) apart =
+    on (not sent.flags.protect && (held_of which above).flags.auto) apart
   where
-    on : (t : Bool) → t ≡ false → option_map_or (λ up. pass kind (full_of (held_of which up))) (cond t (Some above) None) (inherited_of sent.entries) ≡ inherited_of sent.entries
+    on : (t : Bool) → t ≡ false
+        → option_map_or (λ up. pass kind (full_of (held_of which up))) (cond t (Some above) None)
+        (inherited_of sent.entries) ≡ inherited_of sent.entries
     on true is = absurd (false≢true (sym is))
     on false is = refl
 
 -- ---- the rows
 
-module _ (which : Which) (sent : Sent) (node : Node) (old : Rows) (are : AreRows old) (there : node_at old.read node.id ≡ Some node) (sound : AreSound old)
+module _ (which : Which) (sent : Sent) (node : Node) (old : Rows) (are : AreRows old)
+    (there : node_at old.read node.id ≡ Some node) (sound : AreSound old)
     (held : Held) (stored : held ≡ stored_held which sent node.kind (parent_of old.read node)) where
   abbrev rows : Content
   rows = old.read
 
   law_before : AllAgree rows which
-  law_before = all_implied (keeps_law rows) (agrees rows which) (one_agrees which rows) rows.nodes (no_fault old sound).law
+  law_before =
+      all_implied (keeps_law rows) (agrees rows which) (one_agrees which rows) rows.nodes
+      (no_fault old sound).law
 
   reaches_before : reaches rows node ≡ true
   reaches_before = all_found (reaches rows) rows node.id node (no_fault old sound).reach there
@@ -106,63 +140,97 @@ module _ (which : Which) (sent : Sent) (node : Node) (old : Rows) (are : AreRows
   apart = not_own_parent rows node (length rows.nodes) there reaches_before
 
   -- a linked child stores what the object's list passes
-  child_law : (n : Node) → node_at rows n.id ≡ Some n → parent_of rows n ≡ Some node → is_linked_in rows which n ≡ true → (held_of which n).inh ≡ pass n.kind (full_of (held_of which node))
+  child_law : (n : Node) → node_at rows n.id ≡ Some n → parent_of rows n ≡ Some node
+      → is_linked_in rows which n ≡ true
+      → (held_of which n).inh ≡ pass n.kind (full_of (held_of which node))
   child_law n found is linked =
       let above = linked_above which rows law_before (no_fault old sound).parents n found linked in
-      above.2 ∙ ap (λ (m : Node). pass n.kind (full_of (held_of which m))) (same_node above.0 node (sym above.1 ∙ is))
+      above.2 ∙ ap (λ (m : Node). pass n.kind (full_of (held_of which m)))
+      (same_node above.0 node (sym above.1 ∙ is))
 
-  linked_stored : links which rows node held node ≡ is_linked (stored_held which sent node.kind (parent_of rows node)) (option_map (held_of which) (parent_of rows node))
+  linked_stored : links which rows node held node
+      ≡ is_linked (stored_held which sent node.kind (parent_of rows node))
+      (option_map (held_of which) (parent_of rows node))
   linked_stored =
-      ap (λ h. is_linked h (option_map (base which rows node held) (parent_of rows node))) (base_here which rows node held ∙ stored)
-      ∙ ap (is_linked (stored_held which sent node.kind (parent_of rows node))) (other_links which rows node held node apart)
+      ap (λ h. is_linked h (option_map (base which rows node held) (parent_of rows node)))
+      (base_here which rows node held ∙ stored)
+      ∙ ap (is_linked (stored_held which sent node.kind (parent_of rows node)))
+      (other_links which rows node held node apart)
 
-  module _ (valid : fault_in 1 which node.kind sent.entries ≡ None) (few : limit_fault sent.entries ≡ None) where
+  module _ (valid : fault_in 1 which node.kind sent.entries ≡ None)
+      (few : limit_fault sent.entries ≡ None) where
     own : are_own which node.kind held.own ≡ true
-    own = ap (λ (h : Held). are_own which node.kind h.own) stored ∙ own_sound which node.kind sent.entries valid few
+    own =
+        ap (λ (h : Held). are_own which node.kind h.own) stored
+        ∙ own_sound which node.kind sent.entries valid few
 
-    inherited : links which rows node held node ≡ false → are_inherited which node.kind held.inh ≡ true
+    inherited : links which rows node held node ≡ false
+        → are_inherited which node.kind held.inh ≡ true
     inherited isnt =
         ap (λ (h : Held). are_inherited which node.kind h.inh) stored
-        ∙ ap (are_inherited which node.kind) (unlinked_sent which sent node.kind (parent_of rows node) (sym linked_stored ∙ isnt))
+        ∙ ap (are_inherited which node.kind)
+        (unlinked_sent which sent node.kind (parent_of rows node) (sym linked_stored ∙ isnt))
         ∙ inherited_sound which node.kind sent.entries valid
 
     -- with lists below that agree, and that are what they were where nothing is inherited
-    set_ends : (lists : Node → List Ace) → ((x : Node) → node_at (mid which rows node held) x.id ≡ Some x → is_linked_in (mid which rows node held) which x ≡ false → lists x ≡ (held_of which x).inh)
-        → AllAgree (with_lists which lists (mid which rows node held)) which → IsSetWell which sent node old (reading old (ends which rows node held lists))
+    set_ends : (lists : Node → List Ace)
+        → ((x : Node) → node_at (mid which rows node held) x.id ≡ Some x
+        → is_linked_in (mid which rows node held) which x ≡ false → lists x ≡ (held_of which x).inh)
+        → AllAgree (with_lists which lists (mid which rows node held)) which
+        → IsSetWell which sent node old (reading old (ends which rows node held lists))
     set_ends lists kept law = record {
-      means = set_means which rows node held lists are.numbers there kept sent stored apart child_law;
-      sound = set_sound which rows node held lists are.numbers there kept law own inherited old.unreadable sound;
+      means =
+          set_means which rows node held lists are.numbers there kept sent stored apart child_law;
+      sound =
+          set_sound which rows node held lists are.numbers there kept law own inherited
+          old.unreadable sound;
     }
 
     -- nothing is written where the list is what it was
-    pub set_same : (new : Rows) → held ≡ held_of which node → new ≡ old → IsSetWell which sent node old new
+    pub set_same : (new : Rows) → held ≡ held_of which node → new ≡ old
+        → IsSetWell which sent node old new
     set_same new same unwritten =
         subst (IsSetWell which sent node old) (ap (reading old) as_before ∙ sym unwritten)
-        (set_ends stay (λ x found isnt. refl) (subst (λ (c : Content). AllAgree c which) (sym (ends_is which rows node held stay are.numbers there ∙ as_before)) law_before))
+        (set_ends stay (λ x found isnt. refl)
+        (subst (λ (c : Content). AllAgree c which)
+        (sym (ends_is which rows node held stay are.numbers there ∙ as_before)) law_before))
       where
         stay : Node → List Ace
         stay x = (held_of which x).inh
 
-        with_before : (n : Node) → node_at rows n.id ≡ Some n → base which rows node held n ≡ held_of which n
+        with_before : (n : Node) → node_at rows n.id ≡ Some n
+            → base which rows node held n ≡ held_of which n
         with_before n found = on (n.id == node.id) refl
           where
-            on : (t : Bool) → (n.id == node.id) ≡ t → cond t held (held_of which n) ≡ held_of which n
-            on true is = same ∙ ap (held_of which) (sym (same_object which rows node held there n found is))
+            on : (t : Bool) → (n.id == node.id) ≡ t
+                → cond t held (held_of which n) ≡ held_of which n
+            on true is =
+                same ∙ ap (held_of which) (sym (same_object which rows node held there n found is))
             on false is = refl
 
-        one : (n : Node) → node_at rows n.id ≡ Some n → relist which (final which rows node held stay) n ≡ n
+        one : (n : Node) → node_at rows n.id ≡ Some n
+            → relist which (final which rows node held stay) n ≡ n
         one n found =
-            ap (λ entries. relist which (λ m. record (base which rows node held m) { inh = entries }) n) (ap (λ (h : Held). h.inh) (held_relisted which (base which rows node held) n))
+            ap (λ entries. relist which
+            (λ m. record (base which rows node held m) { inh = entries }) n)
+            (ap (λ (h : Held). h.inh) (held_relisted which (base which rows node held) n))
             ∙ ap (λ h. relist which (λ m. h) n) (with_before n found) ∙ sym (own_held which n)
 
         as_before : ends which rows node held stay ≡ rows
-        as_before = each_same rows are.numbers (relist which (final which rows node held stay)) (λ n. n) one ∙ ap (λ (nodes : List Node). record rows { nodes = nodes }) (map-id rows.nodes)
+        as_before =
+            each_same rows are.numbers (relist which (final which rows node held stay)) (λ n. n) one
+            ∙ ap (λ (nodes : List Node). record rows { nodes = nodes }) (map-id rows.nodes)
 
     -- the list is written, and passes nothing on
-    pub set_still : (new : Rows) → held.flags.auto ≡ false → new ≡ reading old (mid which rows node held) → IsSetWell which sent node old new
+    pub set_still : (new : Rows) → held.flags.auto ≡ false
+        → new ≡ reading old (mid which rows node held) → IsSetWell which sent node old new
     set_still new stops written =
-        subst (IsSetWell which sent node old) (ap (reading old) (sym (ends_is which rows node held stay are.numbers there) ∙ unmoved) ∙ sym written)
-        (set_ends stay (λ x found isnt. refl) (subst (λ (c : Content). AllAgree c which) (sym unmoved) (agree_all which rows node held are.numbers there sent stored law_before stops)))
+        subst (IsSetWell which sent node old)
+        (ap (reading old) (sym (ends_is which rows node held stay are.numbers there) ∙ unmoved)
+        ∙ sym written)
+        (set_ends stay (λ x found isnt. refl)
+        (subst (λ (c : Content). AllAgree c which) (sym unmoved)
+        (agree_all which rows node held are.numbers there sent stored law_before stops)))
       where
         stay : Node → List Ace
         stay x = (held_of which x).inh
@@ -170,23 +238,36 @@ module _ (which : Which) (sent : Sent) (node : Node) (old : Rows) (are : AreRows
         unmoved : with_lists which stay (mid which rows node held) ≡ mid which rows node held
         unmoved =
             (λ i. with_each (mid which rows node held) (λ n. with_own which n i))
-            ∙ ap (λ (nodes : List Node). record (mid which rows node held) { nodes = nodes }) (map-id (mid which rows node held).nodes)
+            ∙ ap (λ (nodes : List Node). record (mid which rows node held) { nodes = nodes })
+            (map-id (mid which rows node held).nodes)
 
     -- the list is written, and carried down
-    pub set_spread : (mid_rows new : Rows) (changed : ℕ) → mid_rows ≡ reading old (mid which rows node held) → IsSpread which node.id mid_rows new changed → IsSetWell which sent node old new
+    pub set_spread : (mid_rows new : Rows) (changed : ℕ)
+        → mid_rows ≡ reading old (mid which rows node held)
+        → IsSpread which node.id mid_rows new changed → IsSetWell which sent node old new
     set_spread mid_rows new changed written carried =
-        let spread : IsSpread which node.id (reading old (mid which rows node held)) new changed = subst (λ (r : Rows). IsSpread which node.id r new changed) written carried in
-        let folders : list_all (has_folder_above (mid which rows node held)) (mid which rows node held).nodes ≡ true =
-        subst (λ (c : Content). list_all (has_folder_above c) c.nodes ≡ true) (sym (mid_is which rows node held spread.lists are.numbers there)) (folders_kept which (base which rows node held) rows (no_fault old sound).parents) in
+        let spread : IsSpread which node.id (reading old (mid which rows node held)) new changed =
+        subst (λ (r : Rows). IsSpread which node.id r new changed) written carried in
+        let folders : list_all (has_folder_above (mid which rows node held))
+        (mid which rows node held).nodes ≡ true =
+        subst (λ (c : Content). list_all (has_folder_above c) c.nodes ≡ true)
+        (sym (mid_is which rows node held spread.lists are.numbers there))
+        (folders_kept which (base which rows node held) rows (no_fault old sound).parents) in
         let law : AllAgree (with_lists which spread.lists (mid which rows node held)) which =
         subst (λ (r : Rows). AllAgree r.read which) spread.becomes
-        (law_carried which node.id changed (reading old (mid which rows node held)) new folders spread (agree_but which rows node held are.numbers there sent stored law_before)) in
-        subst (IsSetWell which sent node old) (ap (reading old) (sym (ends_is which rows node held spread.lists are.numbers there)) ∙ sym spread.becomes)
-        (set_ends spread.lists (unlinked_unchanged which (mid which rows node held) node.id spread.lists spread.below) law)
+        (law_carried which node.id changed
+        (reading old (mid which rows node held)) new folders spread
+        (agree_but which rows node held are.numbers there sent stored law_before)) in
+        subst (IsSetWell which sent node old)
+        (ap (reading old) (sym (ends_is which rows node held spread.lists are.numbers there))
+        ∙ sym spread.becomes)
+        (set_ends spread.lists
+        (unlinked_unchanged which (mid which rows node held) node.id spread.lists spread.below) law)
 
 -- ---- in terms of the calls
 
-module _ (which : Which) (sent : Sent) (node : Node) (inh : List Ace) (old new : Rows) (are : AreRows old) (is : IsNewInh which sent node (parent_of old.read node) inh) where
+module _ (which : Which) (sent : Sent) (node : Node) (inh : List Ace) (old new : Rows)
+    (are : AreRows old) (is : IsNewInh which sent node (parent_of old.read node) inh) where
   abbrev held : Held
   held = held_with sent inh
 
@@ -194,9 +275,15 @@ module _ (which : Which) (sent : Sent) (node : Node) (inh : List Ace) (old new :
   stored = ap (held_with sent) is
 
   pub well_stored : Stores which node held old tt new → IsSet which sent node old new
-  well_stored (inl stays) there valid few sound = set_same which sent node old are there sound held stored valid few new stays.0 stays.1
+  well_stored (inl stays) there valid few sound =
+      set_same which sent node old are there sound held stored valid few new stays.0 stays.1
   well_stored (inr written) there valid few sound = on sent.flags.auto refl (written.goes there)
     where
-      on : (t : Bool) → sent.flags.auto ≡ t → GoesDown t which node.id written.mid new → IsSetWell which sent node old new
-      on true is goes = set_spread which sent node old are there sound held stored valid few written.mid new goes.0 (written.writes node there) goes.1
-      on false is goes = set_still which sent node old are there sound held stored valid few new is (goes ∙ written.writes node there)
+      on : (t : Bool) → sent.flags.auto ≡ t → GoesDown t which node.id written.mid new
+          → IsSetWell which sent node old new
+      on true is goes =
+          set_spread which sent node old are there sound held stored valid few written.mid new
+          goes.0 (written.writes node there) goes.1
+      on false is goes =
+          set_still which sent node old are there sound held stored valid few new is
+          (goes ∙ written.writes node there)

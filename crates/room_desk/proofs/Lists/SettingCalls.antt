@@ -21,54 +21,95 @@ use Rattle.room_desk.proofs.Sound.Anchored.{changed_unread}
 use Rattle.room_desk.proofs.Lists.SetWell.{well_stored}
 
 -- there is no answer
-pub no_answer : (before after : ℕ) (r : Result (Unit {0}) KeepFault) (f : KeepFault) → IsErrAnd r (λ x. x ≡ f) → IfOk r (λ _. after ≡ before)
+pub no_answer : (before after : ℕ) (r : Result (Unit {0}) KeepFault) (f : KeepFault)
+    → IsErrAnd r (λ x. x ≡ f) → IfOk r (λ _. after ≡ before)
 no_answer before after (Ok x) f is = absurd is
 no_answer before after (Err g) f is = tt
 
 -- a row that can't be read, before anything is written
-pub unread_before : (node : Node) (old mid : Rows) (at : ℕ) → mid ≡ old → IsUnreadable mid at → IsUnreadableIfHeld node old at
-unread_before node old mid at same unread there rooted = subst (λ (r : Rows). IsUnreadable r at) same unread
+pub unread_before : (node : Node) (old mid : Rows) (at : ℕ) → mid ≡ old → IsUnreadable mid at
+    → IsUnreadableIfHeld node old at
+unread_before node old mid at same unread there rooted =
+    subst (λ (r : Rows). IsUnreadable r at) same unread
 
-pub fails_before : (node : Node) (old mid : Rows) (at : ℕ) → mid ≡ old → IsUnreadableIfHeld node mid at → IsUnreadableIfHeld node old at
-fails_before node old mid at same fails = subst (λ (r : Rows). IsUnreadableIfHeld node r at) same fails
+pub fails_before : (node : Node) (old mid : Rows) (at : ℕ) → mid ≡ old
+    → IsUnreadableIfHeld node mid at → IsUnreadableIfHeld node old at
+fails_before node old mid at same fails =
+    subst (λ (r : Rows). IsUnreadableIfHeld node r at) same fails
 
 -- ---- the list is written, and carried down from there
 
-module _ (which : Which) (node : Node) (held : Held) (old mid : Rows) (changes : Changes node.id (with_held which held) old mid) where
+module _ (which : Which) (node : Node) (held : Held) (old mid : Rows)
+    (changes : Changes node.id (with_held which held) old mid) where
   number : (with_held which held node).id ≡ node.id
   number = (place-with_held which held node).number
 
   holds_now : Holds node old → Holds (with_held which held node) mid
-  holds_now there = ap (λ (r : Rows). node_at r.read (with_held which held node).id) (changes node there) ∙ find-put_same (with_held which held node) old.read.nodes
+  holds_now there =
+      ap (λ (r : Rows). node_at r.read (with_held which held node).id) (changes node there)
+      ∙ find-put_same (with_held which held node) old.read.nodes
 
-  pub carried_fails : (at : ℕ) → HasLoopFrom (with_held which held node) mid at → IsUnreadableIfHeld node old at
+  pub carried_fails : (at : ℕ) → HasLoopFrom (with_held which held node) mid at
+      → IsUnreadableIfHeld node old at
   carried_fails at loop there rooted =
-      changed_unread node.id old mid at (with_held which held) (λ n. (place-with_held which held n).number) (λ n. (place-with_held which held n).parent) changes (subst (λ (i : ℕ). HasLoop i mid at) number (loop (holds_now there))) rooted
+      changed_unread node.id old mid at (with_held which held)
+      (λ n. (place-with_held which held n).number)
+      (λ n. (place-with_held which held n).parent) changes
+      (subst (λ (i : ℕ). HasLoop i mid at) number (loop (holds_now there))) rooted
 
-  pub written_down : (auto : Bool) (new : Rows) → auto ≡ true → held.flags.auto ≡ auto → IsCarriedFrom which (with_held which held node) mid tt new → IsWrittenDown which node held old tt new
+  pub written_down : (auto : Bool) (new : Rows) → auto ≡ true → held.flags.auto ≡ auto
+      → IsCarriedFrom which (with_held which held node) mid tt new
+      → IsWrittenDown which node held old tt new
   written_down auto new is same down = record {
     mid = mid;
     writes = changes;
-    goes = λ there. subst (λ (t : Bool). GoesDown t which node.id mid new) (sym (same ∙ is)) (subst (λ (i : ℕ). IsCarriedDown which i mid tt new) number (down (holds_now there)));
+    goes =
+        λ there. subst (λ (t : Bool). GoesDown t which node.id mid new) (sym (same ∙ is))
+        (subst (λ (i : ℕ). IsCarriedDown which i mid tt new) number (down (holds_now there)));
   }
 
-  pub written_still : (auto : Bool) → auto ≡ false → held.flags.auto ≡ auto → IsWrittenDown which node held old tt mid
-  written_still auto isnt same = record { mid = mid; writes = changes; goes = λ there. subst (λ (t : Bool). GoesDown t which node.id mid mid) (sym (same ∙ isnt)) refl }
+  pub written_still : (auto : Bool) → auto ≡ false → held.flags.auto ≡ auto
+      → IsWrittenDown which node held old tt mid
+  written_still auto isnt same =
+      record {
+        mid = mid;
+        writes = changes;
+        goes =
+            λ there. subst (λ (t : Bool). GoesDown t which node.id mid mid)
+            (sym (same ∙ isnt)) refl;
+      }
 
 -- the same from an equal object
-pub loop_as : (start node : Node) (old mid : Rows) (at : ℕ) → start ≡ node → mid ≡ old → HasLoopFrom start mid at → HasLoopFrom node old at
-loop_as start node old mid at same unread loop = subst (λ (r : Rows). HasLoopFrom node r at) unread (subst (λ (n : Node). HasLoopFrom n mid at) same loop)
+pub loop_as : (start node : Node) (old mid : Rows) (at : ℕ) → start ≡ node → mid ≡ old
+    → HasLoopFrom start mid at → HasLoopFrom node old at
+loop_as start node old mid at same unread loop =
+    subst (λ (r : Rows). HasLoopFrom node r at) unread
+    (subst (λ (n : Node). HasLoopFrom n mid at) same loop)
 
-pub carried_as : (which : Which) (start node : Node) (old mid new : Rows) → start ≡ node → mid ≡ old → IsCarriedFrom which start mid tt new → IsCarriedFrom which node old tt new
-carried_as which start node old mid new same unread down = subst (λ (r : Rows). IsCarriedFrom which node r tt new) unread (subst (λ (n : Node). IsCarriedFrom which n mid tt new) same down)
+pub carried_as : (which : Which) (start node : Node) (old mid new : Rows) → start ≡ node → mid ≡ old
+    → IsCarriedFrom which start mid tt new → IsCarriedFrom which node old tt new
+carried_as which start node old mid new same unread down =
+    subst (λ (r : Rows). IsCarriedFrom which node r tt new) unread
+    (subst (λ (n : Node). IsCarriedFrom which n mid tt new) same down)
 
 -- the list of the parts that are sent
-pub list_sent : (sent : Sent) (flags : ListFlags) (own inh : List Ace) → flags ≡ sent.flags → own ≡ marked false sent.entries → list_of flags own inh ≡ held_with sent inh
-list_sent sent flags own inh flags_are own_are = ap (λ f. list_of f own inh) flags_are ∙ ap (λ o. list_of sent.flags o inh) own_are
+pub list_sent : (sent : Sent) (flags : ListFlags) (own inh : List Ace) → flags ≡ sent.flags
+    → own ≡ marked false sent.entries → list_of flags own inh ≡ held_with sent inh
+list_sent sent flags own inh flags_are own_are =
+    ap (λ f. list_of f own inh) flags_are ∙ ap (λ o. list_of sent.flags o inh) own_are
 
-pub written_as : (which : Which) (node : Node) (held other : Held) (old mid new : Rows) → held ≡ other → mid ≡ old → IsWrittenDown which node held mid tt new → IsWrittenDown which node other old tt new
-written_as which node held other old mid new same unread written = subst (λ (r : Rows). IsWrittenDown which node other r tt new) unread (subst (λ (h : Held). IsWrittenDown which node h mid tt new) same written)
+pub written_as : (which : Which) (node : Node) (held other : Held) (old mid new : Rows)
+    → held ≡ other → mid ≡ old → IsWrittenDown which node held mid tt new
+    → IsWrittenDown which node other old tt new
+written_as which node held other old mid new same unread written =
+    subst (λ (r : Rows). IsWrittenDown which node other r tt new) unread
+    (subst (λ (h : Held). IsWrittenDown which node h mid tt new) same written)
 
-pub set_from : (which : Which) (sent : Sent) (node : Node) (above : Option Node) (inh : List Ace) (old mid new : Rows) → AreRows old → IsNewInh which sent node above inh → mid ≡ old → Stores which node (held_with sent inh) mid tt new → Beneath {X = Unit {0}} above node (λ o x n. IsSet which sent node o n) old tt new
+pub set_from : (which : Which) (sent : Sent) (node : Node) (above : Option Node) (inh : List Ace)
+    (old mid new : Rows) → AreRows old → IsNewInh which sent node above inh → mid ≡ old
+    → Stores which node (held_with sent inh) mid tt new
+    → Beneath {X = Unit {0}} above node (λ o x n. IsSet which sent node o n) old tt new
 set_from which sent node above inh old mid new are is same stores up =
-    well_stored which sent node inh old new are (is ∙ ap (λ p. stored_inh which sent node.kind (passing which sent.flags p)) (sym up)) (subst (λ (r : Rows). Stores which node (held_with sent inh) r tt new) same stores)
+    well_stored which sent node inh old new are
+    (is ∙ ap (λ p. stored_inh which sent node.kind (passing which sent.flags p)) (sym up))
+    (subst (λ (r : Rows). Stores which node (held_with sent inh) r tt new) same stores)

@@ -26,16 +26,21 @@ use Rattle.room_desk.proofs.Sound.SoundParts.{or_true}
 -- ---- own and inherited entries apart
 
 abbrev pub are_own : Which → ObjKind → List Ace → Bool
-are_own which kind own = nat_le (length own) 64 && (list_all (λ entry. not entry.flags.inherited) own && are_valid which kind own)
+are_own which kind own =
+    nat_le (length own) 64
+    && (list_all (λ entry. not entry.flags.inherited) own && are_valid which kind own)
 
 abbrev pub are_inherited : Which → ObjKind → List Ace → Bool
-are_inherited which kind inh = list_all (λ entry. entry.flags.inherited) inh && are_valid which kind inh
+are_inherited which kind inh =
+    list_all (λ entry. entry.flags.inherited) inh && are_valid which kind inh
 
-pub all_append : {X : Type 0} (p : X → Bool) (xs ys : List X) → list_all p (xs ++ ys) ≡ (list_all p xs && list_all p ys)
+pub all_append : {X : Type 0} (p : X → Bool) (xs ys : List X)
+    → list_all p (xs ++ ys) ≡ (list_all p xs && list_all p ys)
 all_append p [] ys = refl
 all_append p (x ∷ xs) ys = on (p x) (all_append p xs ys)
   where
-    on : (t : Bool) → list_all p (xs ++ ys) ≡ (list_all p xs && list_all p ys) → (t && list_all p (xs ++ ys)) ≡ ((t && list_all p xs) && list_all p ys)
+    on : (t : Bool) → list_all p (xs ++ ys) ≡ (list_all p xs && list_all p ys)
+        → (t && list_all p (xs ++ ys)) ≡ ((t && list_all p xs) && list_all p ys)
     on true rest = rest
     on false rest = refl
 
@@ -47,50 +52,80 @@ regroup true false c d e = refl
 regroup false b c d e = refl
 
 -- a list is sound where both of its parts are
-pub held_parts : (which : Which) (kind : ObjKind) (held : Held) → is_sound_held which kind held ≡ (are_own which kind held.own && are_inherited which kind held.inh)
+pub held_parts : (which : Which) (kind : ObjKind) (held : Held)
+    → is_sound_held which kind held
+    ≡ (are_own which kind held.own && are_inherited which kind held.inh)
 held_parts which kind held =
-    ap (λ t. ((nat_le (length held.own) 64 && list_all (λ entry. not entry.flags.inherited) held.own) && list_all (λ entry. entry.flags.inherited) held.inh) && t) (all_append (λ entry. is_none (entry_fault entry which kind)) held.own held.inh)
-    ∙ regroup (nat_le (length held.own) 64) (list_all (λ entry. not entry.flags.inherited) held.own) (list_all (λ entry. entry.flags.inherited) held.inh) (are_valid which kind held.own) (are_valid which kind held.inh)
+    ap (λ t.
+    ((nat_le (length held.own) 64 && list_all (λ entry. not entry.flags.inherited) held.own)
+    && list_all (λ entry. entry.flags.inherited) held.inh) && t)
+    (all_append (λ entry. is_none (entry_fault entry which kind)) held.own held.inh)
+    ∙ regroup (nat_le (length held.own) 64) (list_all (λ entry. not entry.flags.inherited) held.own)
+    (list_all (λ entry. entry.flags.inherited) held.inh) (are_valid which kind held.own)
+    (are_valid which kind held.inh)
 
 -- ---- what is passed has the flag
 
-marked_flags : (kind : ObjKind) (flags : EntryFlags) → option_map_or (λ f. f.inherited) (passed_flags kind flags) true ≡ true
+marked_flags : (kind : ObjKind) (flags : EntryFlags)
+    → option_map_or (λ f. f.inherited) (passed_flags kind flags) true ≡ true
 marked_flags Document flags = on flags.file_inherit
   where
-    on : (t : Bool) → option_map_or (λ (f : EntryFlags). f.inherited) (cond t (Some (ended flags)) None) true ≡ true
+    on : (t : Bool) → option_map_or (λ (f : EntryFlags). f.inherited)
+        (cond t (Some (ended flags)) None) true ≡ true
     on true = refl
     on false = refl
-marked_flags Folder flags = on (flags.directory_inherit && not flags.no_propagate_inherit) (flags.directory_inherit && flags.no_propagate_inherit) (flags.file_inherit && not flags.no_propagate_inherit)
+marked_flags Folder flags =
+    on (flags.directory_inherit && not flags.no_propagate_inherit)
+    (flags.directory_inherit && flags.no_propagate_inherit)
+    (flags.file_inherit && not flags.no_propagate_inherit)
   where
-    on : (t u v : Bool) → option_map_or (λ (f : EntryFlags). f.inherited) (cond t (Some (carried flags)) (cond u (Some (ended flags)) (cond v (Some (waiting flags)) None))) true ≡ true
+    on : (t u v : Bool) → option_map_or (λ (f : EntryFlags). f.inherited)
+        (cond t (Some (carried flags))
+        (cond u (Some (ended flags)) (cond v (Some (waiting flags)) None))) true ≡ true
     on true u v = refl
     on false true v = refl
     on false false true = refl
     on false false false = refl
 
-pub passed_marked : (kind : ObjKind) (entries : List Ace) → list_all (λ entry. entry.flags.inherited) (pass kind entries) ≡ true
+pub passed_marked : (kind : ObjKind) (entries : List Ace)
+    → list_all (λ entry. entry.flags.inherited) (pass kind entries) ≡ true
 passed_marked kind [] = refl
-passed_marked kind (entry ∷ entries) = on (passed_flags kind entry.flags) (marked_flags kind entry.flags) (passed_marked kind entries)
+passed_marked kind (entry ∷ entries) =
+    on (passed_flags kind entry.flags) (marked_flags kind entry.flags) (passed_marked kind entries)
   where
-    on : (o : Option EntryFlags) → option_map_or (λ f. f.inherited) o true ≡ true → list_all (λ e. e.flags.inherited) (pass kind entries) ≡ true
-        → list_all (λ e. e.flags.inherited) (cons_option (option_map (λ flags. record entry { flags = flags }) o) (pass kind entries)) ≡ true
+    on : (o : Option EntryFlags) → option_map_or (λ f. f.inherited) o true ≡ true
+        → list_all (λ e. e.flags.inherited) (pass kind entries) ≡ true
+        → list_all (λ e. e.flags.inherited)
+        (cons_option (option_map (λ flags. record entry { flags = flags }) o)
+        (pass kind entries)) ≡ true
     on None marked rest = rest
-    on (Some flags) marked rest = and_from flags.inherited (list_all (λ e. e.flags.inherited) (pass kind entries)) marked rest
+    on (Some flags) marked rest =
+        and_from flags.inherited (list_all (λ e. e.flags.inherited) (pass kind entries)) marked rest
 
-pub pass_inherited : (which : Which) (kind : ObjKind) (entries : List Ace) → are_valid which Folder entries ≡ true → are_inherited which kind (pass kind entries) ≡ true
-pass_inherited which kind entries valid = and_from (list_all (λ e. e.flags.inherited) (pass kind entries)) (are_valid which kind (pass kind entries)) (passed_marked kind entries) (pass_is_valid which kind entries valid)
+pub pass_inherited : (which : Which) (kind : ObjKind) (entries : List Ace)
+    → are_valid which Folder entries ≡ true → are_inherited which kind (pass kind entries) ≡ true
+pass_inherited which kind entries valid =
+    and_from (list_all (λ e. e.flags.inherited) (pass kind entries))
+    (are_valid which kind (pass kind entries)) (passed_marked kind entries)
+    (pass_is_valid which kind entries valid)
 
 -- ---- down from the root
 
 -- an object that is found passes a test that all pass
-pub all_found : (p : Node → Bool) (content : Content) (id : ℕ) (node : Node) → list_all p content.nodes ≡ true → node_at content id ≡ Some node → p node ≡ true
+pub all_found : (p : Node → Bool) (content : Content) (id : ℕ) (node : Node)
+    → list_all p content.nodes ≡ true → node_at content id ≡ Some node → p node ≡ true
 all_found p content id node all found = at content.nodes all found
   where
-    at : (nodes : List Node) → list_all p nodes ≡ true → Rattle.std.specs.List.find (λ (n : Node). n.id == id) nodes ≡ Some node → p node ≡ true
+    at : (nodes : List Node) → list_all p nodes ≡ true
+        → Rattle.std.specs.List.find (λ (n : Node). n.id == id) nodes ≡ Some node → p node ≡ true
     at [] all found = absurd (let wrong : ⊥ = cc in wrong)
-    at (x ∷ xs) all found = let parts = and_parts (p x) (list_all p xs) all in on (x.id == id) found parts.0 (at xs parts.1)
+    at (x ∷ xs) all found = let parts = and_parts (p x) (list_all p xs) all in
+        on (x.id == id) found parts.0 (at xs parts.1)
       where
-        on : (t : Bool) → cond t (Some x) (Rattle.std.specs.List.find (λ (n : Node). n.id == id) xs) ≡ Some node → p x ≡ true → (Rattle.std.specs.List.find (λ (n : Node). n.id == id) xs ≡ Some node → p node ≡ true) → p node ≡ true
+        on : (t : Bool) → cond t (Some x) (Rattle.std.specs.List.find (λ (n : Node). n.id == id) xs)
+            ≡ Some node → p x ≡ true
+            → (Rattle.std.specs.List.find (λ (n : Node). n.id == id) xs ≡ Some node → p node ≡ true)
+            → p node ≡ true
         on true is here rest = let same : x ≡ node = cc in ap p (sym same) ∙ here
         on false is here rest = rest is
 
@@ -98,59 +133,100 @@ pub folder_is : (kind : ObjKind) → not (is_document kind) ≡ true → kind �
 folder_is Document is = absurd (false≢true is)
 folder_is Folder is = refl
 
-module _ (which : Which) (content : Content) (law : AllAgree content which) (folders : list_all (has_folder_above content) content.nodes ≡ true) where
+module _ (which : Which) (content : Content) (law : AllAgree content which)
+    (folders : list_all (has_folder_above content) content.nodes ≡ true) where
   -- the parent of a linked object, whose list it takes
-  pub linked_above : (node : Node) → node_at content node.id ≡ Some node → is_linked_in content which node ≡ true
-      → (above : Node) × (parent_of content node ≡ Some above) × ((held_of which node).inh ≡ pass node.kind (full_of (held_of which above)))
+  pub linked_above : (node : Node) → node_at content node.id ≡ Some node
+      → is_linked_in content which node ≡ true
+      → (above : Node) × (parent_of content node ≡ Some above)
+      × ((held_of which node).inh ≡ pass node.kind (full_of (held_of which above)))
   linked_above node there linked = on (parent_of content node) refl linked
     where
-      on : (o : Option Node) → parent_of content node ≡ o → is_linked (held_of which node) (option_map (held_of which) o) ≡ true → (above : Node) × (parent_of content node ≡ Some above) × ((held_of which node).inh ≡ pass node.kind (full_of (held_of which above)))
+      on : (o : Option Node) → parent_of content node ≡ o
+          → is_linked (held_of which node) (option_map (held_of which) o) ≡ true → (above : Node)
+          × (parent_of content node ≡ Some above)
+          × ((held_of which node).inh ≡ pass node.kind (full_of (held_of which above)))
       on None is linked = absurd (false≢true linked)
       on (Some above) is linked =
-          let agree : agrees_with which node above ≡ true = sym (ap (λ o. option_map_or (agrees_with which node) o true) is) ∙ all_found (agrees content which) content node.id node law there in
-          (above, is, entries_equal (held_of which node).inh (pass node.kind (full_of (held_of which above))) (or_true (is_linked (held_of which node) (Some (held_of which above))) _ agree linked))
+          let agree : agrees_with which node above ≡ true =
+          sym (ap (λ o. option_map_or (agrees_with which node) o true) is)
+          ∙ all_found (agrees content which) content node.id node law there in (
+            above,
+            is,
+            entries_equal (held_of which node).inh
+                (pass node.kind (full_of (held_of which above)))
+                (or_true (is_linked (held_of which node) (Some (held_of which above))) _ agree
+                linked),
+          )
 
-  parent_there : (id : Option ℕ) (above : Node) → option_and_then (node_at content) id ≡ Some above → node_at content above.id ≡ Some above
+  parent_there : (id : Option ℕ) (above : Node) → option_and_then (node_at content) id ≡ Some above
+      → node_at content above.id ≡ Some above
   parent_there None above is = absurd (let wrong : ⊥ = cc in wrong)
   parent_there (Some id) above is = ap (node_at content) (node_at-number content id above is) ∙ is
 
-  parent_reaches : (n : ℕ) (id : Option ℕ) (above : Node) → reaches_root (suc n) content id ≡ true → option_and_then (node_at content) id ≡ Some above → reaches_root n content above.parent ≡ true
+  parent_reaches : (n : ℕ) (id : Option ℕ) (above : Node) → reaches_root (suc n) content id ≡ true
+      → option_and_then (node_at content) id ≡ Some above
+      → reaches_root n content above.parent ≡ true
   parent_reaches n None above reaches is = absurd (let wrong : ⊥ = cc in wrong)
-  parent_reaches n (Some id) above reaches is = sym (ap (λ o. option_map_or (λ p. reaches_root n content p.parent) o false) is) ∙ reaches
+  parent_reaches n (Some id) above reaches is =
+      sym (ap (λ o. option_map_or (λ p. reaches_root n content p.parent) o false) is) ∙ reaches
 
-  top : (id : Option ℕ) (above : Node) → reaches_root zero content id ≡ true → option_and_then (node_at content) id ≡ Some above → ⊥
+  top : (id : Option ℕ) (above : Node) → reaches_root zero content id ≡ true
+      → option_and_then (node_at content) id ≡ Some above → ⊥
   top None above reaches is = let wrong : ⊥ = cc in wrong
   top (Some id) above reaches is = false≢true reaches
 
-  parent_folder : (id : Option ℕ) (above : Node) → (is_none id || option_map_or is_folder (option_and_then (node_at content) id) false) ≡ true → option_and_then (node_at content) id ≡ Some above → is_folder above ≡ true
+  parent_folder : (id : Option ℕ) (above : Node)
+      → (is_none id || option_map_or is_folder (option_and_then (node_at content) id) false) ≡ true
+      → option_and_then (node_at content) id ≡ Some above → is_folder above ≡ true
   parent_folder None above has is = absurd (let wrong : ⊥ = cc in wrong)
   parent_folder (Some id) above has is = sym (ap (λ o. option_map_or is_folder o false) is) ∙ has
 
   module _
-      (own : (node : Node) → node_at content node.id ≡ Some node → are_own which node.kind (held_of which node).own ≡ true)
-      (kept : (node : Node) → node_at content node.id ≡ Some node → is_linked_in content which node ≡ false → are_inherited which node.kind (held_of which node).inh ≡ true)
+      (own : (node : Node) → node_at content node.id ≡ Some node
+      → are_own which node.kind (held_of which node).own ≡ true)
+      (kept : (node : Node) → node_at content node.id ≡ Some node
+      → is_linked_in content which node ≡ false
+      → are_inherited which node.kind (held_of which node).inh ≡ true)
     where
-      full_valid : (above : Node) → node_at content above.id ≡ Some above → is_folder above ≡ true → are_inherited which above.kind (held_of which above).inh ≡ true → are_valid which Folder (full_of (held_of which above)) ≡ true
+      full_valid : (above : Node) → node_at content above.id ≡ Some above → is_folder above ≡ true
+          → are_inherited which above.kind (held_of which above).inh ≡ true
+          → are_valid which Folder (full_of (held_of which above)) ≡ true
       full_valid above there folder inherited =
           let is = folder_is above.kind folder in
-          let owned = and_parts (nat_le (length (held_of which above).own) 64) _ (own above there) in
-          all_append (λ entry. is_none (entry_fault entry which Folder)) (held_of which above).own (held_of which above).inh
-          ∙ and_from (are_valid which Folder (held_of which above).own) (are_valid which Folder (held_of which above).inh)
-          (ap (λ k. are_valid which k (held_of which above).own) (sym is) ∙ (and_parts (list_all (λ entry. not entry.flags.inherited) (held_of which above).own) (are_valid which above.kind (held_of which above).own) owned.1).1)
-          (ap (λ k. are_valid which k (held_of which above).inh) (sym is) ∙ (and_parts (list_all (λ entry. entry.flags.inherited) (held_of which above).inh) (are_valid which above.kind (held_of which above).inh) inherited).1)
+          let owned = and_parts (nat_le (length (held_of which above).own) 64) _
+          (own above there) in
+          all_append (λ entry. is_none (entry_fault entry which Folder)) (held_of which above).own
+          (held_of which above).inh
+          ∙ and_from (are_valid which Folder (held_of which above).own)
+          (are_valid which Folder (held_of which above).inh)
+          (ap (λ k. are_valid which k (held_of which above).own) (sym is)
+          ∙ (and_parts (list_all (λ entry. not entry.flags.inherited) (held_of which above).own)
+          (are_valid which above.kind (held_of which above).own) owned.1).1)
+          (ap (λ k. are_valid which k (held_of which above).inh) (sym is)
+          ∙ (and_parts (list_all (λ entry. entry.flags.inherited) (held_of which above).inh)
+          (are_valid which above.kind (held_of which above).inh) inherited).1)
 
       -- an object at most n steps below the root
-      pub valid_down : (n : ℕ) (node : Node) → node_at content node.id ≡ Some node → reaches_root n content node.parent ≡ true → are_inherited which node.kind (held_of which node).inh ≡ true
+      pub valid_down : (n : ℕ) (node : Node) → node_at content node.id ≡ Some node
+          → reaches_root n content node.parent ≡ true
+          → are_inherited which node.kind (held_of which node).inh ≡ true
       valid_down zero node there reaches = elim (cases_Bool (is_linked_in content which node)) [
-        | inl linked ↦ (let found = linked_above node there linked in absurd (top node.parent found.0 reaches found.1))
+        | inl linked ↦
+            (let found = linked_above node there linked in
+            absurd (top node.parent found.0 reaches found.1))
         | inr apart ↦ kept node there apart
       ]
       valid_down (suc m) node there reaches = elim (cases_Bool (is_linked_in content which node)) [
         | inl linked ↦
             let found = linked_above node there linked in
             let above_there = parent_there node.parent found.0 found.1 in
-            let folder = parent_folder node.parent found.0 (all_found (has_folder_above content) content node.id node folders there) found.1 in
+            let folder = parent_folder node.parent found.0
+            (all_found (has_folder_above content) content node.id node folders there) found.1 in
             ap (are_inherited which node.kind) found.2
-            ∙ pass_inherited which node.kind (full_of (held_of which found.0)) (full_valid found.0 above_there folder (valid_down m found.0 above_there (parent_reaches m node.parent found.0 reaches found.1)))
+            ∙ pass_inherited which node.kind (full_of (held_of which found.0))
+            (full_valid found.0 above_there folder
+            (valid_down m found.0 above_there
+            (parent_reaches m node.parent found.0 reaches found.1)))
         | inr apart ↦ kept node there apart
       ]

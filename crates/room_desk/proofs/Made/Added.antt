@@ -24,9 +24,12 @@ pub record Between (new : Node) (nodes : List Node) : Type 0 where
 
 pub between : (new : Node) (nodes : List Node) → find_id new.id nodes ≡ None → Between new nodes
 between new [] unused = record { front = []; back = []; before = refl; after = refl }
-between new (x ∷ xs) unused = on (nat_lt x.id new.id) (x.id == new.id) refl refl (between new xs) unused
+between new (x ∷ xs) unused =
+    on (nat_lt x.id new.id) (x.id == new.id) refl refl (between new xs) unused
   where
-    on : (t u : Bool) → nat_lt x.id new.id ≡ t → (x.id == new.id) ≡ u → (find_id new.id xs ≡ None → Between new xs) → cond u (Some x) (find_id new.id xs) ≡ None → Between new (x ∷ xs)
+    on : (t u : Bool) → nat_lt x.id new.id ≡ t → (x.id == new.id) ≡ u
+        → (find_id new.id xs ≡ None → Between new xs) → cond u (Some x) (find_id new.id xs) ≡ None
+        → Between new (x ∷ xs)
     on t true less same rest none = absurd (let wrong : ⊥ = cc in wrong)
     on true false less same rest none =
         let below = rest none in
@@ -34,83 +37,120 @@ between new (x ∷ xs) unused = on (nat_lt x.id new.id) (x.id == new.id) refl re
           front = x ∷ below.front;
           back = below.back;
           before = ap (λ l. x ∷ l) below.before;
-          after = ap (λ t. cond t (x ∷ put_node new xs) (cond (x.id == new.id) (new ∷ xs) (new ∷ x ∷ xs))) less ∙ ap (λ l. x ∷ l) below.after;
+          after =
+              ap (λ t. cond t (x ∷ put_node new xs)
+              (cond (x.id == new.id) (new ∷ xs) (new ∷ x ∷ xs))) less ∙ ap (λ l. x ∷ l) below.after;
         }
     on false false less same rest none = record {
       front = [];
       back = x ∷ xs;
       before = refl;
-      after = ap (λ t. cond t (x ∷ put_node new xs) (cond (x.id == new.id) (new ∷ xs) (new ∷ x ∷ xs))) less ∙ ap (λ t. cond t (new ∷ xs) (new ∷ x ∷ xs)) same;
+      after =
+          ap (λ t. cond t (x ∷ put_node new xs) (cond (x.id == new.id) (new ∷ xs) (new ∷ x ∷ xs)))
+          less ∙ ap (λ t. cond t (new ∷ xs) (new ∷ x ∷ xs)) same;
     }
 
-pub each_put : (P : Node → Type 0) (new : Node) (nodes : List Node) → find_id new.id nodes ≡ None → Each P nodes → P new → Each P (put_node new nodes)
+pub each_put : (P : Node → Type 0) (new : Node) (nodes : List Node) → find_id new.id nodes ≡ None
+    → Each P nodes → P new → Each P (put_node new nodes)
 each_put P new nodes unused all here =
     let b = between new nodes unused in
     let parts : Each P (b.front ++ b.back) = subst (Each P) b.before all in
-    subst (Each P) (sym b.after) (each_append P b.front (new ∷ b.back) (each_front P b.front b.back parts) (here, each_back P b.front b.back parts))
+    subst (Each P) (sym b.after)
+    (each_append P b.front (new ∷ b.back) (each_front P b.front b.back parts)
+    (here, each_back P b.front b.back parts))
 
-pub length_put : (new : Node) (nodes : List Node) → find_id new.id nodes ≡ None → length (put_node new nodes) ≡ suc (length nodes)
+pub length_put : (new : Node) (nodes : List Node) → find_id new.id nodes ≡ None
+    → length (put_node new nodes) ≡ suc (length nodes)
 length_put new nodes unused =
     let b = between new nodes unused in
-    let then : length (put_node new nodes) ≡ length b.front + length (new ∷ b.back) = ap length b.after ∙ length-append b.front (new ∷ b.back) in
-    let first : length nodes ≡ length b.front + length b.back = ap length b.before ∙ length-append b.front b.back in
+    let then : length (put_node new nodes) ≡ length b.front + length (new ∷ b.back) =
+    ap length b.after ∙ length-append b.front (new ∷ b.back) in
+    let first : length nodes ≡ length b.front + length b.back = ap length b.before
+    ∙ length-append b.front b.back in
     omega arith
 
-pub filter_put : (p : Node → Bool) (new : Node) (nodes : List Node) → find_id new.id nodes ≡ None → p new ≡ false → filter p (put_node new nodes) ≡ filter p nodes
+pub filter_put : (p : Node → Bool) (new : Node) (nodes : List Node) → find_id new.id nodes ≡ None
+    → p new ≡ false → filter p (put_node new nodes) ≡ filter p nodes
 filter_put p new nodes unused fails =
     let b = between new nodes unused in
-    ap (filter p) b.after ∙ filter-append p b.front (new ∷ b.back) ∙ ap (λ t. filter p b.front ++ cond t (new ∷ filter p b.back) (filter p b.back)) fails ∙ sym (filter-append p b.front b.back) ∙ ap (filter p) (sym b.before)
+    ap (filter p) b.after ∙ filter-append p b.front (new ∷ b.back)
+    ∙ ap (λ t. filter p b.front ++ cond t (new ∷ filter p b.back) (filter p b.back)) fails
+    ∙ sym (filter-append p b.front b.back) ∙ ap (filter p) (sym b.before)
 
 -- ---- what is found then
 
-module _ (old : Rows) (are : AreRows old) (new : Node) (bodies : List (ℕ × List ℕ)) (unused : node_at old.read new.id ≡ None) where
+module _ (old : Rows) (are : AreRows old) (new : Node) (bodies : List (ℕ × List ℕ))
+    (unused : node_at old.read new.id ≡ None) where
   -- with the object, and with these bytes
   abbrev pub after : Content
   after = record old.read { nodes = put_node new old.read.nodes; bodies = bodies }
 
   pub stays : (id : ℕ) (n : Node) → node_at old.read id ≡ Some n → node_at after id ≡ Some n
-  stays id n found = find-put_other new old.read.nodes id (λ same. absurd (not_none n (sym unused ∙ ap (node_at old.read) (sym same) ∙ found))) ∙ found
+  stays id n found =
+      find-put_other new old.read.nodes id
+      (λ same. absurd (not_none n (sym unused ∙ ap (node_at old.read) (sym same) ∙ found))) ∙ found
 
   pub comes : node_at after new.id ≡ Some new
   comes = find-put_same new old.read.nodes
 
   -- what holds of each object that was there, and of the new one, holds of all
-  pub each_after : (P : Node → Type 0) → ((n : Node) → node_at old.read n.id ≡ Some n → P n) → P new → Each P after.nodes
-  each_after P all here = each_put P new old.read.nodes unused (each_there P old.read.nodes (apart_rising 0 old.read.nodes are.numbers) all) here
+  pub each_after : (P : Node → Type 0) → ((n : Node) → node_at old.read n.id ≡ Some n → P n) → P new
+      → Each P after.nodes
+  each_after P all here =
+      each_put P new old.read.nodes unused
+      (each_there P old.read.nodes (apart_rising 0 old.read.nodes are.numbers) all) here
 
-  pub all_after : (test : Node → Bool) → ((n : Node) → node_at old.read n.id ≡ Some n → test n ≡ true) → test new ≡ true → list_all test after.nodes ≡ true
+  pub all_after : (test : Node → Bool)
+      → ((n : Node) → node_at old.read n.id ≡ Some n → test n ≡ true) → test new ≡ true
+      → list_all test after.nodes ≡ true
   all_after test all here = all_each test after.nodes (each_after (λ n. test n ≡ true) all here)
 
   -- each has its parent as before
-  pub same_above : (n : Node) → has_folder_above old.read n ≡ true → parent_of after n ≡ parent_of old.read n
+  pub same_above : (n : Node) → has_folder_above old.read n ≡ true
+      → parent_of after n ≡ parent_of old.read n
   same_above n above = on n.parent above
     where
-      at : (id : ℕ) (p : Option Node) → node_at old.read id ≡ p → option_map_or is_folder p false ≡ true → node_at after id ≡ p
+      at : (id : ℕ) (p : Option Node) → node_at old.read id ≡ p
+          → option_map_or is_folder p false ≡ true → node_at after id ≡ p
       at id None found is = absurd (false≢true is)
       at id (Some q) found is = stays id q found
 
-      on : (o : Option ℕ) → (is_none o || option_map_or is_folder (option_and_then (node_at old.read) o) false) ≡ true → option_and_then (node_at after) o ≡ option_and_then (node_at old.read) o
+      on : (o : Option ℕ)
+          → (is_none o || option_map_or is_folder (option_and_then (node_at old.read) o) false)
+          ≡ true → option_and_then (node_at after) o ≡ option_and_then (node_at old.read) o
       on None is = refl
       on (Some id) is = at id (node_at old.read id) refl is
 
   -- the parents lead to the root as before
-  pub reaches_still : (k : ℕ) (parent : Option ℕ) → reaches_root k old.read parent ≡ true → reaches_root k after parent ≡ true
+  pub reaches_still : (k : ℕ) (parent : Option ℕ) → reaches_root k old.read parent ≡ true
+      → reaches_root k after parent ≡ true
   reaches_still k None is = refl
   reaches_still zero (Some id) is = absurd (false≢true is)
-  reaches_still (suc k) (Some id) is = on (node_at old.read id) refl (λ q. reaches_still k q.parent) is
+  reaches_still (suc k) (Some id) is =
+      on (node_at old.read id) refl (λ q. reaches_still k q.parent) is
     where
-      on : (o : Option Node) → node_at old.read id ≡ o → ((q : Node) → reaches_root k old.read q.parent ≡ true → reaches_root k after q.parent ≡ true) → option_map_or (λ q. reaches_root k old.read q.parent) o false ≡ true
+      on : (o : Option Node) → node_at old.read id ≡ o
+          → ((q : Node) → reaches_root k old.read q.parent ≡ true
+          → reaches_root k after q.parent ≡ true)
+          → option_map_or (λ q. reaches_root k old.read q.parent) o false ≡ true
           → option_map_or (λ q. reaches_root k after q.parent) (node_at after id) false ≡ true
       on None found rest is = absurd (false≢true is)
-      on (Some q) found rest is = ap (λ o. option_map_or (λ p. reaches_root k after p.parent) o false) (stays id q found) ∙ rest q is
+      on (Some q) found rest is =
+          ap (λ o. option_map_or (λ p. reaches_root k after p.parent) o false) (stays id q found)
+          ∙ rest q is
 
 -- in one step more, too
-pub reaches_more : (content : Content) (k : ℕ) (parent : Option ℕ) → reaches_root k content parent ≡ true → reaches_root (suc k) content parent ≡ true
+pub reaches_more : (content : Content) (k : ℕ) (parent : Option ℕ)
+    → reaches_root k content parent ≡ true → reaches_root (suc k) content parent ≡ true
 reaches_more content k None is = refl
 reaches_more content zero (Some id) is = absurd (false≢true is)
-reaches_more content (suc k) (Some id) is = on (node_at content id) (λ q. reaches_more content k q.parent) is
+reaches_more content (suc k) (Some id) is =
+    on (node_at content id) (λ q. reaches_more content k q.parent) is
   where
-    on : (o : Option Node) → ((q : Node) → reaches_root k content q.parent ≡ true → reaches_root (suc k) content q.parent ≡ true) → option_map_or (λ q. reaches_root k content q.parent) o false ≡ true
+    on : (o : Option Node)
+        → ((q : Node) → reaches_root k content q.parent ≡ true
+        → reaches_root (suc k) content q.parent ≡ true)
+        → option_map_or (λ q. reaches_root k content q.parent) o false ≡ true
         → option_map_or (λ q. reaches_root (suc k) content q.parent) o false ≡ true
     on None rest is = absurd (false≢true is)
     on (Some q) rest is = rest q is

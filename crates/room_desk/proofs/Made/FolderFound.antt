@@ -21,24 +21,41 @@ use Rattle.room_desk.proofs.Steps.Serving.{none_both, along_there}
 use Rattle.room_judge.proofs.Spots.{folder_along}
 use Rattle.room_judge.proofs.Folders.{stem_of, folder_is, lacks}
 
-pub record IsFoundFolder (old : Rows) (path : List (List ℕ)) (folder : Node) (child : Option Node) : Type 0 where
+pub record IsFoundFolder (old : Rows) (path : List (List ℕ)) (folder : Node)
+    (child : Option Node) : Type 0 where
   pub there : node_at old.read folder.id ≡ Some folder
   pub folds : is_folder folder ≡ true
   pub lacks : is_none (child_of old.read folder.id (last_name path)) ≡ is_none child
 
-not_refused : (t : Bool) (at : List (List ℕ)) → None ≡ cond (not t) (Some (Refused at NotFolder)) None → t ≡ true
+not_refused : (t : Bool) (at : List (List ℕ))
+    → None ≡ cond (not t) (Some (Refused at NotFolder)) None → t ≡ true
 not_refused true at passes = refl
 not_refused false at passes = absurd (let wrong : ⊥ = cc in wrong)
 
-pub found_folder : (asker : Asker) (path : List (List ℕ)) → 0 < length path → (old mid : Rows) (folder : Found) (child : Option Node) → AreRows old → IsSpotted asker path old (Under folder child) mid → IsFoundFolder old path folder.node child
+pub found_folder : (asker : Asker) (path : List (List ℕ)) → 0 < length path
+    → (old mid : Rows) (folder : Found) (child : Option Node) → AreRows old
+    → IsSpotted asker path old (Under folder child) mid → IsFoundFolder old path folder.node child
 found_folder asker path some old mid folder child are spotted =
     let site : Site = found_site path folder in
-    let at : folder_along old.read path ≡ Some (found_site path folder) = folder_is asker path some old mid folder child spotted in
+    let at : folder_along old.read path ≡ Some (found_site path folder) =
+    folder_is asker path some old mid folder child spotted in
     let begin : List Item = way false (stored_along old.read (front path)) (front path) in
-    let passes : None ≡ first_failure asker.caller (way false (stored_along old.read (front path)) (front path) ++ through (found_site path folder)) =
-    (stem_of asker path some old mid None spotted.judged).answers ∙ ap (λ o. first_failure asker.caller (way false (stored_along old.read (front path)) (front path) ++ where_found o through)) at in
-    let passing = none_both (first_failure asker.caller (way false (stored_along old.read (front path)) (front path))) (first_failure asker.caller (through (found_site path folder))) (passes ∙ failure_of_parts asker.caller asker.at begin (through site)) in
-    let first = none_both (failure asker.caller (Refusal (found_site path folder).path NotFolder (not (is_folder folder.node)))) (first_failure asker.caller (Check (found_site path folder) (execute ∷ []) ∷ [])) passing.1 in
+    let passes : None ≡ first_failure asker.caller
+    (way false (stored_along old.read (front path)) (front path)
+    ++ through (found_site path folder)) =
+    (stem_of asker path some old mid None spotted.judged).answers
+    ∙ ap
+    (λ o. first_failure asker.caller
+    (way false (stored_along old.read (front path)) (front path) ++ where_found o through)) at in
+    let passing = none_both
+    (first_failure asker.caller (way false (stored_along old.read (front path)) (front path)))
+    (first_failure asker.caller (through (found_site path folder)))
+    (passes ∙ failure_of_parts asker.caller asker.at begin (through site)) in
+    let first = none_both
+    (failure asker.caller
+    (Refusal (found_site path folder).path NotFolder (not (is_folder folder.node))))
+    (first_failure asker.caller (Check (found_site path folder) (execute ∷ []) ∷ [])) passing.1
+    in
     record {
       there = along_there old.read are.numbers (front path) site at;
       folds = not_refused (is_folder folder.node) (found_site path folder).path first.0;

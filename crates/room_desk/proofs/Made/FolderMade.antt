@@ -34,62 +34,128 @@ use Rattle.room_desk.proofs.Made.NewStep.{made_new}
 use Rattle.room_desk.proofs.Made.PutMade.{is_none_none}
 use Rattle.room_desk.proofs.Steps.Stepping.{made_step, refused_step}
 
-not_there : (path : List (List ℕ)) (o : Option Node) → None ≡ cond (is_some o) (Some (Refused path Exists)) None → is_none o ≡ true
+not_there : (path : List (List ℕ)) (o : Option Node)
+    → None ≡ cond (is_some o) (Some (Refused path Exists)) None → is_none o ≡ true
 not_there path None passes = refl
 not_there path (Some node) passes = absurd (let wrong : ⊥ = cc in wrong)
 
-same_there : (path : List (List ℕ)) (o : Option Node) → is_some (option_map (stored_site path) o) ≡ is_some o
+same_there : (path : List (List ℕ)) (o : Option Node)
+    → is_some (option_map (stored_site path) o) ≡ is_some o
 same_there path None = refl
 same_there path (Some node) = refl
 
 module _ (asker : Asker) (path : List (List ℕ)) where
-  pub folder_root : (old new : Rows) (reply : Reply) → path ≡ [] → reply ≡ Refused [] Exists → new ≡ old → CarriesOut asker (MakeFolder path) old reply new
+  pub folder_root : (old new : Rows) (reply : Reply) → path ≡ [] → reply ≡ Refused [] Exists
+      → new ≡ old → CarriesOut asker (MakeFolder path) old reply new
   folder_root old new reply root replies same known sound =
       refused_step asker (MakeFolder path) old known sound new reply
-      (subst (λ (p : List (List ℕ)). IsJudged asker (plan_of (meaning old.read) (MakeFolder p)) old (Some reply) new) (sym root) (refuses asker [] Exists true [] old new reply replies refl same))
+      (subst (λ (p : List (List ℕ)). IsJudged asker (plan_of (meaning old.read) (MakeFolder p)) old
+      (Some reply) new) (sym root)
+      (refuses asker [] Exists true [] old new reply replies refl same))
 
-  pub folder_barred : 0 < length path → (old new : Rows) (reply : Reply) → AreRows old → IsSpotted asker path old (Barred reply) new → CarriesOut asker (MakeFolder path) old reply new
+  pub folder_barred : 0 < length path → (old new : Rows) (reply : Reply) → AreRows old
+      → IsSpotted asker path old (Barred reply) new
+      → CarriesOut asker (MakeFolder path) old reply new
   folder_barred some old new reply are spotted known sound =
       refused_step asker (MakeFolder path) old known sound new reply
       (folder_judged asker old new (Some reply) are (sound_parts old sound) path some
-      (fails_first asker (way true (stored_along old.read path) path) (where_found (parent_at (stored_along old.read path) path) (making path (is_some (site_at (stored_along old.read path) path)))) old new reply spotted.judged))
+      (fails_first asker (way true (stored_along old.read path) path)
+      (where_found (parent_at (stored_along old.read path) path)
+      (making path (is_some (site_at (stored_along old.read path) path)))) old new reply
+      spotted.judged))
 
-  module _ (old mid : Rows) (folder : Found) (child : Option Node) (name : List ℕ) (named : IsNameOf path name) (are : AreRows old) (spotted : IsSpotted asker path old (Under folder child) mid) where
-    items_are : where_found (parent_at (stored_along old.read path) path) (making path (is_some (site_at (stored_along old.read path) path))) ≡ making path (is_some child) (found_site path folder)
-    items_are = ap (λ o. where_found o (making path (is_some (site_at (stored_along old.read path) path)))) spotted.folder
-        ∙ ap (λ t. making path t (found_site path folder)) (ap is_some spotted.child ∙ same_there path child)
+  module _ (old mid : Rows) (folder : Found) (child : Option Node) (name : List ℕ)
+      (named : IsNameOf path name) (are : AreRows old)
+      (spotted : IsSpotted asker path old (Under folder child) mid) where
+    items_are : where_found (parent_at (stored_along old.read path) path)
+        (making path (is_some (site_at (stored_along old.read path) path)))
+        ≡ making path (is_some child) (found_site path folder)
+    items_are =
+        ap (λ o. where_found o (making path (is_some (site_at (stored_along old.read path) path))))
+        spotted.folder
+        ∙ ap (λ t. making path t (found_site path folder))
+        (ap is_some spotted.child ∙ same_there path child)
 
-    plan_judged : (new : Rows) (answer : Option Reply) → AreSound old → IsJudged asker (making path (is_some child) (found_site path folder)) mid answer new → IsJudged asker (plan_of (meaning old.read) (MakeFolder path)) old answer new
+    plan_judged : (new : Rows) (answer : Option Reply) → AreSound old
+        → IsJudged asker (making path (is_some child) (found_site path folder)) mid answer new
+        → IsJudged asker (plan_of (meaning old.read) (MakeFolder path)) old answer new
     plan_judged new answer sound judged =
         folder_judged asker old new answer are (sound_parts old sound) path named.some
-        (passes_first asker (way true (stored_along old.read path) path) (where_found (parent_at (stored_along old.read path) path) (making path (is_some (site_at (stored_along old.read path) path)))) old mid new answer spotted.judged
+        (passes_first asker (way true (stored_along old.read path) path)
+        (where_found (parent_at (stored_along old.read path) path)
+        (making path (is_some (site_at (stored_along old.read path) path)))) old mid new answer
+        spotted.judged
         (subst (λ list. IsJudged asker list mid answer new) (sym items_are) judged))
 
-    folder_made : (last new : Rows) → IsJudged asker (making path (is_some child) (found_site path folder)) mid None last → IsMade (new_child asker.caller Folder folder.node name []) last new → CarriesOut asker (MakeFolder path) old Made new
+    folder_made : (last new : Rows)
+        → IsJudged asker (making path (is_some child) (found_site path folder)) mid None last
+        → IsMade (new_child asker.caller Folder folder.node name []) last new
+        → CarriesOut asker (MakeFolder path) old Made new
     folder_made last new judged made known sound =
-        let first = none_both (failure asker.caller (Check (found_site path folder) (append_data ∷ []))) (first_failure asker.caller (Refusal path Exists (is_some child) ∷ [])) judged.answers in
-        let second = none_both (failure asker.caller (Refusal path Exists (is_some child))) None first.1 in
+        let first = none_both
+        (failure asker.caller (Check (found_site path folder) (append_data ∷ [])))
+        (first_failure asker.caller (Refusal path Exists (is_some child) ∷ [])) judged.answers
+        in
+        let second = none_both
+        (failure asker.caller (Refusal path Exists (is_some child))) None first.1 in
         let found = found_folder asker path named.some old mid folder child are spotted in
         let absent : child_of old.read folder.node.id name ≡ None =
-        ap (child_of old.read folder.node.id) named.last ∙ is_none_none (child_of old.read folder.node.id (last_name path)) (found.lacks ∙ not_there path child second.0) in
+        ap (child_of old.read folder.node.id) named.last
+        ∙ is_none_none (child_of old.read folder.node.id (last_name path))
+        (found.lacks ∙ not_there path child second.0) in
         let plan = plan_judged last None sound judged in
-        let new_step = made_new old are sound asker.caller Folder folder.node name [] found.there found.folds absent (records_of_plan asker.caller asker.at (plan_of (meaning old.read) (MakeFolder path))) (take folder.depth path) last new plan.notes named.sound (λ document. absurd (false≢true document)) made in
-        let place = planned_parent old are (sound_parts old sound) path (found_site path folder) spotted.folder in
-        made_step asker (MakeFolder path) old known sound new_step.id new_step.free last new Made (with_node (meaning old.read) (new_node new_step.id asker.caller Folder (found_site path folder) name)) plan
-        (ap (λ o. with_site (meaning old.read) o (λ s. (Made, with_node (meaning old.read) (new_node new_step.id asker.caller Folder s (last_name path))))) place.at
-        ∙ ap (λ (s : Site). (Made, with_node (meaning old.read) (new_node new_step.id asker.caller Folder s (last_name path)))) place.filled
-        ∙ ap (λ n. (Made, with_node (meaning old.read) (new_node new_step.id asker.caller Folder (found_site path folder) n))) (sym named.last))
+        let new_step = made_new old are sound asker.caller Folder folder.node name
+        [] found.there found.folds absent
+        (records_of_plan asker.caller asker.at (plan_of (meaning old.read) (MakeFolder path)))
+        (take folder.depth path) last new plan.notes named.sound
+        (λ document. absurd (false≢true document)) made in
+        let place = planned_parent old are (sound_parts old sound) path
+        (found_site path folder) spotted.folder in
+        made_step asker (MakeFolder path) old known sound new_step.id new_step.free last new Made
+        (with_node (meaning old.read)
+        (new_node new_step.id asker.caller Folder (found_site path folder) name)) plan
+        (ap (λ o. with_site (meaning old.read) o
+        (λ s. (
+          Made,
+          with_node (meaning old.read)
+              (new_node new_step.id asker.caller Folder s (last_name path)),
+        ))) place.at
+        ∙ ap
+        (λ (s : Site). (
+          Made,
+          with_node (meaning old.read)
+              (new_node new_step.id asker.caller Folder s (last_name path)),
+        )) place.filled
+        ∙ ap
+        (λ n. (
+          Made,
+          with_node (meaning old.read)
+              (new_node new_step.id asker.caller Folder (found_site path folder) n),
+        )) (sym named.last))
         new_step.means new_step.sound
 
-    made_on : (answer : Option Reply) (last new : Rows) (reply : Reply) → IsJudged asker (making path (is_some child) (found_site path folder)) mid answer last → Ends Made (IsMade (new_child asker.caller Folder folder.node name [])) answer last reply new
+    made_on : (answer : Option Reply) (last new : Rows) (reply : Reply)
+        → IsJudged asker (making path (is_some child) (found_site path folder)) mid answer last
+        → Ends Made (IsMade (new_child asker.caller Folder folder.node name [])) answer last reply
+        new
         → CarriesOut asker (MakeFolder path) old reply new
-    made_on None last new reply judged ends known sound = subst (λ (r : Reply). CarriesOut asker (MakeFolder path) old r new) (sym ends.0) (folder_made last new judged ends.1) known sound
+    made_on None last new reply judged ends known sound =
+        subst (λ (r : Reply). CarriesOut asker (MakeFolder path) old r new) (sym ends.0)
+        (folder_made last new judged ends.1) known sound
     made_on (Some refusal) last new reply judged ends known sound =
         refused_step asker (MakeFolder path) old known sound new reply
-        (subst (λ (r : Reply). IsJudged asker (plan_of (meaning old.read) (MakeFolder path)) old (Some r) new) (sym ends.0)
-        (subst (λ (r : Rows). IsJudged asker (plan_of (meaning old.read) (MakeFolder path)) old (Some refusal) r) (sym ends.1)
+        (subst (λ (r : Reply). IsJudged asker (plan_of (meaning old.read) (MakeFolder path)) old
+        (Some r) new) (sym ends.0)
+        (subst (λ (r : Rows). IsJudged asker (plan_of (meaning old.read) (MakeFolder path)) old
+        (Some refusal) r) (sym ends.1)
         (plan_judged last (Some refusal) sound judged)))
 
-    pub make_in : (there : Bool) → there ≡ is_some child → (new : Rows) (reply : Reply) → IsJudgedAndDone asker (making path there (found_site path folder)) Made (IsMade (new_child asker.caller Folder folder.node name [])) mid reply new
+    pub make_in : (there : Bool) → there ≡ is_some child → (new : Rows) (reply : Reply)
+        → IsJudgedAndDone asker (making path there (found_site path folder)) Made
+        (IsMade (new_child asker.caller Folder folder.node name [])) mid reply new
         → CarriesOut asker (MakeFolder path) old reply new
-    make_in there is new reply served = made_on served.answer served.mid new reply (subst (λ t. IsJudged asker (making path t (found_site path folder)) mid served.answer served.mid) is served.judged) served.ends
+    make_in there is new reply served =
+        made_on served.answer served.mid new reply
+        (subst
+        (λ t. IsJudged asker (making path t (found_site path folder)) mid served.answer served.mid)
+        is served.judged) served.ends

@@ -40,43 +40,68 @@ use Rattle.room_desk.proofs.Lists.ValidDown.{folder_is, passed_marked}
 
 -- ---- its lists
 
-passed_sound : (which : Which) (kind : ObjKind) (parent : Held) → is_sound_held which Folder parent ≡ true → is_sound_held which kind (passed_held kind parent) ≡ true
+passed_sound : (which : Which) (kind : ObjKind) (parent : Held)
+    → is_sound_held which Folder parent ≡ true
+    → is_sound_held which kind (passed_held kind parent) ≡ true
 passed_sound which kind parent is =
-    let others : Bool = nat_le (length parent.own) 64 && list_all (λ (entry : Ace). not entry.flags.inherited) parent.own && list_all (λ (entry : Ace). entry.flags.inherited) parent.inh in
+    let others : Bool = nat_le (length parent.own) 64
+    && list_all (λ (entry : Ace). not entry.flags.inherited) parent.own
+    && list_all (λ (entry : Ace). entry.flags.inherited) parent.inh in
     let valid = and_parts others (are_valid which Folder (full_of parent)) is in
-    and_from (list_all (λ (entry : Ace). entry.flags.inherited) (pass kind (full_of parent))) (are_valid which kind (pass kind (full_of parent))) (passed_marked kind (full_of parent)) (pass_is_valid which kind (full_of parent) valid.1)
+    and_from (list_all (λ (entry : Ace). entry.flags.inherited) (pass kind (full_of parent)))
+    (are_valid which kind (pass kind (full_of parent))) (passed_marked kind (full_of parent))
+    (pass_is_valid which kind (full_of parent) valid.1)
 
 -- the lists of a new object are sound if its parent's are
-child_sound : (caller : Caller) (kind : ObjKind) (parent : Node) (name bytes : List ℕ) (id : ℕ) → is_folder parent ≡ true → has_sound_lists parent ≡ true → has_sound_lists (node_of id (new_child caller kind parent name bytes)) ≡ true
+child_sound : (caller : Caller) (kind : ObjKind) (parent : Node) (name bytes : List ℕ) (id : ℕ)
+    → is_folder parent ≡ true → has_sound_lists parent ≡ true
+    → has_sound_lists (node_of id (new_child caller kind parent name bytes)) ≡ true
 child_sound caller kind parent name bytes id folder valid =
-    let at : (is_sound_held Dacl Folder parent.dacl && is_sound_held Sacl Folder parent.sacl) ≡ true = ap (λ k. is_sound_held Dacl k parent.dacl && is_sound_held Sacl k parent.sacl) (sym (folder_is parent.kind folder)) ∙ valid in
-    let parts = and_parts (is_sound_held Dacl Folder parent.dacl) (is_sound_held Sacl Folder parent.sacl) at in
-    and_from (is_sound_held Dacl kind (passed_held kind parent.dacl)) (is_sound_held Sacl kind (passed_held kind parent.sacl)) (passed_sound Dacl kind parent.dacl parts.0) (passed_sound Sacl kind parent.sacl parts.1)
+    let at : (is_sound_held Dacl Folder parent.dacl && is_sound_held Sacl Folder parent.sacl)
+    ≡ true =
+    ap (λ k. is_sound_held Dacl k parent.dacl && is_sound_held Sacl k parent.sacl)
+    (sym (folder_is parent.kind folder)) ∙ valid in
+    let parts = and_parts (is_sound_held Dacl Folder parent.dacl)
+    (is_sound_held Sacl Folder parent.sacl) at in
+    and_from (is_sound_held Dacl kind (passed_held kind parent.dacl))
+    (is_sound_held Sacl kind (passed_held kind parent.sacl))
+    (passed_sound Dacl kind parent.dacl parts.0) (passed_sound Sacl kind parent.sacl parts.1)
 
 -- ---- bytes belong to a number in use
 
-no_bytes_in : (numbers : List ℕ) (bodies : List (ℕ × List ℕ)) (id : ℕ) → is_among numbers id ≡ false → list_all (λ (row : ℕ × List ℕ). is_among numbers row.0) bodies ≡ true → body_at bodies id ≡ None
+no_bytes_in : (numbers : List ℕ) (bodies : List (ℕ × List ℕ)) (id : ℕ) → is_among numbers id ≡ false
+    → list_all (λ (row : ℕ × List ℕ). is_among numbers row.0) bodies ≡ true
+    → body_at bodies id ≡ None
 no_bytes_in numbers [] id unused all = refl
 no_bytes_in numbers (row ∷ rows) id unused all =
-    let parts = and_parts (is_among numbers row.0) (list_all (λ (r : ℕ × List ℕ). is_among numbers r.0) rows) all in
-    on (row.0 == id) (λ same. absurd (false≢true (sym unused ∙ ap (is_among numbers) (sym (eqb-true row.0 id same)) ∙ parts.0))) (no_bytes_in numbers rows id unused parts.1)
+    let parts = and_parts (is_among numbers row.0)
+    (list_all (λ (r : ℕ × List ℕ). is_among numbers r.0) rows) all in
+    on (row.0 == id)
+    (λ same. absurd
+    (false≢true (sym unused ∙ ap (is_among numbers) (sym (eqb-true row.0 id same)) ∙ parts.0)))
+    (no_bytes_in numbers rows id unused parts.1)
   where
-    on : (t : Bool) → (t ≡ true → ⊥) → body_at rows id ≡ None → cond t (Some row.1) (body_at rows id) ≡ None
+    on : (t : Bool) → (t ≡ true → ⊥) → body_at rows id ≡ None
+        → cond t (Some row.1) (body_at rows id) ≡ None
     on true other rest = absurd (other refl)
     on false other rest = rest
 
-not_listed : (nodes : List Node) (id : ℕ) → find_id id nodes ≡ None → is_among (ids_of nodes) id ≡ false
+not_listed : (nodes : List Node) (id : ℕ) → find_id id nodes ≡ None
+    → is_among (ids_of nodes) id ≡ false
 not_listed [] id none = refl
 not_listed (x ∷ xs) id none = on (x.id == id) (not_listed xs id) none
   where
-    on : (t : Bool) → (find_id id xs ≡ None → is_among (ids_of xs) id ≡ false) → cond t (Some x) (find_id id xs) ≡ None → (t || is_among (ids_of xs) id) ≡ false
+    on : (t : Bool) → (find_id id xs ≡ None → is_among (ids_of xs) id ≡ false)
+        → cond t (Some x) (find_id id xs) ≡ None → (t || is_among (ids_of xs) id) ≡ false
     on true rest none = absurd (let wrong : ⊥ = cc in wrong)
     on false rest none = rest none
 
-no_bytes_unused : (rows : Rows) → AreRows rows → AreSound rows → (id : ℕ) → node_at rows.read id ≡ None → body_at rows.read.bodies id ≡ None
+no_bytes_unused : (rows : Rows) → AreRows rows → AreSound rows → (id : ℕ)
+    → node_at rows.read id ≡ None → body_at rows.read.bodies id ≡ None
 no_bytes_unused rows are sound id unused =
     no_bytes_in (numbers_of rows) rows.read.bodies id
-    (ap (λ l. is_among (put_numbers l (ids_of rows.read.nodes)) id) (none_unreadable rows (sound_parts rows sound).lists) ∙ not_listed rows.read.nodes id unused)
+    (ap (λ l. is_among (put_numbers l (ids_of rows.read.nodes)) id)
+    (none_unreadable rows (sound_parts rows sound).lists) ∙ not_listed rows.read.nodes id unused)
     are.bodies
 
 -- ---- the bytes of a new object
@@ -84,66 +109,126 @@ no_bytes_unused rows are sound id unused =
 abbrev pub bodies_then : ObjKind → ℕ → List ℕ → List (ℕ × List ℕ) → List (ℕ × List ℕ)
 bodies_then kind id bytes bodies = cond (is_document kind) (put_body id bytes bodies) bodies
 
-new_fits : (kind : ObjKind) (id : ℕ) (bytes : List ℕ) (content : Content) → body_at content.bodies id ≡ None → (is_document kind ≡ true → nat_le (length bytes) 1048576 ≡ true) → fits_kind kind (body_at (bodies_then kind id bytes content.bodies) id) ≡ true
-new_fits Document id bytes content none few = ap (fits_kind Document) (body_of-with_body content id bytes) ∙ few refl
+new_fits : (kind : ObjKind) (id : ℕ) (bytes : List ℕ) (content : Content)
+    → body_at content.bodies id ≡ None
+    → (is_document kind ≡ true → nat_le (length bytes) 1048576 ≡ true)
+    → fits_kind kind (body_at (bodies_then kind id bytes content.bodies) id) ≡ true
+new_fits Document id bytes content none few =
+    ap (fits_kind Document) (body_of-with_body content id bytes) ∙ few refl
 new_fits Folder id bytes content none few = ap (fits_kind Folder) none
 
-same_bytes : (kind : ObjKind) (id : ℕ) (bytes : List ℕ) (content : Content) (at : ℕ) → (at ≡ id → ⊥) → body_at (bodies_then kind id bytes content.bodies) at ≡ body_at content.bodies at
+same_bytes : (kind : ObjKind) (id : ℕ) (bytes : List ℕ) (content : Content) (at : ℕ) → (at ≡ id → ⊥)
+    → body_at (bodies_then kind id bytes content.bodies) at ≡ body_at content.bodies at
 same_bytes Document id bytes content at other = body_of-with_body-other content id bytes at other
 same_bytes Folder id bytes content at other = refl
 
 -- ---- what the rows mean then
 
-map_put : (content : Content) (new : Node) (nodes : List Node) → map (kept_node content) (put_node new nodes) ≡ put_node (kept_node content new) (map (kept_node content) nodes)
+map_put : (content : Content) (new : Node) (nodes : List Node)
+    → map (kept_node content) (put_node new nodes)
+    ≡ put_node (kept_node content new) (map (kept_node content) nodes)
 map_put content new [] = refl
 map_put content new (x ∷ xs) = on (nat_lt x.id new.id) (x.id == new.id) (map_put content new xs)
   where
-    on : (t u : Bool) → map (kept_node content) (put_node new xs) ≡ put_node (kept_node content new) (map (kept_node content) xs)
+    on : (t u : Bool) → map (kept_node content) (put_node new xs)
+        ≡ put_node (kept_node content new) (map (kept_node content) xs)
         → map (kept_node content) (cond t (x ∷ put_node new xs) (cond u (new ∷ xs) (new ∷ x ∷ xs)))
-        ≡ cond t (kept_node content x ∷ put_node (kept_node content new) (map (kept_node content) xs)) (cond u (kept_node content new ∷ map (kept_node content) xs) (kept_node content new ∷ kept_node content x ∷ map (kept_node content) xs))
+        ≡ cond t (kept_node content x ∷ put_node (kept_node content new)
+        (map (kept_node content) xs))
+        (cond u (kept_node content new ∷ map (kept_node content) xs)
+        (kept_node content new ∷ kept_node content x ∷ map (kept_node content) xs))
     on true u rest = ap (λ l. kept_node content x ∷ l) rest
     on false true rest = refl
     on false false rest = refl
 
 -- an object below a parent, or without one
 abbrev kept_under : Option Node → Node → Node
-kept_under above node = record node { dacl = kept_held (is_linked node.dacl (option_map (held_of Dacl) above)) node.dacl; sacl = kept_held (is_linked node.sacl (option_map (held_of Sacl) above)) node.sacl }
+kept_under above node =
+    record node {
+      dacl = kept_held
+          (is_linked node.dacl (option_map (held_of Dacl) above)) node.dacl;
+      sacl =
+          kept_held (is_linked node.sacl (option_map (held_of Sacl) above)) node.sacl;
+    }
 
-kept_new : (t : Bool) (kind : ObjKind) (parent : Held) → kept_held t (passed_held kind parent) ≡ record { flags = record { auto = parent.flags.auto; protect = false }; own = []; inh = cond t [] (pass kind (full_of parent)) }
+kept_new : (t : Bool) (kind : ObjKind) (parent : Held)
+    → kept_held t (passed_held kind parent)
+    ≡ record {
+      flags = record { auto = parent.flags.auto; protect = false };
+      own = [];
+      inh = cond t [] (pass kind (full_of parent));
+    }
 kept_new true kind parent = refl
 kept_new false kind parent = refl
 
-module _ (old : Rows) (are : AreRows old) (were : AreSound old) (caller : Caller) (kind : ObjKind) (folder : Node) (name bytes : List ℕ) (id : ℕ) (unused : node_at old.read id ≡ None)
-    (there : node_at old.read folder.id ≡ Some folder) (is_above : is_folder folder ≡ true) (free : child_of old.read folder.id name ≡ None) where
+module _ (old : Rows) (are : AreRows old) (were : AreSound old) (caller : Caller) (kind : ObjKind)
+    (folder : Node) (name bytes : List ℕ) (id : ℕ) (unused : node_at old.read id ≡ None)
+    (there : node_at old.read folder.id ≡ Some folder) (is_above : is_folder folder ≡ true)
+    (free : child_of old.read folder.id name ≡ None) where
   abbrev new : Node
   new = node_of id (new_child caller kind folder name bytes)
 
   -- the rows with the object and its bytes
   abbrev pub added : Content
-  added = record old.read { nodes = put_node new old.read.nodes; bodies = bodies_then kind id bytes old.read.bodies }
+  added =
+      record old.read {
+        nodes = put_node new old.read.nodes;
+        bodies = bodies_then kind id bytes old.read.bodies;
+      }
 
-  pub added_sound : is_object_name name ≡ true → (is_document kind ≡ true → nat_le (length bytes) 1048576 ≡ true) → AreSound (reading old added)
+  pub added_sound : is_object_name name ≡ true
+      → (is_document kind ≡ true → nat_le (length bytes) 1048576 ≡ true)
+      → AreSound (reading old added)
   added_sound named few =
-      sound_added old are were new folder (bodies_then kind id bytes old.read.bodies) unused there is_above refl free named
+      sound_added old are were new folder
+      (bodies_then kind id bytes old.read.bodies) unused there is_above refl free named
       (child_sound caller kind folder name bytes id is_above (lists_here old were folder there))
-      (or_right (not (is_linked new.dacl (Some folder.dacl))) _ (entries_themselves (pass kind (full_of folder.dacl))))
-      (or_right (not (is_linked new.sacl (Some folder.sacl))) _ (entries_themselves (pass kind (full_of folder.sacl))))
-      (λ n found. same_bytes kind id bytes old.read n.id (λ same. absurd (not_none n (sym unused ∙ ap (node_at old.read) (sym same) ∙ found))))
+      (or_right (not (is_linked new.dacl (Some folder.dacl))) _
+      (entries_themselves (pass kind (full_of folder.dacl))))
+      (or_right (not (is_linked new.sacl (Some folder.sacl))) _
+      (entries_themselves (pass kind (full_of folder.sacl))))
+      (λ n found. same_bytes kind id bytes old.read n.id
+      (λ same. absurd (not_none n (sym unused ∙ ap (node_at old.read) (sym same) ∙ found))))
       (new_fits kind id bytes old.read (no_bytes_unused old are were id unused) few)
 
   -- the object as the rows mean it
-  new_means : (q : List (List ℕ)) → kept_node added new ≡ new_node id caller kind (stored_site q folder) name
+  new_means : (q : List (List ℕ))
+      → kept_node added new ≡ new_node id caller kind (stored_site q folder) name
   new_means q =
-      ap (λ o. kept_under o new) (above_new old are were new folder (bodies_then kind id bytes old.read.bodies) unused there is_above refl free)
-      ∙ ap (λ h. record new { dacl = h; sacl = kept_held folder.sacl.flags.auto (passed_held kind folder.sacl) }) (kept_new folder.dacl.flags.auto kind folder.dacl)
-      ∙ ap (λ h. record new { dacl = (new_node id caller kind (stored_site q folder) name).dacl; sacl = h }) (kept_new folder.sacl.flags.auto kind folder.sacl)
+      ap (λ o. kept_under o new)
+      (above_new old are were new folder
+      (bodies_then kind id bytes old.read.bodies) unused there is_above refl free)
+      ∙ ap
+      (λ h. record new {
+        dacl = h;
+        sacl = kept_held folder.sacl.flags.auto
+            (passed_held kind folder.sacl);
+      }) (kept_new folder.dacl.flags.auto kind folder.dacl)
+      ∙ ap
+      (λ h. record new {
+        dacl = (new_node id caller kind (stored_site q folder) name).dacl;
+        sacl = h;
+      }) (kept_new folder.sacl.flags.auto kind folder.sacl)
 
   others_mean : map (kept_node added) old.read.nodes ≡ map (kept_node old.read) old.read.nodes
   others_mean = map_agree (kept_node added) (kept_node old.read) old.read.nodes
-      (each_there (λ n. kept_node added n ≡ kept_node old.read n) old.read.nodes (apart_rising 0 old.read.nodes are.numbers)
-      (λ n found. ap (λ o. kept_under o n) (above_old old are were new folder (bodies_then kind id bytes old.read.bodies) unused there is_above refl free n found)))
+      (each_there (λ n. kept_node added n ≡ kept_node old.read n) old.read.nodes
+      (apart_rising 0 old.read.nodes are.numbers)
+      (λ n found. ap (λ o. kept_under o n)
+      (above_old old are were new folder
+      (bodies_then kind id bytes old.read.bodies) unused there is_above refl free n found)))
 
-  pub added_means : (q : List (List ℕ)) → meaning added ≡ record (meaning old.read) { nodes = put_node (new_node id caller kind (stored_site q folder) name) (meaning old.read).nodes; bodies = bodies_then kind id bytes old.read.bodies }
+  pub added_means : (q : List (List ℕ))
+      → meaning added
+      ≡ record (meaning old.read) {
+        nodes = put_node
+            (new_node id caller kind (stored_site q folder) name) (meaning old.read).nodes;
+        bodies =
+            bodies_then kind id bytes old.read.bodies;
+      }
   added_means q =
-      ap (λ (nodes : List Node). record old.read { nodes = nodes; bodies = bodies_then kind id bytes old.read.bodies })
-      (map_put added new old.read.nodes ∙ ap (λ n. put_node n (map (kept_node added) old.read.nodes)) (new_means q) ∙ ap (λ l. put_node (new_node id caller kind (stored_site q folder) name) l) others_mean)
+      ap (λ (nodes : List Node).
+      record old.read { nodes = nodes; bodies = bodies_then kind id bytes old.read.bodies })
+      (map_put added new old.read.nodes
+      ∙ ap (λ n. put_node n (map (kept_node added) old.read.nodes)) (new_means q)
+      ∙ ap (λ l. put_node (new_node id caller kind (stored_site q folder) name) l) others_mean)

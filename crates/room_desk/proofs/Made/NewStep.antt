@@ -24,41 +24,96 @@ use Rattle.room_judge.specs.Stored.{stored_site}
 use Rattle.room_desk.proofs.Made.NewObject.{added, added_means, added_sound, bodies_then}
 use Rattle.room_desk.proofs.Sound.SoundParts.{sound_noted}
 
-new_rows : (content : Content) (id : ℕ) (kind : ObjKind) (new : NewNode) → new.kind ≡ kind → with_new content id new ≡ record content { nodes = put_node (node_of id new) content.nodes; bodies = bodies_then kind id new.bytes content.bodies }
-new_rows content id Document new is = ap (λ (k : ObjKind). cond (is_document k) (record content { nodes = put_node (node_of id new) content.nodes; bodies = bodies_then Document id new.bytes content.bodies }) (record content { nodes = put_node (node_of id new) content.nodes })) is
-new_rows content id Folder new is = ap (λ (k : ObjKind). cond (is_document k) (record content { nodes = put_node (node_of id new) content.nodes; bodies = bodies_then Document id new.bytes content.bodies }) (record content { nodes = put_node (node_of id new) content.nodes })) is
+new_rows : (content : Content) (id : ℕ) (kind : ObjKind) (new : NewNode) → new.kind ≡ kind
+    → with_new content id new
+    ≡ record content {
+      nodes = put_node (node_of id new) content.nodes;
+      bodies = bodies_then kind id new.bytes content.bodies;
+    }
+new_rows content id Document new is =
+    ap (λ (k : ObjKind). cond (is_document k)
+    (record content {
+      nodes = put_node (node_of id new) content.nodes;
+      bodies = bodies_then Document id new.bytes content.bodies;
+    })
+    (record content { nodes = put_node (node_of id new) content.nodes })) is
+new_rows content id Folder new is =
+    ap (λ (k : ObjKind). cond (is_document k)
+    (record content {
+      nodes = put_node (node_of id new) content.nodes;
+      bodies = bodies_then Document id new.bytes content.bodies;
+    })
+    (record content { nodes = put_node (node_of id new) content.nodes })) is
 
 none_mapped : (o : Option Node) (f : Node → Node) → o ≡ None → is_none (option_map f o) ≡ true
 none_mapped o f is = ap (λ p. is_none (option_map f p)) is
 
-module _ (old : Rows) (are : AreRows old) (were : AreSound old) (caller : Caller) (kind : ObjKind) (folder : Node) (name bytes : List ℕ)
-    (there : node_at old.read folder.id ≡ Some folder) (is_above : is_folder folder ≡ true) (absent : child_of old.read folder.id name ≡ None) where
+module _ (old : Rows) (are : AreRows old) (were : AreSound old) (caller : Caller) (kind : ObjKind)
+    (folder : Node) (name bytes : List ℕ)
+    (there : node_at old.read folder.id ≡ Some folder) (is_above : is_folder folder ≡ true)
+    (absent : child_of old.read folder.id name ≡ None) where
   -- The new number was free, and the rows mean what they meant, with the object and its bytes.
   pub record IsNew (records : List AuditRow) (q : List (List ℕ)) (new : Rows) : Type 0 where
     pub id : ℕ
     pub free : IsFree (meaning old.read) id
-    pub means : meaning new.read ≡ with_records (record (meaning old.read) { nodes = put_node (new_node id caller kind (stored_site q folder) name) (meaning old.read).nodes; bodies = bodies_then kind id bytes old.read.bodies }) records
+    pub means : meaning new.read
+        ≡ with_records
+        (record (meaning old.read) {
+          nodes = put_node
+              (new_node id caller kind (stored_site q folder) name) (meaning old.read).nodes;
+          bodies =
+              bodies_then kind id bytes old.read.bodies;
+        }) records
     pub sound : AreSound new
 
-  is_added : (records : List AuditRow) (q : List (List ℕ)) (id : ℕ) (new : Rows) → is_object_name name ≡ true → (is_document kind ≡ true → nat_le (length bytes) 1048576 ≡ true)
-      → IsAdded (new_child caller kind folder name bytes) (noted old records) id new → IsNew records q new
+  is_added : (records : List AuditRow) (q : List (List ℕ)) (id : ℕ) (new : Rows)
+      → is_object_name name ≡ true
+      → (is_document kind ≡ true → nat_le (length bytes) 1048576 ≡ true)
+      → IsAdded (new_child caller kind folder name bytes) (noted old records) id new
+      → IsNew records q new
   is_added records q id new named few adds =
-      let becomes : new ≡ noted (reading old (added old are were caller kind folder name bytes id adds.is_new there is_above absent)) records =
-      adds.becomes ∙ ap (λ (c : Content). reading (noted old records) c) (new_rows (noted old records).read id kind (new_child caller kind folder name bytes) refl) in
+      let becomes : new
+      ≡ noted
+      (reading old
+      (added old are were caller kind folder name bytes id adds.is_new there is_above absent))
+      records =
+      adds.becomes ∙ ap (λ (c : Content). reading (noted old records) c)
+      (new_rows (noted old records).read id kind (new_child caller kind folder name bytes) refl) in
       record {
         id = id;
         free = (
           adds.from_one,
-          ap is_none (node_at-with_each old.read (kept_node old.read) (keeps_places old.read (kept_node old.read) (λ n. record { number = refl; parent = refl; name = refl })) id)
+          ap is_none (node_at-with_each old.read (kept_node old.read)
+              (keeps_places old.read (kept_node old.read)
+              (λ n. record { number = refl; parent = refl; name = refl })) id)
               ∙ none_mapped (node_at old.read id) (kept_node old.read) adds.is_new,
         );
-        means = ap (λ (r : Rows). meaning r.read) becomes ∙ ap (λ (c : Content). with_records c records) (added_means old are were caller kind folder name bytes id adds.is_new there is_above absent q);
+        means =
+            ap (λ (r : Rows). meaning r.read) becomes
+            ∙ ap (λ (c : Content). with_records c records)
+            (added_means old are were caller kind folder name bytes id adds.is_new there is_above
+            absent q);
         sound = subst AreSound (sym becomes)
-            (sound_noted (reading old (added old are were caller kind folder name bytes id adds.is_new there is_above absent)) records (added_sound old are were caller kind folder name bytes id adds.is_new there is_above absent named few));
+            (sound_noted
+            (reading old
+            (added old are were caller kind folder name bytes id adds.is_new there is_above absent))
+            records
+            (added_sound old are were caller kind folder name bytes id adds.is_new there is_above
+            absent named few));
       }
 
-  pub made_new : (records : List AuditRow) (q : List (List ℕ)) (mid new : Rows) → mid ≡ noted old records → is_object_name name ≡ true → (is_document kind ≡ true → nat_le (length bytes) 1048576 ≡ true)
+  pub made_new : (records : List AuditRow) (q : List (List ℕ)) (mid new : Rows)
+      → mid ≡ noted old records → is_object_name name ≡ true
+      → (is_document kind ≡ true → nat_le (length bytes) 1048576 ≡ true)
       → IsMade (new_child caller kind folder name bytes) mid new → IsNew records q new
   made_new records q mid new notes named few made =
-      let here : IsMade (new_child caller kind folder name bytes) (noted old records) new = subst (λ (r : Rows). IsMade (new_child caller kind folder name bytes) r new) notes made in
-      is_added records q here.0 new named few (here.1 (record { parent = folder.id; parent_is = refl; folder = (folder, there, is_above); name_is_free = absent }))
+      let here : IsMade (new_child caller kind folder name bytes) (noted old records) new = subst
+      (λ (r : Rows). IsMade (new_child caller kind folder name bytes) r new) notes made in
+      is_added records q here.0 new named few
+      (here.1
+      (record {
+        parent = folder.id;
+        parent_is = refl;
+        folder = (folder, there, is_above);
+        name_is_free = absent;
+      }))

@@ -21,52 +21,90 @@ use Rattle.room_judge.proofs.Judging.{blames_first, judged_none, passes_first, p
 use Rattle.room_judge.proofs.Spots.{last_of}
 
 -- the last part of a path that was split
-pub name_of_parts : (path names : List (List ℕ)) (name : List ℕ) → path ≡ names ++ name ∷ [] → is_object_name name ≡ true → IsNameOf path name
+pub name_of_parts : (path names : List (List ℕ)) (name : List ℕ) → path ≡ names ++ name ∷ []
+    → is_object_name name ≡ true → IsNameOf path name
 name_of_parts path names name parts sound =
-    let size : length path ≡ length names + length (name ∷ []) = ap length parts ∙ length-append names (name ∷ []) in
-    record { some = omega arith; last = sym (ap last_name parts ∙ last_of names name); sound = sound }
+    let size : length path ≡ length names + length (name ∷ []) = ap length parts
+    ∙ length-append names (name ∷ []) in
+    record {
+      some = omega arith;
+      last = sym (ap last_name parts ∙ last_of names name);
+      sound = sound;
+    }
 
 -- a row that can't be read after the way
-pub spotted_blames : (asker : Asker) (path : List (List ℕ)) (spot : Spot) (old mid : Rows) (at : ℕ) → IsSpotted asker path old spot mid → IsUnreadable mid at → IsDamaged old at
-spotted_blames asker path spot old mid at spotted h = inl (inl (blames_first asker _ _ old mid at spotted.judged h))
+pub spotted_blames : (asker : Asker) (path : List (List ℕ)) (spot : Spot) (old mid : Rows) (at : ℕ)
+    → IsSpotted asker path old spot mid → IsUnreadable mid at → IsDamaged old at
+spotted_blames asker path spot old mid at spotted h =
+    inl (inl (blames_first asker _ _ old mid at spotted.judged h))
 
 module _ (asker : Asker) where
-  pub judged_unread : (items : List Item) (answer : Option Reply) (old mid : Rows) (at : ℕ) → IsJudged asker items old answer mid → IsUnreadable mid at → IsUnreadable old at
-  judged_unread items answer old mid at judged h = blames_first asker items answer old mid at judged h
+  pub judged_unread : (items : List Item) (answer : Option Reply) (old mid : Rows) (at : ℕ)
+      → IsJudged asker items old answer mid → IsUnreadable mid at → IsUnreadable old at
+  judged_unread items answer old mid at judged h =
+      blames_first asker items answer old mid at judged h
 
   -- a check passed, and what a refusal asks for isn't so
-  pub added_behind : (site : Site) (mask bits : List ℕ) (at : List (List ℕ)) (why : Reason) (holds : Bool) (node : NewNode) (old mid new : Rows) (answer : Option Reply) (reply : Reply) → mask ≡ bits → answer ≡ None → holds ≡ false
-      → IsJudged asker (Check site mask ∷ []) old answer mid → (reply ≡ Made) × IsMade node mid new → IsJudgedAndDone asker (Check site bits ∷ Refusal at why holds ∷ []) Made (IsMade node) old reply new
-  added_behind site mask bits at why holds node old mid new answer reply same passes isnt judged made = record {
-    answer = None;
-    mid = mid;
-    judged = passes_first asker (Check site bits ∷ []) (Refusal at why holds ∷ []) old mid mid None
-        (subst (λ (b : List ℕ). IsJudged asker (Check site b ∷ []) old None mid) same (subst (λ (o : Option Reply). IsJudged asker (Check site mask ∷ []) old o mid) passes judged))
-        (passes_on asker at why holds [] mid mid None isnt (judged_none asker mid mid refl));
-    ends = made;
-  }
+  pub added_behind : (site : Site) (mask bits : List ℕ) (at : List (List ℕ)) (why : Reason)
+      (holds : Bool) (node : NewNode) (old mid new : Rows) (answer : Option Reply) (reply : Reply)
+      → mask ≡ bits → answer ≡ None → holds ≡ false
+      → IsJudged asker (Check site mask ∷ []) old answer mid → (reply ≡ Made) × IsMade node mid new
+      → IsJudgedAndDone asker (Check site bits ∷ Refusal at why holds ∷ []) Made
+      (IsMade node) old reply new
+  added_behind site mask bits at why holds node old mid new answer reply same passes isnt judged
+      made =
+      record {
+        answer = None;
+        mid = mid;
+        judged =
+            passes_first asker (Check site bits ∷ []) (Refusal at why holds ∷ []) old mid mid None
+            (subst (λ (b : List ℕ). IsJudged asker (Check site b ∷ []) old None mid) same
+            (subst (λ (o : Option Reply). IsJudged asker (Check site mask ∷ []) old o mid) passes
+            judged))
+            (passes_on asker at why holds [] mid mid None isnt (judged_none asker mid mid refl));
+        ends = made;
+      }
 
   -- a document that is there passed, and gets the bytes if there aren't too many
-  pub put_behind : (site : Site) (mask : List ℕ) (path : List (List ℕ)) (id : ℕ) (bytes given : List ℕ) (old mid new : Rows) (answer : Option Reply) (reply : Reply) → mask ≡ write_data ∷ [] → answer ≡ None → given ≡ bytes
-      → IsJudged asker (no_folder site ∷ Check site mask ∷ []) old answer mid → IsPut path id given mid reply new → IsJudgedAndDone asker (no_folder site ∷ Check site (write_data ∷ []) ∷ not_over path (length bytes) ∷ []) Done (SetsBody id bytes) old reply new
+  pub put_behind : (site : Site) (mask : List ℕ) (path : List (List ℕ)) (id : ℕ)
+      (bytes given : List ℕ) (old mid new : Rows) (answer : Option Reply) (reply : Reply)
+      → mask ≡ write_data ∷ [] → answer ≡ None → given ≡ bytes
+      → IsJudged asker (no_folder site ∷ Check site mask ∷ []) old answer mid
+      → IsPut path id given mid reply new
+      → IsJudgedAndDone asker
+      (no_folder site ∷ Check site (write_data ∷ []) ∷ not_over path (length bytes) ∷ []) Done
+      (SetsBody id bytes) old reply new
   put_behind site mask path id bytes given old mid new answer reply same passes are judged put =
-      let first = subst (λ (b : List ℕ). IsJudged asker (no_folder site ∷ Check site b ∷ []) old None mid) same (subst (λ (o : Option Reply). IsJudged asker (no_folder site ∷ Check site mask ∷ []) old o mid) passes judged) in
+      let first = subst (λ (b : List ℕ). IsJudged asker
+      (no_folder site ∷ Check site b ∷ []) old None mid) same
+      (subst (λ (o : Option Reply). IsJudged asker
+      (no_folder site ∷ Check site mask ∷ []) old o mid) passes judged) in
       let done = subst (λ (b : List ℕ). IsPut path id b mid reply new) are put in
       on (nat_lt 1048576 (length bytes)) refl first done.replies done.becomes
     where
-      on : (t : Bool) → nat_lt 1048576 (length bytes) ≡ t → IsJudged asker (no_folder site ∷ Check site (write_data ∷ []) ∷ []) old None mid → reply ≡ cond t (Refused path TooLarge) Done → TakesBytes t id bytes mid new
-          → IsJudgedAndDone asker (no_folder site ∷ Check site (write_data ∷ []) ∷ not_over path (length bytes) ∷ []) Done (SetsBody id bytes) old reply new
+      on : (t : Bool) → nat_lt 1048576 (length bytes) ≡ t
+          → IsJudged asker (no_folder site ∷ Check site (write_data ∷ []) ∷ []) old None mid
+          → reply ≡ cond t (Refused path TooLarge) Done → TakesBytes t id bytes mid new
+          → IsJudgedAndDone asker
+          (no_folder site ∷ Check site (write_data ∷ []) ∷ not_over path (length bytes) ∷ []) Done
+          (SetsBody id bytes) old reply new
       on true many first replies takes = record {
         answer = Some (Refused path TooLarge);
         mid = mid;
-        judged = passes_first asker (no_folder site ∷ Check site (write_data ∷ []) ∷ []) (not_over path (length bytes) ∷ []) old mid mid (Some (Refused path TooLarge)) first
-            (refuses asker path TooLarge (nat_lt 1048576 (length bytes)) [] mid mid (Refused path TooLarge) refl many refl);
+        judged =
+            passes_first asker (no_folder site ∷ Check site (write_data ∷ []) ∷ [])
+            (not_over path (length bytes) ∷ []) old mid mid (Some (Refused path TooLarge)) first
+            (refuses asker path TooLarge (nat_lt 1048576 (length bytes)) [] mid mid
+            (Refused path TooLarge) refl many refl);
         ends = (replies, takes);
       }
       on false few first replies takes = record {
         answer = None;
         mid = mid;
-        judged = passes_first asker (no_folder site ∷ Check site (write_data ∷ []) ∷ []) (not_over path (length bytes) ∷ []) old mid mid None first
-            (passes_on asker path TooLarge (nat_lt 1048576 (length bytes)) [] mid mid None few (judged_none asker mid mid refl));
+        judged =
+            passes_first asker (no_folder site ∷ Check site (write_data ∷ []) ∷ [])
+            (not_over path (length bytes) ∷ []) old mid mid None first
+            (passes_on asker path TooLarge (nat_lt 1048576 (length bytes)) [] mid mid None few
+            (judged_none asker mid mid refl));
         ends = (replies, takes);
       }

@@ -27,43 +27,62 @@ use Rattle.room_desk.proofs.Made.Added.{after, stays, comes, each_after, all_aft
 use Rattle.room_desk.proofs.Sound.SoundParts.{sound_parts}
 
 -- each object that is found passes a test that all pass
-pub found_passes : (test : Node → Bool) (nodes : List Node) (id : ℕ) (node : Node) → list_all test nodes ≡ true → find_id id nodes ≡ Some node → test node ≡ true
-found_passes test nodes id node all found = each_found (λ n. test n ≡ true) id nodes node (each_all test nodes all) found
+pub found_passes : (test : Node → Bool) (nodes : List Node) (id : ℕ) (node : Node)
+    → list_all test nodes ≡ true → find_id id nodes ≡ Some node → test node ≡ true
+found_passes test nodes id node all found =
+    each_found (λ n. test n ≡ true) id nodes node (each_all test nodes all) found
 
 -- none is found, so each that is there fails the test
-none_passes : (test : Node → Bool) (nodes : List Node) → find test nodes ≡ None → Each (λ n. test n ≡ false) nodes
+none_passes : (test : Node → Bool) (nodes : List Node) → find test nodes ≡ None
+    → Each (λ n. test n ≡ false) nodes
 none_passes test [] none = tt
 none_passes test (x ∷ xs) none = on (test x) refl (none_passes test xs) none
   where
-    on : (t : Bool) → test x ≡ t → (find test xs ≡ None → Each (λ n. test n ≡ false) xs) → cond t (Some x) (find test xs) ≡ None → (test x ≡ false) × Each (λ n. test n ≡ false) xs
+    on : (t : Bool) → test x ≡ t → (find test xs ≡ None → Each (λ n. test n ≡ false) xs)
+        → cond t (Some x) (find test xs) ≡ None → (test x ≡ false) × Each (λ n. test n ≡ false) xs
     on true is rest none = absurd (let wrong : ⊥ = cc in wrong)
     on false is rest none = (is, rest none)
 
 -- ---- lists of all numbers
 
 abbrev bad_at : Content → List ℕ → ℕ → Bool
-bad_at content unreadable id = is_among unreadable id || option_map_or (λ node. not (has_sound_lists node)) (node_at content id) false
+bad_at content unreadable id =
+    is_among unreadable id
+    || option_map_or (λ node. not (has_sound_lists node)) (node_at content id) false
 
-lists_of : (content : Content) (unreadable : List ℕ) → unreadable ≡ [] → list_all (λ id. not (bad_at content unreadable id)) (put_numbers unreadable (ids_of content.nodes)) ≡ list_all (λ n. not (bad_at content [] n.id)) content.nodes
+lists_of : (content : Content) (unreadable : List ℕ) → unreadable ≡ []
+    → list_all (λ id. not (bad_at content unreadable id))
+    (put_numbers unreadable (ids_of content.nodes))
+    ≡ list_all (λ n. not (bad_at content [] n.id)) content.nodes
 lists_of content unreadable none =
-    ap (λ l. list_all (λ id. not (bad_at content l id)) (put_numbers l (ids_of content.nodes))) none ∙ list_all-map (λ id. not (bad_at content [] id)) (λ (n : Node). n.id) content.nodes
+    ap (λ l. list_all (λ id. not (bad_at content l id)) (put_numbers l (ids_of content.nodes))) none
+    ∙ list_all-map (λ id. not (bad_at content [] id)) (λ (n : Node). n.id) content.nodes
 
 not_not : (t : Bool) → not (not t) ≡ t
 not_not true = refl
 not_not false = refl
 
 -- where an object is found by its number, its lists are what counts
-bad_found : (content : Content) (node : Node) → node_at content node.id ≡ Some node → not (bad_at content [] node.id) ≡ has_sound_lists node
-bad_found content node found = ap (λ o. not (option_map_or (λ n. not (has_sound_lists n)) o false)) found ∙ not_not (has_sound_lists node)
+bad_found : (content : Content) (node : Node) → node_at content node.id ≡ Some node
+    → not (bad_at content [] node.id) ≡ has_sound_lists node
+bad_found content node found =
+    ap (λ o. not (option_map_or (λ n. not (has_sound_lists n)) o false)) found
+    ∙ not_not (has_sound_lists node)
 
 -- the lists of an object of sound rows
-pub lists_here : (rows : Rows) → AreSound rows → (node : Node) → node_at rows.read node.id ≡ Some node → has_sound_lists node ≡ true
+pub lists_here : (rows : Rows) → AreSound rows → (node : Node)
+    → node_at rows.read node.id ≡ Some node → has_sound_lists node ≡ true
 lists_here rows were node found =
     sym (bad_found rows.read node found)
-    ∙ found_passes (λ m. not (bad_at rows.read [] m.id)) rows.read.nodes node.id node (sym (lists_of rows.read rows.unreadable (none_unreadable rows (sound_parts rows were).lists)) ∙ (no_fault rows were).lists) found
+    ∙ found_passes (λ m. not (bad_at rows.read [] m.id)) rows.read.nodes node.id node
+    (sym (lists_of rows.read rows.unreadable (none_unreadable rows (sound_parts rows were).lists))
+    ∙ (no_fault rows were).lists) found
 
-module _ (old : Rows) (are : AreRows old) (were : AreSound old) (new folder : Node) (bodies : List (ℕ × List ℕ)) (unused : node_at old.read new.id ≡ None)
-    (there : node_at old.read folder.id ≡ Some folder) (is_above : is_folder folder ≡ true) (below : new.parent ≡ Some folder.id) (free : child_of old.read folder.id new.name ≡ None) where
+module _ (old : Rows) (are : AreRows old) (were : AreSound old) (new folder : Node)
+    (bodies : List (ℕ × List ℕ)) (unused : node_at old.read new.id ≡ None)
+    (there : node_at old.read folder.id ≡ Some folder) (is_above : is_folder folder ≡ true)
+    (below : new.parent ≡ Some folder.id)
+    (free : child_of old.read folder.id new.name ≡ None) where
   whole : HasNoFault old
   whole = no_fault old were
 
@@ -73,10 +92,16 @@ module _ (old : Rows) (are : AreRows old) (were : AreSound old) (new folder : No
   -- ---- its place
 
   pub above_new : parent_of (after old are new bodies unused) new ≡ Some folder
-  above_new = ap (λ o. Rattle.std.specs.Prelude.option_and_then (node_at (after old are new bodies unused)) o) below ∙ stays old are new bodies unused folder.id folder there
+  above_new =
+      ap (λ o. Rattle.std.specs.Prelude.option_and_then
+      (node_at (after old are new bodies unused)) o) below
+      ∙ stays old are new bodies unused folder.id folder there
 
-  pub above_old : (n : Node) → node_at old.read n.id ≡ Some n → parent_of (after old are new bodies unused) n ≡ parent_of old.read n
-  above_old n found = same_above old are new bodies unused n (found_passes (has_folder_above old.read) old.read.nodes n.id n whole.parents found)
+  pub above_old : (n : Node) → node_at old.read n.id ≡ Some n
+      → parent_of (after old are new bodies unused) n ≡ parent_of old.read n
+  above_old n found =
+      same_above old are new bodies unused n
+      (found_passes (has_folder_above old.read) old.read.nodes n.id n whole.parents found)
 
   new_root : is_root new ≡ false
   new_root = ap is_none below
@@ -84,23 +109,41 @@ module _ (old : Rows) (are : AreRows old) (were : AreSound old) (new folder : No
   roots : bad_root (filter is_root (after old are new bodies unused).nodes) ≡ None
   roots = ap bad_root (filter_put is_root new old.read.nodes unused new_root) ∙ whole.root
 
-  parents : list_all (has_folder_above (after old are new bodies unused)) (after old are new bodies unused).nodes ≡ true
+  parents : list_all (has_folder_above (after old are new bodies unused))
+      (after old are new bodies unused).nodes ≡ true
   parents = all_after old are new bodies unused (has_folder_above (after old are new bodies unused))
-      (λ n found. ap (λ o. is_root n || option_map_or is_folder o false) (above_old n found) ∙ found_passes (has_folder_above old.read) old.read.nodes n.id n whole.parents found)
+      (λ n found. ap (λ o. is_root n || option_map_or is_folder o false) (above_old n found)
+      ∙ found_passes (has_folder_above old.read) old.read.nodes n.id n whole.parents found)
       (or_right (is_root new) _ (ap (λ o. option_map_or is_folder o false) above_new ∙ is_above))
 
-  reach : list_all (reaches (after old are new bodies unused)) (after old are new bodies unused).nodes ≡ true
+  reach : list_all (reaches (after old are new bodies unused))
+      (after old are new bodies unused).nodes ≡ true
   reach = all_after old are new bodies unused (reaches (after old are new bodies unused))
-      (λ n found. ap (λ k. reaches_root k (after old are new bodies unused) n.parent) (length_put new old.read.nodes unused)
-      ∙ reaches_more (after old are new bodies unused) (length old.read.nodes) n.parent (reaches_still old are new bodies unused (length old.read.nodes) n.parent (found_passes (reaches old.read) old.read.nodes n.id n whole.reach found)))
-      (ap (λ k. reaches_root k (after old are new bodies unused) new.parent) (length_put new old.read.nodes unused) ∙ ap (λ p. reaches_root (suc (length old.read.nodes)) (after old are new bodies unused) p) below
-      ∙ ap (λ o. option_map_or (λ p. reaches_root (length old.read.nodes) (after old are new bodies unused) p.parent) o false) (stays old are new bodies unused folder.id folder there)
-      ∙ reaches_still old are new bodies unused (length old.read.nodes) folder.parent (found_passes (reaches old.read) old.read.nodes folder.id folder whole.reach there))
+      (λ n found. ap (λ k. reaches_root k (after old are new bodies unused) n.parent)
+      (length_put new old.read.nodes unused)
+      ∙ reaches_more (after old are new bodies unused) (length old.read.nodes) n.parent
+      (reaches_still old are new bodies unused (length old.read.nodes) n.parent
+      (found_passes (reaches old.read) old.read.nodes n.id n whole.reach found)))
+      (ap (λ k. reaches_root k (after old are new bodies unused) new.parent)
+      (length_put new old.read.nodes unused)
+      ∙ ap (λ p. reaches_root (suc (length old.read.nodes)) (after old are new bodies unused) p)
+      below
+      ∙ ap
+      (λ o. option_map_or (λ p. reaches_root (length old.read.nodes)
+      (after old are new bodies unused) p.parent) o false)
+      (stays old are new bodies unused folder.id folder there)
+      ∙ reaches_still old are new bodies unused (length old.read.nodes) folder.parent
+      (found_passes (reaches old.read) old.read.nodes folder.id folder whole.reach there))
 
   -- ---- its name
 
-  apart : (n : Node) → node_at old.read n.id ≡ Some n → (has_parent folder.id n && same_text n.name new.name) ≡ false
-  apart n found = each_found (λ m. (has_parent folder.id m && same_text m.name new.name) ≡ false) n.id old.read.nodes n (none_passes (λ m. has_parent folder.id m && same_text m.name new.name) old.read.nodes free) found
+  apart : (n : Node) → node_at old.read n.id ≡ Some n
+      → (has_parent folder.id n && same_text n.name new.name) ≡ false
+  apart n found =
+      each_found (λ m. (has_parent folder.id m && same_text m.name new.name) ≡ false) n.id
+      old.read.nodes n
+      (none_passes (λ m. has_parent folder.id m && same_text m.name new.name) old.read.nodes free)
+      found
 
   same_number : (a b : Option ℕ) (id : ℕ) → same_parent a b ≡ true → a ≡ Some id → b ≡ Some id
   same_number None None id same is = is
@@ -114,21 +157,28 @@ module _ (old : Rows) (are : AreRows old) (were : AreSound old) (new folder : No
   other_number (Some x) None id same is = absurd (false≢true same)
   other_number (Some x) (Some y) id same is = ap (λ i. Some i) (eqb-true x y same) ∙ is
 
-  not_placed : (n : Node) → node_at old.read n.id ≡ Some n → n.parent ≡ Some folder.id → n.name ≡ new.name → ⊥
+  not_placed : (n : Node) → node_at old.read n.id ≡ Some n → n.parent ≡ Some folder.id
+      → n.name ≡ new.name → ⊥
   not_placed n found parent named =
-      false≢true (sym (apart n found) ∙ and_from (has_parent folder.id n) (same_text n.name new.name) (has_its_parent folder.id n parent) ((bytes_eq-Decides n.name new.name).1 named))
+      false≢true (sym (apart n found) ∙ and_from (has_parent folder.id n)
+      (same_text n.name new.name) (has_its_parent folder.id n parent)
+      ((bytes_eq-Decides n.name new.name).1 named))
 
   placed_before : (n : Node) → node_at old.read n.id ≡ Some n → same_place n new ≡ false
   placed_before n found = elim (cases_Bool (same_place n new)) [
-    | inl same ↦ (let parts = and_parts (same_parent n.parent new.parent) (same_text n.name new.name) same in
-        absurd (not_placed n found (other_number n.parent new.parent folder.id parts.0 below) ((bytes_eq-Decides n.name new.name).0 parts.1)))
+    | inl same ↦
+        (let parts = and_parts (same_parent n.parent new.parent) (same_text n.name new.name) same in
+        absurd (not_placed n found (other_number n.parent new.parent folder.id parts.0 below)
+        ((bytes_eq-Decides n.name new.name).0 parts.1)))
     | inr isnt ↦ isnt
   ]
 
   placed_behind : (n : Node) → node_at old.read n.id ≡ Some n → same_place new n ≡ false
   placed_behind n found = elim (cases_Bool (same_place new n)) [
-    | inl same ↦ (let parts = and_parts (same_parent new.parent n.parent) (same_text new.name n.name) same in
-        absurd (not_placed n found (same_number new.parent n.parent folder.id parts.0 below) (sym ((bytes_eq-Decides new.name n.name).0 parts.1))))
+    | inl same ↦
+        (let parts = and_parts (same_parent new.parent n.parent) (same_text new.name n.name) same in
+        absurd (not_placed n found (same_number new.parent n.parent folder.id parts.0 below)
+        (sym ((bytes_eq-Decides new.name n.name).0 parts.1))))
     | inr isnt ↦ isnt
   ]
 
@@ -140,46 +190,79 @@ module _ (old : Rows) (are : AreRows old) (were : AreSound old) (new folder : No
   not_false true is = absurd (false≢true is)
   not_false false is = refl
 
-  name_stays : (n : Node) → node_at old.read n.id ≡ Some n → has_sound_name old.read n ≡ true → has_sound_name (after old are new bodies unused) n ≡ true
+  name_stays : (n : Node) → node_at old.read n.id ≡ Some n → has_sound_name old.read n ≡ true
+      → has_sound_name (after old are new bodies unused) n ≡ true
   name_stays n found is = on (is_root n) is
     where
-      on : (t : Bool) → (t || (is_object_name n.name && not (list_any (λ other. nat_lt other.id n.id && same_place other n) old.read.nodes))) ≡ true
-          → (t || (is_object_name n.name && not (list_any (λ other. nat_lt other.id n.id && same_place other n) (put_node new old.read.nodes)))) ≡ true
+      on : (t : Bool)
+          → (t
+          || (is_object_name n.name
+          && not (list_any (λ other. nat_lt other.id n.id && same_place other n) old.read.nodes)))
+          ≡ true
+          → (t
+          || (is_object_name n.name
+          && not (list_any (λ other. nat_lt other.id n.id && same_place other n)
+          (put_node new old.read.nodes)))) ≡ true
       on true is = refl
       on false is =
           let parts = and_parts (is_object_name n.name) _ is in
           and_from (is_object_name n.name) _ parts.0
-          (ap not (any_none (λ other. nat_lt other.id n.id && same_place other n) (put_node new old.read.nodes)
-          (each_put (λ other. (nat_lt other.id n.id && same_place other n) ≡ false) new old.read.nodes unused (each_fails (λ other. nat_lt other.id n.id && same_place other n) old.read.nodes (not_false _ parts.1))
+          (ap not (any_none (λ other. nat_lt other.id n.id && same_place other n)
+          (put_node new old.read.nodes)
+          (each_put (λ other. (nat_lt other.id n.id && same_place other n) ≡ false) new
+          old.read.nodes unused
+          (each_fails (λ other. nat_lt other.id n.id && same_place other n) old.read.nodes
+          (not_false _ parts.1))
           (both_false (nat_lt new.id n.id) (same_place new n) (placed_behind n found)))))
 
   module _ (named : is_object_name new.name ≡ true) where
     new_named : has_sound_name (after old are new bodies unused) new ≡ true
     new_named = or_right (is_root new) _ (and_from (is_object_name new.name) _ named
-        (ap not (any_none (λ other. nat_lt other.id new.id && same_place other new) (put_node new old.read.nodes)
-        (each_after old are new bodies unused (λ other. (nat_lt other.id new.id && same_place other new) ≡ false)
+        (ap not (any_none (λ other. nat_lt other.id new.id && same_place other new)
+        (put_node new old.read.nodes)
+        (each_after old are new bodies unused
+        (λ other. (nat_lt other.id new.id && same_place other new) ≡ false)
         (λ n found. both_false (nat_lt n.id new.id) (same_place n new) (placed_before n found))
         (ap (λ t. t && same_place new new) (le-ltb new.id new.id (omega arith)))))))
 
-    names : list_all (has_sound_name (after old are new bodies unused)) (after old are new bodies unused).nodes ≡ true
-    names = all_after old are new bodies unused (has_sound_name (after old are new bodies unused)) (λ n found. name_stays n found (found_passes (has_sound_name old.read) old.read.nodes n.id n whole.names found)) new_named
+    names : list_all (has_sound_name (after old are new bodies unused))
+        (after old are new bodies unused).nodes ≡ true
+    names =
+        all_after old are new bodies unused (has_sound_name (after old are new bodies unused))
+        (λ n found. name_stays n found
+        (found_passes (has_sound_name old.read) old.read.nodes n.id n whole.names found)) new_named
 
     -- ---- all
 
-    pub sound_added : has_sound_lists new ≡ true → agrees_with Dacl new folder ≡ true → agrees_with Sacl new folder ≡ true
-        → ((n : Node) → node_at old.read n.id ≡ Some n → body_at bodies n.id ≡ body_at old.read.bodies n.id) → fits_kind new.kind (body_at bodies new.id) ≡ true
+    pub sound_added : has_sound_lists new ≡ true → agrees_with Dacl new folder ≡ true
+        → agrees_with Sacl new folder ≡ true
+        → ((n : Node) → node_at old.read n.id ≡ Some n
+        → body_at bodies n.id ≡ body_at old.read.bodies n.id)
+        → fits_kind new.kind (body_at bodies new.id) ≡ true
         → AreSound (reading old (after old are new bodies unused))
-    sound_added valid dacl sacl bytes fits = sound (reading old (after old are new bodies unused)) (record {
-      lists = lists_of (after old are new bodies unused) old.unreadable none_bad
-          ∙ all_after old are new bodies unused (λ n. not (bad_at (after old are new bodies unused) [] n.id))
-          (λ n found. bad_found (after old are new bodies unused) n (stays old are new bodies unused n.id n found) ∙ lists_here old were n found)
-          (bad_found (after old are new bodies unused) new (comes old are new bodies unused) ∙ valid);
-      root = roots;
-      parents = parents;
-      reach = reach;
-      names = names;
-      bodies = all_after old are new bodies unused (has_sound_body (after old are new bodies unused)) (λ n found. ap (fits_kind n.kind) (bytes n found) ∙ found_passes (has_sound_body old.read) old.read.nodes n.id n whole.bodies found) fits;
-      law = all_after old are new bodies unused (keeps_law (after old are new bodies unused))
-          (λ n found. ap (λ o. option_map_or (agrees_with Dacl n) o true && option_map_or (agrees_with Sacl n) o true) (above_old n found) ∙ found_passes (keeps_law old.read) old.read.nodes n.id n whole.law found)
-          (ap (λ o. option_map_or (agrees_with Dacl new) o true && option_map_or (agrees_with Sacl new) o true) above_new ∙ and_from (agrees_with Dacl new folder) (agrees_with Sacl new folder) dacl sacl);
-    })
+    sound_added valid dacl sacl bytes fits =
+        sound (reading old (after old are new bodies unused)) (record {
+          lists = lists_of (after old are new bodies unused) old.unreadable none_bad
+              ∙ all_after old are new bodies unused
+              (λ n. not (bad_at (after old are new bodies unused) [] n.id))
+              (λ n found. bad_found (after old are new bodies unused) n
+              (stays old are new bodies unused n.id n found) ∙ lists_here old were n found)
+              (bad_found (after old are new bodies unused) new (comes old are new bodies unused)
+              ∙ valid);
+          root = roots;
+          parents = parents;
+          reach = reach;
+          names = names;
+          bodies =
+              all_after old are new bodies unused (has_sound_body (after old are new bodies unused))
+              (λ n found. ap (fits_kind n.kind) (bytes n found)
+              ∙ found_passes (has_sound_body old.read) old.read.nodes n.id n whole.bodies found)
+              fits;
+          law = all_after old are new bodies unused (keeps_law (after old are new bodies unused))
+              (λ n found. ap (λ o. option_map_or (agrees_with Dacl n) o true
+              && option_map_or (agrees_with Sacl n) o true) (above_old n found)
+              ∙ found_passes (keeps_law old.read) old.read.nodes n.id n whole.law found)
+              (ap (λ o. option_map_or (agrees_with Dacl new) o true
+              && option_map_or (agrees_with Sacl new) o true) above_new
+              ∙ and_from (agrees_with Dacl new folder) (agrees_with Sacl new folder) dacl sacl);
+        })

@@ -12,17 +12,29 @@ use Rattle.room_judge.specs.Stored.{stored_along, stored_from, stored_site}
 abbrev pub Stands : Content → Node → Type 0
 Stands rows node = node_at rows node.id ≡ Some node
 
-same_target : (p q : List (List ℕ)) (x y : Node) → Some (stored_site p x) ≡ Some (stored_site q y) → x ≡ y
-same_target p q x y same = let sites : stored_site p x ≡ stored_site q y = cc in ap (λ (s : Site). s.node) sites
+same_target : (p q : List (List ℕ)) (x y : Node) → Some (stored_site p x) ≡ Some (stored_site q y)
+    → x ≡ y
+same_target p q x y same = let sites : stored_site p x ≡ stored_site q y = cc in
+    ap (λ (s : Site). s.node) sites
 
 module _ (rows : Content) (rises : Rises rows) where
   -- along the names from an object
-  end_stands : (names p q : List (List ℕ)) (from target : Node) → Stands rows from → site_at (stored_from rows p from names) names ≡ Some (stored_site q target) → Stands rows target
-  end_stands [] p q from target there is = let same = same_target p q from target is in ap (λ (n : Node). node_at rows n.id) (sym same) ∙ there ∙ ap (λ n. Some n) same
-  end_stands (name ∷ names) p q from target there is = on (child_of rows from.id name) (λ child found rest. end_stands names (p ++ name ∷ []) q child target (child_of-is_there rows rises from.id name child found) rest) is
+  end_stands : (names p q : List (List ℕ)) (from target : Node) → Stands rows from
+      → site_at (stored_from rows p from names) names ≡ Some (stored_site q target)
+      → Stands rows target
+  end_stands [] p q from target there is = let same = same_target p q from target is in
+      ap (λ (n : Node). node_at rows n.id) (sym same) ∙ there ∙ ap (λ n. Some n) same
+  end_stands (name ∷ names) p q from target there is =
+      on (child_of rows from.id name)
+      (λ child found rest. end_stands names (p ++ name ∷ []) q child target
+      (child_of-is_there rows rises from.id name child found) rest) is
     where
-      on : (o : Option Node) → ((child : Node) → o ≡ Some child → site_at (stored_from rows (p ++ name ∷ []) child names) names ≡ Some (stored_site q target) → Stands rows target)
-          → site_at (option_map_or (λ child. stored_from rows (p ++ name ∷ []) child names) o []) names ≡ Some (stored_site q target) → Stands rows target
+      on : (o : Option Node)
+          → ((child : Node) → o ≡ Some child
+          → site_at (stored_from rows (p ++ name ∷ []) child names) names
+          ≡ Some (stored_site q target) → Stands rows target)
+          → site_at (option_map_or (λ child. stored_from rows (p ++ name ∷ []) child names) o [])
+          names ≡ Some (stored_site q target) → Stands rows target
       on None next is = absurd (let wrong : ⊥ = cc in wrong)
       on (Some child) next is = next child refl is
 
@@ -33,51 +45,95 @@ module _ (rows : Content) (rises : Rises rows) where
     pub at : site_at sites (front names) ≡ Some (stored_site path above)
     pub parent : parent_of rows target ≡ Some above
 
-  end_above : (name : List ℕ) (names p q : List (List ℕ)) (from target : Node) → Stands rows from → site_at (stored_from rows p from (name ∷ names)) (name ∷ names) ≡ Some (stored_site q target)
+  end_above : (name : List ℕ) (names p q : List (List ℕ)) (from target : Node) → Stands rows from
+      → site_at (stored_from rows p from (name ∷ names)) (name ∷ names)
+      ≡ Some (stored_site q target)
       → IsAbove (stored_from rows p from (name ∷ names)) (name ∷ names) target
-  end_above name [] p q from target there is = on (child_of rows from.id name) (λ child found. child_of-parent rows from.id name child found) is
+  end_above name [] p q from target there is =
+      on (child_of rows from.id name)
+      (λ child found. child_of-parent rows from.id name child found) is
     where
-      on : (o : Option Node) → ((child : Node) → o ≡ Some child → child.parent ≡ Some from.id) → site_at (option_map_or (λ child. stored_from rows (p ++ name ∷ []) child []) o []) [] ≡ Some (stored_site q target)
-          → IsAbove (stored_site p from ∷ option_map_or (λ child. stored_from rows (p ++ name ∷ []) child []) o []) (name ∷ []) target
+      on : (o : Option Node) → ((child : Node) → o ≡ Some child → child.parent ≡ Some from.id)
+          → site_at (option_map_or (λ child. stored_from rows (p ++ name ∷ []) child []) o []) []
+          ≡ Some (stored_site q target)
+          → IsAbove (stored_site p from ∷ option_map_or
+          (λ child. stored_from rows (p ++ name ∷ []) child []) o []) (name ∷ []) target
       on None known is = absurd (let wrong : ⊥ = cc in wrong)
       on (Some child) known is =
           let same = same_target (p ++ name ∷ []) q child target is in
-          record { above = from; path = p; at = refl; parent = ap (λ (n : Node). option_and_then (node_at rows) n.parent) (sym same) ∙ ap (option_and_then (node_at rows)) (known child refl) ∙ there }
+          record {
+            above = from;
+            path = p;
+            at = refl;
+            parent =
+                ap (λ (n : Node). option_and_then (node_at rows) n.parent) (sym same)
+                ∙ ap (option_and_then (node_at rows)) (known child refl) ∙ there;
+          }
   end_above name (next ∷ names) p q from target there is =
-      on (child_of rows from.id name) (λ child found rest. end_above next names (p ++ name ∷ []) q child target (child_of-is_there rows rises from.id name child found) rest) is
+      on (child_of rows from.id name)
+      (λ child found rest. end_above next names (p ++ name ∷ []) q child target
+      (child_of-is_there rows rises from.id name child found) rest) is
     where
       on : (o : Option Node)
-          → ((child : Node) → o ≡ Some child → site_at (stored_from rows (p ++ name ∷ []) child (next ∷ names)) (next ∷ names) ≡ Some (stored_site q target) → IsAbove (stored_from rows (p ++ name ∷ []) child (next ∷ names)) (next ∷ names) target)
-          → site_at (option_map_or (λ child. stored_from rows (p ++ name ∷ []) child (next ∷ names)) o []) (next ∷ names) ≡ Some (stored_site q target)
-          → IsAbove (stored_site p from ∷ option_map_or (λ child. stored_from rows (p ++ name ∷ []) child (next ∷ names)) o []) (name ∷ next ∷ names) target
+          → ((child : Node) → o ≡ Some child
+          → site_at (stored_from rows (p ++ name ∷ []) child (next ∷ names)) (next ∷ names)
+          ≡ Some (stored_site q target)
+          → IsAbove (stored_from rows (p ++ name ∷ []) child (next ∷ names)) (next ∷ names) target)
+          → site_at
+          (option_map_or (λ child. stored_from rows (p ++ name ∷ []) child (next ∷ names)) o [])
+          (next ∷ names) ≡ Some (stored_site q target)
+          → IsAbove (stored_site p from ∷ option_map_or
+          (λ child. stored_from rows (p ++ name ∷ []) child (next ∷ names)) o [])
+          (name ∷ next ∷ names) target
       on None known is = absurd (let wrong : ⊥ = cc in wrong)
-      on (Some child) known is = let up = known child refl is in record { above = up.above; path = up.path; at = up.at; parent = up.parent }
+      on (Some child) known is = let up = known child refl is in
+          record { above = up.above; path = up.path; at = up.at; parent = up.parent }
 
   -- along a path from the root
-  pub target_stands : (path q : List (List ℕ)) (target : Node) → site_at (stored_along rows path) path ≡ Some (stored_site q target) → Stands rows target
-  target_stands path q target is = on (root_of rows) (λ root found. root_of-is_there rows rises root found) is
+  pub target_stands : (path q : List (List ℕ)) (target : Node)
+      → site_at (stored_along rows path) path ≡ Some (stored_site q target) → Stands rows target
+  target_stands path q target is =
+      on (root_of rows) (λ root found. root_of-is_there rows rises root found) is
     where
-      on : (o : Option Node) → ((root : Node) → o ≡ Some root → Stands rows root) → site_at (option_map_or (λ root. stored_from rows [] root path) o []) path ≡ Some (stored_site q target) → Stands rows target
+      on : (o : Option Node) → ((root : Node) → o ≡ Some root → Stands rows root)
+          → site_at (option_map_or (λ root. stored_from rows [] root path) o []) path
+          ≡ Some (stored_site q target) → Stands rows target
       on None known is = absurd (let wrong : ⊥ = cc in wrong)
       on (Some root) known is = end_stands path [] q root target (known root refl) is
 
-  pub target_above : (name : List ℕ) (names q : List (List ℕ)) (target : Node) → site_at (stored_along rows (name ∷ names)) (name ∷ names) ≡ Some (stored_site q target) → IsAbove (stored_along rows (name ∷ names)) (name ∷ names) target
-  target_above name names q target is = on (root_of rows) (λ root found. root_of-is_there rows rises root found) is
+  pub target_above : (name : List ℕ) (names q : List (List ℕ)) (target : Node)
+      → site_at (stored_along rows (name ∷ names)) (name ∷ names) ≡ Some (stored_site q target)
+      → IsAbove (stored_along rows (name ∷ names)) (name ∷ names) target
+  target_above name names q target is =
+      on (root_of rows) (λ root found. root_of-is_there rows rises root found) is
     where
-      on : (o : Option Node) → ((root : Node) → o ≡ Some root → Stands rows root) → site_at (option_map_or (λ root. stored_from rows [] root (name ∷ names)) o []) (name ∷ names) ≡ Some (stored_site q target)
-          → IsAbove (option_map_or (λ root. stored_from rows [] root (name ∷ names)) o []) (name ∷ names) target
+      on : (o : Option Node) → ((root : Node) → o ≡ Some root → Stands rows root)
+          → site_at (option_map_or (λ root. stored_from rows [] root (name ∷ names)) o [])
+          (name ∷ names) ≡ Some (stored_site q target)
+          → IsAbove (option_map_or (λ root. stored_from rows [] root (name ∷ names)) o [])
+          (name ∷ names) target
       on None known is = absurd (let wrong : ⊥ = cc in wrong)
       on (Some root) known is = end_above name names [] q root target (known root refl) is
 
-  pub root_alone : (q : List (List ℕ)) (target : Node) → site_at (stored_along rows []) [] ≡ Some (stored_site q target) → parent_of rows target ≡ None
+  pub root_alone : (q : List (List ℕ)) (target : Node)
+      → site_at (stored_along rows []) [] ≡ Some (stored_site q target)
+      → parent_of rows target ≡ None
   root_alone q target is = on (root_of rows) (λ root found. root_of-parent rows root found) is
     where
-      on : (o : Option Node) → ((root : Node) → o ≡ Some root → root.parent ≡ None) → site_at (option_map_or (λ root. stored_from rows [] root []) o []) [] ≡ Some (stored_site q target) → parent_of rows target ≡ None
+      on : (o : Option Node) → ((root : Node) → o ≡ Some root → root.parent ≡ None)
+          → site_at (option_map_or (λ root. stored_from rows [] root []) o []) []
+          ≡ Some (stored_site q target) → parent_of rows target ≡ None
       on None known is = absurd (let wrong : ⊥ = cc in wrong)
-      on (Some root) known is = ap (λ (n : Node). option_and_then (node_at rows) n.parent) (sym (same_target [] q root target is)) ∙ ap (option_and_then (node_at rows)) (known root refl)
+      on (Some root) known is =
+          ap (λ (n : Node). option_and_then (node_at rows) n.parent)
+          (sym (same_target [] q root target is))
+          ∙ ap (option_and_then (node_at rows)) (known root refl)
 
   -- the folder of the last name is what is above
-  pub parent_paired : (path : List (List ℕ)) (folder : Site) (target : Node) → parent_at (stored_along rows path) path ≡ Some folder → site_at (stored_along rows path) path ≡ Some (stored_site path target) → parent_of rows target ≡ Some folder.node
+  pub parent_paired : (path : List (List ℕ)) (folder : Site) (target : Node)
+      → parent_at (stored_along rows path) path ≡ Some folder
+      → site_at (stored_along rows path) path ≡ Some (stored_site path target)
+      → parent_of rows target ≡ Some folder.node
   parent_paired [] folder target above is = absurd (let wrong : ⊥ = cc in wrong)
   parent_paired (name ∷ names) folder target above is =
       let up = target_above name names (name ∷ names) target is in

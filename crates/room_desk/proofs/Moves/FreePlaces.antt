@@ -23,38 +23,71 @@ module _ (to : List (List ℕ)) (is_below : Bool) (folder : Node) where
   abbrev items : Rows → List Item
   items rows = free_place rows.read to is_below folder
 
-  whole : (why : Reason) (reply : Reply) (names : List (List ℕ)) → names ≡ to → reply ≡ Refused (take (length names) to) why → reply ≡ Refused to why
-  whole why reply names are replies = replies ∙ ap (λ (l : List (List ℕ)). Refused (take (length l) to) why) are ∙ ap (λ (p : List (List ℕ)). Refused p why) (take-length to)
+  whole : (why : Reason) (reply : Reply) (names : List (List ℕ)) → names ≡ to
+      → reply ≡ Refused (take (length names) to) why → reply ≡ Refused to why
+  whole why reply names are replies =
+      replies ∙ ap (λ (l : List (List ℕ)). Refused (take (length l) to) why) are
+      ∙ ap (λ (p : List (List ℕ)). Refused p why) (take-length to)
 
-  taken_is : (depth : ℕ) (name : List ℕ) (old : Rows) (taken : Bool) → length to ≡ depth + 1 → name ≡ name_after to depth → IsTaken folder.id name old taken → is_some (child_of old.read folder.id (last_name to)) ≡ taken
-  taken_is depth name old taken deep named is = sym (is ∙ ap (λ (n : List ℕ). is_some (child_of old.read folder.id n)) (named ∙ name_is_last to depth deep))
+  taken_is : (depth : ℕ) (name : List ℕ) (old : Rows) (taken : Bool) → length to ≡ depth + 1
+      → name ≡ name_after to depth → IsTaken folder.id name old taken
+      → is_some (child_of old.read folder.id (last_name to)) ≡ taken
+  taken_is depth name old taken deep named is =
+      sym (is ∙ ap (λ (n : List ℕ). is_some (child_of old.read folder.id n))
+      (named ∙ name_is_last to depth deep))
 
-  pub exists_refused : (old new : Rows) (reply : Reply) (taken : Bool) (names : List (List ℕ)) (depth : ℕ) (name : List ℕ) → length to ≡ depth + 1 → name ≡ name_after to depth → IsTaken folder.id name old taken
-      → taken ≡ true → names ≡ to → reply ≡ Refused (take (length names) to) Exists → new ≡ old → JudgesAll items old (Some reply) new
+  pub exists_refused : (old new : Rows) (reply : Reply) (taken : Bool) (names : List (List ℕ))
+      (depth : ℕ) (name : List ℕ) → length to ≡ depth + 1 → name ≡ name_after to depth
+      → IsTaken folder.id name old taken
+      → taken ≡ true → names ≡ to → reply ≡ Refused (take (length names) to) Exists → new ≡ old
+      → JudgesAll items old (Some reply) new
   exists_refused old new reply taken names depth name deep named is holds are replies same asker =
-      refuses asker to Exists (is_some (child_of old.read folder.id (last_name to))) (Refusal to Loop is_below ∷ []) old new reply (whole Exists reply names are replies) (taken_is depth name old taken deep named is ∙ holds) same
+      refuses asker to Exists (is_some (child_of old.read folder.id (last_name to)))
+      (Refusal to Loop is_below ∷ []) old new reply (whole Exists reply names are replies)
+      (taken_is depth name old taken deep named is ∙ holds) same
 
   -- nothing has the name
-  free : (old new : Rows) (answer : Option Reply) (taken : Bool) (depth : ℕ) (name : List ℕ) → length to ≡ depth + 1 → name ≡ name_after to depth → IsTaken folder.id name old taken → taken ≡ false
-      → ((asker : Asker) → IsJudged asker (Refusal to Loop is_below ∷ []) old answer new) → JudgesAll items old answer new
+  free : (old new : Rows) (answer : Option Reply) (taken : Bool) (depth : ℕ) (name : List ℕ)
+      → length to ≡ depth + 1 → name ≡ name_after to depth → IsTaken folder.id name old taken
+      → taken ≡ false
+      → ((asker : Asker) → IsJudged asker (Refusal to Loop is_below ∷ []) old answer new)
+      → JudgesAll items old answer new
   free old new answer taken depth name deep named is absent judged asker =
-      passes_on asker to Exists (is_some (child_of old.read folder.id (last_name to))) (Refusal to Loop is_below ∷ []) old new answer (taken_is depth name old taken deep named is ∙ absent) (judged asker)
+      passes_on asker to Exists (is_some (child_of old.read folder.id (last_name to)))
+      (Refusal to Loop is_below ∷ []) old new answer
+      (taken_is depth name old taken deep named is ∙ absent) (judged asker)
 
-  pub loop_refused : (old new : Rows) (reply : Reply) (taken : Bool) (names : List (List ℕ)) (depth : ℕ) (name : List ℕ) → length to ≡ depth + 1 → name ≡ name_after to depth → IsTaken folder.id name old taken → taken ≡ false
-      → is_below ≡ true → names ≡ to → reply ≡ Refused (take (length names) to) Loop → new ≡ old → JudgesAll items old (Some reply) new
+  pub loop_refused : (old new : Rows) (reply : Reply) (taken : Bool) (names : List (List ℕ))
+      (depth : ℕ) (name : List ℕ) → length to ≡ depth + 1 → name ≡ name_after to depth
+      → IsTaken folder.id name old taken → taken ≡ false
+      → is_below ≡ true → names ≡ to → reply ≡ Refused (take (length names) to) Loop → new ≡ old
+      → JudgesAll items old (Some reply) new
   loop_refused old new reply taken names depth name deep named is absent below are replies same =
-      free old new (Some reply) taken depth name deep named is absent (λ asker. refuses asker to Loop is_below [] old new reply (whole Loop reply names are replies) below same)
+      free old new (Some reply) taken depth name deep named is absent
+      (λ asker. refuses asker to Loop is_below [] old new reply
+      (whole Loop reply names are replies) below same)
 
-  pub all_free : (old new : Rows) (taken : Bool) (depth : ℕ) (name : List ℕ) → length to ≡ depth + 1 → name ≡ name_after to depth → IsTaken folder.id name old taken → taken ≡ false
+  pub all_free : (old new : Rows) (taken : Bool) (depth : ℕ) (name : List ℕ) → length to ≡ depth + 1
+      → name ≡ name_after to depth → IsTaken folder.id name old taken → taken ≡ false
       → is_below ≡ false → new ≡ old → JudgesAll items old None new
   all_free old new taken depth name deep named is absent apart same =
-      free old new None taken depth name deep named is absent (λ asker. passes_on asker to Loop is_below [] old new None apart (judged_none asker old new same))
+      free old new None taken depth name deep named is absent
+      (λ asker. passes_on asker to Loop is_below [] old new None apart
+      (judged_none asker old new same))
 
   -- after items that passed
-  pub free_after : (asker : Asker) (first : List Item) (old mid new : Rows) (answer : Option Reply) → IsJudged asker first old None mid → JudgesAll items mid answer new → IsJudged asker (first ++ items old) old answer new
+  pub free_after : (asker : Asker) (first : List Item) (old mid new : Rows) (answer : Option Reply)
+      → IsJudged asker first old None mid → JudgesAll items mid answer new
+      → IsJudged asker (first ++ items old) old answer new
   free_after asker first old mid new answer judged free =
-      passes_first asker first (items old) old mid new answer judged (subst (λ list. IsJudged asker list mid answer new) (ap (λ (r : Rows). items r) judged.notes) (free asker))
+      passes_first asker first (items old) old mid new answer judged
+      (subst (λ list. IsJudged asker list mid answer new) (ap (λ (r : Rows). items r) judged.notes)
+      (free asker))
 
 -- the way to the new folder, compared with the object's path
-pub begun_as : (path to names others : List (List ℕ)) (depth : ℕ) (answer : Bool) → length to ≡ depth + 1 → names ≡ path → others ≡ take depth to → answer ≡ begins names others → begins path (front to) ≡ answer
-begun_as path to names others depth answer deep are is compared = sym (compared ∙ ap (λ l. begins l others) are ∙ ap (begins path) (is ∙ take_front to depth deep))
+pub begun_as : (path to names others : List (List ℕ)) (depth : ℕ) (answer : Bool)
+    → length to ≡ depth + 1 → names ≡ path → others ≡ take depth to → answer ≡ begins names others
+    → begins path (front to) ≡ answer
+begun_as path to names others depth answer deep are is compared =
+    sym (compared ∙ ap (λ l. begins l others) are
+    ∙ ap (begins path) (is ∙ take_front to depth deep))

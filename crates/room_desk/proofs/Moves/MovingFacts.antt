@@ -44,27 +44,44 @@ none_there None is = refl
 none_there (Some x) is = absurd (false≢true (sym is))
 
 -- the folder is one, the name is free there, and the folder isn't below the object
-pub record IsFree (rows : Content) (to : List (List ℕ)) (is_below : Bool) (folder : Node) : Type 0 where
+pub record IsFree (rows : Content) (to : List (List ℕ)) (is_below : Bool)
+    (folder : Node) : Type 0 where
   pub folder_is : is_folder folder ≡ true
   pub name_is_free : child_of rows folder.id (last_name to) ≡ None
   pub none_above : is_below ≡ false
 
-pub all_passed : (caller : Caller) (rows : Content) (to : List (List ℕ)) (is_below : Bool) (target from folder : Site) → None ≡ first_failure caller (at_place rows to is_below target from folder) → IsFree rows to is_below folder.node
+pub all_passed : (caller : Caller) (rows : Content) (to : List (List ℕ)) (is_below : Bool)
+    (target from folder : Site)
+    → None ≡ first_failure caller (at_place rows to is_below target from folder)
+    → IsFree rows to is_below folder.node
 all_passed caller rows to is_below target from folder none =
     let last : Option Reply = first_failure caller (Refusal to Loop is_below ∷ []) in
-    let fifth_rest : Option Reply = first_failure caller (free_place rows to is_below folder.node) in
-    let fourth_rest : Option Reply = or_else (failure caller (Check folder (right_to_add target.node ∷ []))) fifth_rest in
+    let fifth_rest : Option Reply = first_failure caller
+    (free_place rows to is_below folder.node) in
+    let fourth_rest : Option Reply = or_else
+    (failure caller (Check folder (right_to_add target.node ∷ []))) fifth_rest in
     let third_rest : Option Reply = or_else (failure caller (Deletion target from)) fourth_rest in
-    let second_rest : Option Reply = or_else (failure caller (Check folder (execute ∷ []))) third_rest in
-    let first = none_both (failure caller (Refusal folder.path NotFolder (not (is_folder folder.node)))) second_rest none in
+    let second_rest : Option Reply = or_else
+    (failure caller (Check folder (execute ∷ []))) third_rest in
+    let first = none_both
+    (failure caller (Refusal folder.path NotFolder (not (is_folder folder.node)))) second_rest
+    none in
     let second = none_both (failure caller (Check folder (execute ∷ []))) third_rest first.1 in
     let third = none_both (failure caller (Deletion target from)) fourth_rest second.1 in
-    let fourth = none_both (failure caller (Check folder (right_to_add target.node ∷ []))) fifth_rest third.1 in
-    let fifth = none_both (failure caller (Refusal to Exists (is_some (child_of rows folder.node.id (last_name to))))) last fourth.1 in
+    let fourth = none_both
+    (failure caller (Check folder (right_to_add target.node ∷ []))) fifth_rest third.1 in
+    let fifth = none_both
+    (failure caller (Refusal to Exists (is_some (child_of rows folder.node.id (last_name to)))))
+    last fourth.1 in
     let sixth = none_both (failure caller (Refusal to Loop is_below)) None fifth.1 in
     record {
-      folder_is = unnot (is_folder folder.node) (refused_not (not (is_folder folder.node)) (Refused folder.path NotFolder) first.0);
-      name_is_free = none_there (child_of rows folder.node.id (last_name to)) (refused_not (is_some (child_of rows folder.node.id (last_name to))) (Refused to Exists) fifth.0);
+      folder_is =
+          unnot (is_folder folder.node)
+          (refused_not (not (is_folder folder.node)) (Refused folder.path NotFolder) first.0);
+      name_is_free =
+          none_there (child_of rows folder.node.id (last_name to))
+          (refused_not (is_some (child_of rows folder.node.id (last_name to)))
+          (Refused to Exists) fifth.0);
       none_above = refused_not is_below (Refused to Loop) sixth.0;
     }
 
@@ -72,68 +89,131 @@ all_passed caller rows to is_below target from folder none =
 
 module _ (rows : Content) (rises : Rises rows) (t : ℕ) where
   -- from an object that isn't the other one up
-  one_up : (node : Node) (n : ℕ) → node_at rows node.id ≡ Some node → (node.id == t) ≡ false → goes_past n rows t node.parent ≡ true → goes_past (suc n) rows t (Some node.id) ≡ true
+  one_up : (node : Node) (n : ℕ) → node_at rows node.id ≡ Some node → (node.id == t) ≡ false
+      → goes_past n rows t node.parent ≡ true → goes_past (suc n) rows t (Some node.id) ≡ true
   one_up node n there isnt past =
-      and_from (not (node.id == t)) (option_map_or (λ (a : Node). goes_past n rows t a.parent) (node_at rows node.id) false) (ap not isnt) (ap (λ o. option_map_or (λ (a : Node). goes_past n rows t a.parent) o false) there ∙ past)
+      and_from (not (node.id == t))
+      (option_map_or (λ (a : Node). goes_past n rows t a.parent) (node_at rows node.id) false)
+      (ap not isnt)
+      (ap (λ o. option_map_or (λ (a : Node). goes_past n rows t a.parent) o false) there ∙ past)
 
-  past_from : (names path : List (List ℕ)) (node : Node) (n : ℕ) (site : Site) → goes_past n rows t node.parent ≡ true → node_at rows node.id ≡ Some node
-      → list_any (λ (s : Site). s.node.id == t) (stored_from rows path node names) ≡ false → site_at (stored_from rows path node names) names ≡ Some site → (k : ℕ) × (goes_past k rows t (Some site.node.id) ≡ true)
-  past_from [] path node n site past there none is =
-      (suc n, ap (λ (s : Site). goes_past (suc n) rows t (Some s.node.id)) (sym (same_some (stored_site path node) site is)) ∙ one_up node n there (or_parts (node.id == t) false none).0 past)
+  past_from : (names path : List (List ℕ)) (node : Node) (n : ℕ) (site : Site)
+      → goes_past n rows t node.parent ≡ true → node_at rows node.id ≡ Some node
+      → list_any (λ (s : Site). s.node.id == t) (stored_from rows path node names) ≡ false
+      → site_at (stored_from rows path node names) names ≡ Some site → (k : ℕ)
+      × (goes_past k rows t (Some site.node.id) ≡ true)
+  past_from [] path node n site past there none is = (
+    suc n,
+    ap (λ (s : Site). goes_past (suc n) rows t (Some s.node.id))
+        (sym (same_some (stored_site path node) site is))
+        ∙ one_up node n there (or_parts (node.id == t) false none).0 past,
+  )
   past_from (name ∷ names) path node n site past there none is =
-      let parts = or_parts (node.id == t) (list_any (λ (s : Site). s.node.id == t) (option_map_or (λ child. stored_from rows (path ++ name ∷ []) child names) (child_of rows node.id name) [])) none in
+      let parts = or_parts (node.id == t)
+      (list_any (λ (s : Site). s.node.id == t)
+      (option_map_or (λ child. stored_from rows (path ++ name ∷ []) child names)
+      (child_of rows node.id name) [])) none in
       let up : goes_past (suc n) rows t (Some node.id) ≡ true = one_up node n there parts.0 past in
       on (child_of rows node.id name)
-      (λ child found. past_from names (path ++ name ∷ []) child (suc n) site (ap (goes_past (suc n) rows t) (child_of-parent rows node.id name child found) ∙ up) (child_of-is_there rows rises node.id name child found))
+      (λ child found. past_from names (path ++ name ∷ []) child (suc n) site
+      (ap (goes_past (suc n) rows t) (child_of-parent rows node.id name child found) ∙ up)
+      (child_of-is_there rows rises node.id name child found))
       parts.1 is
     where
       on : (o : Option Node)
-          → ((child : Node) → o ≡ Some child → list_any (λ (s : Site). s.node.id == t) (stored_from rows (path ++ name ∷ []) child names) ≡ false → site_at (stored_from rows (path ++ name ∷ []) child names) names ≡ Some site → (k : ℕ) × (goes_past k rows t (Some site.node.id) ≡ true))
-          → list_any (λ (s : Site). s.node.id == t) (option_map_or (λ child. stored_from rows (path ++ name ∷ []) child names) o []) ≡ false → site_at (option_map_or (λ child. stored_from rows (path ++ name ∷ []) child names) o []) names ≡ Some site → (k : ℕ) × (goes_past k rows t (Some site.node.id) ≡ true)
+          → ((child : Node) → o ≡ Some child
+          → list_any (λ (s : Site). s.node.id == t)
+          (stored_from rows (path ++ name ∷ []) child names) ≡ false
+          → site_at (stored_from rows (path ++ name ∷ []) child names) names ≡ Some site → (k : ℕ)
+          × (goes_past k rows t (Some site.node.id) ≡ true))
+          → list_any (λ (s : Site). s.node.id == t)
+          (option_map_or (λ child. stored_from rows (path ++ name ∷ []) child names) o []) ≡ false
+          → site_at (option_map_or (λ child. stored_from rows (path ++ name ∷ []) child names) o [])
+          names ≡ Some site → (k : ℕ) × (goes_past k rows t (Some site.node.id) ≡ true)
       on None known none is = absurd (let wrong : ⊥ = cc in wrong)
       on (Some child) known none is = known child refl none is
 
-  pub past_along : (path : List (List ℕ)) (site : Site) → list_any (λ (s : Site). s.node.id == t) (stored_along rows path) ≡ false → site_at (stored_along rows path) path ≡ Some site → (k : ℕ) × (goes_past k rows t (Some site.node.id) ≡ true)
+  pub past_along : (path : List (List ℕ)) (site : Site)
+      → list_any (λ (s : Site). s.node.id == t) (stored_along rows path) ≡ false
+      → site_at (stored_along rows path) path ≡ Some site → (k : ℕ)
+      × (goes_past k rows t (Some site.node.id) ≡ true)
   past_along path site none is =
-      on (root_of rows) (λ root found. past_from path [] root 0 site (ap (goes_past 0 rows t) (root_of-parent rows root found)) (root_of-is_there rows rises root found)) none is
+      on (root_of rows) (λ root found. past_from path [] root 0 site
+      (ap (goes_past 0 rows t) (root_of-parent rows root found))
+      (root_of-is_there rows rises root found)) none is
     where
-      on : (o : Option Node) → ((root : Node) → o ≡ Some root → list_any (λ (s : Site). s.node.id == t) (stored_from rows [] root path) ≡ false → site_at (stored_from rows [] root path) path ≡ Some site → (k : ℕ) × (goes_past k rows t (Some site.node.id) ≡ true))
-          → list_any (λ (s : Site). s.node.id == t) (option_map_or (λ root. stored_from rows [] root path) o []) ≡ false → site_at (option_map_or (λ root. stored_from rows [] root path) o []) path ≡ Some site → (k : ℕ) × (goes_past k rows t (Some site.node.id) ≡ true)
+      on : (o : Option Node)
+          → ((root : Node) → o ≡ Some root
+          → list_any (λ (s : Site). s.node.id == t) (stored_from rows [] root path) ≡ false
+          → site_at (stored_from rows [] root path) path ≡ Some site → (k : ℕ)
+          × (goes_past k rows t (Some site.node.id) ≡ true))
+          → list_any (λ (s : Site). s.node.id == t)
+          (option_map_or (λ root. stored_from rows [] root path) o []) ≡ false
+          → site_at (option_map_or (λ root. stored_from rows [] root path) o []) path ≡ Some site
+          → (k : ℕ) × (goes_past k rows t (Some site.node.id) ≡ true)
       on None known none is = absurd (let wrong : ⊥ = cc in wrong)
       on (Some root) known none is = known root refl none is
 
 -- ---- the object has a parent
 
-pub below_parent : (rows : Content) (path : List (List ℕ)) (from target : Site) → 0 < length path → parent_at (stored_along rows path) path ≡ Some from → site_at (stored_along rows path) path ≡ Some target → target.node.parent ≡ Some from.node.id
+pub below_parent : (rows : Content) (path : List (List ℕ)) (from target : Site) → 0 < length path
+    → parent_at (stored_along rows path) path ≡ Some from
+    → site_at (stored_along rows path) path ≡ Some target → target.node.parent ≡ Some from.node.id
 below_parent rows path from target some above is =
-    on (child_of rows from.node.id (last_name path)) refl (sym (target_found rows path some ∙ ap (option_and_then (below_of rows (last_name path))) (sym (folder_found rows path some) ∙ above)) ∙ is)
+    on (child_of rows from.node.id (last_name path)) refl
+    (sym (target_found rows path some
+    ∙ ap (option_and_then (below_of rows (last_name path)))
+    (sym (folder_found rows path some) ∙ above)) ∙ is)
   where
-    on : (o : Option Node) → child_of rows from.node.id (last_name path) ≡ o → option_map (stored_site (from.path ++ last_name path ∷ [])) o ≡ Some target → target.node.parent ≡ Some from.node.id
+    on : (o : Option Node) → child_of rows from.node.id (last_name path) ≡ o
+        → option_map (stored_site (from.path ++ last_name path ∷ [])) o ≡ Some target
+        → target.node.parent ≡ Some from.node.id
     on None found same = absurd (let wrong : ⊥ = cc in wrong)
-    on (Some child) found same = ap (λ (s : Site). s.node.parent) (sym (same_some (stored_site (from.path ++ last_name path ∷ []) child) target same)) ∙ child_of-parent rows from.node.id (last_name path) child found
+    on (Some child) found same =
+        ap (λ (s : Site). s.node.parent)
+        (sym (same_some (stored_site (from.path ++ last_name path ∷ []) child) target same))
+        ∙ child_of-parent rows from.node.id (last_name path) child found
 
 -- ---- so it can be placed
 
-pub goable : (old : Rows) (records : List AuditRow) (path to : List (List ℕ)) (target folder : Node) → AreRows old
-    → site_at (stored_along old.read path) path ≡ Some (stored_site path target) → site_at (stored_along old.read (front to)) (front to) ≡ Some (stored_site (front to) folder)
-    → IsFree old.read to (begins path (front to)) folder → CanGo target folder (last_name to) (noted old records)
+pub goable : (old : Rows) (records : List AuditRow) (path to : List (List ℕ)) (target folder : Node)
+    → AreRows old
+    → site_at (stored_along old.read path) path ≡ Some (stored_site path target)
+    → site_at (stored_along old.read (front to)) (front to) ≡ Some (stored_site (front to) folder)
+    → IsFree old.read to (begins path (front to)) folder
+    → CanGo target folder (last_name to) (noted old records)
 goable old records path to target folder are found reached free =
-    let past = past_along (noted old records).read are.numbers target.id (front to) (stored_site (front to) folder)
-    (ap (list_any (λ (s : Site). s.node.id == target.id)) (along_noted old.read records (front to)) ∙ met_by_names old.read are.numbers path (front to) (stored_site path target) (along_there old.read are.numbers path (stored_site path target) found) found ∙ free.none_above)
+    let past = past_along (noted old records).read are.numbers target.id (front to)
+    (stored_site (front to) folder)
+    (ap (list_any (λ (s : Site). s.node.id == target.id)) (along_noted old.read records (front to))
+    ∙ met_by_names old.read are.numbers path (front to) (stored_site path target)
+    (along_there old.read are.numbers path (stored_site path target) found) found ∙ free.none_above)
     (ap (λ sites. site_at sites (front to)) (along_noted old.read records (front to)) ∙ reached) in
     record {
-      are = record { numbers = are.numbers; unreadable = are.unreadable; apart = are.apart; body_numbers = are.body_numbers; bodies = are.bodies; members = are.members };
+      are =
+          record {
+            numbers = are.numbers;
+            unreadable = are.unreadable;
+            apart = are.apart;
+            body_numbers = are.body_numbers;
+            bodies = are.bodies;
+            members = are.members;
+          };
       target_there = along_there old.read are.numbers path (stored_site path target) found;
-      folder_there = along_there old.read are.numbers (front to) (stored_site (front to) folder) reached;
+      folder_there =
+          along_there old.read are.numbers (front to) (stored_site (front to) folder) reached;
       folder_is = free.folder_is;
       is_free = free.name_is_free;
       steps = past.0;
       past = past.1;
     }
 
-pub placeable : (old : Rows) (records : List AuditRow) (path to : List (List ℕ)) (from : Site) (target folder : Node) → AreSound old → 0 < length path
-    → parent_at (stored_along old.read path) path ≡ Some from → site_at (stored_along old.read path) path ≡ Some (stored_site path target)
-    → is_object_name (last_name to) ≡ true → CanGo target folder (last_name to) (noted old records) → CanPlace target folder (last_name to) (noted old records)
+pub placeable : (old : Rows) (records : List AuditRow) (path to : List (List ℕ)) (from : Site)
+    (target folder : Node) → AreSound old → 0 < length path
+    → parent_at (stored_along old.read path) path ≡ Some from
+    → site_at (stored_along old.read path) path ≡ Some (stored_site path target)
+    → is_object_name (last_name to) ≡ true → CanGo target folder (last_name to) (noted old records)
+    → CanPlace target folder (last_name to) (noted old records)
 placeable old records path to from target folder sound some above found named can = record {
   are = can.are;
   sound = sound_noted old records sound;

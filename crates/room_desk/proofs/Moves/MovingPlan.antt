@@ -31,10 +31,14 @@ use Rattle.room_desk.proofs.Sound.SoundParts.{SoundParts}
 -- what is judged of an object that was found with its folder
 abbrev pub stored_items : Content → List (List ℕ) → Bool → Site → Site → List Item
 stored_items rows [] is_below target from = Deletion target from ∷ Refusal [] Exists true ∷ []
-stored_items rows (name ∷ names) is_below target from = to_stored rows (front (name ∷ names)) (at_place rows (name ∷ names) is_below target from)
+stored_items rows (name ∷ names) is_below target from =
+    to_stored rows (front (name ∷ names)) (at_place rows (name ∷ names) is_below target from)
 
 abbrev pub at_found : Content → List (List ℕ) → List (List ℕ) → Site → List Item
-at_found rows path to target = Refusal path Root (is_empty path) ∷ where_found (parent_at (stored_along rows path) path) (stored_items rows to (begins path (front to)) target)
+at_found rows path to target =
+    Refusal path Root (is_empty path)
+    ∷ where_found (parent_at (stored_along rows path) path)
+    (stored_items rows to (begins path (front to)) target)
 
 -- all that a move judges
 abbrev pub stored_move : Content → List (List ℕ) → List (List ℕ) → List Item
@@ -42,35 +46,57 @@ stored_move rows path to = to_stored rows path (at_found rows path to)
 
 -- ---- records don't matter
 
-from_noted : (content : Content) (records : List AuditRow) (names path : List (List ℕ)) (node : Node) → stored_from (with_records content records) path node names ≡ stored_from content path node names
+from_noted : (content : Content) (records : List AuditRow) (names path : List (List ℕ))
+    (node : Node) → stored_from (with_records content records) path node names
+    ≡ stored_from content path node names
 from_noted content records [] path node = refl
-from_noted content records (name ∷ names) path node = ap (λ sites. stored_site path node ∷ sites) (on (child_of content node.id name) (λ child. from_noted content records names (path ++ name ∷ []) child))
+from_noted content records (name ∷ names) path node =
+    ap (λ sites. stored_site path node ∷ sites)
+    (on (child_of content node.id name)
+    (λ child. from_noted content records names (path ++ name ∷ []) child))
   where
-    on : (o : Option Node) → ((child : Node) → stored_from (with_records content records) (path ++ name ∷ []) child names ≡ stored_from content (path ++ name ∷ []) child names)
-        → option_map_or (λ child. stored_from (with_records content records) (path ++ name ∷ []) child names) o [] ≡ option_map_or (λ child. stored_from content (path ++ name ∷ []) child names) o []
+    on : (o : Option Node)
+        → ((child : Node) → stored_from (with_records content records)
+        (path ++ name ∷ []) child names ≡ stored_from content (path ++ name ∷ []) child names)
+        → option_map_or (λ child. stored_from (with_records content records)
+        (path ++ name ∷ []) child names) o []
+        ≡ option_map_or (λ child. stored_from content (path ++ name ∷ []) child names) o []
     on None same = refl
     on (Some child) same = same child
 
-pub along_noted : (content : Content) (records : List AuditRow) (path : List (List ℕ)) → stored_along (with_records content records) path ≡ stored_along content path
-along_noted content records path = on (root_of content) (λ root. from_noted content records path [] root)
+pub along_noted : (content : Content) (records : List AuditRow) (path : List (List ℕ))
+    → stored_along (with_records content records) path ≡ stored_along content path
+along_noted content records path =
+    on (root_of content) (λ root. from_noted content records path [] root)
   where
-    on : (o : Option Node) → ((root : Node) → stored_from (with_records content records) [] root path ≡ stored_from content [] root path)
-        → option_map_or (λ root. stored_from (with_records content records) [] root path) o [] ≡ option_map_or (λ root. stored_from content [] root path) o []
+    on : (o : Option Node)
+        → ((root : Node) → stored_from (with_records content records) [] root path
+        ≡ stored_from content [] root path)
+        → option_map_or (λ root. stored_from (with_records content records) [] root path) o []
+        ≡ option_map_or (λ root. stored_from content [] root path) o []
     on None same = refl
     on (Some root) same = same root
 
-pub way_noted : (old : Rows) (records : List AuditRow) (to : List (List ℕ)) (is_below : Bool) (target from : Site)
-    → to_stored (noted old records).read (front to) (at_place (noted old records).read to is_below target from) ≡ to_stored old.read (front to) (at_place old.read to is_below target from)
+pub way_noted : (old : Rows) (records : List AuditRow) (to : List (List ℕ)) (is_below : Bool)
+    (target from : Site)
+    → to_stored (noted old records).read (front to)
+    (at_place (noted old records).read to is_below target from)
+    ≡ to_stored old.read (front to) (at_place old.read to is_below target from)
 way_noted old records to is_below target from =
-    ap (λ sites. way false sites (front to) ++ where_found (site_at sites (front to)) (at_place old.read to is_below target from)) (along_noted old.read records (front to))
+    ap (λ sites. way false sites (front to)
+    ++ where_found (site_at sites (front to)) (at_place old.read to is_below target from))
+    (along_noted old.read records (front to))
 
 -- ---- the plan
 
-parent_filled : (sites : List Site) (names : List (List ℕ)) → parent_at (map fill sites) names ≡ option_map fill (parent_at sites names)
+parent_filled : (sites : List Site) (names : List (List ℕ))
+    → parent_at (map fill sites) names ≡ option_map fill (parent_at sites names)
 parent_filled sites [] = refl
 parent_filled sites (name ∷ names) = site_filled sites (front (name ∷ names))
 
-found_filled : (o : Option Site) (items others : Site → List Item) → ((site : Site) → o ≡ Some site → items (fill site) ≡ map fill_item (others site)) → where_found (option_map fill o) items ≡ map fill_item (where_found o others)
+found_filled : (o : Option Site) (items others : Site → List Item)
+    → ((site : Site) → o ≡ Some site → items (fill site) ≡ map fill_item (others site))
+    → where_found (option_map fill o) items ≡ map fill_item (where_found o others)
 found_filled None items others same = refl
 found_filled (Some site) items others same = same site refl
 
@@ -78,16 +104,28 @@ module _ (old : Rows) (are : AreRows old) (parts : SoundParts old) where
   abbrev means : Content
   means = meaning old.read
 
-  filled_with : (path : List (List ℕ)) (items others : Site → List Item) → ((site : Site) → site_at (sites_along means path) path ≡ Some site → items (fill site) ≡ map fill_item (others site)) → to_stored old.read path items ≡ map fill_item (to_target means path others)
+  filled_with : (path : List (List ℕ)) (items others : Site → List Item)
+      → ((site : Site) → site_at (sites_along means path) path ≡ Some site
+      → items (fill site) ≡ map fill_item (others site))
+      → to_stored old.read path items ≡ map fill_item (to_target means path others)
   filled_with path items others same =
-      ap (λ sites. way false sites path ++ where_found (site_at sites path) items) (sym (sites_filled old are parts path))
-      ∙ ap (λ w. w ++ where_found (site_at (map fill (sites_along means path)) path) items) (way_filled false (sites_along means path) path)
-      ∙ ap (λ o. map fill_item (way false (sites_along means path) path) ++ where_found o items) (site_filled (sites_along means path) path)
-      ∙ ap (λ rest. map fill_item (way false (sites_along means path) path) ++ rest) (found_filled (site_at (sites_along means path) path) items others same)
-      ∙ sym (map-append fill_item (way false (sites_along means path) path) (where_found (site_at (sites_along means path) path) others))
+      ap (λ sites. way false sites path ++ where_found (site_at sites path) items)
+      (sym (sites_filled old are parts path))
+      ∙ ap (λ w. w ++ where_found (site_at (map fill (sites_along means path)) path) items)
+      (way_filled false (sites_along means path) path)
+      ∙ ap (λ o. map fill_item (way false (sites_along means path) path) ++ where_found o items)
+      (site_filled (sites_along means path) path)
+      ∙ ap (λ rest. map fill_item (way false (sites_along means path) path) ++ rest)
+      (found_filled (site_at (sites_along means path) path) items others same)
+      ∙ sym (map-append fill_item (way false (sites_along means path) path)
+      (where_found (site_at (sites_along means path) path) others))
 
-  child_kept : (id : ℕ) (name : List ℕ) → is_some (child_of old.read id name) ≡ is_some (child_of means id name)
-  child_kept id name = sym (ap is_some (child_of-with_each old.read kept (keeps_places old.read kept (λ n. record { number = refl; parent = refl; name = refl })) id name) ∙ on (child_of old.read id name))
+  child_kept : (id : ℕ) (name : List ℕ)
+      → is_some (child_of old.read id name) ≡ is_some (child_of means id name)
+  child_kept id name =
+      sym (ap is_some (child_of-with_each old.read kept
+      (keeps_places old.read kept (λ n. record { number = refl; parent = refl; name = refl })) id
+      name) ∙ on (child_of old.read id name))
     where
       kept : Node → Node
       kept node = kept_node old.read node
@@ -97,40 +135,77 @@ module _ (old : Rows) (are : AreRows old) (parts : SoundParts old) where
       on (Some child) = refl
 
   -- the way to the new folder meets the object exactly if it begins with its path
-  met_kept : (path others : List (List ℕ)) (target : Site) → site_at (sites_along means path) path ≡ Some target → begins path others ≡ list_any (λ (site : Site). site.node.id == target.node.id) (sites_along means others)
+  met_kept : (path others : List (List ℕ)) (target : Site)
+      → site_at (sites_along means path) path ≡ Some target
+      → begins path others
+      ≡ list_any (λ (site : Site). site.node.id == target.node.id) (sites_along means others)
   met_kept path others target found =
-      let stored : site_at (stored_along old.read path) path ≡ Some (fill target) = ap (λ sites. site_at sites path) (sym (sites_filled old are parts path)) ∙ site_filled (sites_along means path) path ∙ ap (option_map fill) found in
-      sym (met_by_names old.read are.numbers path others (fill target) (along_there old.read are.numbers path (fill target) stored) stored)
-      ∙ ap (list_any (λ (site : Site). site.node.id == target.node.id)) (sym (sites_filled old are parts others))
+      let stored : site_at (stored_along old.read path) path ≡ Some (fill target) = ap
+      (λ sites. site_at sites path) (sym (sites_filled old are parts path))
+      ∙ site_filled (sites_along means path) path ∙ ap (option_map fill) found in
+      sym (met_by_names old.read are.numbers path others (fill target)
+      (along_there old.read are.numbers path (fill target) stored) stored)
+      ∙ ap (list_any (λ (site : Site). site.node.id == target.node.id))
+      (sym (sites_filled old are parts others))
       ∙ any_map (λ (site : Site). site.node.id == target.node.id) fill (sites_along means others)
 
   abbrev planned_place : List (List ℕ) → Site → Site → Site → List Item
   planned_place to target from folder =
-      (through folder ++ leaving target from folder) ++ Refusal to Exists (is_some (child_of means folder.node.id (last_name to))) ∷ Refusal to Loop (list_any (λ (site : Site). site.node.id == target.node.id) (sites_along means (front to))) ∷ []
+      (through folder ++ leaving target from folder)
+      ++ Refusal to Exists (is_some (child_of means folder.node.id (last_name to)))
+      ∷ Refusal to Loop (list_any (λ (site : Site). site.node.id == target.node.id)
+      (sites_along means (front to))) ∷ []
 
-  place_filled : (to : List (List ℕ)) (is_below : Bool) (target from folder : Site) → is_below ≡ list_any (λ (site : Site). site.node.id == target.node.id) (sites_along means (front to))
-      → at_place old.read to is_below (fill target) (fill from) (fill folder) ≡ map fill_item (planned_place to target from folder)
+  place_filled : (to : List (List ℕ)) (is_below : Bool) (target from folder : Site)
+      → is_below ≡ list_any (λ (site : Site). site.node.id == target.node.id)
+      (sites_along means (front to))
+      → at_place old.read to is_below (fill target) (fill from) (fill folder)
+      ≡ map fill_item (planned_place to target from folder)
   place_filled to is_below target from folder below =
-      ap (λ t. (through (fill folder) ++ leaving (fill target) (fill from) (fill folder)) ++ Refusal to Exists t ∷ Refusal to Loop is_below ∷ []) (child_kept folder.node.id (last_name to))
-      ∙ ap (λ t. (through (fill folder) ++ leaving (fill target) (fill from) (fill folder)) ++ Refusal to Exists (is_some (child_of means folder.node.id (last_name to))) ∷ Refusal to Loop t ∷ []) below
+      ap (λ t. (through (fill folder) ++ leaving (fill target) (fill from) (fill folder))
+      ++ Refusal to Exists t ∷ Refusal to Loop is_below ∷ [])
+      (child_kept folder.node.id (last_name to))
+      ∙ ap (λ t. (through (fill folder) ++ leaving (fill target) (fill from) (fill folder))
+      ++ Refusal to Exists (is_some (child_of means folder.node.id (last_name to)))
+      ∷ Refusal to Loop t ∷ []) below
 
-  items_filled : (to : List (List ℕ)) (is_below : Bool) (target from : Site) → is_below ≡ list_any (λ (site : Site). site.node.id == target.node.id) (sites_along means (front to))
-      → stored_items old.read to is_below (fill target) (fill from) ≡ map fill_item (move_items means to target from)
+  items_filled : (to : List (List ℕ)) (is_below : Bool) (target from : Site)
+      → is_below ≡ list_any (λ (site : Site). site.node.id == target.node.id)
+      (sites_along means (front to))
+      → stored_items old.read to is_below (fill target) (fill from)
+      ≡ map fill_item (move_items means to target from)
   items_filled [] is_below target from below = refl
   items_filled (name ∷ names) is_below target from below =
-      filled_with (front (name ∷ names)) (at_place old.read (name ∷ names) is_below (fill target) (fill from)) (planned_place (name ∷ names) target from) (λ folder found. place_filled (name ∷ names) is_below target from folder below)
+      filled_with (front (name ∷ names))
+      (at_place old.read (name ∷ names) is_below (fill target) (fill from))
+      (planned_place (name ∷ names) target from)
+      (λ folder found. place_filled (name ∷ names) is_below target from folder below)
 
-  found_here : (path to : List (List ℕ)) (target : Site) → site_at (sites_along means path) path ≡ Some target
-      → at_found old.read path to (fill target) ≡ map fill_item (Refusal path Root (is_empty path) ∷ where_found (parent_at (sites_along means path) path) (move_items means to target))
+  found_here : (path to : List (List ℕ)) (target : Site)
+      → site_at (sites_along means path) path ≡ Some target
+      → at_found old.read path to (fill target)
+      ≡ map fill_item (Refusal path Root (is_empty path)
+      ∷ where_found (parent_at (sites_along means path) path) (move_items means to target))
   found_here path to target found =
       ap (λ items. Refusal path Root (is_empty path) ∷ items)
-      (ap (λ sites. where_found (parent_at sites path) (stored_items old.read to (begins path (front to)) (fill target))) (sym (sites_filled old are parts path))
-      ∙ ap (λ o. where_found o (stored_items old.read to (begins path (front to)) (fill target))) (parent_filled (sites_along means path) path)
-      ∙ found_filled (parent_at (sites_along means path) path) (stored_items old.read to (begins path (front to)) (fill target)) (move_items means to target) (λ from known. items_filled to (begins path (front to)) target from (met_kept path (front to) target found)))
+      (ap (λ sites. where_found (parent_at sites path)
+      (stored_items old.read to (begins path (front to)) (fill target)))
+      (sym (sites_filled old are parts path))
+      ∙ ap (λ o. where_found o (stored_items old.read to (begins path (front to)) (fill target)))
+      (parent_filled (sites_along means path) path)
+      ∙ found_filled (parent_at (sites_along means path) path)
+      (stored_items old.read to (begins path (front to)) (fill target)) (move_items means to target)
+      (λ from known. items_filled to (begins path (front to)) target from
+      (met_kept path (front to) target found)))
 
-  pub move_judged : (asker : Asker) (path to : List (List ℕ)) (new : Rows) (answer : Option Reply) → IsJudged asker (stored_move old.read path to) old answer new → IsJudged asker (plan_of means (Move path to)) old answer new
+  pub move_judged : (asker : Asker) (path to : List (List ℕ)) (new : Rows) (answer : Option Reply)
+      → IsJudged asker (stored_move old.read path to) old answer new
+      → IsJudged asker (plan_of means (Move path to)) old answer new
   move_judged asker path to new answer judged =
       judged_filled asker (plan_of means (Move path to)) old new answer
       (subst (λ items. IsJudged asker items old answer new)
-      (filled_with path (at_found old.read path to) (λ target. Refusal path Root (is_empty path) ∷ where_found (parent_at (sites_along means path) path) (move_items means to target)) (found_here path to))
+      (filled_with path (at_found old.read path to)
+      (λ target. Refusal path Root (is_empty path)
+      ∷ where_found (parent_at (sites_along means path) path) (move_items means to target))
+      (found_here path to))
       judged)

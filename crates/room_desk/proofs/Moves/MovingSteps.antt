@@ -41,35 +41,52 @@ use Rattle.room_desk.proofs.Steps.Stepping.{changed_step, refused_step}
 -- ---- at the root, and where the way ends
 
 module _ (asker : Asker) (path to : List (List ℕ)) where
-  pub root_stays : (old new : Rows) (reply : Reply) → AreRows old → path ≡ [] → reply ≡ Refused (take 0 path) Root → new ≡ old → CarriesOut asker (Move path to) old reply new
+  pub root_stays : (old new : Rows) (reply : Reply) → AreRows old → path ≡ []
+      → reply ≡ Refused (take 0 path) Root → new ≡ old
+      → CarriesOut asker (Move path to) old reply new
   root_stays old new reply are is replies same known sound =
       refused_step asker (Move path to) old known sound new reply
-      (move_judged old are (sound_parts old sound) asker path to new (Some reply) (subst (λ p. IsJudged asker (stored_move old.read p to) old (Some reply) new) (sym is) judged))
+      (move_judged old are (sound_parts old sound) asker path to new (Some reply)
+      (subst (λ p. IsJudged asker (stored_move old.read p to) old (Some reply) new)
+      (sym is) judged))
     where
       root : (node : Node) × (root_of old.read ≡ Some node)
       root = root_there old.read.nodes (sound_parts old sound).root
 
       judged : IsJudged asker (stored_move old.read [] to) old (Some reply) new
       judged =
-          subst (λ o. IsJudged asker (way false (option_map_or (λ r. stored_from old.read [] r []) o []) [] ++ where_found (site_at (option_map_or (λ r. stored_from old.read [] r []) o []) []) (at_found old.read [] to)) old (Some reply) new) (sym root.1)
-          (refuses asker [] Root true [] old new reply (replies ∙ ap (λ p. Refused (take 0 p) Root) is) refl same)
+          subst
+          (λ o. IsJudged asker
+          (way false (option_map_or (λ r. stored_from old.read [] r []) o []) []
+          ++ where_found (site_at (option_map_or (λ r. stored_from old.read [] r []) o []) [])
+          (at_found old.read [] to)) old (Some reply) new) (sym root.1)
+          (refuses asker [] Root true [] old new reply
+          (replies ∙ ap (λ p. Refused (take 0 p) Root) is) refl same)
 
-  pub way_halted : (old new : Rows) (reply : Reply) → AreRows old → IsPaired asker path old (Halted reply) new → CarriesOut asker (Move path to) old reply new
+  pub way_halted : (old new : Rows) (reply : Reply) → AreRows old
+      → IsPaired asker path old (Halted reply) new → CarriesOut asker (Move path to) old reply new
   way_halted old new reply are paired known sound =
       refused_step asker (Move path to) old known sound new reply
-      (move_judged old are (sound_parts old sound) asker path to new (Some reply) (fails_first asker (way false (stored_along old.read path) path) (where_found (site_at (stored_along old.read path) path) (at_found old.read path to)) old new reply paired.judged))
+      (move_judged old are (sound_parts old sound) asker path to new (Some reply)
+      (fails_first asker (way false (stored_along old.read path) path)
+      (where_found (site_at (stored_along old.read path) path) (at_found old.read path to)) old new
+      reply paired.judged))
 
 -- ---- once the object was found
 
-some_name : (sites : List Site) (path : List (List ℕ)) (site : Site) → parent_at sites path ≡ Some site → 0 < length path
+some_name : (sites : List Site) (path : List (List ℕ)) (site : Site)
+    → parent_at sites path ≡ Some site → 0 < length path
 some_name sites [] site is = absurd (let wrong : ⊥ = cc in wrong)
 some_name sites (name ∷ names) site is = omega arith
 
-items_there : (rows : Content) (to : List (List ℕ)) (is_below : Bool) (target from : Site) → 0 < length to → stored_items rows to is_below target from ≡ to_stored rows (front to) (at_place rows to is_below target from)
+items_there : (rows : Content) (to : List (List ℕ)) (is_below : Bool) (target from : Site)
+    → 0 < length to → stored_items rows to is_below target from
+    ≡ to_stored rows (front to) (at_place rows to is_below target from)
 items_there rows [] is_below target from some = absurd (let wrong : ⊥ = omega arith in wrong)
 items_there rows (name ∷ names) is_below target from some = refl
 
-module _ (asker : Asker) (path to : List (List ℕ)) (from target : Found) (old mid : Rows) (are : AreRows old) (paired : IsPaired asker path old (Both from target) mid) where
+module _ (asker : Asker) (path to : List (List ℕ)) (from target : Found) (old mid : Rows)
+    (are : AreRows old) (paired : IsPaired asker path old (Both from target) mid) where
   abbrev target_site : Site
   target_site = found_site path target
 
@@ -100,52 +117,100 @@ module _ (asker : Asker) (path to : List (List ℕ)) (from target : Found) (old 
       on [] some = absurd (let wrong : ⊥ = omega arith in wrong)
       on (name ∷ names) some = refl
 
-  with_items : (new : Rows) (answer : Option Reply) → IsJudged asker (stored_items old.read to is_below target_site from_site) mid answer new → IsJudged asker (stored_move old.read path to) old answer new
+  with_items : (new : Rows) (answer : Option Reply)
+      → IsJudged asker (stored_items old.read to is_below target_site from_site) mid answer new
+      → IsJudged asker (stored_move old.read path to) old answer new
   with_items new answer judged =
-      passes_first asker (way false (stored_along old.read path) path) (where_found (site_at (stored_along old.read path) path) (at_found old.read path to)) old mid new answer paired.judged
-      (subst (λ o. IsJudged asker (where_found o (at_found old.read path to)) mid answer new) (sym target_is)
-      (passes_on asker path Root (is_empty path) (where_found (parent_at (stored_along old.read path) path) (stored_items old.read to is_below target_site)) mid new answer not_root
-      (subst (λ o. IsJudged asker (where_found o (stored_items old.read to is_below target_site)) mid answer new) (sym paired.folder) judged)))
+      passes_first asker (way false (stored_along old.read path) path)
+      (where_found (site_at (stored_along old.read path) path) (at_found old.read path to)) old mid
+      new answer paired.judged
+      (subst (λ o. IsJudged asker (where_found o (at_found old.read path to)) mid answer new)
+      (sym target_is)
+      (passes_on asker path Root (is_empty path)
+      (where_found (parent_at (stored_along old.read path) path)
+      (stored_items old.read to is_below target_site)) mid new answer not_root
+      (subst
+      (λ o. IsJudged asker
+      (where_found o (stored_items old.read to is_below target_site)) mid answer new)
+      (sym paired.folder) judged)))
 
-  ended : (new : Rows) (reply : Reply) → IsJudged asker (stored_items old.read to is_below target_site from_site) mid (Some reply) new → CarriesOut asker (Move path to) old reply new
-  ended new reply judged known sound = refused_step asker (Move path to) old known sound new reply (move_judged old are (sound_parts old sound) asker path to new (Some reply) (with_items new (Some reply) judged))
+  ended : (new : Rows) (reply : Reply)
+      → IsJudged asker (stored_items old.read to is_below target_site from_site) mid
+      (Some reply) new → CarriesOut asker (Move path to) old reply new
+  ended new reply judged known sound =
+      refused_step asker (Move path to) old known sound new reply
+      (move_judged old are (sound_parts old sound) asker path to new (Some reply)
+      (with_items new (Some reply) judged))
 
-  pub root_refused : (new : Rows) (reply : Reply) → to ≡ [] → IsJudged asker (Deletion target_site from_site ∷ Refusal [] Exists true ∷ []) mid (Some reply) new → CarriesOut asker (Move path to) old reply new
-  root_refused new reply is judged = ended new reply (subst (λ p. IsJudged asker (stored_items old.read p is_below target_site from_site) mid (Some reply) new) (sym is) judged)
+  pub root_refused : (new : Rows) (reply : Reply) → to ≡ []
+      → IsJudged asker (Deletion target_site from_site ∷ Refusal [] Exists true ∷ []) mid
+      (Some reply) new → CarriesOut asker (Move path to) old reply new
+  root_refused new reply is judged =
+      ended new reply
+      (subst (λ p. IsJudged asker (stored_items old.read p is_below target_site from_site) mid
+      (Some reply) new) (sym is) judged)
 
   pub never_unread : (at : ℕ) → IsUnreadable mid at → IsDamaged old at
   never_unread at h = noted_unread old mid on_way at paired.judged.notes h
 
   module _ (some_to : 0 < length to) where
-    at_first : to_stored mid.read (front to) (at_place mid.read to is_below target_site from_site) ≡ to_stored old.read (front to) (at_place old.read to is_below target_site from_site)
-    at_first = ap (λ (r : Rows). to_stored r.read (front to) (at_place r.read to is_below target_site from_site)) paired.judged.notes ∙ way_noted old on_way to is_below target_site from_site
+    at_first : to_stored mid.read (front to) (at_place mid.read to is_below target_site from_site)
+        ≡ to_stored old.read (front to) (at_place old.read to is_below target_site from_site)
+    at_first =
+        ap (λ (r : Rows). to_stored r.read (front to)
+        (at_place r.read to is_below target_site from_site)) paired.judged.notes
+        ∙ way_noted old on_way to is_below target_site from_site
 
-    pub place_ended : (new : Rows) (reply : Reply) → IsReached asker (front to) (at_place mid.read to is_below target_site from_site) mid (Ended reply) new → CarriesOut asker (Move path to) old reply new
+    pub place_ended : (new : Rows) (reply : Reply)
+        → IsReached asker (front to) (at_place mid.read to is_below target_site from_site) mid
+        (Ended reply) new → CarriesOut asker (Move path to) old reply new
     place_ended new reply reached =
-        ended new reply (subst (λ items. IsJudged asker items mid (Some reply) new) (at_first ∙ sym (items_there old.read to is_below target_site from_site some_to)) reached.judged)
+        ended new reply (subst (λ items. IsJudged asker items mid (Some reply) new)
+        (at_first ∙ sym (items_there old.read to is_below target_site from_site some_to))
+        reached.judged)
 
     -- ---- once the new folder was reached
 
-    module _ (folder : Node) (last : Rows) (name : List ℕ) (is_last : name ≡ last_name to) (named : is_object_name name ≡ true) (reached : IsReached asker (front to) (at_place mid.read to is_below target_site from_site) mid (At folder) last) where
+    module _ (folder : Node) (last : Rows) (name : List ℕ) (is_last : name ≡ last_name to)
+        (named : is_object_name name ≡ true)
+        (reached : IsReached asker (front to)
+        (at_place mid.read to is_below target_site from_site) mid (At folder) last) where
       abbrev folder_site : Site
       folder_site = stored_site (front to) folder
 
       folder_is : site_at (stored_along old.read (front to)) (front to) ≡ Some folder_site
-      folder_is = sym (ap (λ (r : Rows). site_at (stored_along r.read (front to)) (front to)) paired.judged.notes ∙ ap (λ sites. site_at sites (front to)) (along_noted old.read on_way (front to))) ∙ reached.found
+      folder_is =
+          sym (ap (λ (r : Rows). site_at (stored_along r.read (front to)) (front to))
+          paired.judged.notes ∙ ap (λ sites. site_at sites (front to))
+          (along_noted old.read on_way (front to))) ∙ reached.found
 
-      judged_here : IsJudged asker (to_stored old.read (front to) (at_place old.read to is_below target_site from_site)) mid None last
+      judged_here : IsJudged asker
+          (to_stored old.read (front to) (at_place old.read to is_below target_site from_site)) mid
+          None last
       judged_here = subst (λ items. IsJudged asker items mid None last) at_first reached.judged
 
       judged_all : IsJudged asker (stored_move old.read path to) old None last
-      judged_all = with_items last None (subst (λ items. IsJudged asker items mid None last) (sym (items_there old.read to is_below target_site from_site some_to)) judged_here)
+      judged_all =
+          with_items last None
+          (subst (λ items. IsJudged asker items mid None last)
+          (sym (items_there old.read to is_below target_site from_site some_to)) judged_here)
 
       free : IsFree old.read to is_below folder
       free =
           let front_way : List Item = way false (stored_along old.read (front to)) (front to) in
-          let none : None ≡ first_failure asker.caller (front_way ++ at_place old.read to is_below target_site from_site folder_site) =
-          judged_here.answers ∙ ap (λ o. first_failure asker.caller (way false (stored_along old.read (front to)) (front to) ++ where_found o (at_place old.read to is_below target_site from_site))) folder_is in
+          let none : None ≡ first_failure asker.caller
+          (front_way ++ at_place old.read to is_below target_site from_site folder_site) =
+          judged_here.answers
+          ∙ ap
+          (λ o. first_failure asker.caller
+          (way false (stored_along old.read (front to)) (front to)
+          ++ where_found o (at_place old.read to is_below target_site from_site))) folder_is in
           all_passed asker.caller old.read to is_below target_site from_site folder_site
-          (none_both (first_failure asker.caller front_way) (first_failure asker.caller (at_place old.read to is_below target_site from_site folder_site)) (none ∙ failure_of_parts asker.caller asker.at front_way (at_place old.read to is_below target_site from_site folder_site))).1
+          (none_both (first_failure asker.caller front_way)
+          (first_failure asker.caller
+          (at_place old.read to is_below target_site from_site folder_site))
+          (none ∙ failure_of_parts asker.caller asker.at front_way
+          (at_place old.read to is_below target_site from_site folder_site))).1
 
       abbrev judgements : List AuditRow
       judgements = records_of_plan asker.caller asker.at (stored_move old.read path to)
@@ -157,28 +222,43 @@ module _ (asker : Asker) (path to : List (List ℕ)) (from target : Found) (old 
       can sound =
           subst (λ (r : Rows). CanPlace target.node folder name r) (sym judged_all.notes)
           (subst (λ n. CanPlace target.node folder n (noted old judgements)) (sym is_last)
-          (placeable old judgements path to from_site target.node folder sound some paired.folder paired.target (ap is_object_name (sym is_last) ∙ named) can_go))
+          (placeable old judgements path to from_site target.node folder sound some paired.folder
+          paired.target (ap is_object_name (sym is_last) ∙ named) can_go))
 
-      pub never_unplaced : (at : ℕ) → FailsToPlace target.node folder name last at → IsDamaged old at
+      pub never_unplaced : (at : ℕ) → FailsToPlace target.node folder name last at
+          → IsDamaged old at
       never_unplaced at fails =
           noted_unread old last judgements at judged_all.notes
-          (fails (subst (λ (r : Rows). CanGo target.node folder name r) (sym judged_all.notes) (subst (λ n. CanGo target.node folder n (noted old judgements)) (sym is_last) can_go)))
+          (fails (subst (λ (r : Rows). CanGo target.node folder name r) (sym judged_all.notes)
+          (subst (λ n. CanGo target.node folder n (noted old judgements)) (sym is_last) can_go)))
 
-      pub moves : (new : Rows) → (CanPlace target.node folder name last → IsPlaced target.node folder name last new) → CarriesOut asker (Move path to) old Done new
+      pub moves : (new : Rows)
+          → (CanPlace target.node folder name last → IsPlaced target.node folder name last new)
+          → CarriesOut asker (Move path to) old Done new
       moves new places known sound =
-          changed_step asker (Move path to) old known sound last new Done (with_node means (moved_node t.planned f.planned (last_name to))) planned
-          (λ id. ap (λ o. with_site means o (λ s. with_site means (site_at (sites_along means (front to)) (front to)) (λ u. (Done, with_node means (moved_node s u (last_name to)))))) t.at
-          ∙ ap (λ o. with_site means o (λ u. (Done, with_node means (moved_node t.planned u (last_name to))))) f.at)
+          changed_step asker (Move path to) old known sound last new Done
+          (with_node means (moved_node t.planned f.planned (last_name to))) planned
+          (λ id. ap
+          (λ o. with_site means o
+          (λ s. with_site means (site_at (sites_along means (front to)) (front to))
+          (λ u. (Done, with_node means (moved_node s u (last_name to)))))) t.at
+          ∙ ap
+          (λ o. with_site means o
+          (λ u. (Done, with_node means (moved_node t.planned u (last_name to))))) f.at)
           (placed.means
-          ∙ ap (λ (r : Rows). with_node (meaning r.read) (moved_node (stored_site [] target.node) (stored_site [] folder) name)) planned.notes
-          ∙ ap (λ (n : Node). with_records (with_node means n) (records_of_plan asker.caller asker.at (plan_of means (Move path to)))) moved_as)
+          ∙ ap (λ (r : Rows). with_node (meaning r.read)
+          (moved_node (stored_site [] target.node) (stored_site [] folder) name)) planned.notes
+          ∙ ap (λ (n : Node). with_records (with_node means n)
+          (records_of_plan asker.caller asker.at (plan_of means (Move path to)))) moved_as)
           placed.sound
         where
           means : Content
           means = meaning old.read
 
           t : IsTarget old.read path (stored_site path target.node)
-          t = target_there old are (sound_parts old sound) path (stored_site path target.node) paired.target
+          t =
+              target_there old are (sound_parts old sound) path
+              (stored_site path target.node) paired.target
 
           f : IsTarget old.read (front to) folder_site
           f = target_there old are (sound_parts old sound) (front to) folder_site folder_is
@@ -189,17 +269,22 @@ module _ (asker : Asker) (path to : List (List ℕ)) (from target : Found) (old 
           placed : IsPlaced target.node folder name last new
           placed = places (can sound)
 
-          moved_as : moved_node (stored_site [] target.node) (stored_site [] folder) name ≡ moved_node t.planned f.planned (last_name to)
+          moved_as : moved_node (stored_site [] target.node) (stored_site [] folder) name
+              ≡ moved_node t.planned f.planned (last_name to)
           moved_as =
               ap (moved_node (stored_site [] target.node) (stored_site [] folder)) is_last
-              ∙ ap (λ (s : Site). moved_node s (stored_site [] folder) (last_name to)) (sym t.filled)
+              ∙ ap (λ (s : Site). moved_node s (stored_site [] folder) (last_name to))
+              (sym t.filled)
               ∙ ap (λ (s : Site). moved_node (fill t.planned) s (last_name to)) (sym f.filled)
 
 -- ---- in terms of the calls
 
-pub empty_path : (path : List (List ℕ)) (is_root : Bool) → is_root ≡ (length path == 0) → is_root ≡ true → path ≡ []
+pub empty_path : (path : List (List ℕ)) (is_root : Bool) → is_root ≡ (length path == 0)
+    → is_root ≡ true → path ≡ []
 empty_path [] is_root is root = refl
-empty_path (name ∷ names) is_root is root = let none : length (name ∷ names) ≡ 0 = eqb-true (length (name ∷ names)) 0 (sym is ∙ root) in absurd (let wrong : ⊥ = omega arith in wrong)
+empty_path (name ∷ names) is_root is root = let none : length (name ∷ names) ≡ 0 =
+    eqb-true (length (name ∷ names)) 0 (sym is ∙ root) in
+    absurd (let wrong : ⊥ = omega arith in wrong)
 
 pub some_last : (to rest : List (List ℕ)) (name : List ℕ) → to ≡ rest ++ name ∷ [] → 0 < length to
 some_last to rest name is = subst (λ (p : List (List ℕ)). 0 < length p) (sym is) (on rest)
@@ -213,14 +298,20 @@ last_of [] name = refl
 last_of (first ∷ []) name = refl
 last_of (first ∷ next ∷ names) name = last_of (next ∷ names) name
 
-pub name_is : (to rest : List (List ℕ)) (name text : List ℕ) → to ≡ rest ++ name ∷ [] → text ≡ name → text ≡ last_name to
+pub name_is : (to rest : List (List ℕ)) (name text : List ℕ) → to ≡ rest ++ name ∷ [] → text ≡ name
+    → text ≡ last_name to
 name_is to rest name text is same = same ∙ sym (ap last_name is ∙ last_of rest name)
 
 -- the root that was read, and the walk from it
-pub rooted_pair : (asker : Asker) (path : List (List ℕ)) (root : Node) (pair : Pair) (old mid new : Rows) → root_of old.read ≡ Some root → mid ≡ old → FromRoot root (IsPaired asker path) mid pair new → IsPaired asker path old pair new
+pub rooted_pair : (asker : Asker) (path : List (List ℕ)) (root : Node) (pair : Pair)
+    (old mid new : Rows) → root_of old.read ≡ Some root → mid ≡ old
+    → FromRoot root (IsPaired asker path) mid pair new → IsPaired asker path old pair new
 rooted_pair asker path root pair old mid new is same paired =
-    subst (λ (r : Rows). IsPaired asker path r pair new) same (paired (ap (λ (r : Rows). root_of r.read) same ∙ is))
+    subst (λ (r : Rows). IsPaired asker path r pair new) same
+    (paired (ap (λ (r : Rows). root_of r.read) same ∙ is))
 
 -- records leave the root where it was
-pub root_after : (asker : Asker) (path : List (List ℕ)) (root : Node) (pair : Pair) (old mid : Rows) → root_of old.read ≡ Some root → IsPaired asker path old pair mid → root_of mid.read ≡ Some root
-root_after asker path root pair old mid is paired = ap (λ (r : Rows). root_of r.read) paired.judged.notes ∙ is
+pub root_after : (asker : Asker) (path : List (List ℕ)) (root : Node) (pair : Pair) (old mid : Rows)
+    → root_of old.read ≡ Some root → IsPaired asker path old pair mid → root_of mid.read ≡ Some root
+root_after asker path root pair old mid is paired =
+    ap (λ (r : Rows). root_of r.read) paired.judged.notes ∙ is

@@ -15,18 +15,32 @@ use Rattle.room_judge.proofs.Spots.{take_front}
 use Rattle.room_judge.proofs.Ways.{reaches_with}
 
 -- the way without the last name
-pub front_reached : (asker : Asker) (to : List (List ℕ)) (depth : ℕ) (arrival place : Arrival) (old new : Rows) → length to ≡ depth + 1 → arrival ≡ place → IsReached asker (take depth to) (λ _. []) old arrival new → IsReached asker (front to) (λ _. []) old place new
+pub front_reached : (asker : Asker) (to : List (List ℕ)) (depth : ℕ) (arrival place : Arrival)
+    (old new : Rows) → length to ≡ depth + 1 → arrival ≡ place
+    → IsReached asker (take depth to) (λ _. []) old arrival new
+    → IsReached asker (front to) (λ _. []) old place new
 front_reached asker to depth arrival place old new deep comes reached =
-    subst (λ (p : List (List ℕ)). IsReached asker p (λ _. []) old place new) (take_front to depth deep) (subst (λ (a : Arrival). IsReached asker (take depth to) (λ _. []) old a new) comes reached)
+    subst (λ (p : List (List ℕ)). IsReached asker p (λ _. []) old place new)
+    (take_front to depth deep)
+    (subst (λ (a : Arrival). IsReached asker (take depth to) (λ _. []) old a new) comes reached)
 
 -- the walk comes to the folder, or ends with the reply of what is judged there
-pub place_reached : (asker : Asker) (to : List (List ℕ)) (is_below : Bool) (target from : Site) (old mid new : Rows) (node : Node) (depth : ℕ) (refusal : Option Reply) (arrival : Arrival) → arrival ≡ arrival_of node refusal → length to ≡ depth + 1
-    → IsReached asker (front to) (λ _. []) old (At node) mid → IsJudged asker (at_place mid.read to is_below target from (found_site to (record { node = node; depth = depth }))) mid refusal new
+pub place_reached : (asker : Asker) (to : List (List ℕ)) (is_below : Bool) (target from : Site)
+    (old mid new : Rows) (node : Node) (depth : ℕ) (refusal : Option Reply) (arrival : Arrival)
+    → arrival ≡ arrival_of node refusal → length to ≡ depth + 1
+    → IsReached asker (front to) (λ _. []) old (At node) mid
+    → IsJudged asker (at_place mid.read to is_below target from
+    (found_site to (record { node = node; depth = depth }))) mid refusal new
     → IsReached asker (front to) (at_place old.read to is_below target from) old arrival new
-place_reached asker to is_below target from old mid new node depth refusal arrival comes deep reached judged =
-    subst (λ (a : Arrival). IsReached asker (front to) (at_place old.read to is_below target from) old a new) (sym comes)
-    (reaches_with asker (front to) (at_place old.read to is_below target from) old mid new node (record { node = node; depth = length (front to) }) refusal refl reached
+place_reached asker to is_below target from old mid new node depth refusal arrival comes deep
+    reached judged =
+    subst (λ (a : Arrival). IsReached asker (front to)
+    (at_place old.read to is_below target from) old a new) (sym comes)
+    (reaches_with asker (front to) (at_place old.read to is_below target from) old mid new node
+    (record { node = node; depth = length (front to) }) refusal refl reached
     (subst (λ items. IsJudged asker items mid refusal new)
-    (ap (λ p. at_place mid.read to is_below target from (stored_site p node)) (take_front to depth deep ∙ sym (take-length (front to)))
-    ∙ ap (λ (r : Rows). at_place r.read to is_below target from (stored_site (take (length (front to)) (front to)) node)) reached.judged.notes)
+    (ap (λ p. at_place mid.read to is_below target from (stored_site p node))
+    (take_front to depth deep ∙ sym (take-length (front to)))
+    ∙ ap (λ (r : Rows). at_place r.read to is_below target from
+    (stored_site (take (length (front to)) (front to)) node)) reached.judged.notes)
     judged))

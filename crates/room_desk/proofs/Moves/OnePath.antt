@@ -20,7 +20,9 @@ use Rattle.room_desk.proofs.Placed.Climbing.{same_some}
 
 begins_more : (names rest : List (List ℕ)) → begins names (names ++ rest) ≡ true
 begins_more [] rest = refl
-begins_more (name ∷ names) rest = and_from (same_text name name) (begins names (names ++ rest)) (text_itself name) (begins_more names rest)
+begins_more (name ∷ names) rest =
+    and_from (same_text name name) (begins names (names ++ rest)) (text_itself name)
+    (begins_more names rest)
 
 same_truth : (a b : Bool) → (a ≡ true → b ≡ true) → (b ≡ true → a ≡ true) → a ≡ b
 same_truth true b there back = sym (there refl)
@@ -29,29 +31,46 @@ same_truth false false there back = refl
 
 -- ---- comparing name by name
 
-pub too_many : (names others : List (List ℕ)) → length others < length names → false ≡ begins names others
+pub too_many : (names others : List (List ℕ)) → length others < length names
+    → false ≡ begins names others
 too_many [] others more = absurd (let wrong : ⊥ = omega arith in wrong)
 too_many (name ∷ names) [] more = refl
-too_many (name ∷ names) (other ∷ others) more = sym (and_right (same_text name other) (begins names others) (sym (too_many names others (omega arith))))
+too_many (name ∷ names) (other ∷ others) more =
+    sym (and_right (same_text name other) (begins names others)
+    (sym (too_many names others (omega arith))))
 
-module _ (names others : List (List ℕ)) (i : ℕ) (sofar : begins (drop i names) (drop i others) ≡ begins names others) where
+module _ (names others : List (List ℕ)) (i : ℕ)
+    (sofar : begins (drop i names) (drop i others) ≡ begins names others) where
   pub all_compared : i ≡ length names → true ≡ begins names others
-  all_compared end = sym (ap (λ l. begins l (drop i others)) (ap (λ (n : ℕ). drop n names) end ∙ drop-length names)) ∙ sofar
+  all_compared end =
+      sym (ap (λ l. begins l (drop i others))
+      (ap (λ (n : ℕ). drop n names) end ∙ drop-length names)) ∙ sofar
 
-  module _ (below : i < length names) (fits : length names ≤ length others) (name other : List ℕ) (name_is : name ≡ get_or names i name) (other_is : other ≡ get_or others i other) where
+  module _ (below : i < length names) (fits : length names ≤ length others) (name other : List ℕ)
+      (name_is : name ≡ get_or names i name) (other_is : other ≡ get_or others i other) where
     within : i < length others
     within = omega arith
 
-    one_further : begins (drop i names) (drop i others) ≡ (same_text name other && begins (drop (i + 1) names) (drop (i + 1) others))
+    one_further : begins (drop i names) (drop i others)
+        ≡ (same_text name other && begins (drop (i + 1) names) (drop (i + 1) others))
     one_further =
-        ap (λ l. begins l (drop i others)) (drop_more names i [] below ∙ ap (λ n. n ∷ drop (i + 1) names) (sym (get_or_read names i name below name_is [])))
-        ∙ ap (λ l. begins (name ∷ drop (i + 1) names) l) (drop_more others i [] within ∙ ap (λ n. n ∷ drop (i + 1) others) (sym (get_or_read others i other within other_is [])))
+        ap (λ l. begins l (drop i others))
+        (drop_more names i [] below
+        ∙ ap (λ n. n ∷ drop (i + 1) names) (sym (get_or_read names i name below name_is [])))
+        ∙ ap (λ l. begins (name ∷ drop (i + 1) names) l)
+        (drop_more others i [] within
+        ∙ ap (λ n. n ∷ drop (i + 1) others) (sym (get_or_read others i other within other_is [])))
 
     pub one_differs : false ≡ same_text name other → false ≡ begins names others
-    one_differs differs = ap (λ t. t && begins (drop (i + 1) names) (drop (i + 1) others)) differs ∙ sym one_further ∙ sofar
+    one_differs differs =
+        ap (λ t. t && begins (drop (i + 1) names) (drop (i + 1) others)) differs ∙ sym one_further
+        ∙ sofar
 
-    pub one_same : true ≡ same_text name other → begins (drop (i + 1) names) (drop (i + 1) others) ≡ begins names others
-    one_same same = ap (λ t. t && begins (drop (i + 1) names) (drop (i + 1) others)) same ∙ sym one_further ∙ sofar
+    pub one_same : true ≡ same_text name other
+        → begins (drop (i + 1) names) (drop (i + 1) others) ≡ begins names others
+    one_same same =
+        ap (λ t. t && begins (drop (i + 1) names) (drop (i + 1) others)) same ∙ sym one_further
+        ∙ sofar
 
 -- ---- one path
 
@@ -61,107 +80,195 @@ module _ (rows : Content) (rises : Rises rows) where
     pub steps : ℕ
     pub names : (more : ℕ) → names_up (steps + more) rows node ≡ path
 
-  one_path : (node : Node) (path other : List (List ℕ)) → IsUp node path → IsUp node other → path ≡ other
+  one_path : (node : Node) (path other : List (List ℕ)) → IsUp node path → IsUp node other
+      → path ≡ other
   one_path node path other first second =
       let turned : first.steps + second.steps ≡ second.steps + first.steps = omega arith in
-      sym (first.names second.steps) ∙ ap (λ (n : ℕ). names_up n rows node) turned ∙ second.names first.steps
+      sym (first.names second.steps) ∙ ap (λ (n : ℕ). names_up n rows node) turned
+      ∙ second.names first.steps
 
   up_root : (root : Node) → root.parent ≡ None → IsUp root []
   up_root root none = record { steps = 0; names = λ more. on (0 + more) }
     where
       on : (n : ℕ) → names_up n rows root ≡ []
       on zero = refl
-      on (suc n) = ap (λ (p : Option ℕ). option_map_or (λ parent. names_up n rows parent ++ root.name ∷ []) (option_and_then (node_at rows) p) []) none
+      on (suc n) =
+          ap (λ (p : Option ℕ). option_map_or (λ parent. names_up n rows parent ++ root.name ∷ [])
+          (option_and_then (node_at rows) p) []) none
 
-  up_child : (node child : Node) (path : List (List ℕ)) (name : List ℕ) → IsUp node path → node_at rows node.id ≡ Some node → child_of rows node.id name ≡ Some child → IsUp child (path ++ name ∷ [])
+  up_child : (node child : Node) (path : List (List ℕ)) (name : List ℕ) → IsUp node path
+      → node_at rows node.id ≡ Some node → child_of rows node.id name ≡ Some child
+      → IsUp child (path ++ name ∷ [])
   up_child node child path name up there is = record {
     steps = suc up.steps;
     names = λ more.
         let further : suc up.steps + more ≡ suc (up.steps + more) = omega arith in
         ap (λ (n : ℕ). names_up n rows child) further
-        ∙ ap (λ o. option_map_or (λ parent. names_up (up.steps + more) rows parent ++ child.name ∷ []) o []) (ap (option_and_then (node_at rows)) (child_of-parent rows node.id name child is) ∙ there)
-        ∙ ap (λ l. l ++ child.name ∷ []) (up.names more) ∙ ap (λ n. path ++ n ∷ []) (child_of-name rows node.id name child is);
+        ∙ ap
+        (λ o. option_map_or (λ parent. names_up (up.steps + more) rows parent ++ child.name ∷ []) o
+        []) (ap (option_and_then (node_at rows)) (child_of-parent rows node.id name child is)
+        ∙ there)
+        ∙ ap (λ l. l ++ child.name ∷ []) (up.names more)
+        ∙ ap (λ n. path ++ n ∷ []) (child_of-name rows node.id name child is);
   }
 
   -- ---- what a way meets
 
-  module _ (target : Node) (there : node_at rows target.id ≡ Some target) (at : List (List ℕ)) (up : IsUp target at) where
+  module _ (target : Node) (there : node_at rows target.id ≡ Some target) (at : List (List ℕ))
+      (up : IsUp target at) where
     abbrev meets : List Site → Bool
     meets sites = list_any (λ (s : Site). s.node.id == target.id) sites
 
-    same_path : (node : Node) (path : List (List ℕ)) → node_at rows node.id ≡ Some node → IsUp node path → (node.id == target.id) ≡ true → at ≡ path
+    same_path : (node : Node) (path : List (List ℕ)) → node_at rows node.id ≡ Some node
+        → IsUp node path → (node.id == target.id) ≡ true → at ≡ path
     same_path node path found up_node is =
-        let same : target ≡ node = same_some target node (sym there ∙ ap (node_at rows) (sym (eqb-true node.id target.id is)) ∙ found) in
+        let same : target ≡ node = same_some target node
+        (sym there ∙ ap (node_at rows) (sym (eqb-true node.id target.id is)) ∙ found) in
         one_path node at path (subst (λ (n : Node). IsUp n at) same up) up_node
 
-    met_from : (names path : List (List ℕ)) (node : Node) → node_at rows node.id ≡ Some node → IsUp node path → meets (stored_from rows path node names) ≡ true → begins at (path ++ names) ≡ true
+    met_from : (names path : List (List ℕ)) (node : Node) → node_at rows node.id ≡ Some node
+        → IsUp node path → meets (stored_from rows path node names) ≡ true
+        → begins at (path ++ names) ≡ true
     met_from [] path node found up_node met = elim (or_cases (node.id == target.id) false met) [
-      | inl is ↦ ap (λ l. begins l (path ++ [])) (same_path node path found up_node is) ∙ begins_more path []
+      | inl is ↦ ap (λ l. begins l (path ++ [])) (same_path node path found up_node is)
+          ∙ begins_more path []
       | inr wrong ↦ absurd (false≢true wrong)
     ]
     met_from (name ∷ names) path node found up_node met =
-        elim (or_cases (node.id == target.id) (meets (option_map_or (λ child. stored_from rows (path ++ name ∷ []) child names) (child_of rows node.id name) [])) met) [
-          | inl is ↦ ap (λ l. begins l (path ++ name ∷ names)) (same_path node path found up_node is) ∙ begins_more path (name ∷ names)
-          | inr below ↦ on (child_of rows node.id name) (λ child is. met_from names (path ++ name ∷ []) child (child_of-is_there rows rises node.id name child is) (up_child node child path name up_node found is)) below
+        elim
+        (or_cases (node.id == target.id)
+        (meets (option_map_or (λ child. stored_from rows (path ++ name ∷ []) child names)
+        (child_of rows node.id name) [])) met) [
+          | inl is ↦
+              ap (λ l. begins l (path ++ name ∷ names)) (same_path node path found up_node is)
+              ∙ begins_more path (name ∷ names)
+          | inr below ↦
+              on (child_of rows node.id name)
+              (λ child is. met_from names (path ++ name ∷ []) child
+              (child_of-is_there rows rises node.id name child is)
+              (up_child node child path name up_node found is)) below
         ]
       where
-        on : (o : Option Node) → ((child : Node) → o ≡ Some child → meets (stored_from rows (path ++ name ∷ []) child names) ≡ true → begins at ((path ++ name ∷ []) ++ names) ≡ true)
-            → meets (option_map_or (λ child. stored_from rows (path ++ name ∷ []) child names) o []) ≡ true → begins at (path ++ name ∷ names) ≡ true
+        on : (o : Option Node)
+            → ((child : Node) → o ≡ Some child
+            → meets (stored_from rows (path ++ name ∷ []) child names) ≡ true
+            → begins at ((path ++ name ∷ []) ++ names) ≡ true)
+            → meets (option_map_or (λ child. stored_from rows (path ++ name ∷ []) child names) o [])
+            ≡ true → begins at (path ++ name ∷ names) ≡ true
         on None known met = absurd (false≢true met)
-        on (Some child) known met = ap (begins at) (sym (append_assoc path (name ∷ []) names)) ∙ known child refl met
+        on (Some child) known met =
+            ap (begins at) (sym (append_assoc path (name ∷ []) names)) ∙ known child refl met
 
     -- what is met on a way stands at a beginning of it
-    pub met_along : (path : List (List ℕ)) → meets (stored_along rows path) ≡ true → begins at path ≡ true
-    met_along path met = on (root_of rows) (λ root is. met_from path [] root (root_of-is_there rows rises root is) (up_root root (root_of-parent rows root is))) met
+    pub met_along : (path : List (List ℕ)) → meets (stored_along rows path) ≡ true
+        → begins at path ≡ true
+    met_along path met =
+        on (root_of rows) (λ root is. met_from path [] root (root_of-is_there rows rises root is)
+        (up_root root (root_of-parent rows root is))) met
       where
-        on : (o : Option Node) → ((root : Node) → o ≡ Some root → meets (stored_from rows [] root path) ≡ true → begins at path ≡ true) → meets (option_map_or (λ root. stored_from rows [] root path) o []) ≡ true → begins at path ≡ true
+        on : (o : Option Node)
+            → ((root : Node) → o ≡ Some root → meets (stored_from rows [] root path) ≡ true
+            → begins at path ≡ true)
+            → meets (option_map_or (λ root. stored_from rows [] root path) o []) ≡ true
+            → begins at path ≡ true
         on None known met = absurd (false≢true met)
         on (Some root) known met = known root refl met
 
   -- ---- where an object is found
 
-  up_from : (names path : List (List ℕ)) (node : Node) (site : Site) → node_at rows node.id ≡ Some node → IsUp node path → site_at (stored_from rows path node names) names ≡ Some site → IsUp site.node (path ++ names)
-  up_from [] path node site found up is = subst (λ (s : Site). IsUp s.node (path ++ [])) (same_some (stored_site path node) site is) (subst (IsUp node) (sym (append-nil path)) up)
+  up_from : (names path : List (List ℕ)) (node : Node) (site : Site)
+      → node_at rows node.id ≡ Some node → IsUp node path
+      → site_at (stored_from rows path node names) names ≡ Some site
+      → IsUp site.node (path ++ names)
+  up_from [] path node site found up is =
+      subst (λ (s : Site). IsUp s.node (path ++ [])) (same_some (stored_site path node) site is)
+      (subst (IsUp node) (sym (append-nil path)) up)
   up_from (name ∷ names) path node site found up is =
-      on (child_of rows node.id name) (λ child known. up_from names (path ++ name ∷ []) child site (child_of-is_there rows rises node.id name child known) (up_child node child path name up found known)) is
+      on (child_of rows node.id name)
+      (λ child known. up_from names (path ++ name ∷ []) child site
+      (child_of-is_there rows rises node.id name child known)
+      (up_child node child path name up found known)) is
     where
-      on : (o : Option Node) → ((child : Node) → o ≡ Some child → site_at (stored_from rows (path ++ name ∷ []) child names) names ≡ Some site → IsUp site.node ((path ++ name ∷ []) ++ names))
-          → site_at (option_map_or (λ child. stored_from rows (path ++ name ∷ []) child names) o []) names ≡ Some site → IsUp site.node (path ++ name ∷ names)
+      on : (o : Option Node)
+          → ((child : Node) → o ≡ Some child
+          → site_at (stored_from rows (path ++ name ∷ []) child names) names ≡ Some site
+          → IsUp site.node ((path ++ name ∷ []) ++ names))
+          → site_at (option_map_or (λ child. stored_from rows (path ++ name ∷ []) child names) o [])
+          names ≡ Some site → IsUp site.node (path ++ name ∷ names)
       on None known is = absurd (let wrong : ⊥ = cc in wrong)
-      on (Some child) known is = subst (IsUp site.node) (append_assoc path (name ∷ []) names) (known child refl is)
+      on (Some child) known is =
+          subst (IsUp site.node) (append_assoc path (name ∷ []) names) (known child refl is)
 
-  pub up_along : (path : List (List ℕ)) (site : Site) → site_at (stored_along rows path) path ≡ Some site → IsUp site.node path
-  up_along path site is = on (root_of rows) (λ root known. up_from path [] root site (root_of-is_there rows rises root known) (up_root root (root_of-parent rows root known))) is
+  pub up_along : (path : List (List ℕ)) (site : Site)
+      → site_at (stored_along rows path) path ≡ Some site → IsUp site.node path
+  up_along path site is =
+      on (root_of rows) (λ root known. up_from path [] root site
+      (root_of-is_there rows rises root known) (up_root root (root_of-parent rows root known))) is
     where
-      on : (o : Option Node) → ((root : Node) → o ≡ Some root → site_at (stored_from rows [] root path) path ≡ Some site → IsUp site.node path) → site_at (option_map_or (λ root. stored_from rows [] root path) o []) path ≡ Some site → IsUp site.node path
+      on : (o : Option Node)
+          → ((root : Node) → o ≡ Some root
+          → site_at (stored_from rows [] root path) path ≡ Some site → IsUp site.node path)
+          → site_at (option_map_or (λ root. stored_from rows [] root path) o []) path ≡ Some site
+          → IsUp site.node path
       on None known is = absurd (let wrong : ⊥ = cc in wrong)
       on (Some root) known is = known root refl is
 
   -- ---- a way that begins so meets it
 
-  begun_from : (names others path : List (List ℕ)) (node : Node) (site : Site) → site_at (stored_from rows path node names) names ≡ Some site → begins names others ≡ true → list_any (λ (s : Site). s.node.id == site.node.id) (stored_from rows path node others) ≡ true
-  begun_from [] [] path node site is begun = or_left (node.id == site.node.id) false (eq-eqb node.id site.node.id (ap (λ (s : Site). s.node.id) (same_some (stored_site path node) site is)))
-  begun_from [] (other ∷ others) path node site is begun = or_left (node.id == site.node.id) _ (eq-eqb node.id site.node.id (ap (λ (s : Site). s.node.id) (same_some (stored_site path node) site is)))
+  begun_from : (names others path : List (List ℕ)) (node : Node) (site : Site)
+      → site_at (stored_from rows path node names) names ≡ Some site → begins names others ≡ true
+      → list_any (λ (s : Site). s.node.id == site.node.id) (stored_from rows path node others)
+      ≡ true
+  begun_from [] [] path node site is begun =
+      or_left (node.id == site.node.id) false
+      (eq-eqb node.id site.node.id
+      (ap (λ (s : Site). s.node.id) (same_some (stored_site path node) site is)))
+  begun_from [] (other ∷ others) path node site is begun =
+      or_left (node.id == site.node.id) _
+      (eq-eqb node.id site.node.id
+      (ap (λ (s : Site). s.node.id) (same_some (stored_site path node) site is)))
   begun_from (name ∷ names) [] path node site is begun = absurd (false≢true begun)
   begun_from (name ∷ names) (other ∷ others) path node site is begun =
       let parts = and_parts (same_text name other) (begins names others) begun in
-      or_right (node.id == site.node.id) (list_any (λ (s : Site). s.node.id == site.node.id) (option_map_or (λ child. stored_from rows (path ++ other ∷ []) child others) (child_of rows node.id other) []))
-      (subst (λ (n : List ℕ). list_any (λ (s : Site). s.node.id == site.node.id) (option_map_or (λ child. stored_from rows (path ++ n ∷ []) child others) (child_of rows node.id n) []) ≡ true) (same_text-true name other parts.0)
-      (on (child_of rows node.id name) (λ child at. begun_from names others (path ++ name ∷ []) child site at parts.1) is))
+      or_right (node.id == site.node.id)
+      (list_any (λ (s : Site). s.node.id == site.node.id)
+      (option_map_or (λ child. stored_from rows (path ++ other ∷ []) child others)
+      (child_of rows node.id other) []))
+      (subst (λ (n : List ℕ). list_any (λ (s : Site). s.node.id == site.node.id)
+      (option_map_or (λ child. stored_from rows (path ++ n ∷ []) child others)
+      (child_of rows node.id n) []) ≡ true) (same_text-true name other parts.0)
+      (on (child_of rows node.id name)
+      (λ child at. begun_from names others (path ++ name ∷ []) child site at parts.1) is))
     where
-      on : (o : Option Node) → ((child : Node) → site_at (stored_from rows (path ++ name ∷ []) child names) names ≡ Some site → list_any (λ (s : Site). s.node.id == site.node.id) (stored_from rows (path ++ name ∷ []) child others) ≡ true)
-          → site_at (option_map_or (λ child. stored_from rows (path ++ name ∷ []) child names) o []) names ≡ Some site → list_any (λ (s : Site). s.node.id == site.node.id) (option_map_or (λ child. stored_from rows (path ++ name ∷ []) child others) o []) ≡ true
+      on : (o : Option Node)
+          → ((child : Node) → site_at (stored_from rows (path ++ name ∷ []) child names) names
+          ≡ Some site → list_any (λ (s : Site). s.node.id == site.node.id)
+          (stored_from rows (path ++ name ∷ []) child others) ≡ true)
+          → site_at (option_map_or (λ child. stored_from rows (path ++ name ∷ []) child names) o [])
+          names ≡ Some site → list_any (λ (s : Site). s.node.id == site.node.id)
+          (option_map_or (λ child. stored_from rows (path ++ name ∷ []) child others) o []) ≡ true
       on None known is = absurd (let wrong : ⊥ = cc in wrong)
       on (Some child) known is = known child is
 
-  begun_along : (names others : List (List ℕ)) (site : Site) → site_at (stored_along rows names) names ≡ Some site → begins names others ≡ true → list_any (λ (s : Site). s.node.id == site.node.id) (stored_along rows others) ≡ true
+  begun_along : (names others : List (List ℕ)) (site : Site)
+      → site_at (stored_along rows names) names ≡ Some site → begins names others ≡ true
+      → list_any (λ (s : Site). s.node.id == site.node.id) (stored_along rows others) ≡ true
   begun_along names others site is begun = on (root_of rows) is
     where
-      on : (o : Option Node) → site_at (option_map_or (λ root. stored_from rows [] root names) o []) names ≡ Some site → list_any (λ (s : Site). s.node.id == site.node.id) (option_map_or (λ root. stored_from rows [] root others) o []) ≡ true
+      on : (o : Option Node)
+          → site_at (option_map_or (λ root. stored_from rows [] root names) o []) names ≡ Some site
+          → list_any (λ (s : Site). s.node.id == site.node.id)
+          (option_map_or (λ root. stored_from rows [] root others) o []) ≡ true
       on None is = absurd (let wrong : ⊥ = cc in wrong)
       on (Some root) is = begun_from names others [] root site is begun
 
   -- A way meets the object of a path exactly if it begins with the path.
-  pub met_by_names : (path others : List (List ℕ)) (site : Site) → node_at rows site.node.id ≡ Some site.node → site_at (stored_along rows path) path ≡ Some site → list_any (λ (s : Site). s.node.id == site.node.id) (stored_along rows others) ≡ begins path others
+  pub met_by_names : (path others : List (List ℕ)) (site : Site)
+      → node_at rows site.node.id ≡ Some site.node
+      → site_at (stored_along rows path) path ≡ Some site
+      → list_any (λ (s : Site). s.node.id == site.node.id) (stored_along rows others)
+      ≡ begins path others
   met_by_names path others site there is =
-      same_truth (list_any (λ (s : Site). s.node.id == site.node.id) (stored_along rows others)) (begins path others) (met_along site.node there path (up_along path site is) others) (begun_along path others site is)
+      same_truth (list_any (λ (s : Site). s.node.id == site.node.id) (stored_along rows others))
+      (begins path others) (met_along site.node there path (up_along path site is) others)
+      (begun_along path others site is)

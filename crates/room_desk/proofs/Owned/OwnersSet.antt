@@ -28,17 +28,26 @@ use Rattle.room_desk.proofs.Steps.Serving.{CheckAt, along_there}
 
 -- ---- owners that are the same
 
-pub equal_owners : (a b : Owners) → (same_text a.owner b.owner && same_text a.group b.group) ≡ true → a ≡ b
+pub equal_owners : (a b : Owners) → (same_text a.owner b.owner && same_text a.group b.group) ≡ true
+    → a ≡ b
 equal_owners a b same =
     let parts = and_parts (same_text a.owner b.owner) (same_text a.group b.group) same in
-    λ i. record { owner = (bytes_eq-Decides a.owner b.owner).0 parts.0 i; group = (bytes_eq-Decides a.group b.group).0 parts.1 i }
+    λ i. record {
+      owner = (bytes_eq-Decides a.owner b.owner).0 parts.0 i;
+      group = (bytes_eq-Decides a.group b.group).0 parts.1 i;
+    }
 
-pub owners_themselves : (a b : Owners) → a ≡ b → (same_text a.owner b.owner && same_text a.group b.group) ≡ true
+pub owners_themselves : (a b : Owners) → a ≡ b
+    → (same_text a.owner b.owner && same_text a.group b.group) ≡ true
 owners_themselves a b same =
-    and_from (same_text a.owner b.owner) (same_text a.group b.group) ((bytes_eq-Decides a.owner b.owner).1 (ap (λ (o : Owners). o.owner) same)) ((bytes_eq-Decides a.group b.group).1 (ap (λ (o : Owners). o.group) same))
+    and_from (same_text a.owner b.owner) (same_text a.group b.group)
+    ((bytes_eq-Decides a.owner b.owner).1 (ap (λ (o : Owners). o.owner) same))
+    ((bytes_eq-Decides a.group b.group).1 (ap (λ (o : Owners). o.group) same))
 
 -- to give an object the owners that it has changes nothing
-unchanged : (rows new : Rows) (owners : Owners) (node : Node) → Rises rows.read → node_at rows.read node.id ≡ Some node → owners ≡ node.owners → new ≡ rows → Changes node.id (with_owners owners) rows new
+unchanged : (rows new : Rows) (owners : Owners) (node : Node) → Rises rows.read
+    → node_at rows.read node.id ≡ Some node → owners ≡ node.owners → new ≡ rows
+    → Changes node.id (with_owners owners) rows new
 unchanged rows new owners node rises there same stays other found =
     let it : Some node ≡ Some other = sym there ∙ found in
     let here : node ≡ other = cc in
@@ -49,17 +58,29 @@ unchanged rows new owners node rises there same stays other found =
 
 -- ---- the request
 
-owners_changed : (asker : Asker) (path : List (List ℕ)) (owners : Owners) (old mid new : Rows) (node : Node) → AreRows old → IsReached asker path (CheckAt (write_owner ∷ [])) old (At node) mid → Changes node.id (with_owners owners) mid new
+owners_changed : (asker : Asker) (path : List (List ℕ)) (owners : Owners) (old mid new : Rows)
+    (node : Node) → AreRows old
+    → IsReached asker path (CheckAt (write_owner ∷ [])) old (At node) mid
+    → Changes node.id (with_owners owners) mid new
     → CarriesOut asker (SetOwners path owners) old Done new
 owners_changed asker path owners old mid new node are reached changes known sound =
-    let target = target_there old are (sound_parts old sound) path (stored_site path node) reached.found in
-    let judged = plan_judged asker path (CheckAt (write_owner ∷ [])) old mid None are (sound_parts old sound) (λ site. refl) reached.judged in
-    changed_step asker (SetOwners path owners) old known sound mid new Done (with_each (meaning old.read) (owned node.id owners)) judged
-    (λ id. ap (λ o. with_site (meaning old.read) o (λ t. (Done, with_node (meaning old.read) (with_owners owners t.node)))) target.at
+    let target = target_there old are (sound_parts old sound) path
+    (stored_site path node) reached.found in
+    let judged = plan_judged asker path (CheckAt (write_owner ∷ [])) old mid None are
+    (sound_parts old sound) (λ site. refl) reached.judged in
+    changed_step asker (SetOwners path owners) old known sound mid new Done
+    (with_each (meaning old.read) (owned node.id owners)) judged
+    (λ id. ap (λ o. with_site (meaning old.read) o
+    (λ t. (Done, with_node (meaning old.read) (with_owners owners t.node)))) target.at
     ∙ ap (λ (n : Node). (Done, with_node (meaning old.read) (with_owners owners n))) target.kept
     ∙ ap (λ c. (Done, c)) means_owned)
-    (ap (λ (r : Rows). meaning r.read) new_is ∙ owned_means mid.read node.id owners ∙ ap (λ (r : Rows). with_each (meaning r.read) (owned node.id owners)) judged.notes)
-    (subst AreSound (sym (new_is ∙ ap (λ (r : Rows). reading r (with_each r.read (owned node.id owners))) reached.judged.notes)) (sound_noted (reading old (with_each old.read (owned node.id owners))) _ (sound_owned old node.id owners sound)))
+    (ap (λ (r : Rows). meaning r.read) new_is ∙ owned_means mid.read node.id owners
+    ∙ ap (λ (r : Rows). with_each (meaning r.read) (owned node.id owners)) judged.notes)
+    (subst AreSound
+    (sym (new_is ∙ ap (λ (r : Rows). reading r (with_each r.read (owned node.id owners)))
+    reached.judged.notes))
+    (sound_noted (reading old (with_each old.read (owned node.id owners))) _
+    (sound_owned old node.id owners sound)))
   where
     there : node_at old.read node.id ≡ Some node
     there = along_there old.read are.numbers path (stored_site path node) reached.found
@@ -68,18 +89,33 @@ owners_changed asker path owners old mid new node are reached changes known soun
     there_mid = ap (λ (r : Rows). node_at r.read node.id) reached.judged.notes ∙ there
 
     new_is : new ≡ reading mid (with_each mid.read (owned node.id owners))
-    new_is = changes node there_mid ∙ ap (reading mid) (put_owned mid.read (subst (λ (r : Rows). Rises r.read) (sym reached.judged.notes) are.numbers) node.id owners node there_mid)
+    new_is =
+        changes node there_mid
+        ∙ ap (reading mid)
+        (put_owned mid.read (subst (λ (r : Rows). Rises r.read)
+        (sym reached.judged.notes) are.numbers) node.id owners node there_mid)
 
-    means_owned : with_node (meaning old.read) (with_owners owners (kept_node old.read node)) ≡ with_each (meaning old.read) (owned node.id owners)
+    means_owned : with_node (meaning old.read) (with_owners owners (kept_node old.read node))
+        ≡ with_each (meaning old.read) (owned node.id owners)
     means_owned =
-        let places = keeps_places old.read (kept_node old.read) (λ n. record { number = refl; parent = refl; name = refl }) in
-        put_owned (meaning old.read) (rises-with_each old.read (kept_node old.read) places are.numbers) node.id owners (kept_node old.read node)
-        (node_at-with_each old.read (kept_node old.read) places node.id ∙ ap (option_map (kept_node old.read)) there)
+        let places = keeps_places old.read (kept_node old.read)
+        (λ n. record { number = refl; parent = refl; name = refl }) in
+        put_owned (meaning old.read)
+        (rises-with_each old.read (kept_node old.read) places are.numbers) node.id owners
+        (kept_node old.read node)
+        (node_at-with_each old.read (kept_node old.read) places node.id
+        ∙ ap (option_map (kept_node old.read)) there)
 
-pub owners_set : (asker : Asker) (path : List (List ℕ)) (owners : Owners) (old mid new : Rows) (node : Node) → AreRows old → IsReached asker path (CheckAt (write_owner ∷ [])) old (At node) mid
-    → ((owners ≡ node.owners) × (new ≡ mid)) ⊎ Changes node.id (with_owners owners) mid new → CarriesOut asker (SetOwners path owners) old Done new
+pub owners_set : (asker : Asker) (path : List (List ℕ)) (owners : Owners) (old mid new : Rows)
+    (node : Node) → AreRows old
+    → IsReached asker path (CheckAt (write_owner ∷ [])) old (At node) mid
+    → ((owners ≡ node.owners) × (new ≡ mid)) ⊎ Changes node.id (with_owners owners) mid new
+    → CarriesOut asker (SetOwners path owners) old Done new
 owners_set asker path owners old mid new node are reached (inl same) =
-    let there = ap (λ (r : Rows). node_at r.read node.id) reached.judged.notes ∙ along_there old.read are.numbers path (stored_site path node) reached.found in
+    let there = ap (λ (r : Rows). node_at r.read node.id) reached.judged.notes
+    ∙ along_there old.read are.numbers path (stored_site path node) reached.found in
     let rises = subst (λ (r : Rows). Rises r.read) (sym reached.judged.notes) are.numbers in
-    owners_changed asker path owners old mid new node are reached (unchanged mid new owners node rises there same.0 same.1)
-owners_set asker path owners old mid new node are reached (inr changes) = owners_changed asker path owners old mid new node are reached changes
+    owners_changed asker path owners old mid new node are reached
+    (unchanged mid new owners node rises there same.0 same.1)
+owners_set asker path owners old mid new node are reached (inr changes) =
+    owners_changed asker path owners old mid new node are reached changes

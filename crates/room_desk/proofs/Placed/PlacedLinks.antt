@@ -13,7 +13,8 @@ use Rattle.room_desk.specs.Moving.{CanPlace}
 use Rattle.room_desk.proofs.Placed.PlacedParts.{linked_above, linked_flags, placed_held}
 use Rattle.room_desk.proofs.Placed.PlacedTree.{above_elsewhere, above_here, after, change}
 
-module _ (old : Rows) (target folder : Node) (name : List ℕ) (can : CanPlace target folder name old) (d s : Node → List Ace) where
+module _ (old : Rows) (target folder : Node) (name : List ℕ) (can : CanPlace target folder name old)
+    (d s : Node → List Ace) where
   abbrev before : Content
   before = old.read
 
@@ -26,22 +27,34 @@ module _ (old : Rows) (target folder : Node) (name : List ℕ) (can : CanPlace t
   flags_now : (which : Which) (n : Node) → (held_of which (moved n)).flags ≡ (held_of which n).flags
   flags_now which n = ap (λ (h : Held). h.flags) (placed_held target.id folder.id name d s which n)
 
-  pub linked_elsewhere : (which : Which) (n : Node) → (n.id == target.id) ≡ false → is_linked_in now which (moved n) ≡ is_linked_in before which n
+  pub linked_elsewhere : (which : Which) (n : Node) → (n.id == target.id) ≡ false
+      → is_linked_in now which (moved n) ≡ is_linked_in before which n
   linked_elsewhere which n isnt =
-      ap (λ o. is_linked (held_of which (moved n)) (option_map (held_of which) o)) (above_elsewhere old target folder name can d s n isnt)
+      ap (λ o. is_linked (held_of which (moved n)) (option_map (held_of which) o))
+      (above_elsewhere old target folder name can d s n isnt)
       ∙ linked_above (held_of which (moved n)) which (parent_of before n) moved (flags_now which)
-      ∙ linked_flags (held_of which (moved n)) (held_of which n) (option_map (held_of which) (parent_of before n)) (flags_now which n)
+      ∙ linked_flags (held_of which (moved n)) (held_of which n)
+      (option_map (held_of which) (parent_of before n)) (flags_now which n)
 
-  pub linked_here : (which : Which) (n : Node) → (n.id == target.id) ≡ true → is_linked_in now which (moved n) ≡ is_linked (held_of which n) (Some (held_of which folder))
+  pub linked_here : (which : Which) (n : Node) → (n.id == target.id) ≡ true
+      → is_linked_in now which (moved n) ≡ is_linked (held_of which n) (Some (held_of which folder))
   linked_here which n is =
-      ap (λ o. is_linked (held_of which (moved n)) (option_map (held_of which) o)) (above_here old target folder name can d s n is)
+      ap (λ o. is_linked (held_of which (moved n)) (option_map (held_of which) o))
+      (above_here old target folder name can d s n is)
       ∙ linked_above (held_of which (moved n)) which (Some folder) moved (flags_now which)
-      ∙ linked_flags (held_of which (moved n)) (held_of which n) (Some (held_of which folder)) (flags_now which n)
+      ∙ linked_flags (held_of which (moved n)) (held_of which n) (Some (held_of which folder))
+      (flags_now which n)
 
 -- whatever entries are stored
-pub linked_any : (old : Rows) (target folder : Node) (name : List ℕ) (can : CanPlace target folder name old) (d s e u : Node → List Ace) (which : Which) (n : Node)
-    → is_linked_in (after old target folder name can d s) which (change old target folder name can d s n) ≡ is_linked_in (after old target folder name can e u) which (change old target folder name can e u n)
+pub linked_any : (old : Rows) (target folder : Node) (name : List ℕ)
+    (can : CanPlace target folder name old) (d s e u : Node → List Ace) (which : Which) (n : Node)
+    → is_linked_in (after old target folder name can d s) which
+    (change old target folder name can d s n)
+    ≡ is_linked_in (after old target folder name can e u) which
+    (change old target folder name can e u n)
 linked_any old target folder name can d s e u which n = elim (cases_Bool (n.id == target.id)) [
-  | inl is ↦ linked_here old target folder name can d s which n is ∙ sym (linked_here old target folder name can e u which n is)
-  | inr isnt ↦ linked_elsewhere old target folder name can d s which n isnt ∙ sym (linked_elsewhere old target folder name can e u which n isnt)
+  | inl is ↦ linked_here old target folder name can d s which n is
+      ∙ sym (linked_here old target folder name can e u which n is)
+  | inr isnt ↦ linked_elsewhere old target folder name can d s which n isnt
+      ∙ sym (linked_elsewhere old target folder name can e u which n isnt)
 ]

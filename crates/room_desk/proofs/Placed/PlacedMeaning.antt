@@ -27,16 +27,26 @@ use Rattle.room_desk.proofs.Placed.PlacedTree.{after, change, is_target}
 -- ---- the entries that one list keeps
 
 -- what isn't linked is as before
-pub kept_same : (l m : Bool) (held : Held) (x : List Ace) → l ≡ m → (l ≡ false → x ≡ held.inh) → kept_held l (record held { inh = x }) ≡ kept_held m held
+pub kept_same : (l m : Bool) (held : Held) (x : List Ace) → l ≡ m → (l ≡ false → x ≡ held.inh)
+    → kept_held l (record held { inh = x }) ≡ kept_held m held
 kept_same l true held x same known = ap (λ b. kept_held b (record held { inh = x })) same
-kept_same l false held x same known = ap (λ b. kept_held b (record held { inh = x })) same ∙ ap (λ (e : List Ace). record held { inh = e }) (known same)
+kept_same l false held x same known =
+    ap (λ b. kept_held b (record held { inh = x })) same
+    ∙ ap (λ (e : List Ace). record held { inh = e }) (known same)
 
-pub kept_moved : (l m : Bool) (held : Held) (x : List Ace) → l ≡ m → (l ≡ false → x ≡ held.inh) → kept_held l (record held { inh = x }) ≡ record held { inh = cond m [] held.inh }
+pub kept_moved : (l m : Bool) (held : Held) (x : List Ace) → l ≡ m → (l ≡ false → x ≡ held.inh)
+    → kept_held l (record held { inh = x }) ≡ record held { inh = cond m [] held.inh }
 kept_moved l true held x same known = ap (λ b. kept_held b (record held { inh = x })) same
-kept_moved l false held x same known = ap (λ b. kept_held b (record held { inh = x })) same ∙ ap (λ (e : List Ace). record held { inh = e }) (known same)
+kept_moved l false held x same known =
+    ap (λ b. kept_held b (record held { inh = x })) same
+    ∙ ap (λ (e : List Ace). record held { inh = e }) (known same)
 
-module _ (old : Rows) (target folder : Node) (name : List ℕ) (can : CanPlace target folder name old) (d s : Node → List Ace)
-    (kept : (which : Which) (n : Node) → node_at old.read n.id ≡ Some n → is_linked_in (after old target folder name can d s) which (change old target folder name can d s n) ≡ false → lists target.id folder.id name d s which n ≡ (held_of which n).inh) where
+module _ (old : Rows) (target folder : Node) (name : List ℕ) (can : CanPlace target folder name old)
+    (d s : Node → List Ace)
+    (kept : (which : Which) (n : Node) → node_at old.read n.id ≡ Some n
+    → is_linked_in (after old target folder name can d s) which
+    (change old target folder name can d s n) ≡ false
+    → lists target.id folder.id name d s which n ≡ (held_of which n).inh) where
   abbrev before : Content
   before = old.read
 
@@ -53,45 +63,108 @@ module _ (old : Rows) (target folder : Node) (name : List ℕ) (can : CanPlace t
   is_there n = node_at before n.id ≡ Some n
 
   held_elsewhere : (which : Which) (n : Node) → is_there n → (n.id == target.id) ≡ false
-      → kept_held (is_linked_in now which (moved n)) (record (held_of which n) { inh = lists target.id folder.id name d s which n }) ≡ kept_held (is_linked_in before which n) (held_of which n)
-  held_elsewhere which n there isnt = kept_same (is_linked_in now which (moved n)) (is_linked_in before which n) (held_of which n) (lists target.id folder.id name d s which n) (linked_elsewhere old target folder name can d s which n isnt) (kept which n there)
+      → kept_held (is_linked_in now which (moved n))
+      (record (held_of which n) { inh = lists target.id folder.id name d s which n })
+      ≡ kept_held (is_linked_in before which n) (held_of which n)
+  held_elsewhere which n there isnt =
+      kept_same (is_linked_in now which (moved n)) (is_linked_in before which n) (held_of which n)
+      (lists target.id folder.id name d s which n)
+      (linked_elsewhere old target folder name can d s which n isnt) (kept which n there)
 
   held_here : (which : Which) (n : Node) → is_there n → (n.id == target.id) ≡ true
-      → kept_held (is_linked_in now which (moved n)) (record (held_of which n) { inh = lists target.id folder.id name d s which n }) ≡ record (held_of which n) { inh = cond (is_linked (held_of which n) (Some (held_of which folder))) [] (held_of which n).inh }
+      → kept_held (is_linked_in now which (moved n))
+      (record (held_of which n) { inh = lists target.id folder.id name d s which n })
+      ≡ record (held_of which n) {
+        inh = cond
+            (is_linked (held_of which n) (Some (held_of which folder))) [] (held_of which n).inh;
+      }
   held_here which n there is =
-      kept_moved (is_linked_in now which (moved n)) (is_linked (held_of which n) (Some (held_of which folder))) (held_of which n) (lists target.id folder.id name d s which n) (linked_here old target folder name can d s which n is) (kept which n there)
+      kept_moved (is_linked_in now which (moved n))
+      (is_linked (held_of which n) (Some (held_of which folder))) (held_of which n)
+      (lists target.id folder.id name d s which n)
+      (linked_here old target folder name can d s which n is) (kept which n there)
 
-  kept_elsewhere : (n : Node) → is_there n → (n.id == target.id) ≡ false → kept_node now (moved n) ≡ kept_node before n
+  kept_elsewhere : (n : Node) → is_there n → (n.id == target.id) ≡ false
+      → kept_node now (moved n) ≡ kept_node before n
   kept_elsewhere n there isnt =
-      ap (λ b. record (cond b (with_place folder.id name n) n) { dacl = kept_held (is_linked_in now Dacl (moved n)) (moved n).dacl; sacl = kept_held (is_linked_in now Sacl (moved n)) (moved n).sacl }) isnt
-      ∙ ap (λ (h : Held). record n { dacl = h; sacl = kept_held (is_linked_in now Sacl (moved n)) (moved n).sacl }) (held_elsewhere Dacl n there isnt)
-      ∙ ap (λ (h : Held). record n { dacl = kept_held (is_linked_in before Dacl n) n.dacl; sacl = h }) (held_elsewhere Sacl n there isnt)
+      ap (λ b. record (cond b (with_place folder.id name n) n) {
+        dacl = kept_held
+            (is_linked_in now Dacl (moved n)) (moved n).dacl;
+        sacl = kept_held
+            (is_linked_in now Sacl (moved n)) (moved n).sacl;
+      }) isnt
+      ∙ ap
+      (λ (h : Held). record n {
+        dacl = h;
+        sacl = kept_held (is_linked_in now Sacl (moved n))
+            (moved n).sacl;
+      }) (held_elsewhere Dacl n there isnt)
+      ∙ ap
+      (λ (h : Held). record n {
+        dacl = kept_held (is_linked_in before Dacl n) n.dacl;
+        sacl = h;
+      }) (held_elsewhere Sacl n there isnt)
 
   abbrev placed_as : Node → Node
-  placed_as n = record n { parent = Some folder.id; name = name; dacl = moved_held Dacl (stored_site [] n) (stored_site [] folder); sacl = moved_held Sacl (stored_site [] n) (stored_site [] folder) }
+  placed_as n =
+      record n {
+        parent = Some folder.id;
+        name = name;
+        dacl = moved_held Dacl (stored_site [] n) (stored_site [] folder);
+        sacl =
+            moved_held Sacl (stored_site [] n) (stored_site [] folder);
+      }
 
-  kept_here : (n : Node) → is_there n → (n.id == target.id) ≡ true → kept_node now (moved n) ≡ placed_as n
+  kept_here : (n : Node) → is_there n → (n.id == target.id) ≡ true
+      → kept_node now (moved n) ≡ placed_as n
   kept_here n there is =
-      ap (λ b. record (cond b (with_place folder.id name n) n) { dacl = kept_held (is_linked_in now Dacl (moved n)) (moved n).dacl; sacl = kept_held (is_linked_in now Sacl (moved n)) (moved n).sacl }) is
-      ∙ ap (λ (h : Held). record (with_place folder.id name n) { dacl = h; sacl = kept_held (is_linked_in now Sacl (moved n)) (moved n).sacl }) (held_here Dacl n there is)
-      ∙ ap (λ (h : Held). record (with_place folder.id name n) { dacl = moved_held Dacl (stored_site [] n) (stored_site [] folder); sacl = h }) (held_here Sacl n there is)
+      ap (λ b. record (cond b (with_place folder.id name n) n) {
+        dacl = kept_held
+            (is_linked_in now Dacl (moved n)) (moved n).dacl;
+        sacl = kept_held
+            (is_linked_in now Sacl (moved n)) (moved n).sacl;
+      }) is
+      ∙ ap
+      (λ (h : Held). record (with_place folder.id name n) {
+        dacl = h;
+        sacl = kept_held (is_linked_in now Sacl (moved n)) (moved n).sacl;
+      })
+      (held_here Dacl n there is)
+      ∙ ap
+      (λ (h : Held). record (with_place folder.id name n) {
+        dacl = moved_held Dacl
+            (stored_site [] n) (stored_site [] folder);
+        sacl = h;
+      }) (held_here Sacl n there is)
 
-  each_kept : (n : Node) → is_there n → kept_node now (moved n) ≡ replaced placed_node (kept_node before n)
+  each_kept : (n : Node) → is_there n
+      → kept_node now (moved n) ≡ replaced placed_node (kept_node before n)
   each_kept n there = elim (cases_Bool (n.id == target.id)) [
-    | inl is ↦ kept_here n there is ∙ ap placed_as (is_target old target folder name can d s n there is) ∙ sym (replaced_here placed_node (kept_node before n) (eqb-true n.id target.id is))
-    | inr isnt ↦ kept_elsewhere n there isnt ∙ sym (replaced_elsewhere placed_node (kept_node before n) (eqb-false n.id target.id isnt))
+    | inl is ↦ kept_here n there is
+        ∙ ap placed_as (is_target old target folder name can d s n there is)
+        ∙ sym (replaced_here placed_node (kept_node before n) (eqb-true n.id target.id is))
+    | inr isnt ↦ kept_elsewhere n there isnt
+        ∙ sym (replaced_elsewhere placed_node (kept_node before n) (eqb-false n.id target.id isnt))
   ]
 
   abbrev kept_before : Node → Node
   kept_before n = kept_node before n
 
   same_places : KeepsPlaces before kept_before
-  same_places = keeps_places before kept_before (λ n. record { number = refl; parent = refl; name = refl })
+  same_places =
+      keeps_places before kept_before (λ n. record { number = refl; parent = refl; name = refl })
 
   pub means_placed : meaning now ≡ with_node (meaning before) placed_node
   means_placed =
       ap (λ (nodes : List Node). record before { nodes = nodes })
       (map_map (kept_node now) moved before.nodes
-      ∙ map_agree (λ n. kept_node now (moved n)) (λ n. replaced placed_node (kept_before n)) before.nodes (each_there (λ n. kept_node now (moved n) ≡ replaced placed_node (kept_before n)) before.nodes (apart before can.are.numbers) each_kept)
+      ∙ map_agree (λ n. kept_node now (moved n))
+      (λ n. replaced placed_node (kept_before n)) before.nodes
+      (each_there (λ n. kept_node now (moved n) ≡ replaced placed_node (kept_before n)) before.nodes
+      (apart before can.are.numbers) each_kept)
       ∙ sym (map_map (replaced placed_node) kept_before before.nodes)
-      ∙ sym (put-replaces 0 (map kept_before before.nodes) target.id (kept_before target) placed_node (rises-with_each before kept_before same_places can.are.numbers) (node_at-changed before kept_before (λ n. refl) target.id ∙ ap (option_map kept_before) can.target_there) refl))
+      ∙ sym (put-replaces 0 (map kept_before before.nodes) target.id
+      (kept_before target) placed_node
+      (rises-with_each before kept_before same_places can.are.numbers)
+      (node_at-changed before kept_before (λ n. refl) target.id
+      ∙ ap (option_map kept_before) can.target_there) refl))

@@ -25,7 +25,11 @@ use Rattle.room_desk.proofs.Placed.Climbing.{node_at-changed, same_some}
 module _ (t k : ℕ) (name : List ℕ) (d s : Node → List Ace) where
   -- the object of the number t gets that place, and each these inherited entries
   abbrev pub placed : Node → Node
-  placed n = record (cond (n.id == t) (with_place k name n) n) { dacl = record n.dacl { inh = d n }; sacl = record n.sacl { inh = s n } }
+  placed n =
+      record (cond (n.id == t) (with_place k name n) n) {
+        dacl = record n.dacl { inh = d n };
+        sacl = record n.sacl { inh = s n };
+      }
 
   abbrev pub lists : Which → Node → List Ace
   lists Dacl n = d n
@@ -57,7 +61,8 @@ module _ (t k : ℕ) (name : List ℕ) (d s : Node → List Ace) where
   pub named_here : (n : Node) → (n.id == t) ≡ true → (placed n).name ≡ name
   named_here n is = ap (λ b. (cond b (with_place k name n) n).name) is
 
-  pub placed_held : (which : Which) (n : Node) → held_of which (placed n) ≡ record (held_of which n) { inh = lists which n }
+  pub placed_held : (which : Which) (n : Node)
+      → held_of which (placed n) ≡ record (held_of which n) { inh = lists which n }
   placed_held Dacl n = refl
   placed_held Sacl n = refl
 
@@ -71,8 +76,10 @@ module _ (content : Content) (rises : Rises content) where
   apart = apart_rising 0 content.nodes rises
 
   -- what all pass, each that is there passes
-  pub passes : (test : Node → Bool) → list_all test content.nodes ≡ true → (n : Node) → There n → test n ≡ true
-  passes test all n there = each_found (λ m. test m ≡ true) n.id content.nodes n (each_all test content.nodes all) there
+  pub passes : (test : Node → Bool) → list_all test content.nodes ≡ true → (n : Node) → There n
+      → test n ≡ true
+  passes test all n there =
+      each_found (λ m. test m ≡ true) n.id content.nodes n (each_all test content.nodes all) there
 
   pub one_there : (a b : Node) → There a → There b → a.id ≡ b.id → a ≡ b
   one_there a b first second same = same_some a b (sym first ∙ ap (node_at content) same ∙ second)
@@ -85,39 +92,59 @@ module _ (content : Content) (rises : Rises content) where
     after = with_each content change
 
     -- the objects afterwards pass a test if what each becomes does
-    pub all_after : (test : Node → Bool) → ((n : Node) → There n → test (change n) ≡ true) → list_all test after.nodes ≡ true
-    all_after test each = list_all-map test change content.nodes ∙ all_each (λ n. test (change n)) content.nodes (each_there (λ n. test (change n) ≡ true) content.nodes apart each)
+    pub all_after : (test : Node → Bool) → ((n : Node) → There n → test (change n) ≡ true)
+        → list_all test after.nodes ≡ true
+    all_after test each =
+        list_all-map test change content.nodes
+        ∙ all_each (λ n. test (change n)) content.nodes
+        (each_there (λ n. test (change n) ≡ true) content.nodes apart each)
 
     -- what an object was before
-    pub base : (id : ℕ) (m : Node) → node_at after id ≡ Some m → (n : Node) × There n × (m ≡ change n)
-    base id m found = on (node_at content id) (λ n is. there_again id n is) (sym (node_at-changed content change number id) ∙ found)
+    pub base : (id : ℕ) (m : Node) → node_at after id ≡ Some m → (n : Node) × There n
+        × (m ≡ change n)
+    base id m found =
+        on (node_at content id) (λ n is. there_again id n is)
+        (sym (node_at-changed content change number id) ∙ found)
       where
-        on : (o : Option Node) → ((n : Node) → o ≡ Some n → There n) → option_map change o ≡ Some m → (n : Node) × There n × (m ≡ change n)
+        on : (o : Option Node) → ((n : Node) → o ≡ Some n → There n) → option_map change o ≡ Some m
+            → (n : Node) × There n × (m ≡ change n)
         on None known is = absurd (let wrong : ⊥ = cc in wrong)
         on (Some n) known is = (n, known n refl, sym (same_some (change n) m is))
 
     pub change_there : (n : Node) → There n → node_at after (change n).id ≡ Some (change n)
-    change_there n there = ap (node_at after) (number n) ∙ node_at-changed content change number n.id ∙ ap (option_map change) there
+    change_there n there =
+        ap (node_at after) (number n) ∙ node_at-changed content change number n.id
+        ∙ ap (option_map change) there
 
     -- where the parent is the same, it is what the old one became
-    pub parent_after : (n : Node) → (change n).parent ≡ n.parent → parent_of after (change n) ≡ option_map change (parent_of content n)
+    pub parent_after : (n : Node) → (change n).parent ≡ n.parent
+        → parent_of after (change n) ≡ option_map change (parent_of content n)
     parent_after n same = ap (option_and_then (node_at after)) same ∙ on n.parent
       where
-        on : (parent : Option ℕ) → option_and_then (node_at after) parent ≡ option_map change (option_and_then (node_at content) parent)
+        on : (parent : Option ℕ)
+            → option_and_then (node_at after) parent
+            ≡ option_map change (option_and_then (node_at content) parent)
         on None = refl
         on (Some id) = node_at-changed content change number id
 
-    pub parent_found : (n above : Node) (id : ℕ) → (change n).parent ≡ Some id → node_at content id ≡ Some above → parent_of after (change n) ≡ Some (change above)
-    parent_found n above id is found = ap (option_and_then (node_at after)) is ∙ node_at-changed content change number id ∙ ap (option_map change) found
+    pub parent_found : (n above : Node) (id : ℕ) → (change n).parent ≡ Some id
+        → node_at content id ≡ Some above → parent_of after (change n) ≡ Some (change above)
+    parent_found n above id is found =
+        ap (option_and_then (node_at after)) is ∙ node_at-changed content change number id
+        ∙ ap (option_map change) found
 
 -- ---- what links a list
 
 -- the flags alone decide
-pub linked_flags : (a b : Held) (o : Option Held) → a.flags ≡ b.flags → is_linked a o ≡ is_linked b o
+pub linked_flags : (a b : Held) (o : Option Held) → a.flags ≡ b.flags
+    → is_linked a o ≡ is_linked b o
 linked_flags a b None same = refl
 linked_flags a b (Some above) same = ap (λ (f : ListFlags). not f.protect && above.flags.auto) same
 
-pub linked_above : (a : Held) (which : Which) (o : Option Node) (change : Node → Node) → ((n : Node) → (held_of which (change n)).flags ≡ (held_of which n).flags)
-    → is_linked a (option_map (held_of which) (option_map change o)) ≡ is_linked a (option_map (held_of which) o)
+pub linked_above : (a : Held) (which : Which) (o : Option Node) (change : Node → Node)
+    → ((n : Node) → (held_of which (change n)).flags ≡ (held_of which n).flags)
+    → is_linked a (option_map (held_of which) (option_map change o))
+    ≡ is_linked a (option_map (held_of which) o)
 linked_above a which None change same = refl
-linked_above a which (Some above) change same = ap (λ (f : ListFlags). not a.flags.protect && f.auto) (same above)
+linked_above a which (Some above) change same =
+    ap (λ (f : ListFlags). not a.flags.protect && f.auto) (same above)

@@ -29,8 +29,12 @@ use Rattle.room_desk.proofs.Placed.PlacedTree.{after, bodies_after, change, faul
 use Rattle.room_desk.proofs.Sound.SoundParts.{none_unreadable, sound_parts}
 use Rattle.room_desk.proofs.Lists.ValidDown.{are_inherited, are_own, held_parts, valid_down}
 
-module _ (old : Rows) (target folder : Node) (name : List ℕ) (can : CanPlace target folder name old) (d s : Node → List Ace)
-    (kept : (which : Which) (n : Node) → node_at old.read n.id ≡ Some n → is_linked_in (after old target folder name can d s) which (change old target folder name can d s n) ≡ false → lists target.id folder.id name d s which n ≡ (held_of which n).inh)
+module _ (old : Rows) (target folder : Node) (name : List ℕ) (can : CanPlace target folder name old)
+    (d s : Node → List Ace)
+    (kept : (which : Which) (n : Node) → node_at old.read n.id ≡ Some n
+    → is_linked_in (after old target folder name can d s) which
+    (change old target folder name can d s n) ≡ false
+    → lists target.id folder.id name d s which n ≡ (held_of which n).inh)
     (law : (which : Which) → AllAgree (after old target folder name can d s) which) where
   abbrev before : Content
   before = old.read
@@ -50,86 +54,135 @@ module _ (old : Rows) (target folder : Node) (name : List ℕ) (can : CanPlace t
   moved_number : (n : Node) → (moved n).id ≡ n.id
   moved_number = number old target folder name can d s
 
-  was : (id : ℕ) (m : Node) → node_at now id ≡ Some m → (n : Node) × (node_at before n.id ≡ Some n) × (m ≡ moved n)
+  was : (id : ℕ) (m : Node) → node_at now id ≡ Some m → (n : Node) × (node_at before n.id ≡ Some n)
+      × (m ≡ moved n)
   was = base before can.are.numbers moved moved_number
 
-  passed_now : (test : Node → Bool) → list_all test now.nodes ≡ true → (m : Node) → node_at now m.id ≡ Some m → test m ≡ true
+  passed_now : (test : Node → Bool) → list_all test now.nodes ≡ true → (m : Node)
+      → node_at now m.id ≡ Some m → test m ≡ true
   passed_now test all m there =
       let earlier = was m.id m there in
-      ap test earlier.2 ∙ each_found (λ x. test (moved x) ≡ true) earlier.0.id before.nodes earlier.0 (each_all (λ x. test (moved x)) before.nodes (sym (list_all-map test moved before.nodes) ∙ all)) earlier.1
+      ap test earlier.2 ∙ each_found (λ x. test (moved x) ≡ true) earlier.0.id before.nodes
+      earlier.0 (each_all (λ x. test (moved x)) before.nodes
+      (sym (list_all-map test moved before.nodes) ∙ all)) earlier.1
 
-  held_was : (which : Which) (n : Node) → node_at before n.id ≡ Some n → is_sound_held which n.kind (held_of which n) ≡ true
-  held_was which n there = held_sound which n (lists_there old readable can.are (faultless old target folder name can d s) n there)
+  held_was : (which : Which) (n : Node) → node_at before n.id ≡ Some n
+      → is_sound_held which n.kind (held_of which n) ≡ true
+  held_was which n there =
+      held_sound which n (lists_there old readable can.are
+      (faultless old target folder name can d s) n there)
 
   -- ---- lists
 
-  held_now : (which : Which) (n : Node) → held_of which (moved n) ≡ record (held_of which n) { inh = lists target.id folder.id name d s which n }
+  held_now : (which : Which) (n : Node)
+      → held_of which (moved n)
+      ≡ record (held_of which n) { inh = lists target.id folder.id name d s which n }
   held_now which n = placed_held target.id folder.id name d s which n
 
-  own_now : (which : Which) (m : Node) → node_at now m.id ≡ Some m → (l : List Ace) × (is_sound_held which m.kind (record (held_of which m) { inh = l }) ≡ true)
+  own_now : (which : Which) (m : Node) → node_at now m.id ≡ Some m → (l : List Ace)
+      × (is_sound_held which m.kind (record (held_of which m) { inh = l }) ≡ true)
   own_now which m there =
       let earlier = was m.id m there in (
         (held_of which earlier.0).inh,
-        ap (λ (x : Node). is_sound_held which x.kind (record (held_of which x) { inh = (held_of which earlier.0).inh })) earlier.2
-            ∙ ap (λ k. is_sound_held which k (record (held_of which (moved earlier.0)) { inh = (held_of which earlier.0).inh })) (kind old target folder name can d s earlier.0)
-            ∙ ap (λ (h : Held). is_sound_held which earlier.0.kind (record h { inh = (held_of which earlier.0).inh })) (held_now which earlier.0)
+        ap (λ (x : Node). is_sound_held which x.kind
+            (record (held_of which x) { inh = (held_of which earlier.0).inh })) earlier.2
+            ∙ ap
+            (λ k. is_sound_held which k
+            (record (held_of which (moved earlier.0)) { inh = (held_of which earlier.0).inh }))
+            (kind old target folder name can d s earlier.0)
+            ∙ ap (λ (h : Held). is_sound_held which earlier.0.kind
+            (record h { inh = (held_of which earlier.0).inh })) (held_now which earlier.0)
             ∙ held_was which earlier.0 earlier.1,
       )
 
-  unlinked_now : (which : Which) (m : Node) → node_at now m.id ≡ Some m → is_linked_in now which m ≡ false → is_sound_held which m.kind (held_of which m) ≡ true
+  unlinked_now : (which : Which) (m : Node) → node_at now m.id ≡ Some m
+      → is_linked_in now which m ≡ false → is_sound_held which m.kind (held_of which m) ≡ true
   unlinked_now which m there isnt =
       let earlier = was m.id m there in
-      let same : lists target.id folder.id name d s which earlier.0 ≡ (held_of which earlier.0).inh = kept which earlier.0 earlier.1 (sym (ap (is_linked_in now which) earlier.2) ∙ isnt) in
+      let same : lists target.id folder.id name d s which earlier.0
+      ≡ (held_of which earlier.0).inh =
+      kept which earlier.0 earlier.1 (sym (ap (is_linked_in now which) earlier.2) ∙ isnt) in
       ap (λ (x : Node). is_sound_held which x.kind (held_of which x)) earlier.2
-      ∙ ap (λ k. is_sound_held which k (held_of which (moved earlier.0))) (kind old target folder name can d s earlier.0)
+      ∙ ap (λ k. is_sound_held which k (held_of which (moved earlier.0)))
+      (kind old target folder name can d s earlier.0)
       ∙ ap (λ (h : Held). is_sound_held which earlier.0.kind h) (held_now which earlier.0)
-      ∙ ap (λ (l : List Ace). is_sound_held which earlier.0.kind (record (held_of which earlier.0) { inh = l })) same
+      ∙ ap (λ (l : List Ace). is_sound_held which earlier.0.kind
+      (record (held_of which earlier.0) { inh = l })) same
       ∙ held_was which earlier.0 earlier.1
 
-  list_now : (which : Which) (m : Node) → node_at now m.id ≡ Some m → is_sound_held which m.kind (held_of which m) ≡ true
+  list_now : (which : Which) (m : Node) → node_at now m.id ≡ Some m
+      → is_sound_held which m.kind (held_of which m) ≡ true
   list_now which m there =
       held_parts which m.kind (held_of which m)
-      ∙ and_from (are_own which m.kind (held_of which m).own) (are_inherited which m.kind (held_of which m).inh) (own_parts m there)
-      (valid_down which now (law which) (parents_after old target folder name can d s) own_parts kept_parts (length now.nodes) m there (passed_now (reaches now) (reach_after old target folder name can d s) m there))
+      ∙ and_from (are_own which m.kind (held_of which m).own)
+      (are_inherited which m.kind (held_of which m).inh) (own_parts m there)
+      (valid_down which now (law which)
+      (parents_after old target folder name can d s) own_parts kept_parts (length now.nodes) m there
+      (passed_now (reaches now) (reach_after old target folder name can d s) m there))
     where
-      own_parts : (n : Node) → node_at now n.id ≡ Some n → are_own which n.kind (held_of which n).own ≡ true
+      own_parts : (n : Node) → node_at now n.id ≡ Some n
+          → are_own which n.kind (held_of which n).own ≡ true
       own_parts n found =
           let with_some = own_now which n found in
-          (and_parts (are_own which n.kind (held_of which n).own) (are_inherited which n.kind with_some.0) (sym (held_parts which n.kind (record (held_of which n) { inh = with_some.0 })) ∙ with_some.1)).0
+          (and_parts (are_own which n.kind (held_of which n).own)
+          (are_inherited which n.kind with_some.0)
+          (sym (held_parts which n.kind (record (held_of which n) { inh = with_some.0 }))
+          ∙ with_some.1)).0
 
-      kept_parts : (n : Node) → node_at now n.id ≡ Some n → is_linked_in now which n ≡ false → are_inherited which n.kind (held_of which n).inh ≡ true
+      kept_parts : (n : Node) → node_at now n.id ≡ Some n → is_linked_in now which n ≡ false
+          → are_inherited which n.kind (held_of which n).inh ≡ true
       kept_parts n found apart =
-          (and_parts (are_own which n.kind (held_of which n).own) (are_inherited which n.kind (held_of which n).inh) (sym (held_parts which n.kind (held_of which n)) ∙ unlinked_now which n found apart)).1
+          (and_parts (are_own which n.kind (held_of which n).own)
+          (are_inherited which n.kind (held_of which n).inh)
+          (sym (held_parts which n.kind (held_of which n)) ∙ unlinked_now which n found apart)).1
 
   lists_now : (id : ℕ) (m : Node) → node_at now id ≡ Some m → has_sound_lists m ≡ true
   lists_now id m found =
-      let there : node_at now m.id ≡ Some m = ap (node_at now) (node_at-number now id m found) ∙ found in
-      and_from (is_sound_held Dacl m.kind m.dacl) (is_sound_held Sacl m.kind m.sacl) (list_now Dacl m there) (list_now Sacl m there)
+      let there : node_at now m.id ≡ Some m = ap (node_at now) (node_at-number now id m found)
+      ∙ found in
+      and_from (is_sound_held Dacl m.kind m.dacl) (is_sound_held Sacl m.kind m.sacl)
+      (list_now Dacl m there) (list_now Sacl m there)
 
   -- ---- the root
 
   -- it is linked to nothing, so it stays as it is
   root_stays : (n : Node) → node_at before n.id ≡ Some n → is_root n ≡ true → moved n ≡ n
   root_stays n there root =
-      let isnt : (n.id == target.id) ≡ false = false_from_ne_true (n.id == target.id) (λ is. false≢true (sym (ap is_none can.has_parent) ∙ ap is_root (sym (is_target old target folder name can d s n there is)) ∙ root)) in
-      let none : (moved n).parent ≡ None = root_none (moved n).parent (same_root old target folder name can d s n there ∙ root) in
-      let unlinked : (which : Which) → is_linked_in now which (moved n) ≡ false = λ which. ap (λ p. is_linked (held_of which (moved n)) (option_map (held_of which) (option_and_then (node_at now) p))) none in
+      let isnt : (n.id == target.id) ≡ false = false_from_ne_true (n.id == target.id)
+      (λ is. false≢true (sym (ap is_none can.has_parent)
+      ∙ ap is_root (sym (is_target old target folder name can d s n there is)) ∙ root)) in
+      let none : (moved n).parent ≡ None = root_none (moved n).parent
+      (same_root old target folder name can d s n there ∙ root) in
+      let unlinked : (which : Which) → is_linked_in now which (moved n) ≡ false = λ which. ap
+      (λ p. is_linked (held_of which (moved n))
+      (option_map (held_of which) (option_and_then (node_at now) p))) none in
       ap (λ b. with_lists (cond b (with_place folder.id name n) n) (d n) (s n)) isnt
-      ∙ ap (λ l. with_lists n l (s n)) (kept Dacl n there (unlinked Dacl)) ∙ ap (λ l. with_lists n n.dacl.inh l) (kept Sacl n there (unlinked Sacl))
+      ∙ ap (λ l. with_lists n l (s n)) (kept Dacl n there (unlinked Dacl))
+      ∙ ap (λ l. with_lists n n.dacl.inh l) (kept Sacl n there (unlinked Sacl))
     where
       with_lists : Node → List Ace → List Ace → Node
-      with_lists m a b = record m { dacl = record n.dacl { inh = a }; sacl = record n.sacl { inh = b } }
+      with_lists m a b =
+          record m { dacl = record n.dacl { inh = a }; sacl = record n.sacl { inh = b } }
 
   root_now : bad_root (filter is_root now.nodes) ≡ None
   root_now =
-      ap bad_root (roots_same moved before.nodes (each_there (λ n. (is_root (moved n) ≡ is_root n) × (is_root n ≡ true → moved n ≡ n)) before.nodes (apart before can.are.numbers) (λ n there. (same_root old target folder name can d s n there, root_stays n there))))
+      ap bad_root (roots_same moved before.nodes
+      (each_there (λ n. (is_root (moved n) ≡ is_root n)
+      × (is_root n ≡ true → moved n ≡ n)) before.nodes (apart before can.are.numbers)
+      (λ n there. (same_root old target folder name can d s n there, root_stays n there))))
       ∙ (faultless old target folder name can d s).root
 
   -- ---- the law
 
   law_now : list_all (keeps_law now) now.nodes ≡ true
-  law_now = all_each (keeps_law now) now.nodes (each_weaker (λ m. (agrees now Dacl m ≡ true) × (agrees now Sacl m ≡ true)) (λ m. keeps_law now m ≡ true) (λ m both. and_from (agrees now Dacl m) (agrees now Sacl m) both.0 both.1) now.nodes
-      (each_both (λ m. agrees now Dacl m ≡ true) (λ m. agrees now Sacl m ≡ true) now.nodes (each_all (agrees now Dacl) now.nodes (law Dacl)) (each_all (agrees now Sacl) now.nodes (law Sacl))))
+  law_now =
+      all_each (keeps_law now) now.nodes
+      (each_weaker (λ m. (agrees now Dacl m ≡ true) × (agrees now Sacl m ≡ true))
+      (λ m. keeps_law now m ≡ true)
+      (λ m both. and_from (agrees now Dacl m) (agrees now Sacl m) both.0 both.1) now.nodes
+      (each_both (λ m. agrees now Dacl m ≡ true) (λ m. agrees now Sacl m ≡ true) now.nodes
+      (each_all (agrees now Dacl) now.nodes (law Dacl))
+      (each_all (agrees now Sacl) now.nodes (law Sacl))))
 
   pub sound_placed : AreSound rows
   sound_placed = sound rows (record {

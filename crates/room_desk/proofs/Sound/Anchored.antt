@@ -1,4 +1,5 @@
--- Objects whose parents lead to the root, where one object of the rows is put in the place of another.
+-- Objects whose parents lead to the root, where one object of the rows is put in the place of
+-- another.
 use Rattle.std.proofs.Common.{◌≡◌, ℕ, zero, suc, ◌==◌, Bool, true, false, not, cond, List, [], ◌∷◌, map, Option, Some, None, refl, sym, ap, subst, ◌∙◌, inl, inr}
 use Rattle.std.specs.Prelude.{IsTrue}
 use Rattle.std.specs.Option.{option_map, option_map_or}
@@ -16,16 +17,22 @@ use Rattle.room_desk.specs.Carrying.{HasLoop, IsRooted}
 use Rattle.room_desk.specs.Moving.{KeepsRoot, goes_past}
 use Rattle.room_desk.proofs.Placed.Climbing.{node_at-changed, reaches-changed, same_some, step_up}
 
-numbers_same : (change : Node → Node) → ((n : Node) → (change n).id ≡ n.id) → (nodes : List Node) → map (λ (n : Node). n.id) (map change nodes) ≡ map (λ (n : Node). n.id) nodes
+numbers_same : (change : Node → Node) → ((n : Node) → (change n).id ≡ n.id) → (nodes : List Node)
+    → map (λ (n : Node). n.id) (map change nodes) ≡ map (λ (n : Node). n.id) nodes
 numbers_same change number [] = refl
-numbers_same change number (x ∷ xs) = ap (λ (i : ℕ). i ∷ map (λ (n : Node). n.id) (map change xs)) (number x) ∙ ap (λ (l : List ℕ). x.id ∷ l) (numbers_same change number xs)
+numbers_same change number (x ∷ xs) =
+    ap (λ (i : ℕ). i ∷ map (λ (n : Node). n.id) (map change xs)) (number x)
+    ∙ ap (λ (l : List ℕ). x.id ∷ l) (numbers_same change number xs)
 
-module _ (content : Content) (rises : Rises content) (node new : Node) (there : node_at content node.id ≡ Some node) (number : new.id ≡ node.id) where
+module _ (content : Content) (rises : Rises content) (node new : Node)
+    (there : node_at content node.id ≡ Some node) (number : new.id ≡ node.id) where
   abbrev after : Content
   after = with_node content new
 
   pub after_is : after ≡ with_each content (replaced new)
-  after_is = ap (λ (nodes : List Node). record content { nodes = nodes }) (put-replaces 0 content.nodes node.id node new rises there number)
+  after_is =
+      ap (λ (nodes : List Node). record content { nodes = nodes })
+      (put-replaces 0 content.nodes node.id node new rises there number)
 
   number_kept : (n : Node) → (replaced new n).id ≡ n.id
   number_kept n = on (n.id == new.id) refl
@@ -35,28 +42,44 @@ module _ (content : Content) (rises : Rises content) (node new : Node) (there : 
       on false is = refl
 
   pub rises_after : Rises after
-  rises_after = subst (λ (c : Content). IsTrue (is_rising (0 ∷ map (λ (n : Node). n.id) c.nodes))) (sym after_is)
-      (subst (λ (ids : List ℕ). IsTrue (is_rising (0 ∷ ids))) (sym (numbers_same (replaced new) number_kept content.nodes)) rises)
+  rises_after =
+      subst (λ (c : Content). IsTrue (is_rising (0 ∷ map (λ (n : Node). n.id) c.nodes)))
+      (sym after_is)
+      (subst (λ (ids : List ℕ). IsTrue (is_rising (0 ∷ ids)))
+      (sym (numbers_same (replaced new) number_kept content.nodes)) rises)
 
   found_after : (id : ℕ) → node_at after id ≡ option_map (replaced new) (node_at content id)
-  found_after id = ap (λ (c : Content). node_at c id) after_is ∙ node_at-changed content (replaced new) number_kept id
+  found_after id =
+      ap (λ (c : Content). node_at c id) after_is
+      ∙ node_at-changed content (replaced new) number_kept id
 
   pub here_after : node_at after node.id ≡ Some new
-  here_after = found_after node.id ∙ ap (option_map (replaced new)) there ∙ ap (λ (n : Node). Some n) (replaced_here new node (sym number))
+  here_after =
+      found_after node.id ∙ ap (option_map (replaced new)) there
+      ∙ ap (λ (n : Node). Some n) (replaced_here new node (sym number))
 
   -- what is found by another number is what it was
-  elsewhere : (id : ℕ) (n : Node) → node_at content id ≡ Some n → (id == node.id) ≡ false → replaced new n ≡ n
-  elsewhere id n found isnt = replaced_elsewhere new n (λ same. eqb-false id node.id isnt (sym (node_at-number content id n found) ∙ same ∙ number))
+  elsewhere : (id : ℕ) (n : Node) → node_at content id ≡ Some n → (id == node.id) ≡ false
+      → replaced new n ≡ n
+  elsewhere id n found isnt =
+      replaced_elsewhere new n
+      (λ same. eqb-false id node.id isnt (sym (node_at-number content id n found) ∙ same ∙ number))
 
   -- a way up that doesn't meet the object leads to the root
-  pub past_up : (n : ℕ) (parent : Option ℕ) → goes_past n content node.id parent ≡ true → reaches_root n after parent ≡ true
+  pub past_up : (n : ℕ) (parent : Option ℕ) → goes_past n content node.id parent ≡ true
+      → reaches_root n after parent ≡ true
   past_up n None past = refl
   past_up zero (Some id) past = absurd (false≢true past)
   past_up (suc n) (Some id) past =
-      let parts = and_parts (not (id == node.id)) (option_map_or (λ (m : Node). goes_past n content node.id m.parent) (node_at content id) false) past in
-      let up = step_up (λ (m : Node). goes_past n content node.id m.parent) (node_at content id) parts.1 in
-      ap (λ o. option_map_or (λ (above : Node). reaches_root n after above.parent) o false) (found_after id ∙ ap (option_map (replaced new)) up.1)
-      ∙ ap (λ (m : Node). reaches_root n after m.parent) (elsewhere id up.0 up.1 (isnt (id == node.id) parts.0))
+      let parts = and_parts (not (id == node.id))
+      (option_map_or (λ (m : Node). goes_past n content node.id m.parent)
+      (node_at content id) false) past in
+      let up = step_up (λ (m : Node). goes_past n content node.id m.parent)
+      (node_at content id) parts.1 in
+      ap (λ o. option_map_or (λ (above : Node). reaches_root n after above.parent) o false)
+      (found_after id ∙ ap (option_map (replaced new)) up.1)
+      ∙ ap (λ (m : Node). reaches_root n after m.parent)
+      (elsewhere id up.0 up.1 (isnt (id == node.id) parts.0))
       ∙ past_up n up.0.parent up.2
     where
       isnt : (b : Bool) → not b ≡ true → b ≡ false
@@ -65,52 +88,79 @@ module _ (content : Content) (rises : Rises content) (node new : Node) (there : 
 
   -- with the same parent the ways up are the same
   module _ (parent_same : new.parent ≡ node.parent) where
-    parent_kept : (id : ℕ) (n : Node) → node_at content id ≡ Some n → (replaced new n).parent ≡ n.parent
+    parent_kept : (id : ℕ) (n : Node) → node_at content id ≡ Some n
+        → (replaced new n).parent ≡ n.parent
     parent_kept id n found = elim (cases_Bool (id == node.id)) [
       | inl is ↦
-          let same : n ≡ node = same_some n node (sym found ∙ ap (node_at content) (eqb-true id node.id is) ∙ there) in
-          ap (λ (m : Node). (replaced new m).parent) same ∙ ap (λ (m : Node). m.parent) (replaced_here new node (sym number)) ∙ parent_same ∙ ap (λ (m : Node). m.parent) (sym same)
+          let same : n ≡ node = same_some n node
+          (sym found ∙ ap (node_at content) (eqb-true id node.id is) ∙ there) in
+          ap (λ (m : Node). (replaced new m).parent) same
+          ∙ ap (λ (m : Node). m.parent) (replaced_here new node (sym number)) ∙ parent_same
+          ∙ ap (λ (m : Node). m.parent) (sym same)
       | inr isnt ↦ ap (λ (m : Node). m.parent) (elsewhere id n found isnt)
     ]
 
-    pub same_up : (n : ℕ) (parent : Option ℕ) → reaches_root n content parent ≡ true → reaches_root n after parent ≡ true
+    pub same_up : (n : ℕ) (parent : Option ℕ) → reaches_root n content parent ≡ true
+        → reaches_root n after parent ≡ true
     same_up n None up = refl
     same_up zero (Some id) up = absurd (false≢true up)
     same_up (suc n) (Some id) up =
-        let above = step_up (λ (m : Node). reaches_root n content m.parent) (node_at content id) up in
-        ap (λ o. option_map_or (λ (a : Node). reaches_root n after a.parent) o false) (found_after id ∙ ap (option_map (replaced new)) above.1)
-        ∙ ap (reaches_root n after) (parent_kept id above.0 above.1) ∙ same_up n above.0.parent above.2
+        let above = step_up (λ (m : Node). reaches_root n content m.parent)
+        (node_at content id) up in
+        ap (λ o. option_map_or (λ (a : Node). reaches_root n after a.parent) o false)
+        (found_after id ∙ ap (option_map (replaced new)) above.1)
+        ∙ ap (reaches_root n after) (parent_kept id above.0 above.1)
+        ∙ same_up n above.0.parent above.2
 
 -- ---- rooted objects
 
 -- the object gets another list
-pub rooted_changed : (id : ℕ) (old mid : Rows) (change : Node → Node) → ((n : Node) → (change n).id ≡ n.id) → ((n : Node) → (change n).parent ≡ n.parent) → Changes id change old mid → IsRooted id old → KeepsRoot id old mid
+pub rooted_changed : (id : ℕ) (old mid : Rows) (change : Node → Node)
+    → ((n : Node) → (change n).id ≡ n.id) → ((n : Node) → (change n).parent ≡ n.parent)
+    → Changes id change old mid → IsRooted id old → KeepsRoot id old mid
 rooted_changed id old mid change number parent changes rooted =
     let named : rooted.node.id ≡ id = node_at-number old.read id rooted.node rooted.there in
-    let found : node_at old.read rooted.node.id ≡ Some rooted.node = ap (node_at old.read) named ∙ rooted.there in
-    let becomes : mid ≡ reading old (with_node old.read (change rooted.node)) = changes rooted.node rooted.there in
+    let found : node_at old.read rooted.node.id ≡ Some rooted.node = ap (node_at old.read) named
+    ∙ rooted.there in
+    let becomes : mid ≡ reading old (with_node old.read (change rooted.node)) =
+    changes rooted.node rooted.there in
     record {
       unreadable = ap (λ (r : Rows). r.unreadable) becomes;
       rooted = λ _. subst (IsRooted id) (sym becomes) (record {
-        rises = rises_after old.read rooted.rises rooted.node (change rooted.node) found (number rooted.node);
+        rises =
+            rises_after old.read rooted.rises rooted.node (change rooted.node) found
+            (number rooted.node);
         node = change rooted.node;
-        there = ap (node_at (with_node old.read (change rooted.node))) (sym named) ∙ here_after old.read rooted.rises rooted.node (change rooted.node) found (number rooted.node);
+        there =
+            ap (node_at (with_node old.read (change rooted.node))) (sym named)
+            ∙ here_after old.read rooted.rises rooted.node (change rooted.node) found
+            (number rooted.node);
         steps = rooted.steps;
-        reaches = ap (reaches_root rooted.steps (with_node old.read (change rooted.node))) (parent rooted.node)
-            ∙ same_up old.read rooted.rises rooted.node (change rooted.node) found (number rooted.node) (parent rooted.node) rooted.steps rooted.node.parent rooted.reaches;
+        reaches =
+            ap (reaches_root rooted.steps (with_node old.read (change rooted.node)))
+            (parent rooted.node)
+            ∙ same_up old.read rooted.rises rooted.node (change rooted.node) found
+            (number rooted.node)
+            (parent rooted.node) rooted.steps rooted.node.parent rooted.reaches;
       });
     }
 
 -- each object gets other inherited entries
-pub rooted_spread : (which : Which) (id at changed : ℕ) (old new : Rows) → IsSpread which at old new changed → IsRooted id old → KeepsRoot id old new
+pub rooted_spread : (which : Which) (id at changed : ℕ) (old new : Rows)
+    → IsSpread which at old new changed → IsRooted id old → KeepsRoot id old new
 rooted_spread which id at changed old new spread rooted = record {
   unreadable = ap (λ (r : Rows). r.unreadable) spread.becomes;
   rooted = λ _. subst (IsRooted id) (sym spread.becomes) (record {
-    rises = subst (λ (ids : List ℕ). IsTrue (is_rising (0 ∷ ids))) (sym (numbers_same change number old.read.nodes)) rooted.rises;
+    rises =
+        subst (λ (ids : List ℕ). IsTrue (is_rising (0 ∷ ids)))
+        (sym (numbers_same change number old.read.nodes)) rooted.rises;
     node = change rooted.node;
     there = node_at-changed old.read change number id ∙ ap (option_map change) rooted.there;
     steps = rooted.steps;
-    reaches = ap (reaches_root rooted.steps (with_each old.read change)) (parent rooted.node) ∙ reaches-changed old.read change number parent rooted.steps rooted.node.parent ∙ rooted.reaches;
+    reaches =
+        ap (reaches_root rooted.steps (with_each old.read change)) (parent rooted.node)
+        ∙ reaches-changed old.read change number parent rooted.steps rooted.node.parent
+        ∙ rooted.reaches;
   });
 }
   where
@@ -124,16 +174,22 @@ rooted_spread which id at changed old new spread rooted = record {
     parent n = (place-with_inh which (spread.lists n) n).parent
 
 -- what is rooted isn't its own ancestor
-pub rooted_unread : (id : ℕ) (rows : Rows) (at : ℕ) → IsRooted id rows → HasLoop id rows at → IsUnreadable rows at
+pub rooted_unread : (id : ℕ) (rows : Rows) (at : ℕ) → IsRooted id rows → HasLoop id rows at
+    → IsUnreadable rows at
 rooted_unread id rows at rooted (inl unreadable) = unreadable
-rooted_unread id rows at rooted (inr loop) = absurd (rooted_no_loop rows.read id rooted.steps rooted.node rooted.there rooted.reaches loop.1)
+rooted_unread id rows at rooted (inr loop) =
+    absurd (rooted_no_loop rows.read id rooted.steps rooted.node rooted.there rooted.reaches loop.1)
 
 -- nothing else became unreadable
-pub unread_first : (id : ℕ) (old mid : Rows) (at : ℕ) → KeepsRoot id old mid → IsUnreadable mid at → IsUnreadable old at
-unread_first id old mid at keeps h = subst (λ (l : List ℕ). IsTrue (Rattle.room_entry.specs.Pieces.is_among l at)) keeps.unreadable h
+pub unread_first : (id : ℕ) (old mid : Rows) (at : ℕ) → KeepsRoot id old mid → IsUnreadable mid at
+    → IsUnreadable old at
+unread_first id old mid at keeps h =
+    subst (λ (l : List ℕ). IsTrue (Rattle.room_entry.specs.Pieces.is_among l at)) keeps.unreadable h
 
 -- what is carried down from an object that gets another list
-pub changed_unread : (id : ℕ) (old mid : Rows) (at : ℕ) (change : Node → Node) → ((n : Node) → (change n).id ≡ n.id) → ((n : Node) → (change n).parent ≡ n.parent) → Changes id change old mid → HasLoop id mid at → IsRooted id old → IsUnreadable old at
+pub changed_unread : (id : ℕ) (old mid : Rows) (at : ℕ) (change : Node → Node)
+    → ((n : Node) → (change n).id ≡ n.id) → ((n : Node) → (change n).parent ≡ n.parent)
+    → Changes id change old mid → HasLoop id mid at → IsRooted id old → IsUnreadable old at
 changed_unread id old mid at change number parent changes loop rooted =
     let keeps = rooted_changed id old mid change number parent changes rooted in
     unread_first id old mid at keeps (rooted_unread id mid at (keeps.rooted rooted) loop)

@@ -23,23 +23,29 @@ pub damaged_before : (old mid : Rows) (at : ℕ) → mid ≡ old → IsDamaged m
 damaged_before old mid at same h = subst (λ (r : Rows). IsDamaged r at) same h
 
 -- records damage nothing
-pub noted_damaged : (old mid : Rows) (records : List AuditRow) (at : ℕ) → mid ≡ noted old records → IsDamaged mid at → IsDamaged old at
+pub noted_damaged : (old mid : Rows) (records : List AuditRow) (at : ℕ) → mid ≡ noted old records
+    → IsDamaged mid at → IsDamaged old at
 noted_damaged old mid records at same h = subst (λ (r : Rows). IsDamaged r at) same h
 
-pub noted_unread : (old mid : Rows) (records : List AuditRow) (at : ℕ) → mid ≡ noted old records → IsUnreadable mid at → IsDamaged old at
+pub noted_unread : (old mid : Rows) (records : List AuditRow) (at : ℕ) → mid ≡ noted old records
+    → IsUnreadable mid at → IsDamaged old at
 noted_unread old mid records at same h = inl (inl (subst (λ (r : Rows). IsUnreadable r at) same h))
 
 -- sound rows have nothing to blame
 pub sound_undamaged : (rows : Rows) (at : ℕ) → AreSound rows → IsDamaged rows at → ⊥
 sound_undamaged rows at sound (inl rootless) = rootless_unsound rows at rootless sound
 sound_undamaged rows at sound (inr lacks) =
-    let fits : has_sound_body rows.read lacks.0 ≡ true = passes_test (has_sound_body rows.read) (λ n. n.id == at) rows.read.nodes lacks.0 (sound_parts rows sound).bodies lacks.1 in
-    wrong (is_document lacks.0.kind) (body_of rows.read lacks.0.id) lacks.2 (ap (body_of rows.read) (number rows at lacks.0 lacks.1) ∙ lacks.3) fits
+    let fits : has_sound_body rows.read lacks.0 ≡ true = passes_test (has_sound_body rows.read)
+    (λ n. n.id == at) rows.read.nodes lacks.0 (sound_parts rows sound).bodies lacks.1 in
+    wrong (is_document lacks.0.kind) (body_of rows.read lacks.0.id) lacks.2
+    (ap (body_of rows.read) (number rows at lacks.0 lacks.1) ∙ lacks.3) fits
   where
     number : (r : Rows) (id : ℕ) (node : Node) → node_at r.read id ≡ Some node → node.id ≡ id
     number r id node found = Rattle.room_rows.proofs.Frames.node_at-number r.read id node found
 
-    wrong : (t : Bool) (o : Option (List ℕ)) → t ≡ true → o ≡ None → cond t (option_map_or (λ bytes. nat_le (length bytes) 1048576) o false) (is_none o) ≡ true → ⊥
+    wrong : (t : Bool) (o : Option (List ℕ)) → t ≡ true → o ≡ None
+        → cond t (option_map_or (λ bytes. nat_le (length bytes) 1048576) o false) (is_none o) ≡ true
+        → ⊥
     wrong true None is none fits = false≢true fits
     wrong true (Some x) is none fits = let no : ⊥ = cc in no
     wrong false o is none fits = false≢true is

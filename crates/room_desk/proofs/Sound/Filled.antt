@@ -31,23 +31,35 @@ module _ (caller : Caller) (moment : ℤ) where
   same_failure (Deletion target parent) = refl
   same_failure (Refusal path why holds) = refl
 
-  same_records : (t : Bool) (item : Item) → records_of_checks caller moment t (checks_of caller (fill_item item)) ≡ records_of_checks caller moment t (checks_of caller item)
+  same_records : (t : Bool) (item : Item)
+      → records_of_checks caller moment t (checks_of caller (fill_item item))
+      ≡ records_of_checks caller moment t (checks_of caller item)
   same_records t (Check site bits) = refl
   same_records t (Deletion target parent) = refl
   same_records t (Refusal path why holds) = refl
 
-  failures_filled : (items : List Item) → first_failure caller (map fill_item items) ≡ first_failure caller items
+  failures_filled : (items : List Item)
+      → first_failure caller (map fill_item items) ≡ first_failure caller items
   failures_filled [] = refl
-  failures_filled (item ∷ items) = ap (λ o. or_else o (first_failure caller (map fill_item items))) (same_failure item) ∙ ap (or_else (failure caller item)) (failures_filled items)
+  failures_filled (item ∷ items) =
+      ap (λ o. or_else o (first_failure caller (map fill_item items))) (same_failure item)
+      ∙ ap (or_else (failure caller item)) (failures_filled items)
 
-  records_filled : (items : List Item) → records_of_plan caller moment (map fill_item items) ≡ records_of_plan caller moment items
+  records_filled : (items : List Item)
+      → records_of_plan caller moment (map fill_item items) ≡ records_of_plan caller moment items
   records_filled [] = refl
   records_filled (item ∷ items) =
-      ap (λ o. records_of_checks caller moment (is_none o) (checks_of caller (fill_item item)) ++ cond (is_none o) (records_of_plan caller moment (map fill_item items)) []) (same_failure item)
-      ∙ ap (λ rs. rs ++ cond (passes caller item) (records_of_plan caller moment (map fill_item items)) []) (same_records (passes caller item) item)
-      ∙ ap (λ rs. records_of_checks caller moment (passes caller item) (checks_of caller item) ++ cond (passes caller item) rs []) (records_filled items)
+      ap (λ o. records_of_checks caller moment (is_none o) (checks_of caller (fill_item item))
+      ++ cond (is_none o) (records_of_plan caller moment (map fill_item items)) [])
+      (same_failure item)
+      ∙ ap (λ rs. rs ++ cond (passes caller item)
+      (records_of_plan caller moment (map fill_item items)) [])
+      (same_records (passes caller item) item)
+      ∙ ap (λ rs. records_of_checks caller moment (passes caller item) (checks_of caller item)
+      ++ cond (passes caller item) rs []) (records_filled items)
 
-pub judged_filled : (asker : Asker) (items : List Item) (old new : Rows) (answer : Option Reply) → IsJudged asker (map fill_item items) old answer new → IsJudged asker items old answer new
+pub judged_filled : (asker : Asker) (items : List Item) (old new : Rows) (answer : Option Reply)
+    → IsJudged asker (map fill_item items) old answer new → IsJudged asker items old answer new
 judged_filled asker items old new answer judged = record {
   answers = judged.answers ∙ failures_filled asker.caller asker.at items;
   notes = judged.notes ∙ ap (noted old) (records_filled asker.caller asker.at items);
@@ -59,37 +71,53 @@ empty_filled : (sites : List Site) → is_empty (map fill sites) ≡ is_empty si
 empty_filled [] = refl
 empty_filled (site ∷ sites) = refl
 
-pub way_filled : (lack : Bool) (sites : List Site) (names : List (List ℕ)) → way lack (map fill sites) names ≡ map fill_item (way lack sites names)
+pub way_filled : (lack : Bool) (sites : List Site) (names : List (List ℕ))
+    → way lack (map fill sites) names ≡ map fill_item (way lack sites names)
 way_filled lack [] names = refl
 way_filled lack (site ∷ sites) [] = refl
 way_filled lack (site ∷ sites) (name ∷ names) =
-    ap (λ t. Refusal site.path NotFolder (not (is_folder site.node)) ∷ Check (fill site) (execute ∷ []) ∷ Refusal (site.path ++ name ∷ []) NoSuch (t && not (lack && is_empty names)) ∷ way lack (map fill sites) names) (empty_filled sites)
-    ∙ ap (λ items. Refusal site.path NotFolder (not (is_folder site.node)) ∷ Check (fill site) (execute ∷ []) ∷ Refusal (site.path ++ name ∷ []) NoSuch (is_empty sites && not (lack && is_empty names)) ∷ items) (way_filled lack sites names)
+    ap (λ t. Refusal site.path NotFolder (not (is_folder site.node))
+    ∷ Check (fill site) (execute ∷ [])
+    ∷ Refusal (site.path ++ name ∷ []) NoSuch (t && not (lack && is_empty names))
+    ∷ way lack (map fill sites) names) (empty_filled sites)
+    ∙ ap (λ items. Refusal site.path NotFolder (not (is_folder site.node))
+    ∷ Check (fill site) (execute ∷ [])
+    ∷ Refusal (site.path ++ name ∷ []) NoSuch (is_empty sites && not (lack && is_empty names))
+    ∷ items) (way_filled lack sites names)
 
-pub site_filled : (sites : List Site) (names : List (List ℕ)) → site_at (map fill sites) names ≡ option_map fill (site_at sites names)
+pub site_filled : (sites : List Site) (names : List (List ℕ))
+    → site_at (map fill sites) names ≡ option_map fill (site_at sites names)
 site_filled [] names = refl
 site_filled (site ∷ sites) [] = refl
 site_filled (site ∷ sites) (name ∷ names) = site_filled sites names
 
-pub target_filled : (path : List (List ℕ)) (items : Site → List Item) → ((site : Site) → items (fill site) ≡ map fill_item (items site)) → (sites : List Site)
-    → way false (map fill sites) path ++ where_found (site_at (map fill sites) path) items ≡ map fill_item (way false sites path ++ where_found (site_at sites path) items)
+pub target_filled : (path : List (List ℕ)) (items : Site → List Item)
+    → ((site : Site) → items (fill site) ≡ map fill_item (items site)) → (sites : List Site)
+    → way false (map fill sites) path ++ where_found (site_at (map fill sites) path) items
+    ≡ map fill_item (way false sites path ++ where_found (site_at sites path) items)
 target_filled path items same sites =
     ap (λ w. w ++ where_found (site_at (map fill sites) path) items) (way_filled false sites path)
     ∙ ap (λ o. map fill_item (way false sites path) ++ where_found o items) (site_filled sites path)
     ∙ ap (λ rest. map fill_item (way false sites path) ++ rest) (on (site_at sites path))
     ∙ sym (map-append fill_item (way false sites path) (where_found (site_at sites path) items))
   where
-    on : (o : Option Site) → where_found (option_map fill o) items ≡ map fill_item (where_found o items)
+    on : (o : Option Site)
+        → where_found (option_map fill o) items ≡ map fill_item (where_found o items)
     on None = refl
     on (Some site) = same site
 
 -- what is judged at the stored lists is judged by the plan to the target
-pub plan_judged : (asker : Asker) (path : List (List ℕ)) (items : Site → List Item) (old new : Rows) (answer : Option Reply) → AreRows old → SoundParts old → ((site : Site) → items (fill site) ≡ map fill_item (items site))
-    → IsJudged asker (to_stored old.read path items) old answer new → IsJudged asker (to_target (meaning old.read) path items) old answer new
+pub plan_judged : (asker : Asker) (path : List (List ℕ)) (items : Site → List Item) (old new : Rows)
+    (answer : Option Reply) → AreRows old → SoundParts old
+    → ((site : Site) → items (fill site) ≡ map fill_item (items site))
+    → IsJudged asker (to_stored old.read path items) old answer new
+    → IsJudged asker (to_target (meaning old.read) path items) old answer new
 plan_judged asker path items old new answer are parts same judged =
     judged_filled asker (to_target (meaning old.read) path items) old new answer
     (subst (λ list. IsJudged asker list old answer new)
-    (ap (λ sites. way false sites path ++ where_found (site_at sites path) items) (sym (sites_filled old are parts path)) ∙ target_filled path items same (sites_along (meaning old.read) path))
+    (ap (λ sites. way false sites path ++ where_found (site_at sites path) items)
+    (sym (sites_filled old are parts path))
+    ∙ target_filled path items same (sites_along (meaning old.read) path))
     judged)
 
 -- the target among the sites of the plan
@@ -99,10 +127,21 @@ pub record IsTarget (rows : Content) (path : List (List ℕ)) (site : Site) : Ty
   pub filled : fill planned ≡ site
   pub kept : planned.node ≡ kept_node rows site.node
 
-pub target_there : (old : Rows) → AreRows old → SoundParts old → (path : List (List ℕ)) (site : Site) → site_at (stored_along old.read path) path ≡ Some site → IsTarget old.read path site
+pub target_there : (old : Rows) → AreRows old → SoundParts old
+    → (path : List (List ℕ)) (site : Site) → site_at (stored_along old.read path) path ≡ Some site
+    → IsTarget old.read path site
 target_there old are parts path site is =
-    on (site_at (sites_along (meaning old.read) path) path) refl (sym (site_filled (sites_along (meaning old.read) path) path) ∙ ap (λ sites. site_at sites path) (sites_filled old are parts path) ∙ is)
+    on (site_at (sites_along (meaning old.read) path) path) refl
+    (sym (site_filled (sites_along (meaning old.read) path) path)
+    ∙ ap (λ sites. site_at sites path) (sites_filled old are parts path) ∙ is)
   where
-    on : (o : Option Site) → site_at (sites_along (meaning old.read) path) path ≡ o → option_map fill o ≡ Some site → IsTarget old.read path site
+    on : (o : Option Site) → site_at (sites_along (meaning old.read) path) path ≡ o
+        → option_map fill o ≡ Some site → IsTarget old.read path site
     on None found same = absurd (let wrong : ⊥ = cc in wrong)
-    on (Some planned) found same = record { planned = planned; at = found; filled = (let e : fill planned ≡ site = cc in e); kept = target_kept old.read path planned site found is }
+    on (Some planned) found same =
+        record {
+          planned = planned;
+          at = found;
+          filled = (let e : fill planned ≡ site = cc in e);
+          kept = target_kept old.read path planned site found is;
+        }

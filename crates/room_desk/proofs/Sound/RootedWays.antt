@@ -20,7 +20,8 @@ pub last_or : Option Node → List Node → Option Node
 last_or before [] = before
 last_or before (x ∷ xs) = last_or (Some x) xs
 
-last_read : (before : Option Node) (x : Node) (xs : List Node) → slice_get (x ∷ xs) (length xs) ≡ last_or before (x ∷ xs)
+last_read : (before : Option Node) (x : Node) (xs : List Node)
+    → slice_get (x ∷ xs) (length xs) ≡ last_or before (x ∷ xs)
 unfolding last_or
 last_read before x [] = refl
 last_read before x (y ∷ ys) = last_read (Some x) y ys
@@ -33,28 +34,52 @@ module _ (rows : Content) (rises : Rises rows) where
     pub reaches : reaches_root steps rows node.parent ≡ true
 
   up_root : (root : Node) → root_of rows ≡ Some root → IsUp root
-  up_root root is = record { there = root_of-is_there rows rises root is; steps = 0; reaches = ap (reaches_root 0 rows) (root_of-parent rows root is) }
+  up_root root is =
+      record {
+        there = root_of-is_there rows rises root is;
+        steps = 0;
+        reaches = ap (reaches_root 0 rows) (root_of-parent rows root is);
+      }
 
-  up_child : (node child : Node) (name : List ℕ) → IsUp node → child_of rows node.id name ≡ Some child → IsUp child
+  up_child : (node child : Node) (name : List ℕ) → IsUp node
+      → child_of rows node.id name ≡ Some child → IsUp child
   up_child node child name up is = record {
     there = child_of-is_there rows rises node.id name child is;
     steps = suc up.steps;
-    reaches = ap (reaches_root (suc up.steps) rows) (child_of-parent rows node.id name child is) ∙ ap (λ o. option_map_or (λ (a : Node). reaches_root up.steps rows a.parent) o false) up.there ∙ up.reaches;
+    reaches =
+        ap (reaches_root (suc up.steps) rows) (child_of-parent rows node.id name child is)
+        ∙ ap (λ o. option_map_or (λ (a : Node). reaches_root up.steps rows a.parent) o false)
+        up.there ∙ up.reaches;
   }
 
-  up_from : (names path : List (List ℕ)) (node : Node) (site : Site) → IsUp node → site_at (stored_from rows path node names) names ≡ Some site → IsUp site.node
-  up_from [] path node site up is = subst (λ (s : Site). IsUp s.node) (same_some (stored_site path node) site is) up
-  up_from (name ∷ names) path node site up is = on (child_of rows node.id name) (λ child known. up_from names (path ++ name ∷ []) child site (up_child node child name up known)) is
+  up_from : (names path : List (List ℕ)) (node : Node) (site : Site) → IsUp node
+      → site_at (stored_from rows path node names) names ≡ Some site → IsUp site.node
+  up_from [] path node site up is =
+      subst (λ (s : Site). IsUp s.node) (same_some (stored_site path node) site is) up
+  up_from (name ∷ names) path node site up is =
+      on (child_of rows node.id name)
+      (λ child known. up_from names (path ++ name ∷ []) child site
+      (up_child node child name up known)) is
     where
-      on : (o : Option Node) → ((child : Node) → o ≡ Some child → site_at (stored_from rows (path ++ name ∷ []) child names) names ≡ Some site → IsUp site.node)
-          → site_at (option_map_or (λ child. stored_from rows (path ++ name ∷ []) child names) o []) names ≡ Some site → IsUp site.node
+      on : (o : Option Node)
+          → ((child : Node) → o ≡ Some child
+          → site_at (stored_from rows (path ++ name ∷ []) child names) names ≡ Some site
+          → IsUp site.node)
+          → site_at (option_map_or (λ child. stored_from rows (path ++ name ∷ []) child names) o [])
+          names ≡ Some site → IsUp site.node
       on None known is = absurd (let wrong : ⊥ = cc in wrong)
       on (Some child) known is = known child refl is
 
-  up_along : (path : List (List ℕ)) (site : Site) → site_at (stored_along rows path) path ≡ Some site → IsUp site.node
-  up_along path site is = on (root_of rows) (λ root known. up_from path [] root site (up_root root known)) is
+  up_along : (path : List (List ℕ)) (site : Site)
+      → site_at (stored_along rows path) path ≡ Some site → IsUp site.node
+  up_along path site is =
+      on (root_of rows) (λ root known. up_from path [] root site (up_root root known)) is
     where
-      on : (o : Option Node) → ((root : Node) → o ≡ Some root → site_at (stored_from rows [] root path) path ≡ Some site → IsUp site.node) → site_at (option_map_or (λ root. stored_from rows [] root path) o []) path ≡ Some site → IsUp site.node
+      on : (o : Option Node)
+          → ((root : Node) → o ≡ Some root
+          → site_at (stored_from rows [] root path) path ≡ Some site → IsUp site.node)
+          → site_at (option_map_or (λ root. stored_from rows [] root path) o []) path ≡ Some site
+          → IsUp site.node
       on None known is = absurd (let wrong : ⊥ = cc in wrong)
       on (Some root) known is = known root refl is
 
@@ -65,25 +90,42 @@ module _ (rows : Content) (rises : Rises rows) where
     pub is : chain ≡ front ++ last ∷ []
     pub up : IsUp last
 
-  end_from : (names : List (List ℕ)) (node : Node) → IsUp node → IsUpEnd (walk_from rows node names).chain
+  end_from : (names : List (List ℕ)) (node : Node) → IsUp node
+      → IsUpEnd (walk_from rows node names).chain
   end_from [] node up = record { front = []; last = node; is = refl; up = up }
-  end_from (name ∷ names) node up = on (child_of rows node.id name) (λ child known. end_from names child (up_child node child name up known))
+  end_from (name ∷ names) node up =
+      on (child_of rows node.id name)
+      (λ child known. end_from names child (up_child node child name up known))
     where
-      on : (o : Option Node) → ((child : Node) → o ≡ Some child → IsUpEnd (walk_from rows child names).chain)
-          → IsUpEnd (option_map_or (λ child. behind node (walk_from rows child names)) o (record { chain = node ∷ []; rest = length (name ∷ names) })).chain
+      on : (o : Option Node)
+          → ((child : Node) → o ≡ Some child → IsUpEnd (walk_from rows child names).chain)
+          → IsUpEnd (option_map_or (λ child. behind node (walk_from rows child names)) o
+          (record { chain = node ∷ []; rest = length (name ∷ names) })).chain
       on None known = record { front = []; last = node; is = refl; up = up }
-      on (Some child) known = let end = known child refl in record { front = node ∷ end.front; last = end.last; is = ap (λ (l : List Node). node ∷ l) end.is; up = end.up }
+      on (Some child) known = let end = known child refl in
+          record {
+            front = node ∷ end.front;
+            last = end.last;
+            is = ap (λ (l : List Node). node ∷ l) end.is;
+            up = end.up;
+          }
 
-  last_up : (path : List (List ℕ)) (front : List Node) (last : Node) → (walk_of rows path).chain ≡ front ++ last ∷ [] → IsUp last
-  last_up path front last is = on (root_of rows) (λ root known. end_from path root (up_root root known)) is
+  last_up : (path : List (List ℕ)) (front : List Node) (last : Node)
+      → (walk_of rows path).chain ≡ front ++ last ∷ [] → IsUp last
+  last_up path front last is =
+      on (root_of rows) (λ root known. end_from path root (up_root root known)) is
     where
       none_ends : (l : List Node) → [] ≡ l ++ last ∷ [] → ⊥
       none_ends [] is = let wrong : ⊥ = cc in wrong
       none_ends (x ∷ xs) is = let wrong : ⊥ = cc in wrong
 
-      on : (o : Option Node) → ((root : Node) → o ≡ Some root → IsUpEnd (walk_from rows root path).chain) → (option_map_or (λ root. walk_from rows root path) o (record { chain = []; rest = length path })).chain ≡ front ++ last ∷ [] → IsUp last
+      on : (o : Option Node)
+          → ((root : Node) → o ≡ Some root → IsUpEnd (walk_from rows root path).chain)
+          → (option_map_or (λ root. walk_from rows root path) o
+          (record { chain = []; rest = length path })).chain ≡ front ++ last ∷ [] → IsUp last
       on None known is = absurd (none_ends front is)
-      on (Some root) known is = let end = known root refl in subst IsUp (same_last end.front front end.last last (sym end.is ∙ is)) end.up
+      on (Some root) known is = let end = known root refl in
+          subst IsUp (same_last end.front front end.last last (sym end.is ∙ is)) end.up
 
   -- ---- what is above the end of a walk
 
@@ -93,69 +135,118 @@ module _ (rows : Content) (rises : Rises rows) where
     pub is : chain ≡ front ++ last ∷ []
     pub parent : parent_of rows last ≡ last_or before front
 
-  end_below : (names : List (List ℕ)) (node : Node) (before : Option Node) → node_at rows node.id ≡ Some node → parent_of rows node ≡ before → IsEndBelow before (walk_from rows node names).chain
+  end_below : (names : List (List ℕ)) (node : Node) (before : Option Node)
+      → node_at rows node.id ≡ Some node → parent_of rows node ≡ before
+      → IsEndBelow before (walk_from rows node names).chain
   unfolding last_or
   end_below [] node before there up = record { front = []; last = node; is = refl; parent = up }
   end_below (name ∷ names) node before there up =
-      on (child_of rows node.id name) (λ child known. end_below names child (Some node) (child_of-is_there rows rises node.id name child known) (ap (option_and_then (node_at rows)) (child_of-parent rows node.id name child known) ∙ there))
+      on (child_of rows node.id name)
+      (λ child known. end_below names child (Some node)
+      (child_of-is_there rows rises node.id name child known)
+      (ap (option_and_then (node_at rows)) (child_of-parent rows node.id name child known) ∙ there))
     where
-      on : (o : Option Node) → ((child : Node) → o ≡ Some child → IsEndBelow (Some node) (walk_from rows child names).chain)
-          → IsEndBelow before (option_map_or (λ child. behind node (walk_from rows child names)) o (record { chain = node ∷ []; rest = length (name ∷ names) })).chain
+      on : (o : Option Node)
+          → ((child : Node) → o ≡ Some child
+          → IsEndBelow (Some node) (walk_from rows child names).chain)
+          → IsEndBelow before (option_map_or (λ child. behind node (walk_from rows child names)) o
+          (record { chain = node ∷ []; rest = length (name ∷ names) })).chain
       on None known = record { front = []; last = node; is = refl; parent = up }
-      on (Some child) known = let end = known child refl in record { front = node ∷ end.front; last = end.last; is = ap (λ (l : List Node). node ∷ l) end.is; parent = end.parent }
+      on (Some child) known = let end = known child refl in
+          record {
+            front = node ∷ end.front;
+            last = end.last;
+            is = ap (λ (l : List Node). node ∷ l) end.is;
+            parent = end.parent;
+          }
 
-  above_last : (path : List (List ℕ)) (front : List Node) (last : Node) → (walk_of rows path).chain ≡ front ++ last ∷ [] → parent_of rows last ≡ last_or None front
-  above_last path front last is = on (root_of rows) (λ root known. end_below path root None (root_of-is_there rows rises root known) (ap (option_and_then (node_at rows)) (root_of-parent rows root known))) is
+  above_last : (path : List (List ℕ)) (front : List Node) (last : Node)
+      → (walk_of rows path).chain ≡ front ++ last ∷ [] → parent_of rows last ≡ last_or None front
+  above_last path front last is =
+      on (root_of rows) (λ root known. end_below path root None
+      (root_of-is_there rows rises root known)
+      (ap (option_and_then (node_at rows)) (root_of-parent rows root known))) is
     where
       none_ends : (l : List Node) → [] ≡ l ++ last ∷ [] → ⊥
       none_ends [] is = let wrong : ⊥ = cc in wrong
       none_ends (x ∷ xs) is = let wrong : ⊥ = cc in wrong
 
-      on : (o : Option Node) → ((root : Node) → o ≡ Some root → IsEndBelow None (walk_from rows root path).chain) → (option_map_or (λ root. walk_from rows root path) o (record { chain = []; rest = length path })).chain ≡ front ++ last ∷ []
+      on : (o : Option Node)
+          → ((root : Node) → o ≡ Some root → IsEndBelow None (walk_from rows root path).chain)
+          → (option_map_or (λ root. walk_from rows root path) o
+          (record { chain = []; rest = length path })).chain ≡ front ++ last ∷ []
           → parent_of rows last ≡ last_or None front
       on None known is = absurd (none_ends front is)
       on (Some root) known is =
           let end = known root refl in
-          ap (parent_of rows) (sym (same_last end.front front end.last last (sym end.is ∙ is))) ∙ end.parent ∙ ap (last_or None) (same_front end.front front end.last last (sym end.is ∙ is))
+          ap (parent_of rows) (sym (same_last end.front front end.last last (sym end.is ∙ is)))
+          ∙ end.parent
+          ∙ ap (last_or None) (same_front end.front front end.last last (sym end.is ∙ is))
 
 -- ---- in terms of the calls
 
 -- what is above the last object of a walk
-pub above_end : (rows : Rows) → Rises rows.read → (path : List (List ℕ)) (walk : Walk) (front : List Node) (last : Node) (above : Option Node) → walk ≡ walk_of rows.read path → walk.chain ≡ front ++ last ∷ [] → above ≡ slice_get front (length front - 1) → parent_of rows.read last ≡ above
+pub above_end : (rows : Rows) → Rises rows.read
+    → (path : List (List ℕ)) (walk : Walk) (front : List Node) (last : Node) (above : Option Node)
+    → walk ≡ walk_of rows.read path → walk.chain ≡ front ++ last ∷ []
+    → above ≡ slice_get front (length front - 1) → parent_of rows.read last ≡ above
 unfolding last_or
-above_end rows rises path walk front last above is chain read = above_last rows.read rises path front last (sym (ap (λ (w : Walk). w.chain) is) ∙ chain) ∙ sym (on front) ∙ sym read
+above_end rows rises path walk front last above is chain read =
+    above_last rows.read rises path front last (sym (ap (λ (w : Walk). w.chain) is) ∙ chain)
+    ∙ sym (on front) ∙ sym read
   where
     on : (l : List Node) → slice_get l (length l - 1) ≡ last_or None l
     on [] = refl
-    on (x ∷ xs) = let before : suc (length xs) - 1 ≡ length xs = omega arith in ap (slice_get (x ∷ xs)) before ∙ last_read None x xs
+    on (x ∷ xs) = let before : suc (length xs) - 1 ≡ length xs = omega arith in
+        ap (slice_get (x ∷ xs)) before ∙ last_read None x xs
 
-rooted_up : (rows : Rows) → (rises : Rises rows.read) → (node : Node) → IsUp rows.read rises node → IsRooted node.id rows
-rooted_up rows rises node up = record { rises = rises; node = node; there = up.there; steps = up.steps; reaches = up.reaches }
+rooted_up : (rows : Rows) → (rises : Rises rows.read) → (node : Node) → IsUp rows.read rises node
+    → IsRooted node.id rows
+rooted_up rows rises node up =
+    record { rises = rises; node = node; there = up.there; steps = up.steps; reaches = up.reaches }
 
 -- the object at the path
-pub rooted_along : (rows : Rows) → Rises rows.read → (path at : List (List ℕ)) (node : Node) → site_at (stored_along rows.read path) path ≡ Some (stored_site at node) → IsRooted node.id rows
-rooted_along rows rises path at node is = rooted_up rows rises node (up_along rows.read rises path (stored_site at node) is)
+pub rooted_along : (rows : Rows) → Rises rows.read → (path at : List (List ℕ)) (node : Node)
+    → site_at (stored_along rows.read path) path ≡ Some (stored_site at node)
+    → IsRooted node.id rows
+rooted_along rows rises path at node is =
+    rooted_up rows rises node (up_along rows.read rises path (stored_site at node) is)
 
 -- the last object of a walk
-pub rooted_last : (rows : Rows) → Rises rows.read → (path : List (List ℕ)) (walk : Walk) (front : List Node) (last : Node) → walk ≡ walk_of rows.read path → walk.chain ≡ front ++ last ∷ [] → IsRooted last.id rows
-rooted_last rows rises path walk front last is chain = rooted_up rows rises last (last_up rows.read rises path front last (sym (ap (λ (w : Walk). w.chain) is) ∙ chain))
+pub rooted_last : (rows : Rows) → Rises rows.read
+    → (path : List (List ℕ)) (walk : Walk) (front : List Node) (last : Node)
+    → walk ≡ walk_of rows.read path → walk.chain ≡ front ++ last ∷ [] → IsRooted last.id rows
+rooted_last rows rises path walk front last is chain =
+    rooted_up rows rises last
+    (last_up rows.read rises path front last (sym (ap (λ (w : Walk). w.chain) is) ∙ chain))
 
 -- and it stands so in the rows
-pub stands_last : (rows : Rows) → Rises rows.read → (path : List (List ℕ)) (walk : Walk) (front : List Node) (last : Node) → walk ≡ walk_of rows.read path → walk.chain ≡ front ++ last ∷ [] → node_at rows.read last.id ≡ Some last
-stands_last rows rises path walk front last is chain = (last_up rows.read rises path front last (sym (ap (λ (w : Walk). w.chain) is) ∙ chain)).there
+pub stands_last : (rows : Rows) → Rises rows.read
+    → (path : List (List ℕ)) (walk : Walk) (front : List Node) (last : Node)
+    → walk ≡ walk_of rows.read path → walk.chain ≡ front ++ last ∷ []
+    → node_at rows.read last.id ≡ Some last
+stands_last rows rises path walk front last is chain =
+    (last_up rows.read rises path front last (sym (ap (λ (w : Walk). w.chain) is) ∙ chain)).there
 
 -- a walk that finds nothing
-pub no_walk : (path : List (List ℕ)) (old : Rows) (walk : Walk) → walk ≡ walk_of old.read path → walk.chain ≡ [] → IsDamaged old 0
-no_walk path old walk is none = on (root_of old.read) refl (sym (ap (λ (w : Walk). w.chain) is) ∙ none)
+pub no_walk : (path : List (List ℕ)) (old : Rows) (walk : Walk) → walk ≡ walk_of old.read path
+    → walk.chain ≡ [] → IsDamaged old 0
+no_walk path old walk is none =
+    on (root_of old.read) refl (sym (ap (λ (w : Walk). w.chain) is) ∙ none)
   where
-    starts : (rows : Content) (node : Node) (names : List (List ℕ)) → (walk_from rows node names).chain ≡ [] → ⊥
+    starts : (rows : Content) (node : Node) (names : List (List ℕ))
+        → (walk_from rows node names).chain ≡ [] → ⊥
     starts rows node [] none = let wrong : ⊥ = cc in wrong
     starts rows node (name ∷ names) none = on (child_of rows node.id name) none
       where
-        on : (o : Option Node) → (option_map_or (λ child. behind node (walk_from rows child names)) o (record { chain = node ∷ []; rest = length (name ∷ names) })).chain ≡ [] → ⊥
+        on : (o : Option Node)
+            → (option_map_or (λ child. behind node (walk_from rows child names)) o
+            (record { chain = node ∷ []; rest = length (name ∷ names) })).chain ≡ [] → ⊥
         on None none = let wrong : ⊥ = cc in wrong
         on (Some child) none = let wrong : ⊥ = cc in wrong
 
-    on : (o : Option Node) → root_of old.read ≡ o → (option_map_or (λ root. walk_from old.read root path) o (record { chain = []; rest = length path })).chain ≡ [] → IsDamaged old 0
+    on : (o : Option Node) → root_of old.read ≡ o
+        → (option_map_or (λ root. walk_from old.read root path) o
+        (record { chain = []; rest = length path })).chain ≡ [] → IsDamaged old 0
     on None rootless none = inl (inr (refl, rootless))
     on (Some root) known none = absurd (starts old.read root path none)

@@ -17,7 +17,8 @@ picked [] names = None
 picked (x ∷ xs) [] = Some x
 picked (x ∷ xs) (name ∷ names) = picked xs names
 
-part_at : {X : Type 0} (part : Site → X) (sites : List Site) (names : List (List ℕ)) → option_map part (site_at sites names) ≡ picked (map part sites) names
+part_at : {X : Type 0} (part : Site → X) (sites : List Site) (names : List (List ℕ))
+    → option_map part (site_at sites names) ≡ picked (map part sites) names
 part_at part [] names = refl
 part_at part (site ∷ sites) [] = refl
 part_at part (site ∷ sites) (name ∷ names) = part_at part sites names
@@ -27,7 +28,8 @@ node_of site = site.node
 
 nodes_below : (above : Site) (chain : List Node) → map node_of (sites_below above chain) ≡ chain
 nodes_below above [] = refl
-nodes_below above (node ∷ chain) = ap (λ nodes. node ∷ nodes) (nodes_below (site_below above node) chain)
+nodes_below above (node ∷ chain) =
+    ap (λ nodes. node ∷ nodes) (nodes_below (site_below above node) chain)
 
 nodes_of : (chain : List Node) → map node_of (sites_of chain) ≡ chain
 nodes_of [] = refl
@@ -41,35 +43,57 @@ module _ (content : Content) where
   kept_of site = kept site.node
 
   same_places : KeepsPlaces content kept
-  same_places = keeps_places content kept (λ n. record { number = refl; parent = refl; name = refl })
+  same_places =
+      keeps_places content kept (λ n. record { number = refl; parent = refl; name = refl })
 
   -- the walk through what the rows mean finds what the walk through the rows finds
-  kept_chain : (names path : List (List ℕ)) (node : Node) → (walk_from (meaning content) (kept node) names).chain ≡ map kept_of (stored_from content path node names)
+  kept_chain : (names path : List (List ℕ)) (node : Node)
+      → (walk_from (meaning content) (kept node) names).chain
+      ≡ map kept_of (stored_from content path node names)
   kept_chain [] path node = refl
   kept_chain (name ∷ names) path node =
-      ap (λ o. (option_map_or (λ child. behind (kept node) (walk_from (meaning content) child names)) o (record { chain = kept node ∷ []; rest = length (name ∷ names) })).chain) (child_of-with_each content kept same_places node.id name)
+      ap (λ o.
+      (option_map_or (λ child. behind (kept node) (walk_from (meaning content) child names)) o
+      (record { chain = kept node ∷ []; rest = length (name ∷ names) })).chain)
+      (child_of-with_each content kept same_places node.id name)
       ∙ on (child_of content node.id name) (λ child. kept_chain names (path ++ name ∷ []) child)
     where
-      on : (o : Option Node) → ((child : Node) → (walk_from (meaning content) (kept child) names).chain ≡ map kept_of (stored_from content (path ++ name ∷ []) child names))
-          → (option_map_or (λ child. behind (kept node) (walk_from (meaning content) child names)) (option_map kept o) (record { chain = kept node ∷ []; rest = length (name ∷ names) })).chain
-          ≡ kept node ∷ map kept_of (option_map_or (λ child. stored_from content (path ++ name ∷ []) child names) o [])
+      on : (o : Option Node)
+          → ((child : Node) → (walk_from (meaning content) (kept child) names).chain
+          ≡ map kept_of (stored_from content (path ++ name ∷ []) child names))
+          → (option_map_or (λ child. behind (kept node) (walk_from (meaning content) child names))
+          (option_map kept o)
+          (record { chain = kept node ∷ []; rest = length (name ∷ names) })).chain
+          ≡ kept node
+          ∷ map kept_of
+          (option_map_or (λ child. stored_from content (path ++ name ∷ []) child names) o [])
       on None rest = refl
       on (Some child) rest = ap (λ chain. kept node ∷ chain) (rest child)
 
-  kept_along : (path : List (List ℕ)) → (walk_of (meaning content) path).chain ≡ map kept_of (stored_along content path)
-  kept_along path = ap (λ o. (option_map_or (λ root. walk_from (meaning content) root path) o (record { chain = []; rest = length path })).chain) (root_of-with_each content kept same_places) ∙ on (root_of content)
+  kept_along : (path : List (List ℕ))
+      → (walk_of (meaning content) path).chain ≡ map kept_of (stored_along content path)
+  kept_along path =
+      ap (λ o. (option_map_or (λ root. walk_from (meaning content) root path) o
+      (record { chain = []; rest = length path })).chain)
+      (root_of-with_each content kept same_places) ∙ on (root_of content)
     where
-      on : (o : Option Node) → (option_map_or (λ root. walk_from (meaning content) root path) (option_map kept o) (record { chain = []; rest = length path })).chain ≡ map kept_of (option_map_or (λ root. stored_from content [] root path) o [])
+      on : (o : Option Node)
+          → (option_map_or (λ root. walk_from (meaning content) root path) (option_map kept o)
+          (record { chain = []; rest = length path })).chain
+          ≡ map kept_of (option_map_or (λ root. stored_from content [] root path) o [])
       on None = refl
       on (Some root) = kept_chain path [] root
 
   -- the object that a plan finds, from the one that the walk through the rows finds
-  pub target_kept : (path : List (List ℕ)) (planned site : Site) → site_at (sites_along (meaning content) path) path ≡ Some planned → site_at (stored_along content path) path ≡ Some site → planned.node ≡ kept site.node
+  pub target_kept : (path : List (List ℕ)) (planned site : Site)
+      → site_at (sites_along (meaning content) path) path ≡ Some planned
+      → site_at (stored_along content path) path ≡ Some site → planned.node ≡ kept site.node
   target_kept path planned site at there =
       let same : Some planned.node ≡ Some (kept site.node) =
       ap (option_map node_of) (sym at)
       ∙ part_at node_of (sites_along (meaning content) path) path
-      ∙ ap (λ nodes. picked nodes path) (nodes_of (walk_of (meaning content) path).chain ∙ kept_along path)
+      ∙ ap (λ nodes. picked nodes path)
+      (nodes_of (walk_of (meaning content) path).chain ∙ kept_along path)
       ∙ sym (part_at kept_of (stored_along content path) path)
       ∙ ap (option_map kept_of) there in
       cc

@@ -5,7 +5,8 @@ length_kept : (mask : List ℕ) → length (map (λ (bit : ℕ). bit ∷ []) mas
 length_kept [] = refl
 length_kept (bit ∷ mask) = ap suc (length_kept mask)
 
-single_at : (mask : List ℕ) (i : ℕ) (other : List ℕ) → i < length mask → get_or (map (λ (bit : ℕ). bit ∷ []) mask) i other ≡ get_or mask i 0 ∷ []
+single_at : (mask : List ℕ) (i : ℕ) (other : List ℕ) → i < length mask
+    → get_or (map (λ (bit : ℕ). bit ∷ []) mask) i other ≡ get_or mask i 0 ∷ []
 single_at [] i other below = absurd (omega arith)
 single_at (bit ∷ mask) zero other below = refl
 single_at (bit ∷ mask) (suc i) other below = single_at mask i other (omega arith)
@@ -15,13 +16,25 @@ pub record IsAsked (mask : List ℕ) (i : ℕ) (bit : List ℕ) : Type 0 where
   pub below : i < length mask
   pub alone : bit ≡ get_or mask i 0 ∷ []
 
-pub is_asked : (mask : List ℕ) (bits : List (List ℕ)) (i : ℕ) (bit : List ℕ) → bits ≡ map (λ (b : ℕ). b ∷ []) mask → i < length bits → bit ≡ get_or bits i bit → IsAsked mask i bit
+pub is_asked : (mask : List ℕ) (bits : List (List ℕ)) (i : ℕ) (bit : List ℕ)
+    → bits ≡ map (λ (b : ℕ). b ∷ []) mask → i < length bits → bit ≡ get_or bits i bit
+    → IsAsked mask i bit
 is_asked mask bits i bit are below is =
-    let within : i < length mask = (let same = ap (λ (l : List (List ℕ)). length l) are ∙ length_kept mask in omega (arith, same, below)) in
-    record { below = within; alone = is ∙ ap (λ (l : List (List ℕ)). get_or l i bit) are ∙ single_at mask i bit within }
+    let within : i < length mask =
+    (let same = ap (λ (l : List (List ℕ)). length l) are ∙ length_kept mask in
+    omega (arith, same, below)) in
+    record {
+      below = within;
+      alone = is ∙ ap (λ (l : List (List ℕ)). get_or l i bit) are ∙ single_at mask i bit within;
+    }
 
 -- a turn that adds what the bit is paired with
-pub asked_more : {A : Type 0} (f : ℕ → A) (mask : List ℕ) (i : ℕ) (items new : List A) → i < length mask → new ≡ items ++ f (get_or mask i 0) ∷ [] → new ++ map f (drop (i + 1) mask) ≡ items ++ map f (drop i mask)
+pub asked_more : {A : Type 0} (f : ℕ → A) (mask : List ℕ) (i : ℕ) (items new : List A)
+    → i < length mask → new ≡ items ++ f (get_or mask i 0) ∷ []
+    → new ++ map f (drop (i + 1) mask) ≡ items ++ map f (drop i mask)
 asked_more f mask i items new below more =
-    let here : drop i mask ≡ get_or mask i 0 ∷ drop (i + 1) mask = rw add-one (drop-cons mask i 0 below) in
-    ap (λ l. l ++ map f (drop (i + 1) mask)) more ∙ append_assoc items (f (get_or mask i 0) ∷ []) (map f (drop (i + 1) mask)) ∙ ap (λ (l : List ℕ). items ++ map f l) (sym here)
+    let here : drop i mask ≡ get_or mask i 0 ∷ drop (i + 1) mask = rw add-one
+    (drop-cons mask i 0 below) in
+    ap (λ l. l ++ map f (drop (i + 1) mask)) more
+    ∙ append_assoc items (f (get_or mask i 0) ∷ []) (map f (drop (i + 1) mask))
+    ∙ ap (λ (l : List ℕ). items ++ map f l) (sym here)

@@ -21,41 +21,74 @@ use Rattle.room_machine.specs.Step.{caller_in}
 -- ---- one request
 
 -- the groups of the caller are those of the rows, so that the request is carried out from there
-pub carried : (user : Option (List ℕ)) (moment : ℤ) (asker : Asker) (request : Request) (old mid new : Rows) (reply : Reply) → asker.at ≡ moment → (asker.caller ≡ caller_in old.read user) × (mid ≡ old) → CarriesOut asker request mid reply new → Performs user moment request old reply new
+pub carried : (user : Option (List ℕ)) (moment : ℤ) (asker : Asker) (request : Request)
+    (old mid new : Rows) (reply : Reply) → asker.at ≡ moment
+    → (asker.caller ≡ caller_in old.read user) × (mid ≡ old)
+    → CarriesOut asker request mid reply new → Performs user moment request old reply new
 carried user moment asker request old mid new reply at both carries sound =
     let named : asker.caller.user ≡ user = ap (λ (c : Caller). c.user) both.0 in
-    let known : IsKnown asker mid = both.0 ∙ ap (λ (r : Rows). caller_in r.read user) (sym both.1) ∙ ap (λ u. caller_in mid.read u) (sym named) in
+    let known : IsKnown asker mid = both.0 ∙ ap (λ (r : Rows). caller_in r.read user) (sym both.1)
+    ∙ ap (λ u. caller_in mid.read u) (sym named) in
     subst (λ t. IsStepOfRows user t request old reply new) at
     (subst (λ u. IsStepOfRows u asker.at request old reply new) named
-    (subst (λ (r : Rows). IsStepOfRows asker.caller.user asker.at request r reply new) both.1 (carries known (subst AreSound (sym both.1) sound))))
+    (subst (λ (r : Rows). IsStepOfRows asker.caller.user asker.at request r reply new) both.1
+    (carries known (subst AreSound (sym both.1) sound))))
 
 -- ---- several requests
 
-events_more : (asked : List Asked) (replies : List Reply) (one : Asked) (reply : Reply) → length replies ≡ length asked → asked_events (asked ++ one ∷ []) (replies ++ reply ∷ []) ≡ asked_events asked replies ++ HasAsked one.user one.at one.request reply ∷ []
+events_more : (asked : List Asked) (replies : List Reply) (one : Asked) (reply : Reply)
+    → length replies ≡ length asked
+    → asked_events (asked ++ one ∷ []) (replies ++ reply ∷ []) ≡ asked_events asked replies
+    ++ HasAsked one.user one.at one.request reply ∷ []
 events_more [] [] one reply each = refl
 events_more [] (r ∷ replies) one reply each = absurd (omega (arith, each))
 events_more (a ∷ asked) [] one reply each = absurd (omega (arith, each))
-events_more (a ∷ asked) (r ∷ replies) one reply each = ap (λ (events : List Event). HasAsked a.user a.at a.request r ∷ events) (events_more asked replies one reply (omega (arith, each)))
+events_more (a ∷ asked) (r ∷ replies) one reply each =
+    ap (λ (events : List Event). HasAsked a.user a.at a.request r ∷ events)
+    (events_more asked replies one reply (omega (arith, each)))
 
-pub runs_none : (asked : List Asked) (old new : Rows) → new ≡ old → RunsAll (take 0 asked) old [] new
-runs_none asked old new same sound = record { each = refl; run = ap (λ (r : Rows). meaning r.read) same; sound = subst AreSound (sym same) sound }
+pub runs_none : (asked : List Asked) (old new : Rows) → new ≡ old
+    → RunsAll (take 0 asked) old [] new
+runs_none asked old new same sound =
+    record {
+      each = refl;
+      run = ap (λ (r : Rows). meaning r.read) same;
+      sound = subst AreSound (sym same) sound;
+    }
 
-run_more : (asked : List Asked) (one : Asked) (replies : List Reply) (reply : Reply) (old mid new : Rows) → RunsAll asked old replies mid → Performs one.user one.at one.request mid reply new → RunsAll (asked ++ one ∷ []) old (replies ++ reply ∷ []) new
+run_more : (asked : List Asked) (one : Asked) (replies : List Reply) (reply : Reply)
+    (old mid new : Rows) → RunsAll asked old replies mid
+    → Performs one.user one.at one.request mid reply new
+    → RunsAll (asked ++ one ∷ []) old (replies ++ reply ∷ []) new
 run_more asked one replies reply old mid new sofar more sound =
     let before : IsRunOfRows asked old replies mid = sofar sound in
     let step : IsStepOfRows one.user one.at one.request mid reply new = more before.sound in
     record {
-      each = omega (arith, before.each, length-append asked (one ∷ []), length-append replies (reply ∷ []));
-      run = subst (λ (events : List Event). Run (meaning old.read) events (meaning new.read)) (sym (events_more asked replies one reply before.each))
-          (meet (meaning old.read) (meaning mid.read) (meaning new.read) (asked_events asked replies) (HasAsked one.user one.at one.request reply ∷ []) before.run (meaning new.read, step.step, refl));
+      each =
+          omega (
+            arith,
+            before.each,
+            length-append asked (one ∷ []),
+            length-append replies (reply ∷ []),
+          );
+      run =
+          subst (λ (events : List Event). Run (meaning old.read) events (meaning new.read))
+          (sym (events_more asked replies one reply before.each))
+          (meet (meaning old.read) (meaning mid.read) (meaning new.read)
+          (asked_events asked replies) (HasAsked one.user one.at one.request reply ∷ []) before.run
+          (meaning new.read, step.step, refl));
       sound = step.sound;
     }
 
 -- one request more
-pub runs_more : (asked : List Asked) (n : ℕ) (one : Asked) (replies all : List Reply) (reply : Reply) (old mid new : Rows) → n < length asked → one ≡ get_or asked n one → all ≡ replies ++ reply ∷ []
-    → RunsAll (take n asked) old replies mid → Performs one.user one.at one.request mid reply new → RunsAll (take (n + 1) asked) old all new
+pub runs_more : (asked : List Asked) (n : ℕ) (one : Asked) (replies all : List Reply)
+    (reply : Reply) (old mid new : Rows) → n < length asked → one ≡ get_or asked n one
+    → all ≡ replies ++ reply ∷ []
+    → RunsAll (take n asked) old replies mid → Performs one.user one.at one.request mid reply new
+    → RunsAll (take (n + 1) asked) old all new
 runs_more asked n one replies all reply old mid new below is made sofar more =
-    let longer : take n asked ++ one ∷ [] ≡ take (n + 1) asked = ap (λ (x : Asked). take n asked ++ x ∷ []) is ∙ sym (take_more asked n one below) in
+    let longer : take n asked ++ one ∷ [] ≡ take (n + 1) asked = ap
+    (λ (x : Asked). take n asked ++ x ∷ []) is ∙ sym (take_more asked n one below) in
     subst (λ (l : List Asked). RunsAll l old all new) longer
     (subst (λ (l : List Reply). RunsAll (take n asked ++ one ∷ []) old l new) (sym made)
     (run_more (take n asked) one replies reply old mid new sofar more))
@@ -63,22 +96,40 @@ runs_more asked n one replies all reply old mid new below is made sofar more =
 pub first_none : (asked : List Asked) (old new : Rows) → new ≡ old → AreFirst asked 0 old [] new
 first_none asked old new same = record { ran = runs_none asked old new same; none = λ is. same }
 
-pub first_more : (asked : List Asked) (n : ℕ) (one : Asked) (replies all : List Reply) (reply : Reply) (old mid new : Rows) → n < length asked → one ≡ get_or asked n one → all ≡ replies ++ reply ∷ []
-    → AreFirst asked n old replies mid → Performs one.user one.at one.request mid reply new → AreFirst asked (n + 1) old all new
+pub first_more : (asked : List Asked) (n : ℕ) (one : Asked) (replies all : List Reply)
+    (reply : Reply) (old mid new : Rows) → n < length asked → one ≡ get_or asked n one
+    → all ≡ replies ++ reply ∷ []
+    → AreFirst asked n old replies mid → Performs one.user one.at one.request mid reply new
+    → AreFirst asked (n + 1) old all new
 first_more asked n one replies all reply old mid new below is made first more = record {
   ran = runs_more asked n one replies all reply old mid new below is made first.ran more;
   none = λ zero_is. absurd (let wrong : ⊥ = omega (arith, zero_is) in wrong);
 }
 
 -- a row that is damaged after the first requests
-pub blamed_after : (asked : List Asked) (n : ℕ) (replies : List Reply) (old mid : Rows) (at : ℕ) → n < length asked → AreFirst asked n old replies mid → IsDamaged mid at → IsDamagedAfter asked old at
-blamed_after asked n replies old mid at below first damaged = record { count = n; below = below; replies = replies; rows = mid; first = first; damaged = damaged }
+pub blamed_after : (asked : List Asked) (n : ℕ) (replies : List Reply) (old mid : Rows) (at : ℕ)
+    → n < length asked → AreFirst asked n old replies mid → IsDamaged mid at
+    → IsDamagedAfter asked old at
+blamed_after asked n replies old mid at below first damaged =
+    record {
+      count = n;
+      below = below;
+      replies = replies;
+      rows = mid;
+      first = first;
+      damaged = damaged;
+    }
 
 -- from sound rows they stay sound, and nothing is damaged
-pub never_after : (asked : List Asked) (rows : Rows) (at : ℕ) → AreSound rows → IsDamagedAfter asked rows at → ⊥
+pub never_after : (asked : List Asked) (rows : Rows) (at : ℕ) → AreSound rows
+    → IsDamagedAfter asked rows at → ⊥
 never_after asked rows at sound after =
-    let run : IsRunOfRows (take after.count asked) rows after.replies after.rows = after.first.ran sound in
+    let run : IsRunOfRows (take after.count asked) rows after.replies after.rows =
+    after.first.ran sound in
     sound_undamaged after.rows at run.sound after.damaged
 
-pub runs_all : (asked : List Asked) (n : ℕ) (replies : List Reply) (old new : Rows) → n ≡ length asked → RunsAll (take n asked) old replies new → RunsAll asked old replies new
-runs_all asked n replies old new full sofar = subst (λ (l : List Asked). RunsAll l old replies new) (ap (λ (k : ℕ). take k asked) full ∙ take-length asked) sofar
+pub runs_all : (asked : List Asked) (n : ℕ) (replies : List Reply) (old new : Rows)
+    → n ≡ length asked → RunsAll (take n asked) old replies new → RunsAll asked old replies new
+runs_all asked n replies old new full sofar =
+    subst (λ (l : List Asked). RunsAll l old replies new)
+    (ap (λ (k : ℕ). take k asked) full ∙ take-length asked) sofar

@@ -42,29 +42,46 @@ use Rattle.room_desk.proofs.Sound.Filled.{fill_item, plan_judged, target_there}
 use Rattle.room_desk.proofs.Steps.Stepping.{refused_step, served_step}
 
 module _ (asker : Asker) (path : List (List ℕ)) (request : Request) (items : Site → List Item)
-    (planned : (content : Content) → plan_of content request ≡ to_target content path items) (same : (site : Site) → items (fill site) ≡ map fill_item (items site)) where
-  plan_is : (old new : Rows) (answer : Option Reply) → AreRows old → AreSound old → IsJudged asker (Rattle.room_judge.specs.Stored.to_stored old.read path items) old answer new → IsJudged asker (plan_of (meaning old.read) request) old answer new
+    (planned : (content : Content) → plan_of content request ≡ to_target content path items)
+    (same : (site : Site) → items (fill site) ≡ map fill_item (items site)) where
+  plan_is : (old new : Rows) (answer : Option Reply) → AreRows old → AreSound old
+      → IsJudged asker (Rattle.room_judge.specs.Stored.to_stored old.read path items) old answer new
+      → IsJudged asker (plan_of (meaning old.read) request) old answer new
   plan_is old new answer are sound judged =
-      subst (λ list. IsJudged asker list old answer new) (sym (planned (meaning old.read))) (plan_judged asker path items old new answer are (sound_parts old sound) same judged)
+      subst (λ list. IsJudged asker list old answer new) (sym (planned (meaning old.read)))
+      (plan_judged asker path items old new answer are (sound_parts old sound) same judged)
 
   -- an item fails
-  pub not_served : (old new : Rows) (reply : Reply) → AreRows old → IsReached asker path items old (Ended reply) new → CarriesOut asker request old reply new
-  not_served old new reply are reached known sound = refused_step asker request old known sound new reply (plan_is old new (Some reply) are sound reached.judged)
+  pub not_served : (old new : Rows) (reply : Reply) → AreRows old
+      → IsReached asker path items old (Ended reply) new → CarriesOut asker request old reply new
+  not_served old new reply are reached known sound =
+      refused_step asker request old known sound new reply
+      (plan_is old new (Some reply) are sound reached.judged)
 
   -- none fails, and the request does this at its target
-  pub served : (act : Content → Site → Reply) → ((content : Content) (id : ℕ) → effect content asker.caller id request ≡ with_site content (site_at (sites_along content path) path) (λ target. (act content target, content)))
-      → (old new : Rows) (node : Node) (reply : Reply) → AreRows old → IsReached asker path items old (At node) new
-      → ((target : Site) → fill target ≡ stored_site path node → act (meaning old.read) target ≡ reply) → CarriesOut asker request old reply new
+  pub served : (act : Content → Site → Reply)
+      → ((content : Content) (id : ℕ)
+      → effect content asker.caller id request
+      ≡ with_site content (site_at (sites_along content path) path)
+      (λ target. (act content target, content)))
+      → (old new : Rows) (node : Node) (reply : Reply) → AreRows old
+      → IsReached asker path items old (At node) new
+      → ((target : Site) → fill target ≡ stored_site path node
+      → act (meaning old.read) target ≡ reply) → CarriesOut asker request old reply new
   served act acts old new node reply are reached replies known sound =
-      let target = target_there old are (sound_parts old sound) path (stored_site path node) reached.found in
+      let target = target_there old are (sound_parts old sound) path
+      (stored_site path node) reached.found in
       served_step asker request old known sound new reply
-      (λ id. acts (meaning old.read) id ∙ ap (λ o. with_site (meaning old.read) o (λ t. (act (meaning old.read) t, meaning old.read))) target.at
+      (λ id. acts (meaning old.read) id
+      ∙ ap (λ o. with_site (meaning old.read) o (λ t. (act (meaning old.read) t, meaning old.read)))
+      target.at
       ∙ ap (λ (r : Reply). (r, meaning old.read)) (replies target.planned target.filled))
       (plan_is old new None are sound reached.judged)
 
 -- ---- what a target with its stored lists says
 
-flags_of : (which : Which) (site : Site) → (held_of which (fill site).node).flags ≡ (held_of which site.node).flags
+flags_of : (which : Which) (site : Site)
+    → (held_of which (fill site).node).flags ≡ (held_of which site.node).flags
 flags_of Dacl site = refl
 flags_of Sacl site = refl
 
@@ -72,7 +89,8 @@ fulls_of : (which : Which) (site : Site) → full_at which (fill site) ≡ full_
 fulls_of Dacl site = refl
 fulls_of Sacl site = refl
 
-stored_full : (which : Which) (path : List (List ℕ)) (node : Node) → full_at which (stored_site path node) ≡ full_of (held_of which node)
+stored_full : (which : Which) (path : List (List ℕ)) (node : Node)
+    → full_at which (stored_site path node) ≡ full_of (held_of which node)
 stored_full Dacl path node = refl
 stored_full Sacl path node = refl
 
@@ -80,47 +98,84 @@ stored_full Sacl path node = refl
 abbrev pub shown : Node → List ℕ × ObjKind
 shown node = (node.name, node.kind)
 
-names_kept : (content : Content) (nodes : List Node) → map shown (map (kept_node content) nodes) ≡ map shown nodes
+names_kept : (content : Content) (nodes : List Node)
+    → map shown (map (kept_node content) nodes) ≡ map shown nodes
 names_kept content [] = refl
-names_kept content (node ∷ nodes) = ap (λ rest. (node.name, node.kind) ∷ rest) (names_kept content nodes)
+names_kept content (node ∷ nodes) =
+    ap (λ rest. (node.name, node.kind) ∷ rest) (names_kept content nodes)
 
 module _ (asker : Asker) (path : List (List ℕ)) where
-  pub served_bytes : (old new : Rows) (node : Node) (bytes : List ℕ) → AreRows old → IsReached asker path (λ target. of_kind Document target ∷ Check target (read_data ∷ []) ∷ []) old (At node) new → Some bytes ≡ body_of old.read node.id
+  pub served_bytes : (old new : Rows) (node : Node) (bytes : List ℕ) → AreRows old
+      → IsReached asker path
+      (λ target. of_kind Document target ∷ Check target (read_data ∷ []) ∷ []) old (At node) new
+      → Some bytes ≡ body_of old.read node.id
       → CarriesOut asker (Read path) old (Bytes bytes) new
   served_bytes old new node bytes are reached body =
-      served asker path (Read path) (λ target. of_kind Document target ∷ Check target (read_data ∷ []) ∷ []) (λ content. refl) (λ site. refl)
-      (λ content target. Bytes (unwrap_or (body_of content target.node.id) [])) (λ content id. refl) old new node (Bytes bytes) are reached
-      (λ target filled. ap (λ (s : Site). Bytes (unwrap_or (body_of old.read s.node.id) [])) filled ∙ ap (λ (o : Option (List ℕ)). Bytes (unwrap_or o [])) (sym body))
+      served asker path (Read path)
+      (λ target. of_kind Document target ∷ Check target (read_data ∷ []) ∷ []) (λ content. refl)
+      (λ site. refl)
+      (λ content target. Bytes (unwrap_or (body_of content target.node.id) []))
+      (λ content id. refl) old new node (Bytes bytes) are reached
+      (λ target filled. ap (λ (s : Site). Bytes (unwrap_or (body_of old.read s.node.id) [])) filled
+      ∙ ap (λ (o : Option (List ℕ)). Bytes (unwrap_or o [])) (sym body))
 
-  pub served_names : (old new : Rows) (node : Node) (names : List (List ℕ × ObjKind)) → AreRows old → IsReached asker path (λ target. of_kind Folder target ∷ Check target (read_data ∷ []) ∷ []) old (At node) new
-      → names ≡ map shown (children_of old.read node.id) → CarriesOut asker (ListFolder path) old (Names names) new
+  pub served_names : (old new : Rows) (node : Node) (names : List (List ℕ × ObjKind)) → AreRows old
+      → IsReached asker path
+      (λ target. of_kind Folder target ∷ Check target (read_data ∷ []) ∷ []) old (At node) new
+      → names ≡ map shown (children_of old.read node.id)
+      → CarriesOut asker (ListFolder path) old (Names names) new
   served_names old new node names are reached listed =
-      served asker path (ListFolder path) (λ target. of_kind Folder target ∷ Check target (read_data ∷ []) ∷ []) (λ content. refl) (λ site. refl)
-      (λ content target. Names (map shown (children_of content target.node.id))) (λ content id. refl) old new node (Names names) are reached
-      (λ target filled. ap (λ (s : Site). Names (map shown (children_of (meaning old.read) s.node.id))) filled
-      ∙ ap (λ (nodes : List Node). Names (map shown nodes)) (children_of-with_each old.read (kept_node old.read) (keeps_places old.read (kept_node old.read) (λ n. record { number = refl; parent = refl; name = refl })) node.id)
-      ∙ ap (λ (l : List (List ℕ × ObjKind)). Names l) (names_kept old.read (children_of old.read node.id) ∙ sym listed))
+      served asker path (ListFolder path)
+      (λ target. of_kind Folder target ∷ Check target (read_data ∷ []) ∷ []) (λ content. refl)
+      (λ site. refl)
+      (λ content target. Names (map shown (children_of content target.node.id)))
+      (λ content id. refl) old new node (Names names) are reached
+      (λ target filled. ap
+      (λ (s : Site). Names (map shown (children_of (meaning old.read) s.node.id))) filled
+      ∙ ap (λ (nodes : List Node). Names (map shown nodes))
+      (children_of-with_each old.read (kept_node old.read)
+      (keeps_places old.read (kept_node old.read)
+      (λ n. record { number = refl; parent = refl; name = refl })) node.id)
+      ∙ ap (λ (l : List (List ℕ × ObjKind)). Names l)
+      (names_kept old.read (children_of old.read node.id) ∙ sym listed))
 
-  pub served_list : (which : Which) (old new : Rows) (node : Node) (reply : Reply) → AreRows old → IsReached asker path (λ target. Check target (read_acl ∷ []) ∷ []) old (At node) new
-      → reply ≡ Lists (held_of which node).flags (full_of (held_of which node)) → CarriesOut asker (ReadList path which) old reply new
+  pub served_list : (which : Which) (old new : Rows) (node : Node) (reply : Reply) → AreRows old
+      → IsReached asker path (λ target. Check target (read_acl ∷ []) ∷ []) old (At node) new
+      → reply ≡ Lists (held_of which node).flags (full_of (held_of which node))
+      → CarriesOut asker (ReadList path which) old reply new
   served_list which old new node reply are reached replies =
-      served asker path (ReadList path which) (λ target. Check target (read_acl ∷ []) ∷ []) (λ content. refl) (λ site. refl)
-      (λ content target. Lists (held_of which target.node).flags (full_at which target)) (λ content id. refl) old new node reply are reached
-      (λ target filled. ap (λ f. Lists f (full_at which target)) (sym (flags_of which target)) ∙ ap (λ l. Lists (held_of which (fill target).node).flags l) (sym (fulls_of which target))
-      ∙ ap (λ (s : Site). Lists (held_of which s.node).flags (full_at which s)) filled ∙ ap (λ l. Lists (held_of which node).flags l) (stored_full which path node) ∙ sym replies)
+      served asker path (ReadList path which) (λ target. Check target (read_acl ∷ []) ∷ [])
+      (λ content. refl) (λ site. refl)
+      (λ content target. Lists (held_of which target.node).flags (full_at which target))
+      (λ content id. refl) old new node reply are reached
+      (λ target filled. ap (λ f. Lists f (full_at which target)) (sym (flags_of which target))
+      ∙ ap (λ l. Lists (held_of which (fill target).node).flags l) (sym (fulls_of which target))
+      ∙ ap (λ (s : Site). Lists (held_of which s.node).flags (full_at which s)) filled
+      ∙ ap (λ l. Lists (held_of which node).flags l) (stored_full which path node) ∙ sym replies)
 
-  pub served_attr : (old new : Rows) (node : Node) (reply : Reply) → AreRows old → IsReached asker path (λ target. Check target (read_attributes ∷ []) ∷ []) old (At node) new → reply ≡ Attr node.kind node.owners → CarriesOut asker (ReadAttr path) old reply new
+  pub served_attr : (old new : Rows) (node : Node) (reply : Reply) → AreRows old
+      → IsReached asker path (λ target. Check target (read_attributes ∷ []) ∷ []) old (At node) new
+      → reply ≡ Attr node.kind node.owners → CarriesOut asker (ReadAttr path) old reply new
   served_attr old new node reply are reached replies =
-      served asker path (ReadAttr path) (λ target. Check target (read_attributes ∷ []) ∷ []) (λ content. refl) (λ site. refl)
-      (λ content target. Attr target.node.kind target.node.owners) (λ content id. refl) old new node reply are reached
+      served asker path (ReadAttr path) (λ target. Check target (read_attributes ∷ []) ∷ [])
+      (λ content. refl) (λ site. refl)
+      (λ content target. Attr target.node.kind target.node.owners)
+      (λ content id. refl) old new node reply are reached
       (λ target filled. ap (λ (s : Site). Attr s.node.kind s.node.owners) filled ∙ sym replies)
 
-  pub served_rulings : (mask : List ℕ) (old new : Rows) (node : Node) (reply : Reply) → AreRows old → IsReached asker path (λ _. []) old (At node) new
-      → reply ≡ Rulings (rulings_at asker node mask) → CarriesOut asker (Can path mask) old reply new
+  pub served_rulings : (mask : List ℕ) (old new : Rows) (node : Node) (reply : Reply) → AreRows old
+      → IsReached asker path (λ _. []) old (At node) new
+      → reply ≡ Rulings (rulings_at asker node mask)
+      → CarriesOut asker (Can path mask) old reply new
   served_rulings mask old new node reply are reached replies =
       served asker path (Can path mask) (λ _. []) (λ content. refl) (λ site. refl)
-      (λ content target. Rulings (map (λ bit. (bit ∷ [], ruling_of (full_at Dacl target) asker.caller target.node.owners bit)) mask)) (λ content id. refl) old new node reply are reached
-      (λ target filled. ap (λ (s : Site). Rulings (map (λ bit. (bit ∷ [], ruling_of (full_at Dacl s) asker.caller s.node.owners bit)) mask)) filled ∙ sym replies)
+      (λ content target. Rulings
+      (map (λ bit. (bit ∷ [], ruling_of (full_at Dacl target) asker.caller target.node.owners bit))
+      mask)) (λ content id. refl) old new node reply are reached
+      (λ target filled. ap
+      (λ (s : Site). Rulings
+      (map (λ bit. (bit ∷ [], ruling_of (full_at Dacl s) asker.caller s.node.owners bit)) mask))
+      filled ∙ sym replies)
 
 -- ---- the same in terms of the calls
 
@@ -134,22 +189,36 @@ abbrev pub CheckAt : List ℕ → Site → List Item
 CheckAt bits target = Check target bits ∷ []
 
 -- the bits, and where the walk comes to
-pub reached_as : (asker : Asker) (path : List (List ℕ)) (items : List ℕ → Site → List Item) (bits named : List ℕ) (arrival place : Arrival) (old new : Rows) → bits ≡ named → arrival ≡ place → IsReached asker path (items bits) old arrival new → IsReached asker path (items named) old place new
+pub reached_as : (asker : Asker) (path : List (List ℕ)) (items : List ℕ → Site → List Item)
+    (bits named : List ℕ) (arrival place : Arrival) (old new : Rows) → bits ≡ named
+    → arrival ≡ place → IsReached asker path (items bits) old arrival new
+    → IsReached asker path (items named) old place new
 reached_as asker path items bits named arrival place old new same comes reached =
-    subst (λ (b : List ℕ). IsReached asker path (items b) old place new) same (subst (λ (a : Arrival). IsReached asker path (items bits) old a new) comes reached)
+    subst (λ (b : List ℕ). IsReached asker path (items b) old place new) same
+    (subst (λ (a : Arrival). IsReached asker path (items bits) old a new) comes reached)
 
 -- records don't change what is found
-pub reached_rows : {X : Type 0} (part : Content → X) (asker : Asker) (path : List (List ℕ)) (items : Site → List Item) (arrival : Arrival) (old mid : Rows) → ((content : Content) (records : List AuditRow) → part (with_records content records) ≡ part content)
+pub reached_rows : {X : Type 0} (part : Content → X) (asker : Asker) (path : List (List ℕ))
+    (items : Site → List Item) (arrival : Arrival) (old mid : Rows)
+    → ((content : Content) (records : List AuditRow)
+    → part (with_records content records) ≡ part content)
     → IsReached asker path items old arrival mid → part mid.read ≡ part old.read
-reached_rows part asker path items arrival old mid kept reached = ap (λ (r : Rows). part r.read) reached.judged.notes ∙ kept old.read _
+reached_rows part asker path items arrival old mid kept reached =
+    ap (λ (r : Rows). part r.read) reached.judged.notes ∙ kept old.read _
 
 -- a row that can't be read afterwards couldn't be read before
-pub reached_damaged : (asker : Asker) (path : List (List ℕ)) (items : Site → List Item) (arrival : Arrival) (old mid : Rows) (at : ℕ) → IsReached asker path items old arrival mid → IsUnreadable mid at → IsDamaged old at
-reached_damaged asker path items arrival old mid at reached h = inl (inl (subst (λ (r : Rows). IsUnreadable r at) reached.judged.notes h))
+pub reached_damaged : (asker : Asker) (path : List (List ℕ)) (items : Site → List Item)
+    (arrival : Arrival) (old mid : Rows) (at : ℕ) → IsReached asker path items old arrival mid
+    → IsUnreadable mid at → IsDamaged old at
+reached_damaged asker path items arrival old mid at reached h =
+    inl (inl (subst (λ (r : Rows). IsUnreadable r at) reached.judged.notes h))
 
 -- nothing is changed after the walk
-pub reached_then : (asker : Asker) (path : List (List ℕ)) (items : Site → List Item) (arrival : Arrival) (old mid new : Rows) → new ≡ mid → IsReached asker path items old arrival mid → IsReached asker path items old arrival new
-reached_then asker path items arrival old mid new same reached = subst (λ (r : Rows). IsReached asker path items old arrival r) (sym same) reached
+pub reached_then : (asker : Asker) (path : List (List ℕ)) (items : Site → List Item)
+    (arrival : Arrival) (old mid new : Rows) → new ≡ mid
+    → IsReached asker path items old arrival mid → IsReached asker path items old arrival new
+reached_then asker path items arrival old mid new same reached =
+    subst (λ (r : Rows). IsReached asker path items old arrival r) (sym same) reached
 
 -- ---- a document has bytes
 
@@ -157,59 +226,112 @@ pub none_both : (a b : Option Reply) → None ≡ or_else a b → (None ≡ a) �
 none_both None b is = (refl, is)
 none_both (Some reply) b is = absurd (let wrong : ⊥ = cc in wrong)
 
-site_there : (content : Content) → Rises content → (path names : List (List ℕ)) (node : Node) (site : Site) → node_at content node.id ≡ Some node → site_at (stored_from content path node names) names ≡ Some site → node_at content site.node.id ≡ Some site.node
-site_there content rises path [] node site there is = ap (λ (s : Site). node_at content s.node.id) (sym (same is)) ∙ there ∙ ap (λ (s : Site). Some s.node) (same is)
+site_there : (content : Content) → Rises content
+    → (path names : List (List ℕ)) (node : Node) (site : Site) → node_at content node.id ≡ Some node
+    → site_at (stored_from content path node names) names ≡ Some site
+    → node_at content site.node.id ≡ Some site.node
+site_there content rises path [] node site there is =
+    ap (λ (s : Site). node_at content s.node.id) (sym (same is)) ∙ there
+    ∙ ap (λ (s : Site). Some s.node) (same is)
   where
     same : Some (stored_site path node) ≡ Some site → stored_site path node ≡ site
     same is = cc
-site_there content rises path (name ∷ names) node site there is = on (child_of content node.id name) (λ child found at. site_there content rises (path ++ name ∷ []) names child site (child_of-is_there content rises node.id name child found) at) is
+site_there content rises path (name ∷ names) node site there is =
+    on (child_of content node.id name)
+    (λ child found at. site_there content rises (path ++ name ∷ []) names child site
+    (child_of-is_there content rises node.id name child found) at) is
   where
-    on : (o : Option Node) → ((child : Node) → o ≡ Some child → site_at (stored_from content (path ++ name ∷ []) child names) names ≡ Some site → node_at content site.node.id ≡ Some site.node) → site_at (option_map_or (λ child. stored_from content (path ++ name ∷ []) child names) o []) names ≡ Some site → node_at content site.node.id ≡ Some site.node
+    on : (o : Option Node)
+        → ((child : Node) → o ≡ Some child
+        → site_at (stored_from content (path ++ name ∷ []) child names) names ≡ Some site
+        → node_at content site.node.id ≡ Some site.node)
+        → site_at (option_map_or (λ child. stored_from content (path ++ name ∷ []) child names) o
+        []) names ≡ Some site → node_at content site.node.id ≡ Some site.node
     on None known is = absurd (let wrong : ⊥ = cc in wrong)
     on (Some child) known is = known child refl is
 
 -- what was reached is there
-pub along_there : (content : Content) → Rises content → (path : List (List ℕ)) (site : Site) → site_at (stored_along content path) path ≡ Some site → node_at content site.node.id ≡ Some site.node
-along_there content rises path site is = on (root_of content) (λ root found. root_of-is_there content rises root found) is
+pub along_there : (content : Content) → Rises content → (path : List (List ℕ)) (site : Site)
+    → site_at (stored_along content path) path ≡ Some site
+    → node_at content site.node.id ≡ Some site.node
+along_there content rises path site is =
+    on (root_of content) (λ root found. root_of-is_there content rises root found) is
   where
-    on : (o : Option Node) → ((root : Node) → o ≡ Some root → node_at content root.id ≡ Some root) → site_at (option_map_or (λ root. stored_from content [] root path) o []) path ≡ Some site → node_at content site.node.id ≡ Some site.node
+    on : (o : Option Node) → ((root : Node) → o ≡ Some root → node_at content root.id ≡ Some root)
+        → site_at (option_map_or (λ root. stored_from content [] root path) o []) path ≡ Some site
+        → node_at content site.node.id ≡ Some site.node
     on None known is = absurd (let wrong : ⊥ = cc in wrong)
     on (Some root) known is = site_there content rises [] path root site (known root refl) is
 
-pub folder_fails : (caller : Rattle.room_entry.specs.declared.parties.Caller.Caller) (site : Site) → None ≡ failure caller (no_folder site) → is_document site.node.kind ≡ true
+pub folder_fails : (caller : Rattle.room_entry.specs.declared.parties.Caller.Caller) (site : Site)
+    → None ≡ failure caller (no_folder site) → is_document site.node.kind ≡ true
 folder_fails caller site passes = on (is_document site.node.kind) passes
   where
-    on : (t : Bool) → None ≡ cond (not t) (Some (Rattle.room_machine.specs.declared.reply.Reply.TheVariants.Refused site.path Rattle.room_machine.specs.declared.reply.Reason.TheVariants.WrongKind)) None → t ≡ true
+    on : (t : Bool)
+        → None
+        ≡ cond (not t)
+        (Some (Rattle.room_machine.specs.declared.reply.Reply.TheVariants.Refused site.path
+        Rattle.room_machine.specs.declared.reply.Reason.TheVariants.WrongKind)) None → t ≡ true
     on true passes = refl
     on false passes = absurd (let wrong : ⊥ = cc in wrong)
 
 -- a document that was reached is there, and is one
-pub document_there : (asker : Asker) (path : List (List ℕ)) (bits : List ℕ) (old new : Rows) (node : Node) → AreRows old → IsReached asker path (DocumentAt bits) old (At node) new → (node_at old.read node.id ≡ Some node) × (is_document node.kind ≡ true)
+pub document_there : (asker : Asker) (path : List (List ℕ)) (bits : List ℕ) (old new : Rows)
+    (node : Node) → AreRows old → IsReached asker path (DocumentAt bits) old (At node) new
+    → (node_at old.read node.id ≡ Some node) × (is_document node.kind ≡ true)
 document_there asker path bits old new node are reached =
     let site : Site = stored_site path node in
-    let judged : None ≡ first_failure asker.caller (way false (stored_along old.read path) path ++ (no_folder site ∷ Check site bits ∷ [])) =
-    reached.judged.answers ∙ ap (λ o. first_failure asker.caller (way false (stored_along old.read path) path ++ where_found o (λ target. no_folder target ∷ Check target bits ∷ []))) reached.found in
-    let at_site = none_both (first_failure asker.caller (way false (stored_along old.read path) path)) _ (judged ∙ failure_of_parts asker.caller asker.at (way false (stored_along old.read path) path) (no_folder site ∷ Check site bits ∷ [])) in
-    (along_there old.read are.numbers path site reached.found, folder_fails asker.caller site (none_both (failure asker.caller (no_folder site)) (first_failure asker.caller (Check site bits ∷ [])) at_site.1).0)
+    let judged : None ≡ first_failure asker.caller
+    (way false (stored_along old.read path) path ++ (no_folder site ∷ Check site bits ∷ [])) =
+    reached.judged.answers
+    ∙ ap
+    (λ o. first_failure asker.caller
+    (way false (stored_along old.read path) path
+    ++ where_found o (λ target. no_folder target ∷ Check target bits ∷ []))) reached.found in
+    let at_site = none_both
+    (first_failure asker.caller (way false (stored_along old.read path) path)) _
+    (judged ∙ failure_of_parts asker.caller asker.at
+    (way false (stored_along old.read path) path) (no_folder site ∷ Check site bits ∷ [])) in (
+      along_there old.read are.numbers path site reached.found,
+      folder_fails asker.caller site
+          (none_both (failure asker.caller (no_folder site))
+          (first_failure asker.caller (Check site bits ∷ [])) at_site.1).0,
+    )
 
 -- a document that lacks bytes, after the records of the way to it
-pub no_bytes : (asker : Asker) (path : List (List ℕ)) (bits : List ℕ) (old mid : Rows) (node : Node) (at : ℕ) → AreRows old → IsReached asker path (DocumentAt bits) old (At node) mid → HasNoBytes node.id mid at → IsDamaged old at
-no_bytes asker path bits old mid node at are reached (inl unreadable) = inl (inl (subst (λ (r : Rows). IsUnreadable r at) reached.judged.notes unreadable))
+pub no_bytes : (asker : Asker) (path : List (List ℕ)) (bits : List ℕ) (old mid : Rows) (node : Node)
+    (at : ℕ) → AreRows old → IsReached asker path (DocumentAt bits) old (At node) mid
+    → HasNoBytes node.id mid at → IsDamaged old at
+no_bytes asker path bits old mid node at are reached (inl unreadable) =
+    inl (inl (subst (λ (r : Rows). IsUnreadable r at) reached.judged.notes unreadable))
 no_bytes asker path bits old mid node at are reached (inr lacks) =
     let document = document_there asker path bits old mid node are reached in
-    inr (node, ap (node_at old.read) lacks.0 ∙ document.0, document.1, ap (body_of old.read) lacks.0 ∙ sym (ap (λ (r : Rows). body_of r.read node.id) reached.judged.notes) ∙ lacks.1)
+    inr (
+      node,
+      ap (node_at old.read) lacks.0 ∙ document.0,
+      document.1,
+      ap (body_of old.read) lacks.0
+          ∙ sym (ap (λ (r : Rows). body_of r.read node.id) reached.judged.notes) ∙ lacks.1,
+    )
 
 -- ---- what is answered after the walk
 
 module _ (asker : Asker) (path : List (List ℕ)) where
-  pub bytes_answered : (old mid new : Rows) (node : Node) (reply : Reply) → AreRows old → IsReached asker path (DocumentAt (read_data ∷ [])) old (At node) mid → IsBytesOf node.id mid reply → new ≡ mid → CarriesOut asker (Read path) old reply new
+  pub bytes_answered : (old mid new : Rows) (node : Node) (reply : Reply) → AreRows old
+      → IsReached asker path (DocumentAt (read_data ∷ [])) old (At node) mid
+      → IsBytesOf node.id mid reply → new ≡ mid → CarriesOut asker (Read path) old reply new
   bytes_answered old mid new node reply are reached told same =
       subst (λ (r : Reply). CarriesOut asker (Read path) old r new) (sym told.reply_is)
-      (served_bytes asker path old new node told.bytes are (reached_then asker path (DocumentAt (read_data ∷ [])) (At node) old mid new same reached)
+      (served_bytes asker path old new node told.bytes are
+      (reached_then asker path (DocumentAt (read_data ∷ [])) (At node) old mid new same reached)
       (sym told.are ∙ ap (λ (r : Rows). body_of r.read node.id) reached.judged.notes))
 
-  pub names_answered : (old mid new : Rows) (node : Node) (reply : Reply) → AreRows old → IsReached asker path (FolderAt (read_data ∷ [])) old (At node) mid → AreNamesOf node.id mid reply → new ≡ mid → CarriesOut asker (ListFolder path) old reply new
+  pub names_answered : (old mid new : Rows) (node : Node) (reply : Reply) → AreRows old
+      → IsReached asker path (FolderAt (read_data ∷ [])) old (At node) mid
+      → AreNamesOf node.id mid reply → new ≡ mid → CarriesOut asker (ListFolder path) old reply new
   names_answered old mid new node reply are reached told same known sound =
-      subst (λ (r : Reply). CarriesOut asker (ListFolder path) old r new) (sym (told (seen_noted old mid _ reached.judged.notes sound)))
-      (served_names asker path old new node (map shown (children_of mid.read node.id)) are (reached_then asker path (FolderAt (read_data ∷ [])) (At node) old mid new same reached)
+      subst (λ (r : Reply). CarriesOut asker (ListFolder path) old r new)
+      (sym (told (seen_noted old mid _ reached.judged.notes sound)))
+      (served_names asker path old new node (map shown (children_of mid.read node.id)) are
+      (reached_then asker path (FolderAt (read_data ∷ [])) (At node) old mid new same reached)
       (ap (λ (r : Rows). map shown (children_of r.read node.id)) reached.judged.notes)) known sound

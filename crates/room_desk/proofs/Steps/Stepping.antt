@@ -17,55 +17,94 @@ use Rattle.room_machine.proofs.Free.{some_free}
 use Rattle.room_desk.proofs.Sound.SoundParts.{sound_noted}
 
 -- the rows and what they mean have the same pairs
-caller_kept : (rows : Content) (user : Option (List ℕ)) → caller_in (meaning rows) user ≡ caller_in rows user
+caller_kept : (rows : Content) (user : Option (List ℕ))
+    → caller_in (meaning rows) user ≡ caller_in rows user
 caller_kept rows None = refl
 caller_kept rows (Some name) = refl
 
-module _ (asker : Asker) (request : Request) (old : Rows) (known : IsKnown asker old) (sound : AreSound old) where
+module _ (asker : Asker) (request : Request) (old : Rows) (known : IsKnown asker old)
+    (sound : AreSound old) where
   abbrev content : Content
   content = meaning old.read
 
   -- what the step makes of a caller
   abbrev made : ℕ → Caller → Reply × Content
-  made id caller = recorded (answered (first_failure caller (plan_of content request)) content (effect content caller id request)) (records_of_plan caller asker.at (plan_of content request))
+  made id caller =
+      recorded (answered (first_failure caller (plan_of content request)) content
+      (effect content caller id request))
+      (records_of_plan caller asker.at (plan_of content request))
 
-  by_records : (id : ℕ) → Rattle.room_machine.specs.Step.IsFree content id → (new : Rows) (reply : Reply) → made id asker.caller ≡ (reply, meaning (noted old (records_of_plan asker.caller asker.at (plan_of content request))).read)
-      → new ≡ noted old (records_of_plan asker.caller asker.at (plan_of content request)) → IsStepOfRows asker.caller.user asker.at request old reply new
+  by_records : (id : ℕ) → Rattle.room_machine.specs.Step.IsFree content id
+      → (new : Rows) (reply : Reply)
+      → made id asker.caller
+      ≡ (
+        reply,
+        meaning (noted old (records_of_plan asker.caller asker.at (plan_of content request))).read,
+      )
+      → new ≡ noted old (records_of_plan asker.caller asker.at (plan_of content request))
+      → IsStepOfRows asker.caller.user asker.at request old reply new
   by_records id free new reply makes notes = record {
-    step = (id, free, ap (made id) (caller_kept old.read asker.caller.user ∙ sym known) ∙ makes ∙ ap (λ (r : Rows). (reply, meaning r.read)) (sym notes));
+    step = (
+      id,
+      free,
+      ap (made id) (caller_kept old.read asker.caller.user ∙ sym known) ∙ makes
+          ∙ ap (λ (r : Rows). (reply, meaning r.read)) (sym notes),
+    );
     sound = subst AreSound (sym notes) (sound_noted old _ sound);
   }
 
-  pub refused_step : (new : Rows) (reply : Reply) → IsJudged asker (plan_of content request) old (Some reply) new → IsStepOfRows asker.caller.user asker.at request old reply new
+  pub refused_step : (new : Rows) (reply : Reply)
+      → IsJudged asker (plan_of content request) old (Some reply) new
+      → IsStepOfRows asker.caller.user asker.at request old reply new
   refused_step new reply judged =
       let free = some_free content in
-      by_records free.0 free.1 new reply (ap (λ o. recorded (answered o content (effect content asker.caller free.0 request)) (records_of_plan asker.caller asker.at (plan_of content request))) (sym judged.answers)) judged.notes
+      by_records free.0 free.1 new reply
+      (ap (λ o. recorded (answered o content (effect content asker.caller free.0 request))
+      (records_of_plan asker.caller asker.at (plan_of content request))) (sym judged.answers))
+      judged.notes
 
-  pub served_step : (new : Rows) (reply : Reply) → ((id : ℕ) → effect content asker.caller id request ≡ (reply, content)) → IsJudged asker (plan_of content request) old None new → IsStepOfRows asker.caller.user asker.at request old reply new
+  pub served_step : (new : Rows) (reply : Reply)
+      → ((id : ℕ) → effect content asker.caller id request ≡ (reply, content))
+      → IsJudged asker (plan_of content request) old None new
+      → IsStepOfRows asker.caller.user asker.at request old reply new
   served_step new reply serves judged =
       let free = some_free content in
       by_records free.0 free.1 new reply
-      (ap (λ o. recorded (answered o content (effect content asker.caller free.0 request)) (records_of_plan asker.caller asker.at (plan_of content request))) (sym judged.answers)
-      ∙ ap (λ d. recorded d (records_of_plan asker.caller asker.at (plan_of content request))) (serves free.0))
+      (ap (λ o. recorded (answered o content (effect content asker.caller free.0 request))
+      (records_of_plan asker.caller asker.at (plan_of content request))) (sym judged.answers)
+      ∙ ap (λ d. recorded d (records_of_plan asker.caller asker.at (plan_of content request)))
+      (serves free.0))
       judged.notes
 
   -- none fails, and the request changes more than records, with this number for a new object
-  pub made_step : (id : ℕ) → Rattle.room_machine.specs.Step.IsFree content id → (mid new : Rows) (reply : Reply) (after : Content) → IsJudged asker (plan_of content request) old None mid → effect content asker.caller id request ≡ (reply, after)
-      → meaning new.read ≡ with_records after (records_of_plan asker.caller asker.at (plan_of content request)) → AreSound new → IsStepOfRows asker.caller.user asker.at request old reply new
+  pub made_step : (id : ℕ) → Rattle.room_machine.specs.Step.IsFree content id
+      → (mid new : Rows) (reply : Reply) (after : Content)
+      → IsJudged asker (plan_of content request) old None mid
+      → effect content asker.caller id request ≡ (reply, after)
+      → meaning new.read
+      ≡ with_records after (records_of_plan asker.caller asker.at (plan_of content request))
+      → AreSound new → IsStepOfRows asker.caller.user asker.at request old reply new
   made_step id free mid new reply after judged changes means stays = record {
     step = (
       id,
       free,
       ap (made id) (caller_kept old.read asker.caller.user ∙ sym known)
-          ∙ ap (λ o. recorded (answered o content (effect content asker.caller id request)) (records_of_plan asker.caller asker.at (plan_of content request))) (sym judged.answers)
-          ∙ ap (λ d. recorded d (records_of_plan asker.caller asker.at (plan_of content request))) changes
+          ∙ ap (λ o. recorded (answered o content (effect content asker.caller id request))
+          (records_of_plan asker.caller asker.at (plan_of content request))) (sym judged.answers)
+          ∙ ap (λ d. recorded d (records_of_plan asker.caller asker.at (plan_of content request)))
+          changes
           ∙ ap (λ (c : Content). (reply, c)) (sym means),
     );
     sound = stays;
   }
 
   -- the same, where the number doesn't matter
-  pub changed_step : (mid new : Rows) (reply : Reply) (after : Content) → IsJudged asker (plan_of content request) old None mid → ((id : ℕ) → effect content asker.caller id request ≡ (reply, after))
-      → meaning new.read ≡ with_records after (records_of_plan asker.caller asker.at (plan_of content request)) → AreSound new → IsStepOfRows asker.caller.user asker.at request old reply new
+  pub changed_step : (mid new : Rows) (reply : Reply) (after : Content)
+      → IsJudged asker (plan_of content request) old None mid
+      → ((id : ℕ) → effect content asker.caller id request ≡ (reply, after))
+      → meaning new.read
+      ≡ with_records after (records_of_plan asker.caller asker.at (plan_of content request))
+      → AreSound new → IsStepOfRows asker.caller.user asker.at request old reply new
   changed_step mid new reply after judged changes means stays =
-      let free = some_free content in made_step free.0 free.1 mid new reply after judged (changes free.0) means stays
+      let free = some_free content in
+      made_step free.0 free.1 mid new reply after judged (changes free.0) means stays

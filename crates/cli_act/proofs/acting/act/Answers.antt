@@ -3,7 +3,14 @@ use Rattle.cli_act.proofs.Ended.{does_ended}
 use Rattle.cli_act.proofs.acting.act.Goals as goal
 
 pub returns-clause-acts : goal.returns-clause-acts
-returns-clause-acts g c = record { outcome = c.do_task-conn.result.1; does = c.do_task-conn.ensures; tells = c.tell-status.ensures }
+returns-clause-acts g c =
+    record {
+      outcome = c.do_task-conn.result.1;
+      does = c.do_task-conn.ensures;
+      tells = c.tell-status.ensures;
+    }
 
 pub returns-clause-ended : goal.returns-clause-ended
-returns-clause-ended g c = does_ended (state g.S.Store) c.args.task.now c.args.conn c.do_task-conn.result.0 c.do_task-conn.result.1 c.do_task-conn.ensures
+returns-clause-ended g c =
+    does_ended (state g.S.Store) c.args.task.now c.args.conn c.do_task-conn.result.0
+    c.do_task-conn.result.1 c.do_task-conn.ensures

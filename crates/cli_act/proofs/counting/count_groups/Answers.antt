@@ -12,11 +12,13 @@ pairs-preserved c =
     let bytes = c.in_ok-group.ensures.ok ∙ c.as_str.ensures in
     let insert = c.in_ok-insert.ensures in (
       with_group so_far.0 c.pair-item.result.0,
-      seen_next _ _ _ c.in_ok-group.group _ _ so_far.1 bytes insert.added insert.updates.0 insert.unchanged insert.len,
+      seen_next _ _ _ c.in_ok-group.group _ _ so_far.1 bytes insert.added insert.updates.0
+          insert.unchanged insert.len,
       after_next _ _ _ _ _ c.pairs-test.true c.pair-item.is so_far.2,
     )
 
 pub returns : goal.returns
 returns c =
     let all = c.pairs.invariant in
-    c.len.ensures.len ∙ all.1.len ∙ ap (λ (groups : List (List ℕ)). length groups) (after_all _ _ _ c.pairs-test.false all.2)
+    c.len.ensures.len ∙ all.1.len
+    ∙ ap (λ (groups : List (List ℕ)). length groups) (after_all _ _ _ c.pairs-test.false all.2)

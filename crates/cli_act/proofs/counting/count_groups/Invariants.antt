@@ -5,4 +5,5 @@ use Rattle.cli_act.proofs.counting.count_groups.Given as goal
 
 abbrev pub invariant-pairs : goal.invariant-pairs
 invariant-pairs l =
-    (groups : List (List ℕ)) × HasSeen l.seen groups × (groups_after groups (drop l.pair-index l.pairs) ≡ distinct_groups l.pairs)
+    (groups : List (List ℕ)) × HasSeen l.seen groups
+    × (groups_after groups (drop l.pair-index l.pairs) ≡ distinct_groups l.pairs)

@@ -2,7 +2,13 @@ use Rattle.std.proofs.Common.{Ok, Err, refl, sym}
 use Rattle.cli_act.proofs.doing.raise.Goals as goal
 
 pub returns-in-Ok : goal.returns-in-Ok
-returns-in-Ok g c = record { result = Ok tt; migrates = rw c.into_conn.ensures c.in-Ok.ensures.raised; told = refl }
+returns-in-Ok g c =
+    record { result = Ok tt; migrates = rw c.into_conn.ensures c.in-Ok.ensures.raised; told = refl }
 
 pub returns-in-Err : goal.returns-in-Err
-returns-in-Err g c = record { result = Err c.in-Err.fault; migrates = c.in-Err.ensures.back; told = c.not_raised.ensures }
+returns-in-Err g c =
+    record {
+      result = Err c.in-Err.fault;
+      migrates = c.in-Err.ensures.back;
+      told = c.not_raised.ensures;
+    }

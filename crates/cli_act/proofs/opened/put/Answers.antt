@@ -2,7 +2,19 @@ use Rattle.std.proofs.Common.{Ok, Err, rules}
 use Rattle.cli_act.proofs.opened.put.Goals as goal
 
 pub returns-in-Ok : goal.returns-in-Ok
-returns-in-Ok g c = record { result = Ok tt; ran = c.in-Ok.ensures.ran; leads = c.in-Ok.ensures.leads; told = search rules }
+returns-in-Ok g c =
+    record {
+      result = Ok tt;
+      ran = c.in-Ok.ensures.ran;
+      leads = c.in-Ok.ensures.leads;
+      told = search rules;
+    }
 
 pub returns-in-Err : goal.returns-in-Err
-returns-in-Err g c = record { result = Err c.in-Err.fault; ran = c.in-Err.ensures.ran; leads = c.in-Err.ensures.leads; told = c.after_fault.ensures }
+returns-in-Err g c =
+    record {
+      result = Err c.in-Err.fault;
+      ran = c.in-Err.ensures.ran;
+      leads = c.in-Err.ensures.leads;
+      told = c.after_fault.ensures;
+    }

@@ -2,7 +2,19 @@ use Rattle.std.proofs.Common.{Ok, Err, rules}
 use Rattle.cli_act.proofs.opened.tell_members.Goals as goal
 
 pub returns-in-Ok : goal.returns-in-Ok
-returns-in-Ok g c = record { result = Ok c.in-Ok.pairs; looked = c.in-Ok.ensures.looked; leads = c.in-Ok.ensures.leads; told = rw c.as_slice.ensures.value at c.members_text.ensures }
+returns-in-Ok g c =
+    record {
+      result = Ok c.in-Ok.pairs;
+      looked = c.in-Ok.ensures.looked;
+      leads = c.in-Ok.ensures.leads;
+      told = rw c.as_slice.ensures.value at c.members_text.ensures;
+    }
 
 pub returns-in-Err : goal.returns-in-Err
-returns-in-Err g c = record { result = Err c.in-Err.fault; looked = c.in-Err.ensures.looked; leads = c.in-Err.ensures.leads; told = c.after_fault.ensures }
+returns-in-Err g c =
+    record {
+      result = Err c.in-Err.fault;
+      looked = c.in-Err.ensures.looked;
+      leads = c.in-Err.ensures.leads;
+      told = c.after_fault.ensures;
+    }

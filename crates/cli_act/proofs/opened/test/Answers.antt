@@ -2,7 +2,19 @@ use Rattle.std.proofs.Common.{Ok, Err}
 use Rattle.cli_act.proofs.opened.test.Goals as goal
 
 pub returns-in-Ok : goal.returns-in-Ok
-returns-in-Ok g c = record { result = Ok c.in-Ok.report; looked = c.in-Ok.ensures.looked; leads = c.in-Ok.ensures.leads; told = c.after_report.ensures }
+returns-in-Ok g c =
+    record {
+      result = Ok c.in-Ok.report;
+      looked = c.in-Ok.ensures.looked;
+      leads = c.in-Ok.ensures.leads;
+      told = c.after_report.ensures;
+    }
 
 pub returns-in-Err : goal.returns-in-Err
-returns-in-Err g c = record { result = Err c.in-Err.fault; looked = c.in-Err.ensures.looked; leads = c.in-Err.ensures.leads; told = c.after_fault.ensures }
+returns-in-Err g c =
+    record {
+      result = Err c.in-Err.fault;
+      looked = c.in-Err.ensures.looked;
+      leads = c.in-Err.ensures.leads;
+      told = c.after_fault.ensures;
+    }

@@ -3,4 +3,9 @@ use Rattle.cli_act.proofs.telling.tell.Goals as goal
 
 pub returns-in-Failed : goal.returns-in-Failed
 returns-in-Failed g c =
-    rw c.in-Failed.is (record { said = Appends-none _; told = c.tell_fault.ensures.text; ends = c.tell_fault.ensures.status })
+    rw c.in-Failed.is
+    (record {
+      said = Appends-none _;
+      told = c.tell_fault.ensures.text;
+      ends = c.tell_fault.ensures.status;
+    })

@@ -6,7 +6,8 @@ use Rattle.cli_check.proofs.headers.checked_names.Given as goal
 
 -- the names so far, and what is left to read
 abbrev pub invariant-loop-part : goal.invariant-loop-part
-invariant-loop-part l = (list_all is_name l.names ≡ true) × (pieces 44 l.value ≡ l.names ++ pieces 44 l.rest)
+invariant-loop-part l = (list_all is_name l.names ≡ true)
+    × (pieces 44 l.value ≡ l.names ++ pieces 44 l.rest)
 
 abbrev pub decreases-loop-part : goal.decreases-loop-part
 decreases-loop-part l = length l.rest

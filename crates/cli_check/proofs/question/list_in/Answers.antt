@@ -5,7 +5,8 @@ use Rattle.cli_check.proofs.question.list_in.Goals as goal
 pub overflow_add-result : goal.overflow_add-result
 overflow_add-result c =
     let read = rw c.in-Err-Fault.field-0-is at c.in-Err-Fault.ensures in
-    let most : c.in-Err-Fault.fault.line ≤ length c.args.bytes.now + 2 = fault-most c.args.bytes.now c.in-Err-Fault.fault read in
+    let most : c.in-Err-Fault.fault.line ≤ length c.args.bytes.now + 2 =
+    fault-most c.args.bytes.now c.in-Err-Fault.fault read in
     omega arith
 
 pub returns-in-Ok : goal.returns-in-Ok

@@ -4,8 +4,11 @@ use Rattle.cli_console.proofs.reading.read_task.Goals as goal
 
 pub returns-in-Ok : goal.returns-in-Ok
 returns-in-Ok g c =
-    whole c.args.command.now (g.R.Read.remaining c.args.reader) c.in-Ok.input.items c.most_of.result c.task_in.result
+    whole c.args.command.now
+    (g.R.Read.remaining c.args.reader) c.in-Ok.input.items c.most_of.result c.task_in.result
     c.most_of.ensures c.in-Ok.ensures (rw c.as_slice.ensures.value at c.task_in.ensures)
 
 pub returns-in-Err : goal.returns-in-Err
-returns-in-Err g c = unread c.args.command.now (g.R.Read.remaining c.args.reader) c.of_stream.result c.of_stream.ensures.stream
+returns-in-Err g c =
+    unread c.args.command.now
+    (g.R.Read.remaining c.args.reader) c.of_stream.result c.of_stream.ensures.stream

@@ -5,7 +5,8 @@ use Rattle.cli_outcome.proofs.write.write_text.Goals as goal
 
 pub returns-then-count-eq0-clause-err : goal.returns-then-count-eq0-clause-err
 returns-then-count-eq0-clause-err g c =
-    WritesSome-at _ _ _ _ _ c.writing.invariant.1 (Keeps-zero _ _ _ _ c.if-count-eq0.true c.in-Ok.ensures.bytes)
+    WritesSome-at _ _ _ _ _ c.writing.invariant.1
+    (Keeps-zero _ _ _ _ c.if-count-eq0.true c.in-Ok.ensures.bytes)
 
 pub writing-preserved : goal.writing-preserved
 writing-preserved g c =

@@ -20,6 +20,8 @@ returns-clause-served g c =
       | inl r ↦ inl (rested old new r.trusted r.sound r.run)
       | inr tells ↦ inr tells
     ] in
-    subst (λ (conn : Held g.row.S.Denot). IsServed c.args.count told told' old (state g.S.Store conn) out out' status) (sym c.into_conn.ensures)
-    (served c.args.count told told' old new out out' status r.visits c.serve_at-end.result r.few r.each r.moments r.trusted r.sound r.run
+    subst (λ (conn : Held g.row.S.Denot). IsServed c.args.count told told' old
+    (state g.S.Store conn) out out' status) (sym c.into_conn.ensures)
+    (served c.args.count told told' old new out out' status r.visits c.serve_at-end.result r.few
+    r.each r.moments r.trusted r.sound r.run
     received.1 c.tell_end-status.ensures.status c.serve_at-end.ensures.told first)

@@ -4,7 +4,8 @@ use Rattle.cli_serve.proofs.hosting.serve_at.Goals as goal
 
 pub returns-in-Ok-clause-first : goal.returns-in-Ok-clause-first
 returns-in-Ok-clause-first g c =
-    rests_or g.D.Desk c.args.desk.now c.serve_on.new.desk (g.O.Write.contents c.args.out.now) (g.O.Write.contents c.serve_on.new.out)
+    rests_or g.D.Desk c.args.desk.now c.serve_on.new.desk (g.O.Write.contents c.args.out.now)
+    (g.O.Write.contents c.serve_on.new.out)
     c.serve_on.ensures.first
 
 pub returns-in-Err-clause-received : goal.returns-in-Err-clause-received

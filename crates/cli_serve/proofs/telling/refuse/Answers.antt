@@ -6,7 +6,9 @@ use Rattle.cli_serve.proofs.Texts.{told_as}
 use Rattle.cli_serve.proofs.telling.refuse.Goals as goal
 
 pub returns-in-Ok : goal.returns-in-Ok
-returns-in-Ok g c = told_as _ _ Status.Refused _ _ _ _ _ (c.as_bytes.ensures.value ∙ c.in-Ok.ensures.ok) c.tell_text.ensures
+returns-in-Ok g c =
+    told_as _ _ Status.Refused _ _ _ _ _
+    (c.as_bytes.ensures.value ∙ c.in-Ok.ensures.ok) c.tell_text.ensures
 
 pub returns-in-Err : goal.returns-in-Err
 returns-in-Err g c =

@@ -6,4 +6,5 @@ pub returns : goal.returns
 returns c =
     let one = added c.in_ok-line.ensures c.in_ok-over_file.ensures c.in_ok-subcommand.ensures in
     let two = added one c.in_ok-over_file-2.ensures c.in_ok-subcommand-2.ensures in
-    IfOk-weaker c.subcommand-3.result _ _ (λ line adds. added two c.in_ok-over_file-3.ensures adds) c.subcommand-3.ensures
+    IfOk-weaker c.subcommand-3.result _ _
+    (λ line adds. added two c.in_ok-over_file-3.ensures adds) c.subcommand-3.ensures

@@ -8,12 +8,16 @@ use Rattle.cli_words.proofs.reading.count.Goals as goal
 
 pub returns-in-Some : goal.returns-in-Some
 returns-in-Some c =
-    subst (λ (text : Option (List ℕ)). IsNumber 32 1 text c.in-Some.count) (one_text-rows (found_of c.args.words.now) (codes "count"))
-    (number_read _ (λ bs r. ParsesUnsigned 32 10 bs r × ExplainsUnsignedError 10 bs r × HasUnsignedDigitsIfOk bs r) 32 1 _
+    subst (λ (text : Option (List ℕ)). IsNumber 32 1 text c.in-Some.count)
+    (one_text-rows (found_of c.args.words.now) (codes "count"))
+    (number_read _ (λ bs r. ParsesUnsigned 32 10 bs r × ExplainsUnsignedError 10 bs r
+    × HasUnsignedDigitsIfOk bs r) 32 1 _
     (Some c.in-Some.count) (λ u x g. g.0) c.in-Some.ensures.none c.in-Some.ensures.value)
 
 pub returns-in-None : goal.returns-in-None
 returns-in-None c =
-    subst (λ (text : Option (List ℕ)). IsNumber 32 1 text 1) (one_text-rows (found_of c.args.words.now) (codes "count"))
-    (number_read _ (λ bs r. ParsesUnsigned 32 10 bs r × ExplainsUnsignedError 10 bs r × HasUnsignedDigitsIfOk bs r) 32 1 _
+    subst (λ (text : Option (List ℕ)). IsNumber 32 1 text 1)
+    (one_text-rows (found_of c.args.words.now) (codes "count"))
+    (number_read _ (λ bs r. ParsesUnsigned 32 10 bs r × ExplainsUnsignedError 10 bs r
+    × HasUnsignedDigitsIfOk bs r) 32 1 _
     None (λ u x g. g.0) c.in-None.ensures.none c.in-None.ensures.value)

@@ -25,11 +25,18 @@ unfolding clap_on_literals
 is_plain names = refl
 
 -- What `clap` says of a line holds of the program's own line.
-no_fault : (names : Bor (List (Bor Text))) (words : List Text) (app : App) → app ≡ command_line names → (is_simple_and_free app ≡ true → fault_of app words ≡ []) → fault_of (command_line names) words ≡ []
-no_fault names words app same given = subst (λ (a : App). is_simple_and_free a ≡ true → fault_of a words ≡ []) same given (is_exact names)
+no_fault : (names : Bor (List (Bor Text))) (words : List Text) (app : App)
+    → app ≡ command_line names → (is_simple_and_free app ≡ true → fault_of app words ≡ [])
+    → fault_of (command_line names) words ≡ []
+no_fault names words app same given =
+    subst (λ (a : App). is_simple_and_free a ≡ true → fault_of a words ≡ []) same given
+    (is_exact names)
 
-the_rows : (names : Bor (List (Bor Text))) (words : List Text) (app : App) (matches : ArgMatches) → app ≡ command_line names → HasMatchesOf app words matches → subcommand_rows_of matches ≡ subcommand_of (command_line names) words
-the_rows names words app matches same given = (subst (λ (a : App). HasMatchesOf a words matches) same given (is_plain names)).1
+the_rows : (names : Bor (List (Bor Text))) (words : List Text) (app : App) (matches : ArgMatches)
+    → app ≡ command_line names → HasMatchesOf app words matches
+    → subcommand_rows_of matches ≡ subcommand_of (command_line names) words
+the_rows names words app matches same given =
+    (subst (λ (a : App). HasMatchesOf a words matches) same given (is_plain names)).1
 
 pub command_met-requires : goal.command_met-requires
 command_met-requires g c =
@@ -45,10 +52,15 @@ returns-in-Ok-clause-ok g c =
       line.0,
       line.1,
       no_fault line.0 words _ line.2.0 c.in-Ok.ensures.kinds,
-      subst (λ (found : Option (Text × List Row)). IsCommand found c.command_met.result) (the_rows line.0 words _ _ line.2.0 c.in-Ok.ensures.matches) c.command_met.ensures,
+      subst (λ (found : Option (Text × List Row)). IsCommand found c.command_met.result)
+          (the_rows line.0 words _ _ line.2.0 c.in-Ok.ensures.matches) c.command_met.ensures,
     )
 
-told_fault : (names : Bor (List (Bor Text))) (words : List Text) (error : Error) (failure : Failure CliFault) → AreAttributes names → (takes (command_line names) words ≡ true → kind_of error ≡ kinds.OutOfMemory) → HasKind (fault_of (command_line names) words) error → IsTold (kind_of error) failure → IsRefused words failure
+told_fault : (names : Bor (List (Bor Text))) (words : List Text) (error : Error)
+    (failure : Failure CliFault) → AreAttributes names
+    → (takes (command_line names) words ≡ true → kind_of error ≡ kinds.OutOfMemory)
+    → HasKind (fault_of (command_line names) words) error → IsTold (kind_of error) failure
+    → IsRefused words failure
 told_fault names words error OutOfMemory two passes has told = tt
 told_fault names words error (Fault fault) two passes has told = (
   names,
@@ -56,17 +68,26 @@ told_fault names words error (Fault fault) two passes has told = (
   false_from_ne_true (takes (command_line names) words) (λ taken. told.1 (passes taken)),
   elim has [
     | inl memory ↦ absurd (told.1 memory)
-    | inr among ↦ subst (λ (kind : ErrorKind). IsAmong kind (fault_of (command_line names) words)) (sym told.0) among
+    | inr among ↦
+        subst (λ (kind : ErrorKind). IsAmong kind (fault_of (command_line names) words))
+        (sym told.0) among
   ],
 )
 
-told_by : (names : Bor (List (Bor Text))) (words : List Text) (app : App) (error : Error) (failure : Failure CliFault) → AreAttributes names → app ≡ command_line names → (takes app words ≡ true → kind_of error ≡ kinds.OutOfMemory) → (is_simple_and_free app ≡ true → HasKind (fault_of app words) error) → IsTold (kind_of error) failure → IsRefused words failure
+told_by : (names : Bor (List (Bor Text))) (words : List Text) (app : App) (error : Error)
+    (failure : Failure CliFault) → AreAttributes names → app ≡ command_line names
+    → (takes app words ≡ true → kind_of error ≡ kinds.OutOfMemory)
+    → (is_simple_and_free app ≡ true → HasKind (fault_of app words) error)
+    → IsTold (kind_of error) failure → IsRefused words failure
 told_by names words app error failure two same passes has told =
-    told_fault names words error failure two (λ taken. passes (subst (λ (a : App). takes a words ≡ true) (sym same) taken))
-    (subst (λ (a : App). HasKind (fault_of a words) error) same (has (subst (λ (a : App). is_simple_and_free a ≡ true) (sym same) (is_exact names))))
+    told_fault names words error failure two
+    (λ taken. passes (subst (λ (a : App). takes a words ≡ true) (sym same) taken))
+    (subst (λ (a : App). HasKind (fault_of a words) error) same
+    (has (subst (λ (a : App). is_simple_and_free a ≡ true) (sym same) (is_exact names))))
     told
 
 pub returns-in-Err-clause-err : goal.returns-in-Err-clause-err
 returns-in-Err-clause-err g c =
     let line = c.in_ok-line.ensures in
-    told_by line.0 (map g.S.AsStr.text c.args.words.now) _ c.in-Err.error c.refusal.result line.1 line.2.0 c.in-Err.ensures.passes c.in-Err.ensures.kinds c.refusal.ensures
+    told_by line.0 (map g.S.AsStr.text c.args.words.now) _ c.in-Err.error c.refusal.result line.1
+    line.2.0 c.in-Err.ensures.passes c.in-Err.ensures.kinds c.refusal.ensures

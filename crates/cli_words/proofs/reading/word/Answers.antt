@@ -7,9 +7,11 @@ use Rattle.cli_words.proofs.reading.word.Goals as goal
 pub returns-in-Some : goal.returns-in-Some
 returns-in-Some c =
     ap (λ (found : Option (List ℕ)). unwrap_or found [])
-    (sym (ap (option_map (λ text. text.now)) c.in-Some.is) ∙ c.get_str.ensures ∙ first_value-rows (found_of c.args.words.now) c.args.id.now)
+    (sym (ap (option_map (λ text. text.now)) c.in-Some.is) ∙ c.get_str.ensures
+    ∙ first_value-rows (found_of c.args.words.now) c.args.id.now)
 
 pub returns-in-None : goal.returns-in-None
 returns-in-None c =
     ap (λ (found : Option (List ℕ)). unwrap_or found [])
-    (sym (ap (option_map (λ text. text.now)) c.in-None.is) ∙ c.get_str.ensures ∙ first_value-rows (found_of c.args.words.now) c.args.id.now)
+    (sym (ap (option_map (λ text. text.now)) c.in-None.is) ∙ c.get_str.ensures
+    ∙ first_value-rows (found_of c.args.words.now) c.args.id.now)

@@ -11,4 +11,5 @@ returns-in-Some c =
     let bytes = c.args.bytes.now in
     let i = c.in-Some.index in
     let n = length-drop (i + 1) bytes in
-    pieces-cut 44 bytes _ i c.in-Some.ensures (take_all (length bytes - (i + 1)) (drop (i + 1) bytes) (omega arith))
+    pieces-cut 44 bytes _ i c.in-Some.ensures
+    (take_all (length bytes - (i + 1)) (drop (i + 1) bytes) (omega arith))

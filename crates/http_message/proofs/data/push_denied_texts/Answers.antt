@@ -5,8 +5,13 @@ pub returns-clause-tokens : goal.returns-clause-tokens
 returns-clause-tokens c =
     let r = c.end_object.result in
     let end = c.end_object.new.self.tokens in
-    before r c.args.out.now.tokens c.begin_object.new.self.tokens end _ _ c.in_ok-begin_object.ensures.ok
-    (before r c.begin_object.new.self.tokens c.push_member.new.out.tokens end _ _ c.in_ok-push_member.ensures.tokens
-    (before r c.push_member.new.out.tokens c.push_member-2.new.out.tokens end _ _ c.in_ok-push_member-2.ensures.tokens
-    (before r c.push_member-2.new.out.tokens c.push_number_or_null.new.out.tokens end _ _ c.in_ok-push_number_or_null.ensures.tokens
-    (before r c.push_number_or_null.new.out.tokens c.push_text_or_null.new.out.tokens end _ _ c.in_ok-push_text_or_null.ensures.tokens c.end_object.ensures.ok))))
+    before r c.args.out.now.tokens c.begin_object.new.self.tokens end _ _
+    c.in_ok-begin_object.ensures.ok
+    (before r c.begin_object.new.self.tokens c.push_member.new.out.tokens end _ _
+    c.in_ok-push_member.ensures.tokens
+    (before r c.push_member.new.out.tokens c.push_member-2.new.out.tokens end _ _
+    c.in_ok-push_member-2.ensures.tokens
+    (before r c.push_member-2.new.out.tokens c.push_number_or_null.new.out.tokens end _ _
+    c.in_ok-push_number_or_null.ensures.tokens
+    (before r c.push_number_or_null.new.out.tokens c.push_text_or_null.new.out.tokens end _ _
+    c.in_ok-push_text_or_null.ensures.tokens c.end_object.ensures.ok))))

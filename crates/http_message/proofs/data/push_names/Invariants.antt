@@ -9,5 +9,6 @@ use Rattle.http_message.proofs.data.push_names.Given as goal
 abbrev pub invariant-loop-child : goal.invariant-loop-child
 invariant-loop-child l =
     (l.out.before ≡ l.fn.out.before)
-    × (l.out.tokens ++ items_tokens (items_outline (items_of (map child_data (drop l.child-index l.children))))
+    × (l.out.tokens
+    ++ items_tokens (items_outline (items_of (map child_data (drop l.child-index l.children))))
     ≡ l.fn.out.tokens ++ data_tokens (names_data l.children))

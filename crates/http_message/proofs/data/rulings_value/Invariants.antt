@@ -6,4 +6,5 @@ use Rattle.http_message.proofs.data.rulings_value.Given as goal
 
 abbrev pub invariant-loop-mask : goal.invariant-loop-mask
 invariant-loop-mask l =
-    with_rulings (members_view l.members.entries) (drop l.mask-index l.rulings) ≡ with_rulings no_members l.rulings
+    with_rulings (members_view l.members.entries) (drop l.mask-index l.rulings)
+    ≡ with_rulings no_members l.rulings

@@ -10,7 +10,12 @@ pub returns : goal.returns
 returns c =
     let line = c.args.fault.line in
     let value = line_data line c.bad_text.result.now in
-    let body = printed value c.in_ok-out.out.before c.push_line.new.out.before c.into_inner.result.items c.in_ok-out.out.tokens c.push_line.new.out.tokens
-    c.in_ok-out.ensures.before c.in_ok-out.ensures.tokens c.push_line.ensures.before c.in_ok-push_line.ensures.tokens c.into_inner.ensures.items in
-    let P : List ℕ → Type 0 = λ body. IfOk c.print_json.result (λ text. text.items ≡ json_text_form 422 body c.args.close) in
-    subst P (body ∙ ap (λ why. compact_text (line_data line why)) c.bad_text.ensures) c.print_json.ensures
+    let body =
+    printed value c.in_ok-out.out.before c.push_line.new.out.before c.into_inner.result.items
+    c.in_ok-out.out.tokens c.push_line.new.out.tokens
+    c.in_ok-out.ensures.before c.in_ok-out.ensures.tokens c.push_line.ensures.before
+    c.in_ok-push_line.ensures.tokens c.into_inner.ensures.items in
+    let P : List ℕ → Type 0 = λ body. IfOk c.print_json.result
+    (λ text. text.items ≡ json_text_form 422 body c.args.close) in
+    subst P (body ∙ ap (λ why. compact_text (line_data line why)) c.bad_text.ensures)
+    c.print_json.ensures

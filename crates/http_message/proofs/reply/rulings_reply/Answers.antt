@@ -7,6 +7,8 @@ use Rattle.http_message.proofs.reply.rulings_reply.Goals as goal
 
 pub returns : goal.returns
 returns c =
-    let P : List ℕ → Type 0 = λ body. IfOk c.print_json.result (λ text. text.items ≡ json_text_form 200 body c.args.close) in
+    let P : List ℕ → Type 0 = λ body. IfOk c.print_json.result
+    (λ text. text.items ≡ json_text_form 200 body c.args.close) in
     let whole = ap has_float c.in_ok-value.ensures ∙ no-float-rulings c.args.rulings.now in
-    subst P (c.in_ok-body.ensures.text whole ∙ ap compact_text c.in_ok-value.ensures) c.print_json.ensures
+    subst P (c.in_ok-body.ensures.text whole ∙ ap compact_text c.in_ok-value.ensures)
+    c.print_json.ensures

@@ -8,5 +8,7 @@ pub returns : goal.returns
 returns c =
     let bytes = c.args.bytes.now in
     let close = c.args.close in
-    then-body c.print_head.result (λ text. text.items) (head_form 200 (Some octets) None (Some bytes) close) bytes (reply_form 200 (Some octets) None (Some bytes) close)
+    then-body c.print_head.result (λ text. text.items)
+    (head_form 200 (Some octets) None (Some bytes) close) bytes
+    (reply_form 200 (Some octets) None (Some bytes) close)
     (head-and-body 200 (Some octets) None (Some bytes) close) c.print_head.ensures

@@ -10,5 +10,6 @@ returns-in-Ok-Some-clause-received g c =
     let old = c.args.desk.now in
     let new = c.serve_stream.new.desk in
     let fits : SFits w64 at = search rules in
-    let attends = subst (λ (z : ℤ). Attends g.D.Desk z old new) (to_z-of_z w64 at fits) c.serve_stream.ensures in
+    let attends = subst (λ (z : ℤ). Attends g.D.Desk z old new)
+    (to_z-of_z w64 at fits) c.serve_stream.ensures in
     one g.D.Desk at _ _ old new c.next.ensures attends

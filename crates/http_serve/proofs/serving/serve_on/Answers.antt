@@ -4,7 +4,9 @@ use Rattle.http_serve.proofs.Receiving.{unserved}
 use Rattle.http_serve.proofs.serving.serve_on.Goals as goal
 
 pub returns-in_default-clause-received : goal.returns-in_default-clause-received
-returns-in_default-clause-received g c = unserved g.D.Desk c.args.count _ c.args.desk.now ServingFault.Memory refl
+returns-in_default-clause-received g c =
+    unserved g.D.Desk c.args.count _ c.args.desk.now ServingFault.Memory refl
 
 pub returns-clause-received : goal.returns-clause-received
-returns-clause-received g c = unserved g.D.Desk c.args.count _ c.args.desk.now c.in-Err.fault c.in-Err.ensures.fault
+returns-clause-received g c =
+    unserved g.D.Desk c.args.count _ c.args.desk.now c.in-Err.fault c.in-Err.ensures.fault

@@ -12,9 +12,12 @@ loop-entry-preserved c k d below within =
       | inl low ↦ c.loop-entry.invariant k d low within
       | inr high ↦
           let same : k ≡ i = omega (arith, below, high) in
-          let item : get_or entries i c.entry-item.result ≡ get_or entries i d = get_or_default entries i c.entry-item.result d c.loop-entry-test.true in
-          subst (λ j. IsEntry (get_or entries j d)) (sym same) (subst IsEntry (c.entry-item.is ∙ item) c.is_known.ensures)
+          let item : get_or entries i c.entry-item.result ≡ get_or entries i d =
+          get_or_default entries i c.entry-item.result d c.loop-entry-test.true in
+          subst (λ j. IsEntry (get_or entries j d)) (sym same)
+          (subst IsEntry (c.entry-item.is ∙ item) c.is_known.ensures)
     ]
 
 pub returns : goal.returns
-returns c k d within = c.loop-entry.invariant k d (omega (arith, c.loop-entry-test.false, within)) within
+returns c k d within =
+    c.loop-entry.invariant k d (omega (arith, c.loop-entry-test.false, within)) within

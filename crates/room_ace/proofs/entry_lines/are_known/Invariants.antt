@@ -4,4 +4,5 @@ use Rattle.room_entry.specs.Laws.{IsEntry}
 use Rattle.room_ace.proofs.entry_lines.are_known.Given as goal
 
 abbrev pub invariant-loop-entry : goal.invariant-loop-entry
-invariant-loop-entry l = (k : ℕ) (d : Ace) → k < l.entry-index → k < length l.entries → IsEntry (get_or l.entries k d)
+invariant-loop-entry l = (k : ℕ) (d : Ace) → k < l.entry-index → k < length l.entries
+    → IsEntry (get_or l.entries k d)

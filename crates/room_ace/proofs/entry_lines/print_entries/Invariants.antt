@@ -4,4 +4,5 @@ use Rattle.room_ace.proofs.entry_lines.print_entries.Given as goal
 
 -- the text so far and the lines of the rest are all
 abbrev pub invariant-loop-entry : goal.invariant-loop-entry
-invariant-loop-entry l = string_bytes l.text ++ entry_lines (drop l.entry-index l.entries) ≡ entry_lines l.fn.entries
+invariant-loop-entry l =
+    string_bytes l.text ++ entry_lines (drop l.entry-index l.entries) ≡ entry_lines l.fn.entries

@@ -6,4 +6,6 @@ pub returns-in-Ok : goal.returns-in-Ok
 returns-in-Ok c = (is_utf8-text c.args.bytes.now c.in-Ok.ensures.cases.1, c.in-Ok.ensures.cases.0)
 
 pub returns-in-Err : goal.returns-in-Err
-returns-in-Err c = is_utf8-other c.args.bytes.now c.in-Err.ensures.cases.0 (omega (arith, c.in-Err.ensures.cases.1.short, c.in-Err.ensures.valid_len))
+returns-in-Err c =
+    is_utf8-other c.args.bytes.now c.in-Err.ensures.cases.0
+    (omega (arith, c.in-Err.ensures.cases.1.short, c.in-Err.ensures.valid_len))

@@ -6,14 +6,23 @@ use Rattle.room_desk.proofs.asking.rulings_of.Goals as goal
 
 pub ruling-requires : goal.ruling-requires
 ruling-requires c =
-    let asked = is_asked c.args.mask c.as_slice-bit-items.result.now c.bits.bit-index c.bit-item.result (c.as_slice-bit-items.ensures.value ∙ c.in_ok-bits.ensures) c.bits-test.true c.bit-item.is in
+    let asked =
+    is_asked c.args.mask c.as_slice-bit-items.result.now c.bits.bit-index c.bit-item.result
+    (c.as_slice-bit-items.ensures.value ∙ c.in_ok-bits.ensures) c.bits-test.true c.bit-item.is
+    in
     (get_or c.args.mask c.bits.bit-index 0, asked.alone)
 
 pub bits-preserved : goal.bits-preserved
 bits-preserved c =
     let mask = c.args.mask in
     let i = c.bits.bit-index in
-    let asked = is_asked mask c.as_slice-bit-items.result.now i c.bit-item.result (c.as_slice-bit-items.ensures.value ∙ c.in_ok-bits.ensures) c.bits-test.true c.bit-item.is in
-    let ruled : ℕ → List ℕ × Ruling = λ bit. (bit ∷ [], ruling_of c.args.entries.now c.args.caller.now c.args.owners.now bit) in
-    let pair : (c.bit-item.result, c.ruling.result) ≡ ruled (get_or mask i 0) = ap (λ m. (m, c.ruling.result)) asked.alone ∙ ap (λ r. (get_or mask i 0 ∷ [], r)) (c.ruling.ensures (get_or mask i 0) asked.alone) in
-    asked_more ruled mask i c.bits.items.items c.push.new.self.items asked.below (c.in_ok-push.ensures.items ∙ ap (λ p. c.bits.items.items ++ p ∷ []) pair) ∙ c.bits.invariant
+    let asked = is_asked mask c.as_slice-bit-items.result.now i c.bit-item.result
+    (c.as_slice-bit-items.ensures.value ∙ c.in_ok-bits.ensures) c.bits-test.true c.bit-item.is
+    in
+    let ruled : ℕ → List ℕ × Ruling = λ bit.
+    (bit ∷ [], ruling_of c.args.entries.now c.args.caller.now c.args.owners.now bit) in
+    let pair : (c.bit-item.result, c.ruling.result) ≡ ruled (get_or mask i 0) = ap
+    (λ m. (m, c.ruling.result)) asked.alone
+    ∙ ap (λ r. (get_or mask i 0 ∷ [], r)) (c.ruling.ensures (get_or mask i 0) asked.alone) in
+    asked_more ruled mask i c.bits.items.items c.push.new.self.items asked.below
+    (c.in_ok-push.ensures.items ∙ ap (λ p. c.bits.items.items ++ p ∷ []) pair) ∙ c.bits.invariant

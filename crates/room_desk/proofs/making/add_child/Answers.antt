@@ -9,4 +9,11 @@ pub returns : goal.returns
 returns g c =
     let k = g.K.Keep in
     let m = g.met.K.Keep in
-    record { done = finish m.laws Made (done (of_write c.in_ok-add.ensures.written)) (λ old new are adds. (refl, subst (λ (n : NewNode). IsMade n old new) c.in_ok-node.ensures (c.in_ok-add.field-0, adds))) }
+    record {
+      done = finish m.laws Made (done (of_write c.in_ok-add.ensures.written))
+          (λ old new are adds. (
+            refl,
+            subst (λ (n : NewNode). IsMade n old new) c.in_ok-node.ensures
+                (c.in_ok-add.field-0, adds),
+          ));
+    }

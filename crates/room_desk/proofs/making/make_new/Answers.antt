@@ -16,7 +16,13 @@ returns-else-is_there g c =
       done = tail m.laws (done c.in_ok-refusal.ensures.done) c.add_child.ensures.done
           (λ old mid at judged h. judged_unread c.args.asker.now _ _ old mid at judged h)
           (λ old mid reply new judged made.
-          added_behind c.args.asker.now (found_site c.args.path.now c.args.folder.now) c.append_data.result (append_data ∷ []) c.args.path.now Exists c.args.is_there
-          (new_child c.args.asker.now.caller FolderKind c.args.folder.now.node c.args.name.now []) old mid new c.in_ok-refusal.refusal reply c.append_data.ensures c.in-None.is c.if-is_there.false judged
-          (subst (λ (b : List ℕ). MakesChild c.args.asker.now.caller FolderKind c.args.folder.now.node c.args.name.now b mid reply new) c.new-none.ensures made));
+          added_behind c.args.asker.now
+          (found_site c.args.path.now c.args.folder.now) c.append_data.result
+          (append_data ∷ []) c.args.path.now Exists c.args.is_there
+          (new_child c.args.asker.now.caller FolderKind c.args.folder.now.node c.args.name.now [])
+          old mid new c.in_ok-refusal.refusal reply c.append_data.ensures c.in-None.is
+          c.if-is_there.false judged
+          (subst
+          (λ (b : List ℕ). MakesChild c.args.asker.now.caller FolderKind c.args.folder.now.node
+          c.args.name.now b mid reply new) c.new-none.ensures made));
     }

@@ -11,7 +11,11 @@ pub returns-in_err-spot : goal.returns-in_err-spot
 returns-in_err-spot g c =
     let k = g.K.Keep in
     let m = g.met.K.Keep in
-    record { done = fails m.laws (none_done m.laws c.args.keep.now) c.in_err-spot.ensures.done (λ old mid at same h. rootless_damaged old mid at same h) c.from_residual.result c.from_residual.ensures.1 }
+    record {
+      done = fails m.laws (none_done m.laws c.args.keep.now) c.in_err-spot.ensures.done
+          (λ old mid at same h. rootless_damaged old mid at same h) c.from_residual.result
+          c.from_residual.ensures.1;
+    }
 
 pub returns-in-Barred : goal.returns-in-Barred
 returns-in-Barred g c =
@@ -19,7 +23,9 @@ returns-in-Barred g c =
     let m = g.met.K.Keep in
     record {
       done = finish m.laws _ (done c.in_ok-spot.ensures.done) (λ old new are spotted.
-          put_barred c.args.asker.now c.args.path.now c.args.bytes.now old new c.in-Barred.reply are (spotted_as c.args.asker.now c.args.path.now _ (Barred c.in-Barred.reply) old new c.in-Barred.is spotted));
+          put_barred c.args.asker.now c.args.path.now c.args.bytes.now old new c.in-Barred.reply are
+          (spotted_as c.args.asker.now c.args.path.now _
+          (Barred c.in-Barred.reply) old new c.in-Barred.is spotted));
     }
 
 pub returns-in-Some : goal.returns-in-Some
@@ -27,10 +33,18 @@ returns-in-Some g c =
     let k = g.K.Keep in
     let m = g.met.K.Keep in
     record {
-      done = tail_known m.laws (done c.in_ok-spot.ensures.done) c.put_there.ensures.done (λ old mid at are spotted h. spotted_blames c.args.asker.now c.args.path.now _ old mid at spotted h) (λ old mid reply new are spotted served.
-          put_on c.args.asker.now c.args.path.now c.args.bytes.now old mid c.in-Under.folder c.in-Some.node are
-          (spotted_child c.args.asker.now c.args.path.now c.in-Under.folder c.in-Under.child _ old mid c.in-Some.is (spotted_as c.args.asker.now c.args.path.now _ (Under c.in-Under.folder c.in-Under.child) old mid c.in-Under.is spotted))
-          (length c.names-depth.result.now) (ap (λ (l : List (List ℕ)). length l) c.names-depth.ensures) new reply served);
+      done =
+          tail_known m.laws (done c.in_ok-spot.ensures.done) c.put_there.ensures.done
+          (λ old mid at are spotted h.
+          spotted_blames c.args.asker.now c.args.path.now _ old mid at spotted h)
+          (λ old mid reply new are spotted served.
+          put_on c.args.asker.now c.args.path.now c.args.bytes.now old mid c.in-Under.folder
+          c.in-Some.node are
+          (spotted_child c.args.asker.now c.args.path.now c.in-Under.folder c.in-Under.child _ old
+          mid c.in-Some.is (spotted_as c.args.asker.now c.args.path.now _
+          (Under c.in-Under.folder c.in-Under.child) old mid c.in-Under.is spotted))
+          (length c.names-depth.result.now)
+          (ap (λ (l : List (List ℕ)). length l) c.names-depth.ensures) new reply served);
     }
 
 pub returns : goal.returns
@@ -38,7 +52,15 @@ returns g c =
     let k = g.K.Keep in
     let m = g.met.K.Keep in
     record {
-      done = tail_known m.laws (done c.in_ok-spot.ensures.done) c.put_new.ensures.done (λ old mid at are spotted h. spotted_blames c.args.asker.now c.args.path.now _ old mid at spotted h) (λ old mid reply new are spotted served.
-          put_in c.args.asker.now c.args.path.now c.args.bytes.now old mid c.in-Under.folder c.args.name.now c.requires are
-          (spotted_child c.args.asker.now c.args.path.now c.in-Under.folder c.in-Under.child _ old mid c.in-None.is (spotted_as c.args.asker.now c.args.path.now _ (Under c.in-Under.folder c.in-Under.child) old mid c.in-Under.is spotted)) new reply served);
+      done =
+          tail_known m.laws (done c.in_ok-spot.ensures.done) c.put_new.ensures.done
+          (λ old mid at are spotted h.
+          spotted_blames c.args.asker.now c.args.path.now _ old mid at spotted h)
+          (λ old mid reply new are spotted served.
+          put_in c.args.asker.now c.args.path.now c.args.bytes.now old mid c.in-Under.folder
+          c.args.name.now c.requires are
+          (spotted_child c.args.asker.now c.args.path.now c.in-Under.folder c.in-Under.child _ old
+          mid c.in-None.is (spotted_as c.args.asker.now c.args.path.now _
+          (Under c.in-Under.folder c.in-Under.child) old mid c.in-Under.is spotted)) new reply
+          served);
     }

@@ -9,7 +9,13 @@ returns-in-None g c =
     let k = g.K.Keep in
     let m = g.met.K.Keep in
     record {
-      done = tail m.laws (done c.in_ok-refusal.ensures.done) c.put_bytes.ensures.done (λ old mid at judged h. blames_first c.args.asker.now _ _ old mid at judged h) (λ old mid reply new judged put.
-          put_behind c.args.asker.now (found_site c.args.path.now c.args.target.now) c.write_data.result c.args.path.now c.args.target.now.node.id c.args.bytes.now c.as_slice.result.now old mid new c.in_ok-refusal.refusal reply
+      done =
+          tail m.laws (done c.in_ok-refusal.ensures.done) c.put_bytes.ensures.done
+          (λ old mid at judged h. blames_first c.args.asker.now _ _ old mid at judged h)
+          (λ old mid reply new judged put.
+          put_behind c.args.asker.now
+          (found_site c.args.path.now c.args.target.now) c.write_data.result c.args.path.now
+          c.args.target.now.node.id c.args.bytes.now c.as_slice.result.now old mid new
+          c.in_ok-refusal.refusal reply
           c.write_data.ensures c.in-None.is c.as_slice.ensures judged put);
     }

@@ -11,6 +11,12 @@ returns-in-Some g c =
     let m = g.met.K.Keep in
     record {
       done = finish m.laws _ (done c.in_ok-denial.ensures.done) (λ old new are judged.
-          fails_first c.args.asker.now (Deletion (found_site c.args.path.now c.args.target.now) (found_site c.args.path.now c.args.from.now) ∷ []) (Check (found_site c.args.to.now c.args.folder.now) (right_to_add c.args.target.now.node ∷ []) ∷ []) old new c.in-Some.reply
-          (judged_as c.args.asker.now (Deletion (found_site c.args.path.now c.args.target.now) (found_site c.args.path.now c.args.from.now) ∷ []) _ _ old new c.in-Some.is judged));
+          fails_first c.args.asker.now
+          (Deletion (found_site c.args.path.now c.args.target.now)
+          (found_site c.args.path.now c.args.from.now) ∷ [])
+          (Check (found_site c.args.to.now c.args.folder.now)
+          (right_to_add c.args.target.now.node ∷ []) ∷ []) old new c.in-Some.reply
+          (judged_as c.args.asker.now
+          (Deletion (found_site c.args.path.now c.args.target.now)
+          (found_site c.args.path.now c.args.from.now) ∷ []) _ _ old new c.in-Some.is judged));
     }

@@ -16,8 +16,18 @@ returns-in-Some g c =
     let m = g.met.K.Keep in
     record {
       done = finish m.laws _ (done c.in_ok-refusal.ensures.done) (λ old new are judged.
-          fails_first c.args.asker.now (through (found_site c.args.to.now c.args.folder.now) ++ leaving (found_site c.args.path.now c.args.target.now) (found_site c.args.path.now c.args.from.now) (found_site c.args.to.now c.args.folder.now)) (free_place old.read c.args.to.now (begins c.args.path.now (front c.args.to.now)) c.args.folder.now.node) old new c.in-Some.reply
-          (judged_as c.args.asker.now (through (found_site c.args.to.now c.args.folder.now) ++ leaving (found_site c.args.path.now c.args.target.now) (found_site c.args.path.now c.args.from.now) (found_site c.args.to.now c.args.folder.now)) _ _ old new c.in-Some.is judged));
+          fails_first c.args.asker.now
+          (through (found_site c.args.to.now c.args.folder.now)
+          ++ leaving (found_site c.args.path.now c.args.target.now)
+          (found_site c.args.path.now c.args.from.now) (found_site c.args.to.now c.args.folder.now))
+          (free_place old.read c.args.to.now
+          (begins c.args.path.now (front c.args.to.now)) c.args.folder.now.node) old new
+          c.in-Some.reply
+          (judged_as c.args.asker.now
+          (through (found_site c.args.to.now c.args.folder.now)
+          ++ leaving (found_site c.args.path.now c.args.target.now)
+          (found_site c.args.path.now c.args.from.now) (found_site c.args.to.now c.args.folder.now))
+          _ _ old new c.in-Some.is judged));
     }
 
 pub returns-in-None : goal.returns-in-None
@@ -28,6 +38,15 @@ returns-in-None g c =
       done = tail m.laws (done c.in_ok-refusal.ensures.done) c.check_free.ensures.done
           (λ old mid at judged h. subst (λ (r : Rows). IsUnreadable r at) judged.notes h)
           (λ old mid answer new judged free.
-          free_after c.args.to.now (begins c.args.path.now (front c.args.to.now)) c.args.folder.now.node c.args.asker.now (through (found_site c.args.to.now c.args.folder.now) ++ leaving (found_site c.args.path.now c.args.target.now) (found_site c.args.path.now c.args.from.now) (found_site c.args.to.now c.args.folder.now)) old mid new answer
-          (judged_as c.args.asker.now (through (found_site c.args.to.now c.args.folder.now) ++ leaving (found_site c.args.path.now c.args.target.now) (found_site c.args.path.now c.args.from.now) (found_site c.args.to.now c.args.folder.now)) _ _ old mid c.in-None.is judged) free);
+          free_after c.args.to.now
+          (begins c.args.path.now (front c.args.to.now)) c.args.folder.now.node c.args.asker.now
+          (through (found_site c.args.to.now c.args.folder.now)
+          ++ leaving (found_site c.args.path.now c.args.target.now)
+          (found_site c.args.path.now c.args.from.now) (found_site c.args.to.now c.args.folder.now))
+          old mid new answer
+          (judged_as c.args.asker.now
+          (through (found_site c.args.to.now c.args.folder.now)
+          ++ leaving (found_site c.args.path.now c.args.target.now)
+          (found_site c.args.path.now c.args.from.now) (found_site c.args.to.now c.args.folder.now))
+          _ _ old mid c.in-None.is judged) free);
     }

@@ -10,7 +10,16 @@ returns-then-are_same g c =
     let k = g.K.Keep in
     let m = g.met.K.Keep in
     record {
-      done = finish m.laws Done (none_done m.laws c.args.keep.now) (λ old new are same. (refl, inl (equal_owners c.args.owners.now c.args.node.now.owners (sym c.are_same.ensures ∙ c.if-are_same.true), same)));
+      done =
+          finish m.laws Done (none_done m.laws c.args.keep.now)
+          (λ old new are same. (
+            refl,
+            inl (
+              equal_owners c.args.owners.now c.args.node.now.owners
+                  (sym c.are_same.ensures ∙ c.if-are_same.true),
+              same,
+            ),
+          ));
       quiet = λ same. refl;
     }
 
@@ -19,6 +28,11 @@ returns g c =
     let k = g.K.Keep in
     let m = g.met.K.Keep in
     record {
-      done = finish m.laws Done (done (of_write c.in_ok-set_owners.ensures.written)) (λ old new are changes. (refl, inr changes));
-      quiet = λ same. absurd (false≢true (sym c.if-are_same.false ∙ c.are_same.ensures ∙ owners_themselves c.args.owners.now c.args.node.now.owners same));
+      done =
+          finish m.laws Done (done (of_write c.in_ok-set_owners.ensures.written))
+          (λ old new are changes. (refl, inr changes));
+      quiet =
+          λ same. absurd
+          (false≢true (sym c.if-are_same.false ∙ c.are_same.ensures
+          ∙ owners_themselves c.args.owners.now c.args.node.now.owners same));
     }

@@ -11,6 +11,11 @@ returns g c =
     let k = g.K.Keep in
     let m = g.met.K.Keep in
     record {
-      done = tail m.laws (done (of_read c.in_ok-caller.ensures.read)) c.perform_for.ensures.done (λ old mid at both damaged. damaged_before old mid at both.1 damaged)
-          (λ old mid reply new both carries. carried (option_copied c.args.user) c.args.at (record { caller = c.in_ok-caller.caller; at = to_z w64 (of_z w64 c.args.at) }) c.args.request.now old mid new reply (to_z-of_z w64 c.args.at c.ranges.at) both carries);
+      done =
+          tail m.laws (done (of_read c.in_ok-caller.ensures.read)) c.perform_for.ensures.done
+          (λ old mid at both damaged. damaged_before old mid at both.1 damaged)
+          (λ old mid reply new both carries. carried (option_copied c.args.user) c.args.at
+          (record { caller = c.in_ok-caller.caller; at = to_z w64 (of_z w64 c.args.at) })
+          c.args.request.now old mid new reply
+          (to_z-of_z w64 c.args.at c.ranges.at) both carries);
     }

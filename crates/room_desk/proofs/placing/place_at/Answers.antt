@@ -7,14 +7,24 @@ pub returns-in_err-set_place : goal.returns-in_err-set_place
 returns-in_err-set_place g c =
     let k = g.K.Keep in
     let m = g.met.K.Keep in
-    record { done = fails m.laws (none_done m.laws c.args.keep.now) (of_write c.in_err-set_place.ensures.written) (λ old mid at same h. unplaced c.args.target.now c.args.folder.now c.args.name.now old mid at same h) c.from_residual.result c.from_residual.ensures.1 }
+    record {
+      done = fails m.laws (none_done m.laws c.args.keep.now)
+          (of_write c.in_err-set_place.ensures.written)
+          (λ old mid at same h.
+          unplaced c.args.target.now c.args.folder.now c.args.name.now old mid at same h)
+          c.from_residual.result c.from_residual.ensures.1;
+    }
 
 pub returns-in_err-renew_list : goal.returns-in_err-renew_list
 returns-in_err-renew_list g c =
     let k = g.K.Keep in
     let m = g.met.K.Keep in
     record {
-      done = fails m.laws (done (of_write c.in_ok-set_place.ensures.written)) c.in_err-renew_list.ensures.done (λ old mid at places h. first_fails c.args.target.now c.args.folder.now c.args.name.now old mid at places h)
+      done =
+          fails m.laws (done (of_write c.in_ok-set_place.ensures.written))
+          c.in_err-renew_list.ensures.done
+          (λ old mid at places h.
+          first_fails c.args.target.now c.args.folder.now c.args.name.now old mid at places h)
           c.from_residual-in_err-renew_list.result c.from_residual-in_err-renew_list.ensures.1;
     }
 
@@ -24,8 +34,13 @@ returns-in_err-renew_list-2 g c =
     let m = g.met.K.Keep in
     record {
       done = fails m.laws
-          (then m.laws (done (of_write c.in_ok-set_place.ensures.written)) (done c.in_ok-renew_list.ensures.done) (λ old mid new places renews. first_done c.args.target.now c.args.folder.now c.args.name.now old mid new places renews))
-          c.in_err-renew_list-2.ensures.done (λ old mid at first h. second_fails c.args.target.now c.args.folder.now c.args.name.now old mid at first h)
+          (then m.laws (done (of_write c.in_ok-set_place.ensures.written))
+          (done c.in_ok-renew_list.ensures.done)
+          (λ old mid new places renews.
+          first_done c.args.target.now c.args.folder.now c.args.name.now old mid new places renews))
+          c.in_err-renew_list-2.ensures.done
+          (λ old mid at first h.
+          second_fails c.args.target.now c.args.folder.now c.args.name.now old mid at first h)
           c.from_residual-in_err-renew_list-2.result c.from_residual-in_err-renew_list-2.ensures.1;
     }
 
@@ -36,7 +51,12 @@ returns g c =
     record {
       done = finish m.laws Done
           (then m.laws
-          (then m.laws (done (of_write c.in_ok-set_place.ensures.written)) (done c.in_ok-renew_list.ensures.done) (λ old mid new places renews. first_done c.args.target.now c.args.folder.now c.args.name.now old mid new places renews))
-          (done c.in_ok-renew_list-2.ensures.done) (λ old mid new first renews. second_done c.args.target.now c.args.folder.now c.args.name.now old mid new first renews))
+          (then m.laws (done (of_write c.in_ok-set_place.ensures.written))
+          (done c.in_ok-renew_list.ensures.done)
+          (λ old mid new places renews.
+          first_done c.args.target.now c.args.folder.now c.args.name.now old mid new places renews))
+          (done c.in_ok-renew_list-2.ensures.done)
+          (λ old mid new first renews.
+          second_done c.args.target.now c.args.folder.now c.args.name.now old mid new first renews))
           (λ old new are placed. placed);
     }

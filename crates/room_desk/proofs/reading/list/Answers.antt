@@ -11,7 +11,11 @@ pub returns-in_err-arrival : goal.returns-in_err-arrival
 returns-in_err-arrival g c =
     let k = g.K.Keep in
     let m = g.met.K.Keep in
-    record { done = fails m.laws (none_done m.laws c.args.keep.now) c.in_err-arrival.ensures.done (λ old mid at same h. rootless_damaged old mid at same h) c.from_residual.result c.from_residual.ensures.1 }
+    record {
+      done = fails m.laws (none_done m.laws c.args.keep.now) c.in_err-arrival.ensures.done
+          (λ old mid at same h. rootless_damaged old mid at same h) c.from_residual.result
+          c.from_residual.ensures.1;
+    }
 
 pub returns-in-Ended : goal.returns-in-Ended
 returns-in-Ended g c =
@@ -19,7 +23,11 @@ returns-in-Ended g c =
     let m = g.met.K.Keep in
     record {
       done = finish m.laws _ (done c.in_ok-arrival.ensures.done) (λ old new are reached.
-          not_served c.args.asker.now c.args.path.now (ListFolder c.args.path.now) (FolderAt (read_data ∷ [])) (λ content. refl) (λ site. refl) old new c.in-Ended.reply are (reached_as c.args.asker.now c.args.path.now FolderAt c.read_data.result (read_data ∷ []) _ (Ended c.in-Ended.reply) old new c.read_data.ensures c.in-Ended.is reached));
+          not_served c.args.asker.now c.args.path.now (ListFolder c.args.path.now)
+          (FolderAt (read_data ∷ [])) (λ content. refl) (λ site. refl) old new c.in-Ended.reply are
+          (reached_as c.args.asker.now c.args.path.now FolderAt c.read_data.result
+          (read_data ∷ []) _ (Ended c.in-Ended.reply) old new c.read_data.ensures c.in-Ended.is
+          reached));
     }
 
 pub returns-in-At : goal.returns-in-At
@@ -28,7 +36,11 @@ returns-in-At g c =
     let m = g.met.K.Keep in
     record {
       done = tail_known m.laws (done c.in_ok-arrival.ensures.done) (of_read c.list_at.ensures.read)
-          (λ old mid at are reached h. reached_damaged c.args.asker.now c.args.path.now _ _ old mid at reached h)
+          (λ old mid at are reached h.
+          reached_damaged c.args.asker.now c.args.path.now _ _ old mid at reached h)
           (λ old mid reply new are reached told.
-          names_answered c.args.asker.now c.args.path.now old mid new c.in-At.node reply are (reached_as c.args.asker.now c.args.path.now FolderAt c.read_data.result (read_data ∷ []) _ (At c.in-At.node) old mid c.read_data.ensures c.in-At.is reached) told.0 told.1);
+          names_answered c.args.asker.now c.args.path.now old mid new c.in-At.node reply are
+          (reached_as c.args.asker.now c.args.path.now FolderAt c.read_data.result
+          (read_data ∷ []) _ (At c.in-At.node) old mid c.read_data.ensures c.in-At.is reached)
+          told.0 told.1);
     }

@@ -11,9 +11,14 @@ pub returns-then-is_root : goal.returns-then-is_root
 returns-then-is_root g c =
     let k = g.K.Keep in
     let m = g.met.K.Keep in
-    let at_root : c.args.path.now ≡ [] = no_names c.args.path.now c.names.result.now c.is_empty-is_root.result c.names.ensures c.is_empty-is_root.ensures c.if-is_root.true in
+    let at_root : c.args.path.now ≡ [] =
+    no_names c.args.path.now c.names.result.now c.is_empty-is_root.result c.names.ensures
+    c.is_empty-is_root.ensures c.if-is_root.true in
     record {
       done = finish m.laws _ (none_done m.laws c.args.keep.now) (λ old new are same.
-          subst (λ (p : List (List ℕ)). CarriesOut c.args.asker.now (Remove p) old c.in_ok-refused.field-0 new) (sym at_root) (root_kept c.args.asker.now old new c.in_ok-refused.field-0 are
-          (c.in_ok-refused.ensures ∙ ap (λ (p : List (List ℕ)). Refused (take 0 p) Root) at_root) same));
+          subst (λ (p : List (List ℕ)). CarriesOut c.args.asker.now
+          (Remove p) old c.in_ok-refused.field-0 new) (sym at_root)
+          (root_kept c.args.asker.now old new c.in_ok-refused.field-0 are
+          (c.in_ok-refused.ensures ∙ ap (λ (p : List (List ℕ)). Refused (take 0 p) Root) at_root)
+          same));
     }

@@ -17,8 +17,10 @@ returns-in-Some g c =
     let folder = found_site c.args.path.now c.args.folder.now in
     record {
       done = finish m.laws _ (done c.in_ok-refusal.ensures.done) (λ old new are judged seen.
-          deletion_fails c.args.asker.now c.args.path.now target folder c.args.target.now.node.id old new c.in-Some.reply
-          (subst (λ (o : Option Reply). IsJudged c.args.asker.now (Deletion target folder ∷ []) old o new) c.in-Some.is judged));
+          deletion_fails c.args.asker.now c.args.path.now target folder c.args.target.now.node.id
+          old new c.in-Some.reply
+          (subst (λ (o : Option Reply). IsJudged c.args.asker.now
+          (Deletion target folder ∷ []) old o new) c.in-Some.is judged));
     }
 
 pub returns-in-None : goal.returns-in-None
@@ -28,8 +30,12 @@ returns-in-None g c =
     let target = found_site c.args.path.now c.args.target.now in
     let folder = found_site c.args.path.now c.args.folder.now in
     record {
-      done = tail m.laws (done c.in_ok-refusal.ensures.done) c.remove_childless.ensures.done (λ old mid at judged h. subst (λ (r : Rows). IsUnreadable r at) judged.notes h)
+      done =
+          tail m.laws (done c.in_ok-refusal.ensures.done) c.remove_childless.ensures.done
+          (λ old mid at judged h. subst (λ (r : Rows). IsUnreadable r at) judged.notes h)
           (λ old mid reply new judged removes.
-          deletion_passes c.args.asker.now c.args.path.now target folder c.args.target.now.node.id old mid new reply
-          (subst (λ (o : Option Reply). IsJudged c.args.asker.now (Deletion target folder ∷ []) old o mid) c.in-None.is judged) removes);
+          deletion_passes c.args.asker.now c.args.path.now target folder c.args.target.now.node.id
+          old mid new reply
+          (subst (λ (o : Option Reply). IsJudged c.args.asker.now
+          (Deletion target folder ∷ []) old o mid) c.in-None.is judged) removes);
     }

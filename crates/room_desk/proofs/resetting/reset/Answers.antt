@@ -15,15 +15,24 @@ pub returns-in_err-found : goal.returns-in_err-found
 returns-in_err-found g c =
     let k = g.K.Keep in
     let m = g.met.K.Keep in
-    record { done = fails m.laws (none_done m.laws c.args.keep.now) (of_read c.in_err-found.ensures.read) (λ old mid at same h. rootless_damaged old mid at same h) c.from_residual.result c.from_residual.ensures.1 }
+    record {
+      done = fails m.laws (none_done m.laws c.args.keep.now)
+          (of_read c.in_err-found.ensures.read)
+          (λ old mid at same h. rootless_damaged old mid at same h) c.from_residual.result
+          c.from_residual.ensures.1;
+    }
 
 pub returns-in-None : goal.returns-in-None
 returns-in-None g c =
     let k = g.K.Keep in
     let m = g.met.K.Keep in
-    let none = sym c.into_vec-chain.ensures ∙ no_length c.into_vec-chain.result.items (sym c.into_vec-chain.result.ok.0 ∙ c.in-None.ensures.cases.0) in
+    let none = sym c.into_vec-chain.ensures
+    ∙ no_length c.into_vec-chain.result.items
+    (sym c.into_vec-chain.result.ok.0 ∙ c.in-None.ensures.cases.0) in
     record {
-      done = damaged m.laws (done (of_read c.in_ok-found.ensures.read)) (λ old new are both. no_walk c.args.path.now old c.in_ok-found.found both.0 none);
+      done =
+          damaged m.laws (done (of_read c.in_ok-found.ensures.read))
+          (λ old new are both. no_walk c.args.path.now old c.in_ok-found.found both.0 none);
     }
 
 pub returns : goal.returns
@@ -32,9 +41,15 @@ returns g c =
     let m = g.met.K.Keep in
     let chain = sym c.into_vec-chain.ensures ∙ c.in-Some.ensures.items in
     let front = c.pop.new.self.items in
-    let above = c.last-above.ensures.value ∙ ap (λ (l : List Node). slice_get l (length l - 1)) c.deref.ensures.value in
+    let above = c.last-above.ensures.value
+    ∙ ap (λ (l : List Node). slice_get l (length l - 1)) c.deref.ensures.value in
     record {
-      done = tail_known m.laws (done (of_read c.in_ok-found.ensures.read)) c.reset_at_end.ensures.done
-          (λ old mid at are both h. reset_blames c.args.path.now c.args.which c.args.sent.now old mid c.in_ok-found.found front c.in-Some.last both.0 both.1 chain at are h)
-          (λ old mid reply new are both said. reset_done c.args.path.now c.args.which c.args.sent.now old mid c.in_ok-found.found front c.in-Some.last both.0 both.1 chain _ above new reply are said);
+      done =
+          tail_known m.laws (done (of_read c.in_ok-found.ensures.read)) c.reset_at_end.ensures.done
+          (λ old mid at are both h.
+          reset_blames c.args.path.now c.args.which c.args.sent.now old mid c.in_ok-found.found
+          front c.in-Some.last both.0 both.1 chain at are h)
+          (λ old mid reply new are both said.
+          reset_done c.args.path.now c.args.which c.args.sent.now old mid c.in_ok-found.found front
+          c.in-Some.last both.0 both.1 chain _ above new reply are said);
     }

@@ -6,4 +6,5 @@ use Rattle.room_desk.proofs.running.perform_all.Given as goal
 abbrev pub invariant-requests : goal.invariant-requests
 invariant-requests g l =
     let k = g.K.Keep in
-    HasDone k.rows k.Follows k.IsTrusted l.fn.keep l.keep (λ old new. AreFirst l.asked l.one-index old l.replies.items new)
+    HasDone k.rows k.Follows k.IsTrusted l.fn.keep l.keep
+    (λ old new. AreFirst l.asked l.one-index old l.replies.items new)

@@ -10,7 +10,12 @@ returns g c =
     let m = g.met.K.Keep in
     let start = c.set_held.new.self in
     let node = with_held c.args.which c.args.held c.args.node.now in
-    let same : start ≡ node = c.set_held.ensures ∙ ap (λ (n : Node). with_held c.args.which c.args.held n) c.in_ok-start.ensures in
+    let same : start ≡ node = c.set_held.ensures
+    ∙ ap (λ (n : Node). with_held c.args.which c.args.held n) c.in_ok-start.ensures in
     record {
-      done = tail m.laws (none_done m.laws c.args.keep.now) c.carry_from.ensures.done (λ old mid at unread h. loop_as start node old mid at same unread h) (λ old mid x new unread down. carried_as c.args.which start node old mid new same unread down);
+      done =
+          tail m.laws (none_done m.laws c.args.keep.now) c.carry_from.ensures.done
+          (λ old mid at unread h. loop_as start node old mid at same unread h)
+          (λ old mid x new unread down.
+          carried_as c.args.which start node old mid new same unread down);
     }

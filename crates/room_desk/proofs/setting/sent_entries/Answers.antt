@@ -9,9 +9,14 @@ sent-preserved c =
     elim c.if-flags-inherited.branch [
       | then-flags-inherited+in_ok-clone+in_ok-push w ↦
           let copied : w.in_ok-clone.field-0 ≡ c.entry-item.result = search rules in
-          takes_next c.args.sent.now.entries c.as_slice-entry-items.result.now same c.sent.entry-index c.entry-item.result c.sent-test.true c.entry-item.is c.args.inherited c.flags.result c.flags.ensures c.sent.entries c.sent.invariant
-          w.in_ok-clone.field-0 c.if-flags-inherited.entries w.if-flags-inherited.true (w.entries-is ∙ w.in_ok-push.ensures.ok) copied
+          takes_next c.args.sent.now.entries c.as_slice-entry-items.result.now same
+          c.sent.entry-index c.entry-item.result c.sent-test.true c.entry-item.is c.args.inherited
+          c.flags.result c.flags.ensures c.sent.entries c.sent.invariant
+          w.in_ok-clone.field-0 c.if-flags-inherited.entries w.if-flags-inherited.true
+          (w.entries-is ∙ w.in_ok-push.ensures.ok) copied
       | else-flags-inherited w ↦
-          leaves_next c.args.sent.now.entries c.as_slice-entry-items.result.now same c.sent.entry-index c.entry-item.result c.sent-test.true c.entry-item.is c.args.inherited c.flags.result c.flags.ensures c.sent.entries c.sent.invariant
+          leaves_next c.args.sent.now.entries c.as_slice-entry-items.result.now same
+          c.sent.entry-index c.entry-item.result c.sent-test.true c.entry-item.is c.args.inherited
+          c.flags.result c.flags.ensures c.sent.entries c.sent.invariant
           c.if-flags-inherited.entries w.if-flags-inherited.false w.entries-is
     ]

@@ -4,4 +4,6 @@ use Rattle.room_desk.proofs.setting.sent_entries.Given as goal
 
 -- what is taken so far, and what is left to take
 abbrev pub invariant-sent : goal.invariant-sent
-invariant-sent l = l.entries ++ marked l.inherited (drop l.entry-index l.sent.entries) ≡ marked l.inherited l.sent.entries
+invariant-sent l =
+    l.entries ++ marked l.inherited (drop l.entry-index l.sent.entries)
+    ≡ marked l.inherited l.sent.entries

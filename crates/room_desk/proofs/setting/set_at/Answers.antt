@@ -10,8 +10,12 @@ returns-in_err-inh g c =
     let k = g.K.Keep in
     let m = g.met.K.Keep in
     record {
-      done = memory m.laws (none_done m.laws c.args.keep.now) c.from_residual.result c.from_residual.ensures.1;
-      quiet = λ same. no_answer (k.writes c.args.keep.now) (k.writes c.args.keep.now) c.from_residual.result _ c.from_residual.ensures.1;
+      done =
+          memory m.laws (none_done m.laws c.args.keep.now) c.from_residual.result
+          c.from_residual.ensures.1;
+      quiet =
+          λ same. no_answer (k.writes c.args.keep.now)
+          (k.writes c.args.keep.now) c.from_residual.result _ c.from_residual.ensures.1;
     }
 
 pub returns : goal.returns
@@ -21,6 +25,10 @@ returns g c =
     record {
       done = tail_known m.laws (none_done m.laws c.args.keep.now) c.store_list.ensures.done
           (λ old mid at are same h. fails_before c.args.node.now old mid at same h)
-          (λ old mid x new are same stores. set_from c.args.which c.args.sent.now c.args.node.now _ c.in_ok-inh.inh old mid new are c.in_ok-inh.ensures same stores);
-      quiet = λ same. c.store_list.ensures.quiet (ap (λ (l : List Ace). held_with c.args.sent.now l) c.in_ok-inh.ensures ∙ same);
+          (λ old mid x new are same stores.
+          set_from c.args.which c.args.sent.now c.args.node.now _ c.in_ok-inh.inh old mid new are
+          c.in_ok-inh.ensures same stores);
+      quiet =
+          λ same. c.store_list.ensures.quiet
+          (ap (λ (l : List Ace). held_with c.args.sent.now l) c.in_ok-inh.ensures ∙ same);
     }

@@ -9,9 +9,14 @@ pub returns-then-is_same_list : goal.returns-then-is_same_list
 returns-then-is_same_list g c =
     let k = g.K.Keep in
     let m = g.met.K.Keep in
-    let sent = list_sent c.args.sent.now c.flags-flags.result c.in_ok-own.own c.args.inh.now c.flags-flags.ensures c.in_ok-own.ensures in
+    let sent =
+    list_sent c.args.sent.now c.flags-flags.result c.in_ok-own.own c.args.inh.now
+    c.flags-flags.ensures c.in_ok-own.ensures in
     record {
-      done = finish m.laws tt (none_done m.laws c.args.keep.now) (λ old new are same. inl (sym sent ∙ c.is_same_list.ensures.0 c.if-is_same_list.true ∙ c.held.ensures, same));
+      done =
+          finish m.laws tt (none_done m.laws c.args.keep.now)
+          (λ old new are same.
+          inl (sym sent ∙ c.is_same_list.ensures.0 c.if-is_same_list.true ∙ c.held.ensures, same));
       quiet = λ same. refl;
     }
 
@@ -19,10 +24,18 @@ pub returns : goal.returns
 returns g c =
     let k = g.K.Keep in
     let m = g.met.K.Keep in
-    let sent = list_sent c.args.sent.now c.flags-flags.result c.in_ok-own.own c.args.inh.now c.flags-flags.ensures c.in_ok-own.ensures in
+    let sent =
+    list_sent c.args.sent.now c.flags-flags.result c.in_ok-own.own c.args.inh.now
+    c.flags-flags.ensures c.in_ok-own.ensures in
     record {
       done = tail m.laws (none_done m.laws c.args.keep.now) c.write_parts.ensures.done
           (λ old mid at same h. fails_before c.args.node.now old mid at same h)
-          (λ old mid x new same written. inr (written_as c.args.which c.args.node.now (list_of c.flags-flags.result c.in_ok-own.own c.args.inh.now) _ old mid new sent same written));
-      quiet = λ same. absurd (false≢true (sym c.if-is_same_list.false ∙ c.is_same_list.ensures.1 (sent ∙ same ∙ sym c.held.ensures)));
+          (λ old mid x new same written.
+          inr (written_as c.args.which c.args.node.now
+          (list_of c.flags-flags.result c.in_ok-own.own c.args.inh.now) _ old mid new sent same
+          written));
+      quiet =
+          λ same. absurd
+          (false≢true (sym c.if-is_same_list.false
+          ∙ c.is_same_list.ensures.1 (sent ∙ same ∙ sym c.held.ensures)));
     }

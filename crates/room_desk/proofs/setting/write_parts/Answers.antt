@@ -12,5 +12,9 @@ returns g c =
     record {
       done = tail m.laws (none_done m.laws c.args.keep.now) c.write_list.ensures.done
           (λ old mid at same h. fails_before c.args.node.now old mid at same h)
-          (λ old mid x new same written. written_as c.args.which c.args.node.now c.in_ok-held.held _ old mid new (c.in_ok-held.ensures ∙ ap (λ (l : List Ace). list_of c.args.flags c.args.own l) c.as_slice.ensures) same written);
+          (λ old mid x new same written.
+          written_as c.args.which c.args.node.now c.in_ok-held.held _ old mid new
+          (c.in_ok-held.ensures
+          ∙ ap (λ (l : List Ace). list_of c.args.flags c.args.own l) c.as_slice.ensures) same
+          written);
     }

@@ -11,7 +11,11 @@ pub returns-in_err-arrival : goal.returns-in_err-arrival
 returns-in_err-arrival g c =
     let k = g.K.Keep in
     let m = g.met.K.Keep in
-    record { done = fails m.laws (none_done m.laws c.args.keep.now) c.in_err-arrival.ensures.done (λ old mid at same h. rootless_damaged old mid at same h) c.from_residual.result c.from_residual.ensures.1 }
+    record {
+      done = fails m.laws (none_done m.laws c.args.keep.now) c.in_err-arrival.ensures.done
+          (λ old mid at same h. rootless_damaged old mid at same h) c.from_residual.result
+          c.from_residual.ensures.1;
+    }
 
 pub returns-in-Ended : goal.returns-in-Ended
 returns-in-Ended g c =
@@ -19,7 +23,10 @@ returns-in-Ended g c =
     let m = g.met.K.Keep in
     record {
       done = finish m.laws _ (done c.in_ok-arrival.ensures.done) (λ old new are reached.
-          append_ended c.args.asker.now c.args.path.now c.args.bytes.now old new c.in-Ended.reply are (reached_as c.args.asker.now c.args.path.now DocumentAt c.append_data.result (append_data ∷ []) _ (Ended c.in-Ended.reply) old new c.append_data.ensures c.in-Ended.is reached));
+          append_ended c.args.asker.now c.args.path.now c.args.bytes.now old new c.in-Ended.reply
+          are (reached_as c.args.asker.now c.args.path.now DocumentAt c.append_data.result
+          (append_data ∷ []) _
+          (Ended c.in-Ended.reply) old new c.append_data.ensures c.in-Ended.is reached));
     }
 
 pub returns-in-At : goal.returns-in-At
@@ -28,6 +35,14 @@ returns-in-At g c =
     let m = g.met.K.Keep in
     record {
       done = tail_known m.laws (done c.in_ok-arrival.ensures.done) c.append_at.ensures.done
-          (λ old mid at are reached h. append_blames c.args.asker.now c.args.path.now c.args.bytes.now old mid c.in-At.node are (reached_as c.args.asker.now c.args.path.now DocumentAt c.append_data.result (append_data ∷ []) _ (At c.in-At.node) old mid c.append_data.ensures c.in-At.is reached) at h)
-          (λ old mid reply new are reached appended. append_done c.args.asker.now c.args.path.now c.args.bytes.now old mid c.in-At.node are (reached_as c.args.asker.now c.args.path.now DocumentAt c.append_data.result (append_data ∷ []) _ (At c.in-At.node) old mid c.append_data.ensures c.in-At.is reached) new reply appended);
+          (λ old mid at are reached h.
+          append_blames c.args.asker.now c.args.path.now c.args.bytes.now old mid c.in-At.node are
+          (reached_as c.args.asker.now c.args.path.now DocumentAt c.append_data.result
+          (append_data ∷ []) _ (At c.in-At.node) old mid c.append_data.ensures c.in-At.is reached)
+          at h)
+          (λ old mid reply new are reached appended.
+          append_done c.args.asker.now c.args.path.now c.args.bytes.now old mid c.in-At.node are
+          (reached_as c.args.asker.now c.args.path.now DocumentAt c.append_data.result
+          (append_data ∷ []) _ (At c.in-At.node) old mid c.append_data.ensures c.in-At.is reached)
+          new reply appended);
     }

@@ -14,10 +14,15 @@ returns-in_err-push_tree g c =
     let start = none_yet k laws a in
     let counted = read_on k laws a a b ids start c.in_ok-ids.ensures.read in
     let sofar = read_on k laws a b d root counted c.in_ok-root.ensures.read in
-    let many = λ (t : k.IsTrusted a d). c.len-most.ensures ∙ ap length (answer_on k laws a a b ids start c.in_ok-ids.ensures.read (laws.first a b d counted.follows c.in_ok-root.ensures.read.follows t)) in
-    let found = λ (t : k.IsTrusted a d). answer_on k laws a b d root counted c.in_ok-root.ensures.read t in
+    let many = λ (t : k.IsTrusted a d). c.len-most.ensures
+    ∙ ap length (answer_on k laws a a b ids start c.in_ok-ids.ensures.read
+    (laws.first a b d counted.follows c.in_ok-root.ensures.read.follows t)) in
+    let found = λ (t : k.IsTrusted a d).
+    answer_on k laws a b d root counted c.in_ok-root.ensures.read t in
     record {
-      read = fails k laws a d c.push_tree.new.keep c.in_err-push_tree.field-0.0 c.from_residual-in_err-push_tree.result
+      read =
+          fails k laws a d c.push_tree.new.keep c.in_err-push_tree.field-0.0
+          c.from_residual-in_err-push_tree.result
           (λ t at hole. hole (many t, (root, found t, refl)))
           sofar c.in_err-push_tree.ensures.read c.from_residual-in_err-push_tree.ensures.1;
     }

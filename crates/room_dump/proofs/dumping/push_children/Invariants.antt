@@ -4,7 +4,9 @@ use Rattle.room_dump.proofs.dumping.push_children.Given as goal
 
 -- the children that wait so far, and then those that are left
 abbrev pub invariant-children : goal.invariant-children
-invariant-children l = l.waiting.items ++ waiting_children l.above l.nodes.items ≡ l.fn.waiting.items ++ waiting_children l.above l.fn.children
+invariant-children l =
+    l.waiting.items ++ waiting_children l.above l.nodes.items ≡ l.fn.waiting.items
+    ++ waiting_children l.above l.fn.children
 
 abbrev pub decreases-children : goal.decreases-children
 decreases-children l = vec_len l.nodes

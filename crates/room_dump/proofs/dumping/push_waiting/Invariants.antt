@@ -10,5 +10,7 @@ invariant-turns g l =
     let k = g.K.Keep in
     record {
       read : HasRead k g.met.K.Keep.laws l.fn.keep l.keep;
-      turning : k.IsTrusted l.fn.keep l.keep → Begins l.most l.fn.waiting.items (k.rows l.fn.keep) → Turning (k.rows l.fn.keep) l.waiting.items l.most l._turn (string_bytes l.fn.text) (string_bytes l.text);
+      turning : k.IsTrusted l.fn.keep l.keep → Begins l.most l.fn.waiting.items (k.rows l.fn.keep)
+          → Turning (k.rows l.fn.keep) l.waiting.items l.most l._turn (string_bytes l.fn.text)
+          (string_bytes l.text);
     }

@@ -19,8 +19,12 @@ beq_itself false = refl
 
 abbrev beq_all : EntryFlags → EntryFlags → Bool
 beq_all x y =
-    beq x.file_inherit y.file_inherit && (beq x.directory_inherit y.directory_inherit && (beq x.no_propagate_inherit y.no_propagate_inherit && (beq x.inherit_only y.inherit_only
-    && (beq x.successful_access y.successful_access && (beq x.failed_access y.failed_access && (beq x.identifier_group y.identifier_group && beq x.inherited y.inherited))))))
+    beq x.file_inherit y.file_inherit
+    && (beq x.directory_inherit y.directory_inherit
+    && (beq x.no_propagate_inherit y.no_propagate_inherit && (beq x.inherit_only y.inherit_only
+    && (beq x.successful_access y.successful_access
+    && (beq x.failed_access y.failed_access
+    && (beq x.identifier_group y.identifier_group && beq x.inherited y.inherited))))))
 
 all_equal : (x y : EntryFlags) → beq_all x y ≡ true → x ≡ y
 all_equal x y h =
@@ -30,7 +34,8 @@ all_equal x y h =
     let o = and_parts (beq x.inherit_only y.inherit_only) _ n.1 in
     let s = and_parts (beq x.successful_access y.successful_access) _ o.1 in
     let f = and_parts (beq x.failed_access y.failed_access) _ s.1 in
-    let g = and_parts (beq x.identifier_group y.identifier_group) (beq x.inherited y.inherited) f.1 in
+    let g = and_parts (beq x.identifier_group y.identifier_group)
+    (beq x.inherited y.inherited) f.1 in
     λ i. record {
       file_inherit = beq_equal _ _ a.0 i;
       directory_inherit = beq_equal _ _ b.0 i;
@@ -44,9 +49,15 @@ all_equal x y h =
 
 all_itself : (x : EntryFlags) → beq_all x x ≡ true
 all_itself x =
-    and_from _ _ (beq_itself x.file_inherit) (and_from _ _ (beq_itself x.directory_inherit) (and_from _ _ (beq_itself x.no_propagate_inherit) (and_from _ _ (beq_itself x.inherit_only)
-    (and_from _ _ (beq_itself x.successful_access) (and_from _ _ (beq_itself x.failed_access) (and_from _ _ (beq_itself x.identifier_group) (beq_itself x.inherited)))))))
+    and_from _ _ (beq_itself x.file_inherit)
+    (and_from _ _ (beq_itself x.directory_inherit)
+    (and_from _ _ (beq_itself x.no_propagate_inherit) (and_from _ _ (beq_itself x.inherit_only)
+    (and_from _ _ (beq_itself x.successful_access)
+    (and_from _ _ (beq_itself x.failed_access)
+    (and_from _ _ (beq_itself x.identifier_group) (beq_itself x.inherited)))))))
 
 pub returns : goal.returns
 returns c =
-    by_texts flags_text flags_equal c.args.flags c.args.other c.eq.result (λ h. all_equal c.args.flags c.args.other (sym c.eq.ensures ∙ h)) (λ h. c.eq.ensures ∙ ap (beq_all c.args.flags) (sym h) ∙ all_itself c.args.flags)
+    by_texts flags_text flags_equal c.args.flags c.args.other c.eq.result
+    (λ h. all_equal c.args.flags c.args.other (sym c.eq.ensures ∙ h))
+    (λ h. c.eq.ensures ∙ ap (beq_all c.args.flags) (sym h) ∙ all_itself c.args.flags)

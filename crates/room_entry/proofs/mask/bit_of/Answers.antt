@@ -6,4 +6,5 @@ pub returns-in-None : goal.returns-in-None
 returns-in-None c = row_found c.args.letter None c.in-None.ensures
 
 pub returns-in-Some : goal.returns-in-Some
-returns-in-Some c = let row = row_found c.args.letter (Some c.in-Some.bits) c.in-Some.ensures in (row.letter_is_known, row.bit)
+returns-in-Some c = let row = row_found c.args.letter (Some c.in-Some.bits) c.in-Some.ensures in
+    (row.letter_is_known, row.bit)

@@ -10,8 +10,12 @@ loop-letter-preserved c =
     record {
       mask =
           c.union-mask.ensures
-          ∙ ap (λ (m : List ℕ). filter (λ b. has m b || has c.in-Some.bit b) all_bits) c.loop-letter.invariant.mask
-          ∙ ap (λ (m : List ℕ). filter (λ b. has (spelled (take i text)) b || has m b) all_bits) c.in-Some.ensures.1
+          ∙ ap (λ (m : List ℕ). filter (λ b. has m b || has c.in-Some.bit b) all_bits)
+          c.loop-letter.invariant.mask
+          ∙ ap (λ (m : List ℕ). filter (λ b. has (spelled (take i text)) b || has m b) all_bits)
+          c.in-Some.ensures.1
           ∙ spelled_more text i c.loop-letter-test.true;
-      letters = letters_more text i c.loop-letter-test.true c.loop-letter.invariant.letters c.in-Some.ensures.0;
+      letters =
+          letters_more text i c.loop-letter-test.true c.loop-letter.invariant.letters
+          c.in-Some.ensures.0;
     }

@@ -10,4 +10,7 @@ push_rows-requires c = refl
 
 pub returns : goal.returns
 unfolding all_bits mask_letters
-returns c = subst (λ (letters : List ℕ). OnOk c.push_rows.result (string_bytes c.push_rows.new.text ≡ string_bytes c.args.text.now ++ letters)) (table_text-mask c.args.bits) c.push_rows.ensures
+returns c =
+    subst (λ (letters : List ℕ). OnOk c.push_rows.result
+    (string_bytes c.push_rows.new.text ≡ string_bytes c.args.text.now ++ letters))
+    (table_text-mask c.args.bits) c.push_rows.ensures

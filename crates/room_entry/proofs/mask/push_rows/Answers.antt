@@ -13,14 +13,22 @@ loop-bit-preserved c =
     let i = c.loop-bit.bit-index in
     elim c.if-is_set.branch [
       | then-is_set+in_ok-push w ↦
-          table_text_pushed c.args.bits rows i (string_bytes c.loop-bit.text) (string_bytes c.if-is_set.text) c.loop-bit-test.true (sym c.is_set.ensures ∙ w.if-is_set.true)
-          (ap string_bytes w.text-is ∙ w.in_ok-push.ensures.bytes ∙ ap (λ (l : List ℕ). string_bytes c.loop-bit.text ++ l) (w.in_ok-push.ensures.ascii (row_at rows i c.loop-bit-test.true c.requires).1))
+          table_text_pushed c.args.bits rows i (string_bytes c.loop-bit.text)
+          (string_bytes c.if-is_set.text) c.loop-bit-test.true
+          (sym c.is_set.ensures ∙ w.if-is_set.true)
+          (ap string_bytes w.text-is ∙ w.in_ok-push.ensures.bytes
+          ∙ ap (λ (l : List ℕ). string_bytes c.loop-bit.text ++ l)
+          (w.in_ok-push.ensures.ascii (row_at rows i c.loop-bit-test.true c.requires).1))
           ∙ c.loop-bit.invariant
       | else-is_set w ↦
-          table_text_passed c.args.bits rows i (string_bytes c.loop-bit.text) (string_bytes c.if-is_set.text) c.loop-bit-test.true (sym c.is_set.ensures ∙ w.if-is_set.false) (ap string_bytes w.text-is)
+          table_text_passed c.args.bits rows i (string_bytes c.loop-bit.text)
+          (string_bytes c.if-is_set.text) c.loop-bit-test.true
+          (sym c.is_set.ensures ∙ w.if-is_set.false) (ap string_bytes w.text-is)
           ∙ c.loop-bit.invariant
     ]
 
 pub returns : goal.returns
 returns c =
-    sym (ap (λ (l : List ℕ). string_bytes c.loop-bit.text ++ l) (table_text_all c.args.bits c.args.rows.now c.loop-bit.bit-index c.loop-bit-test.false) ∙ append-nil (string_bytes c.loop-bit.text)) ∙ c.loop-bit.invariant
+    sym (ap (λ (l : List ℕ). string_bytes c.loop-bit.text ++ l)
+    (table_text_all c.args.bits c.args.rows.now c.loop-bit.bit-index c.loop-bit-test.false)
+    ∙ append-nil (string_bytes c.loop-bit.text)) ∙ c.loop-bit.invariant

@@ -10,10 +10,14 @@ loop-bit-preserved c =
     let i = c.loop-bit.bit-index in
     elim c.if-bits-bit-eq1.branch [
       | then-bits-bit-eq1+in_ok-push w ↦
-          singles_pushed c.args.bits rows i c.loop-bit.masks.items c.if-bits-bit-eq1.masks.items c.loop-bit-test.true (eq-eqb _ _ w.if-bits-bit-eq1.true)
-          (ap (λ m. m.items) w.masks-is ∙ w.in_ok-push.ensures.items ∙ ap (λ (m : List ℕ). c.loop-bit.masks.items ++ m ∷ []) (single_at rows i c.loop-bit-test.true c.requires).alone)
+          singles_pushed c.args.bits rows i c.loop-bit.masks.items c.if-bits-bit-eq1.masks.items
+          c.loop-bit-test.true (eq-eqb _ _ w.if-bits-bit-eq1.true)
+          (ap (λ m. m.items) w.masks-is ∙ w.in_ok-push.ensures.items
+          ∙ ap (λ (m : List ℕ). c.loop-bit.masks.items ++ m ∷ [])
+          (single_at rows i c.loop-bit-test.true c.requires).alone)
           ∙ c.loop-bit.invariant
       | else-bits-bit-eq1 w ↦
-          singles_passed c.args.bits rows i c.loop-bit.masks.items c.if-bits-bit-eq1.masks.items c.loop-bit-test.true (ne_eqb _ _ w.if-bits-bit-eq1.false) (ap (λ m. m.items) w.masks-is)
+          singles_passed c.args.bits rows i c.loop-bit.masks.items c.if-bits-bit-eq1.masks.items
+          c.loop-bit-test.true (ne_eqb _ _ w.if-bits-bit-eq1.false) (ap (λ m. m.items) w.masks-is)
           ∙ c.loop-bit.invariant
     ]

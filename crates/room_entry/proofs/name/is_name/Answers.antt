@@ -8,15 +8,23 @@ returns-in-None c = c.is_local_part.ensures ∙ sym (name_alone _ c.in-None.ensu
 
 pub returns-then-is_local_part : goal.returns-then-is_local_part
 returns-then-is_local_part c =
-    let whole = name_with_domain c.args.bytes.now c.in-Some.local.now c.in-Some.rest.now c.in-Some.ensures c.in-None-cut.ensures in
+    let whole =
+    name_with_domain c.args.bytes.now c.in-Some.local.now c.in-Some.rest.now c.in-Some.ensures
+    c.in-None-cut.ensures in
     c.is_domain_part.ensures
-    ∙ sym (whole ∙ ap (λ b. b && is_part is_domain_byte c.in-Some.rest.now) (sym c.is_local_part-in-None-cut.ensures ∙ c.if-is_local_part.true))
+    ∙ sym (whole ∙ ap (λ b. b && is_part is_domain_byte c.in-Some.rest.now)
+    (sym c.is_local_part-in-None-cut.ensures ∙ c.if-is_local_part.true))
 
 pub returns-else-is_local_part : goal.returns-else-is_local_part
 returns-else-is_local_part c =
-    let whole = name_with_domain c.args.bytes.now c.in-Some.local.now c.in-Some.rest.now c.in-Some.ensures c.in-None-cut.ensures in
+    let whole =
+    name_with_domain c.args.bytes.now c.in-Some.local.now c.in-Some.rest.now c.in-Some.ensures
+    c.in-None-cut.ensures in
     c.if-is_local_part.false
-    ∙ sym (whole ∙ ap (λ b. b && is_part is_domain_byte c.in-Some.rest.now) (sym c.is_local_part-in-None-cut.ensures ∙ c.if-is_local_part.false))
+    ∙ sym (whole ∙ ap (λ b. b && is_part is_domain_byte c.in-Some.rest.now)
+    (sym c.is_local_part-in-None-cut.ensures ∙ c.if-is_local_part.false))
 
 pub returns-in-Some-cut : goal.returns-in-Some-cut
-returns-in-Some-cut c = sym (no_name c.args.bytes.now c.in-Some.local.now c.in-Some.rest.now _ c.in-Some-cut.field-0.1.now c.in-Some.ensures c.in-Some-cut.ensures)
+returns-in-Some-cut c =
+    sym (no_name c.args.bytes.now c.in-Some.local.now c.in-Some.rest.now _
+    c.in-Some-cut.field-0.1.now c.in-Some.ensures c.in-Some-cut.ensures)

@@ -8,4 +8,5 @@ pub returns-clause-sorted : goal.returns-clause-sorted
 returns-clause-sorted c = c.sort_unstable_by.ensures.sorted
     (λ x y. is_lt (slice_cmp nat_cmp x y))
     (ranks_by nat_list_cmp_total (λ x. x))
-    (always_returns_same _ (λ a r. is_lt r ≡ is_lt (slice_cmp nat_cmp a.0.now a.1.0.now)) _ (λ a r q k. search rules))
+    (always_returns_same _ (λ a r. is_lt r ≡ is_lt (slice_cmp nat_cmp a.0.now a.1.0.now)) _
+    (λ a r q k. search rules))

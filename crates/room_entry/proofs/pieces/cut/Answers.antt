@@ -13,4 +13,5 @@ returns-in-Some c =
     let i = c.in-Some.place in
     let n = length-drop (i + 1) bytes in
     (cut_at c.args.separator.now bytes i c.in-Some.ensures).1
-    ∙ ap (λ (rest : List ℕ). take i bytes ∷ pieces c.args.separator.now rest) (sym (take_all (length bytes - (i + 1)) (drop (i + 1) bytes) (omega arith)))
+    ∙ ap (λ (rest : List ℕ). take i bytes ∷ pieces c.args.separator.now rest)
+    (sym (take_all (length bytes - (i + 1)) (drop (i + 1) bytes) (omega arith)))

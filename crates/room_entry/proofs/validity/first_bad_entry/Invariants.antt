@@ -4,4 +4,6 @@ use Rattle.room_entry.proofs.validity.first_bad_entry.Given as goal
 
 -- the first of the rest is the first of all
 abbrev pub invariant-loop-index : goal.invariant-loop-index
-invariant-loop-index l = first_bad_entry 1 l.which l.kind l.entries ≡ first_bad_entry (l.index + 1) l.which l.kind (drop l.index l.entries)
+invariant-loop-index l =
+    first_bad_entry 1 l.which l.kind l.entries
+    ≡ first_bad_entry (l.index + 1) l.which l.kind (drop l.index l.entries)

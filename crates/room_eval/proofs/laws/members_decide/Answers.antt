@@ -27,17 +27,22 @@ module _ (a b : Caller) (owners : Owners) (alike : AreAlike a b) where
   counted : (entry : Ace) → counts entry a owners ≡ counts entry b owners
   counted entry = λ i. is_in_force entry && named entry.who i
 
-  rulings : (place : ℕ) (entries : List Ace) (bit : ℕ) → ruling_from place entries a owners bit ≡ ruling_from place entries b owners bit
+  rulings : (place : ℕ) (entries : List Ace) (bit : ℕ)
+      → ruling_from place entries a owners bit ≡ ruling_from place entries b owners bit
   rulings place [] bit = refl
   rulings place (entry ∷ entries) bit =
       let rest = rulings (place + 1) entries bit in
-      λ i. if counted entry i && has entry.mask bit then ruled_by entry.kind place (rest i) else rest i
+      λ i. if counted entry i
+      && has entry.mask bit then ruled_by entry.kind place (rest i) else rest i
 
-  events : (place : ℕ) (entries : List Ace) (asked : List ℕ) (granted : Bool) → events_from place entries a owners asked granted ≡ events_from place entries b owners asked granted
+  events : (place : ℕ) (entries : List Ace) (asked : List ℕ) (granted : Bool)
+      → events_from place entries a owners asked granted
+      ≡ events_from place entries b owners asked granted
   events place [] asked granted = refl
   events place (entry ∷ entries) asked granted =
       let rest = events (place + 1) entries asked granted in
-      λ i. if asks_records entry.kind && counted entry i && wants entry.flags granted && shares asked entry.mask then place ∷ rest i else rest i
+      λ i. if asks_records entry.kind && counted entry i && wants entry.flags granted
+      && shares asked entry.mask then place ∷ rest i else rest i
 
 pub returns : goal.returns
 returns c = λ entries a b owners alike. (

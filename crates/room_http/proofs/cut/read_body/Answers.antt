@@ -5,7 +5,8 @@ use Rattle.room_http.proofs.cut.read_body.Goals as goal
 
 pub returns-in-Err-clause-lost : goal.returns-in-Err-clause-lost
 returns-in-Err-clause-lost g c =
-    let short : length c.reading.buf.items < c.args.total = omega (arith, c.len.ensures, c.reading-test.true) in
+    let short : length c.reading.buf.items < c.args.total = omega
+    (arith, c.len.ensures, c.reading-test.true) in
     stops-body _ _ _ _ _ _ _ c.reading.invariant.0 c.in-Err.ensures.lost short
 
 pub returns-in-Ok-false-clause-whole : goal.returns-in-Ok-false-clause-whole

@@ -8,7 +8,8 @@ pub returns-in-Whole-clause-near : goal.returns-in-Whole-clause-near
 returns-in-Whole-clause-near g c short =
     let spans = c.scan_head.new.spans in
     let head = c.in-Whole.head in
-    let found = subst (λ (b : List ℕ). SpansHead b spans head) c.as_slice.ensures.value c.in-Whole.ensures in
+    let found = subst (λ (b : List ℕ). SpansHead b spans head) c.as_slice.ensures.value
+    c.in-Whole.ensures in
     near-found c.args.buf.now.items c.reading.buf.items spans head c.reading.invariant.1 found short
 
 pub returns-in-Ok-false-clause-head : goal.returns-in-Ok-false-clause-head
@@ -22,5 +23,7 @@ returns-in-Ok-false-clause-head g c =
 pub returns-in-Err-clause-lost : goal.returns-in-Err-clause-lost
 returns-in-Err-clause-lost g c =
     let buf = c.reading.buf.items in
-    let part = subst (λ (b : List ℕ). Scans b c.scan_head.new.spans HeadScan.Part) c.as_slice.ensures.value c.in-Part.ensures in
-    stops-reading _ _ _ _ buf _ c.reading.invariant.0 c.in-Err.ensures.lost (none-or-part buf part.0 part.1 part.2)
+    let part = subst (λ (b : List ℕ). Scans b c.scan_head.new.spans HeadScan.Part)
+    c.as_slice.ensures.value c.in-Part.ensures in
+    stops-reading _ _ _ _ buf _ c.reading.invariant.0 c.in-Err.ensures.lost
+    (none-or-part buf part.0 part.1 part.2)

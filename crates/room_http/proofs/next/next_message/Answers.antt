@@ -6,7 +6,8 @@ returns-in-Ok-Found-clause-came g c =
     let before = g.R.Read.remaining c.args.r.now in
     let between = g.R.Read.remaining c.read_head.new.r in
     let after = g.R.Read.remaining c.next_behind.new.r in
-    came-behind before between after c.args.buf.now.items c.read_head.new.buf.items c.next_behind.new.buf.items
+    came-behind before between after c.args.buf.now.items c.read_head.new.buf.items
+    c.next_behind.new.buf.items
     c.next_behind.result c.in-Ok-Found.ensures.came c.next_behind.ensures.came
 
 pub returns-in-Ok-Found-clause-lost : goal.returns-in-Ok-Found-clause-lost

@@ -13,6 +13,11 @@ returns-in-Ok-Replied-clause-answers g c =
     let new = g.D.Desk.content c.respond.new.desk in
     let before = g.D.Desk.faults c.args.desk.now in
     let after = g.D.Desk.faults c.respond.new.desk in
-    let given = subst (λ (z : ℤ). Responds all z c.args.close asked old new before after c.respond.result) (to_z-of_z w64 c.args.at c.ranges.at) c.respond.ensures.responds in
-    let tells = at-value (Responds all c.args.at c.args.close asked old new before after) _ _ _ c.in-Ok-Replied.is c.in-Ok-Replied.field-0-is given in
-    joined-answers all c.args.at c.args.close asked old new before after _ tells c.joined.result c.joined.ensures
+    let given = subst
+    (λ (z : ℤ). Responds all z c.args.close asked old new before after c.respond.result)
+    (to_z-of_z w64 c.args.at c.ranges.at) c.respond.ensures.responds in
+    let tells = at-value
+    (Responds all c.args.at c.args.close asked old new before after) _ _ _ c.in-Ok-Replied.is
+    c.in-Ok-Replied.field-0-is given in
+    joined-answers all c.args.at c.args.close asked old new before after _ tells c.joined.result
+    c.joined.ensures

@@ -19,6 +19,8 @@ returns-in-Ok-clause-responds g c =
     let request = c.in-Ok.request in
     let same : Ok (user, request) ≡ asked =
     ap (λ u. Ok (u, request)) c.as_ref.ensures.value ∙ sym c.in-Ok.ensures in
-    let given = subst (λ (z : ℤ). Responds all z close (Ok (user, request)) old new before after c.ask.result)
+    let given = subst (λ (z : ℤ). Responds all z close
+    (Ok (user, request)) old new before after c.ask.result)
     (to_z-of_z w64 c.args.at c.ranges.at) c.ask.ensures.responds in
-    subst (λ (a : Asked). Responds all c.args.at close a old new before after c.ask.result) same given
+    subst (λ (a : Asked). Responds all c.args.at close a old new before after c.ask.result) same
+    given

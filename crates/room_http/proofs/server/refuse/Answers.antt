@@ -9,5 +9,8 @@ returns-in_default-clause-err g c =
     (refl, (([], refusal_reply c.args.refusal, refl, Appends-none _), refl))
 
 pub returns-clause-err : goal.returns-clause-err
-returns-clause-err g c =
-    (refl, within-write _ _ _ _ _ (c.as_slice.ensures.value ∙ c.in-Ok.ensures) c.in-Err.ensures.cause c.in-Err.ensures.err)
+returns-clause-err g c = (
+  refl,
+  within-write _ _ _ _ _ (c.as_slice.ensures.value ∙ c.in-Ok.ensures)
+      c.in-Err.ensures.cause c.in-Err.ensures.err,
+)

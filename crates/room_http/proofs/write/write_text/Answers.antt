@@ -5,7 +5,8 @@ use Rattle.room_http.proofs.write.write_text.Goals as goal
 
 pub returns-then-count-eq0-clause-err : goal.returns-then-count-eq0-clause-err
 returns-then-count-eq0-clause-err g c =
-    WritesPart-at _ _ _ _ _ c.writing-test.true c.writing.invariant.1 (Keeps-zero _ _ _ _ c.if-count-eq0.true c.in-Ok.ensures.bytes)
+    WritesPart-at _ _ _ _ _ c.writing-test.true c.writing.invariant.1
+    (Keeps-zero _ _ _ _ c.if-count-eq0.true c.in-Ok.ensures.bytes)
 
 pub writing-preserved : goal.writing-preserved
 writing-preserved g c =
@@ -17,4 +18,5 @@ writing-preserved g c =
     )
 
 pub returns-in-Err-clause-err : goal.returns-in-Err-clause-err
-returns-in-Err-clause-err g c = WritesPart-at _ _ _ _ _ c.writing-test.true c.writing.invariant.1 c.in-Err.ensures.bytes
+returns-in-Err-clause-err g c =
+    WritesPart-at _ _ _ _ _ c.writing-test.true c.writing.invariant.1 c.in-Err.ensures.bytes

@@ -8,7 +8,8 @@ returns-in-Ok-true c =
     let goes = c.requires in
     let said = c.in-Ok-true.ensures in
     let read = rw c.in-Ok-true.field-0-test at (said.reads goes.0 goes.1) in
-    took_text c.args.reader.now c.read_record.new.self (fields_of c.read_record.new.row) goes (inl (said.ready goes.0)) said.flexible read (said.text goes.0)
+    took_text c.args.reader.now c.read_record.new.self (fields_of c.read_record.new.row) goes
+    (inl (said.ready goes.0)) said.flexible read (said.text goes.0)
 
 pub returns-in-Ok-false : goal.returns-in-Ok-false
 returns-in-Ok-false c =
@@ -20,4 +21,5 @@ pub returns-in-Utf8 : goal.returns-in-Utf8
 returns-in-Utf8 c =
     let goes = c.requires in
     let why = rw (sym c.kind.ensures ∙ c.in-Utf8.is) at (c.in-Err.ensures.why goes.0 goes.1) in
-    took_not_text c.args.reader.now c.read_record.new.self why.1 (fields_of c.read_record.new.row) goes why.2 why.3
+    took_not_text c.args.reader.now c.read_record.new.self why.1
+    (fields_of c.read_record.new.row) goes why.2 why.3

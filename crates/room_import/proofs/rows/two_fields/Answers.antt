@@ -16,4 +16,5 @@ returns-in_err-user c =
 pub returns : goal.returns
 returns c =
     let two : length (fields_of c.args.row.now) ≡ 2 = omega arith in
-    two_there (fields_of c.args.row.now) c.in_ok-group.group.now c.in_ok-user.user.now two c.in_ok-group.ensures.value c.in_ok-user.ensures.value
+    two_there (fields_of c.args.row.now) c.in_ok-group.group.now c.in_ok-user.user.now two
+    c.in_ok-group.ensures.value c.in_ok-user.ensures.value

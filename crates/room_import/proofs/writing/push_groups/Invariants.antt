@@ -7,5 +7,6 @@ use Rattle.room_import.proofs.writing.push_groups.Given as goal
 abbrev pub invariant-loop-group : goal.invariant-loop-group
 invariant-loop-group l = record {
   at : StandsAtRow l.writer;
-  text : written l.writer ++ rows_text (map pair_row (drop l.group-index l.pairs)) ≡ written l.fn.writer ++ groups_text l.pairs;
+  text : written l.writer ++ rows_text (map pair_row (drop l.group-index l.pairs))
+      ≡ written l.fn.writer ++ groups_text l.pairs;
 }

@@ -7,5 +7,6 @@ use Rattle.room_import.proofs.writing.push_records.Given as goal
 abbrev pub invariant-loop-audit : goal.invariant-loop-audit
 invariant-loop-audit l = record {
   at : StandsAtRow l.writer;
-  text : written l.writer ++ rows_text (map record_row (drop l.audit-index l.audits)) ≡ written l.fn.writer ++ records_text l.audits;
+  text : written l.writer ++ rows_text (map record_row (drop l.audit-index l.audits))
+      ≡ written l.fn.writer ++ records_text l.audits;
 }

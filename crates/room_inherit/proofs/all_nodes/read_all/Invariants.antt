@@ -13,6 +13,10 @@ invariant-ids g l =
     record {
       read : HasRead k.rows k.failures k.writes k.Follows k.IsTrusted l.fn.keep l.keep;
       numbers : k.IsTrusted l.fn.keep l.keep → l.id-items ≡ numbers_of (k.rows l.fn.keep);
-      sound : k.IsTrusted l.fn.keep l.keep → find (has_bad_list (k.rows l.fn.keep)) (drop l.id-index l.id-items) ≡ find (has_bad_list (k.rows l.fn.keep)) l.id-items;
-      found : k.IsTrusted l.fn.keep l.keep → l.nodes ++ filter_map (node_at (k.rows l.fn.keep).read) (drop l.id-index l.id-items) ≡ filter_map (node_at (k.rows l.fn.keep).read) l.id-items;
+      sound : k.IsTrusted l.fn.keep l.keep
+          → find (has_bad_list (k.rows l.fn.keep)) (drop l.id-index l.id-items)
+          ≡ find (has_bad_list (k.rows l.fn.keep)) l.id-items;
+      found : k.IsTrusted l.fn.keep l.keep
+          → l.nodes ++ filter_map (node_at (k.rows l.fn.keep).read) (drop l.id-index l.id-items)
+          ≡ filter_map (node_at (k.rows l.fn.keep).read) l.id-items;
     }

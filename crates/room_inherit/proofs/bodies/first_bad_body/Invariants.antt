@@ -11,5 +11,8 @@ invariant-nodes g l =
     let k = g.K.Keep in
     record {
       read : HasRead k.rows k.failures k.writes k.Follows k.IsTrusted l.fn.keep l.keep;
-      same : k.IsTrusted l.fn.keep l.keep → find (λ (n : Node). not (has_sound_body (k.rows l.fn.keep).read n)) (drop l.node-index l.node-items) ≡ find (λ (n : Node). not (has_sound_body (k.rows l.fn.keep).read n)) l.objects;
+      same : k.IsTrusted l.fn.keep l.keep
+          → find (λ (n : Node). not (has_sound_body (k.rows l.fn.keep).read n))
+          (drop l.node-index l.node-items)
+          ≡ find (λ (n : Node). not (has_sound_body (k.rows l.fn.keep).read n)) l.objects;
     }

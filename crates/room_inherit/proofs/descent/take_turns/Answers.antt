@@ -10,20 +10,30 @@ use Rattle.room_inherit.proofs.Calls.{capped_add, handed_on}
 use Rattle.room_inherit.proofs.descent.take_turns.Goals as goal
 
 pub turns-init : goal.turns-init
-turns-init g c = record { sofar = (0, (refl, refl, refl), sym (capped_below 0 (omega arith))); within = omega arith }
+turns-init g c =
+    record {
+      sofar = (0, (refl, refl, refl), sym (capped_below 0 (omega arith)));
+      within = omega arith;
+    }
 
 pub returns-in_default : goal.returns-in_default
 returns-in_default g c =
     let (total, are, is) = c.turns.invariant.sofar in
-    let same : c.turns.waiting.items ≡ c.pop.new.self.items = c.in_default.ensures.items ∙ append-nil c.pop.new.self.items in
+    let same : c.turns.waiting.items ≡ c.pop.new.self.items = c.in_default.ensures.items
+    ∙ append-nil c.pop.new.self.items in
     record {
       turns = record {
         turns = c.turns._turn;
         total = total;
-        are = subst (λ (l : List Node). AreTurns g.K.Keep c.args.descent.now c.turns._turn c.args.waiting.now.items l total c.args.keep.now c.turns.keep) same are;
+        are =
+            subst
+            (λ (l : List Node). AreTurns g.K.Keep c.args.descent.now c.turns._turn
+            c.args.waiting.now.items l total c.args.keep.now c.turns.keep) same are;
         counted = is;
         bounded = c.turns.invariant.within;
-        ends = inl (sym same ∙ no_length c.turns.waiting.items (sym c.turns.waiting.ok.0 ∙ c.in_default.ensures.cases.0));
+        ends =
+            inl (sym same ∙ no_length c.turns.waiting.items
+            (sym c.turns.waiting.ok.0 ∙ c.in_default.ensures.cases.0));
       };
     }
 
@@ -35,15 +45,23 @@ returns-in_err-visited g c =
     let fault = c.in_err-visited.field-0.0 in
     let before = c.args.waiting.now.items in
     record {
-      turns = subst (λ (r : Result ℕ SpreadFault). TakesTurns k d c.args.most before c.visit-visited.new.waiting.items c.args.keep.now c.visit-visited.new.keep r) (sym (handed_on c.from_residual.result fault c.from_residual.ensures.1)) (record {
-        turns = c.turns._turn;
-        total = total;
-        rest = c.pop.new.self.items;
-        above = c.in-Some.above;
-        mid = c.turns.keep;
-        are = subst (λ (l : List Node). AreTurns k d c.turns._turn before l total c.args.keep.now c.turns.keep) c.in-Some.ensures.items are;
-        fails = c.in_err-visited.ensures.visit;
-      });
+      turns =
+          subst
+          (λ (r : Result ℕ SpreadFault).
+          TakesTurns k d c.args.most before c.visit-visited.new.waiting.items c.args.keep.now
+          c.visit-visited.new.keep r)
+          (sym (handed_on c.from_residual.result fault c.from_residual.ensures.1)) (record {
+            turns = c.turns._turn;
+            total = total;
+            rest = c.pop.new.self.items;
+            above = c.in-Some.above;
+            mid = c.turns.keep;
+            are =
+                subst
+                (λ (l : List Node). AreTurns k d c.turns._turn before l total c.args.keep.now
+                c.turns.keep) c.in-Some.ensures.items are;
+            fails = c.in_err-visited.ensures.visit;
+          });
     }
 
 pub turns-preserved : goal.turns-preserved
@@ -56,9 +74,21 @@ turns-preserved g c =
     record {
       sofar = (
         total + number,
-        subst (λ (n : ℕ). AreTurns k d n before c.visit-visited.new.waiting.items (total + number) c.args.keep.now c.visit-visited.new.keep) (sym (add-one c.turns._turn))
-            (c.pop.new.self.items, c.in-Some.above, total, number, c.turns.keep, subst (λ (l : List Node). AreTurns k d c.turns._turn before l total c.args.keep.now c.turns.keep) c.in-Some.ensures.items are, c.in_ok-visited.ensures.visit, refl),
-        c.saturating_add-written.ensures ∙ ap (λ n. capped (n + number)) is ∙ capped_add total number,
+        subst (λ (n : ℕ). AreTurns k d n before c.visit-visited.new.waiting.items
+            (total + number) c.args.keep.now c.visit-visited.new.keep) (sym (add-one c.turns._turn)) (
+              c.pop.new.self.items,
+              c.in-Some.above,
+              total,
+              number,
+              c.turns.keep,
+              subst
+                  (λ (l : List Node). AreTurns k d c.turns._turn before l total c.args.keep.now
+                  c.turns.keep) c.in-Some.ensures.items are,
+              c.in_ok-visited.ensures.visit,
+              refl,
+            ),
+        c.saturating_add-written.ensures ∙ ap (λ n. capped (n + number)) is
+            ∙ capped_add total number,
       );
       within = let below = c.turns-test.true in omega (arith, below);
     }

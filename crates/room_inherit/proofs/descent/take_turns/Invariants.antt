@@ -7,6 +7,8 @@ use Rattle.room_inherit.proofs.descent.take_turns.Given as goal
 abbrev pub invariant-turns : goal.invariant-turns
 invariant-turns g l =
     record {
-      sofar : (total : ℕ) × AreTurns g.K.Keep l.descent l._turn l.fn.waiting.items l.waiting.items total l.fn.keep l.keep × (l.written ≡ capped total);
+      sofar : (total : ℕ)
+          × AreTurns g.K.Keep l.descent l._turn l.fn.waiting.items l.waiting.items total l.fn.keep
+          l.keep × (l.written ≡ capped total);
       within : l._turn ≤ l.most;
     }

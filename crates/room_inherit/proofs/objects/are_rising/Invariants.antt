@@ -6,4 +6,5 @@ use Rattle.room_inherit.proofs.objects.are_rising.Given as goal
 
 -- what is left rises from the last number on exactly if all rise
 abbrev pub invariant-loop-node : goal.invariant-loop-node
-invariant-loop-node l = is_rising (l.last ∷ map (λ (n : Node). n.id) (drop l.node-index l.nodes)) ≡ are_rising l.nodes
+invariant-loop-node l =
+    is_rising (l.last ∷ map (λ (n : Node). n.id) (drop l.node-index l.nodes)) ≡ are_rising l.nodes

@@ -10,17 +10,22 @@ use Rattle.room_inherit.proofs.objects.find_rising.Goals as goal
 pub returns-in-Ok : goal.returns-in-Ok
 returns-in-Ok c =
     let nodes = c.args.nodes.now in
-    let by_key = c.in-Ok.ensures.position (λ (n : Node). n.id) (answers_always _ _ _ (λ f a r g called. search rules)) in
+    let by_key = c.in-Ok.ensures.position (λ (n : Node). n.id)
+    (answers_always _ _ _ (λ f a r g called. search rules)) in
     let x = c.index-nodes-place.result in
-    let same : x.id ≡ c.args.id = ap (λ (n : Node). n.id) c.index-nodes-place.is ∙ equal_from_cmp _ _ (by_key x) in
-    ap (λ (n : Node). Some n) c.index-nodes-place.is ∙ sym (found_at 0 nodes c.requires c.in-Ok.place x c.in-Ok.ensures.bound)
+    let same : x.id ≡ c.args.id = ap (λ (n : Node). n.id) c.index-nodes-place.is
+    ∙ equal_from_cmp _ _ (by_key x) in
+    ap (λ (n : Node). Some n) c.index-nodes-place.is
+    ∙ sym (found_at 0 nodes c.requires c.in-Ok.place x c.in-Ok.ensures.bound)
     ∙ ap (λ id. find_id id nodes) (sym (ap (λ (n : Node). n.id) c.index-nodes-place.is) ∙ same)
 
 pub returns-in-Err : goal.returns-in-Err
 returns-in-Err c =
     let nodes = c.args.nodes.now in
-    let by_key = c.in-Err.ensures.position (λ (n : Node). n.id) (answers_always _ _ _ (λ f a r g called. search rules)) in
-    let apart = by_key (searchable_from_sorted nat_cmp_total (λ (n : Node). n.id) nodes c.args.id (sorted_by_number 0 nodes c.requires)) in
+    let by_key = c.in-Err.ensures.position (λ (n : Node). n.id)
+    (answers_always _ _ _ (λ f a r g called. search rules)) in
+    let apart = by_key (searchable_from_sorted nat_cmp_total (λ (n : Node). n.id) nodes c.args.id
+    (sorted_by_number 0 nodes c.requires)) in
     sym (none_at c.args.id nodes (λ k d below. elim (cases_lt k c.in-Err.field-0) [
       | inl before ↦ apart_from_less _ _ (apart.0 k d (omega arith) before)
       | inr behind ↦ apart_from_greater _ _ (apart.1 k d behind below)

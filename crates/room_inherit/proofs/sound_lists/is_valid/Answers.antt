@@ -4,9 +4,12 @@ use Rattle.room_entry.specs.declared.fault.ListFault.{ListFault}
 use Rattle.room_entry.specs.Valid.{entry_fault}
 use Rattle.room_inherit.proofs.sound_lists.is_valid.Goals as goal
 
-passes : (o : Option ListFault) (r : Result (Unit {0}) ListFault) → MatchOption o (r ≡ Ok tt) (λ fault. r ≡ Err fault) → is_ok r ≡ is_none o
+passes : (o : Option ListFault) (r : Result (Unit {0}) ListFault)
+    → MatchOption o (r ≡ Ok tt) (λ fault. r ≡ Err fault) → is_ok r ≡ is_none o
 passes None r is = ap is_ok is
 passes (Some fault) r is = ap is_ok is
 
 pub returns : goal.returns
-returns c = c.is_ok.ensures.value ∙ passes (entry_fault c.args.entry.now c.args.which c.args.kind) c.valid.result c.valid.ensures
+returns c =
+    c.is_ok.ensures.value
+    ∙ passes (entry_fault c.args.entry.now c.args.which c.args.kind) c.valid.result c.valid.ensures

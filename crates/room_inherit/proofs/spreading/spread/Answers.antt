@@ -9,7 +9,9 @@ returns-in-None g c =
     let k = g.K.Keep in
     let a = c.args.keep.now in
     let b = c.node.new.self in
-    let found = subst (λ (o : Option Node). IsRead k.rows k.failures k.writes k.Follows k.IsTrusted a b (Ok o) (IsUnreadableAt c.args.id) (IsNodeAt c.args.id)) c.in-None.is c.in_ok-node.ensures.read in
+    let found = subst
+    (λ (o : Option Node). IsRead k.rows k.failures k.writes k.Follows k.IsTrusted a b (Ok o)
+    (IsUnreadableAt c.args.id) (IsNodeAt c.args.id)) c.in-None.is c.in_ok-node.ensures.read in
     record { spread = spreads_nowhere k g.met.K.Keep.laws c.args.which c.args.id a b found }
 
 pub returns-in-Some : goal.returns-in-Some
@@ -17,7 +19,11 @@ returns-in-Some g c =
     let k = g.K.Keep in
     let a = c.args.keep.now in
     let b = c.node.new.self in
-    let found = subst (λ (o : Option Node). IsRead k.rows k.failures k.writes k.Follows k.IsTrusted a b (Ok o) (IsUnreadableAt c.args.id) (IsNodeAt c.args.id)) c.in-Some.is c.in_ok-node.ensures.read in
+    let found = subst
+    (λ (o : Option Node). IsRead k.rows k.failures k.writes k.Follows k.IsTrusted a b (Ok o)
+    (IsUnreadableAt c.args.id) (IsNodeAt c.args.id)) c.in-Some.is c.in_ok-node.ensures.read in
     record {
-      spread = spreads_there k g.met.K.Keep.laws c.args.which c.in-Some.start a b c.spread_from.new.keep c.args.id c.spread_from.result found c.spread_from.ensures.spread;
+      spread =
+          spreads_there k g.met.K.Keep.laws c.args.which c.in-Some.start a b c.spread_from.new.keep
+          c.args.id c.spread_from.result found c.spread_from.ensures.spread;
     }

@@ -6,4 +6,6 @@ use Rattle.room_inherit.proofs.tree.bad_root.Given as goal
 
 -- the one so far, and then those of what is left
 abbrev pub invariant-nodes : goal.invariant-nodes
-invariant-nodes l = bad_root (option_to_list (option_copied l.root) ++ filter is_root (drop l.node-index l.nodes)) ≡ bad_root (filter is_root l.nodes)
+invariant-nodes l =
+    bad_root (option_to_list (option_copied l.root) ++ filter is_root (drop l.node-index l.nodes))
+    ≡ bad_root (filter is_root l.nodes)

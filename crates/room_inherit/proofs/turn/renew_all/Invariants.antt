@@ -9,6 +9,9 @@ use Rattle.room_inherit.proofs.turn.renew_all.Given as goal
 abbrev pub invariant-children : goal.invariant-children
 invariant-children g l =
     record {
-      renewing : (above : Node) → IsPassed (held_of l.descent.which above) l.passed → Renewing g.K.Keep g.met.K.Keep.laws l.descent above l.fn.children.items l.fn.waiting.items (drop (length l.yielded) l.fn.children.items) l.waiting.items l.written l.fn.keep l.keep;
+      renewing : (above : Node) → IsPassed (held_of l.descent.which above) l.passed
+          → Renewing g.K.Keep g.met.K.Keep.laws l.descent above l.fn.children.items
+          l.fn.waiting.items (drop (length l.yielded) l.fn.children.items) l.waiting.items l.written
+          l.fn.keep l.keep;
       few : l.written ≤ length l.yielded;
     }

@@ -9,33 +9,56 @@ use Rattle.room_judge.proofs.checking.note_check.Goals as goal
 pub places-init : goal.places-init
 places-init g c =
     let m = g.met.K.Keep in
-    then m.laws (none_done m.laws c.args.keep.now) (none_done m.laws c.args.keep.now) (λ old mid new same again.
-    notes_none c.args.asker.now c.args.granted (found_site c.args.path.now c.args.found.now) c.args.bits c.as_slice-place-items.result.now old new (again ∙ same))
+    then m.laws (none_done m.laws c.args.keep.now) (none_done m.laws c.args.keep.now)
+    (λ old mid new same again.
+    notes_none c.args.asker.now c.args.granted
+    (found_site c.args.path.now c.args.found.now) c.args.bits c.as_slice-place-items.result.now old
+    new (again ∙ same))
 
 pub returns-in_err-row : goal.returns-in_err-row
 returns-in_err-row g c =
     let m = g.met.K.Keep in
-    record { done = memory m.laws c.places.invariant c.from_residual-in_err-row.result c.from_residual-in_err-row.ensures.1 }
+    record {
+      done =
+          memory m.laws c.places.invariant c.from_residual-in_err-row.result
+          c.from_residual-in_err-row.ensures.1;
+    }
 
 pub returns-in_err-note : goal.returns-in_err-note
 returns-in_err-note g c =
     let m = g.met.K.Keep in
-    record { done = fails m.laws c.places.invariant (of_write c.in_err-note.ensures.written) (λ old mid at sofar never. never) c.from_residual-in_err-note.result c.from_residual-in_err-note.ensures.1 }
+    record {
+      done = fails m.laws c.places.invariant (of_write c.in_err-note.ensures.written)
+          (λ old mid at sofar never. never) c.from_residual-in_err-note.result
+          c.from_residual-in_err-note.ensures.1;
+    }
 
 pub places-preserved : goal.places-preserved
 places-preserved g c =
     let m = g.met.K.Keep in
-    let are = c.as_slice-place-items.ensures.value ∙ c.in_ok-places.ensures ∙ ap (λ (es : List Ace). events_of es c.args.asker.now.caller c.args.found.now.node.owners c.args.bits c.args.granted) c.full.ensures in
-    then m.laws c.places.invariant (done (of_write c.in_ok-note.ensures.written)) (λ old now next sofar more.
-    notes_one c.args.asker.now c.args.granted (found_site c.args.path.now c.args.found.now) c.args.bits c.as_slice-place-items.result.now c.places.place-index c.in_ok-row.row old now next c.places-test.true
+    let are = c.as_slice-place-items.ensures.value ∙ c.in_ok-places.ensures
+    ∙ ap
+    (λ (es : List Ace). events_of es c.args.asker.now.caller c.args.found.now.node.owners
+    c.args.bits c.args.granted) c.full.ensures in
+    then m.laws c.places.invariant (done (of_write c.in_ok-note.ensures.written))
+    (λ old now next sofar more.
+    notes_one c.args.asker.now c.args.granted
+    (found_site c.args.path.now c.args.found.now) c.args.bits c.as_slice-place-items.result.now
+    c.places.place-index c.in_ok-row.row old now next c.places-test.true
     c.in_ok-row.ensures are sofar more)
 
 pub returns : goal.returns
 returns g c =
     let m = g.met.K.Keep in
-    let full : c.places.place-index ≡ length c.as_slice-place-items.result.now = omega (arith, c.places-test.false, c.places.auto.place-index-end) in
-    let are = c.as_slice-place-items.ensures.value ∙ c.in_ok-places.ensures ∙ ap (λ (es : List Ace). events_of es c.args.asker.now.caller c.args.found.now.node.owners c.args.bits c.args.granted) c.full.ensures in
+    let full : c.places.place-index ≡ length c.as_slice-place-items.result.now = omega
+    (arith, c.places-test.false, c.places.auto.place-index-end) in
+    let are = c.as_slice-place-items.ensures.value ∙ c.in_ok-places.ensures
+    ∙ ap
+    (λ (es : List Ace). events_of es c.args.asker.now.caller c.args.found.now.node.owners
+    c.args.bits c.args.granted) c.full.ensures in
     record {
       done = finish m.laws tt c.places.invariant (λ old new known sofar.
-          notes_all c.args.asker.now c.args.granted (found_site c.args.path.now c.args.found.now) c.args.bits c.as_slice-place-items.result.now c.places.place-index old new full are sofar);
+          notes_all c.args.asker.now c.args.granted
+          (found_site c.args.path.now c.args.found.now) c.args.bits
+          c.as_slice-place-items.result.now c.places.place-index old new full are sofar);
     }

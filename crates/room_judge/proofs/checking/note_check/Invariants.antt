@@ -8,4 +8,5 @@ use Rattle.room_judge.proofs.checking.note_check.Given as goal
 abbrev pub invariant-places : goal.invariant-places
 invariant-places g l =
     let k = g.K.Keep in
-    HasDone k.rows k.Follows k.IsTrusted l.fn.keep l.keep (Notes l.asker l.granted (found_site l.path l.found) l.bits (take l.place-index l.place-items))
+    HasDone k.rows k.Follows k.IsTrusted l.fn.keep l.keep
+    (Notes l.asker l.granted (found_site l.path l.found) l.bits (take l.place-index l.place-items))

@@ -11,10 +11,17 @@ returns g c =
     let asker = c.args.asker.now in
     let path = c.args.path.now in
     let depth : ℕ = length c.names.result.now - 1 in
-    let size : length c.names.result.now ≡ length path = ap (λ (l : List (List ℕ)). length l) c.names.ensures in
+    let size : length c.names.result.now ≡ length path = ap
+    (λ (l : List (List ℕ)). length l) c.names.ensures in
     let some = c.requires in
     let deep : length path ≡ depth + 1 = omega arith in
     record {
-      done = tail m.laws (done c.in_ok-arrival.ensures.done) c.spot_after.ensures.done (λ old mid at reached h. inl (reached_blames asker (take depth path) (λ _. []) c.in_ok-arrival.arrival old mid at reached h)) (λ old mid spot new reached spots.
-          spot_follows asker path depth deep c.in_ok-arrival.arrival old mid new spot reached spots);
+      done =
+          tail m.laws (done c.in_ok-arrival.ensures.done) c.spot_after.ensures.done
+          (λ old mid at reached h.
+          inl (reached_blames asker (take depth path)
+          (λ _. []) c.in_ok-arrival.arrival old mid at reached h))
+          (λ old mid spot new reached spots.
+          spot_follows asker path depth deep c.in_ok-arrival.arrival old mid new spot reached
+          spots);
     }

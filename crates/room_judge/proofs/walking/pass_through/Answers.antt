@@ -14,7 +14,10 @@ pub returns-in_err-refused-in-Document : goal.returns-in_err-refused-in-Document
 returns-in_err-refused-in-Document g c =
     let k = g.K.Keep in
     let m = g.met.K.Keep in
-    record { done = memory m.laws (none_done m.laws c.args.keep.now) c.from_residual.result c.from_residual.ensures.1 }
+    record {
+      done = memory m.laws
+          (none_done m.laws c.args.keep.now) c.from_residual.result c.from_residual.ensures.1;
+    }
 
 pub returns-in_ok-refused-in-Document : goal.returns-in_ok-refused-in-Document
 returns-in_ok-refused-in-Document g c =
@@ -23,7 +26,9 @@ returns-in_ok-refused-in-Document g c =
     record {
       done = finish m.laws _ (none_done m.laws c.args.keep.now) (λ old new are same.
           let site = found_site c.args.path.now c.args.found.now in
-          refuses c.args.asker.now site.path NotFolder (not (not (is_document site.node.kind))) (Check site (execute ∷ []) ∷ []) old new _ c.in_ok-refused-in-Document.ensures (ap (λ (kind : ObjKind). not (not (is_document kind))) c.in-Document.is) same);
+          refuses c.args.asker.now site.path NotFolder (not (not (is_document site.node.kind)))
+          (Check site (execute ∷ []) ∷ []) old new _ c.in_ok-refused-in-Document.ensures
+          (ap (λ (kind : ObjKind). not (not (is_document kind))) c.in-Document.is) same);
     }
 
 pub returns-in-Folder : goal.returns-in-Folder
@@ -33,6 +38,9 @@ returns-in-Folder g c =
     record {
       done = as_well c.check.ensures.done (λ old at never. never) (λ old answer new judged.
           let site = found_site c.args.path.now c.args.found.now in
-          passes_on c.args.asker.now site.path NotFolder (not (not (is_document site.node.kind))) (Check site (execute ∷ []) ∷ []) old new answer (ap (λ (kind : ObjKind). not (not (is_document kind))) c.in-Folder.is)
-          (subst (λ (bits : List ℕ). IsJudged c.args.asker.now (Check site bits ∷ []) old answer new) c.execute.ensures judged));
+          passes_on c.args.asker.now site.path NotFolder (not (not (is_document site.node.kind)))
+          (Check site (execute ∷ []) ∷ []) old new answer
+          (ap (λ (kind : ObjKind). not (not (is_document kind))) c.in-Folder.is)
+          (subst (λ (bits : List ℕ). IsJudged c.args.asker.now
+          (Check site bits ∷ []) old answer new) c.execute.ensures judged));
     }

@@ -9,14 +9,19 @@ names-init g c =
     let d = c.in_ok-arrival.ensures.done in
     record {
       follows = d.follows;
-      becomes = λ t is. first_step c.args.asker.now c.args.path.now c.args.depth c.requires.within c.args.root.now c.in_ok-arrival.arrival (k.rows c.args.keep.now) (k.rows c.step_down.new.keep) c.requires.top c.requires.some is (d.becomes t);
+      becomes =
+          λ t is. first_step c.args.asker.now c.args.path.now c.args.depth c.requires.within
+          c.args.root.now c.in_ok-arrival.arrival (k.rows c.args.keep.now)
+          (k.rows c.step_down.new.keep) c.requires.top c.requires.some is (d.becomes t);
     }
 
 pub names-preserved : goal.names-preserved
 names-preserved g c =
     let m = g.met.K.Keep in
-    then m.laws c.names.invariant (done c.in_ok-arrival-2.ensures.done) (λ old now new walking step is.
-    walks_on c.args.asker.now c.args.path.now c.args.depth c.requires.within c.names.index c.names.arrival c.in_ok-arrival-2.arrival old now new c.names-test.true (walking is) step)
+    then m.laws c.names.invariant (done c.in_ok-arrival-2.ensures.done)
+    (λ old now new walking step is.
+    walks_on c.args.asker.now c.args.path.now c.args.depth c.requires.within c.names.index
+    c.names.arrival c.in_ok-arrival-2.arrival old now new c.names-test.true (walking is) step)
 
 pub returns : goal.returns
 returns g c =
@@ -26,5 +31,6 @@ returns g c =
     let all : c.names.index ≡ c.args.depth = omega arith in
     record {
       done = finish m.laws _ c.names.invariant (λ old new are walking is.
-          walk_done c.args.asker.now c.args.path.now c.args.depth c.requires.within c.names.index c.names.arrival old new all (walking is));
+          walk_done c.args.asker.now c.args.path.now c.args.depth c.requires.within c.names.index
+          c.names.arrival old new all (walking is));
     }

@@ -8,4 +8,6 @@ use Rattle.room_judge.proofs.walking.walk_down.Given as goal
 abbrev pub invariant-names : goal.invariant-names
 invariant-names g l =
     let k = g.K.Keep in
-    HasDone k.rows k.Follows k.IsTrusted l.fn.keep l.keep (λ old now. root_of old.read ≡ Some l.root.node → IsWalking l.asker (take l.depth l.path) l.index l.arrival old now)
+    HasDone k.rows k.Follows k.IsTrusted l.fn.keep l.keep
+    (λ old now. root_of old.read ≡ Some l.root.node
+    → IsWalking l.asker (take l.depth l.path) l.index l.arrival old now)

@@ -10,5 +10,7 @@ invariant-names g l =
     let k = g.K.Keep in
     record {
       read : HasRead k.rows k.failures k.writes k.Follows k.IsTrusted l.fn.keep l.keep;
-      along : k.IsTrusted l.fn.keep l.keep → after_chain l.chain (walk_from (k.rows l.fn.keep).read l.node (drop l.index l.names)) ≡ walk_of (k.rows l.fn.keep).read l.path;
+      along : k.IsTrusted l.fn.keep l.keep
+          → after_chain l.chain (walk_from (k.rows l.fn.keep).read l.node (drop l.index l.names))
+          ≡ walk_of (k.rows l.fn.keep).read l.path;
     }

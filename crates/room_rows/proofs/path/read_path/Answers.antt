@@ -8,7 +8,10 @@ use Rattle.room_rows.proofs.path.read_path.Goals as goal
 pub returns-in-Ok : goal.returns-in-Ok
 returns-in-Ok c =
     let is = c.in-Ok.ensures.cases in
-    subst (λ defined. Gives c.read_names.result defined) (ap (λ (t : List ℕ). names_in (pieces 47 t)) is.0 ∙ sym (read_as_names c.args.bytes.now c.if-bytes-gt-LONGEST_PATH.false is.1)) c.read_names.ensures
+    subst (λ defined. Gives c.read_names.result defined)
+    (ap (λ (t : List ℕ). names_in (pieces 47 t)) is.0
+    ∙ sym (read_as_names c.args.bytes.now c.if-bytes-gt-LONGEST_PATH.false is.1))
+    c.read_names.ensures
 
 pub returns-in-Err : goal.returns-in-Err
 returns-in-Err c =

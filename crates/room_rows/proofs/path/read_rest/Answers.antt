@@ -14,9 +14,12 @@ pub returns-then-not-is_object_name : goal.returns-then-not-is_object_name
 returns-then-not-is_object_name c =
     let all = pieces 47 c.args.rest.now in
     let name = c.in-Some.name.now in
-    let turn = YieldsList-turn (YieldsList-from_str_split 47 c.args.rest.now (lit< tt) (cc) (cc) (cc)) c.names.yielded _ c.names.yielded_by _ _ c.in-Some.name c.in-Some.is c.next.ensures.steps in
+    let turn = YieldsList-turn
+    (YieldsList-from_str_split 47 c.args.rest.now (lit< tt) (cc) (cc) (cc)) c.names.yielded _
+    c.names.yielded_by _ _ c.in-Some.name c.in-Some.is c.next.ensures.steps in
     let bad : is_object_name name ≡ false = sym c.if-not-is_object_name.ensures in
-    bad_name all (list_all_at is_object_name all (length c.names.yielded) name turn.0 (ap is_object_name (sym turn.1) ∙ bad))
+    bad_name all (list_all_at is_object_name all (length c.names.yielded) name turn.0
+    (ap is_object_name (sym turn.1) ∙ bad))
 
 pub names-preserved : goal.names-preserved
 names-preserved c =
@@ -24,7 +27,9 @@ names-preserved c =
     let name = c.in-Some.name.now in
     let before = c.names.names.items in
     let count = length c.names.yielded in
-    let turn = YieldsList-turn (YieldsList-from_str_split 47 c.args.rest.now (lit< tt) (cc) (cc) (cc)) c.names.yielded _ c.names.yielded_by _ _ c.in-Some.name c.in-Some.is c.next.ensures.steps in
+    let turn = YieldsList-turn
+    (YieldsList-from_str_split 47 c.args.rest.now (lit< tt) (cc) (cc) (cc)) c.names.yielded _
+    c.names.yielded_by _ _ c.in-Some.name c.in-Some.is c.next.ensures.steps in
     let good : is_object_name name ≡ true = sym c.if-not-is_object_name.ensures in
     record {
       first = c.in_ok-push_name.ensures
@@ -34,20 +39,28 @@ names-preserved c =
           ∙ ap (λ (n : ℕ). take n all) (sym (length_push c.names.yielded c.in-Some.name));
       good = ap (list_all is_object_name) c.in_ok-push_name.ensures
           ∙ list_all-append is_object_name before (name ∷ [])
-          ∙ and_from (list_all is_object_name before) (list_all is_object_name (name ∷ [])) c.names.invariant.good (and_from (is_object_name name) true good refl);
+          ∙ and_from (list_all is_object_name before)
+          (list_all is_object_name (name ∷ [])) c.names.invariant.good
+          (and_from (is_object_name name) true good refl);
     }
 
 pub invariant_of-result : goal.invariant_of-result
 invariant_of-result c =
     let all = pieces 47 c.args.rest.now in
-    let end = YieldsList-end (YieldsList-from_str_split 47 c.args.rest.now (lit< tt) (cc) (cc) (cc)) c.names.yielded _ c.names.yielded_by _ _ c.in-None.is c.next.ensures.steps in
-    let cut : c.names.names.items ≡ all = c.names.invariant.first ∙ take_all (length c.names.yielded) all (omega (arith, end.1)) in
+    let end = YieldsList-end
+    (YieldsList-from_str_split 47 c.args.rest.now (lit< tt) (cc) (cc) (cc)) c.names.yielded _
+    c.names.yielded_by _ _ c.in-None.is c.next.ensures.steps in
+    let cut : c.names.names.items ≡ all = c.names.invariant.first
+    ∙ take_all (length c.names.yielded) all (omega (arith, end.1)) in
     read_is_path c.args.rest.now c.names.names.items c.requires cut c.names.invariant.good
 
 pub returns : goal.returns
 returns c =
     let all = pieces 47 c.args.rest.now in
-    let end = YieldsList-end (YieldsList-from_str_split 47 c.args.rest.now (lit< tt) (cc) (cc) (cc)) c.names.yielded _ c.names.yielded_by _ _ c.in-None.is c.next.ensures.steps in
-    let cut : c.names.names.items ≡ all = c.names.invariant.first ∙ take_all (length c.names.yielded) all (omega (arith, end.1)) in
+    let end = YieldsList-end
+    (YieldsList-from_str_split 47 c.args.rest.now (lit< tt) (cc) (cc) (cc)) c.names.yielded _
+    c.names.yielded_by _ _ c.in-None.is c.next.ensures.steps in
+    let cut : c.names.names.items ≡ all = c.names.invariant.first
+    ∙ take_all (length c.names.yielded) all (omega (arith, end.1)) in
     let gives = good_names all (ap (list_all is_object_name) (sym cut) ∙ c.names.invariant.good) in
     cc (gives, cut)

@@ -13,5 +13,9 @@ returns-clause-carries g c =
     let begun = state g.S.Store c.args.keeper.now.tx.now.conn.now in
     let mid = state g.S.Store c.perform.new.keep.tx.now.conn.now in
     let done = c.perform.ensures.done in
-    subst (λ at. CallsInside begun mid c.perform.result (OnRows HasDamage) (ByRows (Performs (option_copied c.args.caller) at c.args.request.now))) (to_z-of_z w64 c.args.at c.ranges.at)
-    (carried begun mid c.perform.result (Performs (option_copied c.args.caller) (to_z w64 (of_z w64 c.args.at)) c.args.request.now) _ _ done.follows.2 done.becomes done.fault)
+    subst (λ at. CallsInside begun mid c.perform.result (OnRows HasDamage)
+    (ByRows (Performs (option_copied c.args.caller) at c.args.request.now)))
+    (to_z-of_z w64 c.args.at c.ranges.at)
+    (carried begun mid c.perform.result
+    (Performs (option_copied c.args.caller) (to_z w64 (of_z w64 c.args.at)) c.args.request.now) _ _
+    done.follows.2 done.becomes done.fault)

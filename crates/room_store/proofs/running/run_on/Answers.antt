@@ -16,6 +16,13 @@ returns g c =
     let mid = state g.S.Store c.perform_inside-done.new.tx.conn.now in
     let begins = c.begin-tx.ensures.begun in
     let Step = Performs (option_copied c.args.caller) c.args.at c.args.request.now in
-    let done = subst (λ at. Ran old (state g.S.Store end) c.finish.result HasDamage (Performs (option_copied c.args.caller) at c.args.request.now)) (to_z-of_z w64 c.args.at c.ranges.at)
-    (ran old begun mid (state g.S.Store end) begins c.perform_inside-done.ensures.carries.stays c.finish.ensures.ended c.finish.ensures.clean HasDamage _ c.perform_inside-done.result c.finish.result c.perform_inside-done.ensures.carries c.finish.ensures.finishes) in
-    record { ran = subst (λ h. Ran old (state g.S.Store h) c.finish.result HasDamage Step) same done }
+    let done = subst (λ at. Ran old (state g.S.Store end) c.finish.result HasDamage
+    (Performs (option_copied c.args.caller) at c.args.request.now))
+    (to_z-of_z w64 c.args.at c.ranges.at)
+    (ran old begun mid (state g.S.Store end) begins c.perform_inside-done.ensures.carries.stays
+    c.finish.ensures.ended c.finish.ensures.clean HasDamage _ c.perform_inside-done.result
+    c.finish.result c.perform_inside-done.ensures.carries c.finish.ensures.finishes) in
+    record {
+      ran = subst
+          (λ h. Ran old (state g.S.Store h) c.finish.result HasDamage Step) same done;
+    }

@@ -10,9 +10,12 @@ returns-clause-carries g c =
     let old = state g.S.Store c.args.tx.now.conn.now in
     let rows = c.in-Ok.rows.items in
     let asks = c.in-Ok.ensures.asks in
-    let seen : c.in_ok-see_pairs.field-0.items ≡ pairs_seen rows = c.in_ok-see_pairs.ensures ∙ ap pairs_seen c.as_slice.ensures.value in
+    let seen : c.in_ok-see_pairs.field-0.items ≡ pairs_seen rows = c.in_ok-see_pairs.ensures
+    ∙ ap pairs_seen c.as_slice.ensures.value in
     record {
       stays = asks.stays;
-      becomes = λ trust. seen ∙ tells_members (old.now.trees 3) rows (pairs_apart old.now trust.now) (asks.rows trust.clean trust.now);
+      becomes =
+          λ trust. seen ∙ tells_members (old.now.trees 3) rows (pairs_apart old.now trust.now)
+          (asks.rows trust.clean trust.now);
       blames = λ trust id is. absurd (let e = is in cc);
     }

@@ -10,6 +10,11 @@ pub returns-clause-writes : goal.returns-clause-writes
 returns-clause-writes g c =
     let old = state g.S.Store c.args.tx.now.conn.now in
     let new = state g.S.Store c.execute.new.self.conn.now in
-    writes empty_text [] old new c.execute.result _ _ c.execute.ensures.survives.clean (λ inside. empty_room old new inside)
+    writes empty_text [] old new c.execute.result _ _ c.execute.ensures.survives.clean
+    (λ inside. empty_room old new inside)
     (λ count room h. (emptied old new count room h).puts)
-    (λ off. ((c.execute.ensures.ended off).0, subst (λ h. Stays old (state g.S.Store h)) (sym (c.execute.ensures.ended off).1) (stays_itself old))) c.execute.ensures.runs
+    (λ off. (
+      (c.execute.ensures.ended off).0,
+      subst (λ h. Stays old (state g.S.Store h)) (sym (c.execute.ensures.ended off).1)
+          (stays_itself old),
+    )) c.execute.ensures.runs

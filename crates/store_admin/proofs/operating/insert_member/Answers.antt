@@ -15,6 +15,12 @@ returns-clause-writes g c =
     let user = c.args.user.now in
     let given = c.params-to_sql.ensures in
     let given-2 = c.params-to_sql-2.ensures in
-    writes join_text (Text group ∷ Text user ∷ []) old new c.execute.result _ _ c.execute.ensures.survives.clean (λ inside. join_room group user old new inside)
-    (λ count room h. let d = joined group user old new count room.schema h in record { id = _; fresh = d.fresh; puts = d.exchanged.puts })
-    (λ off. ((c.execute.ensures.ended off).0, subst (λ h. Stays old (state g.S.Store h)) (sym (c.execute.ensures.ended off).1) (stays_itself old))) (rw (given, given-2) at c.execute.ensures.runs)
+    writes join_text (Text group ∷ Text user ∷ []) old new c.execute.result _ _
+    c.execute.ensures.survives.clean (λ inside. join_room group user old new inside)
+    (λ count room h. let d = joined group user old new count room.schema h in
+    record { id = _; fresh = d.fresh; puts = d.exchanged.puts })
+    (λ off. (
+      (c.execute.ensures.ended off).0,
+      subst (λ h. Stays old (state g.S.Store h)) (sym (c.execute.ensures.ended off).1)
+          (stays_itself old),
+    )) (rw (given, given-2) at c.execute.ensures.runs)

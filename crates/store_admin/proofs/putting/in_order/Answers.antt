@@ -9,6 +9,8 @@ returns c =
     let pairs = c.args.pairs.now in
     let past : length pairs ≤ c.loop-pair.pair-index = search rules in
     let done = map (λ p. p.now) c.loop-pair.order.items in
-    let all = sym (append-nil done) ∙ ap (λ l. done ++ l) (sym (drop_of_length-le pairs past)) ∙ c.loop-pair.invariant in
+    let all = sym (append-nil done) ∙ ap (λ l. done ++ l) (sym (drop_of_length-le pairs past))
+    ∙ c.loop-pair.invariant in
     subst (λ l. IsPermutation l (map (λ p. p.now) c.sort_unstable_by.new.self.items)) all
-    (IsPermutation-map (λ p. p.now) c.loop-pair.order.items c.sort_unstable_by.new.self.items c.sort_unstable_by.ensures.permutation)
+    (IsPermutation-map (λ p. p.now) c.loop-pair.order.items c.sort_unstable_by.new.self.items
+    c.sort_unstable_by.ensures.permutation)

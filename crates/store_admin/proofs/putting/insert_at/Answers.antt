@@ -17,7 +17,9 @@ returns-then-is_same-clause-carries g c =
       becomes = λ trust held. record {
         nodes = refl;
         bodies = refl;
-        members = held ∙ again c.args.order.now c.args.at p q c.if-at-gt0.true c.requires c.index-order-at.is c.index-order-at-then-at-gt0.is same;
+        members =
+            held ∙ again c.args.order.now c.args.at p q c.if-at-gt0.true c.requires
+            c.index-order-at.is c.index-order-at-then-at-gt0.is same;
         meta = refl;
         audits = refl;
         only = λ all. all;
@@ -39,13 +41,16 @@ returns-in-Ok-clause-carries g c =
             nodes = join.puts.nodes;
             bodies = join.puts.bodies;
             members = ap pairs_of join.puts.members
-                ∙ one_more p.now done _ _ (read_pair join.id p.now.0 p.now.1 names.group names.user) join.fresh held
-                ∙ ap set_of (sym (so_far c.args.order.now c.args.at p c.requires c.index-order-at.is));
+                ∙ one_more p.now done _ _
+                (read_pair join.id p.now.0 p.now.1 names.group names.user) join.fresh held
+                ∙ ap set_of
+                (sym (so_far c.args.order.now c.args.at p c.requires c.index-order-at.is));
             meta = join.puts.meta;
             audits = join.puts.audits;
             only = λ all. subst (λ rows. are_pairs rows ≡ true) (sym join.puts.members)
                 (pairs_put (stored_pair join.id p.now.0 p.now.1)
-                ((state g.S.Store c.args.tx.now.conn.now).now.trees 3) (ap is_some (read_pair join.id p.now.0 p.now.1 names.group names.user)) all);
+                ((state g.S.Store c.args.tx.now.conn.now).now.trees 3)
+                (ap is_some (read_pair join.id p.now.0 p.now.1 names.group names.user)) all);
           };
       blames = λ trust id is. absurd (let e = is in cc);
     }

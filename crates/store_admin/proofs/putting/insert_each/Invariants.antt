@@ -8,5 +8,6 @@ use Rattle.store_admin.proofs.putting.insert_each.Given as goal
 abbrev pub invariant-loop-at : goal.invariant-loop-at
 invariant-loop-at g l =
     (l.tx.conn.ghost_name ≡ l.fn.tx.conn.ghost_name)
-    × CallsInside {X = Unit {0}} (state g.S.Store l.fn.tx.conn.now) (state g.S.Store l.tx.conn.now) (Ok tt)
+    × CallsInside {X = Unit {0}} (state g.S.Store l.fn.tx.conn.now) (state g.S.Store l.tx.conn.now)
+    (Ok tt)
     NoTables (Gathers [] (take l.at (map (λ p. p.now) l.order)))

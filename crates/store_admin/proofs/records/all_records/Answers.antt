@@ -10,7 +10,8 @@ returns-in-Some-clause-carries g c =
       stays = asks.stays;
       becomes = λ trust.
           tells_records old.now c.in-Ok.rows.items c.as_slice.result.now c.as_slice.ensures.value
-          (asks.rows trust.clean trust.now) c.in_ok-records.field-0 c.in-Some.records c.in-Some.is c.in_ok-records.ensures;
+          (asks.rows trust.clean trust.now) c.in_ok-records.field-0 c.in-Some.records c.in-Some.is
+          c.in_ok-records.ensures;
       blames = λ trust id is. absurd (let e = is in cc);
     }
 
@@ -23,5 +24,6 @@ returns-clause-carries g c =
       becomes = λ _. tt;
       blames = λ trust id is.
           tells_unread old.now c.in-Ok.rows.items c.as_slice.result.now c.as_slice.ensures.value
-          (asks.rows trust.clean trust.now) c.in_ok-records.field-0 c.in-None.is c.in_ok-records.ensures;
+          (asks.rows trust.clean trust.now) c.in_ok-records.field-0 c.in-None.is
+          c.in_ok-records.ensures;
     }

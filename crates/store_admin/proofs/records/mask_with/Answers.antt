@@ -21,4 +21,5 @@ over (pos n) high =
 
 pub returns-in-Err : goal.returns-in-Err
 returns-in-Err c =
-    over c.args.number (subst (λ z. FitsUnsignedBits 32 z → ⊥) (to_z-of_z w64 c.args.number c.ranges.number) c.in-Err.ensures)
+    over c.args.number (subst (λ z. FitsUnsignedBits 32 z → ⊥)
+    (to_z-of_z w64 c.args.number c.ranges.number) c.in-Err.ensures)

@@ -14,5 +14,10 @@ returns-in-Ok-expect_version-clause-inside g c = λ inside.
     let raised = state g.S.Store c.raise_inside.new.tx.conn.now in
     let stamped = state g.S.Store c.update_version.new.tx.conn.now in
     let end = state g.S.Store c.expect_version-2.new.tx.conn.now in
-    let becomes = subst (λ found. IsTrusted asked raised → IfOk {E = KeepFault} (Ok found) (λ report. IsRaised (rows_of asked.now) report (rows_of raised.now))) c.in-Ok-Sound.field-0-is c.in-Ok-Sound.ensures.becomes in
-    all_done begun inside asked c.in-Ok.ensures.expects raised c.raise_inside.ensures.stays becomes stamped c.in-Ok-update_version.field-0 c.in-Ok-update_version.ensures.stamps c.spread_is_raised.ensures end c.in-Ok-expect_version.ensures.expects
+    let becomes = subst (λ found. IsTrusted asked raised
+    → IfOk {E = KeepFault} (Ok found)
+    (λ report. IsRaised (rows_of asked.now) report (rows_of raised.now)))
+    c.in-Ok-Sound.field-0-is c.in-Ok-Sound.ensures.becomes in
+    all_done begun inside asked c.in-Ok.ensures.expects raised c.raise_inside.ensures.stays becomes
+    stamped c.in-Ok-update_version.field-0 c.in-Ok-update_version.ensures.stamps
+    c.spread_is_raised.ensures end c.in-Ok-expect_version.ensures.expects

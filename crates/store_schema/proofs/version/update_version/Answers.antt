@@ -10,4 +10,8 @@ returns-clause-stamps g c =
     let old = state g.S.Store c.args.tx.now.conn.now in
     let new = state g.S.Store c.execute.new.self.conn.now in
     stamps old new c.execute.ensures.survives.clean c.execute.result _
-    (λ off. ((c.execute.ensures.ended off).0, subst (λ h. IsWithin old (state g.S.Store h)) (sym (c.execute.ensures.ended off).1) (within_itself old))) c.execute.ensures.runs
+    (λ off. (
+      (c.execute.ensures.ended off).0,
+      subst (λ h. IsWithin old (state g.S.Store h)) (sym (c.execute.ensures.ended off).1)
+          (within_itself old),
+    )) c.execute.ensures.runs

@@ -14,13 +14,21 @@ returns-clause-puts g c =
     let new = state g.S.Store c.update_held-done.new.tx.conn.now in
     let list = c.in_ok-list.list in
     let stores = c.in_ok-list.ensures in
-    let at : to_z w64 (of_z w64 c.in-Some.at) ≡ pos c.args.id = ap (λ z. to_z w64 (of_z w64 z)) c.in-Some.ensures.1 ∙ to_z-of_z c.in-Some.ensures.0 in
+    let at : to_z w64 (of_z w64 c.in-Some.at) ≡ pos c.args.id = ap
+    (λ z. to_z w64 (of_z w64 z)) c.in-Some.ensures.1 ∙ to_z-of_z c.in-Some.ensures.0 in
     record {
       stays = c.update_held-done.ensures.writes.stays;
       no_less = c.in_ok-wrote_one.ensures.no_less;
       unfailed = c.in_ok-wrote_one.ensures.unfailed;
       fault = tt;
       becomes = λ trust.
-          let put = of_one c.update_held-done.result _ _ c.in_ok-wrote_one.ensures.answer (c.update_held-done.ensures.writes.leaves trust.clean trust.now) in
-          held_rows old.now new.now c.args.id trust.now (number_in-low c.args.id c.in-Some.ensures.2) c.args.which list.flags (string_bytes list.own) (string_bytes list.inh) c.args.held.now stores.flags stores.own stores.inh (subst (λ z. Recasts (holding c.args.which list.flags (string_bytes list.own) (string_bytes list.inh)) z old.now.trees new.now.trees) at put);
+          let put = of_one c.update_held-done.result _ _ c.in_ok-wrote_one.ensures.answer
+          (c.update_held-done.ensures.writes.leaves trust.clean trust.now) in
+          held_rows old.now new.now c.args.id trust.now
+          (number_in-low c.args.id c.in-Some.ensures.2) c.args.which list.flags
+          (string_bytes list.own)
+          (string_bytes list.inh) c.args.held.now stores.flags stores.own stores.inh
+          (subst
+          (λ z. Recasts (holding c.args.which list.flags (string_bytes list.own)
+          (string_bytes list.inh)) z old.now.trees new.now.trees) at put);
     }

@@ -16,8 +16,11 @@ returns-in-Some-number_of-clause-puts g c =
     let new = state g.S.Store c.insert_node-done.new.tx.conn.now in
     let columns = c.in-Some.columns in
     let stores : ReadsAsNode c.args.node.now columns = rw c.in-Some.is at c.in_ok-columns.ensures in
-    let fits : FitsSigned w64 c.last_insert_rowid.result = first_of (search (c.last_insert_rowid.type_inv, rules), search rules) in
-    let told : number_in (Int new.last_rowid) ≡ Some c.in-Some-number_of.id = ap (λ z. number_in (Int z)) (sym c.last_insert_rowid.ensures ∙ sym (to_z-of_z fits)) ∙ sym c.number_of.ensures ∙ c.in-Some-number_of.is in
+    let fits : FitsSigned w64 c.last_insert_rowid.result = first_of
+    (search (c.last_insert_rowid.type_inv, rules), search rules) in
+    let told : number_in (Int new.last_rowid) ≡ Some c.in-Some-number_of.id = ap
+    (λ z. number_in (Int z)) (sym c.last_insert_rowid.ensures ∙ sym (to_z-of_z fits))
+    ∙ sym c.number_of.ensures ∙ c.in-Some-number_of.is in
     let number = number_is (Int new.last_rowid) c.in-Some-number_of.id told in
     record {
       stays = c.insert_node-done.ensures.writes.stays;
@@ -29,7 +32,10 @@ returns-in-Some-number_of-clause-puts g c =
           record {
             columns = columns;
             stores = stores;
-            adds = subst (λ z. AddsRow z (values_of columns) old.now.trees new.now.trees) (sym leaves.1 ∙ same_int new.last_rowid (pos c.in-Some-number_of.id) number.0) leaves.0;
+            adds =
+                subst (λ z. AddsRow z (values_of columns) old.now.trees new.now.trees)
+                (sym leaves.1 ∙ same_int new.last_rowid (pos c.in-Some-number_of.id) number.0)
+                leaves.0;
             from_one = number.1;
           };
     }

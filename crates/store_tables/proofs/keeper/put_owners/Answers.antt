@@ -15,15 +15,23 @@ returns-clause-puts g c =
     let new = state g.S.Store c.update_owners-done.new.tx.conn.now in
     let owner = c.as_str.result.now in
     let group = c.as_str-2.result.now in
-    let owned : name_in (Text owner) ≡ Some c.args.owners.now.owner = subst (λ t. name_in (Text t) ≡ Some c.args.owners.now.owner) (sym c.as_str.ensures) c.name_is_kept.ensures in
-    let grouped : name_in (Text group) ≡ Some c.args.owners.now.group = subst (λ t. name_in (Text t) ≡ Some c.args.owners.now.group) (sym c.as_str-2.ensures) c.name_is_kept-2.ensures in
-    let at : to_z w64 (of_z w64 c.in-Some.at) ≡ pos c.args.id = ap (λ z. to_z w64 (of_z w64 z)) c.in-Some.ensures.1 ∙ to_z-of_z c.in-Some.ensures.0 in
+    let owned : name_in (Text owner) ≡ Some c.args.owners.now.owner = subst
+    (λ t. name_in (Text t) ≡ Some c.args.owners.now.owner)
+    (sym c.as_str.ensures) c.name_is_kept.ensures in
+    let grouped : name_in (Text group) ≡ Some c.args.owners.now.group = subst
+    (λ t. name_in (Text t) ≡ Some c.args.owners.now.group)
+    (sym c.as_str-2.ensures) c.name_is_kept-2.ensures in
+    let at : to_z w64 (of_z w64 c.in-Some.at) ≡ pos c.args.id = ap
+    (λ z. to_z w64 (of_z w64 z)) c.in-Some.ensures.1 ∙ to_z-of_z c.in-Some.ensures.0 in
     record {
       stays = c.update_owners-done.ensures.writes.stays;
       no_less = c.in_ok-wrote_one.ensures.no_less;
       unfailed = c.in_ok-wrote_one.ensures.unfailed;
       fault = tt;
       becomes = λ trust.
-          let put = of_one c.update_owners-done.result _ _ c.in_ok-wrote_one.ensures.answer (c.update_owners-done.ensures.writes.leaves trust.clean trust.now) in
-          owned_rows old.now new.now c.args.id trust.now (number_in-low c.args.id c.in-Some.ensures.2) owner group c.args.owners.now owned grouped (subst (λ z. Recasts (owning owner group) z old.now.trees new.now.trees) at put);
+          let put = of_one c.update_owners-done.result _ _ c.in_ok-wrote_one.ensures.answer
+          (c.update_owners-done.ensures.writes.leaves trust.clean trust.now) in
+          owned_rows old.now new.now c.args.id trust.now
+          (number_in-low c.args.id c.in-Some.ensures.2) owner group c.args.owners.now owned grouped
+          (subst (λ z. Recasts (owning owner group) z old.now.trees new.now.trees) at put);
     }

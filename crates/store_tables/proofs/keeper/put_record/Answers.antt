@@ -16,5 +16,7 @@ returns-clause-puts g c =
       no_less = omega arith;
       unfailed = refl;
       fault = tt;
-      becomes = λ trust. noted_rows old.now new.now row record' recalls (c.in-Ok.ensures.writes.leaves trust.clean trust.now);
+      becomes =
+          λ trust. noted_rows old.now new.now row record' recalls
+          (c.in-Ok.ensures.writes.leaves trust.clean trust.now);
     }

@@ -5,4 +5,5 @@ use Rattle.store_tables.proofs.seen.see_listing.Given as goal
 
 -- the names so far, followed by what the rest is read as, are what all rows are read as
 abbrev pub invariant-loop-row : goal.invariant-loop-row
-invariant-loop-row l = seen_behind named_in l.names.items (drop l.row-index l.rows) ≡ seen_behind named_in [] l.fn.rows
+invariant-loop-row l =
+    seen_behind named_in l.names.items (drop l.row-index l.rows) ≡ seen_behind named_in [] l.fn.rows

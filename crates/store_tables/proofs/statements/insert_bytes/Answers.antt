@@ -14,6 +14,11 @@ returns-clause-writes g c =
     let old = state g.S.Store c.args.tx.now.conn.now in
     let new = state g.S.Store c.execute.new.self.conn.now in
     let given = simp (to_z-of_z c.ranges.id) at c.params-to_sql.ensures in
-    writes put_text (Int c.args.id ∷ Blob c.args.bytes.now ∷ []) old new c.execute.result _ _ c.execute.ensures.survives.clean (λ inside. put_room c.args.id c.args.bytes.now old new inside)
+    writes put_text (Int c.args.id ∷ Blob c.args.bytes.now ∷ []) old new c.execute.result _ _
+    c.execute.ensures.survives.clean (λ inside. put_room c.args.id c.args.bytes.now old new inside)
     (λ count room h. (bodied c.args.id c.args.bytes.now old new count room.schema h).puts)
-    (λ off. ((c.execute.ensures.ended off).0, subst (λ h. Stays old (state g.S.Store h)) (sym (c.execute.ensures.ended off).1) (stays_itself old))) (rw (given, c.params-to_sql-2.ensures) at c.execute.ensures.runs)
+    (λ off. (
+      (c.execute.ensures.ended off).0,
+      subst (λ h. Stays old (state g.S.Store h)) (sym (c.execute.ensures.ended off).1)
+          (stays_itself old),
+    )) (rw (given, c.params-to_sql-2.ensures) at c.execute.ensures.runs)

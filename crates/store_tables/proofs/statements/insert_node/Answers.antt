@@ -13,7 +13,25 @@ returns-clause-writes g c =
     let old = state g.S.Store c.args.tx.now.conn.now in
     let new = state g.S.Store c.execute.new.self.conn.now in
     let cols = columns_in c.args.columns.now c.requires in
-    let runs = rw (bound_parent c.args.columns.now.parent c.requires) at (simp (c.params-to_sql.ensures, c.params-to_sql-2.ensures, c.params-to_sql-3.ensures, c.params-to_sql-4.ensures, c.params-to_sql-5.ensures, c.params-to_sql-6.ensures, c.params-to_sql-7.ensures, c.params-to_sql-8.ensures, c.params-to_sql-9.ensures, c.params-to_sql-10.ensures, c.params-to_sql-11.ensures) at c.execute.ensures.runs) in
-    writes insert_text (values cols) old new c.execute.result _ _ c.execute.ensures.survives.clean (λ inside. insert_room cols old new inside)
+    let runs = rw (bound_parent c.args.columns.now.parent c.requires) at
+    (simp (
+      c.params-to_sql.ensures,
+      c.params-to_sql-2.ensures,
+      c.params-to_sql-3.ensures,
+      c.params-to_sql-4.ensures,
+      c.params-to_sql-5.ensures,
+      c.params-to_sql-6.ensures,
+      c.params-to_sql-7.ensures,
+      c.params-to_sql-8.ensures,
+      c.params-to_sql-9.ensures,
+      c.params-to_sql-10.ensures,
+      c.params-to_sql-11.ensures,
+    ) at c.execute.ensures.runs) in
+    writes insert_text (values cols) old new c.execute.result _ _ c.execute.ensures.survives.clean
+    (λ inside. insert_room cols old new inside)
     (λ count room h. let d = inserted cols old new count room.schema h in (d.adds, d.last))
-    (λ off. ((c.execute.ensures.ended off).0, subst (λ h. Stays old (state g.S.Store h)) (sym (c.execute.ensures.ended off).1) (stays_itself old))) runs
+    (λ off. (
+      (c.execute.ensures.ended off).0,
+      subst (λ h. Stays old (state g.S.Store h)) (sym (c.execute.ensures.ended off).1)
+          (stays_itself old),
+    )) runs

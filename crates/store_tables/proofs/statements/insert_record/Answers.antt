@@ -13,7 +13,20 @@ returns-clause-writes g c =
     let old = state g.S.Store c.args.tx.now.conn.now in
     let new = state g.S.Store c.execute.new.self.conn.now in
     let record' = c.args.noted.now in
-    let runs = simp (c.params-to_sql.ensures, c.params-to_sql-2.ensures, c.params-to_sql-3.ensures, c.params-to_sql-4.ensures, c.params-to_sql-5.ensures, c.params-to_sql-6.ensures) at c.execute.ensures.runs in
-    writes note_text (record_values record') old new c.execute.result _ _ c.execute.ensures.survives.clean (λ inside. note_room record' old new inside)
+    let runs = simp (
+      c.params-to_sql.ensures,
+      c.params-to_sql-2.ensures,
+      c.params-to_sql-3.ensures,
+      c.params-to_sql-4.ensures,
+      c.params-to_sql-5.ensures,
+      c.params-to_sql-6.ensures,
+    ) at
+    c.execute.ensures.runs in
+    writes note_text (record_values record') old new c.execute.result _ _
+    c.execute.ensures.survives.clean (λ inside. note_room record' old new inside)
     (λ count room h. notes record' old new count room h)
-    (λ off. ((c.execute.ensures.ended off).0, subst (λ h. Stays old (state g.S.Store h)) (sym (c.execute.ensures.ended off).1) (stays_itself old))) runs
+    (λ off. (
+      (c.execute.ensures.ended off).0,
+      subst (λ h. Stays old (state g.S.Store h)) (sym (c.execute.ensures.ended off).1)
+          (stays_itself old),
+    )) runs

@@ -11,5 +11,7 @@ returns-clause-asks g c =
     let old = state g.S.Store c.args.tx.now.conn.now in
     let new = state g.S.Store c.query_all.new.self.conn.now in
     let given = c.params-to_sql.ensures in
-    asks groups_text (Text c.args.user.now ∷ []) old new c.query_all.result _ plain_texts.6 c.query_all.ensures.survives.clean
-    (λ rows room. shows_groups old new rows room c.args.user.now) (rw given at c.query_all.ensures.ok) (rw given at c.query_all.ensures.err)
+    asks groups_text (Text c.args.user.now ∷ []) old new c.query_all.result _ plain_texts.6
+    c.query_all.ensures.survives.clean
+    (λ rows room. shows_groups old new rows room c.args.user.now)
+    (rw given at c.query_all.ensures.ok) (rw given at c.query_all.ensures.err)

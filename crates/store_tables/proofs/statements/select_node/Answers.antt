@@ -12,5 +12,7 @@ returns-clause-asks g c =
     let old = state g.S.Store c.args.tx.now.conn.now in
     let new = state g.S.Store c.query_all.new.self.conn.now in
     let given = simp (to_z-of_z c.ranges.id) at c.params-to_sql.ensures in
-    asks node_text (Int c.args.id ∷ []) old new c.query_all.result _ plain_texts.0 c.query_all.ensures.survives.clean
-    (λ rows room. shows_node old new rows room c.args.id) (rw given at c.query_all.ensures.ok) (rw given at c.query_all.ensures.err)
+    asks node_text (Int c.args.id ∷ []) old new c.query_all.result _ plain_texts.0
+    c.query_all.ensures.survives.clean
+    (λ rows room. shows_node old new rows room c.args.id) (rw given at c.query_all.ensures.ok)
+    (rw given at c.query_all.ensures.err)

@@ -15,10 +15,24 @@ pub returns-clause-writes : goal.returns-clause-writes
 returns-clause-writes g c =
     let old = state g.S.Store c.args.tx.now.conn.now in
     let new = state g.S.Store c.execute.new.self.conn.now in
-    let cell = Int c.args.list.now.flags ∷ Text (string_bytes c.args.list.now.own) ∷ Text (string_bytes c.args.list.now.inh) ∷ [] in
-    let change = holding Dacl c.args.list.now.flags (string_bytes c.args.list.now.own) (string_bytes c.args.list.now.inh) in
+    let cell = Int c.args.list.now.flags ∷ Text (string_bytes c.args.list.now.own)
+    ∷ Text (string_bytes c.args.list.now.inh) ∷ [] in
+    let change = holding Dacl c.args.list.now.flags (string_bytes c.args.list.now.own)
+    (string_bytes c.args.list.now.inh) in
     let given = simp (to_z-of_z c.ranges.id) at c.params-to_sql.ensures in
-    let runs = simp (given, c.params-to_sql-2.ensures, c.params-to_sql-3.ensures, c.params-to_sql-4.ensures) at c.execute.ensures.runs in
-    writes dacl_text (Int c.args.id ∷ cell) old new c.execute.result _ _ c.execute.ensures.survives.clean (recast_room dacl_text dacl_terms dacl_is plain_dacl c.args.id cell change (λ r. refl) old new)
-    (λ count room h. recast_one dacl_text dacl_terms dacl_is plain_dacl c.args.id cell change (λ r. refl) old new count room h)
-    (λ off. ((c.execute.ensures.ended off).0, subst (λ h. Stays old (state g.S.Store h)) (sym (c.execute.ensures.ended off).1) (stays_itself old))) runs
+    let runs = simp (
+      given,
+      c.params-to_sql-2.ensures,
+      c.params-to_sql-3.ensures,
+      c.params-to_sql-4.ensures,
+    ) at c.execute.ensures.runs in
+    writes dacl_text (Int c.args.id ∷ cell) old new c.execute.result _ _
+    c.execute.ensures.survives.clean
+    (recast_room dacl_text dacl_terms dacl_is plain_dacl c.args.id cell change (λ r. refl) old new)
+    (λ count room h. recast_one dacl_text dacl_terms dacl_is plain_dacl c.args.id cell change
+    (λ r. refl) old new count room h)
+    (λ off. (
+      (c.execute.ensures.ended off).0,
+      subst (λ h. Stays old (state g.S.Store h)) (sym (c.execute.ensures.ended off).1)
+          (stays_itself old),
+    )) runs

@@ -16,7 +16,17 @@ returns-clause-writes g c =
     let cell = Text c.args.owner.now ∷ Text c.args.group.now ∷ [] in
     let change = owning c.args.owner.now c.args.group.now in
     let given = simp (to_z-of_z c.ranges.id) at c.params-to_sql.ensures in
-    let runs = rw (given, c.params-to_sql-2.ensures, c.params-to_sql-3.ensures) at c.execute.ensures.runs in
-    writes owners_text (Int c.args.id ∷ cell) old new c.execute.result _ _ c.execute.ensures.survives.clean (recast_room owners_text owners_terms owners_is plain_owners c.args.id cell change (λ r. refl) old new)
-    (λ count room h. recast_one owners_text owners_terms owners_is plain_owners c.args.id cell change (λ r. refl) old new count room h)
-    (λ off. ((c.execute.ensures.ended off).0, subst (λ h. Stays old (state g.S.Store h)) (sym (c.execute.ensures.ended off).1) (stays_itself old))) runs
+    let runs =
+    rw (given, c.params-to_sql-2.ensures, c.params-to_sql-3.ensures) at c.execute.ensures.runs
+    in
+    writes owners_text (Int c.args.id ∷ cell) old new c.execute.result _ _
+    c.execute.ensures.survives.clean
+    (recast_room owners_text owners_terms owners_is plain_owners c.args.id cell change
+    (λ r. refl) old new)
+    (λ count room h. recast_one owners_text owners_terms owners_is plain_owners c.args.id cell
+    change (λ r. refl) old new count room h)
+    (λ off. (
+      (c.execute.ensures.ended off).0,
+      subst (λ h. Stays old (state g.S.Store h)) (sym (c.execute.ensures.ended off).1)
+          (stays_itself old),
+    )) runs

@@ -18,6 +18,14 @@ returns-clause-writes g c =
     let given = simp (to_z-of_z c.ranges.id) at c.params-to_sql.ensures in
     let under = simp (to_z-of_z c.ranges.parent) at c.params-to_sql-2.ensures in
     let runs = rw (given, under, c.params-to_sql-3.ensures) at c.execute.ensures.runs in
-    writes place_text (Int c.args.id ∷ cell) old new c.execute.result _ _ c.execute.ensures.survives.clean (recast_room place_text place_terms place_is plain_place c.args.id cell change (λ r. refl) old new)
-    (λ count room h. recast_one place_text place_terms place_is plain_place c.args.id cell change (λ r. refl) old new count room h)
-    (λ off. ((c.execute.ensures.ended off).0, subst (λ h. Stays old (state g.S.Store h)) (sym (c.execute.ensures.ended off).1) (stays_itself old))) runs
+    writes place_text (Int c.args.id ∷ cell) old new c.execute.result _ _
+    c.execute.ensures.survives.clean
+    (recast_room place_text place_terms place_is plain_place c.args.id cell change
+    (λ r. refl) old new)
+    (λ count room h. recast_one place_text place_terms place_is plain_place c.args.id cell change
+    (λ r. refl) old new count room h)
+    (λ off. (
+      (c.execute.ensures.ended off).0,
+      subst (λ h. Stays old (state g.S.Store h)) (sym (c.execute.ensures.ended off).1)
+          (stays_itself old),
+    )) runs

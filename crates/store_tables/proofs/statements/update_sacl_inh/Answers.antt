@@ -17,6 +17,14 @@ returns-clause-writes g c =
     let cell = Text c.args.text.now ∷ [] in
     let change = inheriting Sacl c.args.text.now in
     let given = simp (to_z-of_z c.ranges.id) at c.params-to_sql.ensures in
-    writes sacl_inh_text (Int c.args.id ∷ cell) old new c.execute.result _ _ c.execute.ensures.survives.clean (recast_room sacl_inh_text sacl_inh_terms sacl_inh_is plain_sacl_inh c.args.id cell change (λ r. refl) old new)
-    (λ count room h. recast_one sacl_inh_text sacl_inh_terms sacl_inh_is plain_sacl_inh c.args.id cell change (λ r. refl) old new count room h)
-    (λ off. ((c.execute.ensures.ended off).0, subst (λ h. Stays old (state g.S.Store h)) (sym (c.execute.ensures.ended off).1) (stays_itself old))) (rw (given, c.params-to_sql-2.ensures) at c.execute.ensures.runs)
+    writes sacl_inh_text
+    (Int c.args.id ∷ cell) old new c.execute.result _ _ c.execute.ensures.survives.clean
+    (recast_room sacl_inh_text sacl_inh_terms sacl_inh_is plain_sacl_inh c.args.id cell change
+    (λ r. refl) old new)
+    (λ count room h. recast_one sacl_inh_text sacl_inh_terms sacl_inh_is plain_sacl_inh c.args.id
+    cell change (λ r. refl) old new count room h)
+    (λ off. (
+      (c.execute.ensures.ended off).0,
+      subst (λ h. Stays old (state g.S.Store h)) (sym (c.execute.ensures.ended off).1)
+          (stays_itself old),
+    )) (rw (given, c.params-to_sql-2.ensures) at c.execute.ensures.runs)

@@ -4,8 +4,10 @@ use Rattle.http_message.proofs.Adding.{takes-every}
 use Rattle.http_message.proofs.routes.Routes.new.Goals as goal
 
 pub add_words-requires : goal.add_words-requires
-add_words-requires c = subst (λ (table : Table). TakesWords table every_word) (sym c.new-router.ensures) takes-every
+add_words-requires c =
+    subst (λ (table : Table). TakesWords table every_word) (sym c.new-router.ensures) takes-every
 
 pub invariant_of-result : goal.invariant_of-result
 unfolding routes
-invariant_of-result c = c.in_ok-add_words.ensures ∙ ap (λ table. with_words table every_word) c.new-router.ensures
+invariant_of-result c =
+    c.in_ok-add_words.ensures ∙ ap (λ table. with_words table every_word) c.new-router.ensures

@@ -8,10 +8,12 @@ pub returns-then-number : goal.returns-then-number
 returns-then-number c =
     let n = c.args.number in
     sym (ap (λ m. if m == n then Some (bits_of n) else None) (number_of-known n)
-    ∙ ap (λ b. if b then Some (bits_of n) else None) (eq-eqb (bit_and n 0x1F07FF) n c.if-number.true))
+    ∙ ap (λ b. if b then Some (bits_of n) else None)
+    (eq-eqb (bit_and n 0x1F07FF) n c.if-number.true))
 
 pub returns-else-number : goal.returns-else-number
 returns-else-number c =
     let n = c.args.number in
     sym (ap (λ m. if m == n then Some (bits_of n) else None) (number_of-known n)
-    ∙ ap (λ b. if b then Some (bits_of n) else None) (ne_eqb (bit_and n 0x1F07FF) n c.if-number.false))
+    ∙ ap (λ b. if b then Some (bits_of n) else None)
+    (ne_eqb (bit_and n 0x1F07FF) n c.if-number.false))

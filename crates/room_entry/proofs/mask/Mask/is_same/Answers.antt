@@ -10,4 +10,6 @@ returns c =
     let b = c.other.inside.bits in
     by_texts (λ t. t) (λ s t e. e) c.args.self c.args.other (nat_eq a b)
     (λ h. sym c.self.view_is ∙ ap bits_of (eqb-true a b h) ∙ c.other.view_is)
-    (λ h. eq-eqb a b (sym (number_of-bits_of a c.self.invariant) ∙ ap number_of (c.self.view_is ∙ h ∙ sym c.other.view_is) ∙ number_of-bits_of b c.other.invariant))
+    (λ h. eq-eqb a b (sym (number_of-bits_of a c.self.invariant)
+    ∙ ap number_of (c.self.view_is ∙ h ∙ sym c.other.view_is)
+    ∙ number_of-bits_of b c.other.invariant))

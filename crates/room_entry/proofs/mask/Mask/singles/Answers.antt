@@ -9,5 +9,7 @@ singles_of-requires c = table_single
 
 pub returns : goal.returns
 returns c =
-    subst (λ (bits : List ℕ). IfOk c.singles_of.result (λ masks. masks.items ≡ map (λ bit. bit ∷ []) bits))
-    (ap (λ (all : List ℕ). filter (is_set c.self.inside.bits) all) table_bits ∙ c.self.view_is) c.singles_of.ensures
+    subst (λ (bits : List ℕ). IfOk c.singles_of.result
+    (λ masks. masks.items ≡ map (λ bit. bit ∷ []) bits))
+    (ap (λ (all : List ℕ). filter (is_set c.self.inside.bits) all) table_bits ∙ c.self.view_is)
+    c.singles_of.ensures

@@ -14,24 +14,50 @@ pub returns-then-not-is_object_name : goal.returns-then-not-is_object_name
 returns-then-not-is_object_name c =
     let nodes = c.as_slice-node-items.result.now in
     let node = c.node-item.result in
-    let tested = name_test nodes c.nodes.node-index node c.in-Some.parent c.as_str-name.result c.nodes-test.true c.node-item.is c.in-Some.is c.as_str-name.ensures c.as_slice-node-items.ensures.rising in
+    let tested =
+    name_test nodes c.nodes.node-index node c.in-Some.parent c.as_str-name.result
+    c.nodes-test.true c.node-item.is c.in-Some.is c.as_str-name.ensures
+    c.as_slice-node-items.ensures.rising in
     let fails : has_sound_name (only nodes) node ≡ false =
     elim c.then-not-is_object_name.branch [
-      | then-not-is_object_name-via-then-not-is_object_name w ↦ tested ∙ and_left _ _ (ap is_object_name (sym c.as_str-name.ensures) ∙ sym c.is_object_name.ensures ∙ w.if-not-is_object_name.true)
-      | then-not-is_object_name-via-else-not-is_object_name+in_ok-insert+then-not-branch w ↦ tested ∙ and_right _ _ (ap not (sym (c.nodes.invariant.given (c.in-Some.parent, c.as_str-name.result))) ∙ sym w.in_ok-insert.ensures.added ∙ w.if-not-branch.true)
+      | then-not-is_object_name-via-then-not-is_object_name w ↦ tested
+          ∙ and_left _ _ (ap is_object_name (sym c.as_str-name.ensures)
+          ∙ sym c.is_object_name.ensures ∙ w.if-not-is_object_name.true)
+      | then-not-is_object_name-via-else-not-is_object_name+in_ok-insert+then-not-branch w ↦ tested
+          ∙ and_right _ _
+          (ap not (sym (c.nodes.invariant.given (c.in-Some.parent, c.as_str-name.result)))
+          ∙ sym w.in_ok-insert.ensures.added ∙ w.if-not-branch.true)
     ] in
-    sym (fails_here (has_sound_name (only c.args.self.now)) nodes c.nodes.node-index node c.nodes-test.true c.node-item.is (ap (λ ns. has_sound_name (only ns) node) (sym c.as_slice-node-items.ensures.value) ∙ fails)) ∙ c.nodes.invariant.same
+    sym (fails_here (has_sound_name (only c.args.self.now)) nodes c.nodes.node-index node
+    c.nodes-test.true c.node-item.is
+    (ap (λ ns. has_sound_name (only ns) node) (sym c.as_slice-node-items.ensures.value) ∙ fails))
+    ∙ c.nodes.invariant.same
 
 pub nodes-preserved : goal.nodes-preserved
 nodes-preserved c =
     let nodes = c.as_slice-node-items.result.now in
     let node = c.node-item.result in
-    let tested = name_test nodes c.nodes.node-index node c.in-Some.parent c.as_str-name.result c.nodes-test.true c.node-item.is c.in-Some.is c.as_str-name.ensures c.as_slice-node-items.ensures.rising in
-    let fits : is_object_name node.name ≡ true = ap is_object_name (sym c.as_str-name.ensures) ∙ sym c.is_object_name.ensures ∙ c.if-not-is_object_name.false in
-    let free : not (list_any (holds (c.in-Some.parent, c.as_str-name.result)) (take c.nodes.node-index nodes)) ≡ true = ap not (sym (c.nodes.invariant.given (c.in-Some.parent, c.as_str-name.result))) ∙ sym c.in_ok-insert.ensures.added ∙ c.if-not-branch.false in
+    let tested =
+    name_test nodes c.nodes.node-index node c.in-Some.parent c.as_str-name.result
+    c.nodes-test.true c.node-item.is c.in-Some.is c.as_str-name.ensures
+    c.as_slice-node-items.ensures.rising in
+    let fits : is_object_name node.name ≡ true = ap is_object_name (sym c.as_str-name.ensures)
+    ∙ sym c.is_object_name.ensures ∙ c.if-not-is_object_name.false in
+    let free : not (list_any (holds (c.in-Some.parent, c.as_str-name.result))
+    (take c.nodes.node-index nodes)) ≡ true =
+    ap not (sym (c.nodes.invariant.given (c.in-Some.parent, c.as_str-name.result)))
+    ∙ sym c.in_ok-insert.ensures.added ∙ c.if-not-branch.false in
     let passes : has_sound_name (only nodes) node ≡ true = tested ∙ and_from _ _ fits free in
     record {
-      same = passes_here (has_sound_name (only c.args.self.now)) nodes c.nodes.node-index node c.nodes-test.true c.node-item.is (ap (λ ns. has_sound_name (only ns) node) (sym c.as_slice-node-items.ensures.value) ∙ passes) ∙ c.nodes.invariant.same;
-      given = one_more nodes c.nodes.node-index node c.in-Some.parent c.as_str-name.result c.nodes-test.true c.node-item.is c.in-Some.is c.as_str-name.ensures
-          (contains key_order c.nodes.given) (contains key_order c.insert.new.self) c.nodes.invariant.given (c.in_ok-insert.ensures.updates.0);
+      same =
+          passes_here (has_sound_name (only c.args.self.now)) nodes c.nodes.node-index node
+          c.nodes-test.true c.node-item.is
+          (ap (λ ns. has_sound_name (only ns) node) (sym c.as_slice-node-items.ensures.value)
+          ∙ passes) ∙ c.nodes.invariant.same;
+      given =
+          one_more nodes c.nodes.node-index node c.in-Some.parent c.as_str-name.result
+          c.nodes-test.true c.node-item.is c.in-Some.is c.as_str-name.ensures
+          (contains key_order c.nodes.given)
+          (contains key_order c.insert.new.self) c.nodes.invariant.given
+          (c.in_ok-insert.ensures.updates.0);
     }

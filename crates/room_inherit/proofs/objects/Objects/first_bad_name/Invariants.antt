@@ -11,6 +11,8 @@ use Rattle.room_inherit.proofs.objects.Objects.first_bad_name.Given as goal
 -- what is left has the same answer, and the set has the parents and names so far
 abbrev pub invariant-nodes : goal.invariant-nodes
 invariant-nodes l = record {
-  same : find (λ (n : Node). not (has_sound_name (only l.self) n)) (drop l.node-index l.node-items) ≡ find (λ (n : Node). not (has_sound_name (only l.self) n)) l.self;
-  given : (key : ℕ × Bor (List ℕ)) → contains key_order l.given key ≡ list_any (holds key) (take l.node-index l.node-items);
+  same : find (λ (n : Node). not (has_sound_name (only l.self) n)) (drop l.node-index l.node-items)
+      ≡ find (λ (n : Node). not (has_sound_name (only l.self) n)) l.self;
+  given : (key : ℕ × Bor (List ℕ))
+      → contains key_order l.given key ≡ list_any (holds key) (take l.node-index l.node-items);
 }

@@ -11,6 +11,7 @@ use Rattle.room_inherit.proofs.objects.Objects.first_loop.Given as goal
 abbrev pub invariant-nodes : goal.invariant-nodes
 invariant-nodes l =
     record {
-      same : find (λ (n : Node). not (reaches (only l.self) n)) (drop l.node-index l.node-items) ≡ find (λ (n : Node). not (reaches (only l.self) n)) l.self;
+      same : find (λ (n : Node). not (reaches (only l.self) n)) (drop l.node-index l.node-items)
+          ≡ find (λ (n : Node). not (reaches (only l.self) n)) l.self;
       known : AllLead l.self (contains nat_cmp l.known);
     }

@@ -7,4 +7,6 @@ use Rattle.room_inherit.proofs.objects.Objects.first_not_kept.Given as goal
 
 -- what is left has the same answer
 abbrev pub invariant-nodes : goal.invariant-nodes
-invariant-nodes l = find (λ (n : Node). not (stores_kept_alone (only l.self) n)) (drop l.node-index l.node-items) ≡ find (λ (n : Node). not (stores_kept_alone (only l.self) n)) l.self
+invariant-nodes l =
+    find (λ (n : Node). not (stores_kept_alone (only l.self) n)) (drop l.node-index l.node-items)
+    ≡ find (λ (n : Node). not (stores_kept_alone (only l.self) n)) l.self

@@ -10,7 +10,12 @@ pub steps-preserved : goal.steps-preserved
 steps-preserved c = λ lead is.
     let nodes = c.args.self.now in
     let sofar = c.steps.invariant lead is in
-    let below : c.steps.step < length nodes = let test = c.steps-test.true in let all = ap length c.as_slice-step-end.ensures.value in omega (arith, test, all) in (
-      leads_too nodes c.in-Some.id (contains nat_cmp c.steps.known) (contains nat_cmp c.insert.new.self) sofar.0 (sym (ap (reaches_root (length nodes) (only nodes)) c.in-Some.is) ∙ sofar.1) c.in_ok-insert.ensures.updates.0,
-      way_above (only nodes) c.steps.above c.in-Some.id c.in-Some-at.parent.now c.in-Some.is (sym c.in-Some-at.ensures) (length nodes) c.steps.step below refl sofar.1,
+    let below : c.steps.step < length nodes = let test = c.steps-test.true in
+    let all = ap length c.as_slice-step-end.ensures.value in omega (arith, test, all) in (
+      leads_too nodes c.in-Some.id (contains nat_cmp c.steps.known)
+          (contains nat_cmp c.insert.new.self) sofar.0
+          (sym (ap (reaches_root (length nodes) (only nodes)) c.in-Some.is) ∙ sofar.1)
+          c.in_ok-insert.ensures.updates.0,
+      way_above (only nodes) c.steps.above c.in-Some.id c.in-Some-at.parent.now c.in-Some.is
+          (sym c.in-Some-at.ensures) (length nodes) c.steps.step below refl sofar.1,
     )

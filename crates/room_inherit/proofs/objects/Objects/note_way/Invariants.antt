@@ -10,4 +10,6 @@ use Rattle.room_inherit.proofs.objects.Objects.note_way.Given as goal
 -- what is known leads to the root, and so does what is above
 abbrev pub invariant-steps : goal.invariant-steps
 invariant-steps l =
-    AllLead l.self (contains nat_cmp l.fn.known) → IsTrue (reaches (only l.self) l.node) → AllLead l.self (contains nat_cmp l.known) × (reaches_root (length l.self) (only l.self) l.above ≡ true)
+    AllLead l.self (contains nat_cmp l.fn.known) → IsTrue (reaches (only l.self) l.node)
+    → AllLead l.self (contains nat_cmp l.known)
+    × (reaches_root (length l.self) (only l.self) l.above ≡ true)

@@ -8,6 +8,8 @@ use Rattle.room_inherit.proofs.objects.Objects.reaches_root.Given as goal
 abbrev pub invariant-steps : goal.invariant-steps
 invariant-steps l =
     record {
-      same : reaches_root (length l.self - l.step) (only l.self) l.above ≡ reaches (only l.self) l.node;
-      further : (m : ℕ) → reaches_root m (only l.self) l.above ≡ true → reaches_root (m + l.step) (only l.self) l.node.parent ≡ true;
+      same : reaches_root (length l.self - l.step) (only l.self) l.above
+          ≡ reaches (only l.self) l.node;
+      further : (m : ℕ) → reaches_root m (only l.self) l.above ≡ true
+          → reaches_root (m + l.step) (only l.self) l.node.parent ≡ true;
     }

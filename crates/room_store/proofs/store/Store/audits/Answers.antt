@@ -5,4 +5,6 @@ use Rattle.room_store.proofs.store.Store.audits.Goals as goal
 
 pub returns-clause-leads : goal.returns-clause-leads
 returns-clause-leads g c =
-    nothing (state g.S.Store c.args.self.now.conn) (state g.S.Store c.audits_on.new.conn) HasUnreadRecord (λ db records. AreRecords db records.items) c.audits_on.result c.audits_on.ensures.looked
+    nothing (state g.S.Store c.args.self.now.conn)
+    (state g.S.Store c.audits_on.new.conn) HasUnreadRecord
+    (λ db records. AreRecords db records.items) c.audits_on.result c.audits_on.ensures.looked

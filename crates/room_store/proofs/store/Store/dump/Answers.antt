@@ -5,4 +5,6 @@ use Rattle.room_store.proofs.store.Store.dump.Goals as goal
 
 pub returns-clause-leads : goal.returns-clause-leads
 returns-clause-leads g c =
-    nothing (state g.S.Store c.args.self.now.conn) (state g.S.Store c.dump_on.new.conn) HasDamagedRow IsDump c.dump_on.result c.dump_on.ensures.looked
+    nothing (state g.S.Store c.args.self.now.conn)
+    (state g.S.Store c.dump_on.new.conn) HasDamagedRow IsDump c.dump_on.result
+    c.dump_on.ensures.looked

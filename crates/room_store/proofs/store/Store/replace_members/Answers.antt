@@ -8,4 +8,6 @@ use Rattle.room_store.proofs.store.Store.replace_members.Goals as goal
 pub returns-clause-leads : goal.returns-clause-leads
 returns-clause-leads g c =
     let pairs = c.args.pairs.now in
-    leading (state g.S.Store c.args.self.now.conn) (state g.S.Store c.replace_on.new.conn) (λ _. ⊥) (ReplacesMembers pairs) (λ _. Replaced pairs) (was_replaced c.sound_is_no_fault.ensures pairs) c.replace_on.result c.replace_on.ensures.ran
+    leading (state g.S.Store c.args.self.now.conn) (state g.S.Store c.replace_on.new.conn) (λ _. ⊥)
+    (ReplacesMembers pairs) (λ _. Replaced pairs)
+    (was_replaced c.sound_is_no_fault.ensures pairs) c.replace_on.result c.replace_on.ensures.ran

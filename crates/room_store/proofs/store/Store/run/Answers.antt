@@ -14,5 +14,7 @@ returns-clause-leads g c =
     let new = state g.S.Store c.run_on.new.conn in
     let user = option_copied c.args.caller in
     let asked = c.args.request.now in
-    let ran = subst (λ at. Ran old new c.run_on.result HasDamage (Performs user at asked)) (to_z-of_z w64 c.args.at c.ranges.at) c.run_on.ensures.ran in
-    leading old new HasDamage (Performs user c.args.at asked) (Asked user c.args.at asked) (performed user c.args.at asked) c.run_on.result ran
+    let ran = subst (λ at. Ran old new c.run_on.result HasDamage (Performs user at asked))
+    (to_z-of_z w64 c.args.at c.ranges.at) c.run_on.ensures.ran in
+    leading old new HasDamage (Performs user c.args.at asked) (Asked user c.args.at asked)
+    (performed user c.args.at asked) c.run_on.result ran

@@ -7,4 +7,5 @@ use Rattle.room_store.proofs.store.Store.verify.Goals as goal
 
 pub returns-clause-leads : goal.returns-clause-leads
 returns-clause-leads g c =
-    nothing (state g.S.Store c.args.self.now.conn) (state g.S.Store c.verify_on.new.conn) NoTables (λ db report. IsReport (rows_of db) report) c.verify_on.result c.verify_on.ensures.looked
+    nothing (state g.S.Store c.args.self.now.conn) (state g.S.Store c.verify_on.new.conn) NoTables
+    (λ db report. IsReport (rows_of db) report) c.verify_on.result c.verify_on.ensures.looked

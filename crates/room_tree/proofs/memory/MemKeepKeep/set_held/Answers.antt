@@ -5,20 +5,30 @@ use Rattle.room_tree.proofs.Changed.{stands_held, held_id, keeps_rows, changes}
 use Rattle.room_tree.proofs.memory.MemKeepKeep.set_held.Goals as goal
 
 pub replace-requires : goal.replace-requires
-replace-requires c = stands_held c.args.which c.args.held.now c.args.self.now.nodes c.args.id c.in-Some.node c.in_ok-held_changed.field-0 (sym c.in_ok-node.ensures ∙ c.in-Some.is) c.in_ok-held_changed.ensures
+replace-requires c =
+    stands_held c.args.which c.args.held.now c.args.self.now.nodes c.args.id c.in-Some.node
+    c.in_ok-held_changed.field-0
+    (sym c.in_ok-node.ensures ∙ c.in-Some.is) c.in_ok-held_changed.ensures
 
 pub returns-clause-written : goal.returns-clause-written
 returns-clause-written c =
     let k = c.args.self.now in
-    let found : find_id c.args.id k.nodes ≡ Some c.in-Some.node = sym c.in_ok-node.ensures ∙ c.in-Some.is in
+    let found : find_id c.args.id k.nodes ≡ Some c.in-Some.node = sym c.in_ok-node.ensures
+    ∙ c.in-Some.is in
     let is = c.in_ok-held_changed.ensures in
     record {
       follows = (
         omega arith,
-        keeps_rows k.nodes c.replace.new.self k.bodies k.members k.notes c.args.id c.in-Some.node c.in_ok-held_changed.field-0 found (ap (λ n. n.id) is ∙ held_id c.args.which c.args.held.now c.in-Some.node) c.replace.ensures,
+        keeps_rows k.nodes c.replace.new.self k.bodies k.members k.notes c.args.id c.in-Some.node
+            c.in_ok-held_changed.field-0 found
+            (ap (λ n. n.id) is ∙ held_id c.args.which c.args.held.now c.in-Some.node)
+            c.replace.ensures,
       );
       written = c.count_one.ensures.capped;
-      becomes = λ t. changes k.nodes c.replace.new.self k.bodies k.members k.notes c.args.id (with_held c.args.which c.args.held.now) c.in-Some.node c.in_ok-held_changed.field-0 found is c.replace.ensures;
+      becomes =
+          λ t. changes k.nodes c.replace.new.self k.bodies k.members k.notes c.args.id
+          (with_held c.args.which c.args.held.now) c.in-Some.node c.in_ok-held_changed.field-0 found
+          is c.replace.ensures;
       unfailed = refl;
       fault = tt;
     }

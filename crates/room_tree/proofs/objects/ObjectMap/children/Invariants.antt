@@ -5,4 +5,6 @@ use Rattle.room_tree.proofs.objects.ObjectMap.children.Given as goal
 
 -- the children so far, and those that are listed among the places that are left
 abbrev pub invariant-loop-place : goal.invariant-loop-place
-invariant-loop-place l = l.found ++ standing_under l.parent l.fn.self l.place-iterator ≡ sorted_by_name (filter (has_parent l.parent) l.fn.self)
+invariant-loop-place l =
+    l.found ++ standing_under l.parent l.fn.self l.place-iterator
+    ≡ sorted_by_name (filter (has_parent l.parent) l.fn.self)

@@ -5,4 +5,6 @@ use Rattle.room_tree.proofs.objects.ObjectMap.has_children.Given as goal
 
 -- all children are listed among the places that are left
 abbrev pub invariant-loop-place : goal.invariant-loop-place
-invariant-loop-place l = standing_under l.parent l.fn.self l.place-iterator ≡ sorted_by_name (filter (has_parent l.parent) l.fn.self)
+invariant-loop-place l =
+    standing_under l.parent l.fn.self l.place-iterator
+    ≡ sorted_by_name (filter (has_parent l.parent) l.fn.self)

@@ -9,9 +9,15 @@ pub returns-in-Some : goal.returns-in-Some
 returns-in-Some c =
     c.is_document.ensures
     ∙ ap (λ o. option_map_or (λ (node : Node). is_document node.kind) o false)
-    (sym (ap option_copied c.in-Some.is) ∙ found_at c.args.id c.self.inside.by_number.entries c.self.inside.places.ids.entries c.args.self.now (option_copied c.get.result) c.self.invariant c.self.view_is c.get.ensures.value)
+    (sym (ap option_copied c.in-Some.is)
+    ∙ found_at c.args.id c.self.inside.by_number.entries c.self.inside.places.ids.entries
+    c.args.self.now (option_copied c.get.result) c.self.invariant c.self.view_is
+    c.get.ensures.value)
 
 pub returns-in-None : goal.returns-in-None
 returns-in-None c =
     ap (λ o. option_map_or (λ (node : Node). is_document node.kind) o false)
-    (sym (ap option_copied c.in-None.is) ∙ found_at c.args.id c.self.inside.by_number.entries c.self.inside.places.ids.entries c.args.self.now (option_copied c.get.result) c.self.invariant c.self.view_is c.get.ensures.value)
+    (sym (ap option_copied c.in-None.is)
+    ∙ found_at c.args.id c.self.inside.by_number.entries c.self.inside.places.ids.entries
+    c.args.self.now (option_copied c.get.result) c.self.invariant c.self.view_is
+    c.get.ensures.value)

@@ -11,13 +11,20 @@ use Rattle.store_tables.proofs.keeper.KeeperKeep.has_children.Goals as goal
 pub returns-in-Ok : goal.returns-in-Ok
 returns-in-Ok g c =
     let old = state g.S.Store c.args.self.now.tx.now.conn.now in
-    let at : to_z w64 (of_z w64 c.in-Some.at) ≡ pos c.args.parent = ap (λ z. to_z w64 (of_z w64 z)) c.in-Some.ensures.1 ∙ to_z-of_z c.in-Some.ensures.0 in
+    let at : to_z w64 (of_z w64 c.in-Some.at) ≡ pos c.args.parent = ap
+    (λ z. to_z w64 (of_z w64 z)) c.in-Some.ensures.1 ∙ to_z-of_z c.in-Some.ensures.0 in
     record {
       read = record {
         follows = (refl, c.in-Ok.ensures.same_reference, c.in-Ok.ensures.asks.stays, omega arith);
         unwritten = refl;
         same = λ trust. ap rows_of (c.in-Ok.ensures.asks.same trust.clean trust.now).0.now_is;
-        answers = λ trust none. subst (λ b. not b ≡ not (is_empty (children_of (rows_of old.now).read c.args.parent))) (sym (c.is_empty.ensures ∙ ap (λ l. length l == 0) c.as_slice.ensures.value)) (tells_some old.now trust.now c.args.parent c.in-Ok.rows.items (subst (λ z. HasSome z old.now.trees c.in-Ok.rows.items) at (c.in-Ok.ensures.asks.rows trust.clean trust.now)) none);
+        answers =
+            λ trust none. subst
+            (λ b. not b ≡ not (is_empty (children_of (rows_of old.now).read c.args.parent)))
+            (sym (c.is_empty.ensures ∙ ap (λ l. length l == 0) c.as_slice.ensures.value))
+            (tells_some old.now trust.now c.args.parent c.in-Ok.rows.items
+            (subst (λ z. HasSome z old.now.trees c.in-Ok.rows.items) at
+            (c.in-Ok.ensures.asks.rows trust.clean trust.now)) none);
         unfailed = refl;
         fault = tt;
       };

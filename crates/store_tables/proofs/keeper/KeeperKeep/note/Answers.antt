@@ -12,8 +12,12 @@ returns g c =
       written = record {
         follows = (put.same_reference, put.same_lender, put.puts.stays, put.puts.no_less);
         written = put.written;
-        becomes = λ trust. if_ok c.put_record.result _ _ (λ done noted from_one. noted) (put.puts.becomes trust);
+        becomes =
+            λ trust. if_ok c.put_record.result _ _ (λ done noted from_one. noted)
+            (put.puts.becomes trust);
         unfailed = if_ok c.put_record.result _ _ (λ done same. ap capped same) put.puts.unfailed;
-        fault = cause_later c.put_record.result _ _ _ _ (capped_rises _ _ (omega arith)) (capped_rises _ _ put.puts.no_less) put.puts.fault;
+        fault =
+            cause_later c.put_record.result _ _ _ _ (capped_rises _ _ (omega arith))
+            (capped_rises _ _ put.puts.no_less) put.puts.fault;
       };
     }

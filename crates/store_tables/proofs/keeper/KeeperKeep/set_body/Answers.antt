@@ -11,14 +11,22 @@ pub returns : goal.returns
 returns g c =
     let old = state g.S.Store c.args.self.now.tx.now.conn.now in
     let new = state g.S.Store c.update_bytes.new.tx.conn.now in
-    let at : to_z w64 (of_z w64 c.in-Some.at) ≡ pos c.args.id = ap (λ z. to_z w64 (of_z w64 z)) c.in-Some.ensures.1 ∙ to_z-of_z c.in-Some.ensures.0 in
+    let at : to_z w64 (of_z w64 c.in-Some.at) ≡ pos c.args.id = ap
+    (λ z. to_z w64 (of_z w64 z)) c.in-Some.ensures.1 ∙ to_z-of_z c.in-Some.ensures.0 in
     record {
       written = record {
-        follows = (refl, c.update_bytes.ensures.same_reference, c.update_bytes.ensures.writes.stays, c.in_ok-wrote_one.ensures.no_less);
+        follows = (
+          refl,
+          c.update_bytes.ensures.same_reference,
+          c.update_bytes.ensures.writes.stays,
+          c.in_ok-wrote_one.ensures.no_less,
+        );
         written = c.count_one.ensures.capped;
         becomes = λ trust document.
-            let put = of_one c.update_bytes.result _ _ c.in_ok-wrote_one.ensures.answer (c.update_bytes.ensures.writes.leaves trust.clean trust.now) in
-            filled_rows old.now new.now c.args.id c.args.bytes.now trust.now c.in-Some.ensures.2 (subst (λ z. Fills z c.args.bytes.now old.now.trees new.now.trees) at put);
+            let put = of_one c.update_bytes.result _ _ c.in_ok-wrote_one.ensures.answer
+            (c.update_bytes.ensures.writes.leaves trust.clean trust.now) in
+            filled_rows old.now new.now c.args.id c.args.bytes.now trust.now c.in-Some.ensures.2
+            (subst (λ z. Fills z c.args.bytes.now old.now.trees new.now.trees) at put);
         unfailed = ap capped c.in_ok-wrote_one.ensures.unfailed;
         fault = tt;
       };

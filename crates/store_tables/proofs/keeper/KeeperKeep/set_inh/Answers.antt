@@ -14,6 +14,8 @@ returns g c =
         written = put.written;
         becomes = put.puts.becomes;
         unfailed = if_ok c.put_inh.result _ _ (λ done same. ap capped same) put.puts.unfailed;
-        fault = cause_later c.put_inh.result _ _ _ _ (omega arith) (capped_rises _ _ put.puts.no_less) put.puts.fault;
+        fault =
+            cause_later c.put_inh.result _ _ _ _ (omega arith)
+            (capped_rises _ _ put.puts.no_less) put.puts.fault;
       };
     }

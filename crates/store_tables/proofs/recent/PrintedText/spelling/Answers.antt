@@ -7,4 +7,5 @@ use Rattle.store_tables.proofs.recent.PrintedText.spelling.Goals as goal
 pub returns-then-is_same : goal.returns-then-is_same
 returns-then-is_same c =
     ap entries_of (c.in_ok-from_str.ensures.ok ∙ c.as_str.ensures.value) ∙ c.self.invariant
-    ∙ ap (λ (entries : List Ace). Some entries) (entries_equal _ _ (sym c.is_same.ensures ∙ c.if-is_same.true))
+    ∙ ap (λ (entries : List Ace). Some entries)
+    (entries_equal _ _ (sym c.is_same.ensures ∙ c.if-is_same.true))
