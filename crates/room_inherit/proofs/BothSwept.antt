@@ -14,7 +14,7 @@ use Rattle.room_rows.specs.Counts.{capped_below}
 use Rattle.room_rows.specs.Held.{held_of, is_linked}
 use Rattle.room_rows.specs.Keep.{HasNoRoot, capped, reading, KeepLaws}
 use Rattle.room_rows.specs.Rows.{Rows, is_unreadable}
-use Rattle.room_rows.proofs.Lookups.{IsSamePlace}
+use Rattle.room_rows.proofs.SamePlace.{IsSamePlace}
 use Rattle.room_rows.proofs.Steps.{later_cause}
 use Rattle.room_rows.specs.Law.{AllAgree, agrees, agrees_with}
 use Rattle.room_rows.specs.Sound.{reaches}

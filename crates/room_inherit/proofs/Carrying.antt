@@ -10,7 +10,7 @@ use Rattle.room_rows.specs.Content.{Content, node_at, children_of, is_folder}
 use Rattle.room_rows.specs.Counts.{capped_below}
 use Rattle.room_rows.specs.Keep.{IsUnreadable, IsUnreadableAt, IsNodeAt, IsRead, capped, reading, KeepLaws}
 use Rattle.room_rows.specs.Rows.{Rows, AreRows, numbers_of, is_unreadable}
-use Rattle.room_rows.proofs.Frames.{numbers_of-reading}
+use Rattle.room_rows.proofs.InPlace.{numbers_of-reading}
 use Rattle.room_rows.proofs.Steps.{later_cause}
 use Rattle.room_inherit.specs.Spread.{AllAgreeInFolders, ChangedAgree, HasSpreadCause, IsSpread, IsOwnAncestor, Holds, Spreads, SpreadsIf, with_lists, is_changed}
 use Rattle.room_inherit.specs.Turn.{IsVisit, MeetsAgain, next_of}

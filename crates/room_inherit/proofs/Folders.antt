@@ -10,7 +10,7 @@ use Rattle.room_rows.specs.declared.node.Node.{Node}
 use Rattle.room_rows.specs.Content.{Content, has_folder_above, has_parent, is_folder, node_at}
 use Rattle.room_rows.specs.Rows.{Rows}
 use Rattle.room_rows.specs.Law.{AllAgree, AllAgreeBut, agrees}
-use Rattle.room_rows.proofs.Lookups.{IsSamePlace}
+use Rattle.room_rows.proofs.SamePlace.{IsSamePlace}
 use Rattle.room_inherit.specs.Laws.{LawInFolders}
 use Rattle.room_inherit.specs.Spread.{AllAgreeInFoldersBut, IsSpread, with_lists}
 use Rattle.room_inherit.proofs.Kinship.{same_kind, same_name, same_parent}

@@ -17,8 +17,8 @@ use Rattle.room_rows.specs.Held.{held_of, is_linked}
 use Rattle.room_rows.specs.Meaning.{kept_held, kept_node, meaning}
 use Rattle.room_rows.specs.Paths.{is_object_name}
 use Rattle.room_rows.specs.Rows.{AreRows, Rows, numbers_of, put_numbers}
-use Rattle.room_rows.proofs.Frames.{KeepsPlaces, numbers-with_each, root_of-with_each}
-use Rattle.room_rows.proofs.Lookups.{IsSamePlace, filter-changed}
+use Rattle.room_rows.proofs.InPlace.{KeepsPlaces, numbers-with_each, root_of-with_each}
+use Rattle.room_rows.proofs.SamePlace.{IsSamePlace, filter-changed}
 use Rattle.room_inherit.specs.Laws.{HasNoFault, SoundIsContent}
 use Rattle.room_rows.specs.Sound.{bad_root, has_sound_body, has_sound_name, reaches, same_place}
 use Rattle.room_inherit.proofs.Children.{apart_rising, each_above, each_found, each_there, found_id, ids_of}

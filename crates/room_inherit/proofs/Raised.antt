@@ -21,8 +21,8 @@ use Rattle.room_rows.specs.Keep.{reading, with_inh}
 use Rattle.room_rows.specs.Meaning.{kept_held, kept_node, meaning}
 use Rattle.room_rows.specs.Paths.{is_object_name}
 use Rattle.room_rows.specs.Rows.{AreRows, Rows, is_unreadable, numbers_of, put_numbers}
-use Rattle.room_rows.proofs.Frames.{KeepsPlaces, node_at-with_each, numbers-with_each}
-use Rattle.room_rows.proofs.Lookups.{IsSamePlace, filter-changed}
+use Rattle.room_rows.proofs.InPlace.{KeepsPlaces, node_at-with_each, numbers-with_each}
+use Rattle.room_rows.proofs.SamePlace.{IsSamePlace, filter-changed}
 use Rattle.room_rows.specs.Law.{AllAgree, agrees, agrees_with}
 use Rattle.room_inherit.specs.Laws.{are_valid, RaisedIsSound, RaisedMeansTheSame}
 use Rattle.room_rows.specs.Pass.{pass, passed_flags, ended, carried, waiting}

@@ -10,7 +10,7 @@ use Rattle.room_rows.specs.declared.node.Node.{Node}
 use Rattle.room_rows.specs.Content.{children_of, root_of}
 use Rattle.room_rows.specs.Keep.{HasNoRoot, IsUnreadable, IsRead, IsRootOf, capped, reading, KeepLaws}
 use Rattle.room_rows.specs.Rows.{Rows, AreRows, numbers_of, is_unreadable}
-use Rattle.room_rows.proofs.Frames.{numbers_of-reading}
+use Rattle.room_rows.proofs.InPlace.{numbers_of-reading}
 use Rattle.room_rows.proofs.Steps.{later_cause}
 use Rattle.room_rows.specs.Law.{AllAgree}
 use Rattle.room_inherit.specs.Spread.{ChangedAgree, HasSpreadCause, with_lists, is_changed}

@@ -7,8 +7,8 @@ use Rattle.std.proofs.lemmas.List.{length-map}
 use Rattle.room_entry.specs.Valid.{is_document}
 use Rattle.room_rows.specs.declared.node.Node.{Node}
 use Rattle.room_rows.specs.Content.{Content, has_folder_above, is_folder, is_root, node_at, parent_of, reaches_root, with_each}
-use Rattle.room_rows.proofs.Frames.{KeepsPlaces, keeps_places, node_at-with_each, parent_of-with_each}
-use Rattle.room_rows.proofs.Lookups.{IsSamePlace}
+use Rattle.room_rows.proofs.InPlace.{KeepsPlaces, keeps_places, node_at-with_each, parent_of-with_each}
+use Rattle.room_rows.proofs.SamePlace.{IsSamePlace}
 use Rattle.room_rows.specs.Sound.{reaches}
 
 -- a test of all changed objects says what a test of all objects said before the change

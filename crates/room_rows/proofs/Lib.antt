@@ -5,6 +5,8 @@ pub mod Utf8
 pub mod Cutting
 pub mod PathsBack
 pub mod Lookups
+pub mod SamePlace
 pub mod Frames
+pub mod InPlace
 pub mod Writes
 pub mod Chains

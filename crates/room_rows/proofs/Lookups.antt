@@ -1,8 +1,8 @@
 -- Objects looked up in a list of them: what a change of the list leaves.
-use Rattle.std.proofs.Common.{◌≡◌, ℕ, suc, ◌<◌, ◌≤◌, ◌==◌, ◌⊎◌, Bool, true, false, List, [], ◌∷◌, map, filter, Some, None, nat_lt, refl, sym, ap, subst, ◌∙◌, arith, inl, inr}
-use Rattle.std.specs.Prelude.{is_none, if◌then◌else◌}
+use Rattle.std.proofs.Common.{◌≡◌, ℕ, suc, ◌<◌, ◌==◌, ◌⊎◌, Bool, true, false, List, [], ◌∷◌, map, filter, Some, None, nat_lt, refl, sym, ap, subst, ◌∙◌, arith, inl, inr}
+use Rattle.std.specs.Prelude.{is_none}
 use Rattle.std.specs.List.{find, AllByRecursion, Contains}
-use Rattle.std.specs.Option.{option_map, option_map_or}
+use Rattle.std.specs.Option.{option_map_or}
 use Rattle.std.proofs.lemmas.Bool.{cases_Bool, cases_order, false≢true, and_parts, eqb-true, eq-eqb, ne_eqb, ltb-true, lt-ltb, le-ltb, cond-true, cond-false}
 use Rattle.room_rows.specs.declared.node.Node.{Node}
 use Rattle.room_rows.specs.Content.{is_before, put_by_name, sorted_by_name, put_node, is_rising}
@@ -47,11 +47,11 @@ none_found p x xs none = elim (cases_Bool (p x)) [
 
 -- ---- the first that passes, of those that are kept
 
-keep_yes : {X : Type 0} (q : X → Bool) (x : X) (xs : List X) → q x ≡ true
+pub keep_yes : {X : Type 0} (q : X → Bool) (x : X) (xs : List X) → q x ≡ true
     → filter q (x ∷ xs) ≡ x ∷ filter q xs
 keep_yes q x xs is = cond-true (q x) (x ∷ filter q xs) (filter q xs) is
 
-keep_no : {X : Type 0} (q : X → Bool) (x : X) (xs : List X) → q x ≡ false
+pub keep_no : {X : Type 0} (q : X → Bool) (x : X) (xs : List X) → q x ≡ false
     → filter q (x ∷ xs) ≡ filter q xs
 keep_no q x xs isnt = cond-false (q x) (x ∷ filter q xs) (filter q xs) isnt
 
@@ -137,11 +137,11 @@ pub each-weaker : {X : Type 0} (P Q : X → Type 0) → ((x : X) → P x → Q x
 each-weaker P Q weaker [] each = tt
 each-weaker P Q weaker (y ∷ ys) each = (weaker y each.0, each-weaker P Q weaker ys each.1)
 
-name_behind : (node other : Node) (others : List Node) → is_before other.name node.name ≡ true
+pub name_behind : (node other : Node) (others : List Node) → is_before other.name node.name ≡ true
     → put_by_name node (other ∷ others) ≡ other ∷ put_by_name node others
 name_behind node other others is = cond-true _ _ _ is
 
-name_here : (node other : Node) (others : List Node) → is_before other.name node.name ≡ false
+pub name_here : (node other : Node) (others : List Node) → is_before other.name node.name ≡ false
     → put_by_name node (other ∷ others) ≡ node ∷ other ∷ others
 name_here node other others isnt = cond-false _ _ _ isnt
 
@@ -274,11 +274,11 @@ each_found k (x ∷ xs) rises =
 
 -- ---- an object put at its place
 
-put_behind : (node x : Node) (xs : List Node) → x.id < node.id
+pub put_behind : (node x : Node) (xs : List Node) → x.id < node.id
     → put_node node (x ∷ xs) ≡ x ∷ put_node node xs
 put_behind node x xs below = cond-true _ _ _ (lt-ltb x.id node.id below)
 
-put_same : (node x : Node) (xs : List Node) → x.id ≡ node.id → put_node node (x ∷ xs) ≡ node ∷ xs
+pub put_same : (node x : Node) (xs : List Node) → x.id ≡ node.id → put_node node (x ∷ xs) ≡ node ∷ xs
 put_same node x xs e =
     cond-false _ _ _ (le-ltb x.id node.id (omega (arith, e)))
     ∙ cond-true _ _ _ (eq-eqb x.id node.id e)
@@ -379,191 +379,3 @@ put-put first second (x ∷ xs) e = elim (cases_order x.id first.id) [
         ∙ put_same second first (x ∷ xs) e ∙ sym (put_before second x xs (omega (arith, above, e)))
   ]
 ]
-
--- ---- an object put in the place of the one of its number
-
--- the same number, parent and name
-pub record IsSamePlace (a b : Node) : Type 0 where
-  pub number : a.id ≡ b.id
-  pub parent : a.parent ≡ b.parent
-  pub name : a.name ≡ b.name
-
--- an object has the same place as itself
-pub same_place : (a : Node) → IsSamePlace a a
-same_place a = record { number = refl; parent = refl; name = refl }
-
--- the new object in place of the one of its number
-abbrev pub replaced : Node → Node → Node
-replaced new node = if node.id == new.id then new else node
-
--- an object of the same number is replaced by the new one
-pub replaced_here : (new node : Node) → node.id ≡ new.id → replaced new node ≡ new
-replaced_here new node e = cond-true _ _ _ (eq-eqb node.id new.id e)
-
--- an object of another number is left
-pub replaced_elsewhere : (new node : Node) → (node.id ≡ new.id → ⊥) → replaced new node ≡ node
-replaced_elsewhere new node isnt = cond-false _ _ _ (ne_eqb node.id new.id isnt)
-
-untouched : (k : ℕ) (nodes : List Node) (new : Node)
-    → is_rising (k ∷ map (λ (n : Node). n.id) nodes) ≡ true → new.id ≤ k
-    → map (replaced new) nodes ≡ nodes
-untouched k [] new rises below = refl
-untouched k (x ∷ xs) new rises below =
-    let parts = and_parts (nat_lt k x.id) (is_rising (x.id ∷ map (λ (n : Node). n.id) xs)) rises in
-    let up = ltb-true k x.id parts.0 in
-    let same = replaced_elsewhere new x (λ e. absurd (omega (arith, up, below, e))) in
-    let rest = untouched x.id xs new parts.1 (omega (arith, up, below)) in
-    ap (λ (n : Node). n ∷ map (replaced new) xs) same ∙ ap (λ (l : List Node). x ∷ l) rest
-
--- where its number is in use, an object that is put replaces that one and leaves the others
-pub put-replaces : (k : ℕ) (nodes : List Node) (id : ℕ) (node new : Node)
-    → is_rising (k ∷ map (λ (n : Node). n.id) nodes) ≡ true → find_id id nodes ≡ Some node
-    → new.id ≡ id → put_node new nodes ≡ map (replaced new) nodes
-put-replaces k [] id node new rises found same = absurd (not_none node found)
-put-replaces k (x ∷ xs) id node new rises found same =
-    let parts = and_parts (nat_lt k x.id) (is_rising (x.id ∷ map (λ (n : Node). n.id) xs)) rises in
-    elim (cases_Bool (x.id == id)) [
-      | inl is ↦
-          let e : x.id ≡ new.id = eqb-true x.id id is ∙ sym same in
-          let rest = untouched x.id xs new parts.1 (omega (arith, e)) in
-          put_same new x xs e
-          ∙ sym (ap (λ (n : Node). n ∷ map (replaced new) xs) (replaced_here new x e)
-          ∙ ap (λ (l : List Node). new ∷ l) rest)
-      | inr isnt ↦
-          let later = sym (find_no (λ (n : Node). n.id == id) x xs isnt) ∙ found in
-          let above = found_above x.id xs id node parts.1 later in
-          let number = found_number id xs node later in
-          let below : x.id < new.id = omega (arith, above, number, same) in
-          put_behind new x xs below
-          ∙ ap (λ (l : List Node). x ∷ l) (put-replaces x.id xs id node new parts.1 later same)
-          ∙ sym (ap (λ (n : Node). n ∷ map (replaced new) xs)
-          (replaced_elsewhere new x (λ e. absurd (omega (arith, below, e)))))
-    ]
-
--- an object that is there, put once more, leaves all as it is
-pub put_there : (k : ℕ) (nodes : List Node) (node : Node)
-    → is_rising (k ∷ map (λ (n : Node). n.id) nodes) ≡ true → find_id node.id nodes ≡ Some node
-    → put_node node nodes ≡ nodes
-put_there k [] node rises found = absurd (not_none node found)
-put_there k (x ∷ xs) node rises found =
-    let parts = and_parts (nat_lt k x.id) (is_rising (x.id ∷ map (λ (n : Node). n.id) xs)) rises in
-    elim (cases_Bool (x.id == node.id)) [
-      | inl is ↦
-          let here = same_some x node
-          (sym (find_yes (λ (n : Node). n.id == node.id) x xs is) ∙ found) in
-          put_same node x xs (eqb-true x.id node.id is) ∙ ap (λ (n : Node). n ∷ xs) (sym here)
-      | inr isnt ↦
-          let later = sym (find_no (λ (n : Node). n.id == node.id) x xs isnt) ∙ found in
-          put_behind node x xs (found_above x.id xs node.id node parts.1 later)
-          ∙ ap (λ (l : List Node). x ∷ l) (put_there x.id xs node parts.1 later)
-    ]
-
-place_of : (a b c : Node) → a ≡ b → IsSamePlace b c → IsSamePlace a c
-place_of a b c e same = subst (λ (n : Node). IsSamePlace n c) (sym e) same
-
-untouched_places : (k : ℕ) (nodes : List Node) (new : Node)
-    → is_rising (k ∷ map (λ (n : Node). n.id) nodes) ≡ true → new.id ≤ k
-    → AllByRecursion (λ (n : Node). IsSamePlace (replaced new n) n) nodes
-untouched_places k [] new rises below = tt
-untouched_places k (x ∷ xs) new rises below =
-    let parts = and_parts (nat_lt k x.id) (is_rising (x.id ∷ map (λ (n : Node). n.id) xs)) rises in
-    let up = ltb-true k x.id parts.0 in (
-      place_of (replaced new x) x x
-          (replaced_elsewhere new x (λ e. absurd (omega (arith, up, below, e)))) (same_place x),
-      untouched_places x.id xs new parts.1 (omega (arith, up, below)),
-    )
-
--- an object that replaces one of the same place leaves all places
-pub replaced_places : (k : ℕ) (nodes : List Node) (id : ℕ) (node new : Node)
-    → is_rising (k ∷ map (λ (n : Node). n.id) nodes) ≡ true → find_id id nodes ≡ Some node
-    → IsSamePlace new node
-    → AllByRecursion (λ (n : Node). IsSamePlace (replaced new n) n) nodes
-replaced_places k [] id node new rises found same = tt
-replaced_places k (x ∷ xs) id node new rises found same =
-    let parts = and_parts (nat_lt k x.id) (is_rising (x.id ∷ map (λ (n : Node). n.id) xs)) rises in
-    elim (cases_Bool (x.id == id)) [
-      | inl is ↦
-          let it = same_some x node (sym (find_yes (λ (n : Node). n.id == id) x xs is) ∙ found) in
-          let e : x.id ≡ new.id = ap (λ (n : Node). n.id) it ∙ sym same.number in (
-            place_of (replaced new x) new x (replaced_here new x e)
-                (subst (λ (n : Node). IsSamePlace new n) (sym it) same),
-            untouched_places x.id xs new parts.1 (omega (arith, e)),
-          )
-      | inr isnt ↦
-          let later = sym (find_no (λ (n : Node). n.id == id) x xs isnt) ∙ found in
-          let above = found_above x.id xs id node parts.1 later in
-          let number = same.number in
-          let below : x.id < new.id = omega (arith, above, number) in (
-            place_of (replaced new x) x x
-                (replaced_elsewhere new x (λ e. absurd (omega (arith, below, e)))) (same_place x),
-            replaced_places x.id xs id node new parts.1 later same,
-          )
-    ]
-
--- ---- changes that leave number, parent and name
-
-module _ (change : Node → Node) where
-  -- a test of the place finds the changed object
-  pub find-changed : (p : Node → Bool) → ((a b : Node) → IsSamePlace a b → p a ≡ p b)
-      → (nodes : List Node) → AllByRecursion (λ (n : Node). IsSamePlace (change n) n) nodes
-      → find p (map change nodes) ≡ option_map change (find p nodes)
-  find-changed p of_place [] same = refl
-  find-changed p of_place (x ∷ xs) same =
-      let as_before = of_place (change x) x same.0 in
-      elim (cases_Bool (p x)) [
-        | inl is ↦ find_yes p (change x) (map change xs) (as_before ∙ is)
-            ∙ sym (ap (option_map change) (find_yes p x xs is))
-        | inr isnt ↦ find_no p (change x) (map change xs) (as_before ∙ isnt)
-            ∙ find-changed p of_place xs same.1 ∙ sym (ap (option_map change) (find_no p x xs isnt))
-      ]
-
-  -- a test of the place keeps those of the changed objects that it kept before the change
-  pub filter-changed : (p : Node → Bool) → ((a b : Node) → IsSamePlace a b → p a ≡ p b)
-      → (nodes : List Node) → AllByRecursion (λ (n : Node). IsSamePlace (change n) n) nodes
-      → filter p (map change nodes) ≡ map change (filter p nodes)
-  filter-changed p of_place [] same = refl
-  filter-changed p of_place (x ∷ xs) same =
-      let as_before = of_place (change x) x same.0 in
-      elim (cases_Bool (p x)) [
-        | inl is ↦ keep_yes p (change x) (map change xs) (as_before ∙ is)
-            ∙ ap (λ (l : List Node). change x ∷ l) (filter-changed p of_place xs same.1)
-            ∙ sym (ap (map change) (keep_yes p x xs is))
-        | inr isnt ↦ keep_no p (change x) (map change xs) (as_before ∙ isnt)
-            ∙ filter-changed p of_place xs same.1 ∙ sym (ap (map change) (keep_no p x xs isnt))
-      ]
-
-  put_by_name-changed : (node : Node) (nodes : List Node) → IsSamePlace (change node) node
-      → AllByRecursion (λ (n : Node). IsSamePlace (change n) n) nodes
-      → put_by_name (change node) (map change nodes) ≡ map change (put_by_name node nodes)
-  put_by_name-changed node [] here same = refl
-  put_by_name-changed node (x ∷ xs) here same =
-      let as_before : is_before (change x).name (change node).name ≡ is_before x.name node.name = ap
-      (λ n. is_before n (change node).name) same.0.name ∙ ap (is_before x.name) here.name in
-      elim (cases_Bool (is_before x.name node.name)) [
-        | inl is ↦
-            name_behind (change node) (change x) (map change xs) (as_before ∙ is)
-            ∙ ap (λ (l : List Node). change x ∷ l) (put_by_name-changed node xs here same.1)
-            ∙ sym (ap (map change) (name_behind node x xs is))
-        | inr isnt ↦ name_here (change node) (change x) (map change xs) (as_before ∙ isnt)
-            ∙ sym (ap (map change) (name_here node x xs isnt))
-      ]
-
-  -- changed objects, sorted by name, stand in the order in which they stood before the change
-  pub sorted-changed : (nodes : List Node)
-      → AllByRecursion (λ (n : Node). IsSamePlace (change n) n) nodes
-      → sorted_by_name (map change nodes) ≡ map change (sorted_by_name nodes)
-  sorted-changed [] same = refl
-  sorted-changed (x ∷ xs) same =
-      ap (put_by_name (change x)) (sorted-changed xs same.1)
-      ∙ put_by_name-changed x (sorted_by_name xs) same.0
-      (each-sorted (λ (n : Node). IsSamePlace (change n) n) xs same.1)
-
-  -- what depends on the place alone stays
-  pub map-changed : {A : Type 0} (part : Node → A)
-      → ((a b : Node) → IsSamePlace a b → part a ≡ part b) → (nodes : List Node)
-      → AllByRecursion (λ (n : Node). IsSamePlace (change n) n) nodes
-      → map part (map change nodes) ≡ map part nodes
-  map-changed part of_place [] same = refl
-  map-changed part of_place (x ∷ xs) same =
-      ap (λ a. a ∷ map part (map change xs)) (of_place (change x) x same.0)
-      ∙ ap (λ l. part x ∷ l) (map-changed part of_place xs same.1)

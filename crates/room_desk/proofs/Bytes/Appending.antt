@@ -9,7 +9,7 @@ use Rattle.room_rows.specs.Content.{node_at, body_of, with_body}
 use Rattle.room_rows.specs.Keep.{IsDamaged, SetsBody, reading}
 use Rattle.room_rows.specs.Meaning.{meaning}
 use Rattle.room_rows.specs.Rows.{Rows, AreRows}
-use Rattle.room_rows.proofs.Frames.{with_body-there}
+use Rattle.room_rows.proofs.InPlace.{with_body-there}
 use Rattle.room_rows.specs.Sound.{AreSound}
 use Rattle.room_judge.specs.declared.arrival.Arrival.TheVariants.{At, Ended}
 use Rattle.room_judge.specs.declared.asker.Asker.{Asker}

@@ -11,7 +11,7 @@ use Rattle.room_rows.specs.Content.{Content, node_at, body_of, reaches_root, wit
 use Rattle.room_rows.specs.Finding.{find_id}
 use Rattle.room_rows.specs.Keep.{reading}
 use Rattle.room_rows.specs.Rows.{Rows, AreRows}
-use Rattle.room_rows.proofs.Frames.{body_of-with_body, body_of-with_body-other}
+use Rattle.room_rows.proofs.InPlace.{body_of-with_body, body_of-with_body-other}
 use Rattle.room_rows.proofs.Lookups.{each_found}
 use Rattle.room_rows.specs.Sound.{AreSound, fits_kind, has_sound_body, reaches}
 use Rattle.room_desk.proofs.Sound.SoundParts.{sound_parts, parts_sound, find_same}

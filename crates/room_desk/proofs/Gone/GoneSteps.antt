@@ -9,7 +9,7 @@ use Rattle.room_rows.specs.Content.{Content, children_of, is_empty, node_at, wit
 use Rattle.room_rows.specs.Keep.{CanRemove, Removes, reading}
 use Rattle.room_rows.specs.Meaning.{kept_node, meaning}
 use Rattle.room_rows.specs.Rows.{Rows, AreRows}
-use Rattle.room_rows.proofs.Frames.{children_of-with_each, keeps_places}
+use Rattle.room_rows.proofs.InPlace.{children_of-with_each, keeps_places}
 use Rattle.room_rows.specs.Sound.{AreSound}
 use Rattle.room_judge.specs.declared.arrival.Found.{Found}
 use Rattle.room_judge.specs.declared.arrival.Pair.TheVariants.{Both, Halted}

@@ -14,7 +14,8 @@ use Rattle.room_rows.specs.Held.{held_of, with_held, is_linked}
 use Rattle.room_rows.specs.Keep.{reading}
 use Rattle.room_rows.specs.Meaning.{kept_held, kept_node}
 use Rattle.room_rows.specs.Rows.{Rows, is_unreadable, numbers_of}
-use Rattle.room_rows.proofs.Frames.{KeepsPlaces, keeps_places, place-with_held, node_at-with_each, node_at-number, parent_of-with_each, numbers_of-reading, numbers-with_each}
+use Rattle.room_rows.proofs.Frames.{node_at-number}
+use Rattle.room_rows.proofs.InPlace.{KeepsPlaces, keeps_places, place-with_held, node_at-with_each, parent_of-with_each, numbers_of-reading, numbers-with_each}
 use Rattle.room_rows.specs.Law.{AllAgree, agrees, agrees_with}
 use Rattle.room_rows.specs.Sound.{AreSound, bad_root, has_bad_list, has_sound_body, has_sound_lists, has_sound_name, is_sound_held, keeps_law, reaches}
 use Rattle.room_inherit.proofs.NoFault.{no_fault, sound}

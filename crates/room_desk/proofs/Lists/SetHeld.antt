@@ -14,8 +14,10 @@ use Rattle.room_rows.specs.Finding.{find_id}
 use Rattle.room_rows.specs.Held.{held_of, with_held, is_linked}
 use Rattle.room_rows.specs.Keep.{with_inh}
 use Rattle.room_rows.specs.Rows.{Rows, is_unreadable, put_numbers}
-use Rattle.room_rows.proofs.Frames.{Rises, node_at-number, place-with_held, with_each-with_each, with_node-replaces}
-use Rattle.room_rows.proofs.Lookups.{each_found, replaced, same_some}
+use Rattle.room_rows.proofs.Frames.{Rises, node_at-number}
+use Rattle.room_rows.proofs.InPlace.{place-with_held, with_each-with_each, with_node-replaces}
+use Rattle.room_rows.proofs.Lookups.{each_found, same_some}
+use Rattle.room_rows.proofs.SamePlace.{replaced}
 use Rattle.room_rows.specs.Law.{AllAgree}
 use Rattle.room_rows.specs.Sound.{AreSound, has_bad_list, has_sound_lists, is_sound_held, reaches}
 use Rattle.room_inherit.specs.Spread.{with_lists}

@@ -14,8 +14,9 @@ use Rattle.room_rows.specs.declared.node.Node.{Node}
 use Rattle.room_rows.specs.Content.{Content, node_at, parent_of, has_parent, is_linked_in, with_each, with_node}
 use Rattle.room_rows.specs.Held.{held_of, full_of, with_held, is_linked}
 use Rattle.room_rows.specs.Meaning.{kept_held, kept_node, meaning}
-use Rattle.room_rows.proofs.Frames.{Rises, keeps_places, node_at-number, node_at-with_each, parent_is, place-with_held, rises-with_each, with_each-with_each, with_node-replaces}
-use Rattle.room_rows.proofs.Lookups.{IsSamePlace, replaced}
+use Rattle.room_rows.proofs.Frames.{Rises, node_at-number, parent_is}
+use Rattle.room_rows.proofs.InPlace.{keeps_places, node_at-with_each, place-with_held, rises-with_each, with_each-with_each, with_node-replaces}
+use Rattle.room_rows.proofs.SamePlace.{IsSamePlace, replaced}
 use Rattle.room_rows.specs.Pass.{pass}
 use Rattle.room_machine.specs.Effect.{kept_by_child, sent_held, set_list}
 use Rattle.room_desk.specs.Setting.{kept_site, stored_held}
@@ -275,7 +276,7 @@ module _ (which : Which) (rows : Content) (node : Node) (held : Held) (lists : N
         ∙ ap (λ (c : Content). with_node c (with_held which set (keeps node)))
         (sym (with_each-with_each rows keeps changed))
       where
-        places : Rattle.room_rows.proofs.Frames.KeepsPlaces rows (λ n. changed (keeps n))
+        places : Rattle.room_rows.proofs.InPlace.KeepsPlaces rows (λ n. changed (keeps n))
         places =
             keeps_places rows (λ n. changed (keeps n))
             (λ n. let p = place_changed (keeps n) in

@@ -29,7 +29,8 @@ use Rattle.room_judge.specs.declared.arrival.Pair.TheVariants.{Both, Halted}
 use Rattle.room_judge.specs.Judged.{CarriesOut, IsJudged, IsReached, arrival_of, noted}
 use Rattle.room_judge.specs.Spot.{IsPaired}
 use Rattle.room_judge.proofs.Folders.{pair_reached}
-use Rattle.room_judge.proofs.Ways.{not_reached, reaches_with, root_reached}
+use Rattle.room_judge.proofs.Ways.{not_reached, reaches_with}
+use Rattle.room_judge.proofs.Walked.{root_reached}
 use Rattle.room_machine.specs.Plan.{Check, Item, bad_list, plan_of, way, where_found}
 use Rattle.room_desk.specs.Carrying.{IsRooted, IsUnreadableIfHeld}
 use Rattle.room_desk.proofs.Sound.Blamed.{noted_unread}

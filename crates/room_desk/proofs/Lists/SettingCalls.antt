@@ -12,7 +12,7 @@ use Rattle.room_rows.specs.Content.{node_at}
 use Rattle.room_rows.specs.Held.{with_held}
 use Rattle.room_rows.specs.Keep.{Changes, IsUnreadable}
 use Rattle.room_rows.specs.Rows.{Rows, AreRows}
-use Rattle.room_rows.proofs.Frames.{place-with_held}
+use Rattle.room_rows.proofs.InPlace.{place-with_held}
 use Rattle.room_rows.proofs.Lookups.{find-put_same}
 use Rattle.room_inherit.specs.Spread.{Holds}
 use Rattle.room_desk.specs.Carrying.{GoesDown, HasLoop, HasLoopFrom, IsCarriedDown, IsCarriedFrom, IsUnreadableIfHeld}

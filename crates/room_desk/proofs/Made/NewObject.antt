@@ -22,7 +22,7 @@ use Rattle.room_rows.specs.Keep.{node_of, reading}
 use Rattle.room_rows.specs.Meaning.{kept_held, kept_node, meaning}
 use Rattle.room_rows.specs.Paths.{is_object_name}
 use Rattle.room_rows.specs.Rows.{Rows, AreRows, numbers_of, put_numbers}
-use Rattle.room_rows.proofs.Frames.{body_of-with_body, body_of-with_body-other}
+use Rattle.room_rows.proofs.InPlace.{body_of-with_body, body_of-with_body-other}
 use Rattle.room_rows.proofs.Lookups.{not_none}
 use Rattle.room_inherit.specs.Laws.{are_valid}
 use Rattle.room_rows.specs.Pass.{pass}

@@ -14,7 +14,7 @@ use Rattle.room_rows.specs.Keep.{IsAdded, node_of, reading, with_new}
 use Rattle.room_rows.specs.Meaning.{kept_node, meaning}
 use Rattle.room_rows.specs.Paths.{is_object_name}
 use Rattle.room_rows.specs.Rows.{Rows, AreRows}
-use Rattle.room_rows.proofs.Frames.{keeps_places, node_at-with_each}
+use Rattle.room_rows.proofs.InPlace.{keeps_places, node_at-with_each}
 use Rattle.room_rows.specs.Sound.{AreSound}
 use Rattle.room_machine.specs.Effect.{new_node}
 use Rattle.room_judge.specs.Judged.{noted}

@@ -9,7 +9,7 @@ use Rattle.room_rows.specs.declared.node.AuditRow.{AuditRow}
 use Rattle.room_rows.specs.Content.{Content, child_of, is_empty, root_of, with_records}
 use Rattle.room_rows.specs.Meaning.{kept_node, meaning}
 use Rattle.room_rows.specs.Rows.{Rows, AreRows}
-use Rattle.room_rows.proofs.Frames.{child_of-with_each, keeps_places}
+use Rattle.room_rows.proofs.InPlace.{child_of-with_each, keeps_places}
 use Rattle.room_inherit.proofs.Members.{any_map}
 use Rattle.room_judge.specs.declared.asker.Asker.{Asker}
 use Rattle.room_machine.specs.declared.reply.Reply.{Reply}

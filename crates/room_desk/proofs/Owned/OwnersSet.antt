@@ -11,7 +11,8 @@ use Rattle.room_rows.specs.Content.{node_at, with_each, with_node}
 use Rattle.room_rows.specs.Keep.{Changes, reading, with_owners}
 use Rattle.room_rows.specs.Meaning.{kept_node, meaning}
 use Rattle.room_rows.specs.Rows.{Rows, AreRows}
-use Rattle.room_rows.proofs.Frames.{Rises, keeps_places, node_at-with_each, rises-with_each, with_node-there}
+use Rattle.room_rows.proofs.Frames.{Rises}
+use Rattle.room_rows.proofs.InPlace.{keeps_places, node_at-with_each, rises-with_each, with_node-there}
 use Rattle.room_rows.specs.Sound.{AreSound}
 use Rattle.room_judge.specs.declared.arrival.Arrival.TheVariants.{At}
 use Rattle.room_judge.specs.declared.asker.Asker.{Asker}

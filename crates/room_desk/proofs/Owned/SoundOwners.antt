@@ -15,8 +15,10 @@ use Rattle.room_rows.specs.Finding.{find_id}
 use Rattle.room_rows.specs.Keep.{reading, with_owners}
 use Rattle.room_rows.specs.Meaning.{kept_held, kept_node, meaning}
 use Rattle.room_rows.specs.Rows.{Rows, is_unreadable, numbers_of}
-use Rattle.room_rows.proofs.Frames.{Rises, KeepsPlaces, keeps_places, node_at-number, node_at-with_each, parent_of-with_each, numbers-with_each, numbers_of-reading, with_node-replaces, place-with_owners}
-use Rattle.room_rows.proofs.Lookups.{each_found, replaced, replaced_here, replaced_elsewhere}
+use Rattle.room_rows.proofs.Frames.{Rises, node_at-number}
+use Rattle.room_rows.proofs.InPlace.{KeepsPlaces, keeps_places, node_at-with_each, parent_of-with_each, numbers-with_each, numbers_of-reading, with_node-replaces, place-with_owners}
+use Rattle.room_rows.proofs.Lookups.{each_found}
+use Rattle.room_rows.proofs.SamePlace.{replaced, replaced_here, replaced_elsewhere}
 use Rattle.room_rows.specs.Law.{agrees_with, agrees}
 use Rattle.room_rows.specs.Sound.{AreSound, bad_root, first_bad_list, first_failing, has_bad_list, has_sound_lists, has_sound_name, has_sound_body, keeps_law, reaches, same_place}
 use Rattle.room_inherit.proofs.Members.{any_map}

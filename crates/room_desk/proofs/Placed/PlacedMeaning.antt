@@ -12,8 +12,8 @@ use Rattle.room_rows.specs.Held.{held_of, is_linked}
 use Rattle.room_rows.specs.Keep.{with_place}
 use Rattle.room_rows.specs.Meaning.{kept_held, kept_node, meaning}
 use Rattle.room_rows.specs.Rows.{Rows}
-use Rattle.room_rows.proofs.Frames.{KeepsPlaces, keeps_places, rises-with_each}
-use Rattle.room_rows.proofs.Lookups.{put-replaces, replaced, replaced_here, replaced_elsewhere}
+use Rattle.room_rows.proofs.InPlace.{KeepsPlaces, keeps_places, rises-with_each}
+use Rattle.room_rows.proofs.SamePlace.{put-replaces, replaced, replaced_here, replaced_elsewhere}
 use Rattle.room_inherit.proofs.Children.{each_there}
 use Rattle.room_inherit.proofs.Renewing.{map_agree, map_map}
 use Rattle.room_machine.specs.Effect.{moved_held, moved_node}

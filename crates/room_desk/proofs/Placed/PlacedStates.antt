@@ -13,8 +13,8 @@ use Rattle.room_rows.specs.Content.{Content, node_at, parent_of, is_linked_in, i
 use Rattle.room_rows.specs.Held.{held_of, full_of, is_linked}
 use Rattle.room_rows.specs.Keep.{Places, reading, with_inh, with_place}
 use Rattle.room_rows.specs.Rows.{Rows}
-use Rattle.room_rows.proofs.Frames.{with_each-with_each}
-use Rattle.room_rows.proofs.Lookups.{put-replaces, replaced, replaced_here, replaced_elsewhere}
+use Rattle.room_rows.proofs.InPlace.{with_each-with_each}
+use Rattle.room_rows.proofs.SamePlace.{put-replaces, replaced, replaced_here, replaced_elsewhere}
 use Rattle.room_rows.specs.Law.{agrees, agrees_with, AllAgree}
 use Rattle.room_rows.specs.Pass.{pass}
 use Rattle.room_entry.specs.Same.{same_entries}

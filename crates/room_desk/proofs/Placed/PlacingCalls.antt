@@ -8,7 +8,7 @@ use Rattle.room_rows.specs.Content.{with_node}
 use Rattle.room_rows.specs.Held.{held_of, full_of, is_linked}
 use Rattle.room_rows.specs.Keep.{Changes, IsUnreadable, Places, reading, with_inh, with_place}
 use Rattle.room_rows.specs.Rows.{Rows}
-use Rattle.room_rows.proofs.Frames.{place-with_inh}
+use Rattle.room_rows.proofs.InPlace.{place-with_inh}
 use Rattle.room_rows.specs.Pass.{pass}
 use Rattle.room_machine.specs.declared.reply.Reply.TheVariants.{Done}
 use Rattle.room_desk.specs.Carrying.{HasLoop, IsCarriedDown, IsRooted}

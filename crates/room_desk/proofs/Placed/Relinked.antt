@@ -15,8 +15,9 @@ use Rattle.room_rows.specs.Content.{Content, node_at, parent_of, has_folder_abov
 use Rattle.room_rows.specs.Held.{held_of, full_of, is_linked}
 use Rattle.room_rows.specs.Keep.{Changes, reading, with_inh}
 use Rattle.room_rows.specs.Rows.{Rows}
-use Rattle.room_rows.proofs.Frames.{node_at-number, held_of-with_inh, place-with_inh, with_node-replaces}
-use Rattle.room_rows.proofs.Lookups.{IsSamePlace, replaced, replaced_here, replaced_elsewhere}
+use Rattle.room_rows.proofs.Frames.{node_at-number}
+use Rattle.room_rows.proofs.InPlace.{held_of-with_inh, place-with_inh, with_node-replaces}
+use Rattle.room_rows.proofs.SamePlace.{IsSamePlace, replaced, replaced_here, replaced_elsewhere}
 use Rattle.room_rows.specs.Law.{agrees, agrees_with, AllAgreeBut}
 use Rattle.room_rows.specs.Pass.{pass}
 use Rattle.room_inherit.specs.Spread.{IsLinkedBelow, IsSpread, is_changed, is_linked_within}

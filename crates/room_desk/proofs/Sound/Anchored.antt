@@ -9,8 +9,9 @@ use Rattle.room_rows.specs.declared.node.Node.{Node}
 use Rattle.room_rows.specs.Content.{Content, is_rising, node_at, reaches_root, with_each, with_node}
 use Rattle.room_rows.specs.Keep.{Changes, IsUnreadable, reading, with_inh}
 use Rattle.room_rows.specs.Rows.{Rows}
-use Rattle.room_rows.proofs.Frames.{Rises, node_at-number, place-with_inh}
-use Rattle.room_rows.proofs.Lookups.{put-replaces, replaced, replaced_elsewhere, replaced_here}
+use Rattle.room_rows.proofs.Frames.{Rises, node_at-number}
+use Rattle.room_rows.proofs.InPlace.{place-with_inh}
+use Rattle.room_rows.proofs.SamePlace.{put-replaces, replaced, replaced_elsewhere, replaced_here}
 use Rattle.room_inherit.specs.Spread.{IsSpread}
 use Rattle.room_inherit.proofs.Rooted.{rooted_no_loop}
 use Rattle.room_desk.specs.Carrying.{HasLoop, IsRooted}

@@ -15,7 +15,8 @@ use Rattle.room_rows.specs.Content.{Content, has_parent, node_at, root_of, child
 use Rattle.room_rows.specs.Meaning.{kept_held, kept_node, meaning}
 use Rattle.room_rows.specs.Rows.{Rows, AreRows}
 use Rattle.room_rows.specs.Walk.{walk_from, behind}
-use Rattle.room_rows.proofs.Frames.{Rises, KeepsPlaces, keeps_places, root_of-with_each, child_of-with_each, root_of-is_there, root_of-parent, child_of-is_there, child_of-parent, child_of-name}
+use Rattle.room_rows.proofs.Frames.{Rises, root_of-is_there, root_of-parent, child_of-is_there, child_of-parent, child_of-name}
+use Rattle.room_rows.proofs.InPlace.{KeepsPlaces, keeps_places, root_of-with_each, child_of-with_each}
 use Rattle.room_rows.specs.Pass.{pass}
 use Rattle.room_rows.specs.Law.{agrees_with, agrees}
 use Rattle.room_rows.specs.Sound.{keeps_law}

@@ -14,7 +14,8 @@ use Rattle.room_rows.specs.Held.{held_of, full_of}
 use Rattle.room_rows.specs.Content.{Content, node_at, root_of, child_of, body_of, children_of}
 use Rattle.room_rows.specs.Meaning.{meaning, kept_node}
 use Rattle.room_rows.specs.Rows.{Rows, AreRows}
-use Rattle.room_rows.proofs.Frames.{Rises, root_of-is_there, child_of-is_there, keeps_places, children_of-with_each}
+use Rattle.room_rows.proofs.Frames.{Rises, root_of-is_there, child_of-is_there}
+use Rattle.room_rows.proofs.InPlace.{keeps_places, children_of-with_each}
 use Rattle.room_rows.specs.Sound.{AreSound}
 use Rattle.room_rows.specs.declared.node.AuditRow.{AuditRow}
 use Rattle.room_rows.specs.Content.{with_records}

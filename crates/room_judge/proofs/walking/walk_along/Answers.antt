@@ -3,7 +3,7 @@ use Rattle.room_rows.specs.Content.{root_of}
 use Rattle.room_rows.specs.Keep.{IsUnreadable}
 use Rattle.room_rows.specs.Rows.{Rows}
 use Rattle.room_judge.proofs.Calls.{finish, tail, done, of_read}
-use Rattle.room_judge.proofs.Ways.{reached_from, root_reached}
+use Rattle.room_judge.proofs.Walked.{reached_from, root_reached}
 use Rattle.room_judge.proofs.walking.walk_along.Goals as goal
 
 pub returns-then-is_there : goal.returns-then-is_there

@@ -1,6 +1,6 @@
 use Rattle.std.proofs.Common.{◌≡◌, arith}
 use Rattle.room_judge.proofs.Calls.{then, finish, done}
-use Rattle.room_judge.proofs.Ways.{first_step, walk_done, walks_on}
+use Rattle.room_judge.proofs.Walked.{first_step, walk_done, walks_on}
 use Rattle.room_judge.proofs.walking.walk_down.Goals as goal
 
 pub names-init : goal.names-init

@@ -1,0 +1,437 @@
+-- What a change leaves of objects that stay in their places.
+use Rattle.std.proofs.Common.{◌≡◌, ℕ, ◌<◌, ◌==◌, nat_lt, ◌&&◌, true, false, List, [], ◌∷◌, map, filter, Option, Some, None, refl, sym, ap, subst, ◌∙◌, inl, inr, arith}
+use Rattle.std.specs.Prelude.{IsTrue, is_none}
+use Rattle.std.specs.List.{AllByRecursion}
+use Rattle.std.specs.Option.{option_map, option_and_then}
+use Rattle.std.proofs.lemmas.Bool.{and_parts, cases_Bool, cases_order, cond-true, cond-false, eqb-true, eq-eqb, ne_eqb, lt-ltb, ltb-true, le-ltb}
+use Rattle.room_entry.specs.Ace.{Ace}
+use Rattle.room_entry.specs.Pieces.{same_text}
+use Rattle.room_entry.specs.declared.object.Which.{Which}
+use Rattle.room_entry.specs.declared.object.Which.TheVariants.{Dacl, Sacl}
+use Rattle.room_entry.specs.declared.parties.Owners.{Owners}
+use Rattle.room_rows.specs.declared.node.AuditRow.{AuditRow}
+use Rattle.room_rows.specs.HeldList.{Held}
+use Rattle.room_rows.specs.declared.node.Node.{Node}
+use Rattle.room_rows.specs.Content.{Content, node_at, has_parent, root_of, child_of, children_of, parent_of, body_at, body_of, groups_of, put_body, with_node, with_body, with_each, with_records, is_rising, sorted_by_name}
+use Rattle.room_rows.specs.Held.{held_of, with_held}
+use Rattle.room_rows.specs.Keep.{with_inh, with_owners, with_place, reading}
+use Rattle.room_rows.specs.Rows.{Rows, AreRows, numbers_of, put_numbers}
+use Rattle.room_rows.proofs.Lookups as lookups
+use Rattle.room_rows.proofs.SamePlace as same_place
+use Rattle.room_rows.proofs.Lookups.{not_none, same_some}
+use Rattle.room_rows.proofs.SamePlace.{IsSamePlace, put_there, replaced}
+use Rattle.room_rows.proofs.Frames.{Rises, has_parent-of_place, is_child-of_place, node_at-number}
+
+-- ---- objects that stay in their places
+
+-- each object has the number, the parent and the name that it had
+abbrev pub KeepsPlaces : Content → (Node → Node) → Type 0
+KeepsPlaces content change = AllByRecursion (λ (n : Node). IsSamePlace (change n) n) content.nodes
+
+every_place : (change : Node → Node) → ((n : Node) → IsSamePlace (change n) n) → (nodes : List Node)
+    → AllByRecursion (λ (n : Node). IsSamePlace (change n) n) nodes
+every_place change same [] = tt
+every_place change same (x ∷ xs) = (same x, every_place change same xs)
+
+-- a change that leaves the place of any object leaves the places of those in a content
+pub keeps_places : (content : Content) (change : Node → Node)
+    → ((n : Node) → IsSamePlace (change n) n) → KeepsPlaces content change
+keeps_places content change same = every_place change same content.nodes
+
+module _ (content : Content) (change : Node → Node) (same : KeepsPlaces content change) where
+  -- by each number the same object is found as before, changed
+  pub node_at-with_each : (id : ℕ)
+      → node_at (with_each content change) id ≡ option_map change (node_at content id)
+  node_at-with_each id =
+      same_place.find-changed change (λ (n : Node). n.id == id)
+      (λ a b place. ap (λ (n : ℕ). n == id) place.number) content.nodes same
+
+  -- what was the root is the root, changed
+  pub root_of-with_each : root_of (with_each content change) ≡ option_map change (root_of content)
+  root_of-with_each =
+      same_place.find-changed change (λ (n : Node). is_none n.parent)
+      (λ a b place. ap is_none place.parent) content.nodes same
+
+  -- by each name below an object the child that had it is found, changed
+  pub child_of-with_each : (id : ℕ) (name : List ℕ)
+      → child_of (with_each content change) id name ≡ option_map change (child_of content id name)
+  child_of-with_each id name =
+      same_place.find-changed change (λ (n : Node). has_parent id n && same_text n.name name)
+      (is_child-of_place id name) content.nodes same
+
+  -- the same children in the same order
+  pub children_of-with_each : (id : ℕ)
+      → children_of (with_each content change) id ≡ map change (children_of content id)
+  children_of-with_each id =
+      ap sorted_by_name (same_place.filter-changed change (has_parent id)
+      (has_parent-of_place id) content.nodes same)
+      ∙ same_place.sorted-changed change (filter (has_parent id) content.nodes)
+      (lookups.each-weaker (λ (n : Node). IsSamePlace (change n) n × (has_parent id n ≡ true))
+      (λ (n : Node). IsSamePlace (change n) n) (λ n is. is.0) (filter (has_parent id) content.nodes)
+      (lookups.each-kept (λ (n : Node). IsSamePlace (change n) n)
+      (has_parent id) content.nodes same))
+
+  -- the objects have the numbers that they had, in the same order
+  pub numbers-with_each : map (λ (n : Node). n.id) (with_each content change).nodes
+      ≡ map (λ (n : Node). n.id) content.nodes
+  numbers-with_each =
+      same_place.map-changed change (λ (n : Node). n.id) (λ a b place. place.number) content.nodes same
+
+  -- where the numbers rose before the change, they rise after it
+  pub rises-with_each : Rises content → Rises (with_each content change)
+  rises-with_each rises =
+      subst (λ (ids : List ℕ). IsTrue (is_rising (0 ∷ ids))) (sym numbers-with_each) rises
+
+  -- what depends on the place alone stays, as the numbers and names of the children
+  pub children_of-part : {A : Type 0} (part : Node → A)
+      → ((a b : Node) → IsSamePlace a b → part a ≡ part b) → (id : ℕ)
+      → map part (children_of (with_each content change) id) ≡ map part (children_of content id)
+  children_of-part part of_place id =
+      ap (map part) (children_of-with_each id)
+      ∙ same_place.map-changed change part of_place (children_of content id)
+      (lookups.each-sorted (λ (n : Node). IsSamePlace (change n) n)
+      (filter (has_parent id) content.nodes)
+      (lookups.each-weaker (λ (n : Node). IsSamePlace (change n) n × (has_parent id n ≡ true))
+      (λ (n : Node). IsSamePlace (change n) n) (λ n is. is.0) (filter (has_parent id) content.nodes)
+      (lookups.each-kept (λ (n : Node). IsSamePlace (change n) n)
+      (has_parent id) content.nodes same)))
+
+  -- the numbers in the list of children stay, in their order
+  pub children_numbers-with_each : (id : ℕ)
+      → map (λ (n : Node). n.id) (children_of (with_each content change) id)
+      ≡ map (λ (n : Node). n.id) (children_of content id)
+  children_numbers-with_each id =
+      children_of-part (λ (n : Node). n.id) (λ a b place. place.number) id
+
+  -- the names in the list of children stay, in their order
+  pub children_names-with_each : (id : ℕ)
+      → map (λ (n : Node). n.name) (children_of (with_each content change) id)
+      ≡ map (λ (n : Node). n.name) (children_of content id)
+  children_names-with_each id = children_of-part (λ (n : Node). n.name) (λ a b place. place.name) id
+
+  parent_at : (parent : Option ℕ)
+      → option_and_then (node_at (with_each content change)) parent
+      ≡ option_map change (option_and_then (node_at content) parent)
+  parent_at None = refl
+  parent_at (Some id) = node_at-with_each id
+
+  -- the parent that an object had is its parent, changed
+  pub parent_of-with_each : (node : Node)
+      → parent_of (with_each content change) node ≡ option_map change (parent_of content node)
+  parent_of-with_each node = parent_at node.parent
+
+-- one change after the other
+map-twice : (first second : Node → Node) (nodes : List Node)
+    → map second (map first nodes) ≡ map (λ (n : Node). second (first n)) nodes
+map-twice first second [] = refl
+map-twice first second (x ∷ xs) =
+    ap (λ (l : List Node). second (first x) ∷ l) (map-twice first second xs)
+
+-- two changes of each object are one change, the second of what the first gives
+pub with_each-with_each : (content : Content) (first second : Node → Node)
+    → with_each (with_each content first) second
+    ≡ with_each content (λ (n : Node). second (first n))
+with_each-with_each content first second =
+    ap (λ (nodes : List Node). record content { nodes = nodes })
+    (map-twice first second content.nodes)
+
+-- ---- an object put in the place of the one of its number
+
+module _ (content : Content) (rises : Rises content) (id : ℕ) (node new : Node)
+    (found : node_at content id ≡ Some node) (same : IsSamePlace new node) where
+  -- it equals a change of each object that leaves the others alone
+  pub with_node-replaces : with_node content new ≡ with_each content (replaced new)
+  with_node-replaces =
+      ap (λ (nodes : List Node). record content { nodes = nodes })
+      (same_place.put-replaces 0 content.nodes id node new rises found
+      (same.number ∙ node_at-number content id node found))
+
+  -- the new object in place of the old one leaves the number, parent and name of each object
+  pub places-replaced : KeepsPlaces content (replaced new)
+  places-replaced = same_place.replaced_places 0 content.nodes id node new rises found same
+
+  -- by the number of the new object it is found, and by any other what was found before
+  pub node_at-replaced : (at : ℕ)
+      → node_at (with_node content new) at ≡ option_map (replaced new) (node_at content at)
+  node_at-replaced at =
+      ap (λ (c : Content). node_at c at) with_node-replaces
+      ∙ node_at-with_each content (replaced new) places-replaced at
+
+  -- the root is the new object if it replaced the root, and else the same as before
+  pub root_of-replaced : root_of (with_node content new)
+      ≡ option_map (replaced new) (root_of content)
+  root_of-replaced =
+      ap root_of with_node-replaces ∙ root_of-with_each content (replaced new) places-replaced
+
+  -- a name below an object leads to the same child, or to the new object if it replaced that
+  pub child_of-replaced : (at : ℕ) (name : List ℕ)
+      → child_of (with_node content new) at name
+      ≡ option_map (replaced new) (child_of content at name)
+  child_of-replaced at name =
+      ap (λ (c : Content). child_of c at name) with_node-replaces
+      ∙ child_of-with_each content (replaced new) places-replaced at name
+
+  -- the list of children is as before, but for the new object where the old one was in it
+  pub children_of-replaced : (at : ℕ)
+      → children_of (with_node content new) at ≡ map (replaced new) (children_of content at)
+  children_of-replaced at =
+      ap (λ (c : Content). children_of c at) with_node-replaces
+      ∙ children_of-with_each content (replaced new) places-replaced at
+
+  -- the parent of any object is the same as before, or the new object if it replaced that
+  pub parent_of-replaced : (other : Node)
+      → parent_of (with_node content new) other
+      ≡ option_map (replaced new) (parent_of content other)
+  parent_of-replaced other =
+      ap (λ (c : Content). parent_of c other) with_node-replaces
+      ∙ parent_of-with_each content (replaced new) places-replaced other
+
+  -- the children of any object have the numbers that they had before one was replaced
+  pub children_numbers-replaced : (at : ℕ)
+      → map (λ (n : Node). n.id) (children_of (with_node content new) at)
+      ≡ map (λ (n : Node). n.id) (children_of content at)
+  children_numbers-replaced at =
+      ap (λ (c : Content). map (λ (n : Node). n.id) (children_of c at)) with_node-replaces
+      ∙ children_numbers-with_each content (replaced new) places-replaced at
+
+  -- the children of any object have the names that they had before one was replaced
+  pub children_names-replaced : (at : ℕ)
+      → map (λ (n : Node). n.name) (children_of (with_node content new) at)
+      ≡ map (λ (n : Node). n.name) (children_of content at)
+  children_names-replaced at =
+      ap (λ (c : Content). map (λ (n : Node). n.name) (children_of c at)) with_node-replaces
+      ∙ children_names-with_each content (replaced new) places-replaced at
+
+  -- an object replaced by one of its number leaves the list of all numbers as it was
+  pub numbers-replaced : map (λ (n : Node). n.id) (with_node content new).nodes
+      ≡ map (λ (n : Node). n.id) content.nodes
+  numbers-replaced =
+      ap (λ (c : Content). map (λ (n : Node). n.id) c.nodes) with_node-replaces
+      ∙ numbers-with_each content (replaced new) places-replaced
+
+  -- the numbers of the objects rise still once one is replaced by another of its number
+  pub rises-replaced : Rises (with_node content new)
+  rises-replaced =
+      subst Rises (sym with_node-replaces)
+      (rises-with_each content (replaced new) places-replaced rises)
+
+-- all numbers in use stay
+pub numbers_of-reading : (rows : Rows) (content : Content)
+    → map (λ (n : Node). n.id) content.nodes ≡ map (λ (n : Node). n.id) rows.read.nodes
+    → numbers_of (reading rows content) ≡ numbers_of rows
+numbers_of-reading rows content same = ap (put_numbers rows.unreadable) same
+
+-- ---- changes that leave the place
+
+-- an object stays in its place with another list
+pub place-with_held : (which : Which) (held : Held) (node : Node)
+    → IsSamePlace (with_held which held node) node
+place-with_held Dacl held node = record { number = refl; parent = refl; name = refl }
+place-with_held Sacl held node = record { number = refl; parent = refl; name = refl }
+
+-- it stays there with other inherited entries in a list
+pub place-with_inh : (which : Which) (entries : List Ace) (node : Node)
+    → IsSamePlace (with_inh which entries node) node
+place-with_inh which entries node =
+    place-with_held which (record (held_of which node) { inh = entries }) node
+
+-- it stays there with another owner and group
+pub place-with_owners : (owners : Owners) (node : Node) → IsSamePlace (with_owners owners node) node
+place-with_owners owners node = record { number = refl; parent = refl; name = refl }
+
+-- a move leaves the number
+pub number-with_place : (parent : ℕ) (name : List ℕ) (node : Node)
+    → (with_place parent name node).id ≡ node.id
+number-with_place parent name node = refl
+
+-- ---- the lists of a changed object
+
+-- the list that was set is the object's list of that attribute
+pub held_of-with_held : (which : Which) (held : Held) (node : Node)
+    → held_of which (with_held which held node) ≡ held
+held_of-with_held Dacl held node = refl
+held_of-with_held Sacl held node = refl
+
+-- the list of the other attribute stays when one is set
+pub held_of-with_held-other : (which other : Which) (held : Held) (node : Node)
+    → (which ≡ other → ⊥) → held_of other (with_held which held node) ≡ held_of other node
+held_of-with_held-other Dacl Dacl held node apart = absurd (apart refl)
+held_of-with_held-other Dacl Sacl held node apart = refl
+held_of-with_held-other Sacl Dacl held node apart = refl
+held_of-with_held-other Sacl Sacl held node apart = absurd (apart refl)
+
+-- inherited entries that are set leave the own entries and flags of their list
+pub held_of-with_inh : (which : Which) (entries : List Ace) (node : Node)
+    → held_of which (with_inh which entries node) ≡ record (held_of which node) { inh = entries }
+held_of-with_inh which entries node =
+    held_of-with_held which (record (held_of which node) { inh = entries }) node
+
+-- they leave the list of the other attribute as a whole
+pub held_of-with_inh-other : (which other : Which) (entries : List Ace) (node : Node)
+    → (which ≡ other → ⊥) → held_of other (with_inh which entries node) ≡ held_of other node
+held_of-with_inh-other which other entries node apart =
+    held_of-with_held-other which other (record (held_of which node) { inh = entries }) node apart
+
+-- with another list a document is still a document, and a folder a folder
+pub kind-with_held : (which : Which) (held : Held) (node : Node)
+    → (with_held which held node).kind ≡ node.kind
+kind-with_held Dacl held node = refl
+kind-with_held Sacl held node = refl
+
+-- with another list an object still has its owner and group
+pub owners-with_held : (which : Which) (held : Held) (node : Node)
+    → (with_held which held node).owners ≡ node.owners
+owners-with_held Dacl held node = refl
+owners-with_held Sacl held node = refl
+
+-- ---- what isn't an object
+
+-- an object that is put leaves the bytes of all documents
+pub body_of-with_node : (content : Content) (node : Node) (id : ℕ)
+    → body_of (with_node content node) id ≡ body_of content id
+body_of-with_node content node id = refl
+
+-- it leaves the groups of each user
+pub groups_of-with_node : (content : Content) (node : Node) (user : List ℕ)
+    → groups_of (with_node content node) user ≡ groups_of content user
+groups_of-with_node content node user = refl
+
+-- it leaves the records
+pub records-with_node : (content : Content) (node : Node)
+    → (with_node content node).audits ≡ content.audits
+records-with_node content node = refl
+
+-- a change of each object leaves the bytes of all documents
+pub body_of-with_each : (content : Content) (change : Node → Node) (id : ℕ)
+    → body_of (with_each content change) id ≡ body_of content id
+body_of-with_each content change id = refl
+
+-- bytes that are set leave the objects
+pub node_at-with_body : (content : Content) (id : ℕ) (bytes : List ℕ) (at : ℕ)
+    → node_at (with_body content id bytes) at ≡ node_at content at
+node_at-with_body content id bytes at = refl
+
+-- records that are added leave the objects
+pub node_at-with_records : (content : Content) (rows : List AuditRow) (at : ℕ)
+    → node_at (with_records content rows) at ≡ node_at content at
+node_at-with_records content rows at = refl
+
+body_yes : (row : ℕ × List ℕ) (rows : List (ℕ × List ℕ)) (id : ℕ) → (row.0 == id) ≡ true
+    → body_at (row ∷ rows) id ≡ Some row.1
+body_yes row rows id is = cond-true (row.0 == id) (Some row.1) (body_at rows id) is
+
+body_no : (row : ℕ × List ℕ) (rows : List (ℕ × List ℕ)) (id : ℕ) → (row.0 == id) ≡ false
+    → body_at (row ∷ rows) id ≡ body_at rows id
+body_no row rows id isnt = cond-false (row.0 == id) (Some row.1) (body_at rows id) isnt
+
+bytes_behind : (id : ℕ) (bytes : List ℕ) (row : ℕ × List ℕ) (rows : List (ℕ × List ℕ)) → row.0 < id
+    → put_body id bytes (row ∷ rows) ≡ row ∷ put_body id bytes rows
+bytes_behind id bytes row rows below = cond-true _ _ _ (lt-ltb row.0 id below)
+
+bytes_here : (id : ℕ) (bytes : List ℕ) (row : ℕ × List ℕ) (rows : List (ℕ × List ℕ)) → row.0 ≡ id
+    → put_body id bytes (row ∷ rows) ≡ (id, bytes) ∷ rows
+bytes_here id bytes row rows e =
+    cond-false _ _ _ (le-ltb row.0 id (omega (arith, e))) ∙ cond-true _ _ _ (eq-eqb row.0 id e)
+
+bytes_before : (id : ℕ) (bytes : List ℕ) (row : ℕ × List ℕ) (rows : List (ℕ × List ℕ)) → id < row.0
+    → put_body id bytes (row ∷ rows) ≡ (id, bytes) ∷ row ∷ rows
+bytes_before id bytes row rows above =
+    cond-false _ _ _ (le-ltb row.0 id (omega (arith, above)))
+    ∙ cond-false _ _ _ (ne_eqb row.0 id (λ e. absurd (omega (arith, above, e))))
+
+bytes_put : (id : ℕ) (bytes : List ℕ) (rows : List (ℕ × List ℕ))
+    → body_at (put_body id bytes rows) id ≡ Some bytes
+bytes_put id bytes [] = body_yes (id, bytes) [] id (eq-eqb id id refl)
+bytes_put id bytes (row ∷ rows) = elim (cases_order row.0 id) [
+  | inl e ↦ ap (λ (l : List (ℕ × List ℕ)). body_at l id) (bytes_here id bytes row rows e)
+      ∙ body_yes (id, bytes) rows id (eq-eqb id id refl)
+  | inr apart ↦ elim apart [
+    | inl below ↦
+        ap (λ (l : List (ℕ × List ℕ)). body_at l id) (bytes_behind id bytes row rows below)
+        ∙ body_no row (put_body id bytes rows) id
+        (ne_eqb row.0 id (λ e. absurd (omega (arith, below, e)))) ∙ bytes_put id bytes rows
+    | inr above ↦
+        ap (λ (l : List (ℕ × List ℕ)). body_at l id) (bytes_before id bytes row rows above)
+        ∙ body_yes (id, bytes) (row ∷ rows) id (eq-eqb id id refl)
+  ]
+]
+
+bytes_put-other : (id : ℕ) (bytes : List ℕ) (rows : List (ℕ × List ℕ)) (at : ℕ) → (at ≡ id → ⊥)
+    → body_at (put_body id bytes rows) at ≡ body_at rows at
+bytes_put-other id bytes [] at other = body_no (id, bytes) [] at (ne_eqb id at (λ e. other (sym e)))
+bytes_put-other id bytes (row ∷ rows) at other =
+    let fails : (id == at) ≡ false = ne_eqb id at (λ e. other (sym e)) in
+    elim (cases_order row.0 id) [
+      | inl e ↦ ap (λ (l : List (ℕ × List ℕ)). body_at l at) (bytes_here id bytes row rows e)
+          ∙ body_no (id, bytes) rows at fails
+          ∙ sym (body_no row rows at (ne_eqb row.0 at (λ e'. other (sym e' ∙ e))))
+      | inr apart ↦ elim apart [
+        | inl below ↦
+            ap (λ (l : List (ℕ × List ℕ)). body_at l at) (bytes_behind id bytes row rows below)
+            ∙ (elim (cases_Bool (row.0 == at)) [
+              | inl is ↦ body_yes row (put_body id bytes rows) at is ∙ sym (body_yes row rows at is)
+              | inr isnt ↦ body_no row (put_body id bytes rows) at isnt
+                  ∙ bytes_put-other id bytes rows at other ∙ sym (body_no row rows at isnt)
+            ])
+        | inr above ↦
+            ap (λ (l : List (ℕ × List ℕ)). body_at l at) (bytes_before id bytes row rows above)
+            ∙ body_no (id, bytes) (row ∷ rows) at fails
+      ]
+    ]
+
+-- the bytes that were put
+pub body_of-with_body : (content : Content) (id : ℕ) (bytes : List ℕ)
+    → body_of (with_body content id bytes) id ≡ Some bytes
+body_of-with_body content id bytes = bytes_put id bytes content.bodies
+
+-- the bytes of other documents stay when those of one are set
+pub body_of-with_body-other : (content : Content) (id : ℕ) (bytes : List ℕ) (at : ℕ) → (at ≡ id → ⊥)
+    → body_of (with_body content id bytes) at ≡ body_of content at
+body_of-with_body-other content id bytes at other = bytes_put-other id bytes content.bodies at other
+
+-- ---- what is there, put once more
+
+-- an object, put as it is there already, leaves the content as it is
+pub with_node-there : (content : Content) → Rises content → (node : Node)
+    → node_at content node.id ≡ Some node → with_node content node ≡ content
+with_node-there content rises node there =
+    ap (λ (nodes : List Node). record content { nodes = nodes })
+    (put_there 0 content.nodes node rises there)
+
+body_above : (k id : ℕ) (bytes : List ℕ) (rows : List (ℕ × List ℕ))
+    → is_rising (k ∷ map (λ row. row.0) rows) ≡ true → body_at rows id ≡ Some bytes → k < id
+body_above k id bytes [] rises found = absurd (not_none bytes found)
+body_above k id bytes (row ∷ rows) rises found =
+    let parts = and_parts (nat_lt k row.0) (is_rising (row.0 ∷ map (λ r. r.0) rows)) rises in
+    let up = ltb-true k row.0 parts.0 in
+    elim (cases_Bool (row.0 == id)) [
+      | inl is ↦ subst (λ n. k < n) (eqb-true row.0 id is) up
+      | inr isnt ↦ let next =
+          body_above row.0 id bytes rows parts.1 (sym (body_no row rows id isnt) ∙ found) in
+          omega (arith, up, next)
+    ]
+
+bytes_there : (k id : ℕ) (bytes : List ℕ) (rows : List (ℕ × List ℕ))
+    → is_rising (k ∷ map (λ row. row.0) rows) ≡ true → body_at rows id ≡ Some bytes
+    → put_body id bytes rows ≡ rows
+bytes_there k id bytes [] rises found = absurd (not_none bytes found)
+bytes_there k id bytes (row ∷ rows) rises found =
+    let parts = and_parts (nat_lt k row.0) (is_rising (row.0 ∷ map (λ r. r.0) rows)) rises in
+    elim (cases_Bool (row.0 == id)) [
+      | inl is ↦
+          let e = eqb-true row.0 id is in
+          let same = same_some row.1 bytes (sym (body_yes row rows id is) ∙ found) in
+          bytes_here id bytes row rows e
+          ∙ ap (λ (r : ℕ × List ℕ). r ∷ rows) (λ i. (sym e i, sym same i))
+      | inr isnt ↦
+          let later = sym (body_no row rows id isnt) ∙ found in
+          bytes_behind id bytes row rows (body_above row.0 id bytes rows parts.1 later)
+          ∙ ap (λ (l : List (ℕ × List ℕ)). row ∷ l) (bytes_there row.0 id bytes rows parts.1 later)
+    ]
+
+-- the bytes that a document has, put once more, leave the content of the rows
+pub with_body-there : (rows : Rows) → AreRows rows → (id : ℕ) (bytes : List ℕ)
+    → body_of rows.read id ≡ Some bytes → with_body rows.read id bytes ≡ rows.read
+with_body-there rows are id bytes there =
+    ap (λ (bodies : List (ℕ × List ℕ)). record rows.read { bodies = bodies })
+    (bytes_there 0 id bytes rows.read.bodies are.body_numbers there)
