@@ -1,4 +1,4 @@
-// The requests of docs/http.md and their replies, as promises. Nothing of the page stands here.
+// The requests of docs/http.md and their replies, as promises. Nothing here draws the page.
 
 export const GREATEST_DOCUMENT = 1048576;
 export const ALL_RIGHTS = 'rwanNxDtThHdcCoy';
@@ -12,7 +12,7 @@ export class Refusal extends Error {
   }
 }
 
-// A path is '/' or a '/' before each name. In a target each name has its escapes.
+// A path is '/' alone, or a '/' before each name. In a target each name is percent-encoded.
 export function target(word, path) {
   return `/${word}/${path.split('/').slice(1).map(encodeURIComponent).join('/')}`;
 }
@@ -88,7 +88,7 @@ export async function can(path, letters) {
   }));
 }
 
-// Asking for no right tells whether something is there, to whoever may pass through the folders above.
+// Asking for no rights shows whether something exists, if the caller may pass through the folders above.
 export async function isThere(path) {
   try {
     await can(path, '');
@@ -99,7 +99,7 @@ export async function isThere(path) {
   }
 }
 
-// A document gets these bytes. XMLHttpRequest, since fetch doesn't tell how far an upload is.
+// A document gets these bytes. XMLHttpRequest, since fetch doesn't report an upload's progress.
 export function put(path, bytes, onProgress = () => {}) {
   return new Promise((resolve, reject) => {
     const asking = new XMLHttpRequest();

@@ -1,4 +1,4 @@
-// The page: who asks, where one stands, and what is shown there.
+// The page: who is signed in, which place is open, and what is shown there.
 
 import * as api from './api.js';
 import { element, icon, nameText } from './dom.js';
@@ -13,7 +13,7 @@ import { isUploading } from './upload.js';
 const TABS = [['rights', 'My rights'], ['dacl', 'Who may do what'], ['sacl', 'What is recorded']];
 const main = document.querySelector('main');
 
-// Each look at a place has a number, so that a slow reply isn't shown at a later place.
+// Each visit of a place has a number, so that a slow reply isn't shown at a later place.
 let looks = 0;
 
 function objectHead(path, view, kind) {
@@ -73,12 +73,12 @@ window.addEventListener('hashchange', () => {
 window.addEventListener('beforeunload', (event) => {
   if (hasUnsent() || isUploading()) event.preventDefault();
 });
-// A file that is dropped beside the folder doesn't take the page's place.
+// A file that is dropped outside the folder doesn't replace the page.
 for (const kind of ['dragover', 'drop']) {
   window.addEventListener(kind, (event) => event.preventDefault());
 }
 document.getElementById('skip').addEventListener('click', (event) => {
-  // Behind the '#' stands the place.
+  // The place follows the '#'.
   event.preventDefault();
   main.focus();
 });

@@ -1,6 +1,6 @@
 // The lines in which two texts differ.
 
-// For all ends of both texts the length of the longest common rest.
+// For every pair of suffixes of both texts, the length of their longest common subsequence.
 function commonLengths(before, after) {
   const lengths = Array.from({ length: before.length + 1 }, () => new Uint16Array(after.length + 1));
   for (let i = before.length - 1; i >= 0; i -= 1) {

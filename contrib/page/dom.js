@@ -14,7 +14,7 @@ export function element(tag, properties = {}, ...children) {
   return made;
 }
 
-// A name stands in its own direction, so that right-to-left text doesn't turn what is round it.
+// A name is isolated, so that right-to-left text doesn't turn the text around it.
 export const nameText = (name) => element('bdi', { class: 'name' }, name);
 
 const SHAPES = {

@@ -1,8 +1,8 @@
-// A list as it is being changed. Its text and its entries are kept equal, whichever of both is edited.
+// A list that is being edited. Its text and its entries are kept equal, whichever of the two is edited.
 
 import { isInherited, lineOfEntry, printList, readListText } from './list.js';
 
-// What was changed and not sent stays here while other places are looked at.
+// Unsent changes are kept here while other places are looked at.
 const unsent = new Map();
 export const hasUnsent = () => unsent.size > 0;
 
@@ -30,7 +30,7 @@ export class Draft {
     this.keep();
   }
 
-  // To be called after 'list' was changed.
+  // Call this after a change of 'list'.
   listChanged() {
     this.text = printList(this.list);
     this.fault = null;
@@ -58,7 +58,7 @@ export class Draft {
     return this.list.entries.filter(isInherited);
   }
 
-  // A new entry comes behind the last own one. Answers its place, from 0.
+  // Adds an entry after the last own one. Returns its place, from 0.
   add(entry) {
     const place = (this.ownPlaces().at(-1) ?? -1) + 1;
     this.list.entries.splice(place, 0, entry);
@@ -71,7 +71,7 @@ export class Draft {
     this.listChanged();
   }
 
-  // Exchanges an own entry with the next one before (-1) or behind (1). Answers its new place.
+  // Exchanges an own entry with the one before (-1) or after it (1). Returns its new place.
   shift(place, step) {
     const own = this.ownPlaces();
     const other = own[own.indexOf(place) + step];
@@ -87,7 +87,7 @@ export class Draft {
     this.listChanged();
   }
 
-  // A fault that the room told, at a line or at an entry of what was sent.
+  // A fault that the room reported, at a line or at an entry of what was sent.
   setRoomFault(body) {
     const line = body.line ?? lineOfEntry(this.text, body.entry);
     this.fault = { line, code: body.why.split(' ')[1] };

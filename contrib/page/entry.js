@@ -7,7 +7,7 @@ import { GROUPS, REACHES, TYPE_WORDS, extentOf, faultWords, reachWords, rightWor
 const TYPES = { dacl: ['A', 'D'], sacl: ['U', 'L'] };
 const OUTCOMES = [['F', 'what was refused'], ['S', 'what was granted'], ['SF', 'both'], ['', 'nothing']];
 
-// The flags of one set are replaced by others.
+// Replaces the flags of one set by others.
 const exchange = (flags, set, others) =>
   orderFlags([...flags].filter((flag) => !set.includes(flag)).join('') + others);
 const flagsOf = (entry, set) => [...set].filter((flag) => entry.flags.includes(flag)).join('');
@@ -94,7 +94,7 @@ function singleRights(entry, kind, changed) {
   return { boxes, parts };
 }
 
-// The three groups, the letters beside, and single rights where they are opened.
+// The three groups with their letters, and single rights when they are opened.
 function rightsControl(entry, kind, changed) {
   const letters = element('code', { class: 'letters' });
   const shows = [];
@@ -107,7 +107,7 @@ function rightsControl(entry, kind, changed) {
     changed();
   };
   const groups = GROUPS.map((group) => groupBox(group, entry, both));
-  // On a folder an entry speaks of what lies below, too.
+  // On a folder an entry also applies to what lies below.
   const { boxes, parts } = singleRights(entry, kind === 'folder' ? 'both' : kind, both);
   shows.push(...[...groups, ...boxes].map((one) => one.show));
   all();

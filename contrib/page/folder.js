@@ -16,7 +16,7 @@ export function sorted(children) {
     || reading.compare(one.name, other.name) || (one.name < other.name ? -1 : 1));
 }
 
-// The bytes come first and are then handed to the browser, so that a denial is told as a sentence.
+// Fetches the bytes first and then hands them to the browser, so that a denial can be shown as a sentence.
 async function download(path) {
   const bytes = await waitFor(api.read(path));
   const address = URL.createObjectURL(bytes);
@@ -53,7 +53,7 @@ async function move(path, kind) {
   return true;
 }
 
-// Does something, tells what hinders it, and shows the folder anew where something changed.
+// Does something, reports what went wrong, and shows the folder again if something changed.
 async function doing(act, refresh) {
   try {
     if (await act()) await refresh();

@@ -1,4 +1,4 @@
-// Where the page stands is told behind the '#' of its address, so that places can be linked and kept.
+// The open place follows the '#' of the address, so that it can be linked and kept as a bookmark.
 
 import { join, namesOf } from './api.js';
 import { element, nameText } from './dom.js';

@@ -33,7 +33,7 @@ export function readEntry(line) {
 
 export const printEntry = (entry) => `${entry.type}:${entry.flags}:${entry.who}:${entry.mask}`;
 
-// The lines as the room counts them: what stands behind the last LF is a line unless it is empty.
+// The lines as the room counts them: what follows the last LF is a line, unless it is empty.
 export function linesOf(text) {
   const lines = text.split('\n');
   if (lines.at(-1) === '') lines.pop();
@@ -43,7 +43,7 @@ export function linesOf(text) {
 const isSkipped = (line) => /^[ \t]*$/.test(line) || line.startsWith('#');
 const isUnicode = (line) => !/\p{Surrogate}/u.test(line);
 
-// The fault of an entry's line, or none and the entry is taken.
+// The fault of an entry's line; without one, the entry is added.
 function takeEntry(list, line) {
   const { entry, fault } = readEntry(line);
   if (fault) return fault;
@@ -92,7 +92,7 @@ export function entryFault(entry, which, kind) {
   return null;
 }
 
-// The text's line on which the entry at a place stands, both from 1.
+// The line of the text that has the entry at a place, both counted from 1.
 export function lineOfEntry(text, place) {
   let seen = -1;
   for (const [index, line] of linesOf(text).entries()) {

@@ -11,11 +11,11 @@ import { drawText } from './text.js';
 import { sentenceOf } from './words.js';
 
 const INTRODUCTIONS = {
-  dacl: 'Entries are gone through from the first to the last: of each right the first entry decides that speaks of the caller. What no entry speaks of isn’t granted.',
-  sacl: 'These entries grant and deny nothing. They ask that the room keeps a record of what was tried.',
+  dacl: 'The list is read from top to bottom: each right is decided by the first entry that applies to the caller and has that right. What no entry allows is denied.',
+  sacl: 'These entries grant and deny nothing. They make the room record what was tried.',
 };
 
-const UNSENT = 'Your changes don’t count before you send them.';
+const UNSENT = 'Your changes have no effect until you send them.';
 
 async function mayChange(path) {
   const rulings = await api.can(path, 'C').catch(() => null);
@@ -57,7 +57,7 @@ async function deliver(draft, both) {
   }
 }
 
-// What can be done with changes, as long as there are some.
+// What can be done with unsent changes, as long as there are any.
 function changesBar(draft, both) {
   const told = element('p', { class: 'unseen', role: 'status' });
   const send = button('Review and send', async () => {
@@ -86,7 +86,7 @@ export async function showList(path, which, kind, box, isCurrent) {
     draft.mayChange = may;
     const both = panes(draft);
     const note = may ? null
-      : element('p', { class: 'hint' }, 'You may look at this list and not change it: you lack the right C (change its access lists).');
+      : element('p', { class: 'hint' }, 'You may look at this list but not change it: you lack the right C (change its access lists).');
     box.replaceChildren(element('p', { class: 'lead' }, INTRODUCTIONS[which]), ...[note].filter(Boolean),
       both.strip, both.panel, ...changesBar(draft, both));
   } catch (fault) {

@@ -1,4 +1,4 @@
-// The question where an object shall lie, and under which name.
+// Asks where an object is to go, and under which name.
 
 import * as api from './api.js';
 import { button, element, icon, nameText } from './dom.js';
@@ -29,7 +29,7 @@ function chooser(chosen, moved) {
   return element('fieldset', {}, element('legend', {}, 'Folder'), where, folders);
 }
 
-// Answers the new path, or null.
+// Returns the new path, or null.
 export async function askMove(path, kind) {
   const chosen = { path: api.parentOf(path) };
   const names = await form(`Rename or move the ${kind}`,

@@ -1,11 +1,11 @@
-// What the page tells at its top, and questions in a dialog.
+// Messages at the top of the page, and questions in a dialog.
 
 import { button, element, field, icon } from './dom.js';
 import { sentenceOf } from './words.js';
 
 const place = () => document.getElementById('notices');
 
-// 'kind' is 'good' or 'bad'. Good news goes by itself, bad news stays until it is put aside.
+// 'kind' is 'good' or 'bad'. Good news disappears by itself, bad news stays until it is closed.
 export function tell(kind, text, ...actions) {
   const close = button(icon('cross'), () => notice.remove(), { class: 'plain', 'aria-label': 'Close this message' });
   const notice = element('div', { class: `notice ${kind}`, role: kind === 'bad' ? 'alert' : 'status' },
@@ -29,7 +29,7 @@ export function clearNotices() {
   for (const notice of place().querySelectorAll('.notice.bad')) notice.remove();
 }
 
-// Shows a dialog and answers what 'finish' was called with, or null where it was put aside.
+// Shows a dialog. Returns what 'finish' was called with, or null if the dialog was closed.
 export function showDialog(title, build) {
   return new Promise((resolve) => {
     let answer = null;
@@ -59,7 +59,7 @@ export function question(title, text, answers) {
   ]);
 }
 
-// A form of text fields: [{label, value, hint, fault: text => sentence or null}]. Answers the values, or null.
+// A form of text fields: [{label, value, hint, fault: text => sentence or null}]. Returns the values, or null.
 export function form(title, fields, submit, ...more) {
   return showDialog(title, (finish) => {
     const inputs = fields.map((one) => element('input', {
@@ -85,7 +85,7 @@ function showFault(input, box, fault, hint) {
   box.querySelector('.hint').textContent = fault ?? hint ?? '';
 }
 
-// A thin line at the top while something is asked; the page stays usable.
+// Shows a thin line at the top while a request runs; the page stays usable.
 let waiting = 0;
 export async function waitFor(promise) {
   waiting += 1;

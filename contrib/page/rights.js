@@ -26,13 +26,13 @@ function reason(ruling, entries, where = '') {
   return [`By entry ${ruling.place}${from}, which ${verb} it to ${whoWords(entry)}. `, element('code', {}, printEntry(entry))];
 }
 
-// The rule of deleting: the object's list and that of its folder are looked at together.
+// The rule of deleting: the object's list and its folder's list decide together.
 function removal(own, above, entries, folder) {
   const there = ` of the folder ${placeWords(folder)}`;
   if (own.ruling === 'allowed') return { may: true, why: reason(own, entries) };
   if (above.D.ruling === 'allowed') return { may: true, why: reason(above.D, [], there) };
   if (own.ruling === 'denied') return { may: false, why: reason(own, entries) };
-  // Where neither list speaks of removing, w at the folder decides.
+  // If neither list mentions removing, the right w on the folder decides.
   const denied = [above.D, above.w].find((one) => one.ruling === 'denied');
   if (denied) return { may: false, why: reason(denied, [], there) };
   if (above.w.ruling === 'allowed') {
@@ -97,7 +97,7 @@ function ownersBox(path, attributes, refresh) {
     button('Change', () => changeOwners(path, attributes, refresh), { class: 'small', 'aria-label': 'Change owner and group' }));
 }
 
-// Whether the object is a folder: told by its attributes, by the listing above it, or by its own.
+// Whether the object is a folder: by its attributes, by the listing of its parent, or by its own listing.
 export async function kindOf(path) {
   if (path === '/') return 'folder';
   const attributes = await api.readAttributes(path).catch(none);

@@ -1,4 +1,4 @@
-// A changed list on its way to the room: what is changed is shown first, and nothing is overwritten unseen.
+// Sends a changed list to the room: the changes are shown first, and nothing is overwritten unseen.
 
 import * as api from './api.js';
 import { changedLines } from './diff.js';
@@ -28,7 +28,7 @@ const review = (before, after) => showDialog('Send these changes?', (finish) => 
     button('Send', () => finish('send'), { class: 'primary', autofocus: true }))]);
 
 const changedElsewhere = (before, now) => showDialog('The list was changed elsewhere', (finish) => [
-  element('p', {}, 'Since you opened it, somebody changed this list or one that it follows:'),
+  element('p', {}, 'Since you opened it, somebody changed this list or one that it inherits from:'),
   difference(before, now),
   element('p', {}, 'Take the list as it is now and drop your changes, or go on with yours. Then you are shown what they would undo.'),
   element('div', { class: 'actions' },
@@ -36,7 +36,7 @@ const changedElsewhere = (before, now) => showDialog('The list was changed elsew
     button('Take the list as it is', () => finish('theirs')),
     button('Go on with mine', () => finish('mine')))]);
 
-// 'sent', 'dropped' where the list of the room was taken, or null where nothing was done.
+// 'sent'; 'dropped' if the user took the room's list; or null if nothing was done.
 export async function sendList(draft) {
   for (;;) {
     const now = await waitFor(api.readList(draft.which, draft.path));
@@ -48,7 +48,7 @@ export async function sendList(draft) {
     }
     if (!draft.isChanged) return 'dropped';
     if (!(await review(now, draft.text))) return null;
-    // Whoever thinks about the changes may take a while.
+    // The user may take a while to review the changes.
     if (await waitFor(api.readList(draft.which, draft.path)) === now) break;
   }
   await waitFor(api.setList(draft.which, draft.path, draft.text));

@@ -91,7 +91,7 @@ function rows(draft, columns, redraw) {
   return [...made, ...draft.inherited().map((entry) => inheritedRow(draft, entry))];
 }
 
-// Draws the table into 'body'. 'focusOn' picks what has the focus then.
+// Draws the table into 'body'. 'focusOn' picks what then has the focus.
 export function drawTable(draft, body, focusOn = null) {
   if (!draft.list) {
     body.replaceChildren(element('p', { class: 'empty' },
@@ -107,7 +107,7 @@ export function drawTable(draft, body, focusOn = null) {
   const content = draft.list.entries.length === 0
     ? element('p', { class: 'empty' }, 'The list has no entries.')
     : element('table', { class: 'entries' },
-      element('caption', { class: 'unseen' }, 'Entries in their order. The first that speaks of somebody and a right decides.'),
+      element('caption', { class: 'unseen' }, 'Entries in order. The first one that applies to a caller and has a right decides it.'),
       element('thead', {}, element('tr', {}, top)), element('tbody', {}, rows(draft, top.length, redraw)));
   body.replaceChildren(flags(draft, redraw), content, ...(draft.mayChange ? [add] : []));
   focusOn?.(body, add)?.focus();

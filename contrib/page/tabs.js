@@ -1,4 +1,4 @@
-// Tabs, as a screen reader and the keyboard know them.
+// Tabs that work with a screen reader and with the keyboard.
 
 import { element, freshId } from './dom.js';
 

@@ -1,4 +1,4 @@
-// A list as text, with the numbers of its lines and its fault beside the line at which it stands.
+// A list as text, with line numbers, and with its fault beside the line that has it.
 
 import { element, freshId } from './dom.js';
 import { linesOf } from './list.js';
@@ -10,7 +10,7 @@ function numbers(draft) {
     { class: draft.fault?.line === index + 1 ? 'wrong' : null }, String(index + 1)));
 }
 
-// Draws the text into 'body'. Answers a call that shows its fault, and at 'true' goes there.
+// Draws the text into 'body'. Returns a function that shows its fault and, given true, moves there.
 export function drawText(draft, body) {
   const gutter = element('div', { class: 'gutter', 'aria-hidden': 'true' });
   const told = element('p', { class: 'fault', id: freshId('fault'), role: 'status' });

@@ -60,7 +60,7 @@ async function sendInTurn(queue, folder) {
 let running = 0;
 export const isUploading = () => running > 0;
 
-// Sends the files into the folder, and shows it above whatever is looked at meanwhile. Answers when all have ended.
+// Sends the files into the folder, and shows the progress above whatever is open meanwhile. Returns when all have ended.
 export async function uploadAll(files, folder) {
   const rows = element('ul', {});
   const close = button('Close', () => sheet.remove(), { class: 'small' });
@@ -68,7 +68,7 @@ export async function uploadAll(files, folder) {
   document.getElementById('uploads').append(sheet);
   const queue = [];
   for (const file of files) {
-    // Some systems cut umlauts into letter and dots. Together they are what people type.
+    // Some systems split an umlaut into a letter and dots. The normalized form is what people type.
     const upload = row(file.name.normalize('NFC'));
     rows.append(upload.line);
     const fault = faultOf(file);
@@ -81,7 +81,7 @@ export async function uploadAll(files, folder) {
   sheet.append(element('div', { class: 'actions' }, close));
 }
 
-// The files of a drop. A folder among them is marked, since it reads as a file without bytes.
+// The dropped files. A folder among them is marked, since it would be read as a file without bytes.
 export function filesOf(transfer) {
   return [...transfer.items].filter((item) => item.kind === 'file').map((item) => {
     const entry = item.webkitGetAsEntry?.();

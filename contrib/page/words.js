@@ -1,4 +1,4 @@
-// What letters, entries and faults are called in the language of an office.
+// Letters, entries and faults in the words of an office.
 
 import { isGroup, isInherited, readEntry } from './list.js';
 import { GREATEST_DOCUMENT, namesOf } from './api.js';
@@ -38,7 +38,7 @@ export function listed(words) {
   return `${words.slice(0, -1).join(', ')} and ${words.at(-1)}`;
 }
 
-// What nothing asks for is told only where there is nothing else.
+// Rights that no request asks for are named only if there are no others.
 export function maskWords(mask, kind) {
   const asked = [...mask].filter((letter) => GROUPS.some((group) => group.letters.includes(letter)));
   if (asked.length === ASKED_RIGHTS) return 'do everything';
@@ -110,38 +110,38 @@ const FAULTS = {
   A3: 'This is no name of a user or a group. Names have letters, digits and . _ - + $ \\, no spaces and no umlauts; the special names are OWNER@, GROUP@, EVERYONE@, ANONYMOUS@ and AUTHENTICATED@.',
   A4: 'The rights may be the letters rwanNxDtThHdcCoy and no others, and no spaces.',
   A5: 'An entry has four parts with three colons between them: type:flags:who:rights.',
-  A6: 'The first line has to be “list:”, with a, p or both behind it where they are wanted, and nothing else.',
+  A6: 'The first line has to be “list:”, followed by a, p or both if you want them, and by nothing else.',
   A7: 'A list that is sent may have 4,096 entries at most.',
   A8: 'A list may have 64 entries of its own at most. Put people into a group and name that instead.',
-  A9: 'An entry of this type belongs into the other list: allow and deny decide access, audit and alarm ask for records.',
+  A9: 'An entry of this type belongs in the other list: allow and deny decide access, audit and alarm ask for records.',
   A10: 'S and F are for audit and alarm alone: an entry that allows or denies has neither.',
   A11: '“Not here” needs something below to which the entry is passed on (f or d).',
   A12: 'Nothing lies below a document, so its entries can’t be passed on (no f, d, n, i).',
   A13: 'This line has characters that can’t be sent.',
 };
 
-export const faultWords = (code) => FAULTS[code] ?? `The room doesn’t take this (${code}).`;
+export const faultWords = (code) => FAULTS[code] ?? `The room doesn’t accept this (${code}).`;
 
 const CONFLICTS = {
   'not-folder': (at) => `${at} is a document, so nothing lies below it. Load the folder again.`,
-  'wrong-kind': (at) => `${at} is of another kind, a folder where a document is wanted or the other way round. Take another name.`,
-  exists: (at) => `There is something at ${at} already. Take another name, or remove what is there first.`,
+  'wrong-kind': (at) => `${at} is of another kind, a folder where a document is wanted or the other way round. Choose another name.`,
+  exists: (at) => `There is already something at ${at}. Choose another name, or remove what is there first.`,
   'not-empty': (at) => `${at} isn’t empty. Remove or move what is in it first.`,
   root: () => 'The top of the room can’t be removed or moved.',
   loop: () => 'A folder can’t be moved into itself or into a folder below it. Choose another place.',
 };
 
 const BAD_TARGETS = {
-  P1: 'A name may not be empty, “.” or “..”, nor longer than 255 bytes, nor have characters that don’t show. Take another name.',
-  P2: 'The path is longer than 4,096 bytes. Take shorter names, or a place further up.',
-  P3: 'The name has characters that can’t be sent. Take another name.',
+  P1: 'A name may not be empty, “.” or “..”, nor longer than 255 bytes, nor have invisible characters. Choose another name.',
+  P2: 'The path is longer than 4,096 bytes. Choose shorter names, or a place further up.',
+  P3: 'The name has characters that can’t be sent. Choose another name.',
 };
 
 function badRequest(body) {
   const [why, code] = (body?.why ?? '').split(' ');
   if (why === 'bad-target' && BAD_TARGETS[code]) return BAD_TARGETS[code];
-  if (why === 'bad-user') return 'The room doesn’t take your user name. Tell the administrator: names have letters, digits and . _ - + $ \\ alone.';
-  if (why === 'bad-body') return 'A name of a user, a group or an object wasn’t taken. Users and groups have letters, digits and . _ - + $ \\, no spaces.';
+  if (why === 'bad-user') return 'The room doesn’t accept your user name. Tell the administrator: names have only letters, digits and . _ - + $ \\.';
+  if (why === 'bad-body') return 'The name of a user, a group or an object wasn’t accepted. Names of users and groups have letters, digits and . _ - + $ \\, no spaces.';
   return `The room couldn’t read the request${why ? ` (${why})` : ''}. Load the page again.`;
 }
 
@@ -157,20 +157,20 @@ export function denialSentence(denial) {
 }
 
 const SENTENCES = {
-  0: 'The connection was lost. Whether the request was carried out isn’t known: look, and do it again where it wasn’t.',
-  401: 'Your password isn’t taken any more; it may have been changed. Load the page again and sign in with the new one.',
+  0: 'The connection was lost. The request may or may not have been carried out: look, and repeat it if it wasn’t.',
+  401: 'Your password isn’t accepted any more; it may have been changed. Load the page again and sign in with the new one.',
   405: 'The room doesn’t know this request. Load the page again.',
-  431: 'The request was too long. Take a shorter name.',
-  500: 'The room couldn’t keep or read this, and nothing was changed. Try again; if that doesn’t help, tell the administrator.',
+  431: 'The request was too long. Choose a shorter name.',
+  500: 'The room couldn’t store or read this, and nothing was changed. Try again; if that doesn’t help, tell the administrator.',
   502: 'The room doesn’t answer at the moment. Try again in a minute; if it still doesn’t, tell the administrator.',
   503: 'The room is busy. Try again in a minute.',
-  504: 'The room took too long to answer. Whether the request was carried out isn’t known: look before you do it again.',
+  504: 'The room took too long to answer. The request may or may not have been carried out: look before you repeat it.',
 };
 
 export const tooLarge = (name) =>
   `${name} has more than ${GREATEST_DOCUMENT.toLocaleString('en')} bytes (1 MiB), which is the most a document may have. Make it smaller, or cut it into parts.`;
 
-// Any refusal as a sentence with what to do.
+// Any refusal as a sentence that says what to do.
 export function sentenceOf(fault) {
   const { status, body } = fault;
   if (status === undefined) return `The page itself failed: ${fault.message}. Load it again.`;
@@ -187,7 +187,7 @@ export function sentenceOf(fault) {
 // Why a name can't be an object's, or null.
 export function nameFault(name) {
   if (name === '') return 'Type a name.';
-  if (name === '.' || name === '..') return 'This name has a meaning of its own. Take another one.';
+  if (name === '.' || name === '..') return 'This name has a special meaning. Choose another one.';
   if (name.includes('/')) return 'A name can’t have a slash in it.';
   if (/[\u0000-\u001f\u007f]/.test(name) || /\p{Surrogate}/u.test(name)) return 'The name has characters that can’t be used.';
   if (new TextEncoder().encode(name).length > 255) return 'The name is too long: 255 bytes at most.';

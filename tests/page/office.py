@@ -93,7 +93,7 @@ class Office(Documents, Readers, Lists):
         with open(f'{self.folder}/passwords', 'w', encoding='utf-8') as file:
             file.write('alice:{PLAIN}a\nbob:{PLAIN}other\n')
         bob.press('Report 2.txt')
-        bob.says('Your password isn’t taken any more', 'sign in')
+        bob.says('Your password isn’t accepted any more', 'sign in')
 
     def no_room(self):
         os.kill(self.server, signal.SIGKILL)
