@@ -1,11 +1,11 @@
 # shellcheck shell=bash disable=SC2034
-# What rooms-nightly and rooms-restore share: settings, refusals, and work under the room's user. They read it; it isn't run.
+# What rooms-nightly and rooms-restore share: settings, refusals, and running commands as the room's user. They source this file.
 
 say() { printf '%s: %s\n' "${0##*/}" "$1" >&2; }
 refuse() { say "$1"; exit 2; }
 has() { command -v "$1" >/dev/null 2>&1; }
 
-# Nothing in the settings is run: a line is a name, '=' and a value.
+# The settings are never executed: a line is a name, '=' and a value.
 read_settings() { # CONF
   local line number=0
   FILE='' BACKUPS='' KEEP=30 MAIL='' UNIT=rooms PROGRAM=/usr/local/bin/rooms
@@ -24,11 +24,11 @@ read_settings() { # CONF
 check_settings() { # CONF
   local name
   for name in FILE BACKUPS PROGRAM; do
-    [[ ${!name} = /* ]] || refuse "bad settings: $name in $1 is no path from the root: '${!name}'"
+    [[ ${!name} = /* ]] || refuse "bad settings: $name in $1 isn't an absolute path: '${!name}'"
   done
-  [[ $KEEP =~ ^(0|[1-9][0-9]{0,5})$ ]] || refuse "bad settings: KEEP in $1 is no number: '$KEEP'"
-  [[ $UNIT =~ ^[A-Za-z0-9_][A-Za-z0-9:_.@-]*$ ]] || refuse "bad settings: UNIT in $1 is no unit's name: '$UNIT'"
-  [[ $MAIL != -* ]] || refuse "bad settings: MAIL in $1 is nobody's name: '$MAIL'"
+  [[ $KEEP =~ ^(0|[1-9][0-9]{0,5})$ ]] || refuse "bad settings: KEEP in $1 isn't a number: '$KEEP'"
+  [[ $UNIT =~ ^[A-Za-z0-9_][A-Za-z0-9:_.@-]*$ ]] || refuse "bad settings: UNIT in $1 isn't the name of a unit: '$UNIT'"
+  [[ $MAIL != -* ]] || refuse "bad settings: MAIL in $1 isn't an address: '$MAIL'"
   { [ -x "$PROGRAM" ] && [ -f "$PROGRAM" ]; } || refuse "no program: $PROGRAM, of $1, isn't there or can't be run"
   folder=$(dirname "$FILE")
   base=$(basename "$FILE")
@@ -38,17 +38,17 @@ check_settings() { # CONF
   [ "$(id -u)" = 0 ] || [ "$(id -u)" = "$owner" ] || refuse "not root: $folder belongs to another user"
 }
 
-# All that is done in the room's folder is done by its user: root would follow any link that lies there.
+# Everything in the room's folder is done as its user, since root would follow any link in it.
 as_owner() {
   if [ "$(id -u)" = "$owner" ]; then "$@"; else setpriv --reuid="$owner" --regid="$group" --clear-groups -- "$@"; fi
 }
 
-# The settings are the lock too: one run of either script for each file of settings. The descriptor 9 has it, also in
-# what the script has started; so it isn't given to what may outlive it.
+# The file of settings is also the lock: for each such file only one of the two scripts runs at a time. Descriptor 9 has the
+# lock, and child processes inherit it; so it is closed for those that may outlive the script.
 take_lock() { # CONF SECONDS
   exec 9<"$1"
   flock -w "$2" 9 || refuse "busy: another rooms-nightly or rooms-restore is at work with $1"
 }
 
-# What the server's unit does: active, inactive, failed, or on the way between.
+# The state of the server's unit: active, inactive, failed, or in between.
 server_state() { systemctl is-active "$UNIT" 9<&-; }
