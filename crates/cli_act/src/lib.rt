@@ -1,4 +1,4 @@
-//! The subcommands that work on a database for a while, and what they print.
+//! The subcommands that do one task on a database and end, and what they print.
 #![tactic(auto)]
 
 mod acting;

@@ -31,7 +31,7 @@ members and records. The root's dacl is
 list:a
 A:fd:OWNER@:rwanNxDtThHdcCoy
 
-so that the owner may do everything with it, and nobody else has a right there.
+so that the owner may do everything with it, and nobody else has any right there.
 Its sacl is list:a without an entry. reset sets other lists.
 
   0  ready
@@ -42,7 +42,7 @@ Example: rooms init office.rooms alice staff";
 
 pub(crate) const SERVE: &str = "\
 It prints where it listens, as listening 127.0.0.1:8780, and ends after the last
-connection. The users come by HTTP.
+connection. Users send requests over HTTP.
 
   0  it served them
   2  refused: why
@@ -52,7 +52,7 @@ Example: rooms serve office.rooms --port 8781 --count 100";
 
 pub(crate) const GROUPS: &str = "\
 The first row of the CSV file is group,user, and each further row a pair of two
-names. No member is left but these.
+names. These members replace all others.
 
   0  groups G, members M
   2  refused: row N: why, or another refusal
@@ -90,8 +90,8 @@ and then the members.
 Example: rooms dump office.rooms";
 
 pub(crate) const RESET: &str = "\
-The list stands on the standard input, its first line list: with its flags, and
-below it an entry on each line. PATH is written as it is, without escapes.
+The list is read from standard input: the line list: with its flags, and then an
+entry on each line. PATH is written as it is, without escapes.
 
   0  done
   2  refused: line N: why, refused: N1 no-such at PATH, or another refusal
@@ -110,10 +110,10 @@ It tests lists, the root, parents, names, bytes and what is inherited.
 Example: rooms verify office.rooms";
 
 pub(crate) const MIGRATE: &str = "\
-Schema 1 becomes schema 2, where the rows are sound. With any other answer than
-migrated the file is as it was. Schema 2 is new: it stores with each object all
+Schema 1 is upgraded to schema 2, if the rows are sound. With any answer other
+than migrated the file is as it was. Schema 2 is new: it stores with each object all
 entries that it inherits, where schema 1 left out those that its folder's list
-passes down. What the lists say stays.
+passes down. The lists mean the same.
 
 A file that the other subcommands refuse with schema 1 is old needs it. One that
 init made has schema 2, and is refused here with schema 2 is new.

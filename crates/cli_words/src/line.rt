@@ -90,7 +90,7 @@ fn reset<'a>(alloc: Global) -> Result<Command<'a>, AllocError>
 {
     let list = wanted(alloc, "LIST", "Which list").value_parser(ATTRIBUTES.as_slice());
     Command::new(alloc, "reset")
-        .about("Sets a list from the standard input, asking no right")
+        .about("Sets a list from the standard input, without testing any right")
         .after_help(help::RESET)
         .arg(file(alloc))?
         .arg(wanted(alloc, "PATH", "The path of the object"))?
@@ -113,7 +113,7 @@ fn program<'a>(alloc: Global) -> Command<'a>
 {
     Command::new(alloc, "rooms")
         .version(VERSION)
-        .about("A document room behind access lists")
+        .about("A document room with access lists")
         .subcommand_required(true)
         .disable_help_subcommand(true)
 }

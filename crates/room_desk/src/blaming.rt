@@ -1,7 +1,7 @@
-//! Laws of what requests blame for a fault.
+//! Laws about what `Damaged` names.
 ghost use Rattle.room_desk.specs.Blame.{SoundIsUndamaged, SoundStaysUndamaged};
 
-/// Sound rows have no damage, so `perform` and `reset` answer no `Damaged` from them.
+/// On sound rows nothing is damaged, so `perform` and `reset` never answer `Damaged`.
 pub fn sound_is_undamaged()
     ensures { SoundIsUndamaged }
 {}

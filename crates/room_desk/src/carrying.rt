@@ -26,7 +26,7 @@ pub(crate) fn carry_below<K: Keep>(
     }
 }
 
-/// The same from an object that was read, and stands so in the rows.
+/// The same from an object that was read, and hasn't changed in the rows.
 pub(crate) fn carry_from<K: Keep>(
     alloc: Global,
     keep: &mut K,

@@ -1,4 +1,4 @@
-//! Requests that make an object, or give a document all its bytes.
+//! Requests that make an object, or replace a document's bytes.
 ghost use Rattle.std.specs.Prelude.{◌≡◌, [], ◌∷◌, IfOk, length, unwrap_or};
 ghost use Rattle.room_entry.specs.Rights.{append_data, write_data};
 ghost use Rattle.room_entry.specs.declared.object.ObjKind.TheVariants.{
@@ -71,7 +71,7 @@ fn put_below<K: Keep>(
     }
 }
 
-// Gives what is there these bytes, if it is a document and there aren't too many.
+// Replaces the bytes of what is there, if it is a document and there aren't too many.
 fn put_there<K: Keep>(
     alloc: Global,
     keep: &mut K,
@@ -254,7 +254,7 @@ fn child_at(
     })
 }
 
-// A copy of the bytes, made at once. `clone` goes byte after byte.
+// Copies the bytes at once; `clone` copies them one by one.
 fn copied(alloc: Global, bytes: &Bytes) -> Result<Bytes, AllocError>
     ensures { IfOk result (λ copy. copy ≡ bytes.now) }
 {

@@ -58,7 +58,7 @@ fn is_taken<K: Keep>(keep: &mut K, folder: u64, name: &str) -> Result<bool, Keep
     Ok(child.is_some())
 }
 
-// Whether the names begin those others, or are all of them.
+// Whether the names are a prefix of the others.
 fn begins(names: &[Text], others: &[Text]) -> bool
     ensures { result ≡ begins names.now others.now }
 {

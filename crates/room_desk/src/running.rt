@@ -17,11 +17,11 @@ pub struct Asked {
     pub user: Option<Name>,
     /// The moment, in seconds from 1970-01-01 00:00 UTC.
     pub at: i64,
-    /// What is asked.
+    /// The request.
     pub request: Request,
 }
 
-/// Carries out the requests in turn, and answers their replies in the same order. From sound rows
+/// Carries out the requests in turn, and returns their replies in the same order. From sound rows
 /// these are a run of the room machine, and the rows are sound again. The first fault of the keeper
 /// ends it: what the keeper holds then depends on the transaction around the call alone. `Damaged`
 /// names a damaged row of those that the requests before it left.

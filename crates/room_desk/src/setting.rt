@@ -212,7 +212,7 @@ fn write_list<K: Keep>(
     }
 }
 
-// Carries the list down that the object has now.
+// Passes down the list that the object has now.
 fn carry_on<K: Keep>(
     alloc: Global,
     keep: &mut K,

@@ -87,7 +87,7 @@ fn sized_reply(alloc: Global, path: &Path, size: usize) -> Result<Reply, AllocEr
     }
 }
 
-// The bytes, and then those others.
+// The bytes, followed by the others.
 fn join(before: Bytes, bytes: &Bytes) -> Result<Vec<u8>, AllocError>
     ensures { IfOk result (λ all. all.items ≡ before ++ bytes.now) }
 {

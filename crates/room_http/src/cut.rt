@@ -18,8 +18,8 @@ pub(crate) const CHUNK_SIZE: usize = 65_536;
 
 const MAX_HEAD: usize = 16_384;
 
-// Reads `room` bytes at most, by way of the chunk, and adds what came. Nothing comes only at the
-// end of the input.
+// Reads at most `room` bytes through the chunk, and appends them. Zero bytes come only at the end
+// of the input.
 fn fill<R: Read>(r: &mut R, buf: &mut Vec<u8>, chunk: &mut [u8], room: usize) -> Result<bool, Cause>
     requires some { 0 < room }
     requires within { room ≤ length chunk.old }
@@ -89,7 +89,7 @@ fn scan_head(buf: &[u8], spans: &mut [HeaderSpan]) -> HeadScan
     scan_window(&buf[..buf.len().min(MAX_HEAD)], spans)
 }
 
-// How reading a head ended: with a head, with the end of the input, or with bytes that are none.
+// How reading a head ended: with a head, with the end of the input, or with other bytes.
 #[derive(Clone, Copy)]
 pub(crate) enum HeadRead {
     Found(RequestSpans),

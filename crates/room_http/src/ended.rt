@@ -22,7 +22,7 @@ pub enum Cause {
     Memory,
 }
 
-/// What ended a connection before a reply was whole.
+/// What ended a connection before a reply was complete.
 #[derive(Clone, Copy, Debug, PartialEq, Eq)]
 pub struct ServeFault {
     /// How many replies went out whole.

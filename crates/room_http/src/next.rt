@@ -30,7 +30,7 @@ pub(crate) enum Upcoming {
     Whole(NextMessage),
 }
 
-// Reads until a message is whole, is refused, or the input ends.
+// Reads until a message is complete or refused, or the input ends.
 pub(crate) fn next_message<R: Read>(
     alloc: Global,
     r: &mut R,

@@ -1,4 +1,4 @@
-//! Why no message can be read on, and the replies of fixed text.
+//! Why the next message can't be read, and the replies with a fixed text.
 ghost use Rattle.std.specs.Prelude.{◌≡◌, IfOk};
 ghost use Rattle.room_http.specs.Text.{refusal_reply, store_text};
 
@@ -9,7 +9,7 @@ use std::alloc::{AllocError, Global};
 /// Why what stands at the front of a stream is refused before its body is read.
 #[derive(Clone, Copy, Debug, PartialEq, Eq)]
 pub enum Refusal {
-    /// No head is there, and none can follow.
+    /// There is no head, and more bytes can't make one.
     BadHead,
     /// There are more than 64 fields, or 16,384 bytes without the head's end.
     TooManyFields,
@@ -42,7 +42,7 @@ pub(crate) fn refusal_bytes(alloc: Global, refusal: Refusal) -> Result<Vec<u8>, 
     }
 }
 
-// The reply to a message that the desk failed at. It takes no memory.
+// The reply if the desk failed. It allocates nothing.
 pub(crate) fn store_bytes() -> &'static [u8]
     ensures { result.now ≡ store_text }
 {

@@ -1,7 +1,7 @@
-//! What answers one message.
+//! The answer to one message.
 use http_message::ReplyText;
 
-/// What answers a message.
+/// The answer to a message.
 #[derive(Drop)]
 pub enum Answer {
     /// The text of the reply.
@@ -17,7 +17,7 @@ pub struct Lost {
     pub acted: bool,
 }
 
-/// What answers a message, and whether the desk was asked.
+/// The answer to a message, and whether the desk was asked.
 #[derive(Drop)]
 pub(crate) enum Response {
     /// The text of the reply to a message that a test refuses.

@@ -28,7 +28,7 @@ pub(crate) fn write_text<W: Write>(w: &mut W, text: &[u8]) -> Result<(), Cause>
     Ok(())
 }
 
-// Writes the text of a reply, in the one or two pieces in which it lies.
+// Writes the text of a reply, in its one or two pieces.
 pub(crate) fn write_reply<W: Write>(w: &mut W, text: &ReplyText) -> Result<(), Cause>
     ensures ok { OnOk result (Appends (W.contents w.old) (W.contents w.new) text.now) }
     ensures err { OnErr result (WritesPart (W.contents w.old) (W.contents w.new) text.now) }

@@ -56,7 +56,7 @@ fn perform_inside<S: Alter>(
     perform_by(alloc, &mut keeper, caller, at, request)
 }
 
-/// Carries out one request in one transaction. Within another one it answers `Db` at once.
+/// Carries out one request in one transaction. Inside another one it returns `Db` at once.
 pub(crate) fn run_on<S: Alter>(
     alloc: Global,
     conn: &mut Connection<S>,

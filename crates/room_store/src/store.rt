@@ -37,7 +37,7 @@ use store_tables::RecentLists;
 /// transaction of the connection's owner all calls answer `Db`.
 pub struct Store<S: Alter> {
     pub(crate) conn: Connection<S>,
-    // the lists that requests read lately
+    // the lists that requests read recently
     lists: RecentLists,
     // how often the store has answered a fault as a desk
     pub(crate) faults: u64,
@@ -87,7 +87,7 @@ impl<S: Alter> Store<S> {
         run_on(alloc, &mut self.conn, &mut self.lists, caller, at, request)
     }
 
-    /// Sets one of an object's lists as the request does, but asks no bits and leaves no record.
+    /// Sets one of an object's lists as the request does, but asks no rights and leaves no record.
     /// The reply is `Done`, or a refusal: no such object, a document on the way, or an entry that
     /// isn't valid. Its faults are those of `run`.
     pub fn reset(

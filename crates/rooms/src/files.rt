@@ -38,9 +38,9 @@ fn make_empty(rt: &HostRuntime, file: &str) -> Result<(), Stop> {
     }
 }
 
-/// Removes the file that `make` made, and the log that came with it.
+/// Removes the file that `make_file` made, and the log that came with it.
 pub fn take_away(rt: &HostRuntime, file: &str, log: &str) {
-    // What can't be removed stays: the reason why the file isn't kept is what is printed.
+    // A file that can't be removed stays: the fault that came before is printed.
     let _ = fs::remove_file(rt, file);
     let _ = fs::remove_file(rt, log);
 }
@@ -61,7 +61,7 @@ pub fn open<S: Start>(rt: &HostRuntime, file: &str, start: S) -> Result<FileConn
 pub fn connect<S: Start>(rt: &HostRuntime, file: &str, start: S) -> Result<FileConnection<S>, Stop>
     ensures { IfOk result (λ conn. conn.in_transaction ≡ false) }
 {
-    // By its canonical path a file is no database in memory and no address, whatever its name.
+    // With its canonical path a file is never taken for a database in memory or an address.
     let path = fs::canonicalize(rt, file)?;
     match Connection::open_from(rt, path.as_str(), false, start) {
         Ok(conn) => Ok(conn),

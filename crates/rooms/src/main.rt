@@ -12,8 +12,8 @@
 //! - `groups-out FILE` prints the members as CSV.
 //! - `audit FILE` prints the records as CSV.
 //! - `dump FILE` prints all objects and all members.
-//! - `reset FILE PATH dacl|sacl` sets the list on standard input, asking no right, and prints
-//!   `done`.
+//! - `reset FILE PATH dacl|sacl` sets the list on standard input, without testing any right, and
+//!   prints `done`.
 //! - `verify FILE` prints the first fault of the rows, or `sound`.
 //! - `migrate FILE` upgrades a file of the older schema, and prints `migrated`.
 //!
