@@ -49,13 +49,6 @@ fn ask<D: Desk>(alloc: Global, desk: &mut D, script: &str) -> Result<(), Fail> {
     Ok(())
 }
 
-#[test]
-fn desk_in_memory(rt: HostRuntime) -> Result<(), Fail> {
-    let alloc = rt.alloc();
-    let mut desk = MemDesk::new(open_keep(alloc)?);
-    ask(alloc, &mut desk, SCRIPT)
-}
-
 // What a desk in memory keeps is lent, and given back.
 #[test]
 fn desk_lends_what_it_keeps(rt: HostRuntime) -> Result<(), Fail> {

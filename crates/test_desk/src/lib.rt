@@ -4,5 +4,3 @@
 
 #[cfg(test)]
 mod desks;
-#[cfg(test)]
-mod limits;

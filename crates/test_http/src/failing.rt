@@ -9,7 +9,10 @@ use room_memory::MemDesk;
 use std::alloc::Global;
 use std::test::Fail;
 use test_player::open_keep;
-use test_talk::{PUT_TWICE, Sink, Stop, agrees, play, stop_at_read, stop_at_write, stopped, tried};
+use test_talk::{
+    PUT_TWICE, Pieces, Sink, Stop, Talk, agrees, bytes_at, converse, is_short, play, stop_at_read,
+    stop_at_write, stopped, tried,
+};
 
 const READ_BACK: &str = "\
 >GET /doc/f HTTP/1.1|Room-User: root||
@@ -25,6 +28,12 @@ const NO_ROUTE: &str = "\
 
 const TOO_LARGE: &str = "\
 >PUT /doc/f HTTP/1.1|Room-User: root|Content-Length: 1048577||
+<HTTP/1.1 413 Payload Too Large|Content-Type: application/json|Content-Length: 19|Connection: close||{\"why\":\"too-large\"}
+=Closed
+";
+
+const STILL_SENT: &str = "\
+>PUT /doc/f HTTP/1.1|Room-User: root|Content-Length: 1048577||^100000 x^
 <HTTP/1.1 413 Payload Too Large|Content-Type: application/json|Content-Length: 19|Connection: close||{\"why\":\"too-large\"}
 =Closed
 ";
@@ -81,6 +90,24 @@ fn read_fails_in_body(rt: HostRuntime) -> Result<(), Fail> {
     let mut desk = MemDesk::new(open_keep(alloc)?);
     let talk = tried(alloc, &mut desk, PUT_TWICE, 126, Sink::new(alloc))?;
     stopped(&talk, 1, false, Cause::Read)
+}
+
+// A connection over a reader that gives some bytes once, and then fails.
+fn read_once(alloc: Global, input: &[u8]) -> Result<Talk, Fail> {
+    let mut desk = MemDesk::new(open_keep(alloc)?);
+    let mut reader = Pieces::failing(input, 1_000, 1);
+    converse(alloc, &mut desk, 1000, &mut reader, Sink::new(alloc))
+}
+
+// A body that is too large isn't read: the reply comes while it is still being sent.
+#[test]
+fn too_large_a_body_is_still_being_sent(rt: HostRuntime) -> Result<(), Fail> {
+    let input = bytes_at(rt.alloc(), STILL_SENT, ">")?;
+    let talk = read_once(rt.alloc(), input.as_slice())?;
+    if is_short(&talk) {
+        return Err(Fail::new("want of memory"));
+    }
+    agrees(rt.alloc(), STILL_SENT, &talk)
 }
 
 #[test]

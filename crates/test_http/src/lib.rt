@@ -7,6 +7,6 @@ mod cutting;
 #[cfg(test)]
 mod failing;
 #[cfg(test)]
-mod limits;
+mod messages;
 #[cfg(test)]
 mod waiting;

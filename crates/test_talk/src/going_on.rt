@@ -3,10 +3,11 @@
 //! Out of memory is reported, and never looks like another answer: the whole replies before it are
 //! those of the script, and on a connection after it the rest of the script is answered as it says.
 use crate::pieces::{Pieces, Sink};
-use crate::scripts::{Talk, agrees, agrees_from, bytes_from, converse, push_bytes};
+use crate::scripts::{Talk, agrees, agrees_from, bytes_from, converse};
+use crate::spelling::push_spelled;
 use room_http::{Cause, Ended};
 use room_machine::Desk;
-use std::alloc::{AllocError, Global};
+use std::alloc::Global;
 use std::test::Fail;
 
 // The reply of a desk that has a fault, such as out of memory.
@@ -84,9 +85,9 @@ fn whole_replies(alloc: Global, script: &str, rest: &mut &[u8]) -> Result<usize,
 }
 
 // Drops a reply from the front of the bytes, if it stands there.
-fn drop_reply(alloc: Global, text: &str, rest: &mut &[u8]) -> Result<bool, AllocError> {
+fn drop_reply(alloc: Global, text: &str, rest: &mut &[u8]) -> Result<bool, Fail> {
     let mut reply = Vec::new(alloc);
-    push_bytes(&mut reply, text)?;
+    push_spelled(&mut reply, text)?;
     match rest.strip_prefix(reply.as_slice()) {
         Some(behind) => {
             *rest = behind;

@@ -6,6 +6,7 @@
 mod going_on;
 mod pieces;
 mod scripts;
+mod spelling;
 mod stopping;
 
 pub use going_on::{is_short, play, play_at};

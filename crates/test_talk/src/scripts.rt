@@ -1,10 +1,11 @@
 //! Connections as scripts. A line `>` is sent, a line `<` has to come back, and a line `=` says how
-//! the connection ends. In each `|` stands for CRLF, and `~` for LF.
+//! the connection ends.
 use crate::pieces::Sink;
+use crate::spelling::push_spelled;
 use http_message::Routes;
 use room_http::{Ended, ServeFault, serve};
 use room_machine::Desk;
-use std::alloc::{AllocError, Global};
+use std::alloc::Global;
 use std::io::{Read, Write};
 use std::test::Fail;
 
@@ -43,26 +44,11 @@ pub(crate) fn bytes_from(
             if passed < first {
                 passed += 1;
             } else {
-                push_bytes(&mut bytes, text)?;
+                push_spelled(&mut bytes, text)?;
             }
         }
     }
     Ok(bytes)
-}
-
-pub(crate) fn push_bytes(bytes: &mut Vec<u8>, text: &str) -> Result<(), AllocError> {
-    'bytes: for byte in text.as_bytes() {
-        push_byte(bytes, *byte)?;
-    }
-    Ok(())
-}
-
-fn push_byte(bytes: &mut Vec<u8>, byte: u8) -> Result<(), AllocError> {
-    match byte {
-        b'|' => bytes.extend_from_slice(b"\r\n"),
-        b'~' => bytes.extend_from_slice(b"\n"),
-        _ => bytes.extend_from_slice(&[byte]),
-    }
 }
 
 /// Serves a connection at a moment.
