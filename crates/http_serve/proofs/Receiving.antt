@@ -8,7 +8,7 @@ use Rattle.room_machine.specs.declared.desk.Desk.{Ghosts}
 use Rattle.room_machine.specs.Run.{Event, Run}
 use Rattle.room_http.specs.Serve.{Connects, IsNext, Next, next_exchange}
 use Rattle.room_http.specs.Stream.{Exchange, IsExchange, IsOpen, Runs}
-use Rattle.http_serve.specs.Visits.{Attends, IsEnd, IsServedVisit, Receives, Served, Visit, moment_of, requests_of, visit_events}
+use Rattle.http_serve.specs.Visits.{Attends, IsEnd, IsServedVisit, Receives, ReceivesAll, Served, Visit, moment_of, requests_of, visit_events}
 use Rattle.http_serve.specs.declared.fault.ServingFault.{ServingFault}
 
 -- two runs that meet are one run
@@ -43,13 +43,11 @@ next_few (Next.Failing m) = omega arith
 exchange_is : (x : Exchange) → IsOpen x → IsExchange x
 exchange_is x given = given.is
 
--- an end before any connection came
-ends_fewer : (count less : ℕ) (end : Result (Unit {0}) ServingFault) → IsEnd less end 0
-    → IsEnd count end 0
-ends_fewer count less (Ok done) is = tt
-ends_fewer count less (Err ServingFault.Memory) is = refl
-ends_fewer count less (Err ServingFault.File) is = tt
-ends_fewer count less (Err ServingFault.Net) is = inr refl
+-- a fault before any connection came
+none_came : (count : ℕ) (fault : ServingFault) → IsEnd count (Err fault) 0
+none_came count ServingFault.Memory = refl
+none_came count ServingFault.File = inr refl
+none_came count ServingFault.Net = inr refl
 
 -- the listener failed before the last connection came
 ends_missing : (count visits : ℕ) (fault : ServingFault) → fault ≡ ServingFault.Net → visits < count
@@ -110,12 +108,32 @@ module _ {D : Type 0} (d : Ghosts D) where
         (then.run t (first.sound (then.trusted t) s)));
   }
 
+  -- as many came as were to come
+  pub all_came : (number count : ℕ) (told told' : List ℤ → Type 0) (old new : D) → number ≡ count
+      → ReceivesAll d number told told' old new → ReceivesAll d count told told' old new
+  all_came number count told told' old new is given =
+      subst (λ (n : ℕ). ReceivesAll d n told told' old new) is given
+
   -- no connection came, and this was the end
   pub unserved : (count : ℕ) (told : List ℤ → Type 0) (desk : D) (fault : ServingFault)
-      → IsEnd 0 (Err fault) 0
       → Served d count told told desk desk (Err fault)
   unfolding nobody
-  unserved count told desk fault is = (nobody count told desk, ends_fewer count 0 (Err fault) is)
+  unserved count told desk fault = (nobody count told desk, none_came count fault)
+
+  -- the same as exactly none
+  pub none : (told : List ℤ → Type 0) (desk : D) → ReceivesAll d 0 told told desk desk
+  unfolding nobody
+  none told desk = (nobody 0 told desk, refl)
+
+  -- some connections came, and then others, and none is missing
+  pub all_others : (some more : ℕ) (told told' told'' : List ℤ → Type 0) (old mid new : D)
+      → ReceivesAll d some told told' old mid → ReceivesAll d more told' told'' mid new
+      → ReceivesAll d (some + more) told told'' old new
+  unfolding others
+  all_others some more told told' told'' old mid new first then = (
+    others some more told told' told'' old mid new first.0 then.0,
+    omega (arith, length-append first.0.visits then.0.visits, first.1, then.1),
+  )
 
   -- the listener failed before all connections came
   pub missing : (number count : ℕ) (told told' told'' : List ℤ → Type 0) (old mid new : D)
@@ -162,6 +180,17 @@ module _ {D : Type 0} (d : Ghosts D) where
         run = λ t s. connects.run (t, s);
       }
 
+  -- a connection was lost, and the desk wasn't asked
+  pub lost : (at : ℤ) (desk : D) → Attends d at desk desk
+  lost at desk = record {
+    trusted = λ t. t;
+    sound = λ t s. s;
+    visit = record { at = at; exchanges = [] };
+    moment = refl;
+    is = record { each = All-nil IsExchange; few = omega arith };
+    run = λ t s room is. (room, refl, is);
+  }
+
   -- and the clock read its moment
   pub one : (at : ℤ) (told told' : List ℤ → Type 0) (old new : D)
       → ((before : List ℤ) → told before → told' (before ++ at ∷ []))
@@ -178,3 +207,10 @@ module _ {D : Type 0} (d : Ghosts D) where
         subst (λ (events : List Event). Runs (d.content old) events (d.content new))
         (sym (append-nil (visit_events a.visit))) (a.run t s);
   }
+
+  -- the same as exactly one
+  pub exactly_one : (at : ℤ) (told told' : List ℤ → Type 0) (old new : D)
+      → ((before : List ℤ) → told before → told' (before ++ at ∷ []))
+      → Attends d at old new → ReceivesAll d 1 told told' old new
+  unfolding one
+  exactly_one at told told' old new tells a = (one at told told' old new tells a, refl)

@@ -1,6 +1,6 @@
 -- What the connections of a listener do at a desk (own).
 use Rattle.std.specs.Prelude.{◌≡◌, ℕ, ℤ, ◌≤◌, ◌<◌, ◌⊎◌, All, List, ◌++◌, length, map, Result, Ok}
-use Rattle.std.specs.Prelude.{Err, ⊤}
+use Rattle.std.specs.Prelude.{Err}
 use Rattle.std.specs.List.{flat_map}
 use Rattle.room_machine.specs.declared.desk.Desk.{Ghosts}
 use Rattle.room_machine.specs.Run.{Event}
@@ -55,12 +55,19 @@ pub record Receives {D : Type 0} (d : Ghosts D) (count : ℕ) (told told' : List
   pub run : d.trusted new → d.sound old
       → Runs (d.content old) (requests_of visits) (d.content new)
 
--- what an end says of the number of visits: out of memory there was none, and where the listener
--- failed at least one connection is missing
+-- exactly this many connections, of which those that were lost had no message
+abbrev pub ReceivesAll : {D : Type 0} → Ghosts D → ℕ → (List ℤ → Type 0) → (List ℤ → Type 0)
+    → D → D → Type 0
+ReceivesAll d count told told' old new =
+    (r : Receives d count told told' old new) × (length r.visits ≡ count)
+
+-- What an end says of the number of visits. Where all is done, there were as many as connections
+-- were to be served. Out of memory there was none, and where the listener failed at least one is
+-- missing. Where a line couldn't be printed, it was that of the port, or all were served.
 abbrev pub IsEnd : ℕ → Result (Unit {0}) ServingFault → ℕ → Type 0
-IsEnd count (Ok done) visits = ⊤
+IsEnd count (Ok done) visits = visits ≡ count
 IsEnd count (Err ServingFault.Memory) visits = visits ≡ 0
-IsEnd count (Err ServingFault.File) visits = ⊤
+IsEnd count (Err ServingFault.File) visits = (visits ≡ count) ⊎ (visits ≡ 0)
 IsEnd count (Err ServingFault.Net) visits = (visits < count) ⊎ (visits ≡ 0)
 
 -- at most `count` connections were received, and what the end says of them holds

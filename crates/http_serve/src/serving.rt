@@ -2,7 +2,7 @@
 ghost use Rattle.std.specs.Prelude.{◌≡◌, ◌⊎◌, ℕ, Err, IfErr, OnOk};
 ghost use Rattle.std.specs.Io.KnownBytes.{Appends};
 ghost use Rattle.http_serve.specs.Lines.{listening_line};
-ghost use Rattle.http_serve.specs.Visits.{Attends, IsEnd, Receives, Served};
+ghost use Rattle.http_serve.specs.Visits.{Attends, IsEnd, Receives, ReceivesAll, Served};
 
 use crate::accepting::accepted;
 use crate::fault::ServingFault;
@@ -108,14 +108,18 @@ fn serve_next<D: Desk, M: Moments>(
     clock: &mut M,
     listener: &TcpListener,
 ) -> Result<Option<Cause>, ServingFault>
-    ensures received { Receives D.Desk 1 (M.told clock.old) (M.told clock.new)
-        desk.old desk.new }
+    ensures received { OnOk result (ReceivesAll D.Desk 1 (M.told clock.old) (M.told clock.new)
+        desk.old desk.new) }
     ensures fault { IfErr result (λ fault. (fault ≡ ServingFault.Net)
         × Receives D.Desk 0 (M.told clock.old) (M.told clock.new) desk.old desk.new) }
 {
     match accepted(listener) {
         Ok(Some(stream)) => Ok(serve_stream(alloc, routes, desk, clock.next(), &stream)),
-        Ok(None) => Ok(Some(Cause::Read)),
+        Ok(None) => {
+            // one that is lost has its moment too
+            clock.next();
+            Ok(Some(Cause::Read))
+        }
         Err(fault) => Err(fault),
     }
 }

@@ -1,7 +1,7 @@
 use Rattle.std.proofs.Common.{subst, rules, w64, ℤ, SFits}
 use Rattle.std.proofs.lemmas.Int.{to_z-of_z}
 use Rattle.http_serve.specs.Visits.{Attends}
-use Rattle.http_serve.proofs.Receiving.{one}
+use Rattle.http_serve.proofs.Receiving.{exactly_one, lost}
 use Rattle.http_serve.proofs.serving.serve_next.Goals as goal
 
 pub returns-in-Ok-Some-clause-received : goal.returns-in-Ok-Some-clause-received
@@ -12,4 +12,10 @@ returns-in-Ok-Some-clause-received g c =
     let fits : SFits w64 at = search rules in
     let attends = subst (λ (z : ℤ). Attends g.D.Desk z old new)
     (to_z-of_z w64 at fits) c.serve_stream.ensures in
-    one g.D.Desk at _ _ old new c.next.ensures attends
+    exactly_one g.D.Desk at _ _ old new c.next.ensures attends
+
+pub returns-in-Ok-None-clause-received : goal.returns-in-Ok-None-clause-received
+returns-in-Ok-None-clause-received g c =
+    exactly_one g.D.Desk c.next-in-Ok-None.result _ _ c.args.desk.now c.args.desk.now
+    c.next-in-Ok-None.ensures
+    (lost g.D.Desk c.next-in-Ok-None.result c.args.desk.now)
