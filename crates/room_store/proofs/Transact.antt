@@ -1,5 +1,5 @@
 -- Calls in a transaction that is committed or rolled back.
-use Rattle.std.proofs.Common.{◌≡◌, ◌≤◌, ℕ, Result, Ok, Err, IsTrue, IfOk, OnOk, inl, inr, refl, sym, ap, subst, subst₂, ◌∙◌, true, false, arith}
+use Rattle.std.proofs.Common.{◌≡◌, ◌≤◌, ℕ, Result, Ok, Err, IsTrue, IfOk, OnOk, inl, inr, refl, sym, ap, subst, subst₂, ◌∙◌, false, arith}
 use Rattle.sqlite_trees.specs.View.{doubt}
 use Rattle.sqlite.specs.Effect.{Database}
 use Rattle.sqlite.specs.declared.error.Error.{Error}
@@ -77,17 +77,21 @@ module _ (old begun mid end : State) (begins : Begins old begun) (stays : Stays 
   old_clean : HasCleanDisk end → HasCleanDisk old
   old_clean h =
       let mid' : HasCleanDisk mid = clean_mid h in
-      let begun' : HasCleanDisk begun = omega (arith, stays.clean, mid') in
+      let begun' : HasCleanDisk begun = omega (arith, stays.within.clean, mid') in
       subst (λ b. doubt b ≡ 0) begins.same_clean begun'
 
   old_open : HasCleanDisk end → IsTrue mid.is_open → IsTrue old.is_open
-  old_open now open' = sym begins.same_open ∙ stays.was_open (clean_mid now) open'
+  old_open now open' = sym begins.same_open ∙ stays.within.was_open (clean_mid now) open'
+
+  -- whatever the tables are, nothing is committed before the end
+  committed_mid : HasCleanDisk end → IsTrue mid.is_open → mid.committed ≡ old.now
+  committed_mid now open' =
+      stays.within.committed (clean_mid now) open' ∙ begins.committed
+      ∙ sym (begins.settled (old_open now open'))
 
   -- what is known of the tables once the calls were made
   record Made : Type 0 where
-    same : old.now ≡ old.committed
     trusted : IsTrusted begun mid
-    committed : mid.committed ≡ old.now
     room : IsRoom mid.now
     retains : Retains old.now.trees mid.now.trees
 
@@ -98,15 +102,11 @@ module _ (old begun mid end : State) (begins : Begins old begun) (stays : Stays 
       let same = begins.settled open'' in
       let one = subst IsRoom (sym begins.now) room in
       let two = subst IsRoom (sym begins.committed) (subst IsRoom same room) in
-      let kept = stays.kept (clean_mid now) open' two one in
       record {
-        same = same;
         trusted = record { clean = clean_mid now; is_open = open'; now = one; committed = two };
-        committed = kept.0 ∙ begins.committed ∙ sym same;
-        room = kept.1;
+        room = stays.room (clean_mid now) open' two one;
         retains =
-            subst (λ (db : Database). Retains db.trees mid.now.trees)
-            (kept.0 ∙ begins.committed ∙ sym same)
+            subst (λ (db : Database). Retains db.trees mid.now.trees) (committed_mid now open')
             (stays.retains (clean_mid now) open' two one
             (retains_same _ _ (begins.now ∙ same ∙ sym begins.committed)));
       }
@@ -119,23 +119,20 @@ module _ (old begun mid end : State) (begins : Begins old begun) (stays : Stays 
         was_open = λ now open'. old_open now (was now open');
       }
 
-  undone_at : HasCleanDisk end → IsTrue end.is_open → HasTables old.now → IsRolledBack mid end
-      → end.now ≡ old.now
-  undone_at now open' tables back =
-      (back.undone open').0 ∙ (made now (back.was_open open') tables).committed
+  undone_at : HasCleanDisk end → IsTrue end.is_open → IsRolledBack mid end → end.now ≡ old.now
+  undone_at now open' back = (back.undone open').0 ∙ committed_mid now (back.was_open open')
 
   was_at : IsTrue end.is_open → (why : Error) → FailsToCommit mid end why → IsTrue mid.is_open
   was_at open' why (inl fails) = fails.3.was_open open'
   was_at open' why (inr (is, mode, same)) = same.0.was_open
 
-  left_at : HasCleanDisk end → IsTrue end.is_open → HasTables old.now → (why : Error)
-      → FailsToCommit mid end why → end.now ≡ old.now
-  left_at now open' tables why (inl fails) = undone_at now open' tables fails.3
-  left_at now open' tables why (inr (is, mode, same)) =
-      let m = made now same.0.was_open tables in
-      let settled = stays.settled (clean_mid now) same.0.was_open m.trusted.committed m.trusted.now
+  left_at : HasCleanDisk end → IsTrue end.is_open → (why : Error) → FailsToCommit mid end why
+      → end.now ≡ old.now
+  left_at now open' why (inl fails) = undone_at now open' fails.3
+  left_at now open' why (inr (is, mode, same)) =
+      let settled = stays.within.settled (clean_mid now) same.0.was_open
       (λ off. absurd (let e' = sym off ∙ begins.mode in cc)) mode in
-      same.0.now_is ∙ settled ∙ m.committed
+      same.0.now_is ∙ settled ∙ committed_mid now same.0.was_open
 
   -- what is so of the tables after the calls is so once they are committed
   pub after : {X : Type 0} (P : Database → Type 0) (done : Result X KeepFault)
@@ -177,7 +174,7 @@ module _ (old begun mid end : State) (begins : Begins old begun) (stays : Stays 
     }
 
     given_up : (fault : StoreFault) → (HasCleanDisk end → IsTrue end.is_open → IsTrue mid.is_open)
-        → (HasCleanDisk end → IsTrue end.is_open → HasTables old.now → end.now ≡ old.now)
+        → (HasCleanDisk end → IsTrue end.is_open → end.now ≡ old.now)
         → (StorePremise old end → IsTrue end.is_open → fault ≡ Damaged → Blames (rows_of old.now))
         → Ran {X = X} old end (Err fault) Blames Becomes
     given_up fault was left damaged = record {
@@ -185,12 +182,10 @@ module _ (old begun mid end : State) (begins : Begins old begun) (stays : Stays 
       answers = λ _. tt;
       committed = λ _. tt;
       step = λ _. tt;
-      kept = λ premise open'. left premise.disk open' premise.tables;
+      kept = left;
       tables =
-          λ premise open'. subst HasTables
-          (sym (left premise.disk open' premise.tables)) premise.tables;
-      retains =
-          λ premise open'. retains_same old.now end.now (left premise.disk open' premise.tables);
+          λ premise open'. subst HasTables (sym (left premise.disk open')) premise.tables;
+      retains = λ premise open'. retains_same old.now end.now (left premise.disk open');
       damaged = λ premise open' is. damaged premise open' (same_fault is);
     }
 
@@ -211,7 +206,7 @@ module _ (old begun mid end : State) (begins : Begins old begun) (stays : Stays 
         committed x y (λ now. (ends now).0) (λ trust. carries.becomes trust) (λ now. (ends now).2)
     ran (Ok x) (Err fault) carries ends =
         given_up fault (λ now open'. was_at open' (ends now).0 (ends now).2)
-        (λ now open' tables. left_at now open' tables (ends now).0 (ends now).2)
+        (λ now open'. left_at now open' (ends now).0 (ends now).2)
         (λ premise _ is. absurd
         (never_damage (ends premise.disk).0 (sym (ends premise.disk).1 ∙ is)))
     ran (Err why) (Ok y) carries ends = record {
@@ -226,7 +221,7 @@ module _ (old begun mid end : State) (begins : Begins old begun) (stays : Stays 
     }
     ran (Err why) (Err fault) carries ends =
         given_up fault (λ now open'. (ends now).1.was_open open')
-        (λ now open' tables. undone_at now open' tables (ends now).1)
+        (λ now open'. undone_at now open' (ends now).1)
         (λ premise open' is. blamed why fault carries premise ((ends premise.disk).1.was_open open')
         (ends premise.disk).0 is)
 
@@ -239,7 +234,7 @@ module _ (old begun mid end : State) (begins : Begins old begun) (stays : Stays 
         → Looked old end result Blames Answers
     look result back answers answer damaged = record {
       leaves = leaves (λ now open'. (back now).was_open open');
-      same = λ premise open'. undone_at premise.disk open' premise.tables (back premise.disk);
+      same = λ now open'. undone_at now open' (back now);
       answers = answers;
       answer = answer;
       damaged = λ premise open' is. damaged premise ((back premise.disk).was_open open') is;

@@ -13,6 +13,8 @@ use Rattle.sqlite.specs.Query.{Query}
 use Rattle.sqlite.specs.State.{State, Shown}
 use Rattle.sqlite.specs.Term.{Term, col}
 use Rattle.sqlite.proofs.Callers.{IsPlain, command_of, reads_as}
+use Rattle.sqlite_resolve.specs.Compile.{first, returning}
+use Rattle.store_tables.proofs.Bare.{IsBare}
 use Rattle.sqlite_keyed.specs.Lists.{sort_by}
 use Rattle.sqlite_keyed.proofs.SortLemmas.{IsPermutation-sort_by}
 use Rattle.sqlite_tied.specs.Compute.{everything}
@@ -45,9 +47,13 @@ members_is : (command_of (understood room_schema members_text) ≡ selects asked
 unfolding understood everything
 members_is = (refl, refl)
 
-pub plain_members : IsPlain (understood room_schema members_text)
+plain_members : IsPlain (understood room_schema members_text)
 unfolding understood everything
 plain_members = (refl, refl)
+
+pub bare_members : IsBare members_text
+unfolding first returning everything
+bare_members = λ schema base. refl
 
 all_kept : {X : Type 0} (l : List X) → filter (λ r. true) l ≡ l
 all_kept [] = refl

@@ -13,6 +13,8 @@ use Rattle.sqlite.specs.State.{State, Shown}
 use Rattle.sqlite.specs.Term.{Term, col, lit}
 use Rattle.sqlite.specs.Tree.{rowid}
 use Rattle.sqlite.proofs.Callers.{IsPlain, command_of, reads_as}
+use Rattle.sqlite_resolve.specs.Compile.{first, returning}
+use Rattle.store_tables.proofs.Bare.{IsBare}
 use Rattle.sqlite_tied.specs.Compute.{everything}
 use Rattle.sqlite_keyed.proofs.ListLemmas.{ascending-filter}
 use Rattle.room_rows.specs.declared.node.AuditRow.{AuditRow}
@@ -43,9 +45,13 @@ records_are : (command_of (understood room_schema records_text) ≡ selects aske
 unfolding understood everything
 records_are = (refl, refl)
 
-pub plain_records : IsPlain (understood room_schema records_text)
+plain_records : IsPlain (understood room_schema records_text)
 unfolding understood everything
 plain_records = (refl, refl)
+
+pub bare_records : IsBare records_text
+unfolding first returning everything
+bare_records = λ schema base. refl
 
 all_kept : {X : Type 0} (l : List X) → filter (λ r. true) l ≡ l
 all_kept [] = refl

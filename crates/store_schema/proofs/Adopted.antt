@@ -7,7 +7,7 @@ use Rattle.sqlite.specs.Schema.{Schema}
 use Rattle.store_tables.specs.Tables.{no_schema, room_schema}
 use Rattle.store_schema.specs.NewRoom.{meta_of}
 use Rattle.store_schema.specs.Opening.{Adopts, Expects, IsRefusal, Says, AnswersVersion}
-use Rattle.store_schema.specs.Within.{IsWithin}
+use Rattle.store_tables.specs.Within.{IsWithin}
 use Rattle.store_schema.specs.declared.fault.OpenFault.{OpenFault}
 use Rattle.store_schema.proofs.Founded.{Begins}
 

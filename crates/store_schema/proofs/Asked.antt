@@ -27,12 +27,12 @@ use Rattle.sqlite.proofs.Callers.{IsPlain, command_of, one_permutation, reads_as
 use Rattle.store_tables.specs.Tables.{no_schema, room_schema}
 use Rattle.store_schema.specs.NewRoom.{is_version, meta_of, number_shown}
 use Rattle.store_schema.specs.Opening.{AsksVersion, Expects, IsCalled, IsFailure, IsRefusal, ReadsAs, Says, ShowsVersion, AnswersVersion, number_text}
-use Rattle.store_schema.specs.Within.{IsWithin}
+use Rattle.store_tables.specs.Within.{IsWithin}
 use Rattle.store_schema.specs.declared.fault.OpenFault.{OpenFault}
 use Rattle.store_schema.specs.declared.fault.OpenFault.TheVariants.{NotRooms, OldVersion, NewVersion, Db, Memory}
 use Rattle.store_schema.proofs.Answers.{passes, selected}
 use Rattle.store_schema.proofs.Texts.{asked_is, asked_nowhere, asked_plain, asks_value, is_rooms}
-use Rattle.store_schema.proofs.Within.{unchanged_within, undone_within, wrote_within}
+use Rattle.store_tables.proofs.Within.{unchanged_within, undone_within, wrote_within}
 
 -- ---- the rows that are shown
 

@@ -9,7 +9,7 @@ use Rattle.store_tables.specs.Tables.{no_schema}
 use Rattle.store_schema.specs.declared.fault.CreateFault.{CreateFault}
 use Rattle.store_schema.specs.declared.fault.CreateFault.TheVariants.{Db}
 use Rattle.store_schema.specs.Making.{Founds, HasEmpty, Makes}
-use Rattle.store_schema.specs.Within.{IsWithin}
+use Rattle.store_tables.specs.Within.{IsWithin}
 use Rattle.store_schema.specs.NewRoom.{IsNewRoom}
 
 -- a transaction begins

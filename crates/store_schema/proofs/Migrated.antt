@@ -1,22 +1,21 @@
 -- A transaction that upgrades a room is committed or rolled back.
-use Rattle.std.proofs.Common.{◌≡◌, ◌≤◌, [], pos, Some, Result, Ok, Err, IsErrAnd, IsTrue, inl, inr, ◌⊎◌, sym, ap, subst, ◌∙◌, true, false, arith}
+use Rattle.std.proofs.Common.{◌≡◌, ◌≤◌, [], pos, Result, Ok, Err, IsErrAnd, IsTrue, inl, inr, sym, ap, subst, ◌∙◌, true, false, arith}
 use Rattle.sqlite_trees.specs.View.{doubt}
 use Rattle.sqlite.specs.Effect.{Database, IsDatabase}
 use Rattle.sqlite.specs.declared.error.Error.{Error}
 use Rattle.sqlite.specs.State.{State, HasCleanDisk, Shows, IsRolledBack, KeepsCounts}
 use Rattle.sqlite.specs.Steps.{FailsToCommit}
 use Rattle.store_tables.specs.Tables.{no_schema}
-use Rattle.store_schema.specs.Within.{IsWithin}
 use Rattle.store_tables.specs.Shown.{HasTables, IsRoom, room_of}
-use Rattle.store_schema.specs.Opening.{IsFailure, Says, ShowsVersion}
-use Rattle.store_schema.specs.Raising.{IsInside, IsNoRoom, UpgradesTables, Migrates}
+use Rattle.store_schema.specs.Opening.{IsFailure, Says}
+use Rattle.store_schema.specs.Raising.{AnswersMigration, IsInside, IsNoRoom, UpgradesTables, Migrates}
 use Rattle.store_schema.specs.NewRoom.{meta_of}
 use Rattle.store_schema.specs.declared.fault.MigrateFault.{MigrateFault}
 use Rattle.store_schema.specs.declared.fault.MigrateFault.TheVariants.{Opening, Unsound}
 use Rattle.store_schema.specs.declared.fault.OpenFault.{OpenFault}
 use Rattle.store_schema.specs.declared.fault.OpenFault.TheVariants.{NotRooms, OldVersion, NewVersion, Db, Memory}
 use Rattle.store_schema.proofs.Founded.{Begins}
-use Rattle.store_schema.proofs.Moving.{by_failure}
+use Rattle.store_schema.proofs.Moving.{by_failure, by_unknown}
 
 module _ (old begun mid end : State) (begins : Begins old begun)
     (sound : IsTrue old.is_open → IsDatabase old.now) (ended : end.in_transaction ≡ false)
@@ -27,10 +26,10 @@ module _ (old begun mid end : State) (begins : Begins old begun)
 
     since : doubt old.is_clean ≤ doubt end.is_clean
     since = let same : doubt begun.is_clean ≡ doubt old.is_clean = ap doubt begins.same_clean in
-        omega (arith, same, within.clean, clean)
+        omega (arith, same, within.within.clean, clean)
 
     open_first : HasCleanDisk end → IsTrue mid.is_open → IsTrue old.is_open
-    open_first now open' = sym begins.same_open ∙ within.was_open (clean_mid now) open'
+    open_first now open' = sym begins.same_open ∙ within.within.was_open (clean_mid now) open'
 
     room_now : HasCleanDisk end → IsTrue mid.is_open → HasTables old.now → IsRoom begun.now
     room_now now open' tables =
@@ -43,27 +42,13 @@ module _ (old begun mid end : State) (begins : Begins old begun)
         subst IsRoom (sym begins.committed)
         (subst IsRoom (begins.settled open'') (room_of tables (sound open'')))
 
-    committed_mid : HasCleanDisk end → IsTrue mid.is_open → HasTables old.now
-        → mid.committed ≡ old.committed
-    committed_mid now open' tables =
-        within.committed (clean_mid now) open' (room_committed now open' tables)
-        (room_now now open' tables) ∙ begins.committed
+    committed_mid : HasCleanDisk end → IsTrue mid.is_open → mid.committed ≡ old.committed
+    committed_mid now open' = within.within.committed (clean_mid now) open' ∙ begins.committed
 
-    -- what is shown of the tables as they were is shown of them in the transaction
-    shown_begun : ShowsVersion (Some (pos 1)) begun.now → ShowsVersion (Some (pos 1)) old.now
-    shown_begun shows = subst (ShowsVersion (Some (pos 1))) begins.now shows
-
-    -- where the database doesn't answer 1, nothing was committed
-    within_mid : HasCleanDisk end → ¬ (ShowsVersion (Some (pos 1)) old.now) → IsWithin begun mid
-        × IsErrAnd r (λ _. Unit {0})
-    within_mid now none =
-        elim (within.foreign (clean_mid now))
-        [ inl shows ↦ absurd (none (shown_begun shows)) | inr it ↦ it ]
-
-    foreign_committed : HasCleanDisk end → IsTrue mid.is_open
-        → ¬ (ShowsVersion (Some (pos 1)) old.now) → mid.committed ≡ old.committed
-    foreign_committed now open' none =
-        (within_mid now none).0.committed (clean_mid now) open' ∙ begins.committed
+    -- what is shown of the tables in the transaction is shown of them as they were
+    shown_first : HasCleanDisk end → AnswersMigration old.now r
+    shown_first now =
+        subst (λ (d : Database). AnswersMigration d r) begins.now (within.shown (clean_mid now))
 
     empty_mid : HasCleanDisk end → old.now.schema ≡ no_schema → IsErrAnd r IsNoRoom
     empty_mid now has =
@@ -72,35 +57,27 @@ module _ (old begun mid end : State) (begins : Begins old begun)
     given_up : (e : MigrateFault) → (HasCleanDisk end → IsTrue end.is_open → IsTrue mid.is_open)
         → (HasCleanDisk end → IsTrue end.is_open → HasTables old.now
         → UpgradesTables old.now end.now (Err e))
-        → (HasCleanDisk end → IsTrue end.is_open → HasTables old.now → (end.now ≡ old.committed)
+        → (HasCleanDisk end → IsTrue end.is_open → (end.now ≡ old.committed)
         × (end.committed ≡ old.committed))
-        → (HasCleanDisk end → IsTrue end.is_open → ¬ (ShowsVersion (Some (pos 1)) old.now)
-        → (end.now ≡ old.committed) × (end.committed ≡ old.committed))
+        → (HasCleanDisk end → AnswersMigration old.now (Err e))
         → (HasCleanDisk end → old.now.schema ≡ no_schema → IsNoRoom e) → Migrates old end (Err e)
-    given_up e was leads left alien empty = record {
+    given_up e was leads left shown empty = record {
       ended = ended;
       clean = since;
       was_open = λ now open'. open_first now (was now open');
       leads = leads;
       committed = λ _. tt;
       answers = λ _. tt;
-      foreign = λ now open' none. let settled = begins.settled (open_first now (was now open')) in
-          ((alien now open' none).0 ∙ sym settled, (alien now open' none).1);
+      shown = shown;
       empty = empty;
-      kept = λ now open' tables. let settled = begins.settled (open_first now (was now open')) in
-          ((left now open' tables).0 ∙ sym settled, (left now open' tables).1);
+      kept = λ now open'. let settled = begins.settled (open_first now (was now open')) in
+          ((left now open').0 ∙ sym settled, (left now open').1);
     }
 
-    undone_at : HasCleanDisk end → IsTrue end.is_open → HasTables old.now → IsRolledBack mid end
+    undone_at : HasCleanDisk end → IsTrue end.is_open → IsRolledBack mid end
         → (end.now ≡ old.committed) × (end.committed ≡ old.committed)
-    undone_at now open' tables back =
-        let same = committed_mid now (back.was_open open') tables in
-        ((back.undone open').0 ∙ same, (back.undone open').1 ∙ same)
-
-    foreign_at : HasCleanDisk end → IsTrue end.is_open → ¬ (ShowsVersion (Some (pos 1)) old.now)
-        → IsRolledBack mid end → (end.now ≡ old.committed) × (end.committed ≡ old.committed)
-    foreign_at now open' none back =
-        let same = foreign_committed now (back.was_open open') none in
+    undone_at now open' back =
+        let same = committed_mid now (back.was_open open') in
         ((back.undone open').0 ∙ same, (back.undone open').1 ∙ same)
 
     pub not_committed : (e : OpenFault) (why : Error) → IsFailure e
@@ -108,8 +85,8 @@ module _ (old begun mid end : State) (begins : Begins old begun)
     not_committed e why failure err =
         given_up (Opening e) (λ now open'. was now open' (err now))
         (λ now open' tables. by_failure old.now e failure)
-        (λ now open' tables. left now open' tables (err now))
-        (λ now open' none. alien now open' none (err now)) (λ now has. no_room e failure)
+        (λ now open'. left now open' (err now))
+        (λ now. by_unknown old.now e failure) (λ now has. no_room e failure)
       where
         no_room : (f : OpenFault) → IsFailure f → IsNoRoom (Opening f)
         no_room NotRooms it = absurd it
@@ -118,29 +95,17 @@ module _ (old begun mid end : State) (begins : Begins old begun)
         no_room Db it = tt
         no_room Memory it = tt
 
-        alien : HasCleanDisk end → IsTrue end.is_open → ¬ (ShowsVersion (Some (pos 1)) old.now)
-            → FailsToCommit mid end why → (end.now ≡ old.committed)
-            × (end.committed ≡ old.committed)
-        alien now open' none (inl fails) = foreign_at now open' none fails.3
-        alien now open' none (inr (is, mode, same)) =
-            let settled = (within_mid now none).0.settled (clean_mid now) same.0.was_open
-            (λ off. absurd (let e' : true ≡ false = sym begins.mode ∙ off in cc)) mode in
-            let kept = foreign_committed now same.0.was_open none in
-            (same.0.now_is ∙ settled ∙ kept, same.0.committed_is ∙ kept)
-
         was : HasCleanDisk end → IsTrue end.is_open → FailsToCommit mid end why → IsTrue mid.is_open
         was now open' (inl fails) = fails.3.was_open open'
         was now open' (inr (is, mode, same)) = same.0.was_open
 
-        left : HasCleanDisk end → IsTrue end.is_open → HasTables old.now → FailsToCommit mid end why
+        left : HasCleanDisk end → IsTrue end.is_open → FailsToCommit mid end why
             → (end.now ≡ old.committed) × (end.committed ≡ old.committed)
-        left now open' tables (inl fails) = undone_at now open' tables fails.3
-        left now open' tables (inr (is, mode, same)) =
-            let open'' = same.0.was_open in
-            let settled = within.settled (clean_mid now) open'' (room_committed now open'' tables)
-            (room_now now open'' tables)
+        left now open' (inl fails) = undone_at now open' fails.3
+        left now open' (inr (is, mode, same)) =
+            let settled = within.within.settled (clean_mid now) same.0.was_open
             (λ off. absurd (let e' : true ≡ false = sym begins.mode ∙ off in cc)) mode in
-            let kept = committed_mid now open'' tables in
+            let kept = committed_mid now same.0.was_open in
             (same.0.now_is ∙ settled ∙ kept, same.0.committed_is ∙ kept)
 
   -- a fault says only what was there before
@@ -160,8 +125,7 @@ module _ (old begun mid end : State) (begins : Begins old begun)
       told_before e end.now
       (within.leads (clean_mid within now) open'' (room_committed within now open'' tables)
       (room_now within now open'' tables)))
-      (λ now open' tables. undone_at within now open' tables (back now))
-      (λ now open' none. foreign_at within now open' none (back now))
+      (λ now open'. undone_at within now open' (back now)) (λ now. shown_first within now)
       (λ now has. empty_mid within now has)
 
   pub committed : IsInside begun mid (Ok tt)
@@ -180,7 +144,7 @@ module _ (old begun mid end : State) (begins : Begins old begun)
         (subst (λ d. UpgradesTables begun.now d (Ok tt)) (sym shows.now_is) leads);
     committed = λ now. (ok now).1.committed_is ∙ sym (ok now).1.now_is;
     answers = λ now. (open_first within now (ok now).1.was_open, (ok now).1.is_open);
-    foreign = λ now _ none. absurd (within_mid within now none).1;
+    shown = λ now. shown_first within now;
     empty = λ now has. empty_mid within now has;
-    kept = λ _ _ _. tt;
+    kept = λ _ _. tt;
   }

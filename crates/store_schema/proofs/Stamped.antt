@@ -27,7 +27,7 @@ use Rattle.store_tables.specs.Meaning.{audit_in, bodies_of, nodes_of, pairs_of, 
 use Rattle.store_tables.specs.Shown.{IsRoom}
 use Rattle.store_tables.specs.Tables.{meta, room_schema}
 use Rattle.store_schema.specs.Raising.{Stamps}
-use Rattle.store_schema.specs.Within.{IsWithin}
+use Rattle.store_tables.specs.Within.{IsWithin}
 use Rattle.store_schema.proofs.Steps.{went, same_value}
 use Rattle.store_schema.proofs.Texts.{is_rooms, query_of, stamp_is, stamp_plain, stamp_terms, stamp_text}
 use Rattle.store_schema.proofs.Within.{within_inside}

@@ -1,65 +1,24 @@
 -- What a statement inside a transaction leaves.
-use Rattle.std.proofs.Common.{◌≡◌, ◌≤◌, ℕ, List, Result, Ok, Err, IsTrue, OnOk, inl, inr, refl, sym, subst, ◌∙◌, true, false, Bool, arith}
+use Rattle.std.proofs.Common.{◌≡◌, ◌≤◌, ℕ, List, Result, Ok, Err, IsTrue, OnOk, inl, inr, refl, sym, subst, true, false, Bool, arith}
 use Rattle.sqlite.specs.Order.{Row}
 use Rattle.sqlite_trees.specs.View.{doubt}
 use Rattle.sqlite.specs.Effect.{Database}
 use Rattle.sqlite.specs.declared.error.Error.{Error}
-use Rattle.sqlite.specs.State.{State, HasCleanDisk, IsUnchanged, IsRolledBack, Shows, Executes, ExecutesInside}
+use Rattle.sqlite.specs.State.{State, HasCleanDisk, Executes, ExecutesInside}
 use Rattle.store_schema.specs.Making.{Makes}
-use Rattle.store_schema.specs.Within.{IsWithin}
-
-pub within_itself : (a : State) → IsWithin a a
-within_itself a =
-    record {
-      clean = omega arith;
-      was_open = λ _ h. h;
-      committed = λ _ _. refl;
-      settled = λ _ _ was mode. was mode;
-    }
-
-pub within_on : (a b c : State) → IsWithin a b → IsWithin b c → IsWithin a c
-within_on a b c p q =
-    let clean : HasCleanDisk c → HasCleanDisk b = λ h. omega (arith, q.clean, h) in
-    record {
-      clean = omega (arith, p.clean, q.clean);
-      was_open = λ now open'. p.was_open (clean now) (q.was_open now open');
-      committed =
-          λ now open'. q.committed now open' ∙ p.committed (clean now) (q.was_open now open');
-      settled =
-          λ now open' was. q.settled now open' (p.settled (clean now) (q.was_open now open') was);
-    }
+use Rattle.store_tables.specs.Within.{IsWithin, within_on}
+use Rattle.store_tables.proofs.Within.{unchanged_within, undone_within, wrote_within}
 
 module _ (old new : State) (clean : doubt old.is_clean ≤ doubt new.is_clean) where
-  pub unchanged_within : IsUnchanged old new → IsWithin old new
-  unchanged_within h = record {
-    clean = clean;
-    was_open = λ _ _. h.0.was_open;
-    committed = λ _ _. h.0.committed_is;
-    settled = λ _ _ was mode. h.0.now_is ∙ was (sym h.0.mode ∙ mode) ∙ sym h.0.committed_is;
-  }
-
-  pub undone_within : IsRolledBack old new → IsWithin old new
-  undone_within h = record {
-    clean = clean;
-    was_open = λ _. h.was_open;
-    committed = λ _ open'. (h.undone open').1;
-    settled = λ _ open' _ _. (h.undone open').0 ∙ sym (h.undone open').1;
-  }
-
-  pub wrote_within : Shows old new new.now old.committed true → IsWithin old new
-  wrote_within h = record {
-    clean = clean;
-    was_open = λ _ _. h.was_open;
-    committed = λ _ _. h.committed_is;
-    settled = λ _ _ _ mode. absurd (let e : true ≡ false = sym h.mode ∙ mode in cc);
-  }
-
   inside : (sql : List ℕ) (params : Row) (r : Result ℕ Error)
       → ExecutesInside 0 sql params old new r → IsWithin old new
-  inside sql params (Ok count) h = wrote_within h.1
+  inside sql params (Ok count) h = wrote_within old new clean h.1
   inside sql params (Err e) (inl ran) =
-      elim ran.1 [ inl same ↦ unchanged_within same | inr undone ↦ undone_within undone ]
-  inside sql params (Err e) (inr ends) = unchanged_within ends.2
+      elim ran.1 [
+        | inl same ↦ unchanged_within old new clean same
+        | inr undone ↦ undone_within old new clean undone
+      ]
+  inside sql params (Err e) (inr ends) = unchanged_within old new clean ends.2
 
   pub within_inside : (sql : List ℕ) (params : Row) (r : Result ℕ Error)
       → (HasCleanDisk new → ExecutesInside 0 sql params old new r) → IsWithin old new

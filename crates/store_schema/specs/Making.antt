@@ -7,7 +7,7 @@ use Rattle.sqlite.specs.Effect.{Database}
 use Rattle.sqlite.specs.State.{State, HasCleanDisk}
 use Rattle.sqlite.specs.declared.error.Error.{Error}
 use Rattle.sqlite_trees.specs.View.{doubt}
-use Rattle.store_schema.specs.Within.{IsWithin}
+use Rattle.store_tables.specs.Within.{IsWithin}
 use Rattle.store_tables.specs.Seeing.{wants_memory}
 use Rattle.store_tables.specs.Tables.{no_schema, room_schema}
 use Rattle.store_schema.specs.NewRoom.{IsNewRoom, meta_of}

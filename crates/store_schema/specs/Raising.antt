@@ -1,6 +1,6 @@
 -- What upgrading the rows of schema 1 is.
 use Rattle.std.specs.Prelude.{◌≡◌, ◌≤◌, ℕ, pos, true, false, Some, Result, Ok, Err}
-use Rattle.std.specs.Prelude.{IfOk, IsErrAnd, OnOk, OnErr, IsTrue, ◌⊎◌}
+use Rattle.std.specs.Prelude.{IfOk, IsErrAnd, OnOk, OnErr, IsTrue}
 use Rattle.sqlite_trees.specs.View.{doubt}
 use Rattle.sqlite.specs.Effect.{Database}
 use Rattle.sqlite.specs.State.{State, HasCleanDisk}
@@ -9,8 +9,8 @@ use Rattle.store_tables.specs.Meaning.{rows_of}
 use Rattle.store_tables.specs.Shown.{HasTables, IsRoom}
 use Rattle.store_tables.specs.Tables.{no_schema}
 use Rattle.store_schema.specs.NewRoom.{meta_of}
-use Rattle.store_schema.specs.Opening.{IsRefusal, Says, ShowsVersion}
-use Rattle.store_schema.specs.Within.{IsWithin}
+use Rattle.store_schema.specs.Opening.{AnswersVersion, IsRefusal, Says, ShowsVersion}
+use Rattle.store_tables.specs.Within.{IsWithin}
 use Rattle.store_schema.specs.declared.fault.MigrateFault.{MigrateFault}
 use Rattle.store_schema.specs.declared.fault.MigrateFault.TheVariants.{Opening, Unsound}
 use Rattle.room_rows.specs.Meaning.{meaning}
@@ -79,20 +79,19 @@ abbrev pub IsNoRoom : MigrateFault → Type 0
 IsNoRoom (Opening fault) = IsRefusal fault
 IsNoRoom (Unsound path why) = ⊥
 
+-- A number is answered, and rows are tested, only where the database showed the number.
+abbrev pub AnswersMigration : Database → Result (Unit {0}) MigrateFault → Type 0
+AnswersMigration db (Ok _) = ShowsVersion (Some (pos 1)) db
+AnswersMigration db (Err (Opening fault)) = AnswersVersion (pos 1) db (Err fault)
+AnswersMigration db (Err (Unsound path why)) = ShowsVersion (Some (pos 1)) db
+
 -- The steps of upgrading a room, inside a transaction.
 pub record IsInside (old new : State) (result : Result (Unit {0}) MigrateFault) : Type 0 where
-  pub clean : doubt old.is_clean ≤ doubt new.is_clean
-  pub was_open : HasCleanDisk new → IsTrue new.is_open → IsTrue old.is_open
-  pub committed : HasCleanDisk new → IsTrue new.is_open → IsRoom old.committed → IsRoom old.now
-      → new.committed ≡ old.committed
-  pub settled : HasCleanDisk new → IsTrue new.is_open → IsRoom old.committed → IsRoom old.now
-      → (old.in_transaction ≡ false → old.now ≡ old.committed) → new.in_transaction ≡ false
-      → new.now ≡ new.committed
+  -- whatever the tables are, nothing is committed
+  pub within : IsWithin old new
   pub leads : HasCleanDisk new → IsTrue new.is_open → IsRoom old.committed → IsRoom old.now
       → UpgradesTables old.now new.now result
-  -- where the database doesn't answer 1, it is a fault, and nothing is committed
-  pub foreign : HasCleanDisk new
-      → ShowsVersion (Some (pos 1)) old.now ⊎ (IsWithin old new × IsErrAnd result (λ _. Unit {0}))
+  pub shown : HasCleanDisk new → AnswersMigration old.now result
   pub empty : HasCleanDisk new → old.now.schema ≡ no_schema → IsErrAnd result IsNoRoom
 
 -- What upgrading a room is.
@@ -105,11 +104,10 @@ pub record Migrates (old new : State) (result : Result (Unit {0}) MigrateFault) 
   pub committed : HasCleanDisk new → OnOk result (new.committed ≡ new.now)
   -- a connection that is shut gives no answer
   pub answers : HasCleanDisk new → OnOk result (IsTrue old.is_open × IsTrue new.is_open)
-  -- a file over which the database itself doesn't answer 1 is not changed
-  pub foreign : HasCleanDisk new → IsTrue new.is_open → ¬ (ShowsVersion (Some (pos 1)) old.now)
-      → (new.now ≡ old.now) × (new.committed ≡ old.committed)
+  -- any file is upgraded only where the database itself answered 1
+  pub shown : HasCleanDisk new → AnswersMigration old.now result
   -- an empty database is no room
   pub empty : HasCleanDisk new → old.now.schema ≡ no_schema → IsErrAnd result IsNoRoom
-  -- after a fault the tables are as they were
-  pub kept : HasCleanDisk new → IsTrue new.is_open → HasTables old.now
+  -- after a fault any database is as it was
+  pub kept : HasCleanDisk new → IsTrue new.is_open
       → OnErr result ((new.now ≡ old.now) × (new.committed ≡ old.committed))

@@ -3,31 +3,29 @@ use Rattle.std.proofs.Common.{◌≡◌, ℕ, ◌≤◌, List, Result, Ok, Err, 
 use Rattle.sqlite.specs.Order.{Row}
 use Rattle.sqlite.specs.Tree.{Trees}
 use Rattle.sqlite.specs.declared.error.Error.{Error}
-use Rattle.sqlite.specs.Listing.{understood}
 use Rattle.sqlite.specs.State.{State, HasCleanDisk, Shown, FailsToQuery, IsTooLate, Executes, ExecutesInside}
-use Rattle.sqlite.proofs.Callers.{IsPlain}
 use Rattle.sqlite_trees.specs.View.{doubt}
 use Rattle.store_tables.specs.Shown.{IsRoom, Stays}
 use Rattle.store_tables.specs.Statements.{QueriesSql, ExecutesSql}
-use Rattle.store_tables.specs.Tables.{room_schema}
 use Rattle.store_tables.proofs.Calls.{same_ok}
 use Rattle.store_tables.proofs.Executed.{WritesRoom}
 use Rattle.store_tables.proofs.Inside.{did_inside, query_inside, write_inside}
+use Rattle.store_tables.proofs.Bare.{IsReading}
 use Rattle.store_tables.proofs.Tests.{if_ok}
 
 -- a query inside a transaction keeps `QueriesSql`, once it is known what its rows show of a room
 pub asks : (sql : List ℕ) (params : Row) (old new : State) (r : Result (Vec Row Global) Error)
-    (Shows : Trees → List Row → Type 0) → IsPlain (understood room_schema sql)
+    (Shows : Trees → List Row → Type 0) → IsReading sql
     → doubt old.is_clean ≤ doubt new.is_clean
     → ((rows : List Row) → IsRoom old.now → Shown sql params old new rows
     → Shows old.now.trees rows)
     → (HasCleanDisk new → IfOk r (λ rows. Shown sql params old new rows.items))
     → (HasCleanDisk new → IfErr r (λ e. FailsToQuery sql params old new e
     ⊎ IsTooLate sql params old new e)) → QueriesSql Shows old new r
-asks sql params old new r Shows plain clean shows ok err = record {
+asks sql params old new r Shows reads clean shows ok err = record {
   rows = λ now room. if_ok r _ _ (λ rows shown. shows rows.items room shown) (ok now);
-  same = λ now room. same_ok sql params old new r plain room.schema (ok now);
-  stays = query_inside sql params old new r plain clean ok err;
+  same = λ now room. same_ok sql params old new r reads (ok now);
+  stays = query_inside sql params old new r reads clean ok err;
 }
 
 -- a write inside a transaction keeps `ExecutesSql`, once it is known what it leaves by its count

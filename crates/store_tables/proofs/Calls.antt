@@ -1,5 +1,5 @@
 -- What a read or a failure leaves of a connection.
-use Rattle.std.proofs.Common.{◌≡◌, ℕ, ◌≤◌, List, [], ◌++◌, Result, Ok, Err, None, Some, Option, IsTrue, inl, inr, ◌⊎◌, map, filter, refl, sym, ap, subst, ◌∙◌, false, IfOk, OnOk, IfErr, Vec, Global}
+use Rattle.std.proofs.Common.{◌≡◌, ℕ, ◌≤◌, List, [], ◌++◌, Result, Ok, Err, None, Some, Option, inl, inr, ◌⊎◌, map, filter, refl, sym, ap, subst, ◌∙◌, false, IfOk, OnOk, Vec, Global}
 use Rattle.std.proofs.lemmas.List.{append-nil, append_assoc}
 use Rattle.std.specs.List.Sorted.{IsPermutation}
 use Rattle.sqlite.specs.declared.types.Value.TheVariants.{Null}
@@ -12,7 +12,7 @@ use Rattle.sqlite.specs.Term.{Term}
 use Rattle.sqlite_value.specs.declared.keys.Key.{Key}
 use Rattle.sqlite.specs.declared.error.Error.{Error}
 use Rattle.sqlite.specs.Listing.{understood, reads_listing}
-use Rattle.sqlite.specs.State.{State, HasCleanDisk, IsUnchanged, IsRolledBack, Shown, ShowsRows, FailsToQuery, IsNotRun, FailsToShow}
+use Rattle.sqlite.specs.State.{State, HasCleanDisk, IsUnchanged, IsRolledBack, Shown, FailsToQuery, IsNotRun, FailsToShow}
 use Rattle.sqlite_resolve.specs.declared.compiled.Compiled.{Compiled}
 use Rattle.sqlite_schema.specs.declared.command.Returning.{Returning}
 use Rattle.sqlite.proofs.Callers.{IsPlain, command_of, reads_as}
@@ -20,6 +20,8 @@ use Rattle.store_tables.specs.Tables.{room_schema}
 use Rattle.store_tables.specs.Shown.{IsRoom, Retains, Stays}
 use Rattle.store_tables.proofs.Texts.{query_of, selects}
 use Rattle.store_tables.proofs.Answers.{passes, shows, selected}
+use Rattle.store_tables.proofs.Bare.{IsReading, shown_same}
+use Rattle.store_tables.proofs.Within.{unchanged_within, undone_within}
 
 -- ---- what is retained
 
@@ -56,25 +58,38 @@ module _ (old new : State) (clean : doubt old.is_clean ≤ doubt new.is_clean) w
   pub unchanged_stays : IsUnchanged old new → Stays old new
   unchanged_stays h =
       record {
-        clean = clean;
-        was_open = λ _ _. h.0.was_open;
-        kept = λ _ _ _ room. (h.0.committed_is, subst IsRoom (sym h.0.now_is) room);
+        within = unchanged_within old new clean h;
+        room = λ _ _ _ room. subst IsRoom (sym h.0.now_is) room;
         retains =
             λ _ _ _ _ was. retains_at _ _ _ _ h.0.committed_is h.0.now_is was;
-        settled =
-            λ _ _ _ _ was now. h.0.now_is ∙ was (sym h.0.mode ∙ now) ∙ sym h.0.committed_is;
       }
 
   -- so does one that undoes the transaction, after which what was committed is seen
   pub rolled_back_stays : IsRolledBack old new → Stays old new
   rolled_back_stays h =
       record {
-        clean = clean;
-        was_open = λ _. h.was_open;
-        kept = λ _ open' room _. ((h.undone open').1, subst IsRoom (sym (h.undone open').0) room);
+        within = undone_within old new clean h;
+        room = λ _ open' room _. subst IsRoom (sym (h.undone open').0) room;
         retains = λ _ open' _ _ _. retains_same _ _ ((h.undone open').0 ∙ sym (h.undone open').1);
-        settled = λ _ open' _ _ _ _. (h.undone open').0 ∙ sym (h.undone open').1;
       }
+
+  -- and so does one that either leaves the state or undoes the transaction
+  pub left_stays : IsUnchanged old new ⊎ IsRolledBack old new → Stays old new
+  left_stays (inl same) = unchanged_stays same
+  left_stays (inr undone) = rolled_back_stays undone
+
+  -- what is so of the end of a clean disk is so of the call
+  pub stays_by : (HasCleanDisk new → Stays old new) → Stays old new
+  stays_by h = record {
+    within = record {
+      clean = clean;
+      was_open = λ now. (h now).within.was_open now;
+      committed = λ now. (h now).within.committed now;
+      settled = λ now. (h now).within.settled now;
+    };
+    room = λ now. (h now).room now;
+    retains = λ now. (h now).retains now;
+  }
 
 not_shown : (sql : List ℕ) (c : Compiled) (full : Row) (old new : State) (e : Error)
     (r : Option Returning) → FailsToShow old new sql c full e r → IsUnchanged old new
@@ -91,61 +106,6 @@ failed_query sql params old new e (inl (inl h)) = inl h.1
 failed_query sql params old new e (inl (inr h)) = inr h.3
 failed_query sql params old new e (inr h) = not_shown sql h.0 _ old new e h.0.returning h.2
 
-open_shown : (sql : List ℕ) (c : Compiled) (full : Row) (old new : State) (rows : List Row)
-    (r : Option Returning) → ShowsRows old new sql c full rows r → IsTrue old.is_open
-open_shown sql c full old new rows None s = s.3.0.was_open
-open_shown sql c full old new rows (Some what) s = s.1.shown.was_open
-
--- where a statement showed rows, the connection was open
-pub shown_open : (sql : List ℕ) (params : Row) (old new : State) (rows : List Row)
-    → Shown sql params old new rows → IsTrue old.is_open
-unfolding Shown
-shown_open sql params old new rows h = open_shown sql h.0 _ old new rows h.0.returning h.2
-
--- a statement with no RETURNING that showed rows left the connection unchanged
-pub shown_same : (sql : List ℕ) (params : Row) (old new : State) (rows : List Row)
-    → IsPlain (understood old.now.schema sql) → Shown sql params old new rows → IsUnchanged old new
-unfolding Shown
-shown_same sql params old new rows plain h =
-    let bare = subst IsPlain h.1.is plain in
-    let it = subst (ShowsRows old new sql h.0 _ rows) bare.0 h.2 in
-    it.3
-
-module _ (sql : List ℕ) (params : Row) (old new : State)
-    (plain : IsPlain (understood room_schema sql))
-    (clean : doubt old.is_clean ≤ doubt new.is_clean) where
-  -- a query that showed its rows leaves what any call has to, as it changed nothing
-  pub shown_stays : (rows : List Row) → Shown sql params old new rows → Stays old new
-  shown_stays rows h = record {
-    clean = clean;
-    was_open = λ _ _. shown_open sql params old new rows h;
-    kept = λ _ _ _ room. let same =
-        shown_same sql params old new rows
-        (subst (λ s. IsPlain (understood s sql)) (sym room.schema) plain) h in
-        (same.0.committed_is, subst IsRoom (sym same.0.now_is) room);
-    retains =
-        λ now open' one room.
-        (unchanged_stays old new clean
-        (shown_same sql params old new rows
-        (subst (λ s. IsPlain (understood s sql)) (sym room.schema) plain) h)).retains now open' one
-        room;
-    settled =
-        λ now open' one room.
-        (unchanged_stays old new clean
-        (shown_same sql params old new rows
-        (subst (λ s. IsPlain (understood s sql)) (sym room.schema) plain) h)).settled now open' one
-        room;
-  }
-
-  -- a query that is refused or fails does, too, with its transaction undone or all unchanged
-  pub failed_stays : (e : Error) → FailsToQuery sql params old new e → Stays old new
-  failed_stays e h =
-      elim (failed_query sql params old new e h) [
-        | inl same ↦ unchanged_stays old new clean same
-        | inr undone ↦
-            rolled_back_stays old new clean undone
-      ]
-
 -- what a text that selects from one table shows
 pub selects_rows : (sql : List ℕ) (params : Row) (old new : State) (tree : ℕ)
     (tests terms : List Term) (order : List (Term × Key)) (names : List (List ℕ))
@@ -159,32 +119,9 @@ selects_rows sql params old new tree tests terms order names is plain has rows h
     let read = reads_as sql params old new room_schema has _ is.0 plain is.1 rows h in
     selected Null tree tests terms order (overlay old.now.trees []) params rows (read.answer Null)
 
--- over a room's schema, a query that answered Ok changed nothing; of an error nothing is said
+-- a query that answered Ok changed nothing; of an error nothing is said
 pub same_ok : (sql : List ℕ) (params : Row) (old new : State) (r : Result (Vec Row Global) Error)
-    → IsPlain (understood room_schema sql) → old.now.schema ≡ room_schema
-    → IfOk r (λ rows. Shown sql params old new rows.items) → OnOk r (IsUnchanged old new)
-same_ok sql params old new (Ok rows) plain has h =
-    shown_same sql params old new rows.items
-    (subst (λ s. IsPlain (understood s sql)) (sym has) plain) h
-same_ok sql params old new (Err e) plain has h = tt
-
--- what a query leaves, whatever it answers
-pub query_stays : (sql : List ℕ) (params : Row) (old new : State)
-    (r : Result (Vec Row Global) Error) → IsPlain (understood room_schema sql)
-    → doubt old.is_clean ≤ doubt new.is_clean
-    → (HasCleanDisk new → IfOk r (λ rows. Shown sql params old new rows.items))
-    → (HasCleanDisk new → IfErr r (FailsToQuery sql params old new)) → Stays old new
-query_stays sql params old new (Ok rows) plain clean ok err = record {
-  clean = clean;
-  was_open = λ now. (shown_stays sql params old new plain clean rows.items (ok now)).was_open now;
-  kept = λ now. (shown_stays sql params old new plain clean rows.items (ok now)).kept now;
-  retains = λ now. (shown_stays sql params old new plain clean rows.items (ok now)).retains now;
-  settled = λ now. (shown_stays sql params old new plain clean rows.items (ok now)).settled now;
-}
-query_stays sql params old new (Err e) plain clean ok err = record {
-  clean = clean;
-  was_open = λ now. (failed_stays sql params old new plain clean e (err now)).was_open now;
-  kept = λ now. (failed_stays sql params old new plain clean e (err now)).kept now;
-  retains = λ now. (failed_stays sql params old new plain clean e (err now)).retains now;
-  settled = λ now. (failed_stays sql params old new plain clean e (err now)).settled now;
-}
+    → IsReading sql → IfOk r (λ rows. Shown sql params old new rows.items)
+    → OnOk r (IsUnchanged old new)
+same_ok sql params old new (Ok rows) reads h = shown_same sql params old new rows.items reads h
+same_ok sql params old new (Err e) reads h = tt

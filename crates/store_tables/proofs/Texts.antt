@@ -13,7 +13,9 @@ use Rattle.sqlite_sql.specs.declared.ops.BinaryOp.TheVariants.{Compare, Is}
 use Rattle.sqlite_sql.specs.declared.ops.CompareOp.TheVariants.{Eq, Ge}
 use Rattle.sqlite_value.specs.declared.keys.Collation.TheVariants.{Binary}
 use Rattle.sqlite.proofs.Callers.{IsPlain, command_of}
+use Rattle.sqlite_resolve.specs.Compile.{first, returning}
 use Rattle.store_tables.specs.Tables.{room_schema}
+use Rattle.store_tables.proofs.Bare.{IsBare}
 
 -- ---- the statements
 
@@ -436,4 +438,21 @@ plain_texts = (
   (refl, refl),
   (refl, refl),
   (refl, refl),
+)
+
+-- each that asks has no RETURNING, over any schema
+pub bare_texts : IsBare node_text × IsBare child_text × IsBare children_text × IsBare root_text
+    × IsBare ids_text × IsBare body_text × IsBare groups_text × IsBare some_text
+    × IsBare names_text
+unfolding first returning everything
+bare_texts = (
+  λ schema base. refl,
+  λ schema base. refl,
+  λ schema base. refl,
+  λ schema base. refl,
+  λ schema base. refl,
+  λ schema base. refl,
+  λ schema base. refl,
+  λ schema base. refl,
+  λ schema base. refl,
 )

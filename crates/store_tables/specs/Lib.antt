@@ -12,6 +12,7 @@ pub mod Keyed
 pub mod Filed
 pub mod Paired
 pub mod RoomRows
+pub mod Within
 pub mod Trust
 pub mod Seeing
 pub mod Columns

@@ -1,5 +1,5 @@
 -- What the statements show of the tables, and what each leaves.
-use Rattle.std.specs.Prelude.{◌≡◌, ◌≤◌, ℕ, ℤ, List, [], ◌∷◌, ◌++◌, Bool, true, false, ◌&&◌, not}
+use Rattle.std.specs.Prelude.{◌≡◌, ℕ, ℤ, List, [], ◌∷◌, ◌++◌, Bool, true, false, ◌&&◌, not}
 use Rattle.std.specs.Prelude.{IsTrue, pos, drop, find, Some}
 use Rattle.room_entry.specs.declared.object.Which.{Which}
 use Rattle.room_entry.specs.declared.object.Which.TheVariants.{Dacl, Sacl}
@@ -8,12 +8,13 @@ use Rattle.std.specs.Ordering.{is_eq, is_lt}
 use Rattle.sqlite.specs.declared.types.Value.TheVariants.{Null, Int, Text, Blob}
 use Rattle.sqlite.specs.Order.{Row, column, value_cmp}
 use Rattle.sqlite.specs.Tree.{Trees, rowid, has_rowid, without_rowid, put_row}
-use Rattle.sqlite_trees.specs.View.{doubt, IsShaped}
+use Rattle.sqlite_trees.specs.View.{IsShaped}
 use Rattle.sqlite_trees.specs.declared.store.Shape.TheVariants.{Table}
 use Rattle.sqlite.specs.Effect.{Database, IsDatabase}
 use Rattle.sqlite.specs.State.{State, HasCleanDisk}
 use Rattle.sqlite.specs.Edit.{next_rowid, is_taken}
 use Rattle.store_tables.specs.Tables.{nodes, room_schema}
+use Rattle.store_tables.specs.Within.{IsWithin}
 use Rattle.store_tables.specs.Trees as tree
 use Rattle.store_tables.specs.NodeCells as cell
 use Rattle.store_tables.specs.PairCells as pair
@@ -95,20 +96,16 @@ pub record Retains (db next : Trees) : Type 0 where
   pub more : List Row
   pub audits : next tree.audits ≡ db tree.audits ++ more
 
--- what any call leaves, whatever it answers
+-- what any call inside a transaction leaves, whatever it answers
 pub record Stays (old new : State) : Type 0 where
-  pub clean : doubt old.is_clean ≤ doubt new.is_clean
-  pub was_open : HasCleanDisk new → IsTrue new.is_open → IsTrue old.is_open
-  -- inside a transaction over these tables
-  pub kept : HasCleanDisk new → IsTrue new.is_open → IsRoom old.committed → IsRoom old.now
-      → (new.committed ≡ old.committed) × IsRoom new.now
+  -- whatever the tables are, nothing is committed
+  pub within : IsWithin old new
+  -- a room's tables stay those of a room
+  pub room : HasCleanDisk new → IsTrue new.is_open → IsRoom old.committed → IsRoom old.now
+      → IsRoom new.now
   -- what is seen retains what was committed
   pub retains : HasCleanDisk new → IsTrue new.is_open → IsRoom old.committed → IsRoom old.now
       → Retains old.committed.trees old.now.trees → Retains new.committed.trees new.now.trees
-  -- where no transaction is open, what is seen is what was committed
-  pub settled : HasCleanDisk new → IsTrue new.is_open → IsRoom old.committed → IsRoom old.now
-      → (old.in_transaction ≡ false → old.now ≡ old.committed) → new.in_transaction ≡ false
-      → new.now ≡ new.committed
 
 -- an object is taken out of the tables, with its bytes
 pub record RemovesRow (id : ℤ) (db next : Trees) : Type 0 where

@@ -1,7 +1,7 @@
 -- When the answers of a database are those of its rows, and that this is so of each part of a run
 -- of calls.
-use Rattle.std.specs.Prelude.{◌≡◌, [], ◌∷◌, Result, IfOk, IfErr, ◌≤◌, ℕ, IsTrue, refl}
-use Rattle.std.proofs.Common.{◌∙◌, sym, subst, arith}
+use Rattle.std.specs.Prelude.{◌≡◌, [], ◌∷◌, Result, IfOk, IfErr, ◌≤◌, ℕ, IsTrue}
+use Rattle.std.proofs.Common.{sym, subst, arith}
 use Rattle.sqlite_trees.specs.View.{doubt}
 use Rattle.sqlite.specs.State.{State, HasCleanDisk}
 use Rattle.sqlite.specs.Effect.{Database}
@@ -13,6 +13,7 @@ use Rattle.room_rows.specs.declared.keep.KeepFault.{KeepFault}
 use Rattle.store_tables.specs.Meaning.{rows_of}
 use Rattle.store_tables.specs.Seeing.{Nowhere}
 use Rattle.store_tables.specs.Shown.{IsRoom, Stays}
+use Rattle.store_tables.specs.Within.{within_itself, within_on}
 
 -- the tables were those of a rooms file at first, and the disk has returned what was written up to
 -- the last state
@@ -43,52 +44,51 @@ pub record Puts {X : Type 0} (old new : State) (before after : ℕ) (result : Re
 
 pub stays_itself : (a : State) → Stays a a
 stays_itself a = record {
-  clean = omega arith;
-  was_open = λ _ h. h;
-  kept = λ _ _ _ room. (refl, room);
+  within = within_itself a;
+  room = λ _ _ _ room. room;
   retains = λ _ _ _ _ h. h;
-  settled = λ _ _ _ _ h. h;
 }
 
 clean_before : (a b : State) → doubt a.is_clean ≤ doubt b.is_clean → HasCleanDisk b → HasCleanDisk a
 clean_before a b up h = omega arith
 
+-- after a call over a room's tables, what is committed is still a room
+committed_room : (a b : State) → Stays a b → HasCleanDisk b → IsTrue b.is_open
+    → IsRoom a.committed → IsRoom b.committed
+committed_room a b p clean open' committed =
+    subst IsRoom (sym (p.within.committed clean open')) committed
+
 pub stays_on : (a b c : State) → Stays a b → Stays b c → Stays a c
-stays_on a b c p q = record {
-  clean = omega (arith, p.clean, q.clean);
-  was_open = λ clean open'. p.was_open (clean_before b c q.clean clean) (q.was_open clean open');
-  kept = λ clean open' committed now.
-      let before = p.kept (clean_before b c q.clean clean) (q.was_open clean open') committed now in
-      let after = q.kept clean open' (subst IsRoom (sym before.0) committed) before.1 in
-      (after.0 ∙ before.0, after.1);
-  retains = λ clean open' committed now h.
-      let clean' = clean_before b c q.clean clean in
-      let open'' = q.was_open clean open' in
-      let before = p.kept clean' open'' committed now in
-      q.retains clean open' (subst IsRoom (sym before.0) committed) before.1
-      (p.retains clean' open'' committed now h);
-  settled = λ clean open' committed now h.
-      let clean' = clean_before b c q.clean clean in
-      let open'' = q.was_open clean open' in
-      q.settled clean open' (subst IsRoom (sym (p.kept clean' open'' committed now).0) committed)
-      (p.kept clean' open'' committed now).1 (p.settled clean' open'' committed now h);
-}
+stays_on a b c p q =
+    let clean_mid : HasCleanDisk c → HasCleanDisk b = clean_before b c q.within.clean in
+    record {
+      within = within_on a b c p.within q.within;
+      room = λ clean open' committed now.
+          let open'' = q.within.was_open clean open' in
+          q.room clean open' (committed_room a b p (clean_mid clean) open'' committed)
+          (p.room (clean_mid clean) open'' committed now);
+      retains = λ clean open' committed now h.
+          let open'' = q.within.was_open clean open' in
+          q.retains clean open' (committed_room a b p (clean_mid clean) open'' committed)
+          (p.room (clean_mid clean) open'' committed now)
+          (p.retains (clean_mid clean) open'' committed now h);
+    }
 
 pub trusted_first : (a b c : State) → Stays a b → Stays b c → IsTrusted a c → IsTrusted a b
 trusted_first a b c p q t = record {
-  clean = clean_before b c q.clean t.clean;
-  is_open = q.was_open t.clean t.is_open;
+  clean = clean_before b c q.within.clean t.clean;
+  is_open = q.within.was_open t.clean t.is_open;
   now = t.now;
   committed = t.committed;
 }
 
 pub trusted_last : (a b c : State) → Stays a b → Stays b c → IsTrusted a c → IsTrusted b c
 trusted_last a b c p q t =
-    let before = p.kept (clean_before b c q.clean t.clean) (q.was_open t.clean t.is_open)
-    t.committed t.now in
+    let clean = clean_before b c q.within.clean t.clean in
+    let open' = q.within.was_open t.clean t.is_open in
     record {
       clean = t.clean;
       is_open = t.is_open;
-      now = before.1;
-      committed = subst IsRoom (sym before.0) t.committed;
+      now = p.room clean open' t.committed t.now;
+      committed = committed_room a b p clean open' t.committed;
     }

@@ -1,15 +1,16 @@
 use Rattle.std.proofs.Common.{[]}
 use Rattle.sqlite.specs.Held.{state}
 use Rattle.store_tables.proofs.Asked.{asks}
+use Rattle.store_tables.proofs.Bare.{reads_by}
 use Rattle.store_admin.proofs.Answered.{answered}
-use Rattle.store_admin.proofs.Members.{members_text, plain_members, shows_members}
+use Rattle.store_admin.proofs.Members.{bare_members, members_text, shows_members}
 use Rattle.store_admin.proofs.operating.select_members.Goals as goal
 
 pub returns-clause-asks : goal.returns-clause-asks
 returns-clause-asks g c =
     let old = state g.S.Store c.args.tx.now.conn.now in
     let new = state g.S.Store c.query_all.new.self.conn.now in
-    asks members_text [] old new c.query_all.result _ plain_members
+    asks members_text [] old new c.query_all.result _ (reads_by members_text bare_members)
     c.query_all.ensures.survives.clean
     (λ rows room. shows_members old new rows room) c.query_all.ensures.ok c.query_all.ensures.err
 

@@ -1,8 +1,7 @@
 use Rattle.std.proofs.Common.{subst, sym}
 use Rattle.sqlite.specs.Held.{state}
-use Rattle.store_schema.specs.Within.{IsWithin}
+use Rattle.store_tables.specs.Within.{IsWithin, within_itself}
 use Rattle.store_schema.proofs.Stamped.{stamps}
-use Rattle.store_schema.proofs.Within.{within_itself}
 use Rattle.store_schema.proofs.version.update_version.Goals as goal
 
 pub returns-clause-stamps : goal.returns-clause-stamps

@@ -4,7 +4,8 @@ use Rattle.sqlite.specs.declared.types.Value.TheVariants.{Int, Text}
 use Rattle.sqlite.specs.Held.{state}
 use Rattle.store_tables.proofs.Asked.{asks}
 use Rattle.store_tables.proofs.Selected.{shows_child}
-use Rattle.store_tables.proofs.Texts.{child_text, plain_texts}
+use Rattle.store_tables.proofs.Bare.{reads_by}
+use Rattle.store_tables.proofs.Texts.{bare_texts, child_text}
 use Rattle.store_tables.proofs.statements.select_child.Goals as goal
 
 pub returns-clause-asks : goal.returns-clause-asks
@@ -13,7 +14,7 @@ returns-clause-asks g c =
     let new = state g.S.Store c.query_all.new.self.conn.now in
     let given = simp (to_z-of_z c.ranges.parent) at c.params-to_sql.ensures in
     asks child_text (Int c.args.parent ∷ Text c.args.name.now ∷ []) old new c.query_all.result _
-    plain_texts.1 c.query_all.ensures.survives.clean
+    (reads_by child_text bare_texts.1) c.query_all.ensures.survives.clean
     (λ rows room. shows_child old new rows room c.args.parent c.args.name.now)
     (rw (given, c.params-to_sql-2.ensures) at c.query_all.ensures.ok)
     (rw (given, c.params-to_sql-2.ensures) at c.query_all.ensures.err)

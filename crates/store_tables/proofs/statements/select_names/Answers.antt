@@ -4,7 +4,8 @@ use Rattle.sqlite.specs.declared.types.Value.TheVariants.{Int}
 use Rattle.sqlite.specs.Held.{state}
 use Rattle.store_tables.proofs.Asked.{asks}
 use Rattle.store_tables.proofs.Selected.{shows_names}
-use Rattle.store_tables.proofs.Texts.{names_text, plain_names}
+use Rattle.store_tables.proofs.Bare.{reads_by}
+use Rattle.store_tables.proofs.Texts.{bare_texts, names_text}
 use Rattle.store_tables.proofs.statements.select_names.Goals as goal
 
 pub returns-clause-asks : goal.returns-clause-asks
@@ -12,7 +13,8 @@ returns-clause-asks g c =
     let old = state g.S.Store c.args.tx.now.conn.now in
     let new = state g.S.Store c.query_all.new.self.conn.now in
     let given = simp (to_z-of_z c.ranges.parent) at c.params-to_sql.ensures in
-    asks names_text (Int c.args.parent ∷ []) old new c.query_all.result _ plain_names
+    asks names_text (Int c.args.parent ∷ []) old new c.query_all.result _
+    (reads_by names_text bare_texts.8)
     c.query_all.ensures.survives.clean
     (λ rows room. shows_names old new rows room c.args.parent) (rw given at c.query_all.ensures.ok)
     (rw given at c.query_all.ensures.err)

@@ -2,12 +2,14 @@ use Rattle.std.proofs.Common.{[]}
 use Rattle.sqlite.specs.Held.{state}
 use Rattle.store_tables.proofs.Asked.{asks}
 use Rattle.store_tables.proofs.Selected.{shows_top}
-use Rattle.store_tables.proofs.Texts.{root_text, plain_texts}
+use Rattle.store_tables.proofs.Bare.{reads_by}
+use Rattle.store_tables.proofs.Texts.{bare_texts, root_text}
 use Rattle.store_tables.proofs.statements.select_top.Goals as goal
 
 pub returns-clause-asks : goal.returns-clause-asks
 returns-clause-asks g c =
     let old = state g.S.Store c.args.tx.now.conn.now in
     let new = state g.S.Store c.query_all.new.self.conn.now in
-    asks root_text [] old new c.query_all.result _ plain_texts.3 c.query_all.ensures.survives.clean
+    asks root_text [] old new c.query_all.result _
+    (reads_by root_text bare_texts.3) c.query_all.ensures.survives.clean
     (λ rows room. shows_top old new rows room) c.query_all.ensures.ok c.query_all.ensures.err
