@@ -9,16 +9,17 @@ use Rattle.room_machine.specs.Run.{Event, Run}
 use Rattle.room_http.specs.Stream.{Runs}
 use Rattle.room_store.specs.Kept.{IsSound, Keeps}
 use Rattle.room_store.specs.Leads.{Leads}
+use Rattle.http_serve.specs.Lines.{TellsFaults}
 use Rattle.http_serve.specs.Visits.{IsEnd, IsServedVisit, Served, Visit, moment_of, requests_of}
 use Rattle.http_serve.specs.declared.fault.ServingFault.{ServingFault}
-use Rattle.cli_serve.specs.Hosts.{IsServed, Rests, TellsPort, end_status}
+use Rattle.cli_serve.specs.Hosts.{IsServed, Rests, TellsEnd, TellsPort, end_status}
 use Rattle.cli_serve.specs.Places.{AsksFor, Place}
 
-pub ends : (end : Result (Unit {0}) ServingFault) (status : ℕ) (out out' : Option (List ℕ))
-    → status ≡ end_status end → OnOk end (TellsPort out out')
-    → ((status ≡ 0) × TellsPort out out') ⊎ (status ≡ 3)
-ends (Ok done) status out out' is told = inl (is, told)
-ends (Err fault) status out out' is told = inr is
+pub ends : (end : Result (Unit {0}) ServingFault) (port status : ℕ) (out out' : Option (List ℕ))
+    → status ≡ end_status end → OnOk end (TellsPort port out out')
+    → ((status ≡ 0) × TellsPort port out out') ⊎ (status ≡ 3)
+ends (Ok done) port status out out' is told = inl (is, told)
+ends (Err fault) port status out out' is told = inr is
 
 -- no connection came
 pub unserved : {D : Type 0} (d : Ghosts D) (count : ℕ) (told : List ℤ → Type 0) (desk : D)
@@ -36,6 +37,11 @@ unserved d count told desk = (
   inr refl,
 )
 
+-- nothing was printed of any connection
+pub untold : (count : ℕ) (err : Option (List ℕ))
+    → TellsFaults count err err (Err ServingFault.Net)
+untold count err = (0, omega arith, refl)
+
 -- a desk that is as it was
 pub rests : {D : Type 0} (d : Ghosts D) (old new : D) → new ≡ old → Rests d old new
 rests {D} d old new same =
@@ -47,11 +53,10 @@ rests {D} d old new same =
     })
 
 -- the same, where the port may have been printed
-pub rests_or : {D : Type 0} (d : Ghosts D) (old new : D) (out out' : Option (List ℕ)) → (new ≡ old)
-    ⊎ TellsPort out out'
-    → Rests d old new ⊎ TellsPort out out'
-rests_or d old new out out' (inl same) = inl (rests d old new same)
-rests_or d old new out out' (inr tells) = inr tells
+pub rests_or : {D : Type 0} (d : Ghosts D) (old new : D) (port : ℕ) (out out' : Option (List ℕ))
+    → (new ≡ old) ⊎ TellsPort port out out' → Rests d old new ⊎ TellsPort port out out'
+rests_or d old new port out out' (inl same) = inl (rests d old new same)
+rests_or d old new port out out' (inr tells) = inr tells
 
 -- a store on which nothing was done, in terms of its content
 pub rested : (old new : State) → (HasCleanDisk new → HasCleanDisk old)
@@ -60,29 +65,31 @@ pub rested : (old new : State) → (HasCleanDisk new → HasCleanDisk old)
 rested old new trusted sound run = record { trusted = trusted; sound = sound; run = run }
 
 -- what a store served, in terms of its content
-pub served : (count : ℕ) (told told' : List ℤ → Type 0) (old new : State)
-    (out out' : Option (List ℕ)) (status : ℕ)
+pub served : (port count : ℕ) (told told' : List ℤ → Type 0) (old new : State)
+    (out out' err mid err' : Option (List ℕ)) (status : ℕ)
     (visits : List Visit) (end : Result (Unit {0}) ServingFault)
     → length visits ≤ count → All IsServedVisit visits
     → ((before : List ℤ) → told before → told' (before ++ map moment_of visits))
     → (HasCleanDisk new → HasCleanDisk old)
     → (HasCleanDisk new → IsSound old → IsSound new)
     → (HasCleanDisk new → IsSound old → Runs (Keeps old) (requests_of visits) (Keeps new))
-    → IsEnd count end (length visits) → status ≡ end_status end → OnOk end (TellsPort out out')
-    → Leads old [] new ⊎ TellsPort out out' → IsServed count told told' old new out out' status
-served count told told' old new out out' status visits end few each moments trusted sound run says
-    is tells first =
+    → IsEnd count end (length visits) → status ≡ end_status end → OnOk end (TellsPort port out out')
+    → Leads old [] new ⊎ TellsPort port out out' → TellsFaults count err mid end
+    → TellsEnd end mid err' → IsServed port count told told' old new out out' err err' status
+served port count told told' old new out out' err mid err' status visits end few each moments
+    trusted sound run says is tells first connections last =
     record {
       visits = visits;
       few = few;
       each = each;
       moments = moments;
       leads = record { trusted = trusted; sound = sound; run = run };
-      ends = ends end status out out' is tells;
+      ends = ends end port status out out' is tells;
       first = first;
       end = end;
       end_is = is;
       end_says = says;
+      faults = record { mid = mid; connections = connections; last = last };
     }
 
 -- events after a step without events

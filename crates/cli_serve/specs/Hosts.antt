@@ -6,15 +6,15 @@ use Rattle.sqlite.specs.Held.{Held}
 use Rattle.sqlite.specs.State.{State}
 use Rattle.room_machine.specs.declared.desk.Desk.{Ghosts}
 use Rattle.room_http.specs.Stream.{Runs}
-use Rattle.cli_outcome.specs.Ending.{no_room_text}
-use Rattle.cli_outcome.specs.Written.{PrintsFault, PrintsText}
+use Rattle.cli_outcome.specs.Ending.{fault_line, no_room_text}
+use Rattle.cli_outcome.specs.Written.{PrintsFault, PrintsText, WritesSome}
 use Rattle.cli_outcome.specs.declared.fault.Fault.{Fault}
 use Rattle.cli_outcome.specs.declared.no_room.NoRoom.{NoRoom}
 use Rattle.cli_outcome.specs.declared.status.Status.{Status}
 use Rattle.store_schema.specs.declared.fault.OpenFault.{OpenFault}
 use Rattle.room_store.specs.Leads.{Leads}
 use Rattle.room_store.specs.Opens.{Opens}
-use Rattle.http_serve.specs.Lines.{listening_line}
+use Rattle.http_serve.specs.Lines.{TellsFaults, listening_line}
 use Rattle.http_serve.specs.Visits.{IsEnd, IsServedVisit, Visit, moment_of, requests_of}
 use Rattle.http_serve.specs.declared.fault.ServingFault.{ServingFault}
 use Rattle.cli_serve.specs.Places.{AsksFor, Place, local_place}
@@ -52,9 +52,22 @@ abbrev pub end_status : Result (Unit {0}) ServingFault → ℕ
 end_status (Ok done) = 0
 end_status (Err fault) = 3
 
--- The line of a port that listens was printed.
-abbrev pub TellsPort : Option (List ℕ) → Option (List ℕ) → Type 0
-TellsPort out out' = (port : ℕ) × Appends out out' (listening_line port)
+-- what is printed of the fault that ended the service: its line or a front of it, if there was one
+abbrev pub TellsEnd : Result (Unit {0}) ServingFault → Option (List ℕ) → Option (List ℕ) → Type 0
+TellsEnd (Ok done) old new = new ≡ old
+TellsEnd (Err fault) old new = WritesSome old new (fault_line (serving_fault fault))
+
+-- What is printed of faults: those of connections, one after another, and then the one that ended
+-- the service.
+pub record TellsAll (count : ℕ) (end : Result (Unit {0}) ServingFault)
+    (old new : Option (List ℕ)) : Type 0 where
+  pub mid : Option (List ℕ)
+  pub connections : TellsFaults count old mid end
+  pub last : TellsEnd end mid new
+
+-- It was printed that this port listens.
+abbrev pub TellsPort : ℕ → Option (List ℕ) → Option (List ℕ) → Type 0
+TellsPort port out out' = Appends out out' (listening_line port)
 
 -- The database was not opened as a room: no port was asked for, and nothing was served.
 pub record IsTurnedDown (asked asked' : List Place → Type 0) (old new : State)
@@ -72,33 +85,35 @@ pub record Rests {D : Type 0} (d : Ghosts D) (old new : D) : Type 0 where
 
 -- The requests of at most `count` connections were served, each at the moment that the clock read
 -- for it. All is done, or there was a fault, and what the fault says of the connections holds. The
--- port was printed before the first of them.
-pub record IsServed (count : ℕ) (told told' : List ℤ → Type 0) (old new : State)
-    (out out' : Option (List ℕ)) (status : ℕ) : Type 0 where
+-- port was printed before the first of them, and faults as they came.
+pub record IsServed (port count : ℕ) (told told' : List ℤ → Type 0) (old new : State)
+    (out out' err err' : Option (List ℕ)) (status : ℕ) : Type 0 where
   pub visits : List Visit
   pub few : length visits ≤ count
   pub each : All IsServedVisit visits
   pub moments : (before : List ℤ) → told before → told' (before ++ map moment_of visits)
   pub leads : Leads old (requests_of visits) new
-  pub ends : ((status ≡ 0) × TellsPort out out') ⊎ (status ≡ 3)
-  pub first : Leads old [] new ⊎ TellsPort out out'
+  pub ends : ((status ≡ 0) × TellsPort port out out') ⊎ (status ≡ 3)
+  pub first : Leads old [] new ⊎ TellsPort port out out'
   pub end : Result (Unit {0}) ServingFault
   pub end_is : status ≡ end_status end
   pub end_says : IsEnd count end (length visits)
+  pub faults : TellsAll count end err err'
 
 module _ {S : Type 0} (shown : Held S → State) where
   -- The room was opened, this port of this machine alone was asked for, and it served.
   pub record IsHosted (port count : ℕ) (asked asked' : List Place → Type 0)
-      (told told' : List ℤ → Type 0) (old new : Held S) (out out' : Option (List ℕ))
+      (told told' : List ℤ → Type 0) (old new : Held S) (out out' err err' : Option (List ℕ))
       (status : ℕ) : Type 0 where
     pub mid : Held S
     pub opens : Opens (shown old) (shown mid) (Ok tt)
     pub asked_one : AsksFor asked asked' (local_place port ∷ [])
-    pub served : IsServed count told told' (shown mid) (shown new) out out' status
+    pub served : IsServed port count told told' (shown mid) (shown new) out out' err err'
+        status
 
   abbrev pub Hosts : ℕ → ℕ → (List Place → Type 0) → (List Place → Type 0)
       → (List ℤ → Type 0) → (List ℤ → Type 0) → Held S → Held S → Option (List ℕ)
       → Option (List ℕ) → Option (List ℕ) → Option (List ℕ) → ℕ → Type 0
   Hosts port count asked asked' told told' old new out out' err err' status =
       IsTurnedDown asked asked' (shown old) (shown new) out out' err err' status
-      ⊎ IsHosted port count asked asked' told told' old new out out' status
+      ⊎ IsHosted port count asked asked' told told' old new out out' err err' status

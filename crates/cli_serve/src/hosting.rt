@@ -2,6 +2,7 @@
 ghost use Rattle.std.specs.Prelude.{◌≡◌, ◌⊎◌, List, [], ◌∷◌, OnOk, false};
 ghost use Rattle.sqlite.specs.Held.{state};
 ghost use Rattle.room_store.specs.Leads.{Leads};
+ghost use Rattle.http_serve.specs.Lines.{TellsFaults};
 ghost use Rattle.http_serve.specs.Visits.{Served, Visit, requests_of};
 ghost use Rattle.cli_serve.specs.Hosts.{Hosts, IsServed, Rests, TellsPort};
 ghost use Rattle.cli_serve.specs.Places.{AsksFor, local_place};
@@ -57,9 +58,10 @@ fn host_store<S: Alter, P: Ports, M: Moments, O: Write, E: Write>(
     out: &mut O,
     err: &mut E,
 ) -> (Connection<S>, u8)
-    ensures served { IsServed count (M.told clock.old) (M.told clock.new)
+    ensures served { IsServed port count (M.told clock.old) (M.told clock.new)
         (state S.Store store.conn) (state S.Store result.0)
-        (O.contents out.old) (O.contents out.new) result.1 }
+        (O.contents out.old) (O.contents out.new) (E.contents err.old) (E.contents err.new)
+        result.1 }
     ensures asked { AsksFor (P.asked ports.old) (P.asked ports.new) (local_place port ∷ []) }
 {
     let end = serve_at(alloc, &mut store, ports, clock, port, count, out, err);
@@ -80,13 +82,14 @@ fn serve_at<D: Desk, P: Ports, M: Moments, O: Write, E: Write>(
 ) -> Result<(), ServingFault>
     ensures received { Served D.Desk count (M.told clock.old) (M.told clock.new)
         desk.old desk.new result }
-    ensures told { OnOk result (TellsPort (O.contents out.old) (O.contents out.new)) }
+    ensures told { OnOk result (TellsPort port (O.contents out.old) (O.contents out.new)) }
     ensures first { Rests D.Desk desk.old desk.new
-        ⊎ TellsPort (O.contents out.old) (O.contents out.new) }
+        ⊎ TellsPort port (O.contents out.old) (O.contents out.new) }
+    ensures faults { TellsFaults count (E.contents err.old) (E.contents err.new) result }
     ensures asked { AsksFor (P.asked ports.old) (P.asked ports.new) (local_place port ∷ []) }
 {
     match ports.bind(Ipv4Addr::LOCALHOST, port) {
-        Ok(listener) => serve_on(alloc, desk, clock, &listener, count, out, err),
+        Ok(listener) => serve_on(alloc, desk, clock, &listener, port, count, out, err),
         Err(_) => Err(ServingFault::Net),
     }
 }

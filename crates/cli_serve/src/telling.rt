@@ -1,8 +1,6 @@
 //! Lines that are printed where not all is done, and the status.
-ghost use Rattle.std.specs.Prelude.{◌≡◌, IfErr};
-ghost use Rattle.cli_outcome.specs.Ending.{fault_line};
-ghost use Rattle.cli_outcome.specs.Written.{WritesSome};
-ghost use Rattle.cli_serve.specs.Hosts.{PrintsRefusal, TurnsDown, end_status};
+ghost use Rattle.std.specs.Prelude.{◌≡◌};
+ghost use Rattle.cli_serve.specs.Hosts.{PrintsRefusal, TellsEnd, TurnsDown, end_status};
 ghost use Rattle.cli_serve.specs.Hosts.{serving_fault, why_not_opened};
 
 use cli_outcome::{Fault, NoRoom, Status, tell_fault, tell_text};
@@ -44,8 +42,7 @@ fn reason_of(fault: OpenFault) -> Result<NoRoom, Fault>
 /// answers the status.
 pub(crate) fn tell_end<E: Write>(end: Result<(), ServingFault>, err: &mut E) -> u8
     ensures status { result ≡ end_status end }
-    ensures told { IfErr end (λ why. WritesSome (E.contents err.old) (E.contents err.new)
-        (fault_line (serving_fault why))) }
+    ensures told { TellsEnd end (E.contents err.old) (E.contents err.new) }
 {
     match end {
         Ok(()) => Status::Done.code(),

@@ -1,6 +1,10 @@
 -- The lines that are printed beside the replies (own).
-use Rattle.std.specs.Prelude.{ℕ, List, ◌++◌, codes, decimal}
+use Rattle.std.specs.Prelude.{◌≡◌, ◌⊎◌, ◌≤◌, ℕ, zero, suc, List, ◌++◌, codes, decimal, Option}
+use Rattle.std.specs.Prelude.{Result, Ok, Err}
+use Rattle.std.specs.Io.KnownBytes.{Appends}
+use Rattle.cli_outcome.specs.Written.{WritesSome}
 use Rattle.room_http.specs.declared.ended.Cause.{Cause}
+use Rattle.http_serve.specs.declared.fault.ServingFault.{ServingFault}
 
 -- the port on which connections are accepted
 abbrev pub listening_line : ℕ → List ℕ
@@ -14,3 +18,26 @@ connection_line number Cause.Write =
     codes "connection " ++ (decimal number ++ codes ": write fault\n")
 connection_line number Cause.Memory =
     codes "connection " ++ (decimal number ++ codes ": memory fault\n")
+
+-- how a text is written: in whole, or a front of it
+abbrev pub Writes : Type 1
+Writes = Option (List ℕ) → Option (List ℕ) → List ℕ → Type 0
+
+-- nothing is written, or so the line of the connection of this number
+abbrev pub MayTell : Writes → ℕ → Option (List ℕ) → Option (List ℕ) → Type 0
+MayTell Tells number old new =
+    (new ≡ old) ⊎ ((cause : Cause) × Tells old new (connection_line number cause))
+
+-- for each of the first connections, in order, nothing is written or its line
+abbrev pub TellsEach : Writes → ℕ → Option (List ℕ) → Option (List ℕ) → Type 0
+TellsEach Tells zero old new = new ≡ old
+TellsEach Tells (suc n) old new =
+    (mid : Option (List ℕ)) × TellsEach Tells n old mid × MayTell Tells (suc n) mid new
+
+-- What is written of connections that a fault ended: whole lines where all is done. Otherwise only
+-- a front of each may have been written.
+abbrev pub TellsFaults : ℕ → Option (List ℕ) → Option (List ℕ) → Result (Unit {0}) ServingFault
+    → Type 0
+TellsFaults count old new (Ok done) = TellsEach Appends count old new
+TellsFaults count old new (Err fault) =
+    (served : ℕ) × (served ≤ count) × TellsEach WritesSome served old new

@@ -8,6 +8,6 @@ pub enum ServingFault {
     /// A line could not be printed. Where it was that of a connection's fault, all connections were
     /// served all the same.
     File,
-    /// The listener has no address, or can't accept any more connections.
+    /// The listener can't accept any more connections.
     Net,
 }

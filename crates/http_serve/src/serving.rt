@@ -1,8 +1,9 @@
 //! Connections one after another.
-ghost use Rattle.std.specs.Prelude.{◌≡◌, ◌⊎◌, ℕ, Err, IfErr, OnOk};
+ghost use Rattle.std.specs.Prelude.{◌≡◌, ◌⊎◌, ◌+◌, IfErr, IsTrue, OnOk};
 ghost use Rattle.std.specs.Io.KnownBytes.{Appends};
-ghost use Rattle.http_serve.specs.Lines.{listening_line};
-ghost use Rattle.http_serve.specs.Visits.{Attends, IsEnd, Receives, ReceivesAll, Served};
+ghost use Rattle.cli_outcome.specs.Written.{WritesSome};
+ghost use Rattle.http_serve.specs.Lines.{MayTell, TellsFaults, listening_line};
+ghost use Rattle.http_serve.specs.Visits.{Attends, Receives, ReceivesAll, Served};
 
 use crate::accepting::accepted;
 use crate::fault::ServingFault;
@@ -15,49 +16,37 @@ use std::alloc::Global;
 use std::io::Write;
 use std::net::{TcpListener, TcpStream};
 
-/// Serves `count` connections of the listener, one after another. First it prints on `out` on which
-/// port it listens. The clock is read once for each connection, when it is accepted: this is the
-/// moment of its requests. A fault of a connection is printed on `err`, and the next one is served.
-/// A connection that is lost before it is accepted counts as one whose reading failed.
+/// Serves `count` connections of the listener, one after another. First it prints on `out` that it
+/// listens on `port`, which has to be the port of the listener. The clock is read once for each
+/// connection, when it is accepted: this is the moment of its requests. A fault of a connection is
+/// printed on `err`, and the next one is served. A connection that is lost before it is accepted
+/// counts as one whose reading failed.
 ///
-/// The error is `Memory` where nothing was served, `Net` where the listener has no address or
-/// accepts no more connections, and `File` where a line couldn't be printed.
+/// The error is `Memory` where nothing was served, `Net` where the listener accepts no more
+/// connections, and `File` where a line couldn't be printed.
 pub fn serve_on<D: Desk, M: Moments, O: Write, E: Write>(
     alloc: Global,
     desk: &mut D,
     clock: &mut M,
     listener: &TcpListener,
+    port: u16,
     count: u32,
     out: &mut O,
     err: &mut E,
 ) -> Result<(), ServingFault>
     ensures received { Served D.Desk count (M.told clock.old) (M.told clock.new)
         desk.old desk.new result }
-    ensures told { OnOk result ((port : ℕ)
-        × Appends (O.contents out.old) (O.contents out.new) (listening_line port)) }
-    ensures first { (desk.new ≡ desk.old) ⊎ ((port : ℕ)
-        × Appends (O.contents out.old) (O.contents out.new) (listening_line port)) }
+    ensures told { OnOk result (Appends (O.contents out.old) (O.contents out.new)
+        (listening_line port)) }
+    ensures first { (desk.new ≡ desk.old)
+        ⊎ Appends (O.contents out.old) (O.contents out.new) (listening_line port) }
+    ensures faults { TellsFaults count (E.contents err.old) (E.contents err.new) result }
 {
     let Ok(routes) = Routes::new(alloc) else {
         return Err(ServingFault::Memory);
     };
-    match announce(listener, out) {
+    match tell_port(out, port) {
         Ok(()) => serve_each(alloc, &routes, desk, clock, listener, count, err),
-        Err(fault) => Err(fault),
-    }
-}
-
-// Prints the port on which it listens.
-fn announce<O: Write>(listener: &TcpListener, out: &mut O) -> Result<(), ServingFault>
-    ensures told { OnOk result ((port : ℕ)
-        × Appends (O.contents out.old) (O.contents out.new) (listening_line port)) }
-    ensures fault { IfErr result (λ fault. IsEnd 0 (Err fault) 0) }
-{
-    let Ok(address) = listener.local_addr() else {
-        return Err(ServingFault::Net);
-    };
-    match tell_port(out, address.port()) {
-        Ok(()) => Ok(()),
         Err(_) => Err(ServingFault::File),
     }
 }
@@ -73,7 +62,9 @@ fn serve_each<D: Desk, M: Moments, E: Write>(
     count: u32,
     err: &mut E,
 ) -> Result<(), ServingFault>
-    ensures { Served D.Desk count (M.told clock.old) (M.told clock.new) desk.old desk.new result }
+    ensures received { Served D.Desk count (M.told clock.old) (M.told clock.new)
+        desk.old desk.new result }
+    ensures faults { TellsFaults count (E.contents err.old) (E.contents err.new) result }
 {
     let mut told = true;
     'connections: for number in 0..count {
@@ -81,9 +72,8 @@ fn serve_each<D: Desk, M: Moments, E: Write>(
             Ok(lost) => lost,
             Err(fault) => return Err(fault),
         };
-        if !is_told(err, number, lost) {
-            told = false;
-        }
+        let whole = is_told(err, number, lost);
+        told = told && whole;
     }
     if told {
         Ok(())
@@ -92,10 +82,14 @@ fn serve_each<D: Desk, M: Moments, E: Write>(
     }
 }
 
-// Whether the fault of the connection after `before` others was printed, if it had one.
-fn is_told<E: Write>(err: &mut E, before: u32, lost: Option<Cause>) -> bool {
+// Whether the fault of the connection after `before` others was printed in whole, if it had one.
+fn is_told<E: Write>(err: &mut E, before: u32, lost: Option<Cause>) -> bool
+    ensures whole { IsTrue result
+        → MayTell Appends (before + 1) (E.contents err.old) (E.contents err.new) }
+    ensures some { MayTell WritesSome (before + 1) (E.contents err.old) (E.contents err.new) }
+{
     match lost {
-        Some(cause) => tell_fault(err, u64::from(before) + 1, cause).is_ok(),
+        Some(cause) => tell_fault(err, u64::from(before) + 1, cause),
         None => true,
     }
 }

@@ -1,11 +1,15 @@
 //! Lines that are printed beside the replies.
-ghost use Rattle.std.specs.Prelude.{OnOk};
+ghost use Rattle.std.specs.Prelude.{◌≡◌, ◌++◌, IfSome, IsTrue, OnOk};
 ghost use Rattle.std.specs.Io.KnownBytes.{Appends};
+ghost use Rattle.cli_outcome.specs.Written.{WritesSome};
 ghost use Rattle.http_serve.specs.Lines.{connection_line, listening_line};
 
+use arrayvec::ArrayString;
+use cli_outcome::send_text;
 use room_http::Cause;
-use std::io;
+use std::fmt::Write as _;
 use std::io::Write;
+use std::{fmt, io};
 
 /// Prints on which port connections are accepted, before the first is.
 pub(crate) fn tell_port<O: Write>(out: &mut O, port: u16) -> io::Result<()>
@@ -16,14 +20,38 @@ pub(crate) fn tell_port<O: Write>(out: &mut O, port: u16) -> io::Result<()>
     out.flush()
 }
 
-/// Prints what ended this connection, counted from 1.
-pub(crate) fn tell_fault<E: Write>(err: &mut E, number: u64, cause: Cause) -> io::Result<()>
-    ensures { OnOk result (Appends (E.contents err.old) (E.contents err.new)
-        (connection_line number cause)) }
+// Adds the line to a text, if it fits.
+fn add_line(text: &mut ArrayString<64>, number: u64, cause: Cause) -> fmt::Result
+    ensures { OnOk result (text.new.bytes ≡ text.old.bytes ++ connection_line number cause) }
 {
     match cause {
-        Cause::Read => writeln!(err, "connection {number}: read fault"),
-        Cause::Write => writeln!(err, "connection {number}: write fault"),
-        Cause::Memory => writeln!(err, "connection {number}: memory fault"),
+        Cause::Read => write!(text, "connection {number}: read fault\n"),
+        Cause::Write => write!(text, "connection {number}: write fault\n"),
+        Cause::Memory => write!(text, "connection {number}: memory fault\n"),
+    }
+}
+
+// The line takes no memory, since memory may be what ran out.
+fn line_of(number: u64, cause: Cause) -> Option<ArrayString<64>>
+    ensures { IfSome result (λ line. line.bytes ≡ connection_line number cause) }
+{
+    let mut line = ArrayString::new();
+    match add_line(&mut line, number, cause) {
+        Ok(()) => Some(line),
+        Err(_) => None,
+    }
+}
+
+/// Prints what ended this connection, counted from 1, and answers whether all of the line was
+/// printed.
+pub(crate) fn tell_fault<E: Write>(err: &mut E, number: u64, cause: Cause) -> bool
+    ensures whole { IsTrue result → Appends (E.contents err.old) (E.contents err.new)
+        (connection_line number cause) }
+    ensures some { WritesSome (E.contents err.old) (E.contents err.new)
+        (connection_line number cause) }
+{
+    match line_of(number, cause) {
+        Some(line) => send_text(err, line.as_str().as_bytes()).is_ok(),
+        None => false,
     }
 }

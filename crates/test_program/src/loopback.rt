@@ -105,6 +105,7 @@ fn a_port_that_cannot_be_told(rt: HostRuntime) -> Result<(), Fail> {
         &mut desk,
         &mut clock,
         &listener,
+        8780,
         1,
         &mut Full,
         &mut err,

@@ -88,13 +88,14 @@ pub fn serves<D: Desk, M: Moments>(
 ) -> Result<(), Fail> {
     let mut out = Vec::new(alloc);
     let mut err = Vec::new(alloc);
-    if serve_on(alloc, desk, clock, listener, count, &mut out, &mut err) != Ok(()) {
+    let end = serve_on(
+        alloc, desk, clock, listener, 8780, count, &mut out, &mut err,
+    );
+    if end != Ok(()) {
         return Err(Fail::from("a fault of the whole"));
     }
     same_bytes(err.as_slice(), faults.as_bytes())?;
-    let port = listener.local_addr()?.port();
-    let line = format!(in alloc; "listening 127.0.0.1:{port}\n")?;
-    same_bytes(out.as_slice(), line.as_bytes())
+    same_bytes(out.as_slice(), b"listening 127.0.0.1:8780\n")
 }
 
 /// Serves `count` connections with a writer for faults that takes nothing.
@@ -106,7 +107,9 @@ pub fn serves_untold<D: Desk, M: Moments>(
     count: u32,
 ) -> Result<(), ServingFault> {
     let mut out = Vec::new(alloc);
-    serve_on(alloc, desk, clock, listener, count, &mut out, &mut Full)
+    serve_on(
+        alloc, desk, clock, listener, 8780, count, &mut out, &mut Full,
+    )
 }
 
 /// From now on a read on a connection that waits soon ends in an error: the connections of a

@@ -13,15 +13,21 @@ returns-clause-served g c =
     let told' = g.M.Moments.told c.serve_at-end.new.clock in
     let out = g.O.Write.contents c.args.out.now in
     let out' = g.O.Write.contents c.serve_at-end.new.out in
+    let err = g.E.Write.contents c.args.err.now in
+    let mid = g.E.Write.contents c.serve_at-end.new.err in
+    let err' = g.E.Write.contents c.tell_end-status.new.err in
     let status = c.tell_end-status.result in
     let received = c.serve_at-end.ensures.received in
     let r = received.0 in
-    let first : Leads old [] new ⊎ TellsPort out out' = elim (c.serve_at-end.ensures.first) [
+    let first : Leads old [] new ⊎ TellsPort c.args.port out out' =
+    elim (c.serve_at-end.ensures.first) [
       | inl r ↦ inl (rested old new r.trusted r.sound r.run)
       | inr tells ↦ inr tells
     ] in
-    subst (λ (conn : Held g.row.S.Denot). IsServed c.args.count told told' old
-    (state g.S.Store conn) out out' status) (sym c.into_conn.ensures)
-    (served c.args.count told told' old new out out' status r.visits c.serve_at-end.result r.few
+    subst (λ (conn : Held g.row.S.Denot). IsServed c.args.port c.args.count told told' old
+    (state g.S.Store conn) out out' err err' status) (sym c.into_conn.ensures)
+    (served c.args.port c.args.count told told' old new out out' err mid err' status r.visits
+    c.serve_at-end.result r.few
     r.each r.moments r.trusted r.sound r.run
-    received.1 c.tell_end-status.ensures.status c.serve_at-end.ensures.told first)
+    received.1 c.tell_end-status.ensures.status c.serve_at-end.ensures.told first
+    c.serve_at-end.ensures.faults c.tell_end-status.ensures.told)

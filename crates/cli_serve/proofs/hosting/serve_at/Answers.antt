@@ -1,10 +1,11 @@
 use Rattle.std.proofs.Common.{inl, refl}
-use Rattle.cli_serve.proofs.Serving.{rests, rests_or, unserved}
+use Rattle.cli_serve.proofs.Serving.{rests, rests_or, unserved, untold}
 use Rattle.cli_serve.proofs.hosting.serve_at.Goals as goal
 
 pub returns-in-Ok-clause-first : goal.returns-in-Ok-clause-first
 returns-in-Ok-clause-first g c =
-    rests_or g.D.Desk c.args.desk.now c.serve_on.new.desk (g.O.Write.contents c.args.out.now)
+    rests_or g.D.Desk c.args.desk.now c.serve_on.new.desk c.args.port
+    (g.O.Write.contents c.args.out.now)
     (g.O.Write.contents c.serve_on.new.out)
     c.serve_on.ensures.first
 
@@ -13,3 +14,6 @@ returns-in-Err-clause-received g c = unserved g.D.Desk c.args.count _ c.args.des
 
 pub returns-in-Err-clause-first : goal.returns-in-Err-clause-first
 returns-in-Err-clause-first g c = inl (rests g.D.Desk c.args.desk.now c.args.desk.now refl)
+
+pub returns-in-Err-clause-faults : goal.returns-in-Err-clause-faults
+returns-in-Err-clause-faults g c = untold c.args.count (g.E.Write.contents c.args.err.now)

@@ -7,4 +7,5 @@ returns-in_default-clause-received g c =
     unserved g.D.Desk c.args.count _ c.args.desk.now ServingFault.Memory
 
 pub returns-clause-received : goal.returns-clause-received
-returns-clause-received g c = unserved g.D.Desk c.args.count _ c.args.desk.now c.in-Err.fault
+returns-clause-received g c =
+    unserved g.D.Desk c.args.count _ c.args.desk.now ServingFault.File
