@@ -1,10 +1,10 @@
 -- Lines about connections, one after another.
-use Rattle.std.proofs.Common.{◌≡◌, ℕ, ℤ, ◌+◌, ◌≤◌, Bool, List, Option, ◌++◌, Result, Ok, Err, IsTrue, OnOk, sym, ap, ◌∙◌, subst, arith, add-one}
+use Rattle.std.proofs.Common.{◌≡◌, ℕ, ℤ, ◌+◌, ◌≤◌, Bool, List, Option, ◌++◌, Result, Ok, Err, IsTrue, OnOk, sym, ap, ◌∙◌, subst, add-one}
 use Rattle.std.proofs.lemmas.Fmt.{contents_after_writes}
 use Rattle.std.specs.Fmt.{WritesInCalls}
 use Rattle.std.specs.Io.KnownBytes.{Appends}
 use Rattle.cli_outcome.specs.Written.{WritesSome}
-use Rattle.http_serve.specs.Lines.{MayTell, TellsEach, TellsFaults, Writes}
+use Rattle.http_serve.specs.Lines.{MayTell, TellsEach, TellsFaults, Writing}
 use Rattle.http_serve.specs.Visits.{ReceivesAll}
 use Rattle.http_serve.specs.declared.fault.ServingFault.{ServingFault}
 use Rattle.room_machine.specs.declared.desk.Desk.{Ghosts}
@@ -19,8 +19,8 @@ appended (Ok done) w v bs line contents wrote is =
 appended (Err e) w v bs line contents wrote is = tt
 
 -- one connection more
-pub told_next : (Tells : Writes) (n : ℕ) (old mid new : Option (List ℕ)) → TellsEach Tells n old mid
-    → MayTell Tells (n + 1) mid new → TellsEach Tells (n + 1) old new
+pub told_next : (Tells : Writing) (n : ℕ) (old mid new : Option (List ℕ))
+    → TellsEach Tells n old mid → MayTell Tells (n + 1) mid new → TellsEach Tells (n + 1) old new
 told_next Tells n old mid new before now =
     let here = subst (λ (k : ℕ). MayTell Tells k mid new) (add-one n) now in
     subst (λ (k : ℕ). TellsEach Tells k old new) (sym (add-one n)) (mid, before, here)
@@ -35,14 +35,9 @@ pub told_some : (n count : ℕ) (old new : Option (List ℕ)) (fault : ServingFa
     → TellsEach WritesSome n old new → TellsFaults count old new (Err fault)
 told_some n count old new fault few told = (n, few, told)
 
--- nothing was written
-pub told_none : (count : ℕ) (old new : Option (List ℕ)) (fault : ServingFault) → new ≡ old
-    → TellsFaults count old new (Err fault)
-told_none count old new fault same = (0, omega arith, same)
-
 -- What holds once some connections came: what the desk did, and what was written of them, in whole
 -- where that is known.
-pub record SoFar {D : Type 0} (d : Ghosts D) (number : ℕ) (clock clock' : List ℤ → Type 0)
+pub record IsServing {D : Type 0} (d : Ghosts D) (number : ℕ) (clock clock' : List ℤ → Type 0)
     (desk desk' : D) (told : Bool) (err err' : Option (List ℕ)) : Type 0 where
   pub received : ReceivesAll d number clock clock' desk desk'
   pub whole : IsTrue told → TellsEach Appends number err err'

@@ -19,23 +19,23 @@ connection_line number Cause.Write =
 connection_line number Cause.Memory =
     codes "connection " ++ (decimal number ++ codes ": memory fault\n")
 
--- how a text is written: in whole, or a front of it
-abbrev pub Writes : Type 1
-Writes = Option (List ℕ) → Option (List ℕ) → List ℕ → Type 0
+-- how a text is written: in whole, or only a front of it
+abbrev pub Writing : Type 1
+Writing = Option (List ℕ) → Option (List ℕ) → List ℕ → Type 0
 
--- nothing is written, or so the line of the connection of this number
-abbrev pub MayTell : Writes → ℕ → Option (List ℕ) → Option (List ℕ) → Type 0
+-- the line of the connection of this number is written in this way, or nothing is
+abbrev pub MayTell : Writing → ℕ → Option (List ℕ) → Option (List ℕ) → Type 0
 MayTell Tells number old new =
     (new ≡ old) ⊎ ((cause : Cause) × Tells old new (connection_line number cause))
 
--- for each of the first connections, in order, nothing is written or its line
-abbrev pub TellsEach : Writes → ℕ → Option (List ℕ) → Option (List ℕ) → Type 0
+-- for each of the first connections, in order, its line is written in this way, or nothing is
+abbrev pub TellsEach : Writing → ℕ → Option (List ℕ) → Option (List ℕ) → Type 0
 TellsEach Tells zero old new = new ≡ old
 TellsEach Tells (suc n) old new =
     (mid : Option (List ℕ)) × TellsEach Tells n old mid × MayTell Tells (suc n) mid new
 
--- What is written of connections that a fault ended: whole lines where all is done. Otherwise only
--- a front of each may have been written.
+-- What is written about connections that a fault ended: whole lines if all is done. Otherwise lines
+-- may be cut off.
 abbrev pub TellsFaults : ℕ → Option (List ℕ) → Option (List ℕ) → Result (Unit {0}) ServingFault
     → Type 0
 TellsFaults count old new (Ok done) = TellsEach Appends count old new

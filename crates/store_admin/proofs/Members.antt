@@ -14,7 +14,7 @@ use Rattle.sqlite.specs.State.{State, Shown}
 use Rattle.sqlite.specs.Term.{Term, col}
 use Rattle.sqlite.proofs.Callers.{IsPlain, command_of, reads_as}
 use Rattle.sqlite_resolve.specs.Compile.{first, returning}
-use Rattle.store_tables.proofs.Bare.{IsBare}
+use Rattle.store_tables.proofs.Bare.{LacksReturning}
 use Rattle.sqlite_keyed.specs.Lists.{sort_by}
 use Rattle.sqlite_keyed.proofs.SortLemmas.{IsPermutation-sort_by}
 use Rattle.sqlite_tied.specs.Compute.{everything}
@@ -51,7 +51,7 @@ plain_members : IsPlain (understood room_schema members_text)
 unfolding understood everything
 plain_members = (refl, refl)
 
-pub bare_members : IsBare members_text
+pub bare_members : LacksReturning members_text
 unfolding first returning everything
 bare_members = λ schema base. refl
 

@@ -14,7 +14,7 @@ use Rattle.sqlite.specs.Term.{Term, col, lit}
 use Rattle.sqlite.specs.Tree.{rowid}
 use Rattle.sqlite.proofs.Callers.{IsPlain, command_of, reads_as}
 use Rattle.sqlite_resolve.specs.Compile.{first, returning}
-use Rattle.store_tables.proofs.Bare.{IsBare}
+use Rattle.store_tables.proofs.Bare.{LacksReturning}
 use Rattle.sqlite_tied.specs.Compute.{everything}
 use Rattle.sqlite_keyed.proofs.ListLemmas.{ascending-filter}
 use Rattle.room_rows.specs.declared.node.AuditRow.{AuditRow}
@@ -49,7 +49,7 @@ plain_records : IsPlain (understood room_schema records_text)
 unfolding understood everything
 plain_records = (refl, refl)
 
-pub bare_records : IsBare records_text
+pub bare_records : LacksReturning records_text
 unfolding first returning everything
 bare_records = λ schema base. refl
 

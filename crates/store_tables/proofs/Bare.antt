@@ -13,8 +13,8 @@ use Rattle.sqlite_schema.specs.declared.command.Returning.{Returning}
 use Rattle.sqlite_schema.specs.declared.schema.Schema.{Schema}
 
 -- the statement of the text has no RETURNING, over any schema
-abbrev pub IsBare : List ℕ → Type 0
-IsBare sql =
+abbrev pub LacksReturning : List ℕ → Type 0
+LacksReturning sql =
     IfOk (first sql) (λ p. (schema : Schema) (base : ℕ)
     → returning schema base p.statement ≡ Ok None)
 
@@ -54,7 +54,7 @@ by_first schema (Ok p) c is bare =
     by_plan p (planned schema p) (λ plan so. unplanned schema p plan so bare) c is
 by_first schema (Err e) c is bare = absurd (cc)
 
-by_compiled : (schema : Schema) (sql : List ℕ) → IsBare sql → (c : Compiled)
+by_compiled : (schema : Schema) (sql : List ℕ) → LacksReturning sql → (c : Compiled)
     → compiled schema sql ≡ Ok c → c.returning ≡ None
 unfolding compiled
 by_compiled schema sql bare c is = by_first schema (first sql) c is bare
@@ -77,7 +77,7 @@ by_listing : (b : Bool) (one two : Checked Compiled)
 by_listing true one two f g c is = by_select one f c is
 by_listing false one two f g c is = g c is
 
-pub reads_by : (sql : List ℕ) → IsBare sql → IsReading sql
+pub reads_by : (sql : List ℕ) → LacksReturning sql → IsReading sql
 unfolding understood
 reads_by sql bare schema c is =
     by_listing (reads_listing schema sql) (compiled listing_schema sql) (compiled schema sql)

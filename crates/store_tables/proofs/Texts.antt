@@ -15,7 +15,7 @@ use Rattle.sqlite_value.specs.declared.keys.Collation.TheVariants.{Binary}
 use Rattle.sqlite.proofs.Callers.{IsPlain, command_of}
 use Rattle.sqlite_resolve.specs.Compile.{first, returning}
 use Rattle.store_tables.specs.Tables.{room_schema}
-use Rattle.store_tables.proofs.Bare.{IsBare}
+use Rattle.store_tables.proofs.Bare.{LacksReturning}
 
 -- ---- the statements
 
@@ -441,9 +441,10 @@ plain_texts = (
 )
 
 -- each that asks has no RETURNING, over any schema
-pub bare_texts : IsBare node_text × IsBare child_text × IsBare children_text × IsBare root_text
-    × IsBare ids_text × IsBare body_text × IsBare groups_text × IsBare some_text
-    × IsBare names_text
+pub bare_texts : LacksReturning node_text × LacksReturning child_text
+    × LacksReturning children_text × LacksReturning root_text × LacksReturning ids_text
+    × LacksReturning body_text × LacksReturning groups_text × LacksReturning some_text
+    × LacksReturning names_text
 unfolding first returning everything
 bare_texts = (
   λ schema base. refl,
