@@ -77,6 +77,7 @@ by_listing : (b : Bool) (one two : Checked Compiled)
 by_listing true one two f g c is = by_select one f c is
 by_listing false one two f g c is = g c is
 
+-- a text whose statement has no RETURNING is understood as one without it, over any schema
 pub reads_by : (sql : List ℕ) → LacksReturning sql → IsReading sql
 unfolding understood
 reads_by sql bare schema c is =

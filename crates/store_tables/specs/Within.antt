@@ -14,6 +14,7 @@ pub record IsWithin (old new : State) : Type 0 where
       → (old.in_transaction ≡ false → old.now ≡ old.committed) → new.in_transaction ≡ false
       → new.now ≡ new.committed
 
+-- a call that changes nothing commits nothing
 pub within_itself : (a : State) → IsWithin a a
 within_itself a =
     record {
@@ -23,6 +24,7 @@ within_itself a =
       settled = λ _ _ was mode. was mode;
     }
 
+-- two calls, neither of which commits anything, commit nothing together
 pub within_on : (a b c : State) → IsWithin a b → IsWithin b c → IsWithin a c
 within_on a b c p q =
     let clean : HasCleanDisk c → HasCleanDisk b = λ h. omega (arith, q.clean, h) in
