@@ -1,0 +1,483 @@
+# The lists that the pages recommend: each is set as it is pasted, and what the page says of it is compared with what the room
+# answers to a user of each kind, right by right, and with the records that it makes.
+
+if [ "$loopback" = no ]; then
+  skip 'recommended lists' 'this machine has no loopback'
+  return
+fi
+operating=$here/../docs/operating.md
+
+# The members of groups. pat is the other user, to whom belongs what others have added; fred was a member of staff, and zoe is
+# in no group.
+cat >groups.csv <<'END'
+group,user
+staff,alice
+staff,bob
+staff,pat
+staff,ella
+staff,clara
+staff,ivan
+editors,erin
+editors,ella
+clerks,clara
+interns,ivan
+board,bea
+sales,carol
+END
+users='alice bob erin ella clara ivan bea carol zoe fred -'
+serial=0
+closed=$(printf '%s\n' list:p "A::alice:$ALL")
+members=$'\n'$(<groups.csv)$'\n'
+in_group() { [[ $members = *$'\n'"$1,$2"$'\n'* ]]; } # GROUP USER
+
+# From a page: what is pasted to set a list, as N.sh; the list alone, as N.txt; the table below it, as N.table; and a line
+# 'N PATH dacl' or 'N PATH sacl' each, which is printed.
+take_lists() { # PAGE FOLDER
+  mkdir -p "$2"
+  awk -v into="$2" -v header="| | read | add | change | remove own | remove others' | manage |" '
+    /^(\$ )?rooms reset office\.rooms [^ ]+ [ds]acl <<END$/ {
+      sub(/^\$ /, ""); file = into "/" ++n; pasted = 1; print n, $4, $5; print >(file ".sh"); next
+    }
+    pasted { print >(file ".sh"); if ($0 == "END") pasted = 0; else print >(file ".txt"); next }
+    $0 == header { table = 1; next }
+    table && /^\|-/ { next }
+    table && /^\|/ { gsub(/^\| *| *\|$/, ""); gsub(/ *\| */, "|"); print >(file ".table"); next }
+    { table = 0 }' "$1"
+}
+
+# Pastes lines of a page into a shell that finds the program as `rooms`.
+paste_lines() { # NAME FILE STATUS OUT
+  PATH=$PWD/bin:$PATH bash "$2" >"$work/out" 2>"$work/err"
+  status=$?
+  wants "$1" "$3" "$4" ''
+}
+
+number_of() { awk -v path="$1" -v which="${2-dacl}" '$2 == path && $3 == which { print $1 }' index; } # PATH [dacl|sacl]
+list_of() { cat "lists/$(number_of "$@").txt"; }
+
+# The cells of a user's row: the first row that means the user at this place.
+cells_of() { # USER PLACE TABLE
+  local label cells group
+  while IFS='|' read -r label cells; do
+    if [[ $label = *', in folders below' ]]; then
+      [[ $2 = */below ]] || continue
+      label=${label%, in folders below}
+    fi
+    [ "$label" = "$1" ] || [ "$label" = 'anyone else' ] || {
+      for group in ${label/ who are / }; do in_group "$group" "$1" || continue 2; done
+    }
+    echo "$cells"
+    return
+  done <"$3"
+}
+
+# One request of the user at the place, whose answer counts for a column. CLASS is d for documents, f for folders, n for the
+# names in a folder.
+tries() { # COLUMN CLASS METHOD TARGET [BODY]
+  echo "$place|$user|$1|$2|$3 $4" >&4
+  message "$3" "$4" "$user" "${5-}"
+}
+
+# What has to be answered so: a status, or 2 for any that begins so, or ? for any at all.
+expects() { # STATUS METHOD TARGET USER [BODY]
+  echo "|$4|$1||$2 $3" >&4
+  message "$2" "$3" "$4" "${5-}"
+}
+prepares() { expects 2 "$1" "$2" alice "${3-}"; } # METHOD TARGET [BODY]
+belongs_to() { prepares PUT "/attr$1" "{\"owner\":\"$2\",\"group\":\"staff\"}"; } # PATH USER
+
+# The names of three things of which each is gone where the cell grants it, and of one that stays where it doesn't.
+three() { # CELL NAME OTHER
+  if [ "$1" = no ]; then names=("$3" "$3" "$3"); else names=("$2.1" "$2.2" "$2.3"); fi
+}
+
+# Removing, renaming and moving away.
+tries_removing() { # COLUMN CLASS
+  serial=$((serial + 1))
+  tries "$1" "$2" DELETE "/object$p/${names[0]}"
+  tries "$1" "$2" POST "/move$p/${names[1]}" "{\"to\":\"$p/${names[1]}.renamed\"}"
+  tries "$1" "$2" POST "/move$p/${names[2]}" "{\"to\":\"/elsewhere/$serial\"}"
+}
+
+# What others have at a place: a document and a folder of pat, and a document and a folder that only alice may read. In a
+# folder that is to be removed there is nothing.
+furnish() { # ENDING [empty]
+  prepares PUT "/doc$p/paper$1" x
+  belongs_to "$p/paper$1" pat
+  prepares POST "/folder$p/shelf$1"
+  belongs_to "$p/shelf$1" pat
+  prepares PUT "/doc$p/letter$1" x
+  prepares PUT "/dacl$p/letter$1" "$closed"
+  prepares POST "/folder$p/vault$1"
+  [ $# = 2 ] || prepares PUT "/doc$p/vault$1/salaries" x
+  prepares PUT "/dacl$p/vault$1" "$private"
+}
+
+# Adding, by moving something here and by making it. What the user has made is the user's own.
+plays_adding() {
+  local document=/elsewhere/sample folder=/elsewhere/tray
+  serial=$((serial + 1))
+  if [ "$add" != no ]; then
+    document=/elsewhere/sample.$serial
+    prepares PUT "/doc$document" x
+  fi
+  if [ "$add" = yes ]; then
+    folder=/elsewhere/tray.$serial
+    prepares POST "/folder$folder"
+  fi
+  tries add d POST "/move$document" "{\"to\":\"$p/moved.$name\"}"
+  tries add f POST "/move$folder" "{\"to\":\"$p/moved.folder.$name\"}"
+  if [ "$add" = no ]; then tries add d PUT "/doc$p/new.$name" x; fi
+  if [ "$add" != yes ]; then tries add f POST "/folder$p/new.folder.$name"; fi
+}
+
+# The user's own documents and folders, made by the user; where that isn't granted, alice gives some to the user.
+makes_own() { # NUMBER
+  if [ "$add" != no ]; then
+    tries add d PUT "/doc$p/mine.$name.$1" x
+  else
+    prepares PUT "/doc$p/mine.$name.$1" x
+    belongs_to "$p/mine.$name.$1" "$user"
+  fi
+  if [ "$add" = yes ]; then
+    tries add f POST "/folder$p/mine.folder.$name.$1"
+  else
+    prepares POST "/folder$p/mine.folder.$name.$1"
+    belongs_to "$p/mine.folder.$name.$1" "$user"
+  fi
+}
+
+plays_own() {
+  local number
+  makes_own 1
+  [ "$own" = no ] || for number in 2 3; do makes_own "$number"; done
+  tries read d GET "/doc$p/mine.$name.1"
+  tries change d PUT "/doc$p/mine.$name.1" y
+  three "$own" "mine.$name" "mine.$name.1"
+  tries_removing 'remove own' d
+  three "${own/documents/no}" "mine.folder.$name" "mine.folder.$name.1"
+  tries_removing 'remove own' f
+}
+
+plays_with_others() {
+  if [ "$others" != no ]; then
+    furnish ".$name.1" empty
+    furnish ".$name.2"
+    furnish ".$name.3"
+  fi
+  three "$others" "paper.$name" paper
+  tries_removing "remove others'" d
+  three "$others" "letter.$name" letter
+  tries_removing "remove others'" d
+  three "$others" "shelf.$name" shelf
+  tries_removing "remove others'" f
+  three "$others" "vault.$name" vault
+  tries_removing "remove others'" f
+}
+
+# Lists and owners of a document and of the folder itself; and removing, renaming and moving the folder itself.
+plays_managing() { # LIST
+  tries manage d PUT "/dacl$p/paper" list:a
+  tries manage d PUT "/sacl$p/paper" list:a
+  tries manage d PUT "/attr$p/paper" '{"owner":"pat","group":"staff"}'
+  tries manage f PUT "/dacl${p:-/}" "$1"
+  tries manage f PUT "/sacl${p:-/}" list:a
+  tries manage f PUT "/attr${p:-/}" '{"owner":"alice","group":"staff"}'
+  if [[ $place = / || $place = */below ]]; then return; fi
+  tries manage f POST "/move$p" "{\"to\":\"$p.renamed\"}"
+  expects '?' POST "/move$p.renamed" alice "{\"to\":\"$p\"}"
+  tries manage f POST "/move$p" '{"to":"/elsewhere/taken"}'
+  expects '?' POST /move/elsewhere/taken alice "{\"to\":\"$p\"}"
+  tries manage f DELETE "/object$p"
+}
+
+# A user tries everything at a place.
+plays() { # CELLS LIST
+  local name=${user/#-/nobody} read add change own others manage
+  IFS='|' read -r read add change own others manage <<<"$1"
+  echo "$place|$user|read|$read|add|$add|change|$change|remove own|$own|remove others'|$others|manage|$manage" >&5
+  plays_adding
+  tries read n GET "/folder${p:-/}"
+  tries read d GET "/doc$p/paper"
+  tries read d GET "/attr$p/paper"
+  tries read d GET "/dacl$p/paper"
+  tries change d PUT "/doc$p/paper" y
+  tries change d POST "/doc$p/paper" z
+  # Nobody without a name owns anything.
+  if [ "$user" = - ]; then three no '' paper && tries_removing 'remove own' d; else plays_own; fi
+  plays_with_others
+  plays_managing "$2"
+}
+
+# Sends what was written, and reads the answers meanwhile, so that neither side waits for the other; $work/statuses then has a
+# line for each answer.
+converse() {
+  last_message GET '/can/?' - >>"$work/sent"
+  : >"$work/statuses"
+  exec 3<>"/dev/tcp/127.0.0.1/$port" || return 1
+  timeout "$patience" cat <&3 >"$work/reply" &
+  cat "$work/sent" >&3
+  wait $!
+  exec 3>&- 3<&-
+  grep -ao 'HTTP/1\.1 [0-9]*' "$work/reply" | cut -d' ' -f2 | sed '$d' >"$work/statuses"
+}
+
+# Compares what was answered with what was expected, and with the cells that were said. Prints a line for each difference, and
+# last the number of all that agree. Only who may remove a folder is told that it isn't empty.
+judge() { # NAME
+  paste -d'|' asked "$work/statuses" | awk -F'|' '
+    FILENAME == "-" && $1 == "" {
+      if ($3 == "?" || index($6, $3) == 1) agree++; else print $5 " by " $2 ": " $6 ", wanted " $3
+      next
+    }
+    FILENAME == "-" {
+      cell = $1 "|" $2 "|" $3
+      sign = $6 == 403 ? "-" : $6 ~ /^20[014]$/ || $6 == 409 && $5 ~ /^DELETE/ ? "+" : "?"
+      got[cell] = got[cell] $4 sign
+      tried[cell] = tried[cell] "; " $5 " " $6
+      next
+    }
+    function verdict(answers) {
+      if (answers ~ /\?/ || answers == "") return "something else"
+      if (answers !~ /-/) return "yes"
+      if (answers !~ /\+/) return "no"
+      if (answers !~ /n-|d\+|f/) return "names"
+      if (answers !~ /d-|f\+|n/) return "documents"
+      return "partly"
+    }
+    {
+      for (i = 3; i < NF; i += 2) {
+        cell = $1 "|" $2 "|" $i; is = verdict(got[cell])
+        if (is == $(i + 1)) agree++
+        else print $2 " at " $1 ", " $i ": the page says " $(i + 1) ", the room answers " is substr(tried[cell], 2)
+      }
+    }
+    END { print agree + 0 }' - said >judged
+  passed=$((passed + $(tail -n 1 judged)))
+  sed '$d' judged >differences
+  while IFS= read -r line; do fail "$1" "$line"; done <differences
+}
+
+# Everybody plays at a place by a table.
+play_table() { # NAME TABLE LIST PLACE ..
+  local name=$1 table=$2 list=$3
+  shift 3
+  for place in "$@"; do
+    p=${place%/}
+    furnish ''
+    for user in $users; do plays "$(cells_of "$user" "$place" "$table")" "$list"; done
+    list=list:a
+  done >"$work/sent" 4>asked 5>said
+  converse
+  judge "$name"
+}
+
+# The requests of a function are answered as it expects.
+play() { # NAME FUNCTION
+  : >said
+  "$2" >"$work/sent" 4>asked
+  converse
+  judge "$1"
+}
+
+mkdir bin
+ln -s "$rooms" bin/rooms
+take_lists "$operating" lists >index
+holds 'the lists of operating.md' [ "$(cut -d' ' -f3 index | sort | uniq -c | tr -s ' \n' ' ')" = ' 8 dacl 2 sacl ' ]
+private=$(list_of /bob | grep -v bob)
+
+make_folders() {
+  local name
+  for name in $(sed -n 's/^for name in \(.*\); do$/\1/p' "$operating") plain; do prepares POST "/folder/$name"; done
+  prepares POST /folder/elsewhere
+  prepares PUT /dacl/elsewhere "$(printf '%s\n' list:ap "A:fd:EVERYONE@:$ALL")"
+  prepares PUT /doc/elsewhere/sample x
+  prepares POST /folder/elsewhere/tray
+}
+
+gives 'a room' 0 'ready\n' '' init office.rooms alice staff
+gives 'its members' 0 'groups 6, members 12\n' '' groups office.rooms groups.csv
+paste_lines 'the first list' "lists/$(number_of /).sh" 0 'done\n'
+start_server office.rooms 1 || return
+play 'the folders' make_folders
+server_ends 'the server ends' 0 ''
+while read -r number path which; do
+  [ "$which" = sacl ] || paste_lines "the list of $path" "lists/$number.sh" 0 'done\n'
+done <index
+
+start_server office.rooms 1000 || return
+make_below() { prepares POST "/folder$path/below"; }
+while read -r number path which; do
+  [ "$which" = dacl ] || continue
+  if [ ! -s "lists/$number.table" ]; then
+    fail "the list of $path" 'it has no table'
+  elif [ "$path" = / ]; then
+    play_table 'the list of /' "lists/$number.table" "$(list_of /)" /
+  else
+    play "the list of $path" make_below
+    play_table "the list of $path" "lists/$number.table" "$(list_of "$path")" "$path" "$path/below"
+  fi
+done <index
+printf '%s\n' 'alice|yes|yes|yes|yes|yes|yes' 'anyone else|no|no|no|no|no|no' >plain.table
+play_table 'a folder without a list' plain.table list:a /plain
+
+# What the page says besides: of lists without the line, of folders above, and of single entries.
+with_board() { list_of /letters && echo A:g:board:x; }
+play_the_line() {
+  local kept
+  # Without the line, w on the folder above is enough to rename what nobody else may open; with it, it isn't.
+  prepares POST /folder/old
+  prepares PUT /dacl/old "$(printf '%s\n' list:ap "A:fd:alice:$ALL" A:fdg:staff:rwaxtc)"
+  prepares POST /folder/old/loose
+  prepares PUT /dacl/old/loose "$(printf '%s\n' list:ap "A:fd:alice:$ALL")"
+  expects 403 GET /folder/old/loose bob
+  expects 204 POST /move/old/loose bob '{"to":"/old/renamed"}'
+  for kept in /policies /minutes /letters /bob /handbook /inbox /drafts; do
+    prepares POST "/folder/old$kept"
+    prepares PUT "/dacl/old$kept" "$(list_of "$kept")"
+    expects 403 DELETE "/object/old$kept" bob
+    expects 403 POST "/move/old$kept" bob "{\"to\":\"/old$kept.renamed\"}"
+    expects 403 POST "/move/old$kept" bob '{"to":"/elsewhere/kept"}'
+  done
+}
+
+play_folders_above() {
+  # The board isn't let through /letters before its list says so, and then to its own folder only.
+  prepares POST /folder/letters/board
+  prepares PUT /dacl/letters/board "$(list_of /bob | sed 's/^A:fd:bob:/A:fdg:board:/')"
+  expects 403 PUT /doc/letters/board/report bea x
+  prepares PUT /dacl/letters "$(with_board)"
+  expects 201 PUT /doc/letters/board/report bea x
+  expects 200 GET /doc/letters/board/report bea
+  expects 403 GET /folder/letters bea
+  expects 403 GET /doc/letters/paper bea
+  expects 403 POST /move/letters/board bea '{"to":"/letters/renamed"}'
+  expects 403 GET /doc/letters/board/report bob
+  expects 403 POST /move/letters/board bob '{"to":"/letters/renamed"}'
+  # A new folder of the old name has the list of the folder above; at the top nobody else makes one.
+  prepares DELETE /object/letters/board/report
+  prepares DELETE /object/letters/board
+  expects 201 POST /folder/letters/board bob
+  prepares PUT /doc/letters/board/report x
+  expects 200 GET /doc/letters/board/report bob
+  prepares POST /folder/board
+  prepares DELETE /object/board
+  expects 403 POST /folder/board bob
+}
+
+play_single_entries() {
+  # With fdi and above the line, whoever made a folder moves it away with what others have put there.
+  prepares PUT /dacl/letters "$(list_of /letters | awk '/OWNER@/ { next } /EVERYONE@/ { print "A:fdi:OWNER@:d" } { print }')"
+  expects 201 POST /folder/letters/ella ella
+  expects 201 PUT /doc/letters/ella/paper bob x
+  expects 204 POST /move/letters/ella ella '{"to":"/elsewhere/ella"}'
+  # Users read their own documents in the inbox; a name that is there is told from one that isn't.
+  prepares PUT /dacl/inbox "$(list_of /inbox && echo A:fi:OWNER@:rt)"
+  expects 201 PUT /doc/inbox/bobs bob x
+  expects 200 GET /doc/inbox/bobs bob
+  expects 403 GET /doc/inbox/bobs ella
+  expects 404 GET /doc/inbox/none ella
+  # The denial behind the grant is none, and the first line takes w away from everybody.
+  prepares PUT /dacl/drafts "$(list_of /drafts | awk '/:interns:/ { late = $0; next } { print } /:staff:/ { print late }')"
+  expects 204 PUT /doc/drafts/paper ivan x
+  prepares PUT /dacl/drafts "$(list_of /drafts | awk '{ print } /^list:/ { print "D::EVERYONE@:w" }')"
+  expects 403 PUT /doc/drafts/new alice x
+}
+play 'the line' play_the_line
+play 'folders above' play_folders_above
+play 'single entries' play_single_entries
+stop_server
+
+# What `check` says of the list that the page tries, and that this is the list which the page recommends.
+sed -n '/^rooms check <<END$/,/^END$/p' "$operating" >check.sh
+paste_lines 'a list that is tried' check.sh 1 "$(sed -n 's/^It prints `\(denied .*\)`\..*/\1/p' "$operating")\n"
+holds 'it is the one for interns' [ "$(sed -e '1,/^ask/d' -e '/^END$/d' check.sh)" = "$(list_of /drafts)" ]
+
+# Records: the page promises one for each denied read, and for each attempt to remove, rename or move something or to change a
+# list or an owner; in /contracts one more for whatever is denied.
+rm office.rooms*
+gives 'a room for records' 0 'ready\n' '' init office.rooms alice staff
+gives 'its members' 0 'groups 6, members 12\n' '' groups office.rooms groups.csv
+paste_lines 'the first list' "lists/$(number_of /).sh" 0 'done\n'
+furnish_recorded() {
+  local p
+  for p in letters contracts elsewhere; do prepares POST "/folder/$p"; done
+  prepares PUT /dacl/letters "$(list_of /letters)"
+  prepares PUT /dacl/contracts "$(list_of /inbox)"
+  prepares PUT /dacl/elsewhere "$(printf '%s\n' list:ap "A:fd:EVERYONE@:$ALL")"
+  prepares PUT /doc/letters/paper x
+  prepares PUT /doc/letters/closed x
+  prepares PUT /dacl/letters/closed "$closed"
+  prepares PUT /doc/contracts/paper x
+  prepares PUT /doc/elsewhere/theirs x
+}
+
+# As `expects`, with the records that have to be left, four words each.
+recorded() { # USER METHOD TARGET BODY STATUS [PATH BITS GRANTED ENTRY ..]
+  local user=$1
+  expects "$5" "$2" "$3" "$1" "$4"
+  shift 5
+  while [ $# != 0 ]; do
+    echo "T,${user#-},$1,$2,$3,$4,audit" >&5
+    shift 4
+  done
+}
+
+play_records() {
+  local f=/letters
+  recorded bob PUT /doc$f/mine x 201
+  recorded bob GET /doc$f/paper '' 200
+  recorded bob GET /doc$f/closed '' 403 $f/closed r no 1
+  recorded bob PUT /doc$f/closed x 403
+  recorded bob DELETE /object$f/paper '' 403 $f/paper d no 2
+  recorded bob POST /move$f/paper "{\"to\":\"$f/renamed\"}" 403 $f/paper d no 2
+  recorded bob POST /move$f/paper '{"to":"/elsewhere/paper"}' 403 $f/paper d no 2
+  recorded bob POST /move$f '{"to":"/renamed"}' 403 $f d no 2
+  recorded bob POST /move$f/mine "{\"to\":\"$f/renamed\"}" 204 $f/mine d yes 2
+  recorded bob POST /move$f/renamed '{"to":"/elsewhere/mine"}' 204 $f/renamed d yes 2
+  recorded bob POST /move/elsewhere/mine "{\"to\":\"$f/mine\"}" 204 /elsewhere/mine d yes 2
+  recorded bob DELETE /object$f/mine '' 204 $f/mine d yes 2
+  recorded bob PUT /dacl$f list:a 403 $f C no 2
+  recorded bob PUT /sacl$f list:a 403 $f C no 2
+  recorded bob PUT /attr$f/paper '{"owner":"bob","group":"staff"}' 403 $f/paper o no 2
+  recorded carol GET /doc$f/paper '' 403 $f x no 1
+  recorded carol DELETE /object$f/paper '' 403 $f x no 1
+  recorded - GET /doc$f/paper '' 403 / x no 1
+  recorded alice PUT /dacl$f "$(list_of $f)" 204 $f C yes 2
+  recorded alice PUT /attr$f/paper '{"owner":"pat","group":"staff"}' 204 $f/paper o yes 2
+  recorded alice DELETE /object$f/paper '' 204 $f/paper d yes 2
+}
+
+# The list of /contracts stands above what it inherits from the root.
+play_denials() {
+  local f=/contracts
+  recorded bob PUT /doc$f/mine x 201
+  recorded bob GET /folder$f '' 403 $f r no 1 $f r no 2
+  recorded bob GET /doc$f/paper '' 403 $f/paper r no 1 $f/paper r no 2
+  recorded bob PUT /doc$f/paper x 403 $f/paper w no 1
+  recorded bob POST /doc$f/paper x 403 $f/paper a no 1
+  recorded bob POST /folder$f/made '' 403 $f a no 1
+  recorded bob DELETE /object$f/paper '' 403 $f/paper d no 1 $f/paper d no 3
+  recorded bob GET /attr$f/paper '' 403 $f/paper t no 1
+  recorded bob GET /dacl$f/paper '' 403 $f/paper c no 1
+  recorded bob PUT /dacl$f/paper list:a 403 $f/paper C no 1 $f/paper C no 3
+  recorded bob PUT /attr$f/paper '{"owner":"bob","group":"staff"}' 403 $f/paper o no 1 $f/paper o no 3
+  recorded carol GET /doc$f/paper '' 403 $f x no 1 $f x no 2
+  recorded carol POST /move/elsewhere/theirs "{\"to\":\"$f/moved\"}" 403 $f x no 1 $f x no 2
+  recorded alice GET /doc$f/paper '' 200
+}
+
+if start_server office.rooms 1; then
+  play 'what is there' furnish_recorded
+  server_ends 'the server ends' 0 ''
+fi
+paste_lines 'the list of records' "lists/$(number_of / sacl).sh" 0 'done\n'
+paste_lines 'the list of denials' "lists/$(number_of /contracts sacl).sh" 0 'done\n'
+if start_server office.rooms 2; then
+  play 'what is recorded' play_records 5>wanted
+  play 'what is denied' play_denials 5>>wanted
+  server_ends 'the server ends' 0 ''
+fi
+run audit office.rooms
+sed -e 1d -e 's/^[0-9]*,/T,/' "$work/out" >records
+same 'the records' records wanted
