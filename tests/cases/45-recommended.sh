@@ -55,10 +55,11 @@ paste_lines() { # NAME FILE STATUS OUT
 number_of() { awk -v path="$1" -v which="${2-dacl}" '$2 == path && $3 == which { print $1 }' index; } # PATH [dacl|sacl]
 list_of() { cat "lists/$(number_of "$@").txt"; }
 
-# The cells of a user's row: the first row that means the user at this place.
-cells_of() { # USER PLACE TABLE
-  local label cells group
-  while IFS='|' read -r label cells; do
+# The row of a user: the first one that means the user at this place.
+row_of() { # USER PLACE TABLE
+  local row label group
+  while IFS= read -r row; do
+    label=${row%%|*}
     if [[ $label = *', in folders below' ]]; then
       [[ $2 = */below ]] || continue
       label=${label%, in folders below}
@@ -66,7 +67,7 @@ cells_of() { # USER PLACE TABLE
     [ "$label" = "$1" ] || [ "$label" = 'anyone else' ] || {
       for group in ${label/ who are / }; do in_group "$group" "$1" || continue 2; done
     }
-    echo "$cells"
+    echo "$row"
     return
   done <"$3"
 }
@@ -255,17 +256,24 @@ judge() { # NAME
     END { print agree + 0 }' - said >judged
   passed=$((passed + $(tail -n 1 judged)))
   sed '$d' judged >differences
-  while IFS= read -r line; do fail "$1" "$line"; done <differences
+  # What went with one mistake is missing in many a later answer.
+  while IFS= read -r line; do fail "$1" "$line"; done < <(head -n 10 differences)
+  [ "$(wc -l <differences)" -le 10 ] || fail "$1" "and $(tail -n +11 differences | wc -l) more differences"
 }
 
-# Everybody plays at a place by a table.
+# Everybody plays at a place by a table; in the folder below it, one user of each row does.
 play_table() { # NAME TABLE LIST PLACE ..
-  local name=$1 table=$2 list=$3
+  local name=$1 table=$2 list=$3 row played
   shift 3
   for place in "$@"; do
     p=${place%/}
+    played=$'\n'
     furnish ''
-    for user in $users; do plays "$(cells_of "$user" "$place" "$table")" "$list"; done
+    for user in $users; do
+      row=$(row_of "$user" "$place" "$table")
+      [[ $place = */below && $played = *$'\n'"$row"$'\n'* ]] || plays "${row#*|}" "$list"
+      played+=$row$'\n'
+    done
     list=list:a
   done >"$work/sent" 4>asked 5>said
   converse
@@ -392,6 +400,26 @@ stop_server
 sed -n '/^rooms check <<END$/,/^END$/p' "$operating" >check.sh
 paste_lines 'a list that is tried' check.sh 1 "$(sed -n 's/^It prints `\(denied .*\)`\..*/\1/p' "$operating")\n"
 holds 'it is the one for interns' [ "$(sed -e '1,/^ask/d' -e '/^END$/d' check.sh)" = "$(list_of /drafts)" ]
+
+# The README and the tour show two of these lists, and say the same of them.
+same_lists() { # NAME FILE
+  { list_of / && list_of /letters; } >wanted
+  same "$1" "$2" wanted
+}
+says() { # PAGE SENTENCE
+  holds "$1 says: $2" grep -qF -e "$2" <(tr '\n' ' ' <"$here/../$1" | tr -s ' ')
+}
+{ echo "all=$ALL" && sed -n "s/^\(printf '%s\\\\n' list:.*\) |$/\1/p" "$here/../README.md"; } >readme.sh
+bash readme.sh >readme.lists
+same_lists 'the lists of the README' readme.lists
+sed -n '/ <<END$/,/^END$/p' "$here/../docs/tour.md" | grep -v END >tour.lists
+same_lists 'the lists of the tour' tour.lists
+for page in README.md docs/tour.md; do
+  says "$page" 'Alice may do everything'
+  says "$page" 'taff see which names are at the top'
+  says "$page" 'may read, add and change, and each of them may remove, rename and move away the documents that they added themselves.'
+done
+says docs/operating.md 'Staff read everything, add documents and folders, and change every document. Each of them may remove, rename and move away the documents that they added themselves.'
 
 # Records: the page promises one for each denied read, and for each attempt to remove, rename or move something or to change a
 # list or an owner; in /contracts one more for whatever is denied.
