@@ -391,7 +391,19 @@ play_single_entries() {
   prepares PUT /dacl/drafts "$(list_of /drafts | awk '{ print } /^list:/ { print "D::EVERYONE@:w" }')"
   expects 403 PUT /doc/drafts/new alice x
 }
+
+# 'Write' of the page is waDd: with it on a folder, what is in it is removed unread, and the folder itself.
+play_write() {
+  prepares POST /folder/written
+  prepares POST /folder/written/vault
+  prepares PUT /dacl/written/vault "$private"
+  prepares PUT /dacl/written "$(printf '%s\n' list:ap "A:fd:alice:$ALL" A:fd:bob:rwaxDdtc)"
+  expects 403 GET /folder/written/vault bob
+  expects 204 DELETE /object/written/vault bob
+  expects 204 DELETE /object/written bob
+}
 play 'the line' play_the_line
+play 'what Write includes' play_write
 play 'folders above' play_folders_above
 play 'single entries' play_single_entries
 stop_server
