@@ -130,6 +130,9 @@ plays_own() {
   [ "$own" = no ] || for number in 2 3; do makes_own "$number"; done
   tries read d GET "/doc$p/mine.$name.1"
   tries change d PUT "/doc$p/mine.$name.1" y
+  tries manage d PUT "/dacl$p/mine.$name.1" list:a
+  tries manage d PUT "/attr$p/mine.$name.1" "{\"owner\":\"$user\",\"group\":\"sales\"}"
+  tries manage f PUT "/dacl$p/mine.folder.$name.1" list:a
   three "$own" "mine.$name" "mine.$name.1"
   tries_removing 'remove own' d
   three "${own/documents/no}" "mine.folder.$name" "mine.folder.$name.1"
