@@ -23,6 +23,25 @@ if [ "$loopback" = yes ]; then
   wants 'closed standard output: serve' 3 '' 'fault: file\n'
 fi
 gives 'the members came in all the same' 0 'group,user\nsales,alice\n' '' groups-out F
+# A line that can't be printed comes after the change: a list that is set, a file that is upgraded.
+if [ -c /dev/full ]; then
+  open_room N
+  from_lines list:a "A:fd:alice:$ALL"
+  "$rooms" reset N / dacl <"$input" 2>"$work/err" >/dev/full
+  status=$?
+  input=/dev/null
+  : >"$work/out"
+  wants 'full standard output: reset' 3 '' 'fault: file\n'
+  gives 'the list is set all the same' 0 "folder root staff /\ndacl\nlist:a\nA:fd:alice:$ALL\nsacl\nlist:a\n" '' dump N
+  take rejoined.1.db N1
+  gives 'an older file' 2 'refused: schema 1 is old\n' '' verify N1
+  "$rooms" migrate N1 </dev/null 2>"$work/err" >/dev/full
+  status=$?
+  : >"$work/out"
+  wants 'full standard output: migrate' 3 '' 'fault: file\n'
+  gives 'the file is upgraded all the same' 0 'sound\n' '' verify N1
+  gives 'a second time there is nothing to do' 2 'refused: schema 2 is new\n' '' migrate N1
+fi
 if [ -c /dev/full ]; then
   "$rooms" init init-full root staff </dev/null 2>"$work/err" >/dev/full
   status=$?
