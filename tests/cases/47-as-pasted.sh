@@ -101,7 +101,7 @@ paste_in "$(blocks people.md 'htpasswd -B /etc/nginx/rooms.htpasswd eve')
 $(blocks people.md 'A::eve:x')
 $(blocks people.md 'can/projects/bridge')
 $(blocks people.md '18:00')"
-prints 'somebody from outside' '{"r":"allowed 1","w":"silent","x":"allowed 1"}'
+prints 'somebody from outside' '{"r":"allowed 3","w":"silent","x":"allowed 3"}'
 answers 'she sees her folder' '[] 200' eve GET /folder/projects/bridge
 answers 'but not the one above' '{"at":"/projects","bits":"r","entry":null,"text":null} 403' eve GET /folder/projects
 answers 'nor any other' '{"at":"/letters","bits":"r","entry":null,"text":null} 403' eve GET /folder/letters
