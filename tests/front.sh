@@ -1,32 +1,77 @@
-# A front end before the server: nginx by contrib/nginx.conf, with other ports and files.
+# A front end before the server: nginx by the files of contrib, with other ports and files.
 
 nginx=$(command -v nginx || ls /usr/sbin/nginx 2>/dev/null)
 
-# Starts nginx at the port $front, which is free if $port is. It asks for the passwords of
-# ./passwords, serves the page of contrib, and writes the status, method, target, user and origin of
-# each request into ./access.log.
-start_front() { # NAME
-  local began=$SECONDS
+# Whether there is a loopback for IPv6 too.
+has_six() {
+  local why
+  why=$( (exec 3<>/dev/tcp/::1/1) 2>&1) || [[ $why = *refused* ]]
+}
+
+# A file of contrib with the ports and the files of a case.
+for_here() { # FILE
+  local six='/listen \[::\]/d'
+  if has_six; then six="s/listen \[::\]:80;/listen [::1]:$front;/; s/listen \[::\]:443 /listen [::1]:$secure /"; fi
+  sed -e "s/listen 80;/listen 127.0.0.1:$front;/" -e "s/listen 443 /listen 127.0.0.1:$secure /" \
+    -e "$six" -e "s/127.0.0.1:8780/127.0.0.1:$port/" -e "s|/etc/nginx/rooms.htpasswd|$PWD/passwords|" \
+    -e "s|/usr/local/share/rooms/page|$here/../contrib/page|" "$here/../contrib/$1"
+}
+
+# nginx's file, which includes a site as Debian's does.
+write_front() { # SITE
+  echo "daemon off; pid $PWD/nginx.pid; error_log $PWD/error.log; worker_processes 1;"
+  [ "$(id -u)" != 0 ] || echo 'user root;'
+  echo 'events { worker_connections 256; }'
+  echo "http { log_format short '\$status \$request_method \$request_uri \$remote_user \$http_origin';"
+  echo "access_log $PWD/access.log short; client_body_temp_path $PWD/t1; proxy_temp_path $PWD/t2;"
+  echo "fastcgi_temp_path $PWD/t3; uwsgi_temp_path $PWD/t4; scgi_temp_path $PWD/t5;"
+  for_here "$1"
+  echo '}'
+}
+
+# Starts nginx with contrib's nginx.conf, or with nginx-tls.conf for 'tls', whose certificate and
+# key are ./rooms.pem and ./rooms.key. The ports $front and $secure are free if $port is. It asks
+# for the passwords of ./passwords, serves the page of contrib, and writes the status, method,
+# target, user and origin of each request into ./access.log.
+start_front() { # NAME [tls]
+  local began=$SECONDS part
   front=$((port + 1))
+  secure=$((port + 2))
+  base=http://127.0.0.1:$front
   chmod 755 "$work" .
   chmod 644 passwords
-  {
-    echo "daemon off; pid $PWD/nginx.pid; error_log $PWD/error.log; worker_processes 1;"
-    [ "$(id -u)" != 0 ] || echo 'user root;'
-    echo 'events { worker_connections 256; }'
-    echo "http { log_format short '\$status \$request_method \$request_uri \$remote_user \$http_origin';"
-    echo "access_log $PWD/access.log short; client_body_temp_path $PWD/t1; proxy_temp_path $PWD/t2;"
-    echo "fastcgi_temp_path $PWD/t3; uwsgi_temp_path $PWD/t4; scgi_temp_path $PWD/t5;"
-    sed -e "s/listen 80;/listen 127.0.0.1:$front;/" -e "s/127.0.0.1:8780/127.0.0.1:$port/" \
-      -e "s|/etc/nginx/rooms.htpasswd|$PWD/passwords|" -e "s|/usr/local/share/rooms/page|$here/../contrib/page|" \
-      "$here/../contrib/nginx.conf"
-    echo '}'
-  } >nginx.conf
+  mkdir -p snippets
+  rm -f nginx.pid
+  for part in http server; do for_here "nginx-$part.conf" >"snippets/rooms-$part.conf"; done
+  echo "ssl_certificate $PWD/rooms.pem; ssl_certificate_key $PWD/rooms.key;" >snippets/rooms-tls.conf
+  write_front "nginx${2:+-$2}.conf" >nginx.conf
   "$nginx" -p "$PWD" -c "$PWD/nginx.conf" >nginx.out 2>&1 &
   proxy=$!
-  until [ -s nginx.pid ] || ! kill -0 "$proxy" 2>/dev/null || [ $((SECONDS - began)) -ge "$patience" ]; do sleep 0.02; done
+  until [ -s nginx.pid ] || ! kill -0 "$proxy" 2>/dev/null ||
+    [ $((SECONDS - began)) -ge "$patience" ]; do sleep 0.02; done
   if ! kill -0 "$proxy" 2>/dev/null || ! [ -s nginx.pid ]; then
     skip "$1" "nginx does not start: $(head -c 300 nginx.out error.log 2>/dev/null)"
     return 1
   fi
+}
+
+# What curl is given to reach $base.
+reach=()
+
+# The status and the body of a request by a user with a password, to $base; '-' is any body.
+ask() { # NAME STATUS BODY USER:PASSWORD TARGET ARGUMENT ..
+  local name=$1 wanted=$2 body=$3 who=$4 target=$5 got
+  shift 5
+  got=$(curl -s -o "$work/body" -w '%{http_code}' ${reach[@]+"${reach[@]}"} ${who:+-u "$who"} "$@" \
+    "$base$target")
+  [ "$got" = "$wanted" ] ||
+    { fail "$name" "status $got, wanted $wanted: $(head -c 200 "$work/body")"; return; }
+  [ "$body" = - ] && { pass; return; }
+  printf '%s' "$body" >"$work/want.body"
+  same "$name" "$work/body" "$work/want.body"
+}
+
+# The head of an answer is in $work/head.
+answer() { # USER:PASSWORD TARGET ARGUMENT ..
+  curl -s -o "$work/body" -D "$work/head" ${reach[@]+"${reach[@]}"} -u "$1" "${@:3}" "$base$2"
 }

@@ -1,6 +1,9 @@
 # contrib/install below a folder, and the units as systemd reads them.
 
-installs() { "$contrib/install" --destdir "$PWD/machine" --program "$rooms" "$@" </dev/null >"$work/out" 2>"$work/err"; status=$?; }
+installs() {
+  "$contrib/install" --destdir "$PWD/machine" --program "$rooms" "$@" </dev/null >"$work/out" 2>"$work/err"
+  status=$?
+}
 tree() { (cd machine && find . -exec ls -ld --time-style=full-iso {} + && find . -type f -exec cksum {} +) 2>/dev/null; }
 installs --dry-run
 says 'what would be done' 0 'would: file /usr/local/bin/rooms'
@@ -8,7 +11,8 @@ holds 'is not done' is_missing machine
 installs
 says 'an install' 0 'file /etc/systemd/system/rooms-nightly.timer'
 for file in /usr/local/bin/rooms /usr/local/sbin/rooms-nightly /usr/local/sbin/rooms-restore /usr/local/lib/rooms/upkeep.sh \
-  /etc/rooms/rooms.conf /etc/systemd/system/rooms.service /usr/share/doc/rooms/operating.md /etc/nginx/sites-enabled/rooms; do
+  /etc/rooms/rooms.conf /etc/systemd/system/rooms.service /usr/share/doc/rooms/operating.md /etc/nginx/sites-enabled/rooms \
+  /etc/nginx/sites-available/rooms-tls /etc/nginx/snippets/rooms-http.conf /etc/nginx/snippets/rooms-server.conf; do
   holds "$file is there" [ -s "machine$file" ]
 done
 holds 'nobody else reads the passwords' [ -n "$(find machine/etc/nginx/rooms.htpasswd -perm 600)" ]
@@ -47,6 +51,146 @@ says 'an unknown word' 2 'bad words'
 : >a-file
 installs --destdir "$PWD/a-file"
 says 'a folder that can not be made' 1 "can't be made"
+# Whether the sites are those of Debian's nginx: the file of its package, and what links to it.
+site() { readlink machine/etc/nginx/sites-enabled/rooms; }
+default=machine/etc/nginx/sites-available/default
+enabled=machine/etc/nginx/sites-enabled/default
+rm machine/etc/nginx/sites-enabled/rooms
+installs
+holds 'the plain site is enabled' [ "$(site)" = ../sites-available/rooms ]
+if has dpkg-query && has md5sum; then
+  mkdir -p machine/var/lib/dpkg machine/var/www/html
+  : >machine/var/www/html/index.nginx-debian.html
+  echo 'server { listen 80 default_server; }' >"$default"
+  {
+    printf '%s\n' 'Package: nginx-common' 'Status: install ok installed' 'Maintainer: nobody' 'Architecture: all'
+    printf '%s\n' 'Version: 1.22.1-9' 'Description: small' 'Conffiles:'
+    echo ' /etc/nginx/nginx.conf 0123456789abcdef0123456789abcdef'
+    echo " /etc/nginx/sites-available/default $(md5sum <"$default" | cut -d ' ' -f 1)"
+  } >machine/var/lib/dpkg/status
+  keeps() { # NAME
+    installs
+    says "$1" 0 'kept /etc/nginx/sites-enabled/default'
+    holds "$1: it is there" is_there "$enabled"
+    says "$1: nothing else" 0 'nothing to change'
+  }
+  ln -s /etc/nginx/sites-available/default "$enabled"
+  echo '# mine' >>"$default"
+  # The link names a file of the machine, as in the package.
+  keeps 'a default site that was changed'
+  sed -i '$d' "$default"
+  echo mine >machine/var/www/html/index.html
+  keeps 'a default site with other pages'
+  rm machine/var/www/html/index.html
+  installs --dry-run
+  says 'the packaged default site' 0 'would: link /etc/nginx/sites-enabled/default taken away'
+  installs
+  says 'the packaged default site' 0 'link /etc/nginx/sites-enabled/default taken away'
+  holds 'is no longer enabled' is_missing "$enabled"
+  holds 'its file stays' is_there "$default"
+  installs
+  says 'and nothing after that' 0 'nothing to change'
+  cp "$default" "$enabled"
+  keeps 'a default site that is no link'
+  rm "$enabled" machine/var/lib/dpkg/status
+  ln -s ../sites-available/default "$enabled"
+  keeps 'a default site of no package'
+  rm "$enabled"
+else
+  skip "Debian's default site" 'dpkg-query or md5sum is missing'
+fi
+
+# A certificate: what is refused changes nothing.
+if has openssl; then
+  new_key() { # NAME ARGUMENT ..
+    openssl req -newkey ec -pkeyopt ec_paramgen_curve:P-256 -noenc -subj "/CN=$1" -keyout "$1.key" \
+      "${@:2}" 2>/dev/null
+  }
+  new_key one -x509 -out one.pem
+  new_key two -x509 -out two.pem
+  openssl x509 -in one.pem -outform DER -out one.der
+  openssl pkey -in one.key -aes256 -passout pass:secret -out locked.key
+  new_key old -out old.csr
+  openssl x509 -req -in old.csr -signkey old.key -days -1 -out old.pem 2>/dev/null
+  echo '# mine' >mine.pem
+  cp one.pem 'one;.pem'
+  tree >before
+  refuses_tls() { # NAME TEXT ARGUMENT ..
+    installs --tls "${@:3}"
+    says "$1" 2 "$2"
+    tree >after
+    same "$1: nothing is changed" after before
+  }
+  refuses_tls 'no words' 'bad words'
+  refuses_tls 'no key' 'bad words' one.pem
+  refuses_tls 'a missing certificate' "none.pem doesn't exist" none.pem one.key
+  refuses_tls 'a missing key' "none.key doesn't exist" one.pem none.key
+  refuses_tls 'a folder' 'no file' one.pem machine
+  refuses_tls 'another key' 'no pair' one.pem two.key
+  refuses_tls 'a text' 'no certificate' mine.pem one.key
+  refuses_tls 'a text as key' 'no key' one.pem mine.pem
+  refuses_tls 'the two the other way round' 'no certificate' one.key one.pem
+  refuses_tls 'a certificate that is no text' 'no certificate' one.der one.key
+  refuses_tls 'a key with a passphrase' 'no key' one.pem locked.key
+  refuses_tls 'a certificate that has expired' 'expired' old.pem old.key
+  refuses_tls "a name that nginx's file can't hold" 'bad name' 'one;.pem' one.key
+  if [ "$(id -u)" != 0 ]; then
+    chmod 0 one.key
+    refuses_tls 'a key that can not be read' "can't be read" one.pem one.key
+    chmod 600 one.key
+  else
+    skip 'a key that can not be read' 'root reads every file'
+  fi
+  installs --tls one.pem one.key --dry-run
+  says 'TLS would be' 0 'would: link /etc/nginx/sites-enabled/rooms to ../sites-available/rooms-tls'
+  tree >after
+  same 'TLS would be, and is not yet' after before
+  installs --tls one.pem one.key
+  says 'TLS' 0 'link /etc/nginx/sites-enabled/rooms to ../sites-available/rooms-tls'
+  holds 'TLS is enabled' [ "$(site)" = ../sites-available/rooms-tls ]
+  holds 'by this certificate' grep -qxF "ssl_certificate $PWD/one.pem;" machine/etc/nginx/snippets/rooms-tls.conf
+  holds 'and this key' grep -qxF "ssl_certificate_key $PWD/one.key;" machine/etc/nginx/snippets/rooms-tls.conf
+  tree >before
+  for again in '' '--tls one.pem one.key'; do
+    # shellcheck disable=SC2086
+    installs $again
+    says "TLS again, $again" 0 'nothing to change'
+    tree >after
+    same "TLS again, $again: nothing is changed" after before
+  done
+  chmod 644 two.key
+  installs --tls two.pem two.key
+  says 'another certificate' 0 'new /etc/nginx/snippets/rooms-tls.conf'
+  says 'whose key all can read' 0 "chmod 600 $PWD/two.key"
+  holds 'is used' grep -qxF "ssl_certificate $PWD/two.pem;" machine/etc/nginx/snippets/rooms-tls.conf
+  rm machine/etc/nginx/sites-enabled/rooms
+  echo '# mine' >machine/etc/nginx/sites-enabled/rooms
+  tree >before
+  refuses_tls 'a site of another kind' 'another site' one.pem one.key
+  rm machine/etc/nginx/sites-enabled/rooms
+  installs --tls one.pem one.key
+else
+  skip 'a certificate' 'openssl is missing'
+fi
+
+# nginx takes what was installed. To look at its files it opens their ports, as root.
+nginx=$(command -v nginx || ls /usr/sbin/nginx 2>/dev/null)
+if [ -n "$nginx" ] && [ "$(id -u)" = 0 ] && has openssl; then
+  mkdir machine/t
+  {
+    echo "pid $PWD/nginx.pid; error_log $PWD/error.log; events { } http { include sites-enabled/*; access_log off;"
+    for body in client_body proxy fastcgi uwsgi scgi; do echo "${body}_temp_path $PWD/machine/t/$body;"; done
+    echo '}'
+  } >machine/etc/nginx/nginx.conf
+  for name in rooms-tls rooms; do
+    ln -sfn "../sites-available/$name" machine/etc/nginx/sites-enabled/rooms
+    "$nginx" -t -q -c "$PWD/machine/etc/nginx/nginx.conf" >said 2>&1
+    holds "nginx takes the site $name: $(head -c 300 said)" [ $? = 0 ]
+  done
+else
+  skip 'nginx takes the sites' 'nginx, openssl or root is missing'
+fi
+
 if [ "$(id -u)" != 0 ] || has setpriv; then
   chmod 755 "$work" .
   as_nobody() { if [ "$(id -u)" = 0 ]; then setpriv --reuid=65534 --regid=65534 --clear-groups "$@"; else "$@"; fi; }
