@@ -26,7 +26,7 @@ write_front() { # SITE
   echo "access_log $PWD/access.log short; client_body_temp_path $PWD/t1; proxy_temp_path $PWD/t2;"
   echo "fastcgi_temp_path $PWD/t3; uwsgi_temp_path $PWD/t4; scgi_temp_path $PWD/t5;"
   for_here "$1"
-  echo '}'
+  echo 'include sites-enabled/*; }'
 }
 
 # Starts nginx with contrib's nginx.conf, or with nginx-tls.conf for 'tls', whose certificate and
@@ -40,7 +40,7 @@ start_front() { # NAME [tls]
   base=http://127.0.0.1:$front
   chmod 755 "$work" .
   chmod 644 passwords
-  mkdir -p snippets
+  mkdir -p snippets sites-enabled
   rm -f nginx.pid
   for part in http server; do for_here "nginx-$part.conf" >"snippets/rooms-$part.conf"; done
   echo "ssl_certificate $PWD/rooms.pem; ssl_certificate_key $PWD/rooms.key;" >snippets/rooms-tls.conf
@@ -53,6 +53,15 @@ start_front() { # NAME [tls]
     skip "$1" "nginx does not start: $(head -c 300 nginx.out error.log 2>/dev/null)"
     return 1
   fi
+}
+
+# The Nth block of commands below a heading of operating.md, with its files in this folder.
+page_block() { # HEADING N
+  awk -v heading="## $1" -v number="$2" '
+    /^## / { on = $0 == heading }
+    /^```/ { inside = $0 == "```sh"; if (on && inside) block++; next }
+    on && inside && block == number' "$here/../docs/operating.md" |
+    sed -E "s#/(root|etc/ssl/private|etc/ssl|etc/nginx)/#$PWD/#g; s#rooms.htpasswd#passwords#"
 }
 
 # What curl is given to reach $base.

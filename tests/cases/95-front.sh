@@ -162,6 +162,17 @@ ask 'a document with the longest path' 201 '' alice:a "/doc$path/$name" -X PUT -
 ask 'is read' 200 deep bob:b "/doc$path/$name"
 ask 'a longer path' 400 '{"why":"bad-target P2"}' bob:b "/doc$path/$name%78"
 
+# A program's user, by the commands of operating.md.
+if has htpasswd && has openssl; then
+  page_block 'What passwords cost' 1 >archive
+  token=$(bash -eu archive 2>/dev/null)
+  answer "archive:$token" /me
+  holds "a program's user" grep -qx $'Room-User: archive\r' "$work/head"
+  ask 'with another password' 401 - archive:x /me
+else
+  skip "a program's user" 'htpasswd or openssl is missing'
+fi
+
 if has_six; then
   base=http://[::1]:$front
   ask 'no password over IPv6' 401 - '' /doc/deep
@@ -171,6 +182,25 @@ if has_six; then
 else
   skip 'nginx over IPv6' 'this machine has no loopback for IPv6'
 fi
+
+ask 'a document for later' 204 '' alice:a /doc/f -X PUT --data-binary kept
+
+# A second room's site, by the commands of operating.md. No room listens at its port.
+mkdir sites-available
+for_here nginx.conf >sites-available/rooms
+page_block "When one process isn't enough" 1 | sed -e "s#8780/8781#$port/1#" -e 's#cd .*#cd sites-available#' -e '/nginx -t/d' >second
+bash -eu second
+kill -HUP "$proxy"
+reach=(-H 'Host: invoices.example')
+began=$SECONDS
+second() { [ "$(curl -s -o "$work/body" -w '%{http_code}' "${reach[@]}" -u bob:b "$base/doc/f")" = 502 ]; }
+until second || [ $((SECONDS - began)) -ge "$patience" ]; do sleep 0.1; done
+ask 'the second room' 502 - bob:b /doc/f
+ask 'the second room, without a password' 401 - '' /doc/f
+reach=(-H 'Host: rooms.example')
+ask 'the first room beside it' 200 - bob:b /doc/f
+reach=()
+rm sites-enabled/invoices
 
 stop_server
 ask 'no server behind it' 502 - bob:b /doc/f
@@ -185,15 +215,7 @@ if ! has openssl; then
   return
 fi
 
-# The Nth block of commands under TLS in operating.md, with its files in this folder.
-tls_block() { # N
-  awk -v number="$1" '
-    /^## / { on = $0 == "## TLS" }
-    /^```/ { inside = $0 == "```sh"; if (on && inside) block++; next }
-    on && inside && block == number' "$here/../docs/operating.md" |
-    sed -e "s|/root/|$PWD/|g" -e "s|/etc/ssl/private/|$PWD/|g" -e "s|/etc/ssl/|$PWD/|g"
-}
-for n in 3 4 5; do tls_block "$n"; done >certify
+for n in 3 4 5; do page_block TLS "$n"; done >certify
 if ! bash -eu certify >certify.out 2>&1; then
   fail 'a certificate' "it can't be made: $(tail -c 400 certify.out)"
   return
@@ -231,7 +253,7 @@ base=https://rooms.example:$secure
 reach=(--resolve "rooms.example:$secure:127.0.0.1" --cacert "$authority.pem")
 ask 'no password with TLS' 401 - '' /doc/f
 ask 'a wrong password with TLS' 401 - alice:x /doc/f
-ask 'what was sent to port 80 is not there' 200 "$(cat passwords)"$'\n' bob:b /doc/f
+ask 'what was sent to port 80 is not there' 200 kept bob:b /doc/f
 ask 'alice makes a document with TLS' 201 '' alice:a /doc/tls -X PUT --data-binary hello
 ask 'bob reads it with TLS' 200 hello bob:b /doc/tls
 ask 'bob is not root with TLS' 403 '{"at":"/tls","bits":"w","entry":null,"text":null}' bob:b /doc/tls -X PUT --data-binary x -H 'Room-User: root'
@@ -260,8 +282,8 @@ holds 'older versions of TLS are refused' [ $? = 35 ]
 serial() { openssl s_client -connect "127.0.0.1:$secure" -servername rooms.example </dev/null 2>/dev/null | openssl x509 -noout -serial; }
 serial >before
 {
-  tls_block 3 | head -n 1
-  tls_block 5
+  page_block TLS 3 | head -n 1
+  page_block TLS 5
 } >renew
 bash -eu renew >certify.out 2>&1
 kill -HUP "$proxy"

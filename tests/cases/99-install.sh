@@ -134,6 +134,14 @@ if has openssl; then
   refuses_tls 'a key with a passphrase' 'no key' one.pem locked.key
   refuses_tls 'a certificate that has expired' 'expired' old.pem old.key
   refuses_tls "a name that nginx's file can't hold" 'bad name' 'one;.pem' one.key
+  if [ "$(id -u)" = 0 ] && has nginx; then
+    openssl req -newkey rsa:1024 -noenc -subj /CN=weak -keyout weak.key -x509 -out weak.pem 2>/dev/null
+    { cat one.pem; sed '3d' two.pem; } >chain.pem
+    refuses_tls 'a key that is too short for nginx' 'no pair for nginx' weak.pem weak.key
+    refuses_tls 'a chain with a fault' 'no pair for nginx' chain.pem one.key
+  else
+    skip 'what nginx says of a pair' 'nginx or root is missing'
+  fi
   if [ "$(id -u)" != 0 ]; then
     chmod 0 one.key
     refuses_tls 'a key that can not be read' "can't be read" one.pem one.key
