@@ -82,7 +82,6 @@ gives 'the members' 0 'groups 2, members 4\n' '' groups room/office.rooms member
 set_list room/office.rooms / dacl list:a "A:fd:alice:$ALL" A:fdg:staff:rwaxtc A::AUTHENTICATED@:xt
 : >passwords
 bin/systemctl start rooms || { fail 'what is pasted' "no server: $(cat err)"; return; }
-stop_pasted() { bin/systemctl stop rooms; }
 answers 'a folder' ' 201' alice POST /folder/letters
 answers 'a document of bob' ' 201' bob PUT /doc/letters/reply 'Dear Sir'
 answers 'a folder for others' ' 201' alice POST /folder/projects
@@ -92,7 +91,7 @@ answers 'an entry that names bob' ' 204' alice PUT /dacl/projects/bridge $'list:
 paste_in "$(blocks people.md 'htpasswd -B /etc/nginx/rooms.htpasswd dana')
 $(blocks people.md sales,dana)"
 prints 'somebody joins' 'groups 2, members 5'
-stop_pasted
+bin/systemctl stop rooms
 gives 'she is in her group' 0 'group,user\nsales,bob\nsales,carol\nsales,dana\nstaff,a.bob\nstaff,bob\n' '' groups-out room/office.rooms
 bin/systemctl start rooms
 if has htpasswd; then holds 'and has a password' grep -q '^dana:' passwords; fi
@@ -101,7 +100,7 @@ paste_in "$(blocks people.md 'htpasswd -B /etc/nginx/rooms.htpasswd eve')
 $(blocks people.md 'A::eve:x')
 $(blocks people.md 'can/projects/bridge')
 $(blocks people.md '18:00')"
-prints 'somebody from outside' '{"r":"allowed 3","w":"silent","x":"allowed 3"}'
+prints 'somebody from outside' 204 204 '{"r":"allowed 3","w":"silent","x":"allowed 3"}'
 answers 'she sees her folder' '[] 200' eve GET /folder/projects/bridge
 answers 'but not the one above' '{"at":"/projects","bits":"r","entry":null,"text":null} 403' eve GET /folder/projects
 answers 'nor any other' '{"at":"/letters","bits":"r","entry":null,"text":null} 403' eve GET /folder/letters
@@ -112,16 +111,17 @@ paste_in "htpasswd -B $PWD/passwords bob; : >asked
 $(blocks people.md 'htpasswd -D /etc/nginx/rooms.htpasswd bob')"
 prints 'somebody leaves' 'groups 2, members 3' 'document bob staff 8 /letters/reply' 'folder alice staff /projects/bridge' 'A:fd:bob:r'
 if has htpasswd; then holds 'he has no password' [ "$(grep -c '^bob:' passwords)" = 0 ]; fi
-stop_pasted
+bin/systemctl stop rooms
 gives 'and is in no group' 0 'group,user\nsales,carol\nsales,dana\nstaff,a.bob\n' '' groups-out room/office.rooms
 bin/systemctl start rooms
 paste_in "$(blocks people.md '/attr/letters/reply')"
-prints 'another owner' ''
+prints 'another owner' 204
 answers 'who it is' '{"group":"staff","kind":"document","owner":"alice"} 200' alice GET /attr/letters/reply
 if has htpasswd; then
   paste_in "$(blocks people.md 'tr -dc')"
   holds 'a new password is printed' [ "$(wc -c <"$work/out")" = 17 ]
-  holds 'and counts' htpasswd -vb passwords bob "$(cat "$work/out")"
+  htpasswd -vb passwords bob "$(cat "$work/out")" >said 2>&1
+  holds 'and counts' grep -q correct said
 fi
 
 paste_in "$(blocks capacity.md 'can/?')"
