@@ -4,7 +4,8 @@ import * as api from './api.js';
 import { changedLines } from './diff.js';
 import { button, element } from './dom.js';
 import { linesOf, readEntry } from './list.js';
-import { showDialog, waitFor } from './notice.js';
+import { question, showDialog, waitFor } from './notice.js';
+import { judged } from './warnings.js';
 import { entryWords } from './words.js';
 
 const SIGNS = { '+': ['ins', 'New: '], '-': ['del', 'Gone: '] };
@@ -21,8 +22,12 @@ export function difference(before, after) {
   return element('ul', { class: 'difference' }, changes.map(changedLine));
 }
 
-const review = (before, after) => showDialog('Send these changes?', (finish) => [
+const warning = ({ kind, text }) => element('li', { class: kind }, text);
+
+const review = (before, after, passage) => showDialog('Send these changes?', (finish) => [
   difference(before, after),
+  passage.length === 0 ? ''
+    : element('ul', { class: 'warnings', 'aria-label': 'Mind this' }, passage.map(warning)),
   element('div', { class: 'actions' },
     button('Cancel', () => finish(null)),
     button('Send', () => finish('send'), { class: 'primary', autofocus: true }))]);
@@ -36,6 +41,10 @@ const changedElsewhere = (before, now) => showDialog('The list was changed elsew
     button('Take the list as it is', () => finish('theirs')),
     button('Go on with mine', () => finish('mine')))]);
 
+// Nobody gives a list away by a few quick clicks.
+const accepts = (loss) => loss === null
+  || question(loss.title, loss.text, [['send', 'Send it all the same', 'danger']]);
+
 // 'sent'; 'dropped' if the user took the room's list; or null if nothing was done.
 export async function sendList(draft) {
   for (;;) {
@@ -47,7 +56,8 @@ export async function sendList(draft) {
       if (answer === 'theirs') return 'dropped';
     }
     if (!draft.isChanged) return 'dropped';
-    if (!(await review(now, draft.text))) return null;
+    const { loss, passage } = await waitFor(judged(draft, now));
+    if (!(await review(now, draft.text, passage)) || !(await accepts(loss))) return null;
     // The user may take a while to review the changes.
     if (await waitFor(api.readList(draft.which, draft.path)) === now) break;
   }

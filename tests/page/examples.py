@@ -46,4 +46,8 @@ def of_docs(docs):
               re.findall(r'^\| (nothing|`[^`]* /`.*?|`list: a /`) \| line (\d+), (A\d+)', rules, re.M)]
     long = re.search(r'So this text\n\n(.*?)\n\nis read, and printed as\n\n(.*?)\n\n', rules, re.S)
     printed = [re.sub(r'^ {4}', '', one, flags=re.M) + '\n' for one in long.groups()]
-    return {'texts': texts, 'entries': entries, 'faults': faults, 'printed': printed}
+    below = re.search(r'^\| the parent\'s entry \|.*\n\|.*\n((?:\|.*\n)+)', rules, re.M)[1]
+    passed = [[cell.strip(' `') for cell in line.strip('|').split('|')]
+              for line in below.splitlines()]
+    return {'texts': texts, 'entries': entries, 'faults': faults, 'printed': printed,
+            'passed': passed}

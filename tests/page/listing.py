@@ -116,7 +116,13 @@ class Lists:
         alice.says('clerks')
         assert '"group":"clerks"' in self.ask('GET', '/attr/letters')
 
-    def list_tests(self):
-        with open(f'{HERE}/lists.js', encoding='utf-8') as file:
+    def script_tests(self, name):
+        with open(f'{HERE}/{name}', encoding='utf-8') as file:
             told = self.alice.driver.execute_async_script(file.read(), examples.of_docs(self.docs))
         assert told == [], told
+
+    def list_tests(self):
+        self.script_tests('lists.js')
+
+    def judging_tests(self):
+        self.script_tests('judging.js')

@@ -17,9 +17,10 @@ from documents import Documents
 from listing import Lists
 from prompts import cancel_prompts
 from readers import Readers
+from warned import Warned
 
 
-class Office(Documents, Readers, Lists):
+class Office(Documents, Readers, Lists, Warned):
     def __init__(self, folder, front, log, server, proxy, docs, pictures):
         self.folder, self.log, self.docs, self.pictures = folder, log, docs, pictures
         self.server, self.proxy = int(server), int(proxy)
@@ -135,7 +136,13 @@ PLAY = [
     ('a list that was changed elsewhere', Office.changed_elsewhere),
     ('unsent changes stay', Office.unsent),
     ('owner and group', Office.owners),
+    ('three clicks that lock alice out', Office.locked_out),
+    ('a list with groups only', Office.groups_only),
+    ('a list that alice keeps', Office.no_question),
+    ('somebody is added who is not let pass', Office.not_let_pass),
+    ('what the page cannot know', Office.not_known),
     ('list.js, by the examples of docs', Office.list_tests),
+    ('what lists would grant, by the rules of docs', Office.judging_tests),
     ('it fits a phone', Office.fits_a_phone),
     ('all has names', Office.labels),
     ('it follows the dark setting', Office.dark),

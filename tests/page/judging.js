@@ -1,0 +1,161 @@
+// The tests of contrib/page/judge.js and of its sentences, run in a browser that shows the page.
+// 'examples' come from the pages of docs: {passed: [[PARENT'S ENTRY, FOLDER'S, DOCUMENT'S]]}. All
+// other answers follow from the rules of docs/access-lists.md, where nothing is known about groups.
+const [examples, finish] = arguments;
+
+const modules = ['/list.js', '/judge.js', '/warnings.js'].map((name) => import(name));
+Promise.all(modules).then(([lists, judging, warnings]) => {
+  const { readListText, readEntry, printEntry, printList } = lists;
+  const { ANYBODY, added, afterSending, grantsNobody, hindrance, judge, keepsRight } = judging;
+  const { membersOf, oneUser, passedDown } = judging;
+  const told = [];
+  const equal = (name, got, wanted) => {
+    const [one, other] = [got, wanted].map((each) => JSON.stringify(each));
+    if (one !== other) told.push(`${name}: ${one}, not ${other}`);
+  };
+  const has = (name, text, ...words) => {
+    const plain = text?.replace(/[\u2068\u2069]/g, '');
+    if (!words.every((word) => plain?.includes(word))) told.push(`${name}: ${text}`);
+  };
+  const list = (first, ...entries) => readListText([first, ...entries, ''].join('\n')).list;
+  const [alice, carol] = [oneUser('alice'), oneUser('carol')];
+  const ofAlice = { owner: 'alice', group: 'office' };
+  const unknown = { owner: null, group: null };
+
+  // The example of deciding, for callers whose groups aren't known.
+  const shown = list('list:a', 'A::OWNER@:rwtcCo', 'D:g:guests:w', 'A:g:sales:rwt',
+    'A:I:EVERYONE@:r').entries;
+  const ofRoot = { owner: 'root', group: 'staff' };
+  for (const [caller, letter, answer] of [
+    [oneUser('root'), 'r', 'yes'], [oneUser('root'), 'w', 'yes'], [oneUser('root'), 'x', 'no'],
+    [alice, 'r', 'yes'], [alice, 'w', 'perhaps'], [alice, 'a', 'no'], [alice, 't', 'perhaps'],
+    [membersOf('sales'), 't', 'yes'], [membersOf('sales'), 'w', 'perhaps'],
+    [membersOf('guests'), 'w', 'no'],
+    [ANYBODY, 'r', 'yes'], [ANYBODY, 'C', 'no'],
+  ]) {
+    const found = judge(shown, letter, caller, ofRoot);
+    equal(`deciding ${JSON.stringify(caller)} ${letter}`, found.answer, answer);
+  }
+  const { depends } = judge(shown, 'w', alice, ofRoot);
+  equal('on what it depends', depends, ['the group guests', 'the group sales']);
+
+  for (const [parent, folder, file] of examples.passed) {
+    for (const [kind, wanted] of [['folder', folder], ['document', file]]) {
+      const down = passedDown([readEntry(parent).entry], kind).map(printEntry).join();
+      equal(`${parent} to a ${kind}`, down, wanted);
+    }
+  }
+
+  // May alice still change the list? At the top of the room only what is sent decides.
+  const before = list('list:a', 'A::alice:rC');
+  const keepsUnder = (above, sent, object, was, kind) =>
+    keepsRight('C', was, afterSending(sent, was, above, kind), alice, object).answer;
+  const keeps = (sent, object = ofAlice, was = before) =>
+    keepsUnder(null, sent, object, was, 'folder');
+  for (const [wanted, ...entries] of [
+    ['no'], ['no', 'A:fd:carol:rxtc'], ['no', 'A::bob:C'], ['no', 'A::ANONYMOUS@:C'],
+    ['no', 'U:S:alice:C'],
+    ['yes', 'A::alice:C'], ['yes', 'A::OWNER@:C'], ['yes', 'A::EVERYONE@:C'],
+    ['yes', 'A::AUTHENTICATED@:C'],
+    ['no', 'A:fdi:alice:C'], ['no', 'A::alice:rwaxDdtco'], ['no', 'A:g:alice:r'],
+    ['perhaps', 'A:g:staff:C'], ['perhaps', 'A:g:alice:C'], ['perhaps', 'A::GROUP@:C'],
+    ['perhaps', 'A:g:staff:C', 'A:g:sales:C'],
+    ['no', 'D::alice:C', 'A::alice:C'], ['no', 'D::EVERYONE@:C', 'A::alice:C'],
+    ['no', 'D::OWNER@:C', 'A:g:staff:C'],
+    ['perhaps', 'D:g:staff:C', 'A::alice:C'], ['perhaps', 'D::GROUP@:C', 'A::OWNER@:C'],
+    ['yes', 'A::alice:C', 'D:g:staff:C'], ['yes', 'D:i:EVERYONE@:C', 'A::alice:C'],
+    ['yes', 'D::EVERYONE@:w', 'A::alice:C'], ['yes', 'A:g:staff:C', 'D:g:staff:C', 'A::alice:C'],
+    ['perhaps', 'A:g:staff:C', 'D:g:sales:C', 'A::alice:C'],
+    ['yes', 'D::ANONYMOUS@:C', 'D::bob:C', 'A::EVERYONE@:C'],
+  ]) equal(`keeps ${entries}`, keeps(list('list:ap', ...entries)), wanted);
+  equal('of an owner who is not known', keeps(list('list:ap', 'A::OWNER@:C'), unknown), 'perhaps');
+  const ofBob = { owner: 'bob', group: 'office' };
+  equal('of another owner', keeps(list('list:ap', 'A::OWNER@:C'), ofBob), 'no');
+  const byGroup = list('list:a', 'A:g:staff:rC');
+  const asBefore = list('list:ap', 'A::carol:r', 'A:fdg:staff:C');
+  equal('by a group, as before', keeps(asBefore, ofAlice, byGroup), 'yes');
+  const behind = list('list:ap', 'D:g:sales:C', 'A:g:staff:C');
+  equal('by a group, behind another', keeps(behind, ofAlice, byGroup), 'perhaps');
+
+  // What is inherited counts where the list stays linked.
+  const grey = list('list:a', 'A:fdI:alice:C');
+  const above = list('list:a', 'A:fd:alice:C');
+  const newOne = ['A:fd:carol:rxtc'];
+  for (const [name, sent, from, wanted] of [
+    ['linked', list('list:a', ...newOne), above, 'yes'],
+    ['nothing is passed down', list('list:a', ...newOne), list('list:a', 'A::alice:C'), 'no'],
+    ['inherited, denied above', list('list:a', 'D::alice:C', 'A:fdI:alice:C'), above, 'no'],
+    ['protected with the grey entries', list('list:ap', ...newOne, 'A:fdI:alice:C'), above, 'yes'],
+    ['protected without them', list('list:ap', ...newOne), above, 'no'],
+    ['under a list without a', list('list:a', ...newOne), list('list:', 'A:fd:alice:C'), 'no'],
+    ['not read, and it stays', list('list:a', ...newOne, 'A:fdI:alice:C'), undefined, 'yes'],
+    ['not read, and grey ones are gone', list('list:a', ...newOne), undefined, 'perhaps'],
+    ['not read, but an own entry grants', list('list:a', 'A::alice:C'), undefined, 'yes'],
+    ['not read, but an own entry denies', list('list:a', 'D::alice:C'), undefined, 'no'],
+  ]) equal(name, keepsUnder(from, sent, ofAlice, grey, 'folder'), wanted);
+  const cut = list('list:ap', 'A::alice:C');
+  const again = keepsUnder(undefined, list('list:a'), ofAlice, cut, 'folder');
+  equal('linked again to what is not read', again, 'perhaps');
+  equal('a document', keepsUnder(above, list('list:'), ofAlice, grey, 'document'), 'yes');
+  const foldersOnly = list('list:a', 'A:d:alice:C');
+  const passedOn = keepsUnder(foldersOnly, list('list:'), ofAlice, grey, 'document');
+  equal('for folders only', passedOn, 'no');
+
+  const nobody = (...entries) => grantsNobody(list('list:ap', ...entries).entries, 'C');
+  equal('nobody', nobody('A::alice:r', 'A:fi:alice:C'), true);
+  equal('nobody, since denied', nobody('D::EVERYONE@:C', 'A::alice:C'), true);
+  equal('somebody', nobody('D::alice:C', 'A::bob:C'), false);
+
+  const loss = (...entries) => {
+    const after = afterSending(list('list:ap', ...entries), before, null, 'folder');
+    return warnings.lossOf('C', before, after, 'alice', ofAlice);
+  };
+  equal('nothing is lost', loss('A::alice:C'), null);
+  has('locked out', loss('A:fd:carol:rxtc').title, 'After this you may no longer change this list');
+  has('locked out, nobody', loss('A:fd:carol:rxtc').text, 'anybody', 'only the administrator');
+  has('locked out, others', loss('A::bob:C').text, 'No entry of it lets you change it');
+  has('locked out, denied', loss('D::alice:C', 'A::alice:C').text, 'D::alice:C');
+  has('groups only', loss('A:g:staff:C').title, 'perhaps may no longer change this list');
+  has('which groups', loss('A:g:staff:C').text, 'the group staff', 'doesn’t know who is in');
+
+  // Who is added, and whether they get here.
+  const names = (sent, was) => added(sent, was).map((entry) => entry.who);
+  const withBoth = list('list:a', 'A::alice:r', 'A::carol:r', 'A:g:carol:r', 'A::carol:w',
+    'D::dave:r', 'A::erin:');
+  equal('added', names(withBoth, before), ['carol', 'carol']);
+  const forCarol = list('list:a', 'A::carol:r');
+  equal('known by a grey entry', names(forCarol, list('list:a', 'A:I:carol:w')), []);
+  equal('only denied before', names(forCarol, list('list:a', 'D::carol:w')), ['carol']);
+  const folder = (path, ...entries) => ({ path, list: list('list:a', ...entries), object: ofRoot });
+  const top = folder('/', 'A::AUTHENTICATED@:x');
+  const closed = folder('/personnel', 'A:fd:alice:rx');
+  const way = (folders, caller) => {
+    const found = hindrance(folders, caller);
+    return found && [found.path, found.answer];
+  };
+  equal('let pass', way([top, folder('/a', 'A::carol:x')], carol), null);
+  equal('not let pass', way([top, closed], carol), ['/personnel', 'no']);
+  equal('by a group', way([folder('/', 'A:g:staff:x')], carol), ['/', 'perhaps']);
+  equal('the group itself', way([folder('/', 'A:g:staff:x')], membersOf('staff')), null);
+  const unread = { path: '/a', list: null, object: unknown };
+  equal('not read', way([top, unread], carol), ['/a', 'unread']);
+  equal('not read, and closed', way([top, unread, closed], carol), ['/personnel', 'no']);
+  equal('a list without entries', way([folder('/')], carol), ['/', 'no']);
+  const passage = (entry, ...folders) => {
+    const sent = list('list:a', entry);
+    return warnings.passageOf(sent, before, sent, 'folder', ofAlice, folders);
+  };
+  equal('a sentence for none', passage('A:fd:carol:rx', top), []);
+  const staffPass = folder('/', 'A:g:staff:x');
+  has('the sentence', passage('A:fd:carol:rx', top, closed)[0].text,
+    'carol can’t get here: “/personnel” doesn’t let carol pass through (x)');
+  has('for a group', passage('A:fdg:staff:rx', closed)[0].text, 'The group staff can’t get here');
+  has('for everyone', passage('A:fd:EVERYONE@:rx', staffPass)[0].text,
+    'Not everyone can get here: the top of the room');
+  has('perhaps', passage('A:fd:carol:rx', staffPass)[0].text, 'isn’t known', 'the group staff');
+  has('not read', passage('A:fd:carol:rx', unread)[0].text, 'you may not read the list of “/a”');
+  has('below', passage('A:fd:carol:r', top)[0].text, 'what is in this folder', 'through (x)');
+  equal('only here', passage('A::carol:r', top), []);
+  equal('printed', printList(list('list:a')), 'list:a\n');
+  finish(told);
+}).catch((fault) => finish([String(fault)]));
