@@ -5,7 +5,9 @@ import { button, element, icon, nameText } from './dom.js';
 import { linkTo } from './links.js';
 import { askMove } from './move.js';
 import { form, question, tell, tellFault, waitFor } from './notice.js';
-import { acceptDrops, uploadAll } from './upload.js';
+import { acceptDrops } from './drop.js';
+import { treeOfFiles } from './tree.js';
+import { uploadAll } from './upload.js';
 import { isolated, nameFault, placeWords } from './words.js';
 
 const reading = new Intl.Collator(undefined, { numeric: true });
@@ -16,7 +18,8 @@ export function sorted(children) {
     || reading.compare(one.name, other.name) || (one.name < other.name ? -1 : 1));
 }
 
-// Fetches the bytes first and then hands them to the browser, so that a denial can be shown as a sentence.
+// Fetches the bytes first and then hands them to the browser, so that a denial can be shown as a
+// sentence.
 async function download(path) {
   const bytes = await waitFor(api.read(path));
   const address = URL.createObjectURL(bytes);
@@ -75,7 +78,7 @@ function row(child, folder, refresh) {
   const path = api.join(folder, child.name);
   const act = (words, does, look) => button(words,
     () => doing(does, refresh), { class: `small ${look}`, 'aria-label': `${words}: ${child.name}` });
-  return element('tr', {},
+  return element('tr', { 'data-kind': child.kind, 'data-path': path },
     element('td', { class: 'what' }, mainOf(child, path, refresh)),
     element('td', { class: 'kind' }, child.kind === 'folder' ? 'Folder' : 'Document'),
     element('td', { class: 'acts' },
@@ -98,17 +101,27 @@ function table(children, folder, refresh) {
 }
 
 function bar(path, refresh, send) {
-  const files = element('input', { type: 'file', multiple: true, hidden: true, 'aria-label': 'Documents to upload' });
-  files.addEventListener('change', () => {
-    send([...files.files]);
-    files.value = '';
-  });
+  const field = (label, properties, take) => {
+    const input = element('input', {
+      type: 'file', hidden: true, 'aria-label': label, ...properties,
+    });
+    input.addEventListener('change', () => {
+      if (input.files.length > 0) take([...input.files]);
+      input.value = '';
+    });
+    return input;
+  };
+  const files = field('Documents to upload', { multiple: true, class: 'files' },
+    (all) => send(all, [], path));
+  const whole = field('Folder to upload', { webkitdirectory: true, class: 'whole' },
+    (all) => send([], [treeOfFiles(all)], path));
   return element('div', { class: 'bar' },
     element('h1', {}, path === '/' ? 'All documents' : nameText(api.nameOf(path))),
     element('div', { class: 'actions' },
       button([icon('upload'), 'Upload'], () => files.click(), { class: 'primary' }),
+      button([icon('upload'), 'Upload a folder'], () => whole.click()),
       button([icon('plus'), 'New folder'], () => doing(() => makeFolder(path), refresh)),
-      element('a', { class: 'button', href: linkTo(path, 'rights') }, icon('key'), 'Access')), files);
+      element('a', { class: 'button', href: linkTo(path, 'rights') }, icon('key'), 'Access')), files, whole);
 }
 
 // Shows the folder in 'box', as long as 'isCurrent()'.
@@ -128,13 +141,13 @@ export async function showFolder(path, box, isCurrent) {
       tellFault(fault);
     }
   };
-  const send = async (files) => {
-    await uploadAll(files, path);
+  const send = async (files, trees, folder) => {
+    await uploadAll(files, trees, folder);
     if (isCurrent()) await refresh();
   };
   const area = element('section', { class: 'folder-view', 'aria-label': 'Folder' },
     bar(path, refresh, send), body);
-  acceptDrops(area, send);
+  acceptDrops(area, path, send);
   box.replaceChildren(area);
   await refresh();
 }

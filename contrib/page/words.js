@@ -3,7 +3,8 @@
 import { isGroup, isInherited, readEntry } from './list.js';
 import { GREATEST_DOCUMENT, namesOf } from './api.js';
 
-// The rights in the groups in which the page shows them. 'idle' ones are kept, but no request asks for them.
+// The rights in the groups in which the page shows them. 'idle' ones are kept, but no request asks
+// for them.
 export const GROUPS = [
   { name: 'Read', letters: 'rxtc', idle: 'n' },
   { name: 'Write', letters: 'waDd', idle: 'NT' },
@@ -37,6 +38,8 @@ export function listed(words) {
   if (words.length < 2) return words.join('');
   return `${words.slice(0, -1).join(', ')} and ${words.at(-1)}`;
 }
+
+export const counted = (count, word) => `${count.toLocaleString('en')} ${word}${count === 1 ? '' : 's'}`;
 
 // Rights that no request asks for are named only if there are no others.
 export function maskWords(mask, kind) {

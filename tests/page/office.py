@@ -14,13 +14,14 @@ import urllib.request
 
 from browser import Browser, Checks
 from documents import Documents
+from dropping import Dropping
 from listing import Lists
 from prompts import cancel_prompts
 from readers import Readers
 from warned import Warned
 
 
-class Office(Documents, Readers, Lists, Warned):
+class Office(Documents, Dropping, Readers, Lists, Warned):
     def __init__(self, folder, front, log, server, proxy, docs, pictures):
         self.folder, self.log, self.docs, self.pictures = folder, log, docs, pictures
         self.server, self.proxy = int(server), int(proxy)
@@ -122,6 +123,12 @@ PLAY = [
     ('a strange name is removed', Office.remove_strange),
     ('a folder that is not empty', Office.not_empty),
     ('by keyboard alone', Office.keyboard),
+    ('dropped on a folder', Office.drop_on_folder),
+    ('dropped beside the rows', Office.drop_beside),
+    ('dropped on a document', Office.drop_on_document),
+    ('a folder dropped on a document', Office.folder_on_document),
+    ('a whole folder is dropped', Office.drop_whole_folder),
+    ('a whole folder by the button', Office.whole_folder_by_field),
     ('bob is told what he lacks', Office.denied),
     ('alice gives staff access by the table', Office.give_access),
     ('bob reads', Office.reads),
