@@ -1,14 +1,13 @@
 // The requests of docs/http.md and their replies, as promises. Nothing here draws the page.
 
 export const GREATEST_DOCUMENT = 1048576;
-export const ALL_RIGHTS = 'rwanNxDtThHdcCoy';
 
-// A reply that isn't 2xx. Status 0 is no reply at all. 'body' is the reply's JSON, or null.
+// A reply that isn't 2xx. Status 0 is no reply at all. 'body' is the reply's JSON, or null, and
+// 'asked' says what was asked for: {method, word, path}.
 export class Refusal extends Error {
-  constructor(status, body) {
+  constructor(status, body, asked) {
     super(`status ${status}`);
-    this.status = status;
-    this.body = body;
+    Object.assign(this, { status, body, asked });
   }
 }
 
@@ -41,15 +40,17 @@ function jsonOrNull(text) {
   }
 }
 
-async function ask(method, where, body) {
+async function ask(method, word, path, body, query = '') {
+  const asked = { method, word, path };
+  const where = word === 'me' ? '/me' : target(word, path) + query;
   let reply;
   try {
     reply = await fetch(where, { method, body, cache: 'no-store' });
   } catch {
-    throw new Refusal(0, null);
+    throw new Refusal(0, null, asked);
   }
   if (!reply.ok) {
-    throw new Refusal(reply.status, jsonOrNull(await reply.text().catch(() => '')));
+    throw new Refusal(reply.status, jsonOrNull(await reply.text().catch(() => '')), asked);
   }
   return reply;
 }
@@ -58,37 +59,39 @@ async function take(reply, form) {
   try {
     return await (await reply)[form]();
   } catch (fault) {
-    throw fault instanceof Refusal ? fault : new Refusal(0, null);
+    throw fault instanceof Refusal ? fault : new Refusal(0, null, null);
   }
 }
 
 export async function whoAmI() {
-  const reply = await ask('GET', '/me');
+  const reply = await ask('GET', 'me', '/');
   return reply.headers.get('Room-User') ?? '';
 }
 
-export const read = (path) => take(ask('GET', target('doc', path)), 'blob');
-export const append = (path, bytes) => ask('POST', target('doc', path), bytes);
-export const list = (path) => take(ask('GET', target('folder', path)), 'json');
-export const makeFolder = (path) => ask('POST', target('folder', path));
-export const remove = (path) => ask('DELETE', target('object', path));
-export const move = (path, to) => ask('POST', target('move', path), JSON.stringify({ to }));
-export const readList = (which, path) => take(ask('GET', target(which, path)), 'text');
-export const setList = (which, path, text) => ask('PUT', target(which, path), text);
-export const readAttributes = (path) => take(ask('GET', target('attr', path)), 'json');
+export const read = (path) => take(ask('GET', 'doc', path), 'blob');
+export const append = (path, bytes) => ask('POST', 'doc', path, bytes);
+export const list = (path) => take(ask('GET', 'folder', path), 'json');
+export const makeFolder = (path) => ask('POST', 'folder', path);
+export const remove = (path) => ask('DELETE', 'object', path);
+export const move = (path, to) => ask('POST', 'move', path, JSON.stringify({ to }));
+export const readList = (which, path) => take(ask('GET', which, path), 'text');
+export const setList = (which, path, text) => ask('PUT', which, path, text);
+export const readAttributes = (path) => take(ask('GET', 'attr', path), 'json');
 export const setOwners = (path, owner, group) =>
-  ask('PUT', target('attr', path), JSON.stringify({ group, owner }));
+  ask('PUT', 'attr', path, JSON.stringify({ group, owner }));
 
-// The ruling of each letter: {r: {ruling: 'allowed', place: 2}, w: {ruling: 'silent', place: null}}.
+// The ruling of each letter: {r: {ruling: 'allowed', place: 2}, w: {ruling: 'silent', place:
+// null}}.
 export async function can(path, letters) {
-  const rulings = await take(ask('GET', `${target('can', path)}?${letters}`), 'json');
+  const rulings = await take(ask('GET', 'can', path, undefined, `?${letters}`), 'json');
   return Object.fromEntries(Object.entries(rulings).map(([letter, text]) => {
     const [ruling, place] = text.split(' ');
     return [letter, { ruling, place: place === undefined ? null : Number(place) }];
   }));
 }
 
-// Asking for no rights shows whether something exists, if the caller may pass through the folders above.
+// Asking for no rights shows whether something exists, if the caller may pass through the folders
+// above.
 export async function isThere(path) {
   try {
     await can(path, '');
@@ -103,13 +106,14 @@ export async function isThere(path) {
 export function put(path, bytes, onProgress = () => {}) {
   return new Promise((resolve, reject) => {
     const asking = new XMLHttpRequest();
+    const asked = { method: 'PUT', word: 'doc', path };
     asking.open('PUT', target('doc', path));
     asking.upload.onprogress = (event) => onProgress(event.loaded, event.total);
-    asking.onerror = () => reject(new Refusal(0, null));
+    asking.onerror = () => reject(new Refusal(0, null, asked));
     asking.onabort = asking.onerror;
     asking.onload = () => {
       if (asking.status >= 200 && asking.status < 300) resolve(asking.status === 201);
-      else reject(new Refusal(asking.status, jsonOrNull(asking.responseText)));
+      else reject(new Refusal(asking.status, jsonOrNull(asking.responseText), asked));
     };
     asking.send(bytes);
   });

@@ -1,7 +1,8 @@
 // The page: who is signed in, which place is open, and what is shown there.
 
+import { copyLink, download, look } from './acts.js';
 import * as api from './api.js';
-import { element, icon, nameText } from './dom.js';
+import { button, element, icon, nameText } from './dom.js';
 import { hasUnsent } from './draft.js';
 import { showFolder } from './folder.js';
 import { linkTo, pathLinks, whereIs } from './links.js';
@@ -22,10 +23,16 @@ function objectHead(path, view, kind) {
     href: linkTo(path, word), 'aria-current': word === view ? 'page' : null,
   }, words));
   const back = linkTo(kind === 'folder' ? path : api.parentOf(path));
+  const act = (words, does, style) =>
+    button(words, () => does().catch(tellFault), { class: style });
+  const ofDocument = kind === 'folder' ? [] : [
+    act('Download', () => download([{ path, kind }]), 'primary'), act('Preview', () => look(path)),
+  ];
   return [
     element('div', { class: 'bar' }, element('h1', {}, icon(kind), name),
-      element('div', { class: 'actions' }, element('a', { class: 'button', href: back },
-        kind === 'folder' ? 'Open the folder' : 'Back to the folder'))),
+      element('div', { class: 'actions' }, ofDocument, act('Copy link', () => copyLink(path)),
+        element('a', { class: 'button', href: back },
+          kind === 'folder' ? 'Open the folder' : 'Back to the folder'))),
     element('nav', { class: 'views', 'aria-label': 'Access' }, links),
   ];
 }

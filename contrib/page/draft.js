@@ -1,4 +1,5 @@
-// A list that is being edited. Its text and its entries are kept equal, whichever of the two is edited.
+// A list that is being edited. Its text and its entries are kept equal, whichever of the two is
+// edited.
 
 import { isInherited, lineOfEntry, printList, readListText } from './list.js';
 

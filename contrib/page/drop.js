@@ -16,7 +16,8 @@ function taken(transfer) {
 }
 
 // The row under the pointer. Some browsers name the text there.
-const rowOf = ({ target }) => (target.closest ? target : target.parentElement).closest('[data-kind]');
+const rowOf = ({ target }) =>
+  (target.closest ? target : target.parentElement).closest('[data-kind]');
 
 // Where it goes: the path of a folder, or null.
 async function placeFor(dropped, row, open) {

@@ -1,153 +1,194 @@
-// A folder: what is in it, and what can be done with it.
+// A folder: its contents, and what can be done with them.
 
+import * as acts from './acts.js';
 import * as api from './api.js';
+import { closedFolder } from './closed.js';
 import { button, element, icon, nameText } from './dom.js';
-import { linkTo } from './links.js';
-import { askMove } from './move.js';
-import { form, question, tell, tellFault, waitFor } from './notice.js';
 import { acceptDrops } from './drop.js';
+import { linkTo } from './links.js';
+import { tell, tellFault, waitFor } from './notice.js';
+import { chosenOf, drawRows, newLook } from './rows.js';
 import { treeOfFiles } from './tree.js';
 import { uploadAll } from './upload.js';
-import { isolated, nameFault, placeWords } from './words.js';
 
-const reading = new Intl.Collator(undefined, { numeric: true });
+const ASKED = 'rxwaDtcCo';
+const MAY_NOT = { w: 'You may not put documents here.', a: 'You may not make folders here.' };
 
-export function sorted(children) {
-  const rank = (child) => (child.kind === 'folder' ? 0 : 1);
-  return [...children].sort((one, other) => rank(one) - rank(other)
-    || reading.compare(one.name, other.name) || (one.name < other.name ? -1 : 1));
+function fileField(label, properties, take) {
+  const input = element('input', {
+    type: 'file', hidden: true, 'aria-label': label, ...properties,
+  });
+  input.addEventListener('change', () => {
+    if (input.files.length > 0) take([...input.files]);
+    input.value = '';
+  });
+  return input;
 }
 
-// Fetches the bytes first and then hands them to the browser, so that a denial can be shown as a
-// sentence.
-async function download(path) {
-  const bytes = await waitFor(api.read(path));
-  const address = URL.createObjectURL(bytes);
-  const link = element('a', { href: address, download: api.nameOf(path) });
-  document.body.append(link);
-  link.click();
-  link.remove();
-  setTimeout(() => URL.revokeObjectURL(address), 60000);
-}
-
-async function makeFolder(folder) {
-  const names = await form('New folder', [{ label: 'Name', fault: nameFault }], 'Make it');
-  if (!names) return false;
-  await waitFor(api.makeFolder(api.join(folder, names[0])));
-  tell('good', `The folder ${isolated(names[0])} was made.`);
-  return true;
-}
-
-async function remove(path, kind) {
-  const answer = await question(`Remove the ${kind}?`,
-    `${isolated(api.nameOf(path))} will be gone for everybody, and can’t be brought back.`,
-    [['remove', 'Remove it', 'danger']]);
-  if (!answer) return false;
-  await waitFor(api.remove(path));
-  tell('good', `${isolated(api.nameOf(path))} was removed.`);
-  return true;
-}
-
-async function move(path, kind) {
-  const to = await askMove(path, kind);
-  if (!to || to === path) return false;
-  await waitFor(api.move(path, to));
-  tell('good', `${isolated(api.nameOf(path))} is now ${placeWords(to)}.`);
-  return true;
-}
-
-// Does something, reports what went wrong, and shows the folder again if something changed.
-async function doing(act, refresh) {
-  try {
-    if (await act()) await refresh();
-  } catch (fault) {
-    tellFault(fault);
-    if (fault.status === 0 || fault.status === 404) await refresh();
-  }
-}
-
-function mainOf(child, path, refresh) {
-  const label = [icon(child.kind), nameText(child.name)];
-  if (child.kind === 'folder') return element('a', { class: 'object', href: linkTo(path) }, label);
-  return element('button', {
-    type: 'button', class: 'object', title: 'Download', onclick: () => doing(() => download(path), refresh),
-  }, label);
-}
-
-function row(child, folder, refresh) {
-  const path = api.join(folder, child.name);
-  const act = (words, does, look) => button(words,
-    () => doing(does, refresh), { class: `small ${look}`, 'aria-label': `${words}: ${child.name}` });
-  return element('tr', { 'data-kind': child.kind, 'data-path': path },
-    element('td', { class: 'what' }, mainOf(child, path, refresh)),
-    element('td', { class: 'kind' }, child.kind === 'folder' ? 'Folder' : 'Document'),
-    element('td', { class: 'acts' },
-      child.kind === 'document' ? act('Download', () => download(path), 'plain download') : null,
-      act('Rename or move', () => move(path, child.kind), 'plain'),
-      act('Remove', () => remove(path, child.kind), 'plain remove'),
-      element('a', { class: 'small button', href: linkTo(path, 'rights'), 'aria-label': `Access: ${child.name}` }, 'Access')));
-}
-
-function table(children, folder, refresh) {
-  if (children.length === 0) {
-    return element('p', { class: 'empty' }, 'Nothing is in this folder yet. Drop documents here, or use “Upload”.');
-  }
-  return element('table', { class: 'folder' },
-    element('caption', { class: 'unseen' }, 'What is in this folder'),
-    element('thead', {}, element('tr', {},
-      element('th', { scope: 'col' }, 'Name'), element('th', { scope: 'col' }, 'Kind'),
-      element('th', { scope: 'col' }, element('span', { class: 'unseen' }, 'What can be done')))),
-    element('tbody', {}, sorted(children).map((child) => row(child, folder, refresh))));
-}
-
-function bar(path, refresh, send) {
-  const field = (label, properties, take) => {
-    const input = element('input', {
-      type: 'file', hidden: true, 'aria-label': label, ...properties,
-    });
-    input.addEventListener('change', () => {
-      if (input.files.length > 0) take([...input.files]);
-      input.value = '';
-    });
-    return input;
-  };
-  const files = field('Documents to upload', { multiple: true, class: 'files' },
+// The buttons of the folder. What isn't granted is greyed out, and says so when it is pressed.
+function bar(path, send, make) {
+  const files = fileField('Documents to upload', { multiple: true, class: 'files' },
     (all) => send(all, [], path));
-  const whole = field('Folder to upload', { webkitdirectory: true, class: 'whole' },
+  const whole = fileField('Folder to upload', { webkitdirectory: true, class: 'whole' },
     (all) => send([], [treeOfFiles(all)], path));
-  return element('div', { class: 'bar' },
+  const needs = [];
+  const act = (letter, mark, words, does, look) => {
+    const made = button([icon(mark), words], () => {
+      if (made.getAttribute('aria-disabled') === 'true') tell('bad', MAY_NOT[letter]);
+      else does();
+    }, { class: look });
+    needs.push([letter, made]);
+    return made;
+  };
+  const shown = element('div', { class: 'bar' },
     element('h1', {}, path === '/' ? 'All documents' : nameText(api.nameOf(path))),
     element('div', { class: 'actions' },
-      button([icon('upload'), 'Upload'], () => files.click(), { class: 'primary' }),
-      button([icon('upload'), 'Upload a folder'], () => whole.click()),
-      button([icon('plus'), 'New folder'], () => doing(() => makeFolder(path), refresh)),
-      element('a', { class: 'button', href: linkTo(path, 'rights') }, icon('key'), 'Access')), files, whole);
+      act('w', 'upload', 'Upload', () => files.click(), 'primary'),
+      act('a', 'upload', 'Upload a folder', () => whole.click()),
+      act('a', 'plus', 'New folder', make),
+      element('a', { class: 'button', href: linkTo(path, 'rights') }, icon('key'), 'Access')),
+    files, whole);
+  const grant = (may) => {
+    for (const [letter, made] of needs) {
+      const lacks = may !== null && may[letter].ruling !== 'allowed';
+      made.setAttribute('aria-disabled', String(lacks));
+      if (lacks) made.title = MAY_NOT[letter];
+      else made.removeAttribute('title');
+    }
+  };
+  return { shown, grant };
+}
+
+// The filter, and what can be done with what is selected. Its place is kept when nothing is.
+function tools(look, does, redraw) {
+  const filter = element('input', {
+    type: 'search', 'aria-label': 'Filter by name', placeholder: 'Filter by name',
+    autocomplete: 'off', spellcheck: 'false',
+  });
+  filter.addEventListener('input', () => {
+    look.filter = filter.value;
+    redraw();
+  });
+  const told = element('span', { class: 'count', role: 'status' });
+  const group = { class: 'chosen', role: 'group', 'aria-label': 'What is selected' };
+  const chosen = element('div', group, told,
+    button('Download', () => does('download'), { class: 'small' }),
+    button('Move', () => does('move'), { class: 'small' }),
+    button('Remove', () => does('remove'), { class: 'small' }));
+  const tell = () => {
+    const count = chosenOf(look).length;
+    told.textContent = count === 0 ? '' : `${count} selected`;
+    chosen.classList.toggle('none', count === 0);
+  };
+  const shown = element('div', { class: 'tools' }, filter, chosen);
+  return { shown, tell };
+}
+
+// Where the focus is in the rows: {name, act, index}, or null.
+function placeIn(body) {
+  const row = document.activeElement?.closest?.('tr[data-path]');
+  if (!row || !body.contains(row)) return null;
+  const { act } = document.activeElement.dataset;
+  return { name: api.nameOf(row.dataset.path), act, index: row.rowIndex - 1 };
+}
+
+// The control that gets the focus after the rows were drawn anew.
+function controlAt(table, { name, act, index = 0 }) {
+  const rows = [...table.tBodies[0].rows];
+  const row = rows.find((one) => api.nameOf(one.dataset.path) === name)
+    ?? rows[Math.min(index, rows.length - 1)];
+  return row.querySelector(`[data-act="${act}"]`) ?? row.querySelector('[data-act="open"]');
+}
+
+class FolderView {
+  constructor(path, box, isCurrent) {
+    Object.assign(this, { path, box, isCurrent, look: newLook() });
+    this.body = element('div', { class: 'sheet' });
+    const send = async (files, trees, folder) => {
+      await uploadAll(files, trees, folder);
+      if (isCurrent()) await this.refresh();
+    };
+    this.bar = bar(path, send, () => this.doing(() => acts.makeFolder(path)));
+    this.tools = tools(this.look, (what) => this.withChosen(what), () => this.draw());
+    this.area = element('section', { class: 'folder-view', 'aria-label': 'Folder' },
+      this.bar.shown, this.tools.shown, this.body);
+    acceptDrops(this.area, path, send);
+  }
+
+  objects(children) {
+    return children.map(({ name, kind }) => ({ kind, path: api.join(this.path, name) }));
+  }
+
+  acts() {
+    const path = (child) => api.join(this.path, child.name);
+    return {
+      download: (children) => this.doing(() => acts.download(this.objects(children), this.path)),
+      preview: (child) => this.doing(() => acts.look(path(child))),
+      move: (child) => this.doing(() => acts.move(path(child), child.kind)),
+      remove: (children) => this.doing(() => acts.remove(this.objects(children))),
+      copy: (child) => this.doing(() => acts.copyLink(path(child))),
+    };
+  }
+
+  withChosen(what) {
+    const objects = this.objects(chosenOf(this.look));
+    const does = { move: acts.moveAll, remove: acts.remove, download: acts.download }[what];
+    return this.doing(() => does(objects, this.path));
+  }
+
+  // Does something, tells what went wrong, and shows the folder again if something changed.
+  async doing(act) {
+    const place = placeIn(this.body);
+    try {
+      const focus = await act();
+      if (focus) await this.refresh({ ...place, ...focus });
+    } catch (fault) {
+      tellFault(fault);
+      if (fault.status === 0 || fault.status === 404) await this.refresh(place);
+    }
+  }
+
+  draw(focus = null) {
+    drawRows(this.body, this.path, this.look, this.acts(), () => this.tools.tell(),
+      focus && ((table) => controlAt(table, focus)));
+  }
+
+  // 'focus' is where the focus was, or the name of what gets it.
+  async refresh(focus = placeIn(this.body)) {
+    const may = api.can(this.path, ASKED).catch(() => null);
+    try {
+      const children = await waitFor(api.list(this.path));
+      this.bar.grant(await may);
+      if (!this.isCurrent()) return;
+      this.look.children = children;
+      const names = new Set(children.map(({ name }) => name));
+      this.look.chosen = new Set([...this.look.chosen].filter((name) => names.has(name)));
+      this.tools.shown.hidden = children.length === 0;
+      this.draw(focus);
+      // The button that had the focus may be gone.
+      if (document.activeElement === document.body) this.box.focus({ preventScroll: true });
+    } catch (fault) {
+      this.fail(fault, await may);
+    }
+  }
+
+  fail(fault, may) {
+    if (!this.isCurrent()) return;
+    this.bar.grant(may);
+    this.tools.shown.hidden = true;
+    if (fault.body?.why === 'wrong-kind') location.replace(linkTo(this.path, 'rights'));
+    else if (fault.status === 403) this.body.replaceChildren(closedFolder(fault, may));
+    else {
+      const words = 'What is in this folder can’t be shown.';
+      this.body.replaceChildren(element('p', { class: 'empty' }, words));
+      tellFault(fault);
+    }
+  }
 }
 
 // Shows the folder in 'box', as long as 'isCurrent()'.
 export async function showFolder(path, box, isCurrent) {
-  const body = element('div', { class: 'sheet' });
-  const refresh = async () => {
-    try {
-      const children = await waitFor(api.list(path));
-      if (!isCurrent()) return;
-      body.replaceChildren(table(children, path, refresh));
-      // The button that had the focus may be gone.
-      if (document.activeElement === document.body) box.focus({ preventScroll: true });
-    } catch (fault) {
-      if (!isCurrent()) return;
-      if (fault.body?.why === 'wrong-kind') location.replace(linkTo(path, 'rights'));
-      body.replaceChildren(element('p', { class: 'empty' }, 'What is in this folder can’t be shown.'));
-      tellFault(fault);
-    }
-  };
-  const send = async (files, trees, folder) => {
-    await uploadAll(files, trees, folder);
-    if (isCurrent()) await refresh();
-  };
-  const area = element('section', { class: 'folder-view', 'aria-label': 'Folder' },
-    bar(path, refresh, send), body);
-  acceptDrops(area, path, send);
-  box.replaceChildren(area);
-  await refresh();
+  const view = new FolderView(path, box, isCurrent);
+  box.replaceChildren(view.area);
+  await view.refresh(null);
 }

@@ -1,12 +1,13 @@
-// Asks where an object is to go, and under which name.
+// Asks where objects are to go, and under which name.
 
 import * as api from './api.js';
 import { button, element, icon, nameText } from './dom.js';
 import { form, waitFor } from './notice.js';
-import { sorted } from './folder.js';
+import { sorted } from './sorting.js';
 import { nameFault, sentenceOf } from './words.js';
 
-// Goes from folder to folder. 'chosen.path' is the one that is looked at.
+// Goes from folder to folder. 'chosen.path' is the one that is looked at, and 'moved' aren't
+// offered.
 function chooser(chosen, moved) {
   const where = element('p', { class: 'where', 'aria-live': 'polite' });
   const folders = element('ul', { class: 'chooser', 'aria-label': 'Folders' });
@@ -17,10 +18,12 @@ function chooser(chosen, moved) {
     where.replaceChildren('In ', path === '/' ? 'the top of the room' : nameText(path));
     const above = path === '/' ? [] : [line('up', 'The folder above', api.parentOf(path))];
     try {
-      const children = sorted(await waitFor(api.list(path))).filter((child) => child.kind === 'folder');
+      const children = sorted(await waitFor(api.list(path)));
       if (chosen.path !== path) return;
-      const inside = children.map((child) => api.join(path, child.name)).filter((one) => one !== moved);
-      folders.replaceChildren(...above, ...inside.map((one) => line('folder', nameText(api.nameOf(one)), one)));
+      const inside = children.filter((child) => child.kind === 'folder')
+        .map((child) => api.join(path, child.name)).filter((one) => !moved.includes(one));
+      folders.replaceChildren(...above,
+        ...inside.map((one) => line('folder', nameText(api.nameOf(one)), one)));
     } catch (fault) {
       folders.replaceChildren(...above, element('li', { class: 'hint' }, sentenceOf(fault)));
     }
@@ -32,7 +35,17 @@ function chooser(chosen, moved) {
 // Returns the new path, or null.
 export async function askMove(path, kind) {
   const chosen = { path: api.parentOf(path) };
-  const names = await form(`Rename or move the ${kind}`,
-    [{ label: 'Name', value: api.nameOf(path), fault: nameFault }], 'Move it', chooser(chosen, path));
+  const name = { label: 'Name', value: api.nameOf(path), fault: nameFault };
+  const names = await form(`Rename or move the ${kind}`, [name], 'Move it',
+    chooser(chosen, [path]));
   return names && api.join(chosen.path, names[0]);
+}
+
+// Returns the folder for several objects, or null.
+export async function askPlace(objects) {
+  const paths = objects.map(({ path }) => path);
+  const chosen = { path: api.parentOf(paths[0]) };
+  const given = await form(`Move ${objects.length} objects`, [], 'Move them here',
+    chooser(chosen, paths));
+  return given && chosen.path;
 }

@@ -1,4 +1,4 @@
-// Messages at the top of the page, and questions in a dialog.
+// Messages at a fixed place, and questions in a dialog.
 
 import { button, element, field, icon } from './dom.js';
 import { sentenceOf } from './words.js';
@@ -30,11 +30,11 @@ export function clearNotices() {
 }
 
 // Shows a dialog. Returns what 'finish' was called with, or null if the dialog was closed.
-export function showDialog(title, build) {
+export function showDialog(title, build, look = null) {
   return new Promise((resolve) => {
     let answer = null;
     const heading = element('h2', { id: 'dialog-title' }, title);
-    const dialog = element('dialog', { 'aria-labelledby': 'dialog-title' });
+    const dialog = element('dialog', { 'aria-labelledby': 'dialog-title', class: look });
     const finish = (value) => {
       answer = value;
       dialog.close();
@@ -46,6 +46,9 @@ export function showDialog(title, build) {
     });
     document.body.append(dialog);
     dialog.showModal();
+    // What is in the first field is there to be changed.
+    const first = document.activeElement;
+    if (first.matches('dialog input[type="text"]')) first.select();
   });
 }
 
@@ -59,7 +62,8 @@ export function question(title, text, answers) {
   ]);
 }
 
-// A form of text fields: [{label, value, hint, fault: text => sentence or null}]. Returns the values, or null.
+// A form of text fields: [{label, value, hint, fault: text => sentence or null}]. Returns the
+// values, or null.
 export function form(title, fields, submit, ...more) {
   return showDialog(title, (finish) => {
     const inputs = fields.map((one) => element('input', {

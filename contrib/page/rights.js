@@ -28,7 +28,7 @@ function reason(ruling, entries, where = '') {
 
 // The rule of deleting: the object's list and its folder's list decide together.
 function removal(own, above, entries, folder) {
-  const there = ` of the folder ${placeWords(folder)}`;
+  const there = ` of the list of ${placeWords(folder)}`;
   if (own.ruling === 'allowed') return { may: true, why: reason(own, entries) };
   if (above.D.ruling === 'allowed') return { may: true, why: reason(above.D, [], there) };
   if (own.ruling === 'denied') return { may: false, why: reason(own, entries) };
@@ -36,7 +36,8 @@ function removal(own, above, entries, folder) {
   const denied = [above.D, above.w].find((one) => one.ruling === 'denied');
   if (denied) return { may: false, why: reason(denied, [], there) };
   if (above.w.ruling === 'allowed') {
-    return { may: true, why: `Nothing says otherwise, and you may put documents into the folder ${placeWords(folder)}.` };
+    const why = `Nothing says otherwise, and you may put documents into ${placeWords(folder)}.`;
+    return { may: true, why };
   }
   return { may: false, why: 'No entry here or at the folder above grants it.' };
 }
@@ -97,7 +98,8 @@ function ownersBox(path, attributes, refresh) {
     button('Change', () => changeOwners(path, attributes, refresh), { class: 'small', 'aria-label': 'Change owner and group' }));
 }
 
-// Whether the object is a folder: by its attributes, by the listing of its parent, or by its own listing.
+// Whether the object is a folder: by its attributes, by the listing of its parent, or by its own
+// listing.
 export async function kindOf(path) {
   if (path === '/') return 'folder';
   const attributes = await api.readAttributes(path).catch(none);

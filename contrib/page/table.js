@@ -73,12 +73,13 @@ function flags(draft, redraw) {
     }, { class: 'small' }) : null);
 }
 
-function headings(draft) {
-  const names = ['No.', 'Type', 'Who', draft.which === 'sacl' ? 'Records' : null, 'Rights',
-    draft.kind === 'folder' ? 'Where it counts' : null].filter((name) => name !== null);
-  const order = draft.mayChange
-    ? [element('th', { scope: 'col' }, element('span', { class: 'unseen' }, 'Order and removal'))] : [];
-  return [...names.map((name) => element('th', { scope: 'col' }, name)), ...order];
+// The columns: the name that its width goes by, and its heading.
+function columnsOf(draft) {
+  const order = element('span', { class: 'unseen' }, 'Order and removal');
+  return [['number', 'No.'], ['type', 'Type'], ['who', 'Who'],
+    draft.which === 'sacl' ? ['outcome', 'Records'] : null, ['rights', 'Rights'],
+    draft.kind === 'folder' ? ['reach', 'Where it counts'] : null,
+    draft.mayChange ? ['order', order] : null].filter((column) => column !== null);
 }
 
 function rows(draft, columns, redraw) {
@@ -99,16 +100,19 @@ export function drawTable(draft, body, focusOn = null) {
     return;
   }
   const redraw = (pick) => drawTable(draft, body, pick);
-  const top = headings(draft);
+  const columns = columnsOf(draft);
   const add = button([icon('plus'), 'Add an entry'], () => {
     const place = draft.add(newEntry(draft.which, draft.kind));
     redraw(() => body.querySelector(`[data-place="${place}"] .who input`));
   }, { class: 'add' });
   const content = draft.list.entries.length === 0
     ? element('p', { class: 'empty' }, 'The list has no entries.')
-    : element('table', { class: 'entries' },
+    : element('table', { class: `entries ${draft.which}` },
       element('caption', { class: 'unseen' }, 'Entries in order. The first one that applies to a caller and has a right decides it.'),
-      element('thead', {}, element('tr', {}, top)), element('tbody', {}, rows(draft, top.length, redraw)));
+      element('colgroup', {}, columns.map(([name]) => element('col', { class: `col-${name}` }))),
+      element('thead', {}, element('tr', {},
+        columns.map(([, heading]) => element('th', { scope: 'col' }, heading)))),
+      element('tbody', {}, rows(draft, columns.length, redraw)));
   body.replaceChildren(flags(draft, redraw), content, ...(draft.mayChange ? [add] : []));
   focusOn?.(body, add)?.focus();
 }

@@ -77,10 +77,11 @@ async function listAt(path) {
 
 const attributesAt = (path) => api.readAttributes(path).catch(() => UNKNOWN);
 
-async function foldersAbove(path) {
+// The folders on the way, from the top down, or only the last of them.
+async function foldersAbove(path, whole) {
   const names = api.namesOf(path);
   const paths = names.map((_, index) => `/${names.slice(0, index).join('/')}`);
-  return Promise.all(paths.map(async (each) => {
+  return Promise.all(paths.slice(whole ? 0 : -1).map(async (each) => {
     const [list, object] = await Promise.all([listAt(each), attributesAt(each)]);
     return { path: each, list, object };
   }));
@@ -94,7 +95,8 @@ export async function judged(draft, now) {
   // What can't be read is refused by the room, and the list of records decides nothing.
   if (!before || !sent || draft.which !== 'dacl') return { loss: null, passage: [] };
   const [me, object, folders] = await Promise.all([
-    api.whoAmI().catch(() => ''), attributesAt(draft.path), foldersAbove(draft.path)]);
+    api.whoAmI().catch(() => ''), attributesAt(draft.path),
+    foldersAbove(draft.path, added(sent, before).length > 0)]);
   const above = draft.path === '/' ? null : folders.at(-1).list ?? undefined;
   const after = afterSending(sent, before, above, draft.kind);
   return {

@@ -39,7 +39,8 @@ export function listed(words) {
   return `${words.slice(0, -1).join(', ')} and ${words.at(-1)}`;
 }
 
-export const counted = (count, word) => `${count.toLocaleString('en')} ${word}${count === 1 ? '' : 's'}`;
+export const counted = (count, word) =>
+  `${count.toLocaleString('en')} ${word}${count === 1 ? '' : 's'}`;
 
 // Rights that no request asks for are named only if there are no others.
 export function maskWords(mask, kind) {
@@ -64,7 +65,9 @@ const SPECIAL_WORDS = {
 };
 
 export function whoWords(entry) {
-  return SPECIAL_WORDS[entry.who] ?? `${isGroup(entry) ? 'the group' : 'the user'} ${entry.who}`;
+  // Somebody may be called 'constructor'.
+  if (Object.hasOwn(SPECIAL_WORDS, entry.who)) return SPECIAL_WORDS[entry.who];
+  return `${isGroup(entry) ? 'the group' : 'the user'} ${entry.who}`;
 }
 
 // Where an entry counts, by its flags f, d, n, i, in the order in which they are offered.
@@ -148,15 +151,30 @@ function badRequest(body) {
   return `The room couldn’t read the request${why ? ` (${why})` : ''}. Load the page again.`;
 }
 
-// Which right is missing, where, and what says so.
-export function denialSentence(denial) {
+// The kind of the object at which a request was denied, as far as the request tells it.
+function kindAt(denial, asked) {
+  if (/[xD]/.test(denial.bits) || asked?.word === 'folder') return 'folder';
+  if (asked?.word === 'doc') return denial.at === asked.path ? 'document' : 'folder';
+  return /[wa]/.test(denial.bits) && asked?.word === 'move' ? 'folder' : 'both';
+}
+
+function mayNotWords(denial, asked) {
+  // Where no entry says who may remove something, the right to put documents beside it decides.
+  const isRemoval = asked?.word === 'object' && denial.bits === 'w';
+  if (isRemoval) return 'remove what is in it, nor put documents here';
+  const kind = kindAt(denial, asked);
+  const here = kind === 'folder' ? { w: 'put documents here', a: 'make folders here' } : {};
+  return [...denial.bits].map((letter) => here[letter] ?? rightWords(letter, kind)).join(' or ');
+}
+
+// What I may not do, where, and what says so. 'asked' is the request.
+export function denialSentence(denial, asked) {
   if (!denial?.bits) return 'The front end refused this, as if another site had asked for it. Load the page again.';
-  const where = placeWords(denial.at);
-  const right = [...denial.bits].length > 1 ? 'rights' : 'right';
   const said = denial.entry === null
     ? 'No entry of its access list grants that.'
     : `Entry ${denial.entry} of its access list denies it: it ${entryWords(denial.text)} (${isolated(denial.text)}).`;
-  return `At ${where} you lack the ${right} to ${maskWords(denial.bits)}. ${said} Ask whoever manages it.`;
+  const what = mayNotWords(denial, asked);
+  return `At ${placeWords(denial.at)} you may not ${what}. ${said} Ask whoever manages it.`;
 }
 
 const SENTENCES = {
@@ -179,7 +197,7 @@ export function sentenceOf(fault) {
   if (status === undefined) return `The page itself failed: ${fault.message}. Load it again.`;
   const at = body?.at ? placeWords(body.at) : 'that place';
   if (status === 400) return badRequest(body);
-  if (status === 403) return denialSentence(body);
+  if (status === 403) return denialSentence(body, fault.asked);
   if (status === 404) return `There is nothing at ${at}. It may have been removed, renamed or moved: load its folder again.`;
   if (status === 409) return CONFLICTS[body?.why]?.(at) ?? 'What is there doesn’t fit. Load the folder again.';
   if (status === 413) return tooLarge(body?.at ? at : 'This');

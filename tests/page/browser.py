@@ -93,7 +93,13 @@ class Browser:
 
     def press(self, words, within='body'):
         # A list may be drawn anew after the button is found and before it is clicked.
-        self.until(lambda: self.button(words, within).click() or True, words)
+        self.until(lambda: self.click(self.button(words, within)), words)
+
+    def click(self, control):
+        """Away from the head, which stays at the top of the window."""
+        self.script("arguments[0].scrollIntoView({ block: 'nearest' })", control)
+        control.click()
+        return True
 
     def write(self, css, text):
         field = self.one(css)
@@ -136,7 +142,7 @@ class Browser:
     def unnamed(self):
         """What can be reached by keyboard and has no name that a screen reader tells."""
         seen = self.script("""return [...document.querySelectorAll('a, button, input, select, textarea, summary')]
-            .filter((each) => each.checkVisibility())""")
+            .filter((each) => each.checkVisibility({ checkVisibilityCSS: true }))""")
         return [each.get_attribute('outerHTML') for each in seen if not each.accessible_name.strip()]
 
     def is_wider(self):

@@ -110,11 +110,22 @@ class Documents:
         alice.says(STRANGE + '2', 'was removed')
         alice.lists('letters')
 
-    def not_empty(self):
+    def full_folder(self):
+        """It is removed with what is in it, after a question that counts this."""
         alice = self.alice
         alice.press('Remove: letters')
+        alice.says('letters and what is in it, 4 documents, will be gone', css='dialog')
+        alice.press('Cancel', 'dialog')
+        for path in ('/full', '/full/a', '/full/a/b', '/full/c'):
+            self.ask('POST', f'/folder{path}')
+        for path in ('/full/one', '/full/a/b/two'):
+            self.ask('PUT', f'/doc{path}', b'x')
+        alice.open('')
+        alice.press('Remove: full')
+        alice.says('full and what is in it, 2 documents and 3 folders, will be gone', css='dialog')
         alice.press('Remove it', 'dialog')
-        alice.says('letters', 'isn’t empty', 'Remove or move')
+        alice.says('full was removed')
+        alice.lists('letters')
 
     def keyboard(self):
         alice = self.alice

@@ -6,9 +6,9 @@ import os
 class Dropping:
     def drag(self, kind, css, *paths):
         """Drags files of this machine over the middle of an element, or drops them there."""
-        place = self.alice.one(css).rect
+        box = self.alice.one(css).rect
         self.alice.driver.execute_cdp_cmd('Input.dispatchDragEvent', {
-            'type': kind, 'x': place['x'] + place['width'] / 2, 'y': place['y'] + place['height'] / 2,
+            'type': kind, 'x': box['x'] + box['width'] / 2, 'y': box['y'] + box['height'] / 2,
             'data': {'items': [], 'files': list(paths), 'dragOperationsMask': 1}})
 
     def drop_on(self, css, *paths):
@@ -75,7 +75,8 @@ class Dropping:
     def folder_on_document(self):
         alice = self.alice
         before = self.names_in('/drops')
-        self.drop_on('[data-path="/drops/note.txt"]', self.whole_folder(), self.file('more.txt', b''))
+        paths = self.whole_folder(), self.file('more.txt', b'')
+        self.drop_on('[data-path="/drops/note.txt"]', *paths)
         alice.says('A folder can’t be put into a document', 'note.txt', 'Drop it on a folder')
         assert not alice.all('dialog') and self.names_in('/drops') == before
 

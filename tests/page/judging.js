@@ -3,9 +3,10 @@
 // other answers follow from the rules of docs/access-lists.md, where nothing is known about groups.
 const [examples, finish] = arguments;
 
-const modules = ['/list.js', '/judge.js', '/warnings.js'].map((name) => import(name));
-Promise.all(modules).then(([lists, judging, warnings]) => {
-  const { readListText, readEntry, printEntry, printList } = lists;
+const names = ['/list.js', '/judge.js', '/warnings.js', '/words.js'];
+const modules = names.map((name) => import(name));
+Promise.all(modules).then(([lists, judging, warnings, words]) => {
+  const { readListText, readEntry, printEntry } = lists;
   const { ANYBODY, added, afterSending, grantsNobody, hindrance, judge, keepsRight } = judging;
   const { membersOf, oneUser, passedDown } = judging;
   const told = [];
@@ -13,9 +14,9 @@ Promise.all(modules).then(([lists, judging, warnings]) => {
     const [one, other] = [got, wanted].map((each) => JSON.stringify(each));
     if (one !== other) told.push(`${name}: ${one}, not ${other}`);
   };
-  const has = (name, text, ...words) => {
+  const has = (name, text, ...parts) => {
     const plain = text?.replace(/[\u2068\u2069]/g, '');
-    if (!words.every((word) => plain?.includes(word))) told.push(`${name}: ${text}`);
+    if (!parts.every((word) => plain?.includes(word))) told.push(`${name}: ${text}`);
   };
   const list = (first, ...entries) => readListText([first, ...entries, ''].join('\n')).list;
   const [alice, carol] = [oneUser('alice'), oneUser('carol')];
@@ -119,13 +120,13 @@ Promise.all(modules).then(([lists, judging, warnings]) => {
   has('which groups', loss('A:g:staff:C').text, 'the group staff', 'doesn’t know who is in');
 
   // Who is added, and whether they get here.
-  const names = (sent, was) => added(sent, was).map((entry) => entry.who);
+  const newIn = (sent, was) => added(sent, was).map((entry) => entry.who);
   const withBoth = list('list:a', 'A::alice:r', 'A::carol:r', 'A:g:carol:r', 'A::carol:w',
     'D::dave:r', 'A::erin:');
-  equal('added', names(withBoth, before), ['carol', 'carol']);
+  equal('added', newIn(withBoth, before), ['carol', 'carol']);
   const forCarol = list('list:a', 'A::carol:r');
-  equal('known by a grey entry', names(forCarol, list('list:a', 'A:I:carol:w')), []);
-  equal('only denied before', names(forCarol, list('list:a', 'D::carol:w')), ['carol']);
+  equal('known by a grey entry', newIn(forCarol, list('list:a', 'A:I:carol:w')), []);
+  equal('only denied before', newIn(forCarol, list('list:a', 'D::carol:w')), ['carol']);
   const folder = (path, ...entries) => ({ path, list: list('list:a', ...entries), object: ofRoot });
   const top = folder('/', 'A::AUTHENTICATED@:x');
   const closed = folder('/personnel', 'A:fd:alice:rx');
@@ -156,6 +157,7 @@ Promise.all(modules).then(([lists, judging, warnings]) => {
   has('not read', passage('A:fd:carol:rx', unread)[0].text, 'you may not read the list of “/a”');
   has('below', passage('A:fd:carol:r', top)[0].text, 'what is in this folder', 'through (x)');
   equal('only here', passage('A::carol:r', top), []);
-  equal('printed', printList(list('list:a')), 'list:a\n');
+  equal('a user called constructor', words.whoWords({ who: 'constructor', flags: '' }),
+    'the user constructor');
   finish(told);
 }).catch((fault) => finish([String(fault)]));

@@ -15,13 +15,14 @@ import urllib.request
 from browser import Browser, Checks
 from documents import Documents
 from dropping import Dropping
+from handling import Handling
 from listing import Lists
 from prompts import cancel_prompts
 from readers import Readers
 from warned import Warned
 
 
-class Office(Documents, Dropping, Readers, Lists, Warned):
+class Office(Documents, Dropping, Handling, Readers, Lists, Warned):
     def __init__(self, folder, front, log, server, proxy, docs, pictures):
         self.folder, self.log, self.docs, self.pictures = folder, log, docs, pictures
         self.server, self.proxy = int(server), int(proxy)
@@ -70,13 +71,20 @@ class Office(Documents, Dropping, Readers, Lists, Warned):
         alice = self.alice
         for name in ('contracts', 'minutes', 'policies'):
             self.ask('POST', f'/folder/{name}')
-        for name in ('Holiday plan 2026.csv', 'House rules.pdf', 'Größere Räume.txt', 'Report 2.txt', 'Report 10.txt'):
+        for name in ('Holiday plan 2026.csv', 'House rules.pdf', 'Größere Räume.txt',
+                     'Report 2.txt', 'Report 10.txt'):
             self.ask('PUT', '/doc/' + urllib.request.quote(name), b'x')
-        self.ask('PUT', '/dacl/contracts', b'list:a\nD:fdg:interns:waDd\nA:fdg:staff:rxtc\nA:fd:carol:rwaxDdtc\n')
-        for place, name, height in (('', 'folder', 720), ('#/contracts?dacl', 'list', 960)):
+        self.ask('PUT', '/dacl/contracts',
+                 b'list:a\nD:fdg:interns:waDd\nA:fdg:staff:rxtc\nA:fd:carol:rwaxDdtc\n')
+        for place, name, height in (('', 'folder', 840), ('#/contracts?dacl', 'list', 1000)):
             alice.resize(1200, height)
             alice.open(place)
             alice.picture(f'{self.pictures}/{name}.png')
+        self.send_text('#/contracts?dacl', 'list:ap\nA:fd:carol:rxtc\n')
+        alice.says('may no longer change', css='dialog')
+        alice.picture(f'{self.pictures}/warning.png')
+        alice.press('Cancel', 'dialog')
+        alice.press('Drop changes')
         alice.resize(1200, 900)
 
     # What goes wrong.
@@ -121,7 +129,7 @@ PLAY = [
     ('a strange name in other views', Office.strange_list),
     ('a strange name is moved', Office.move_strange),
     ('a strange name is removed', Office.remove_strange),
-    ('a folder that is not empty', Office.not_empty),
+    ('a full folder is removed', Office.full_folder),
     ('by keyboard alone', Office.keyboard),
     ('dropped on a folder', Office.drop_on_folder),
     ('dropped beside the rows', Office.drop_beside),
@@ -129,6 +137,17 @@ PLAY = [
     ('a folder dropped on a document', Office.folder_on_document),
     ('a whole folder is dropped', Office.drop_whole_folder),
     ('a whole folder by the button', Office.whole_folder_by_field),
+    ('a message stays in sight and moves nothing', Office.messages),
+    ('the own address of a document', Office.own_address),
+    ('a document is renamed', Office.rename),
+    ('arrow keys', Office.arrows),
+    ('sorted by name and by kind', Office.order),
+    ('filtered by name', Office.filter),
+    ('several at once', Office.selection),
+    ('previews', Office.previews),
+    ('tables from 1000 to 1440 px', Office.table_widths),
+    ('full folders are removed', Office.clear_desk),
+    ('bob may not list the top', Office.closed_top),
     ('bob is told what he lacks', Office.denied),
     ('alice gives staff access by the table', Office.give_access),
     ('bob reads', Office.reads),

@@ -10,11 +10,11 @@ class Readers:
         bob = self.bob
         bob.open('#/letters')
         assert bob.one('#me').text == 'bob'
-        bob.says('“/letters”', 'the right to read documents', 'No entry')
+        bob.says('At “/letters” you may not see what is in it', 'No entry', css='.closed')
         bob.open('#/letters?rights')
         assert 'No entry grants it.' in bob.one('.may-not .why').text
         bob.open('#/letters?dacl')
-        assert 'the right to see its access lists' in bob.one('.empty').text
+        assert 'you may not see its access lists' in bob.one('.empty').text
 
     def give_access(self):
         alice = self.alice
@@ -56,9 +56,9 @@ class Readers:
         bob = self.bob
         bob.press('Remove: Report 2.txt')
         bob.press('Remove it', 'dialog')
-        bob.says('“/letters”', 'the right to replace documents or put new ones', 'No entry')
+        bob.says('“/letters”', 'you may not remove what is in it', 'No entry')
         bob.script(DROP, 'new.txt')
-        bob.says('“/letters”', 'No entry', css='.uploads .bad')
+        bob.says('At “/letters” you may not put documents here', 'No entry', css='.uploads .bad')
 
     def deny(self):
         """An entry that denies is added, and moved above the one that allows."""

@@ -1,0 +1,50 @@
+// The arrow keys in the rows of a table, which is one stop of the Tab key.
+
+const controlsOf = (row) =>
+  [...row.querySelectorAll('[data-act]')].filter((one) => one.checkVisibility());
+
+// The control for the same action in another row, or that row's name.
+function sameIn(row, act) {
+  const controls = controlsOf(row);
+  return controls.find((one) => one.dataset.act === act)
+    ?? controls.find((one) => one.dataset.act === 'open');
+}
+
+function beside(control, step) {
+  const controls = controlsOf(control.closest('tr'));
+  return controls[controls.indexOf(control) + step];
+}
+
+function target(control, key, rows) {
+  const row = control.closest('tr');
+  const other = {
+    ArrowDown: row.nextElementSibling, ArrowUp: row.previousElementSibling,
+    Home: rows[0], End: rows[rows.length - 1],
+  }[key];
+  if (other) return sameIn(other, control.dataset.act);
+  if (key === 'ArrowRight') return beside(control, 1);
+  if (key === 'ArrowLeft') return beside(control, -1);
+  return null;
+}
+
+const SHORTCUTS = { F2: 'move', Delete: 'remove' };
+
+// Up and down keep the column, left and right go through a row; F2 renames, Delete removes.
+export function rove(body) {
+  const stop = (control) => {
+    for (const one of body.querySelectorAll('[data-act]')) one.tabIndex = one === control ? 0 : -1;
+  };
+  stop(body.querySelector('[data-act="open"]'));
+  body.addEventListener('focusin', (event) => {
+    if (event.target.dataset.act) stop(event.target);
+  });
+  body.addEventListener('keydown', (event) => {
+    if (event.altKey || event.ctrlKey || event.metaKey || !event.target.dataset.act) return;
+    const shortcut = SHORTCUTS[event.key];
+    const row = event.target.closest('tr');
+    if (shortcut) row.querySelector(`[data-act="${shortcut}"]`).click();
+    const next = target(event.target, event.key, body.rows);
+    next?.focus();
+    if (shortcut || next) event.preventDefault();
+  });
+}

@@ -1,0 +1,125 @@
+// The rows of a folder: its contents with what can be done with each, sorted, filtered and
+// selected.
+
+import * as api from './api.js';
+import { button, element, icon, nameText } from './dom.js';
+import { rove } from './keys.js';
+import { linkTo } from './links.js';
+import { filtered, kindWords, sorted } from './sorting.js';
+
+// What is shown of a folder, and how. 'chosen' has names.
+export const newLook = () => (
+  { children: [], by: 'name', down: false, filter: '', chosen: new Set() });
+
+export const shownOf = (look) => sorted(filtered(look.children, look.filter), look.by, look.down);
+
+// What is chosen and shown. What the filter hides is never moved or removed with the rest.
+export const chosenOf = (look) => shownOf(look).filter(({ name }) => look.chosen.has(name));
+
+function nameOf(child, path, acts) {
+  const label = [icon(child.kind), nameText(child.name)];
+  if (child.kind === 'folder') {
+    return element('a', { class: 'object', href: linkTo(path), 'data-act': 'open' }, label);
+  }
+  const properties = { class: 'object', title: 'Download', 'data-act': 'open' };
+  return button(label, () => acts.download([child]), properties);
+}
+
+function pickBox(child, look, changed) {
+  const box = element('input', {
+    type: 'checkbox', 'aria-label': `Select: ${child.name}`, checked: look.chosen.has(child.name),
+    'data-act': 'pick',
+  });
+  box.addEventListener('change', () => {
+    if (box.checked) look.chosen.add(child.name);
+    else look.chosen.delete(child.name);
+    changed();
+  });
+  return box;
+}
+
+function actsOf(child, path, acts) {
+  const act = (key, words, does, look) => button(words, does, {
+    class: `small ${look}`, 'aria-label': `${words}: ${child.name}`, 'data-act': key,
+  });
+  const ofDocument = child.kind === 'folder' ? [] : [
+    act('preview', 'Preview', () => acts.preview(child), 'plain'),
+    act('download', 'Download', () => acts.download([child]), 'plain download'),
+  ];
+  return [
+    ...ofDocument,
+    act('move', 'Rename or move', () => acts.move(child), 'plain'),
+    act('remove', 'Remove', () => acts.remove([child]), 'plain remove'),
+    button(icon('link'), () => acts.copy(child), {
+      class: 'small plain', title: 'Copy link', 'aria-label': `Copy link: ${child.name}`,
+      'data-act': 'copy',
+    }),
+    element('a', {
+      class: 'small button', href: linkTo(path, 'rights'), 'aria-label': `Access: ${child.name}`,
+      'data-act': 'access',
+    }, 'Access'),
+  ];
+}
+
+function row(child, folder, look, acts, changed) {
+  const path = api.join(folder, child.name);
+  return element('tr', { 'data-kind': child.kind, 'data-path': path },
+    element('td', { class: 'pick' }, pickBox(child, look, changed)),
+    element('td', { class: 'what' }, nameOf(child, path, acts)),
+    element('td', { class: 'kind' }, kindWords(child)),
+    element('td', { class: 'acts' }, actsOf(child, path, acts)));
+}
+
+function heading(by, words, look, redraw) {
+  const isIt = look.by === by;
+  const sort = button([words, icon(isIt && look.down ? 'down' : 'up')], () => {
+    Object.assign(look, { by, down: isIt && !look.down });
+    redraw((table) => table.querySelector(`[data-sort="${by}"]`));
+  }, { class: 'plain sort', 'data-sort': by });
+  const direction = look.down ? 'descending' : 'ascending';
+  return element('th', { scope: 'col', 'aria-sort': isIt ? direction : 'none' }, sort);
+}
+
+function pickAll(look, redraw) {
+  const shown = shownOf(look);
+  const count = chosenOf(look).length;
+  const box = element('input', {
+    type: 'checkbox', 'aria-label': 'Select all', checked: count > 0 && count === shown.length,
+  });
+  box.indeterminate = count > 0 && count < shown.length;
+  box.addEventListener('change', () => {
+    look.chosen = new Set(box.checked ? shown.map(({ name }) => name) : []);
+    redraw((table) => table.querySelector('thead input'));
+  });
+  return box;
+}
+
+// Draws the rows into 'body'. 'acts' does what is asked for, and 'onChosen' is called when the
+// selection changed. 'focusOn' picks what then has the focus.
+export function drawRows(body, folder, look, acts, onChosen, focusOn = null) {
+  const redraw = (pick) => drawRows(body, folder, look, acts, onChosen, pick);
+  const shown = shownOf(look);
+  if (shown.length === 0) {
+    body.replaceChildren(element('p', { class: 'empty' }, look.children.length === 0
+      ? 'Nothing is in this folder yet. Drop documents here, or use “Upload”.'
+      : 'Nothing in this folder has these letters in its name.'));
+    onChosen();
+    return;
+  }
+  const all = element('th', { class: 'pick', scope: 'col' }, pickAll(look, redraw));
+  const changed = () => {
+    all.replaceChildren(pickAll(look, redraw));
+    onChosen();
+  };
+  const rows = element('tbody', {}, shown.map((child) => row(child, folder, look, acts, changed)));
+  const table = element('table', { class: 'folder', role: 'grid', 'aria-multiselectable': 'true' },
+    element('caption', { class: 'unseen' },
+      'What is in this folder. The arrow keys go from row to row.'),
+    element('thead', {}, element('tr', {}, all, heading('name', 'Name', look, redraw),
+      heading('kind', 'Kind', look, redraw), element('th', { scope: 'col' },
+        element('span', { class: 'unseen' }, 'What can be done')))), rows);
+  body.replaceChildren(table);
+  rove(rows);
+  onChosen();
+  focusOn?.(table)?.focus();
+}
