@@ -5,6 +5,7 @@ import { button, element } from './dom.js';
 import { Draft } from './draft.js';
 import { sendList } from './send.js';
 import { tell, tellFault, waitFor } from './notice.js';
+import { pickReady } from './pick.js';
 import { drawTable } from './table.js';
 import { tabs } from './tabs.js';
 import { drawText } from './text.js';
@@ -78,6 +79,23 @@ function changesBar(draft, both) {
   return [told, bar];
 }
 
+// The ready-made lists are for folders. At the top of the room one would shut out everybody else.
+function readyButton(draft, both) {
+  const isFor = draft.which === 'dacl' && draft.kind === 'folder' && draft.path !== '/';
+  if (!isFor || !draft.mayChange) return [];
+  const pick = async () => {
+    try {
+      const text = await pickReady(await waitFor(api.whoAmI()));
+      if (text === null) return;
+      draft.setText(text);
+      both.redraw();
+    } catch (fault) {
+      tellFault(fault);
+    }
+  };
+  return [button('Ready-made lists', pick, { class: 'small' })];
+}
+
 export async function showList(path, which, kind, box, isCurrent) {
   try {
     const [base, may] = await waitFor(Promise.all([api.readList(which, path), mayChange(path)]));
@@ -86,9 +104,11 @@ export async function showList(path, which, kind, box, isCurrent) {
     draft.mayChange = may;
     const both = panes(draft);
     const note = may ? null
-      : element('p', { class: 'hint' }, 'You may look at this list but not change it: you lack the right C (change its access lists).');
-    box.replaceChildren(element('p', { class: 'lead' }, INTRODUCTIONS[which]), ...[note].filter(Boolean),
-      both.strip, both.panel, ...changesBar(draft, both));
+      : element('p', { class: 'hint' }, 'You may look at this list, but not change it (C).');
+    const lead = element('div', { class: 'lead' }, element('p', {}, INTRODUCTIONS[which]),
+      readyButton(draft, both));
+    box.replaceChildren(lead, ...[note].filter(Boolean), both.strip, both.panel,
+      ...changesBar(draft, both));
   } catch (fault) {
     if (!isCurrent()) return;
     box.replaceChildren(element('p', { class: 'empty' }, sentenceOf(fault)));

@@ -26,7 +26,8 @@ play() { # NAME SCRIPT ARGUMENT ..
       fail) fail "$check" "$why" ;;
       end) ended=yes ;;
     esac
-  done < <(LC_ALL=C.UTF-8 PYTHONDONTWRITEBYTECODE=1 timeout -k 10 900 "$python" "$here/page/$1" "${@:2}" 2>play.err)
+  done < <(LC_ALL=C.UTF-8 PYTHONDONTWRITEBYTECODE=1 timeout -k 10 900 \
+    "$python" "$here/page/$1" "${@:2}" 2>play.err)
   [ -n "$ended" ] || fail "$name" "it broke off: $(tail -c 600 play.err)"
 }
 

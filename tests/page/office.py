@@ -19,10 +19,11 @@ from handling import Handling
 from listing import Lists
 from prompts import cancel_prompts
 from readers import Readers
+from recommended import Recommended
 from warned import Warned
 
 
-class Office(Documents, Dropping, Handling, Readers, Lists, Warned):
+class Office(Documents, Dropping, Handling, Readers, Lists, Warned, Recommended):
     def __init__(self, folder, front, log, server, proxy, docs, pictures):
         self.folder, self.log, self.docs, self.pictures = folder, log, docs, pictures
         self.server, self.proxy = int(server), int(proxy)
@@ -80,6 +81,10 @@ class Office(Documents, Dropping, Handling, Readers, Lists, Warned):
             alice.resize(1200, height)
             alice.open(place)
             alice.picture(f'{self.pictures}/{name}.png')
+        alice.press('Ready-made lists')
+        alice.write('dialog input[type=text]', 'staff')
+        alice.picture(f'{self.pictures}/ready.png')
+        alice.press('Cancel', 'dialog')
         self.send_text('#/contracts?dacl', 'list:ap\nA:fd:carol:rxtc\n')
         alice.says('may no longer change', css='dialog')
         alice.picture(f'{self.pictures}/warning.png')
@@ -167,6 +172,8 @@ PLAY = [
     ('a list that alice keeps', Office.no_question),
     ('somebody is added who is not let pass', Office.not_let_pass),
     ('what the page cannot know', Office.not_known),
+    ('the ready-made lists', Office.ready_made),
+    ('a ready-made list is sent', Office.sent_ready_made),
     ('list.js, by the examples of docs', Office.list_tests),
     ('what lists would grant, by the rules of docs', Office.judging_tests),
     ('it fits a phone', Office.fits_a_phone),
