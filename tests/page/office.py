@@ -52,6 +52,8 @@ class Office(Documents, Dropping, Handling, Readers, Lists, Warned, Recommended)
         for place in ('#/letters', '#/letters?rights', '#/letters?dacl', '#/letters?sacl'):
             alice.open(place)
             assert not alice.is_wider(), place
+        alice.open('#/letters?dacl')
+        assert all(each.size['width'] > 150 for each in alice.all('.entries select')), 'narrow fields'
         alice.resize(1200, 900)
 
     def labels(self):
