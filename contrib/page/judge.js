@@ -71,8 +71,8 @@ export function passedDown(entries, kind) {
 const textOf = (entries) => entries.map(printEntry).join('\n');
 
 // The full list after 'sent' was set in the place of 'before': {entries, known}. 'above' is the
-// list of the folder above: null at the top of the room, and undefined where it can't be read. Then
-// what will be inherited may not be known.
+// list of the folder above: null at the top of the room, and undefined where it can't be read. If
+// it then isn't known what will be inherited, these are the own entries, which come first.
 export function afterSending(sent, before, above, kind) {
   const own = sent.entries.filter((entry) => !isInherited(entry));
   const kept = sent.entries.filter(isInherited);
@@ -80,7 +80,7 @@ export function afterSending(sent, before, above, kind) {
   if (!linked) return { entries: [...own, ...kept], known: true };
   if (above) return { entries: [...own, ...passedDown(above.entries, kind)], known: true };
   const stays = !before.protect && textOf(kept) === textOf(before.entries.filter(isInherited));
-  return { entries: [...own, ...kept], known: stays };
+  return { entries: stays ? [...own, ...kept] : own, known: stays };
 }
 
 // Whether a caller who has this right now still has it by the list 'after', as afterSending gives
@@ -90,10 +90,8 @@ export function keepsRight(letter, before, after, caller, object) {
     { type: entry.type, flags: isGroup(entry) ? 'g' : '', who: entry.who, mask: letter })));
   const found = judge(after.entries, letter, caller, object);
   // The same entries rule in the same order, so nothing changes, whoever is in their groups.
-  if (after.known && rulers(before.entries) === rulers(after.entries)) {
-    return { ...found, answer: 'yes' };
-  }
-  if (after.known || found.answer === 'yes' || found.entry !== null) return found;
+  if (rulers(before.entries) === rulers(after.entries)) return { ...found, answer: 'yes' };
+  if (after.known || found.entry !== null) return found;
   return { ...found, answer: 'perhaps', depends: [...found.depends, UNREAD_ABOVE] };
 }
 

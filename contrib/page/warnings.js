@@ -64,8 +64,9 @@ export function passageOf(sent, before, after, kind, object, folders) {
     const caller = callersOf(entry, object);
     if (caller === null) return [];
     const passesOn = kind === 'folder' && /[fd]/.test(entry.flags);
-    const way = passesOn ? [...folders, { path: null, list: after, object }] : folders;
-    const found = hindrance(way, caller);
+    // What isn't known of this folder comes from the one above, which is told then.
+    const here = passesOn && after.known ? [{ path: null, list: after, object }] : [];
+    const found = hindrance([...folders, ...here], caller);
     return found ? [passageWords(caller, found)] : [];
   });
 }

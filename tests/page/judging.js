@@ -67,7 +67,7 @@ Promise.all(modules).then(([lists, judging, warnings, words]) => {
     ['yes', 'A::alice:C', 'D:g:staff:C'], ['yes', 'D:i:EVERYONE@:C', 'A::alice:C'],
     ['yes', 'D::EVERYONE@:w', 'A::alice:C'], ['yes', 'A:g:staff:C', 'D:g:staff:C', 'A::alice:C'],
     ['perhaps', 'A:g:staff:C', 'D:g:sales:C', 'A::alice:C'],
-    ['yes', 'D::ANONYMOUS@:C', 'D::bob:C', 'A::EVERYONE@:C'],
+    ['yes', 'U:S:alice:C', 'A::alice:C'], ['yes', 'D::ANONYMOUS@:C', 'D::bob:C', 'A::EVERYONE@:C'],
   ]) equal(`keeps ${entries}`, keeps(list('list:ap', ...entries)), wanted);
   equal('of an owner who is not known', keeps(list('list:ap', 'A::OWNER@:C'), unknown), 'perhaps');
   const ofBob = { owner: 'bob', group: 'office' };
@@ -97,6 +97,13 @@ Promise.all(modules).then(([lists, judging, warnings, words]) => {
   const cut = list('list:ap', 'A::alice:C');
   const again = keepsUnder(undefined, list('list:a'), ofAlice, cut, 'folder');
   equal('linked again to what is not read', again, 'perhaps');
+  const keptGrant = list('list:ap', 'A:I:alice:C');
+  const linkedAgain = list('list:a', 'A:I:alice:C');
+  const lost = keepsUnder(undefined, linkedAgain, ofAlice, keptGrant, 'folder');
+  equal('a kept entry may be lost', lost, 'perhaps');
+  const [ownGrant, wasProtected] = ['list:a', 'list:ap'].map((first) => list(first, 'A:g:staff:C'));
+  const stayed = keepsUnder(undefined, ownGrant, ofAlice, wasProtected, 'folder');
+  equal('own entries come first', stayed, 'yes');
   equal('a document', keepsUnder(above, list('list:'), ofAlice, grey, 'document'), 'yes');
   const foldersOnly = list('list:a', 'A:d:alice:C');
   const passedOn = keepsUnder(foldersOnly, list('list:'), ofAlice, grey, 'document');
@@ -125,6 +132,7 @@ Promise.all(modules).then(([lists, judging, warnings, words]) => {
     'D::dave:r', 'A::erin:');
   equal('added', newIn(withBoth, before), ['carol', 'carol']);
   const forCarol = list('list:a', 'A::carol:r');
+  equal('a kept entry is not new', newIn(list('list:ap', 'A:I:carol:r'), before), []);
   equal('known by a grey entry', newIn(forCarol, list('list:a', 'A:I:carol:w')), []);
   equal('only denied before', newIn(forCarol, list('list:a', 'D::carol:w')), ['carol']);
   const folder = (path, ...entries) => ({ path, list: list('list:a', ...entries), object: ofRoot });
@@ -141,10 +149,14 @@ Promise.all(modules).then(([lists, judging, warnings, words]) => {
   const unread = { path: '/a', list: null, object: unknown };
   equal('not read', way([top, unread], carol), ['/a', 'unread']);
   equal('not read, and closed', way([top, unread, closed], carol), ['/personnel', 'no']);
+  const byOwner = { path: '/', list: list('list:a', 'A::OWNER@:x'), object: unknown };
+  equal('the owner alone', way([byOwner], membersOf('staff')), ['/', 'no']);
+  equal('perhaps the owner', way([byOwner], carol), ['/', 'perhaps']);
   equal('a list without entries', way([folder('/')], carol), ['/', 'no']);
   const passage = (entry, ...folders) => {
-    const sent = list('list:a', entry);
-    return warnings.passageOf(sent, before, sent, 'folder', ofAlice, folders);
+    const sent = list('list:ap', entry);
+    const after = afterSending(sent, before, null, 'folder');
+    return warnings.passageOf(sent, before, after, 'folder', ofAlice, folders);
   };
   equal('a sentence for none', passage('A:fd:carol:rx', top), []);
   const staffPass = folder('/', 'A:g:staff:x');
