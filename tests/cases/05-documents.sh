@@ -68,6 +68,12 @@ for page in "$top"/README.md "$top"/CONTRIBUTING.md "$top"/docs/*.md; do
   none "lines of $name" found
 done
 
+# The same of the pages as they are installed, without whatever else is in the repository.
+"$top/contrib/install" --destdir "$PWD/machine" --program "$rooms" >installed 2>&1 </dev/null
+holds 'the pages are installed' [ -s machine/usr/share/doc/rooms/README.md ]
+find machine -name '*.md' | sort | while IFS= read -r page; do lost_links "$page" | sed "s|^|${page#machine}, |"; done >found
+none 'links of the installed pages' found
+
 if has python3; then
   "$top/tools/crates" --check >found
   none 'the tables of crates' found

@@ -11,7 +11,7 @@ holds 'is not done' is_missing machine
 installs
 says 'an install' 0 'file /etc/systemd/system/rooms-nightly.timer'
 for file in /usr/local/bin/rooms /usr/local/sbin/rooms-nightly /usr/local/sbin/rooms-restore /usr/local/lib/rooms/upkeep.sh \
-  /etc/rooms/rooms.conf /etc/systemd/system/rooms.service /usr/share/doc/rooms/operating.md /etc/nginx/sites-enabled/rooms \
+  /etc/rooms/rooms.conf /etc/systemd/system/rooms.service /usr/share/doc/rooms/docs/operating.md /etc/nginx/sites-enabled/rooms \
   /etc/nginx/sites-available/rooms-tls /etc/nginx/snippets/rooms-http.conf /etc/nginx/snippets/rooms-server.conf; do
   holds "$file is there" [ -s "machine$file" ]
 done
