@@ -1,0 +1,114 @@
+# contrib/rooms-import, rooms-export and rooms-get: a tree goes into a room and comes out equal.
+
+if [ "$loopback" = no ] || ! has curl || ! has find || ! has sort; then
+  skip 'in and out' 'no loopback, curl, find or sort'
+  return
+fi
+contrib=$here/../contrib
+
+# A script of contrib/; its status is in $status, its output in $work/out and $work/err.
+transfers() { # SCRIPT ARGUMENT ..
+  local script=$contrib/$1
+  shift
+  "$script" "$@" </dev/null >"$work/out" 2>"$work/err"
+  status=$?
+}
+told() { # NAME STATUS TEXT ..
+  local name=$1
+  holds "$name (status $status)" [ "$status" = "$2" ]
+  shift 2
+  for text; do holds "$name ($text): $(head -c 300 "$work/out" "$work/err")" grep -qF -e "$text" "$work/out" "$work/err"; done
+}
+
+run init F root staff
+mkdir -p 'tree/a b/%2F' tree/empty 'tree/-x' tree/"quote'\"s"
+printf 'hello' >'tree/a b/100%?#&+'
+printf 'x' >tree/'back\slash"'
+printf 'list' >tree/-x/x.acl
+printf 'of this' >tree/-x/x
+: >'tree/a b/%2F/nothing'
+printf 'ä' >tree/ümlaut
+head -c 1048576 /dev/zero >tree/largest
+cp -R tree all
+head -c 1048577 /dev/zero >all/larger
+ln -s ümlaut all/link
+mkfifo all/pipe
+printf x >all/$'line\nbreak'
+printf x >all/$'no\xfftext'
+
+# Bad arguments: nothing is sent, and no server is needed.
+transfers rooms-import
+told 'import without arguments' 2 'bad arguments'
+transfers rooms-import ftp://x tree /
+told 'import to no address' 2 'bad arguments'
+transfers rooms-import http://127.0.0.1:1 none /
+told 'import of no folder' 2 'no folder'
+transfers rooms-import http://127.0.0.1:1 tree x
+told 'import to no path' 2 'bad arguments'
+transfers rooms-import --paint http://127.0.0.1:1 tree /
+told 'import with an unknown option' 2 'no such option'
+transfers rooms-import --as root http://127.0.0.1:1 tree /
+told 'import to a room that is not there' 1 'no reply'
+transfers rooms-export http://127.0.0.1:1 / tree
+told 'export over something' 2 'there is something at tree'
+transfers rooms-export --as root http://127.0.0.1:1 / new
+told 'export of a room that is not there' 1 'no reply'
+holds 'which writes nothing' is_missing new
+
+start_server F 5 || return
+transfers rooms-import --as root "http://127.0.0.1:$port" all /in
+told 'an import that is cut off' 1 'no reply' 'goes on where this one stopped'
+stop_server
+start_server F 1000 || return
+room=http://127.0.0.1:$port
+transfers rooms-import --as root --log log "$room" all /in
+told 'what does not go in' 1 'larger: more than 1048576 bytes' 'link: a link' 'pipe: neither a file nor a folder' \
+  "\$'line\\nbreak': not sent: 400 {\"why\":\"bad-target P1\"}" 'bad-target P3' 'left out 5'
+holds 'is in the log too' [ "$(wc -l <log)" = 5 ]
+transfers rooms-import --as root "$room" tree /in
+told 'the same once more' 0 'made 0, replaced 0, there already 13, left out 0'
+transfers rooms-export --as root "$room" /in out
+told 'export' 1 '/in/-x/x' 'documents 7, left out 1'
+diff -r -x '*.acl' tree out >found 2>&1
+same 'the tree that comes out' found /dev/null
+holds 'a document with the name of a list' [ "$(cat out/-x/x.acl)" = list ]
+printf 'folder root staff\ndacl\nlist:a\nA:fdI:OWNER@:%s\nsacl\nlist:a\n' "$ALL" >wanted
+same 'the lists beside it' out/empty.acl wanted
+
+# Nothing is replaced unasked.
+printf 'other' >tree/ümlaut
+transfers rooms-import --as root "$room" tree /in
+told 'another document is there' 1 'not replaced: another document is there' 'left out 1'
+transfers rooms-export --as root --no-lists "$room" /in/ümlaut kept
+holds 'and stays' [ "$(cat kept)" = ä ]
+transfers rooms-import --as root --replace "$room" tree /in
+told 'unless asked to' 0 'made 0, replaced 7,' 'left out 0'
+transfers rooms-export --as root --no-lists "$room" /in again
+told 'a round trip' 0 'documents 7, left out 0'
+diff -r tree again >found 2>&1
+same 'is equal' found /dev/null
+transfers rooms-export --as eve "$room" / eve
+told 'export by a stranger' 1 '403'
+transfers rooms-import --as eve "$room" tree /in
+told 'import by a stranger' 1 '403' 'made 0'
+stop_server
+
+# One document out of a backup.
+mkdir backup
+mv F backup/F
+mv F-wal backup/F-wal
+cksum backup/* >sums
+printf '%s\n' "FILE=$PWD/F" "BACKUPS=$PWD" KEEP=0 MAIL= UNIT=rooms "PROGRAM=$rooms" >conf
+transfers rooms-get --conf conf backup '/in/a b/100%?#&+'
+told 'a document out of a backup' 0
+holds 'its bytes' [ "$(cat "$work/out")" = hello ]
+transfers rooms-get --conf conf backup /in/none
+told 'one that is not there' 1 'no-such'
+transfers rooms-get --conf conf backup /in
+told 'a folder' 1 'wrong-kind'
+transfers rooms-get --conf conf none /in
+told 'no backup' 2 'no backup'
+transfers rooms-get --conf conf backup in
+told 'no path' 2 'bad arguments'
+cksum backup/* >sums.now
+same 'the backup is as it was' sums.now sums
