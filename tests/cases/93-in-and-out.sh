@@ -112,3 +112,24 @@ transfers rooms-get --conf conf backup in
 told 'no path' 2 'bad arguments'
 cksum backup/* >sums.now
 same 'the backup is as it was' sums.now sums
+
+# Pages for man are free of warnings, and the completion offers what there is.
+if has man; then
+  for page in "$contrib"/man/*; do
+    man --warnings -E UTF-8 -l "$page" >/dev/null 2>found
+    same "the warnings of ${page##*/}" found /dev/null
+  done
+else
+  skip 'pages for man' 'man is missing'
+fi
+completes() { # WORD ..
+  bash -c '. "$1"; shift; COMP_WORDS=("$@") COMP_CWORD=$(($# - 1)); _rooms; echo "${COMPREPLY[*]}"' bash "$contrib/completion/rooms" "$@"
+}
+holds 'a subcommand is completed' [ "$(completes rooms ver)" = verify ]
+holds 'an option is completed' [ "$(completes rooms serve F --po)" = --port ]
+holds 'a list is completed' [ "$(completes rooms reset F / d)" = dacl ]
+holds 'a file is completed' [ "$(completes rooms dump con)" = conf ]
+for name in $("$rooms" --help 2>&1 | sed -n 's/^  \([a-z-]*\)  .*/\1/p' | grep -v '^help$'); do
+  holds "the page for man has $name" grep -q -e "${name//-/\\\\-}" "$contrib/man/rooms.1"
+  holds "the completion has $name" grep -qw -e "$name" "$contrib/completion/rooms"
+done
