@@ -53,7 +53,7 @@ END
 # A script of blocks: what it prints is in $work/out, and its status in $status.
 paste_in() { # TEXT-OF-BLOCKS
   sed -e "s|/var/lib/rooms|$PWD/room|g; s|/etc/nginx/rooms.htpasswd|$PWD/passwords|g; s|/var/backups/rooms|$PWD/backups|g" \
-    -e "s|127.0.0.1:8780|127.0.0.1:$((port + 1))|g; s|8790|$((port + 2))|g" <<<"$1" >pasted
+    -e "s|127.0.0.1:8780|127.0.0.1:$((port + 1))|g" <<<"$1" >pasted
   [ -s pasted ] || fail 'what is pasted' 'no such block'
   PATH=$PWD/bin:$PATH timeout "$patience" bash pasted </dev/null >"$work/out" 2>"$work/err"
   status=$?
@@ -139,10 +139,13 @@ bin/systemctl stop rooms
 cp room/office.rooms* backups/2026-11-20.030000/
 bin/systemctl start rooms
 answers 'it is overwritten' ' 204' alice PUT /doc/letters/reply 'Dear Madam'
-paste_in "$(blocks operating.md 'rooms serve "$copy')
-until curl -s -o /dev/null 'http://127.0.0.1:8790/can/?'; do sleep 0.05; done
-$(blocks operating.md 'kill %1')"
-prints 'one document out of a backup' "listening 127.0.0.1:$((port + 2))" 204
+printf '%s\n' "FILE=$PWD/room/office.rooms" "BACKUPS=$PWD/backups" KEEP=0 MAIL= UNIT=rooms "PROGRAM=$rooms" >conf
+stand_in rooms-get <<END
+exec "$here/../contrib/rooms-get" --conf "$PWD/conf" "\$@"
+END
+paste_in "$(blocks operating.md 'rooms-get 2026')
+$(blocks operating.md '@reply')"
+prints 'one document out of a backup' 204
 answers 'is the old one' 'Dear Sir 200' alice GET /doc/letters/reply
 answers 'of the same owner' '{"group":"staff","kind":"document","owner":"alice"} 200' alice GET /attr/letters/reply
 

@@ -11,6 +11,8 @@ holds 'is not done' is_missing machine
 installs
 says 'an install' 0 'file /etc/systemd/system/rooms-nightly.timer'
 for file in /usr/local/bin/rooms /usr/local/sbin/rooms-nightly /usr/local/sbin/rooms-restore /usr/local/lib/rooms/upkeep.sh \
+  /usr/local/sbin/rooms-get /usr/local/bin/rooms-import /usr/local/bin/rooms-export /usr/local/lib/rooms/transfer.sh \
+  /usr/local/share/man/man1/rooms.1 /usr/local/share/man/man8/rooms-get.8 /usr/share/bash-completion/completions/rooms \
   /etc/rooms/rooms.conf /etc/systemd/system/rooms.service /usr/share/doc/rooms/docs/operating.md /etc/nginx/sites-enabled/rooms \
   /etc/nginx/sites-available/rooms-tls /etc/nginx/snippets/rooms-http.conf /etc/nginx/snippets/rooms-server.conf; do
   holds "$file is there" [ -s "machine$file" ]
