@@ -22,7 +22,6 @@ use Rattle.std.specs.Prelude.{
   IsTrue,
   map,
 }
-use Rattle.std.specs.List.{list_all}
 use Rattle.std.specs.Option.{option_map_or}
 use Rattle.room_entry.specs.Ace.{Ace}
 use Rattle.room_entry.specs.Pieces.{same_text}
@@ -32,7 +31,6 @@ use Rattle.room_rows.specs.Content.{
   Content,
   node_at,
   child_of,
-  has_folder_above,
   is_folder,
   is_linked_in,
   is_rising,
@@ -160,7 +158,6 @@ FailsToPlace target folder name old at = CanGo target folder name old → IsUnre
 pub record CanRenew (which : Which) (target folder : Node) (rows : Rows) : Type 0 where
   pub rises : IsTrue (is_rising (0 ∷ map (λ node. node.id) rows.read.nodes))
   pub readable : rows.unreadable ≡ []
-  pub folders : IsTrue (list_all (has_folder_above rows.read) rows.read.nodes)
   pub there : Node
   pub there_is : node_at rows.read target.id ≡ Some there
   pub there_held : held_of which there ≡ held_of which target

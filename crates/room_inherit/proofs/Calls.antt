@@ -278,6 +278,17 @@ module _ {S : Type 0} (k : Ghosts S)
     fault = tt;
   }
 
+  -- where there is no child, nothing is renewed
+  pub none_renewed : all ≡ [] → (a : S) → RenewsAll k a a d above all before before (Ok 0)
+  none_renewed none a =
+      subst (λ (l : List Node). RenewsAll k a a d above l before before (Ok 0)) (sym none)
+      (record {
+        follows = laws.itself a;
+        written = sym (capped_below (k.writes a) (laws.ends a).1) ∙ ap capped (omega arith);
+        becomes = λ t. record { counted = refl; waits = sym (append-nil before); stores = refl };
+        fault = tt;
+      })
+
   -- ---- one turn
 
   pub visited : (r : Result ℕ SpreadFault) (after : List Node) (a b c : S)

@@ -6,13 +6,14 @@ use Rattle.room_entry.specs.Ace.{Ace}
 use Rattle.room_entry.specs.declared.object.Which.{Which}
 use Rattle.room_rows.specs.declared.keep.Keep.{Ghosts}
 use Rattle.room_rows.specs.declared.node.Node.{Node}
-use Rattle.room_rows.specs.Content.{Content, node_at, children_of, is_folder}
+use Rattle.room_rows.specs.Content.{Content, node_at, children_of}
 use Rattle.room_rows.specs.Counts.{capped_below}
 use Rattle.room_rows.specs.Keep.{IsUnreadable, IsUnreadableAt, IsNodeAt, IsRead, capped, reading, KeepLaws}
+use Rattle.room_rows.specs.Law.{AllAgree}
 use Rattle.room_rows.specs.Rows.{Rows, AreRows, numbers_of, is_unreadable}
 use Rattle.room_rows.proofs.InPlace.{numbers_of-reading}
 use Rattle.room_rows.proofs.Steps.{later_cause}
-use Rattle.room_inherit.specs.Spread.{AllAgreeInFolders, ChangedAgree, HasSpreadCause, IsSpread, IsOwnAncestor, Holds, Spreads, SpreadsIf, with_lists, is_changed}
+use Rattle.room_inherit.specs.Spread.{ChangedAgree, HasSpreadCause, IsSpread, IsOwnAncestor, Holds, Spreads, SpreadsIf, with_lists, is_changed}
 use Rattle.room_inherit.specs.Turn.{IsVisit, MeetsAgain, next_of}
 use Rattle.room_inherit.specs.declared.descent.Descent.{Descent}
 use Rattle.room_inherit.specs.declared.descent.Reach.{Reach}
@@ -23,8 +24,8 @@ use Rattle.room_inherit.specs.declared.outcome.SpreadFault.TheVariants.{Keeper, 
 use Rattle.room_inherit.proofs.Members.{count, count-is}
 use Rattle.room_inherit.proofs.Children.{found_id}
 use Rattle.room_inherit.proofs.Frontier.{Frontier, ids_set}
-use Rattle.room_inherit.proofs.OneTurn.{after, rows_after, frontier_after, as_few, count_after}
-use Rattle.room_inherit.proofs.Ends.{own_lists, with_own_lists, own_unchanged, count_own, frontier_first, law_without, law_document, law_at_end, changed_agree, loop_found, count_less, as_many_numbers}
+use Rattle.room_inherit.proofs.OneTurn.{after, rows_after, frontier_after, as_many, count_after}
+use Rattle.room_inherit.proofs.Ends.{own_lists, with_own_lists, own_unchanged, count_own, frontier_first, law_without, law_at_end, changed_agree, loop_found, count_less, as_many_numbers}
 use Rattle.room_inherit.proofs.Turns.{Progress}
 
 -- ---- rows
@@ -107,7 +108,7 @@ module _ (d : Descent) (reach : d.reach ≡ Renewed) (turns : ℕ) (rest : List 
     counted = total;
     turned =
         let l = ap length waits ∙ length-append rest going in
-        let few = as_few d.which d.start old.read are.numbers f rest w sofar.front step.not_met in
+        let few = as_many d.which d.start old.read are.numbers f rest w sofar.front step.not_met in
         let k = length-append rest (w ∷ []) in
         let t = sofar.turned in
         let s = sofar.counted in
@@ -129,7 +130,7 @@ carrying_done which start turns changed old now are sofar = record {
       (λ n there changed. let c = sofar.front.came n there changed in
       (c.parent, c.there, c.has, c.agrees)));
   law =
-      λ but. subst (λ (r : Rows). AllAgreeInFolders r.read which) (sym sofar.becomes)
+      λ but. subst (λ (r : Rows). AllAgree r.read which) (sym sofar.becomes)
       (law_at_end which start old.read are.numbers sofar.lists (sofar.front.law but));
 }
 
@@ -148,23 +149,6 @@ nothing_carried which start old are none = record {
       (changed_agree which start old.read are.numbers (own_lists which)
       (λ n there changed. absurd (false≢true (sym (own_unchanged which n) ∙ changed))));
   law = law_without which start old.read are.numbers none;
-}
-
--- nor where it is a document
-document_carried : (which : Which) (start : Node) (old : Rows) → AreRows old → Holds start old
-    → is_folder start ≡ false → IsSpread which start.id old old 0
-document_carried which start old are there document = record {
-  lists = own_lists which;
-  becomes = ap (reading old) (sym (with_own_lists which old.read));
-  below = λ n there changed. absurd (false≢true (sym (own_unchanged which n) ∙ changed));
-  counted =
-      sym (count-is (is_changed which (own_lists which)) old.read.nodes
-      ∙ count_own which old.read.nodes);
-  agree =
-      subst (λ (c : Content). ChangedAgree which old.read c) (with_own_lists which old.read)
-      (changed_agree which start.id old.read are.numbers (own_lists which)
-      (λ n there changed. absurd (false≢true (sym (own_unchanged which n) ∙ changed))));
-  law = law_document which start.id old.read are.numbers start there document;
 }
 
 -- what is known after each turn
@@ -210,15 +194,6 @@ carrying d start same reach = record {
 
 module _ {S : Type 0} (k : Ghosts S)
     (laws : KeepLaws k.rows k.failures k.writes k.Follows k.IsTrusted) (which : Which) where
-  pub spreads_no_document : (start : Node) (a : S) → is_folder start ≡ false
-      → SpreadsIf k a a (Holds start) which start.id (Ok (record { changed = 0 }))
-  spreads_no_document start a document = record {
-    follows = laws.itself a;
-    written = sym (capped_below (k.writes a) (laws.ends a).1) ∙ ap capped (omega arith);
-    becomes = λ t. document_carried which start (k.rows a) (laws.are a a t.0) t.1 document;
-    fault = tt;
-  }
-
   pub spreads_nowhere : (id : ℕ) (a b : S)
       → IsRead k.rows k.failures k.writes k.Follows k.IsTrusted a b (Ok None) (IsUnreadableAt id)
       (IsNodeAt id) → Spreads k a b which id (Ok (record { changed = 0 }))

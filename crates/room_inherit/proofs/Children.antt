@@ -182,7 +182,8 @@ count_put q x (y ∷ ys) = on (is_before y.name x.name) (count_put q x ys)
         swapped a b c = omega arith
     on false rest = refl
 
-count_sorted : (q : Node → Bool) (xs : List Node) → count q (sorted_by_name xs) ≡ count q xs
+-- sorting leaves how many pass a test
+pub count_sorted : (q : Node → Bool) (xs : List Node) → count q (sorted_by_name xs) ≡ count q xs
 count_sorted q [] = refl
 count_sorted q (x ∷ xs) =
     count_put q x (sorted_by_name xs) ∙ ap (λ n. one_if (q x) + n) (count_sorted q xs)

@@ -11,14 +11,14 @@ use Rattle.room_entry.specs.declared.object.Which.{Which}
 use Rattle.room_entry.proofs.Same.{entries_equal}
 use Rattle.room_entry.proofs.Alike.{equal_entries, entries_themselves}
 use Rattle.room_rows.specs.declared.node.Node.{Node}
-use Rattle.room_rows.specs.Content.{Content, node_at, parent_of, has_folder_above, has_parent, children_of, is_folder, is_linked_in, is_rising}
+use Rattle.room_rows.specs.Content.{Content, node_at, parent_of, has_parent, children_of, is_linked_in, is_rising}
 use Rattle.room_rows.specs.Finding.{find_id}
 use Rattle.room_rows.specs.Held.{held_of, full_of, is_linked}
 use Rattle.room_rows.specs.HeldList.{Held}
 use Rattle.room_rows.specs.Rows.{Rows, numbers_of, put_number, put_numbers}
 use Rattle.room_rows.specs.Pass.{pass}
-use Rattle.room_rows.specs.Law.{agrees, agrees_with}
-use Rattle.room_inherit.specs.Spread.{AllAgreeInFolders, AllAgreeInFoldersBut, ChangedAgree, agrees_in_folder, stores_as_before, with_lists, is_changed, is_linked_within, is_within, IsOwnAncestor}
+use Rattle.room_rows.specs.Law.{AllAgree, AllAgreeBut, agrees, agrees_with}
+use Rattle.room_inherit.specs.Spread.{ChangedAgree, stores_as_before, with_lists, is_changed, is_linked_within, is_within, IsOwnAncestor}
 use Rattle.room_inherit.specs.Turn.{is_linked_to, is_met_again, meets_again}
 use Rattle.room_inherit.proofs.Kinship.{same_parent, same_kind, with_own}
 use Rattle.room_inherit.proofs.Members.{Each, each_back, each_map, each_weaker, all_each, one_if, count, count_ends}
@@ -26,7 +26,6 @@ use Rattle.room_inherit.proofs.Children.{ids_of, each_found, found_id, each_ther
 use Rattle.room_inherit.proofs.Renewing.{map_agree, one_object}
 use Rattle.room_inherit.proofs.Frontier.{set, set_id, set_parent, set_held, find_set, links, passes, There, Waits, Came, AgreesOrWaits, Frontier}
 use Rattle.room_inherit.proofs.Outdated.{parent_is, same_above, parent_found, base_of}
-use Rattle.room_inherit.proofs.Folders.{in_folder_is, meets_both, set_above}
 
 -- where a test of all objects is passed, each object passes it
 pub each_all : (p : Node → Bool) (xs : List Node) → list_all p xs ≡ true → Each (λ x. p x ≡ true) xs
@@ -78,6 +77,10 @@ law_of_two which old n p there has link agree =
     entries_equal (held_of which n).inh (passes which (own_lists which) p n)
     (meets_both (links which p n)
     (same_entries (held_of which n).inh (passes which (own_lists which) p n)) link with_p)
+  where
+    meets_both : (t u : Bool) → t ≡ true → (not t || u) ≡ true → u ≡ true
+    meets_both true u is either = either
+    meets_both false u is either = absurd (false≢true is)
 
 module _ (which : Which) (start : ℕ) (old : Content)
     (rises : is_rising (0 ∷ ids_of old.nodes) ≡ true) where
@@ -103,56 +106,36 @@ module _ (which : Which) (start : ℕ) (old : Content)
         came =
             λ n there changed. changed_own which n
             (Came which start old (own_lists which) (s ∷ []) n) changed;
-        law = λ but n p there there' folder has link.
+        law = λ but n p there there' has link.
             let either = each_found
-            (λ m. (has_parent start m || agrees_in_folder old which m) ≡ true) n.id old.nodes n
-            (each_all (λ m. has_parent start m || agrees_in_folder old which m) old.nodes but)
-            there in
-            elim (or_cases (has_parent start n) (agrees_in_folder old which n) either) [
+            (λ m. (has_parent start m || agrees old which m) ≡ true) n.id old.nodes n
+            (each_all (λ m. has_parent start m || agrees old which m) old.nodes but) there in
+            elim (or_cases (has_parent start n) (agrees old which n) either) [
               | inl child ↦
                   let e : Some start ≡ Some p.id = sym (parent_is start n child)
                   ∙ parent_is p.id n has in
                   let e' : start ≡ p.id = cc in
                   inl (or_left (s.id == p.id) false (eq-eqb s.id p.id (same ∙ e')))
-              | inr agree ↦
-                  inr (law_of_two which old n p there' has link
-                  (meets_both (has_folder_above old n) (agrees old which n)
-                  (in_folder_is old n p there' has ∙ folder) agree))
+              | inr agree ↦ inr (law_of_two which old n p there' has link agree)
             ];
       }
 
-  -- where each child of the object agrees or stands in no folder, all do
-  law_above : ((n : Node) → has_parent start n ≡ true → agrees_in_folder old which n ≡ true)
-      → AllAgreeInFoldersBut old which start → AllAgreeInFolders old which
-  law_above children but =
-      all_each (agrees_in_folder old which) old.nodes
-      (each_weaker (λ m. (has_parent start m || agrees_in_folder old which m) ≡ true)
-      (λ m. agrees_in_folder old which m ≡ true) one old.nodes
-      (each_all (λ m. has_parent start m || agrees_in_folder old which m) old.nodes but))
+  -- where the object isn't there, nothing is linked to it
+  pub law_without : node_at old start ≡ None → AllAgreeBut old which start → AllAgree old which
+  law_without none but =
+      all_each (agrees old which) old.nodes
+      (each_weaker (λ m. (has_parent start m || agrees old which m) ≡ true)
+      (λ m. agrees old which m ≡ true) one old.nodes
+      (each_all (λ m. has_parent start m || agrees old which m) old.nodes but))
     where
-      one : (n : Node) → (has_parent start n || agrees_in_folder old which n) ≡ true
-          → agrees_in_folder old which n ≡ true
-      one n either = elim (or_cases (has_parent start n) (agrees_in_folder old which n) either) [
-        | inl child ↦ children n child
+      one : (n : Node) → (has_parent start n || agrees old which n) ≡ true
+          → agrees old which n ≡ true
+      one n either = elim (or_cases (has_parent start n) (agrees old which n) either) [
+        | inl child ↦
+            ap (λ o. option_map_or (agrees_with which n) o true)
+            (ap (option_and_then (node_at old)) (parent_is start n child) ∙ none)
         | inr agree ↦ agree
       ]
-
-  -- where the object isn't there, nothing is linked to it
-  pub law_without : node_at old start ≡ None → AllAgreeInFoldersBut old which start
-      → AllAgreeInFolders old which
-  law_without none = law_above (λ n child.
-      or_right (not (has_folder_above old n)) (agrees old which n)
-      (ap (λ o. option_map_or (agrees_with which n) o true)
-      (ap (option_and_then (node_at old)) (parent_is start n child) ∙ none)))
-
-  -- where it is a document, nothing stands in a folder there
-  pub law_document : (s : Node) → node_at old start ≡ Some s → is_folder s ≡ false
-      → AllAgreeInFoldersBut old which start → AllAgreeInFolders old which
-  law_document s found document = law_above (λ n child.
-      let same : s.id ≡ start = found_id start old.nodes s found in
-      let none : has_folder_above old n ≡ false = in_folder_is old n s
-      (ap (node_at old) same ∙ found) (ap (λ i. has_parent i n) same ∙ child) ∙ document in
-      or_left (not (has_folder_above old n)) (agrees old which n) (ap not none))
 
   -- ---- the end
 
@@ -197,32 +180,17 @@ module _ (which : Which) (start : ℕ) (old : Content)
             ap (λ o. option_map_or (agrees_with which (set which f n)) o true)
             (find_set which f p old.nodes) ∙ found_or p (node_at old p) refl up
 
-    -- once no object waits any more, each object in a folder agrees with it by the new lists
-    pub law_at_end : AgreesOrWaits which start old f []
-        → AllAgreeInFolders (with_lists which f old) which
+    -- once no object waits any more, each object agrees with its parent by the new lists
+    pub law_at_end : AgreesOrWaits which start old f [] → AllAgree (with_lists which f old) which
     law_at_end law =
-        all_each (agrees_in_folder (with_lists which f old) which) (map (set which f) old.nodes)
-        (each_map (λ m. agrees_in_folder (with_lists which f old) which m ≡ true)
-        (set which f) old.nodes
-        (each_there (λ n. agrees_in_folder (with_lists which f old) which (set which f n) ≡ true)
-        old.nodes (apart_rising 0 old.nodes rises) one))
-      where
-        one : (n : Node) → There which start old n
-            → agrees_in_folder (with_lists which f old) which (set which f n) ≡ true
-        one n there = elim (cases_Bool (has_folder_above old n)) [
-          | inl above ↦
-              or_right (not (has_folder_above (with_lists which f old) (set which f n)))
-              (agrees (with_lists which f old) which (set which f n))
-              (agrees_now n (λ p there' has link. elim
-              (law n p there there' (sym (in_folder_is old n p there' has) ∙ above) has link) [
-                | inl waiting ↦ absurd (false≢true waiting)
-                | inr same ↦ same
-              ]))
-          | inr isnt ↦
-              or_left (not (has_folder_above (with_lists which f old) (set which f n)))
-              (agrees (with_lists which f old) which (set which f n))
-              (ap not (set_above which f old n ∙ isnt))
-        ]
+        all_each (agrees (with_lists which f old) which) (map (set which f) old.nodes)
+        (each_map (λ m. agrees (with_lists which f old) which m ≡ true) (set which f) old.nodes
+        (each_there (λ n. agrees (with_lists which f old) which (set which f n) ≡ true)
+        old.nodes (apart_rising 0 old.nodes rises)
+        (λ n there. agrees_now n (λ p there' has link. elim (law n p there there' has link) [
+          | inl waiting ↦ absurd (false≢true waiting)
+          | inr same ↦ same
+        ]))))
 
     -- Where each object with another list than before agrees with a parent, each agrees or stores
     -- what it did.

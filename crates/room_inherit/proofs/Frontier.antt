@@ -9,8 +9,9 @@ use Rattle.room_rows.specs.Content.{Content, node_at, has_parent, is_folder}
 use Rattle.room_rows.specs.Finding.{find_id}
 use Rattle.room_rows.specs.Held.{held_of, is_linked}
 use Rattle.room_rows.specs.Keep.{with_inh}
+use Rattle.room_rows.specs.Law.{AllAgreeBut}
 use Rattle.room_rows.specs.Pass.{pass}
-use Rattle.room_inherit.specs.Spread.{AllAgreeInFoldersBut, is_changed, IsLinkedBelow}
+use Rattle.room_inherit.specs.Spread.{is_changed, IsLinkedBelow}
 use Rattle.room_inherit.proofs.Kinship.{same_id, same_kind, same_parent, held_with}
 use Rattle.room_inherit.proofs.Members.{Each}
 use Rattle.room_inherit.proofs.Children.{has_id, Apart, ids_of}
@@ -93,10 +94,10 @@ module _ (which : Which) (start : ℕ) (old : Content) where
     pub taken : has_id parent.id waiting ≡ false
     pub agrees : f node ≡ passes which f parent node
 
-  -- an object in a folder agrees with it, or the folder waits
+  -- an object agrees with its parent, or the parent waits
   abbrev pub AgreesOrWaits : (Node → List Ace) → List Node → Type 0
   AgreesOrWaits f waiting =
-      (node parent : Node) → There node → There parent → is_folder parent ≡ true
+      (node parent : Node) → There node → There parent
       → has_parent parent.id node ≡ true → links which parent node ≡ true
       → (has_id parent.id waiting ≡ true) ⊎ (f node ≡ passes which f parent node)
 
@@ -104,4 +105,4 @@ module _ (which : Which) (start : ℕ) (old : Content) where
     pub known : Each (Waits f) waiting
     pub apart : Apart waiting
     pub came : (node : Node) → There node → is_changed which f node ≡ true → Came f waiting node
-    pub law : AllAgreeInFoldersBut old which start → AgreesOrWaits f waiting
+    pub law : AllAgreeBut old which start → AgreesOrWaits f waiting

@@ -1,13 +1,13 @@
 -- One object taken from those that wait, and its children renewed.
-use Rattle.std.proofs.Common.{◌≡◌, ℕ, zero, suc, ◌+◌, ◌≤◌, ◌==◌, Bool, true, false, cond, not, ◌&&◌, ◌||◌, List, [], ◌∷◌, ◌++◌, map, filter, length, Some, refl, sym, ap, ◌∙◌, inl, inr, ◌⊎◌, arith}
+use Rattle.std.proofs.Common.{◌≡◌, ℕ, zero, suc, ◌+◌, ◌==◌, Bool, true, false, cond, not, ◌&&◌, ◌||◌, List, [], ◌∷◌, ◌++◌, map, filter, length, Some, refl, sym, ap, ◌∙◌, inl, inr, ◌⊎◌}
 use Rattle.std.specs.Option.{option_map, option_map_or}
-use Rattle.std.proofs.lemmas.Bool.{cases_Bool, and_from, and_left, and_parts, and_right, cond-true, or_cases, or_parts, or_from, or_left, or_right, false≢true, eq-eqb, eqb-true, false_from_ne_true}
+use Rattle.std.proofs.lemmas.Bool.{cases_Bool, and_from, and_left, cond-true, or_cases, or_parts, or_from, or_left, or_right, false≢true, eq-eqb, eqb-true, false_from_ne_true}
 use Rattle.std.proofs.lemmas.List.{length-map}
 use Rattle.room_entry.specs.Ace.{Ace}
 use Rattle.room_entry.specs.Same.{same_entries}
 use Rattle.room_entry.specs.declared.object.Which.{Which}
 use Rattle.room_rows.specs.declared.node.Node.{Node}
-use Rattle.room_rows.specs.Content.{Content, node_at, parent_of, has_parent, children_of, is_folder, is_linked_in, is_rising, with_each}
+use Rattle.room_rows.specs.Content.{Content, node_at, parent_of, has_parent, children_of, is_linked_in, is_rising, with_each}
 use Rattle.room_rows.specs.Finding.{find_id}
 use Rattle.room_rows.specs.Held.{held_of, is_linked}
 use Rattle.room_rows.specs.Keep.{with_inh}
@@ -16,11 +16,11 @@ use Rattle.room_inherit.specs.Spread.{with_lists, is_changed, is_linked_within, 
 use Rattle.room_inherit.specs.Turn.{brought_up, is_linked_to, is_outdated, next_of, passed_to, renewed, renewals, renewed_below, is_met_again, meets_again, waits_next}
 use Rattle.room_inherit.specs.declared.descent.Reach.TheVariants.{Renewed}
 use Rattle.room_inherit.proofs.Kinship.{same_id}
-use Rattle.room_inherit.proofs.Members.{Each, each_append, each_front, each_back, each_weaker, each_map, each_filter, count, count_length, count_narrow}
+use Rattle.room_inherit.proofs.Members.{Each, each_append, each_front, each_back, each_weaker, each_map, each_filter, count}
 use Rattle.room_inherit.proofs.Children.{has_id, Apart, ids_of, apart_rising, apart_filter, apart_map, has_id_map, each_child, apart_children, is_such_child, no_child}
 use Rattle.room_inherit.proofs.Outdated as step
 use Rattle.room_inherit.proofs.Outdated.{parent_found, same_above, has_either, apart_join, apart_front, apart_last, has_last, or_false, base_of}
-use Rattle.room_inherit.proofs.Frontier.{set, set_folder, set_id, set_parent, find_set, links, passes, is_reached, There, Waits, Came, Frontier}
+use Rattle.room_inherit.proofs.Frontier.{set, set_id, set_parent, find_set, links, passes, is_reached, There, Waits, Came, Frontier}
 
 module _ (which : Which) (start : ℕ) (old : Content)
     (rises : is_rising (0 ∷ ids_of old.nodes) ≡ true) (f : Node → List Ace) (rest : List Node)
@@ -116,8 +116,8 @@ module _ (which : Which) (start : ℕ) (old : Content)
   abbrev going : Node → Bool
   going = waits_next Renewed which w
 
-  abbrev folders : List Node
-  folders = filter going (children_of now w.id)
+  abbrev goes_on : List Node
+  goes_on = filter going (children_of now w.id)
 
   kept_id : (n : Node) → (brought_up which w n).id ≡ n.id
   kept_id n = on (is_outdated which w n)
@@ -126,33 +126,24 @@ module _ (which : Which) (start : ℕ) (old : Content)
       on true = same_id which (passed_to which w n) n
       on false = refl
 
-  kids_has : (n : Node) → There which start old n → has_id n.id kids ≡ (is_folder n && stale n)
+  kids_has : (n : Node) → There which start old n → has_id n.id kids ≡ stale n
   kids_has n there =
-      has_id_map (brought_up which w) kept_id n.id folders
-      ∙ ap (λ i. has_id i folders) (sym (set_id which f n))
+      has_id_map (brought_up which w) kept_id n.id goes_on
+      ∙ ap (λ i. has_id i goes_on) (sym (set_id which f n))
       ∙ is_such_child now apart_now going w.id (set which f n) (there_now n there)
-      ∙ swapped (has_parent w.id (set which f n)) (is_folder (set which f n))
-      (is_outdated which w (set which f n))
-      ∙ (λ i. set_folder which f n i && step.stale_is which f w w0 waits.is n i)
-    where
-      swapped : (a b c : Bool) → (a && (b && c)) ≡ (b && (a && c))
-      swapped true true c = refl
-      swapped true false c = refl
-      swapped false true c = refl
-      swapped false false c = refl
+      ∙ step.stale_is which f w w0 waits.is n
 
   no_kid : (n : Node) → There which start old n → stale n ≡ false → has_id n.id kids ≡ false
-  no_kid n there fresh = kids_has n there ∙ and_right (is_folder n) (stale n) fresh
+  no_kid n there fresh = kids_has n there ∙ fresh
 
   kids_apart : Apart kids
   kids_apart =
-      apart_map (brought_up which w) kept_id folders
+      apart_map (brought_up which w) kept_id goes_on
       (apart_filter going (children_of now w.id) (apart_children now apart_now w.id))
 
   kid_waits : (m : Node) → node_at now m.id ≡ Some m → has_parent w.id m ≡ true → going m ≡ true
       → Waits which start old after (brought_up which w m)
-  kid_waits m there has goes =
-      let is = (and_parts (is_folder m) (is_outdated which w m) goes).1 in
+  kid_waits m there has is =
       let b = base_of which f m (find_id m.id old.nodes)
       (sym (find_set which f m.id old.nodes) ∙ there) in
       let n = b.0 in
@@ -175,7 +166,7 @@ module _ (which : Which) (start : ℕ) (old : Content)
 
   kids_wait : Each (Waits which start old after) kids
   kids_wait =
-      each_map (Waits which start old after) (brought_up which w) folders
+      each_map (Waits which start old after) (brought_up which w) goes_on
       (each_filter (λ m. Waits which start old after (brought_up which w m)) going
       (children_of now w.id)
       (each_child now apart_now
@@ -282,9 +273,9 @@ module _ (which : Which) (start : ℕ) (old : Content)
 
   -- any other object stays as it was
   other_agrees : (n p : Node) → There which start old n → There which start old p
-      → is_folder p ≡ true → has_parent p.id n ≡ true → (p.id == w.id) ≡ false
+      → has_parent p.id n ≡ true → (p.id == w.id) ≡ false
       → (has_id p.id (rest ++ w ∷ []) ≡ true) ⊎ (f n ≡ passes which f p n) → Goal n p
-  other_agrees n p there there' folder has other (inl waiting) =
+  other_agrees n p there there' has other (inl waiting) =
       elim (or_cases (has_id p.id rest) (has_id p.id (w ∷ []))
       (sym (has_either p.id rest (w ∷ [])) ∙ waiting)) [
         | inl still ↦
@@ -294,15 +285,14 @@ module _ (which : Which) (start : ℕ) (old : Content)
             (false≢true (sym other ∙ eq-eqb p.id w.id
             (sym (eqb-true w.id p.id (sym (or_false (w.id == p.id)) ∙ last)))))
       ]
-  other_agrees n p there there' folder has other (inr agrees) =
+  other_agrees n p there there' has other (inr agrees) =
       let fresh : stale n ≡ false = and_left (has_parent w.id n) _
       (false_from_ne_true (has_parent w.id n)
       (λ has'. false≢true (sym other ∙ eq-eqb p.id w.id (same_above p.id w.id n has has')))) in
       elim (cases_Bool (stale p)) [
         | inl st ↦
             inl (has_either p.id rest kids
-            ∙ or_right (has_id p.id rest) (has_id p.id kids)
-            (kids_has p there' ∙ and_from (is_folder p) (stale p) folder st))
+            ∙ or_right (has_id p.id rest) (has_id p.id kids) (kids_has p there' ∙ st))
         | inr fresh' ↦
             inr (keeps n fresh ∙ agrees
             ∙ ap (λ l. pass n.kind ((held_of which p).own ++ l)) (sym (keeps p fresh')))
@@ -324,26 +314,20 @@ module _ (which : Which) (start : ℕ) (old : Content)
           | inl before ↦ came_before n there before (front.came n there before)
           | inr st ↦ came_now n there st
         ];
-    law = λ but n p there there' folder has link. elim (cases_Bool (p.id == w.id)) [
+    law = λ but n p there there' has link. elim (cases_Bool (p.id == w.id)) [
       | inl is ↦ inr (child_agrees n p there' has link (eqb-true p.id w.id is))
       | inr other ↦
-          other_agrees n p there there' folder has other
-          (front.law but n p there there' folder has link)
+          other_agrees n p there there' has other (front.law but n p there there' has link)
     ];
   }
 
   -- ---- counts
 
-  -- no more wait next than are renewed
-  pub as_few : length kids ≤ length (renewals which w (children_of now w.id))
-  as_few =
-      let all = children_of now w.id in
-      let k = length-map folders (brought_up which w) in
-      let c = count_length going all in
-      let n = count_narrow is_folder (is_outdated which w) all in
-      let o = count_length (is_outdated which w) all in
-      let r = length-map (filter (is_outdated which w) all) (renewed which w) in
-      omega (arith, k, c, n, o, r)
+  -- as many wait next as are renewed
+  pub as_many : length kids ≡ length (renewals which w (children_of now w.id))
+  as_many =
+      length-map goes_on (brought_up which w)
+      ∙ sym (length-map (filter (is_outdated which w) (children_of now w.id)) (renewed which w))
 
   pub count_after : count (is_changed which after) old.nodes
       ≡ count (is_changed which f) old.nodes + length (renewals which w (children_of now w.id))

@@ -21,7 +21,7 @@ use Rattle.room_inherit.proofs.Renewing.{one_object}
 use Rattle.room_inherit.proofs.Frontier.{passes}
 use Rattle.room_inherit.proofs.Ends.{own_lists, own_unchanged, law_at_end, changed_agree, each_all}
 use Rattle.room_inherit.proofs.Outdated.{parent_found}
-use Rattle.room_inherit.proofs.Folders.{folders_stay, in_folder_is, law_in_folders}
+use Rattle.room_inherit.proofs.Folders.{in_folder_is}
 use Rattle.room_inherit.proofs.Sweeping.{Sweep}
 
 same_some : (x y : Node) → Some x ≡ Some y → x ≡ y
@@ -202,10 +202,9 @@ module _ (which : Which) (old : Content) (rises : is_rising (0 ∷ ids_of old.no
 
     pub law_swept : AllAgree (with_lists which f old) which
     law_swept =
-        law_in_folders (with_lists which f old) which (folders_stay which f old tree.folders)
-        (law_at_end which 0 old rises f
-        (λ n p there there' folder has link. elim
-        (front.closed n p there there' folder has (all_seen p there')) [
+        law_at_end which 0 old rises f
+        (λ n p there there' has link. elim
+        (front.closed n p there there' (folder_is n p there there' has) has (all_seen p there')) [
           | inl waiting ↦ absurd (false≢true waiting)
           | inr met ↦ inr (met.1 link)
-        ]))
+        ])

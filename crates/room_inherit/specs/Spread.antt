@@ -8,12 +8,12 @@ use Rattle.room_entry.specs.Same.{same_entries}
 use Rattle.room_entry.specs.declared.object.Which.{Which}
 use Rattle.room_rows.specs.declared.keep.Keep.{Ghosts}
 use Rattle.room_rows.specs.declared.node.Node.{Node}
-use Rattle.room_rows.specs.Content.{Content, node_at, parent_of, has_folder_above, has_parent}
+use Rattle.room_rows.specs.Content.{Content, node_at, parent_of, has_parent}
 use Rattle.room_rows.specs.Content.{is_linked_in, with_each}
 use Rattle.room_rows.specs.Held.{held_of}
 use Rattle.room_rows.specs.Keep.{HasCause, IsUnreadable, capped, reading, with_inh}
 use Rattle.room_rows.specs.Rows.{Rows}
-use Rattle.room_rows.specs.Law.{agrees}
+use Rattle.room_rows.specs.Law.{AllAgree, AllAgreeBut, agrees}
 use Rattle.room_inherit.specs.declared.outcome.Spread.{Spread}
 use Rattle.room_inherit.specs.declared.outcome.SpreadFault.{SpreadFault}
 use Rattle.room_inherit.specs.declared.outcome.SpreadFault.TheVariants.{Keeper, Loop}
@@ -43,20 +43,6 @@ is_linked_within (suc n) rows which id node =
 abbrev pub IsLinkedBelow : Content → Which → ℕ → Node → Type 0
 IsLinkedBelow rows which id node = (n : ℕ) × IsTrue (is_linked_within n rows which id node)
 
--- ---- the law for what stands in folders
-
--- An object in a folder agrees with it. In sound rows each object but the root stands in a folder.
-abbrev pub agrees_in_folder : Content → Which → Node → Bool
-agrees_in_folder rows which node = not (has_folder_above rows node) || agrees rows which node
-
-abbrev pub AllAgreeInFolders : Content → Which → Type 0
-AllAgreeInFolders rows which = IsTrue (list_all (agrees_in_folder rows which) rows.nodes)
-
--- the same but for the children of an object
-abbrev pub AllAgreeInFoldersBut : Content → Which → ℕ → Type 0
-AllAgreeInFoldersBut rows which id =
-    IsTrue (list_all (λ node. has_parent id node || agrees_in_folder rows which node) rows.nodes)
-
 -- ---- what is different afterwards
 
 -- each object with these inherited entries, and else as it was
@@ -79,8 +65,8 @@ ChangedAgree which old new =
     IsTrue (list_all (λ node. stores_as_before old which node || agrees new which node) new.nodes)
 
 -- The rows are as they were but for inherited entries of this attribute at objects that are linked
--- below this one. This many of them are different now, and agree with their parents. If what stands
--- in folders kept the law but for the object's children, it keeps the law.
+-- below this one. This many of them are different now, and agree with their parents. If the law held
+-- but for the object's children, it holds.
 pub record IsSpread (which : Which) (id : ℕ) (old new : Rows) (changed : ℕ) : Type 0 where
   pub lists : Node → List Ace
   pub becomes : new ≡ reading old (with_lists which lists old.read)
@@ -88,7 +74,7 @@ pub record IsSpread (which : Which) (id : ℕ) (old new : Rows) (changed : ℕ) 
       → IsTrue (is_changed which lists node) → IsLinkedBelow old.read which id node
   pub counted : changed ≡ count_by (is_changed which lists) old.read.nodes
   pub agree : ChangedAgree which old.read new.read
-  pub law : AllAgreeInFoldersBut old.read which id → AllAgreeInFolders new.read which
+  pub law : AllAgreeBut old.read which id → AllAgree new.read which
 
 -- ---- why there is no answer
 

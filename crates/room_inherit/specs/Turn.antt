@@ -84,9 +84,9 @@ abbrev pub brought_up : Which → Node → Node → Node
 brought_up which above node =
     if is_outdated which above node then renewed which above node else node
 
--- Which children wait next: the renewed folders, or all folders. Nothing lies below a document.
+-- which children wait next: the renewed ones, documents too, or all folders
 abbrev pub waits_next : Reach → Which → Node → Node → Bool
-waits_next Renewed which above node = is_folder node && is_outdated which above node
+waits_next Renewed which above node = is_outdated which above node
 waits_next All which above node = is_folder node
 
 -- those of the children, as they are to be
@@ -94,8 +94,8 @@ abbrev pub next_of : Reach → Which → Node → List Node → List Node
 next_of reach which above nodes =
     map (brought_up which above) (filter (waits_next reach which above) nodes)
 
--- One object's outdated children are renewed, and the folders among these or among all children are
--- added after the objects that wait. The first object isn't among the children.
+-- One object's outdated children are renewed, and those that wait next are added after the objects
+-- that wait. The first object isn't among the children.
 pub record IsVisit (descent : Descent) (above : Node) (before after : List Node) (old : Rows)
     (written : ℕ) (new : Rows) : Type 0 where
   pub not_met : meets_again descent.which descent.start above (children_of old.read above.id)
@@ -105,8 +105,8 @@ pub record IsVisit (descent : Descent) (above : Node) (before after : List Node)
   pub waits : after
       ≡ before ++ next_of descent.reach descent.which above (children_of old.read above.id)
 
--- The outdated ones of these children are renewed in the rows, and the folders among them or among
--- all wait next.
+-- The outdated ones of these children are renewed in the rows, and those that wait next are added
+-- after the objects that wait.
 pub record IsRenewal (descent : Descent) (above : Node) (nodes before after : List Node)
     (old : Rows) (written : ℕ) (new : Rows) : Type 0 where
   pub counted : written ≡ length (renewals descent.which above nodes)

@@ -19,16 +19,16 @@ const FIRST_TURNS: usize = 65_536;
 // exact.
 const MANY: u64 = 1 << 63;
 
-/// Which folders in an object it goes on to.
+/// Which children of an object it goes on to.
 #[derive(Drop)]
 pub(crate) enum Reach {
     /// To those that were renewed.
     Renewed,
-    /// To all of them.
+    /// To all folders.
     All,
 }
 
-/// The start, which of the lists is carried down, and which folders it goes on to.
+/// The start, which of the lists is carried down, and which children it goes on to.
 #[derive(Drop)]
 pub(crate) struct Descent {
     pub(crate) start: u64,
@@ -37,7 +37,7 @@ pub(crate) struct Descent {
 }
 
 /// Brings the stored inherited entries below an object of the rows up to date, for one of the
-/// lists. It goes on to the folders that were renewed, or from the root to all.
+/// lists. It goes on to the objects that were renewed, or from the root to all folders.
 pub(crate) fn carry_down<K: Keep>(
     alloc: Global,
     keep: &mut K,

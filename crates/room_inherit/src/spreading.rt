@@ -10,9 +10,9 @@ use std::alloc::Global;
 
 /// Brings the stored inherited entries below the object up to date, for one of the lists: each
 /// object that is linked there, through linked ones, stores what its parent's list passes to it. An
-/// object that stores it already isn't written, and nothing below it is read. Nothing is read below
-/// a document either, since nothing lies there in sound rows. The error is `Loop` where the object
-/// is its own ancestor, and else the keeper's.
+/// object that stores it already isn't written, and nothing below it is read. The rows may be any:
+/// what damaged rows have below a document follows too. The error is `Loop` where the object is its
+/// own ancestor, and else the keeper's.
 pub fn spread<K: Keep>(
     alloc: Global,
     keep: &mut K,
@@ -37,10 +37,6 @@ pub fn spread_from<K: Keep>(
     ensures spread { SpreadsIf K.Keep keep.old keep.new (Holds start.now) which start.now.id
         result }
 {
-    // Nothing lies below a document.
-    if start.is_document() {
-        return Ok(Spread { changed: 0 });
-    }
     carry_down(alloc, keep, start, which, Reach::Renewed)
 }
 

@@ -13,8 +13,8 @@ use room_ace::Which;
 use room_rows::{Keep, Node};
 use std::alloc::{AllocError, Global};
 
-/// Renews the outdated children of an object, answers how many they are, and adds the folders that
-/// it goes on to after the ones that wait. The error is `Loop` where the object at which it began
+/// Renews the outdated children of an object, answers how many they are, and adds those that it
+/// goes on to after the ones that wait. The error is `Loop` where the object at which it began
 /// is among the linked children, before anything is written.
 pub(crate) fn visit<K: Keep>(
     alloc: Global,
@@ -28,6 +28,10 @@ pub(crate) fn visit<K: Keep>(
     ensures few { IfOk result (λ written. written < 2 ^ 63) }
 {
     let children = keep.children(above.id)?;
+    // Most documents end here, before it is worked out what they pass.
+    if children.is_empty() {
+        return Ok(0);
+    }
     if meets_again(children.as_slice(), descent, above) {
         return Err(SpreadFault::Loop);
     }
@@ -134,13 +138,14 @@ fn wait_next(
     Ok(())
 }
 
-// Whether the child waits next. A document doesn't, since nothing lies below it.
+// Whether the child waits next. A renewed document does too, since damaged rows may have objects
+// below it.
 fn waits_next(reach: &Reach, child: &Node, renews: bool) -> bool
     ensures { (which : Which) (above : Node) → renews ≡ is_outdated which above child.now
         → result ≡ waits_next reach.now which above child.now }
 {
     match reach {
-        Reach::Renewed => !child.is_document() && renews,
+        Reach::Renewed => renews,
         Reach::All => !child.is_document(),
     }
 }

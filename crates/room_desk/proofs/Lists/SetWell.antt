@@ -14,7 +14,7 @@ use Rattle.room_entry.specs.declared.object.ObjKind.{ObjKind}
 use Rattle.room_entry.specs.declared.object.Which.{Which}
 use Rattle.room_rows.specs.HeldList.{Held}
 use Rattle.room_rows.specs.declared.node.Node.{Node}
-use Rattle.room_rows.specs.Content.{Content, node_at, parent_of, has_folder_above, has_parent, is_linked_in, with_each}
+use Rattle.room_rows.specs.Content.{Content, node_at, parent_of, has_parent, is_linked_in, with_each}
 use Rattle.room_rows.specs.Held.{held_of, full_of, is_linked}
 use Rattle.room_rows.specs.Keep.{reading}
 use Rattle.room_rows.specs.Rows.{Rows, AreRows}
@@ -23,13 +23,12 @@ use Rattle.room_inherit.specs.Laws.{are_valid}
 use Rattle.room_rows.specs.Pass.{pass}
 use Rattle.room_rows.specs.Sound.{AreSound, keeps_law, reaches}
 use Rattle.room_inherit.specs.Spread.{IsSpread, with_lists}
-use Rattle.room_inherit.proofs.Folders.{law_carried}
 use Rattle.room_inherit.proofs.Kinship.{with_own}
 use Rattle.room_inherit.proofs.NoFault.{no_fault}
 use Rattle.room_desk.specs.Setting.{IsNewInh, IsSet, IsSetWell, Stores, fault_in, reason_of, held_with, stored_held}
 use Rattle.room_desk.specs.Carrying.{GoesDown}
-use Rattle.room_desk.proofs.Lists.Relisted.{all_implied, folders_kept, held_relisted, one_agrees, relist}
-use Rattle.room_desk.proofs.Lists.SetHeld.{base, base_here, each_same, ends, ends_is, final, links, mid, mid_is, other_links, own_held, same_node, same_object, set_sound}
+use Rattle.room_desk.proofs.Lists.Relisted.{all_implied, held_relisted, one_agrees, relist}
+use Rattle.room_desk.proofs.Lists.SetHeld.{base, base_here, each_same, ends, ends_is, final, links, mid, other_links, own_held, same_node, same_object, set_sound}
 use Rattle.room_desk.proofs.Lists.SetMeaning.{set_means}
 use Rattle.room_desk.proofs.Lists.SetSpread.{agree_all, agree_but, not_own_parent, unlinked_unchanged}
 use Rattle.room_desk.proofs.Lists.ValidDown.{all_found, are_inherited, are_own, linked_above}
@@ -248,16 +247,9 @@ module _ (which : Which) (sent : Sent) (node : Node) (old : Rows) (are : AreRows
     set_spread mid_rows new changed written carried =
         let spread : IsSpread which node.id (reading old (mid which rows node held)) new changed =
         subst (λ (r : Rows). IsSpread which node.id r new changed) written carried in
-        let folders : list_all (has_folder_above (mid which rows node held))
-        (mid which rows node held).nodes ≡ true =
-        subst (λ (c : Content). list_all (has_folder_above c) c.nodes ≡ true)
-        (sym (mid_is which rows node held spread.lists are.numbers there))
-        (folders_kept which (base which rows node held) rows (no_fault old sound).parents) in
         let law : AllAgree (with_lists which spread.lists (mid which rows node held)) which =
         subst (λ (r : Rows). AllAgree r.read which) spread.becomes
-        (law_carried which node.id changed
-        (reading old (mid which rows node held)) new folders spread
-        (agree_but which rows node held are.numbers there sent stored law_before)) in
+        (spread.law (agree_but which rows node held are.numbers there sent stored law_before)) in
         subst (IsSetWell which sent node old)
         (ap (reading old) (sym (ends_is which rows node held spread.lists are.numbers there))
         ∙ sym spread.becomes)

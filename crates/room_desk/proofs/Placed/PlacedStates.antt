@@ -28,7 +28,7 @@ use Rattle.room_desk.proofs.Placed.Climbing.{past_reaches}
 use Rattle.room_desk.proofs.Placed.PlacedLinks.{linked_any}
 use Rattle.room_desk.proofs.Placed.PlacedMeaning.{means_placed}
 use Rattle.room_desk.proofs.Placed.PlacedParts.{apart as all_apart, base, change_there, lists, placed_held}
-use Rattle.room_desk.proofs.Placed.PlacedTree.{above_elsewhere, above_here, change, elsewhere, faultless, here, is_target, kind, new, number, parents_after, passes_new, passes_old}
+use Rattle.room_desk.proofs.Placed.PlacedTree.{above_elsewhere, above_here, change, elsewhere, faultless, here, is_target, kind, new, number, passes_new, passes_old}
 use Rattle.room_desk.proofs.Sound.SoundParts.{none_unreadable, sound_parts}
 use Rattle.room_desk.proofs.Placed.SoundPlaced.{sound_placed}
 
@@ -152,7 +152,6 @@ module _ (old : Rows) (target folder : Node) (name : List ℕ)
     can_renew = record {
       rises = subst (λ ids. IsTrue (is_rising (0 ∷ ids))) (sym numbers_same) can.are.numbers;
       readable = none_unreadable old (sound_parts old can.sound);
-      folders = parents_after old target folder name can d s;
       there = moved d s target;
       there_is =
           ap (node_at (state d s).read) (sym (number old target folder name can d s target))

@@ -1,7 +1,6 @@
 -- One attribute of an object at its new place: it takes what the folder passes, and hands it down.
 use Rattle.std.proofs.Common.{◌≡◌, ℕ, zero, suc, ◌==◌, Bool, true, false, cond, not, ◌||◌, List, Option, Some, None, refl, sym, ap, subst, ◌∙◌, inl, inr}
 use Rattle.std.specs.Prelude.{option_and_then}
-use Rattle.std.specs.List.{list_all}
 use Rattle.std.specs.Option.{option_map, option_map_or}
 use Rattle.std.proofs.lemmas.Bool.{cases_Bool, and_parts, or_left, or_right, false≢true, eqb-true, eqb-false, false_from_ne_true}
 use Rattle.room_entry.specs.Ace.{Ace}
@@ -11,23 +10,21 @@ use Rattle.room_entry.proofs.Alike.{equal_entries}
 use Rattle.room_entry.proofs.Same.{entries_equal}
 use Rattle.room_rows.specs.HeldList.{Held}
 use Rattle.room_rows.specs.declared.node.Node.{Node}
-use Rattle.room_rows.specs.Content.{Content, node_at, parent_of, has_folder_above, has_parent, is_linked_in, with_each}
+use Rattle.room_rows.specs.Content.{Content, node_at, parent_of, has_parent, is_linked_in, with_each}
 use Rattle.room_rows.specs.Held.{held_of, full_of, is_linked}
 use Rattle.room_rows.specs.Keep.{Changes, reading, with_inh}
 use Rattle.room_rows.specs.Rows.{Rows}
 use Rattle.room_rows.proofs.Frames.{node_at-number}
 use Rattle.room_rows.proofs.InPlace.{held_of-with_inh, place-with_inh, with_node-replaces}
-use Rattle.room_rows.proofs.SamePlace.{IsSamePlace, replaced, replaced_here, replaced_elsewhere}
+use Rattle.room_rows.proofs.SamePlace.{replaced, replaced_here, replaced_elsewhere}
 use Rattle.room_rows.specs.Law.{agrees, agrees_with, AllAgreeBut}
 use Rattle.room_rows.specs.Pass.{pass}
 use Rattle.room_inherit.specs.Spread.{IsLinkedBelow, IsSpread, is_changed, is_linked_within}
 use Rattle.room_inherit.proofs.Children.{each_there}
 use Rattle.room_inherit.proofs.Ends.{own_lists, with_own_lists}
-use Rattle.room_inherit.proofs.Folders.{law_carried}
-use Rattle.room_inherit.proofs.Kinship.{same_id, same_name, same_parent, same_kind, with_last}
+use Rattle.room_inherit.proofs.Kinship.{same_id, same_parent, same_kind, with_last}
 use Rattle.room_inherit.proofs.Members.{all_each}
 use Rattle.room_inherit.proofs.Renewing.{map_agree, map_map}
-use Rattle.room_inherit.proofs.Unmoved.{all_kept, folder_above}
 use Rattle.room_desk.specs.Moving.{CanRenew, HasRenewedLists}
 use Rattle.room_desk.proofs.Placed.Climbing.{same_some}
 use Rattle.room_desk.proofs.Placed.PlacedParts.{all_after, apart, change_there, linked_above, linked_flags, parent_after}
@@ -154,22 +151,6 @@ module _ (which : Which) (target folder : Node) (old : Rows)
     change_flags n =
         of_both (λ (m : Node). (held_of which m).flags) n
         (ap (λ (h : Held). h.flags) (held_of-with_inh which entries n))
-
-    change_kind : (n : Node) → (change n).kind ≡ n.kind
-    change_kind n = of_both (λ (m : Node). m.kind) n (same_kind which entries n)
-
-    change_place : (n : Node) → IsSamePlace (change n) n
-    change_place n =
-        record {
-          number = change_id n;
-          parent = change_parent n;
-          name = of_both (λ (m : Node). m.name) n (same_name which entries n);
-        }
-
-    folders_after : list_all (has_folder_above after) after.nodes ≡ true
-    folders_after =
-        all_kept change (has_folder_above after) (has_folder_above content)
-        (folder_above content change change_place change_kind) content.nodes can.folders
 
     -- ---- the rows with these entries
 
@@ -338,9 +319,7 @@ module _ (which : Which) (target folder : Node) (old : Rows)
               unlinked_kept down.lists down.below (change n)
               (change_there content can.rises change change_id n found) (linked_after n ∙ unlinked)
               ∙ ap (λ (m : Node). (held_of which m).inh) same;
-          law =
-              law_carried which target.id changed
-              (reading old after) new folders_after down law_but;
+          law = down.law law_but;
         }
       where
         of_both_with : (l : List Ace) (n : Node) → with_inh which l (change n) ≡ with_inh which l n
