@@ -205,18 +205,6 @@ count_either p q r (x ∷ xs) all =
     on false true apart rest = omega (arith, rest)
     on false false apart rest = omega (arith, rest)
 
--- no more pass two tests than one of them
-pub count_narrow : {A : Type 0} (p q : A → Bool) (xs : List A)
-    → count (λ x. p x && q x) xs ≤ count q xs
-count_narrow p q [] = omega arith
-count_narrow p q (x ∷ xs) = on (p x) (q x) (count_narrow p q xs)
-  where
-    on : (s t : Bool) → count (λ y. p y && q y) xs ≤ count q xs
-        → one_if (s && t) + count (λ y. p y && q y) xs ≤ one_if t + count q xs
-    on true t rest = omega (arith, rest)
-    on false true rest = omega (arith, rest)
-    on false false rest = omega (arith, rest)
-
 -- no more members pass a test than there are
 pub count_ends : {A : Type 0} (p : A → Bool) (xs : List A) → count p xs ≤ length xs
 count_ends p [] = omega arith
