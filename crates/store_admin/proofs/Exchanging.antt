@@ -34,6 +34,7 @@ use Rattle.store_tables.specs.Shown.{IsRoom}
 use Rattle.store_tables.specs.Tables.{members, room_schema}
 use Rattle.store_tables.proofs.Answers.{shows, selected}
 use Rattle.store_tables.proofs.Calls.{retains_by}
+use Rattle.store_tables.proofs.Printed.{keeps_same}
 use Rattle.store_tables.proofs.Executed.{WritesRoom}
 use Rattle.store_tables.proofs.Inserts.{fresh_alone}
 use Rattle.store_tables.proofs.Rowids.{each_of, has_itself, of_each}
@@ -280,7 +281,7 @@ still_room rows old new inside room shaped d = (
     audits = subst (IsShaped Shape.Table) (sym d.puts.audits) room.audits;
   },
   d.shown.mode ∙ inside,
-  retains_by _ _ d.puts.meta d.puts.audits,
+  retains_by _ _ d.puts.meta d.puts.audits (keeps_same _ _ d.puts.nodes),
 )
 
 pub empty_room : (old new : State) → IsTrue old.in_transaction → (count : ℕ)

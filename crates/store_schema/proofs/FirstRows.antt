@@ -30,7 +30,8 @@ use Rattle.room_entry.specs.declared.parties.Owners.{Owners}
 use Rattle.store_tables.specs.Tables.{meta, nodes, room_schema}
 use Rattle.store_schema.specs.Making.{HasEmpty, IsBare}
 use Rattle.store_schema.specs.NewRoom.{IsNewRoom, is_version, number_shown}
-use Rattle.store_schema.proofs.Meant.{owner_line, room_read, root_row}
+use Rattle.store_tables.specs.Printed.{ArePrinted}
+use Rattle.store_schema.proofs.Meant.{owner_line, room_read, root_printed, root_row}
 use Rattle.store_schema.proofs.Steps.{went, same_value}
 use Rattle.store_schema.proofs.Texts.{version_text, version_terms, version_is, version_plain, folder_text, folder_terms, folder_is, folder_plain}
 
@@ -44,7 +45,7 @@ cast_null : cast kind.Integer Null ≡ Null
 unfolding unary
 cast_null = either _ Null
 
-cast_int : (n : ℤ) → cast kind.Integer (Int n) ≡ Int n
+pub cast_int : (n : ℤ) → cast kind.Integer (Int n) ≡ Int n
 unfolding unary
 cast_int n = either _ (Int n)
 
@@ -235,4 +236,5 @@ makes_root owners one two three four old new count before h =
       version =
           ap told (others.1.1.1.0 (λ e. let e' : 5 ≡ 0 = e in omega (arith, e'))) ∙ before.version;
       rows = room_read new.now owners one two three four nodes bodies members audits;
+      texts = subst ArePrinted (sym nodes) (root_printed owners.owner owners.group);
     }

@@ -1,5 +1,5 @@
 -- What the row of a new root is read as.
-use Rattle.std.proofs.Common.{◌≡◌, ℕ, pos, List, [], ◌∷◌, ◌++◌, codes, Some, None, refl, ap, ◌∙◌, true}
+use Rattle.std.proofs.Common.{◌≡◌, ℕ, pos, List, [], ◌∷◌, ◌++◌, codes, Some, None, inl, inr, refl, sym, ap, subst, ◌∙◌, true}
 use Rattle.std.specs.Prelude.{IsTrue, false, Option, option_map, option_and_then, is_none, if◌then◌else◌}
 use Rattle.std.specs.List.{filter_map, cons_option}
 use Rattle.room_entry.specs.Ace.{Ace}
@@ -15,9 +15,12 @@ use Rattle.room_entry.specs.Names.{is_name}
 use Rattle.room_entry.specs.Utf8.{is_utf8}
 use Rattle.room_entry.specs.declared.parties.Owners.{Owners}
 use Rattle.sqlite.specs.declared.types.Value.TheVariants.{Null, Int, Text}
-use Rattle.sqlite.specs.Order.{Row}
+use Rattle.sqlite.specs.Order.{Row, column}
+use Rattle.sqlite_rules.specs.Lists.{Has}
 use Rattle.store_tables.specs.Meaning.{audit_in, bodies_of, name_in, name_of_text, node_in, nodes_of, pairs_of, rows_of, unread_of}
 use Rattle.store_tables.specs.Shown.{shown_node}
+use Rattle.store_tables.specs.Printed.{ArePrinted, HoldsPrinted, IsPrinted}
+use Rattle.store_tables.proofs.Printed.{by_cell}
 use Rattle.store_schema.specs.NewRoom.{owner_entry, rows_of_root, new_root}
 
 abbrev pub owner_line : List ℕ
@@ -34,6 +37,27 @@ abbrev pub root_row : List ℕ → List ℕ → Row
 root_row owner group =
     Int (pos 1) ∷ Null ∷ Null ∷ Text [] ∷ Int (pos 1) ∷ Text owner ∷ Text group ∷ Int (pos 1)
     ∷ Int (pos 1) ∷ Text owner_line ∷ Text [] ∷ Text [] ∷ Text [] ∷ []
+
+-- its lists are printed as they are read
+owner_printed : IsPrinted (owner_entry ∷ []) owner_line
+unfolding all_bits Rattle.room_entry.specs.Letters.mask_letters
+owner_printed = (refl, owner_line_is)
+
+none_printed : HoldsPrinted (Text [])
+none_printed = ([], refl, ([], (refl, no_line_is)))
+
+alone : (x : Row) (P : Row → Type 0) → P x → (r : Row) → Has (x ∷ []) r → P r
+alone x P here r (inl e) = subst P (sym e) here
+alone x P here r (inr none) = absurd none
+
+pub root_printed : (owner group : List ℕ) → ArePrinted (root_row owner group ∷ [])
+root_printed owner group = by_cell (λ place. (r : Row) → Has (root_row owner group ∷ []) r
+    → HoldsPrinted (column r place))
+    (alone (root_row owner group) (λ r. HoldsPrinted (column r 9))
+    (owner_line, refl, (owner_entry ∷ [], owner_printed)))
+    (alone (root_row owner group) (λ r. HoldsPrinted (column r 10)) none_printed)
+    (alone (root_row owner group) (λ r. HoldsPrinted (column r 11)) none_printed)
+    (alone (root_row owner group) (λ r. HoldsPrinted (column r 12)) none_printed)
 
 -- a node by its columns that may not be read
 abbrev root_of : Option (List ℕ) → Option (List ℕ) → Option (List Ace) → Option (List Ace)

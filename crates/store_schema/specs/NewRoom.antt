@@ -17,6 +17,7 @@ use Rattle.sqlite.specs.declared.types.Value.TheVariants.{Int, Text}
 use Rattle.sqlite.specs.Order.{Row, column, value_cmp}
 use Rattle.sqlite.specs.Effect.{Database}
 use Rattle.store_tables.specs.Meaning.{rows_of}
+use Rattle.store_tables.specs.Printed.{ArePrinted}
 use Rattle.store_tables.specs.Shown.{IsRoom}
 use Rattle.store_tables.specs.Trees as tree
 use Rattle.store_tables.specs.MetaCells as meta_cell
@@ -90,3 +91,4 @@ pub record IsNewRoom (owners : Owners) (db : Database) : Type 0 where
   pub room : IsRoom db
   pub version : meta_of db ≡ Some (pos 2)
   pub rows : rows_of db ≡ rows_of_root owners
+  pub texts : ArePrinted (db.trees tree.nodes)

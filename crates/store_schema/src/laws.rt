@@ -1,12 +1,20 @@
 //! Laws of rooms that are made and upgraded.
 ghost use Rattle.store_schema.specs.NewRoom.{NewRoomIsSound};
 ghost use Rattle.store_schema.specs.Raising.{SpreadIsRaised};
+ghost use Rattle.std.specs.Prelude.{List};
+ghost use Rattle.sqlite.specs.Order.{Row};
+ghost use Rattle.store_tables.specs.Printed.{ArePrinted, KeepsPrinted};
 
 use room_inherit::laws::{kept_is_no_fault, raised_is_sound, raised_means_the_same};
 
 /// The rows of a new room are sound.
 pub fn new_room_is_sound()
     ensures { NewRoomIsSound }
+{}
+
+/// Where each list column holds printed entries, it does after any call that keeps to that.
+pub fn printed_stays_printed()
+    ensures { (old new : List Row) → KeepsPrinted old new → ArePrinted old → ArePrinted new }
 {}
 
 /// Sound rows of schema 1, of which all lists are carried down, are sound rows of schema 2 and mean

@@ -23,6 +23,8 @@ use Rattle.store_tables.proofs.Answers.{shows}
 use Rattle.sqlite.specs.State.{State, Executes}
 use Rattle.sqlite.specs.declared.error.Error.{Error}
 use Rattle.store_tables.proofs.Texts.{delete_text}
+use Rattle.store_tables.specs.Printed.{KeepsPrinted}
+use Rattle.store_tables.proofs.Printed.{keeps_fewer, keeps_same}
 use Rattle.store_tables.proofs.Calls.{retains_by}
 use Rattle.store_tables.proofs.Executed.{WritesRoom}
 use Rattle.sqlite_trees.proofs.TreeLemmas.{IsShaped-filter}
@@ -358,9 +360,11 @@ delete_room id old new inside count h room =
       ],
       d.shown.mode ∙ inside,
       elim (deletes id old new count room d) [
-        | inl same ↦ retains_by _ _ same.1.meta same.1.audits
+        | inl same ↦ retains_by _ _ same.1.meta same.1.audits (keeps_same _ _ same.1.nodes)
         | inr gone ↦
             retains_by _ _ gone.meta gone.audits
+            (subst (KeepsPrinted (old.now.trees 0)) (sym gone.nodes)
+            (keeps_fewer id (old.now.trees 0)))
       ],
     )
 

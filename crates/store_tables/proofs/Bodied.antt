@@ -22,6 +22,7 @@ use Rattle.store_tables.specs.Shown.{Bodies, IsRoom, stored_body}
 use Rattle.store_tables.specs.Tables.{room_schema}
 use Rattle.store_tables.proofs.Actions.{bodies_table}
 use Rattle.store_tables.proofs.Calls.{retains_by}
+use Rattle.store_tables.proofs.Printed.{keeps_same}
 use Rattle.store_tables.proofs.Executed.{WritesRoom}
 use Rattle.store_tables.proofs.Filled.{cast_body, one_off}
 use Rattle.store_tables.proofs.Inserts.{fresh_alone}
@@ -101,5 +102,5 @@ put_room id bytes old new inside count h room =
             (IsShaped-put_row (stored_body id bytes) _ refl room.bodies);
       },
       d.shown.mode ∙ inside,
-      retains_by _ _ d.puts.meta d.puts.audits,
+      retains_by _ _ d.puts.meta d.puts.audits (keeps_same _ _ d.puts.nodes),
     )

@@ -21,14 +21,17 @@ use Rattle.store_tables.specs.Shown.{IsRoom, Retains, Stays}
 use Rattle.store_tables.proofs.Texts.{query_of, selects}
 use Rattle.store_tables.proofs.Answers.{passes, shows, selected}
 use Rattle.store_tables.proofs.Bare.{IsReading, shown_same}
+use Rattle.store_tables.specs.Printed.{KeepsPrinted}
+use Rattle.store_tables.proofs.Printed.{keeps_on, keeps_itself}
 use Rattle.store_tables.proofs.Within.{unchanged_within, undone_within}
 
 -- ---- what is retained
 
 -- where `meta` and `audits` are as they were, no record is lost
-pub retains_by : (db next : Trees) → next 5 ≡ db 5 → next 7 ≡ db 7 → Retains db next
-retains_by db next meta audits =
-    record { meta = meta; more = []; audits = audits ∙ sym (append-nil (db 7)) }
+pub retains_by : (db next : Trees) → next 5 ≡ db 5 → next 7 ≡ db 7 → KeepsPrinted (db 0) (next 0)
+    → Retains db next
+retains_by db next meta audits texts =
+    record { meta = meta; more = []; audits = audits ∙ sym (append-nil (db 7)); texts = texts }
 
 -- two changes, each of which keeps `meta` and all records, keep them together
 pub retains_on : (a b c : Trees) → Retains a b → Retains b c → Retains a c
@@ -37,13 +40,14 @@ retains_on a b c p q =
       meta = q.meta ∙ p.meta;
       more = p.more ++ q.more;
       audits = q.audits ∙ ap (λ l. l ++ q.more) p.audits ∙ append_assoc (a 7) p.more q.more;
+      texts = keeps_on (a 0) (b 0) (c 0) p.texts q.texts;
     }
 
 -- a database that is as it was has `meta` and all its records
 pub retains_same : (db next : Database) → next ≡ db → Retains db.trees next.trees
 retains_same db next same =
     subst (λ (d : Database). Retains db.trees d.trees) (sym same)
-    (retains_by db.trees db.trees refl refl)
+    (retains_by db.trees db.trees refl refl (keeps_itself (db.trees 0)))
 
 retains_at : (a b c d : Database) → c ≡ a → d ≡ b → Retains a.trees b.trees
     → Retains c.trees d.trees

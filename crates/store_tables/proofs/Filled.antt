@@ -26,6 +26,7 @@ use Rattle.store_tables.specs.Tables.{room_schema}
 use Rattle.store_tables.proofs.Actions.{bodies_table}
 use Rattle.store_tables.proofs.Answers.{selected, shows}
 use Rattle.store_tables.proofs.Calls.{retains_by}
+use Rattle.store_tables.proofs.Printed.{keeps_same}
 use Rattle.store_tables.proofs.Executed.{WritesRoom}
 use Rattle.store_tables.proofs.Rowids.{alone_in, at_most_one, has_found, of_each, only_one, rowid_is}
 use Rattle.store_tables.proofs.Tests.{filter_same, passes_id}
@@ -208,9 +209,9 @@ fill_room id bytes old new inside count h room =
       ],
       d.shown.mode ∙ inside,
       elim (fills id bytes old new count room d) [
-        | inl same ↦ retains_by _ _ same.1.meta same.1.audits
+        | inl same ↦ retains_by _ _ same.1.meta same.1.audits (keeps_same _ _ same.1.nodes)
         | inr put ↦
-            retains_by _ _ put.meta put.audits
+            retains_by _ _ put.meta put.audits (keeps_same _ _ put.nodes)
       ],
     )
 

@@ -1,5 +1,5 @@
 -- What a new row leaves.
-use Rattle.std.proofs.Common.{◌≡◌, ◌&&◌, ℕ, List, [], ◌∷◌, Ok, None, IsTrue, refl, sym, ap, subst, ◌∙◌, true, false, Bool, not, if◌then◌else◌, unwrap_or, arith}
+use Rattle.std.proofs.Common.{◌≡◌, ◌&&◌, ℕ, List, [], ◌∷◌, Ok, None, IsTrue, inl, refl, sym, ap, subst, ◌∙◌, true, false, Bool, not, if◌then◌else◌, unwrap_or, arith}
 use Rattle.sqlite.specs.declared.types.Value.TheVariants.{Null}
 use Rattle.sqlite.specs.Order.{Row}
 use Rattle.sqlite.specs.Cast.{cast_row}
@@ -24,6 +24,8 @@ use Rattle.store_tables.specs.Tables.{room_schema}
 use Rattle.store_tables.specs.Shown.{IsRoom, AddsRow, stored_node}
 use Rattle.store_tables.proofs.Texts.{insert_text, insert_is, insert_terms, plain_texts}
 use Rattle.store_tables.proofs.Writes.{went, same_value, nodes_table}
+use Rattle.store_tables.specs.Printed.{IsCanonical, KeepsPrinted}
+use Rattle.store_tables.proofs.Printed.{by_cell, keeps_itself, keeps_more, printed_text}
 use Rattle.store_tables.proofs.Calls.{retains_by}
 use Rattle.store_tables.proofs.Executed.{WritesRoom}
 use Rattle.store_tables.proofs.Updates.{Columns, values, cast_null, cast_int}
@@ -112,10 +114,18 @@ inserted c old new count has h =
       shown = w.shown;
     }
 
+-- the texts of its lists are printed
+pub record ListsPrinted (c : Columns) : Type 0 where
+  pub dacl_own : IsCanonical c.dacl_own
+  pub dacl_inh : IsCanonical c.dacl_inh
+  pub sacl_own : IsCanonical c.sacl_own
+  pub sacl_inh : IsCanonical c.sacl_inh
+
 -- inside a transaction, an INSERT into `nodes` leaves the tables of a room and commits nothing
-pub insert_room : (c : Columns) (old new : State) → IsTrue old.in_transaction → (count : ℕ)
-    → Executes insert_text (values c) old new (Ok count) → IsRoom old.now → WritesRoom old new
-insert_room c old new inside count h room =
+pub insert_room : (c : Columns) → ListsPrinted c → (old new : State) → IsTrue old.in_transaction
+    → (count : ℕ) → Executes insert_text (values c) old new (Ok count) → IsRoom old.now
+    → WritesRoom old new
+insert_room c printed old new inside count h room =
     let d = inserted c old new count room.schema h in (
       d.shown.committed_is ∙ ap (λ b. if b then old.committed else new.now) inside,
       record {
@@ -130,5 +140,12 @@ insert_room c old new inside count h room =
         bodies = subst (IsShaped Shape.Table) (sym d.adds.bodies) room.bodies;
       },
       d.shown.mode ∙ inside,
-      retains_by _ _ d.adds.meta d.adds.audits,
+      retains_by _ _ d.adds.meta d.adds.audits
+          (subst (KeepsPrinted (old.now.trees 0)) (sym d.adds.nodes)
+          (keeps_more (stored_node (next_rowid (old.now.trees 0)) (values c)) (old.now.trees 0)
+          (old.now.trees 0) (keeps_itself (old.now.trees 0))
+          (by_cell _ (inl (printed_text c.dacl_own printed.dacl_own))
+          (inl (printed_text c.dacl_inh printed.dacl_inh))
+          (inl (printed_text c.sacl_own printed.sacl_own))
+          (inl (printed_text c.sacl_inh printed.sacl_inh))))),
     )

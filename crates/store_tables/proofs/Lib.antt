@@ -7,6 +7,7 @@ pub mod Changed
 pub mod Tests
 pub mod Writes
 pub mod Rowids
+pub mod Printed
 pub mod Actions
 pub mod Executed
 pub mod Updates

@@ -35,6 +35,7 @@ use Rattle.store_tables.specs.Columns.{record_values}
 use Rattle.store_tables.specs.Shown.{IsRoom, AddsRecordRow, stored_record}
 use Rattle.store_tables.specs.Tables.{audits, counters, room_schema}
 use Rattle.store_tables.proofs.Executed.{WritesRoom}
+use Rattle.store_tables.proofs.Printed.{keeps_same}
 use Rattle.store_tables.proofs.Texts.{note_is, note_text, plain_texts}
 use Rattle.store_tables.proofs.Updates.{cast_int, cast_null}
 use Rattle.store_tables.proofs.Writes.{same_value, went}
@@ -296,5 +297,10 @@ note_room r old new inside count h room =
       },
       d.shown.mode ∙ inside,
       (let added = notes r old new count room h in
-          record { meta = added.meta; more = _; audits = added.audits }),
+          record {
+            meta = added.meta;
+            more = _;
+            audits = added.audits;
+            texts = keeps_same _ _ added.nodes;
+          }),
     )

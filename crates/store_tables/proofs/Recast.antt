@@ -27,6 +27,8 @@ use Rattle.store_tables.proofs.Texts.{matches_parameter, updates_nodes}
 use Rattle.store_tables.proofs.Answers.{shows, selected}
 use Rattle.store_tables.proofs.Tests.{filter_same, passes_id}
 use Rattle.store_tables.proofs.Writes.{went, same_value, nodes_table}
+use Rattle.store_tables.specs.Printed.{KeepsPrinted}
+use Rattle.store_tables.proofs.Printed.{WritesPrinted, keeps_over, keeps_same}
 use Rattle.store_tables.proofs.Calls.{retains_by}
 use Rattle.store_tables.proofs.Executed.{WritesRoom}
 use Rattle.store_tables.proofs.Rowids.{at_most_one, only_one, has_found, cells_of, alone_in, rowid_is, of_each}
@@ -205,9 +207,10 @@ module _ (text : List ℕ) (terms : List Term)
     (is : command_of (understood room_schema text) ≡ updates_nodes terms)
     (plain : IsPlain (understood room_schema text)) (id : ℤ) (given : Row) (change : Row → Row)
     (gives : Gives terms id given change) where
-  pub recast_room : (old new : State) → IsTrue old.in_transaction → (count : ℕ)
-      → Executes text (Int id ∷ given) old new (Ok count) → IsRoom old.now → WritesRoom old new
-  recast_room old new inside count h room =
+  pub recast_room : WritesPrinted change → (old new : State) → IsTrue old.in_transaction
+      → (count : ℕ) → Executes text (Int id ∷ given) old new (Ok count) → IsRoom old.now
+      → WritesRoom old new
+  recast_room printed old new inside count h room =
       let d = rewritten text terms is plain id given old new count room.schema h in (
         d.shown.committed_is ∙ ap (λ b. if b then old.committed else new.now) inside,
         elim (did terms id given change gives old new count room d) [
@@ -233,9 +236,11 @@ module _ (text : List ℕ) (terms : List Term)
         ],
         d.shown.mode ∙ inside,
         elim (did terms id given change gives old new count room d) [
-          | inl same ↦ retains_by _ _ same.1.meta same.1.audits
+          | inl same ↦ retains_by _ _ same.1.meta same.1.audits (keeps_same _ _ same.1.nodes)
           | inr put ↦
               retains_by _ _ put.2.meta put.2.audits
+              (subst (KeepsPrinted (old.now.trees 0)) (sym put.2.nodes)
+              (keeps_over old.now room id change printed put.0 put.1))
         ],
       )
 

@@ -18,8 +18,8 @@ stored_back n c low s =
     rw (s.owner, s.group) refl in
     let dacl : held_in (Int c.dacl_flags) (Text (string_bytes c.dacl_own))
     (Text (string_bytes c.dacl_inh)) ≡ Some n.dacl =
-    rw (s.dacl_flags, s.dacl_own, s.dacl_inh) refl in
+    rw (s.dacl_flags, s.dacl_own.1, s.dacl_inh.1) refl in
     let sacl : held_in (Int c.sacl_flags) (Text (string_bytes c.sacl_own))
     (Text (string_bytes c.sacl_inh)) ≡ Some n.sacl =
-    rw (s.sacl_flags, s.sacl_own, s.sacl_inh) refl in
+    rw (s.sacl_flags, s.sacl_own.1, s.sacl_inh.1) refl in
     rw (number, s.parent, s.name, s.kind, owners, dacl, sacl) refl

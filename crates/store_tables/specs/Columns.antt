@@ -10,8 +10,9 @@ use Rattle.store_tables.specs.declared.columns.Columns.{Columns}
 use Rattle.store_tables.specs.declared.columns.HeldColumns.{HeldColumns}
 use Rattle.store_tables.specs.declared.columns.Record.{Record}
 use Rattle.sqlite.specs.Effect.{Database}
+use Rattle.store_tables.specs.Printed.{IsPrinted}
 use Rattle.store_tables.specs.Shown.{AddsRow}
-use Rattle.store_tables.specs.Meaning.{parent_in, text_in, kind_in, name_in, flags_in, entries_in}
+use Rattle.store_tables.specs.Meaning.{parent_in, text_in, kind_in, name_in, flags_in}
 use Rattle.store_tables.specs.Meaning.{mask_in, path_in, place_in, user_in}
 
 abbrev pub values_of : Columns → Row
@@ -24,7 +25,7 @@ values_of c = c.parent ∷ Text (string_bytes c.name) ∷ Int c.kind ∷ Text (s
 abbrev pub IsParent : Value → Type 0
 IsParent v = (v ≡ Null) ⊎ ((n : ℤ) × (v ≡ Int n))
 
--- what is read of the columns is the object
+-- what is read of the columns is the object, and its lists are printed in them
 pub record ReadsAsNode (n : Node) (c : Columns) : Type 0 where
   pub is_parent : IsParent c.parent
   pub parent : parent_in c.parent ≡ Some n.parent
@@ -34,16 +35,24 @@ pub record ReadsAsNode (n : Node) (c : Columns) : Type 0 where
   pub group : name_in (Text (string_bytes c.group)) ≡ Some n.owners.group
   pub dacl_flags : flags_in (Int c.dacl_flags) ≡ Some n.dacl.flags
   pub sacl_flags : flags_in (Int c.sacl_flags) ≡ Some n.sacl.flags
-  pub dacl_own : entries_in (Text (string_bytes c.dacl_own)) ≡ Some n.dacl.own
-  pub dacl_inh : entries_in (Text (string_bytes c.dacl_inh)) ≡ Some n.dacl.inh
-  pub sacl_own : entries_in (Text (string_bytes c.sacl_own)) ≡ Some n.sacl.own
-  pub sacl_inh : entries_in (Text (string_bytes c.sacl_inh)) ≡ Some n.sacl.inh
+  pub dacl_own : IsPrinted n.dacl.own (string_bytes c.dacl_own)
+  pub dacl_inh : IsPrinted n.dacl.inh (string_bytes c.dacl_inh)
+  pub sacl_own : IsPrinted n.sacl.own (string_bytes c.sacl_own)
+  pub sacl_inh : IsPrinted n.sacl.inh (string_bytes c.sacl_inh)
 
--- what is read of the columns is the list
+-- what is read of the columns is the list, which is printed in them
 pub record ReadsAsHeld (h : Held) (c : HeldColumns) : Type 0 where
   pub flags : flags_in (Int c.flags) ≡ Some h.flags
-  pub own : entries_in (Text (string_bytes c.own)) ≡ Some h.own
-  pub inh : entries_in (Text (string_bytes c.inh)) ≡ Some h.inh
+  pub own : IsPrinted h.own (string_bytes c.own)
+  pub inh : IsPrinted h.inh (string_bytes c.inh)
+
+-- the columns of some object
+abbrev pub StoresNode : Columns → Type 0
+StoresNode c = (node : Node) × ReadsAsNode node c
+
+-- those of some list
+abbrev pub StoresHeld : HeldColumns → Type 0
+StoresHeld c = (held : Held) × ReadsAsHeld held c
 
 -- an object is stored in columns that are put in with this number
 pub record IsInserted (node : Node) (id : ℕ) (old new : Database) : Type 0 where

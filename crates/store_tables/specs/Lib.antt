@@ -5,6 +5,7 @@ pub mod BodyCells
 pub mod NodeCells
 pub mod Trees
 pub mod Tables
+pub mod Printed
 pub mod Shown
 pub mod Statements
 pub mod Meaning

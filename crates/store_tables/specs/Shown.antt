@@ -15,6 +15,7 @@ use Rattle.sqlite.specs.State.{State, HasCleanDisk}
 use Rattle.sqlite.specs.Edit.{next_rowid, is_taken}
 use Rattle.store_tables.specs.Tables.{nodes, room_schema}
 use Rattle.store_tables.specs.Within.{IsWithin}
+use Rattle.store_tables.specs.Printed.{KeepsPrinted}
 use Rattle.store_tables.specs.Trees as tree
 use Rattle.store_tables.specs.NodeCells as cell
 use Rattle.store_tables.specs.PairCells as pair
@@ -89,12 +90,13 @@ pub record KeepsAll (db next : Trees) : Type 0 where
   pub meta : next tree.meta ≡ db tree.meta
   pub audits : next tree.audits ≡ db tree.audits
 
--- What no request takes away: `meta` is as it was, and each row of `audits` is there with its
--- number. New rows come after them.
+-- What every request keeps to: `meta` is as it was, and each row of `audits` is there with its
+-- number. New rows come after them. Where a list column was written, it holds printed entries.
 pub record Retains (db next : Trees) : Type 0 where
   pub meta : next tree.meta ≡ db tree.meta
   pub more : List Row
   pub audits : next tree.audits ≡ db tree.audits ++ more
+  pub texts : KeepsPrinted (db tree.nodes) (next tree.nodes)
 
 -- what any call inside a transaction leaves, whatever it answers
 pub record Stays (old new : State) : Type 0 where

@@ -2,8 +2,9 @@
 ghost use Rattle.std.specs.Prelude.{◌≡◌, Some, IfOk, IfSome, pos, string_bytes};
 ghost use Rattle.sqlite.specs.declared.types.Value.TheVariants.{Int, Text as SqlText};
 ghost use Rattle.store_tables.specs.Columns.{IsParent, Recalls, ReadsAsHeld, ReadsAsNode};
-ghost use Rattle.store_tables.specs.Meaning.{entries_in, flags_in, kind_in, mask_in, name_in};
+ghost use Rattle.store_tables.specs.Meaning.{flags_in, kind_in, mask_in, name_in};
 ghost use Rattle.store_tables.specs.Meaning.{parent_in, path_in, place_in, text_in, user_in};
+ghost use Rattle.store_tables.specs.Printed.{IsPrinted};
 
 use crate::seen::rowid_of;
 use room_ace::{Failure, ListFlags, Mask, Name, ObjKind, Owners, names_are_text, print_entries};
@@ -101,8 +102,8 @@ fn owner_columns(alloc: Global, owners: &Owners) -> Result<(String, String), All
 
 // The own and the inherited entries.
 fn list_columns(alloc: Global, held: &Held) -> Result<(String, String), AllocError>
-    ensures { IfOk result (λ t. (entries_in (SqlText (string_bytes t.0)) ≡ Some held.now.own)
-        × (entries_in (SqlText (string_bytes t.1)) ≡ Some held.now.inh)) }
+    ensures { IfOk result (λ t. IsPrinted held.now.own (string_bytes t.0)
+        × IsPrinted held.now.inh (string_bytes t.1)) }
 {
     let own = print_entries(alloc, held.own())?;
     let inh = print_entries(alloc, held.inh())?;

@@ -2,6 +2,7 @@
 //! and printed once.
 ghost use Rattle.std.specs.Prelude.{◌≡◌, IfOk, IfSome, Some, string_bytes};
 ghost use Rattle.room_ace.specs.Column.{entries_of};
+ghost use Rattle.store_tables.specs.Printed.{IsPrinted};
 
 use room_ace::{Entries, Entry, print_entries, read_entries};
 use std::alloc::{AllocError, Global};
@@ -51,20 +52,20 @@ struct PrintedText {
 }
 
 impl Model for PrintedText {
-    ghost use Rattle.std.specs.Prelude.{◌≡◌, List, Some, string_bytes};
+    ghost use Rattle.std.specs.Prelude.{List, string_bytes};
     ghost use Rattle.room_entry.specs.Ace.{Ace};
-    ghost use Rattle.room_ace.specs.Column.{entries_of};
+    ghost use Rattle.store_tables.specs.Printed.{IsPrinted};
 
     ghost Value = { List Ace };
 
     ghost view = { λ p. p.entries };
 
-    ghost invariant = { λ p. entries_of (string_bytes p.text) ≡ Some p.entries };
+    ghost invariant = { λ p. IsPrinted p.entries (string_bytes p.text) };
 }
 
 impl PrintedText {
     fn of(alloc: Global, entries: &[Entry], text: &str) -> Result<PrintedText, AllocError>
-        requires { entries_of text.now ≡ Some entries.now }
+        requires { IsPrinted entries.now text.now }
         ensures { IfOk result (λ printed. printed ≡ entries.now) }
     {
         let text = String::from_str(alloc, text)?;
@@ -79,7 +80,7 @@ impl PrintedText {
     // A copy of its text, if it is that of these entries.
     fn spelling(&self, alloc: Global, entries: &[Entry]) -> Result<Option<String>, AllocError>
         ensures { IfOk result
-            (λ found. IfSome found (λ text. entries_of (string_bytes text) ≡ Some entries.now)) }
+            (λ found. IfSome found (λ text. IsPrinted entries.now (string_bytes text))) }
     {
         if self.entries.is_same(entries) {
             return Ok(Some(String::from_str(alloc, self.text.as_str())?));
@@ -111,9 +112,9 @@ impl RecentLists {
         }
     }
 
-    /// The text that spells the entries, as `print_entries` has it.
+    /// The text of the entries, as `print_entries` has it.
     pub(crate) fn print(&mut self, alloc: Global, entries: &[Entry]) -> Result<String, AllocError>
-        ensures { IfOk result (λ text. entries_of (string_bytes text) ≡ Some entries.now) }
+        ensures { IfOk result (λ text. IsPrinted entries.now (string_bytes text)) }
     {
         if let Some(text) = spelling_in(&self.last, alloc, entries)? {
             return Ok(text);
@@ -130,7 +131,7 @@ impl RecentLists {
     }
 
     fn keep(&mut self, alloc: Global, entries: &[Entry], text: &str) -> Result<(), AllocError>
-        requires { entries_of text.now ≡ Some entries.now }
+        requires { IsPrinted entries.now text.now }
     {
         let printed = PrintedText::of(alloc, entries, text)?;
         self.before = self.last.take();
@@ -217,7 +218,7 @@ fn spelling_in(
     entries: &[Entry],
 ) -> Result<Option<String>, AllocError>
     ensures { IfOk result
-        (λ found. IfSome found (λ text. entries_of (string_bytes text) ≡ Some entries.now)) }
+        (λ found. IfSome found (λ text. IsPrinted entries.now (string_bytes text))) }
 {
     match slot {
         None => Ok(None),

@@ -1,7 +1,8 @@
 //! The statements, each a fixed text.
 ghost use Rattle.std.specs.Prelude.{◌≡◌, string_bytes};
 ghost use Rattle.sqlite.specs.Held.{state};
-ghost use Rattle.store_tables.specs.Columns.{IsParent, record_values, values_of};
+ghost use Rattle.store_tables.specs.Columns.{StoresHeld, StoresNode, record_values, values_of};
+ghost use Rattle.store_tables.specs.Printed.{IsCanonical};
 ghost use Rattle.store_tables.specs.Shown.{Bodies, Fills, AddsRecordRow};
 ghost use Rattle.store_tables.specs.Shown.{Recasts, RemovesRow};
 ghost use Rattle.store_tables.specs.Shown.{holding, inheriting, lying, owning};
@@ -155,6 +156,7 @@ fn update_dacl<S: Alter>(
     id: i64,
     list: &HeldColumns,
 ) -> Result<usize, Error>
+    requires { StoresHeld list.now }
     ensures same_reference { tx.new.conn.ghost_name ≡ tx.old.conn.ghost_name }
     ensures writes { ExecutesSql (OfOne (Recasts (holding Which.Dacl list.now.flags
         (string_bytes list.now.own) (string_bytes list.now.inh)) id))
@@ -172,6 +174,7 @@ fn update_sacl<S: Alter>(
     id: i64,
     list: &HeldColumns,
 ) -> Result<usize, Error>
+    requires { StoresHeld list.now }
     ensures same_reference { tx.new.conn.ghost_name ≡ tx.old.conn.ghost_name }
     ensures writes { ExecutesSql (OfOne (Recasts (holding Which.Sacl list.now.flags
         (string_bytes list.now.own) (string_bytes list.now.inh)) id))
@@ -190,6 +193,7 @@ pub(crate) fn update_held<S: Alter>(
     which: Which,
     list: &HeldColumns,
 ) -> Result<usize, Error>
+    requires { StoresHeld list.now }
     ensures same_reference { tx.new.conn.ghost_name ≡ tx.old.conn.ghost_name }
     ensures writes { ExecutesSql (OfOne (Recasts (holding which list.now.flags
         (string_bytes list.now.own) (string_bytes list.now.inh)) id))
@@ -241,6 +245,7 @@ fn update_dacl_inh<S: Alter>(
     id: i64,
     text: &str,
 ) -> Result<usize, Error>
+    requires { IsCanonical text.now }
     ensures same_reference { tx.new.conn.ghost_name ≡ tx.old.conn.ghost_name }
     ensures writes { ExecutesSql (OfOne (Recasts (inheriting Which.Dacl text.now) id))
         (state S.Store tx.old.conn.now) (state S.Store tx.new.conn.now) result }
@@ -257,6 +262,7 @@ fn update_sacl_inh<S: Alter>(
     id: i64,
     text: &str,
 ) -> Result<usize, Error>
+    requires { IsCanonical text.now }
     ensures same_reference { tx.new.conn.ghost_name ≡ tx.old.conn.ghost_name }
     ensures writes { ExecutesSql (OfOne (Recasts (inheriting Which.Sacl text.now) id))
         (state S.Store tx.old.conn.now) (state S.Store tx.new.conn.now) result }
@@ -274,6 +280,7 @@ pub(crate) fn update_inh<S: Alter>(
     which: Which,
     text: &str,
 ) -> Result<usize, Error>
+    requires { IsCanonical text.now }
     ensures same_reference { tx.new.conn.ghost_name ≡ tx.old.conn.ghost_name }
     ensures writes { ExecutesSql (OfOne (Recasts (inheriting which text.now) id))
         (state S.Store tx.old.conn.now) (state S.Store tx.new.conn.now) result }
@@ -305,7 +312,7 @@ pub(crate) fn insert_node<S: Alter>(
     tx: &mut Transaction<'_, S>,
     columns: &Columns,
 ) -> Result<usize, Error>
-    requires { IsParent columns.now.parent }
+    requires { StoresNode columns.now }
     ensures same_reference { tx.new.conn.ghost_name ≡ tx.old.conn.ghost_name }
     ensures writes { ExecutesSql (OfNode (values_of columns.now))
         (state S.Store tx.old.conn.now) (state S.Store tx.new.conn.now) result }

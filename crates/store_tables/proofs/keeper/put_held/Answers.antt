@@ -27,8 +27,11 @@ returns-clause-puts g c =
           held_rows old.now new.now c.args.id trust.now
           (number_in-low c.args.id c.in-Some.ensures.2) c.args.which list.flags
           (string_bytes list.own)
-          (string_bytes list.inh) c.args.held.now stores.flags stores.own stores.inh
+          (string_bytes list.inh) c.args.held.now stores.flags stores.own.1 stores.inh.1
           (subst
           (λ z. Recasts (holding c.args.which list.flags (string_bytes list.own)
           (string_bytes list.inh)) z old.now.trees new.now.trees) at put);
     }
+
+pub update_held-done-requires : goal.update_held-done-requires
+update_held-done-requires g c = (c.args.held.now, c.in_ok-list.ensures)

@@ -3,6 +3,7 @@ use Rattle.std.proofs.Math.Facts.{to_z-of_z}
 use Rattle.sqlite.specs.declared.types.Value.TheVariants.{Text}
 use Rattle.sqlite.specs.Held.{state}
 use Rattle.store_tables.specs.Meaning.{entries_in}
+use Rattle.store_tables.specs.Printed.{IsCanonical}
 use Rattle.store_tables.specs.RoomRows.{number_in-low}
 use Rattle.store_tables.specs.Shown.{Recasts, inheriting}
 use Rattle.store_tables.proofs.Changed.{of_one}
@@ -16,7 +17,7 @@ returns-clause-puts g c =
     let text = c.as_str.result.now in
     let back : entries_in (Text text) ≡ Some c.args.entries.now = subst
     (λ t. entries_in (Text t) ≡ Some c.args.entries.now)
-    (sym c.as_str.ensures.value) c.in_ok-text.ensures in
+    (sym c.as_str.ensures.value) c.in_ok-text.ensures.1 in
     let at : to_z w64 (of_z w64 c.in-Some.at) ≡ pos c.args.id = ap
     (λ z. to_z w64 (of_z w64 z)) c.in-Some.ensures.1 ∙ to_z-of_z c.in-Some.ensures.0 in
     record {
@@ -32,3 +33,7 @@ returns-clause-puts g c =
           (subst (λ z. Recasts (inheriting c.args.which text) z old.now.trees new.now.trees) at
           put);
     }
+
+pub update_inh-done-requires : goal.update_inh-done-requires
+update_inh-done-requires g c =
+    subst IsCanonical (sym c.as_str.ensures.value) (c.args.entries.now, c.in_ok-text.ensures)

@@ -39,3 +39,8 @@ returns-in-Some-number_of-clause-puts g c =
             from_one = number.1;
           };
     }
+
+pub insert_node-done-requires : goal.insert_node-done-requires
+insert_node-done-requires g c =
+    let stores : ReadsAsNode c.args.node.now c.in-Some.columns =
+    rw c.in-Some.is at c.in_ok-columns.ensures in (c.args.node.now, stores)

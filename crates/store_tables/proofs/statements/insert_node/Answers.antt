@@ -12,8 +12,9 @@ pub returns-clause-writes : goal.returns-clause-writes
 returns-clause-writes g c =
     let old = state g.S.Store c.args.tx.now.conn.now in
     let new = state g.S.Store c.execute.new.self.conn.now in
-    let cols = columns_in c.args.columns.now c.requires in
-    let runs = rw (bound_parent c.args.columns.now.parent c.requires) at
+    let stored = c.requires.1 in
+    let cols = columns_in c.args.columns.now stored.is_parent in
+    let runs = rw (bound_parent c.args.columns.now.parent stored.is_parent) at
     (simp (
       c.params-to_sql.ensures,
       c.params-to_sql-2.ensures,
@@ -28,7 +29,12 @@ returns-clause-writes g c =
       c.params-to_sql-11.ensures,
     ) at c.execute.ensures.runs) in
     writes insert_text (values cols) old new c.execute.result _ _ c.execute.ensures.survives.clean
-    (λ inside. insert_room cols old new inside)
+    (λ inside. insert_room cols (record {
+      dacl_own = (_, stored.dacl_own);
+      dacl_inh = (_, stored.dacl_inh);
+      sacl_own = (_, stored.sacl_own);
+      sacl_inh = (_, stored.sacl_inh);
+    }) old new inside)
     (λ count room h. let d = inserted cols old new count room.schema h in (d.adds, d.last))
     (λ off. (
       (c.execute.ensures.ended off).0,

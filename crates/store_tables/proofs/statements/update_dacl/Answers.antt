@@ -7,6 +7,7 @@ use Rattle.room_entry.specs.declared.object.Which.TheVariants.{Dacl}
 use Rattle.store_tables.specs.Shown.{Stays, holding}
 use Rattle.store_tables.specs.Trust.{stays_itself}
 use Rattle.store_tables.proofs.Asked.{writes}
+use Rattle.store_tables.proofs.Printed.{holding_printed}
 use Rattle.store_tables.proofs.Recast.{recast_one, recast_room}
 use Rattle.store_tables.proofs.Texts.{dacl_is, dacl_terms, dacl_text, plain_dacl}
 use Rattle.store_tables.proofs.statements.update_dacl.Goals as goal
@@ -28,7 +29,9 @@ returns-clause-writes g c =
     ) at c.execute.ensures.runs in
     writes dacl_text (Int c.args.id ∷ cell) old new c.execute.result _ _
     c.execute.ensures.survives.clean
-    (recast_room dacl_text dacl_terms dacl_is plain_dacl c.args.id cell change (λ r. refl) old new)
+    (recast_room dacl_text dacl_terms dacl_is plain_dacl c.args.id cell change (λ r. refl)
+    (holding_printed Dacl c.args.list.now.flags (string_bytes c.args.list.now.own)
+    (string_bytes c.args.list.now.inh) (_, c.requires.1.own) (_, c.requires.1.inh)) old new)
     (λ count room h. recast_one dacl_text dacl_terms dacl_is plain_dacl c.args.id cell change
     (λ r. refl) old new count room h)
     (λ off. (

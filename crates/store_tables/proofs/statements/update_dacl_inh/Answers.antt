@@ -6,6 +6,7 @@ use Rattle.room_entry.specs.declared.object.Which.TheVariants.{Dacl}
 use Rattle.store_tables.specs.Shown.{Stays, inheriting}
 use Rattle.store_tables.specs.Trust.{stays_itself}
 use Rattle.store_tables.proofs.Asked.{writes}
+use Rattle.store_tables.proofs.Printed.{inheriting_printed}
 use Rattle.store_tables.proofs.Recast.{recast_one, recast_room}
 use Rattle.store_tables.proofs.Texts.{dacl_inh_is, dacl_inh_terms, dacl_inh_text, plain_dacl_inh}
 use Rattle.store_tables.proofs.statements.update_dacl_inh.Goals as goal
@@ -20,7 +21,7 @@ returns-clause-writes g c =
     writes dacl_inh_text
     (Int c.args.id ∷ cell) old new c.execute.result _ _ c.execute.ensures.survives.clean
     (recast_room dacl_inh_text dacl_inh_terms dacl_inh_is plain_dacl_inh c.args.id cell change
-    (λ r. refl) old new)
+    (λ r. refl) (inheriting_printed Dacl c.args.text.now c.requires) old new)
     (λ count room h. recast_one dacl_inh_text dacl_inh_terms dacl_inh_is plain_dacl_inh c.args.id
     cell change (λ r. refl) old new count room h)
     (λ off. (

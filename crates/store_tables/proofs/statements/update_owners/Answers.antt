@@ -5,6 +5,7 @@ use Rattle.sqlite.specs.Held.{state}
 use Rattle.store_tables.specs.Shown.{Stays, owning}
 use Rattle.store_tables.specs.Trust.{stays_itself}
 use Rattle.store_tables.proofs.Asked.{writes}
+use Rattle.store_tables.proofs.Printed.{owning_printed}
 use Rattle.store_tables.proofs.Recast.{recast_one, recast_room}
 use Rattle.store_tables.proofs.Texts.{owners_is, owners_terms, owners_text, plain_owners}
 use Rattle.store_tables.proofs.statements.update_owners.Goals as goal
@@ -22,7 +23,7 @@ returns-clause-writes g c =
     writes owners_text (Int c.args.id ∷ cell) old new c.execute.result _ _
     c.execute.ensures.survives.clean
     (recast_room owners_text owners_terms owners_is plain_owners c.args.id cell change
-    (λ r. refl) old new)
+    (λ r. refl) (owning_printed c.args.owner.now c.args.group.now) old new)
     (λ count room h. recast_one owners_text owners_terms owners_is plain_owners c.args.id cell
     change (λ r. refl) old new count room h)
     (λ off. (

@@ -5,6 +5,7 @@ use Rattle.sqlite.specs.Held.{state}
 use Rattle.store_tables.specs.Shown.{Stays, lying}
 use Rattle.store_tables.specs.Trust.{stays_itself}
 use Rattle.store_tables.proofs.Asked.{writes}
+use Rattle.store_tables.proofs.Printed.{lying_printed}
 use Rattle.store_tables.proofs.Recast.{recast_one, recast_room}
 use Rattle.store_tables.proofs.Texts.{place_is, place_terms, place_text, plain_place}
 use Rattle.store_tables.proofs.statements.update_place.Goals as goal
@@ -21,7 +22,7 @@ returns-clause-writes g c =
     writes place_text (Int c.args.id ∷ cell) old new c.execute.result _ _
     c.execute.ensures.survives.clean
     (recast_room place_text place_terms place_is plain_place c.args.id cell change
-    (λ r. refl) old new)
+    (λ r. refl) (lying_printed c.args.parent c.args.name.now) old new)
     (λ count room h. recast_one place_text place_terms place_is plain_place c.args.id cell change
     (λ r. refl) old new count room h)
     (λ off. (

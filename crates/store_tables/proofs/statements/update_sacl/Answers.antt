@@ -7,6 +7,7 @@ use Rattle.room_entry.specs.declared.object.Which.TheVariants.{Sacl}
 use Rattle.store_tables.specs.Shown.{Stays, holding}
 use Rattle.store_tables.specs.Trust.{stays_itself}
 use Rattle.store_tables.proofs.Asked.{writes}
+use Rattle.store_tables.proofs.Printed.{holding_printed}
 use Rattle.store_tables.proofs.Recast.{recast_one, recast_room}
 use Rattle.store_tables.proofs.Texts.{sacl_is, sacl_terms, sacl_text, plain_sacl}
 use Rattle.store_tables.proofs.statements.update_sacl.Goals as goal
@@ -28,7 +29,9 @@ returns-clause-writes g c =
     ) at c.execute.ensures.runs in
     writes sacl_text (Int c.args.id ∷ cell) old new c.execute.result _ _
     c.execute.ensures.survives.clean
-    (recast_room sacl_text sacl_terms sacl_is plain_sacl c.args.id cell change (λ r. refl) old new)
+    (recast_room sacl_text sacl_terms sacl_is plain_sacl c.args.id cell change (λ r. refl)
+    (holding_printed Sacl c.args.list.now.flags (string_bytes c.args.list.now.own)
+    (string_bytes c.args.list.now.inh) (_, c.requires.1.own) (_, c.requires.1.inh)) old new)
     (λ count room h. recast_one sacl_text sacl_terms sacl_is plain_sacl c.args.id cell change
     (λ r. refl) old new count room h)
     (λ off. (
