@@ -18,6 +18,8 @@ use Rattle.sqlite_resolve.specs.declared.compiled.Compiled.{Compiled}
 use Rattle.sqlite_resolve.specs.declared.error.CompileError.{CompileError}
 use Rattle.sqlite_trees.specs.declared.error.StoreError.{StoreError}
 use Rattle.sqlite_trees.specs.declared.error.StoreError.TheVariants.{OutOfMemory, Io, Corrupt, Full, Broken, Unstorable}
+use Rattle.sqlite.specs.Command.{Command}
+use Rattle.sqlite.specs.Command.TheVariants.{Rows, Select}
 use Rattle.sqlite_schema.specs.declared.command.Returning.{Returning}
 use Rattle.sqlite_trees.specs.View.{doubt}
 use Rattle.sqlite.specs.Clock.{timed}
@@ -26,12 +28,13 @@ use Rattle.sqlite.specs.State.{State, HasCleanDisk, Shown, ShowsRows, FailsToQue
 use Rattle.sqlite.proofs.Callers.{IsPlain, command_of, one_permutation, reads_as}
 use Rattle.store_tables.specs.Tables.{no_schema, room_schema}
 use Rattle.store_schema.specs.NewRoom.{is_version, meta_of, number_shown}
-use Rattle.store_schema.specs.Opening.{AsksVersion, Expects, IsCalled, IsFailure, IsRefusal, ReadsAs, Says, ShowsVersion, AnswersVersion, number_text}
+use Rattle.store_schema.specs.Opening.{AsksVersion, CantBeAsked, Expects, IsCalled, IsFailure, IsRefusal, IsUnread, ReadsAs, Says, ShowsVersion, AnswersVersion, number_text}
 use Rattle.store_tables.specs.Within.{IsWithin}
 use Rattle.store_schema.specs.declared.fault.OpenFault.{OpenFault}
 use Rattle.store_schema.specs.declared.fault.OpenFault.TheVariants.{NotRooms, OldVersion, NewVersion, Db, Memory}
 use Rattle.store_schema.proofs.Answers.{passes, selected}
-use Rattle.store_schema.proofs.Texts.{asked_is, asked_nowhere, asked_plain, asks_value, is_rooms}
+use Rattle.store_schema.proofs.Texts.{asked_bare, asked_is, asked_nowhere, asked_plain, asks_value, is_rooms}
+use Rattle.store_tables.proofs.Bare.{reads_by}
 use Rattle.store_tables.proofs.Within.{unchanged_within, undone_within, wrote_within}
 
 -- ---- the rows that are shown
@@ -54,10 +57,10 @@ equals_text (Real x) t = told _
 equals_text (Text s) t = told _
 equals_text (Blob b) t = told _
 
-passes_rooms : (r : Row) → passes (is_rooms ∷ []) [] r ≡ is_version r
+pub passes_rooms : (r : Row) → passes (is_rooms ∷ []) [] r ≡ is_version r
 passes_rooms r = and_true _ ∙ equals_text (column r 1) _
 
-same_filter : {A : Type 0} (p q : A → Bool) → ((x : A) → p x ≡ q x) → (xs : List A)
+pub same_filter : {A : Type 0} (p q : A → Bool) → ((x : A) → p x ≡ q x) → (xs : List A)
     → filter p xs ≡ filter q xs
 same_filter p q same [] = refl
 same_filter p q same (x ∷ xs) =
@@ -160,34 +163,41 @@ no_input Full fault e = cc
 no_input Broken fault e = cc
 no_input Unstorable fault e = cc
 
-no_refusal : (limit : Option ℕ) (db : Database) (params : Row) (fault : CompileError)
-    → RefusesToRead limit asks_value db params (SqlInputError fault) → ⊥
-no_refusal limit db params fault (inl h) = let e = h.0 in cc
-no_refusal limit db params fault (inr (inl h)) = let e = h.0 in cc
-no_refusal limit db params fault (inr (inr h)) = let e = h.0 in cc
+-- a query that is refused at its run isn't refused for its text
+no_refusal : (limit : Option ℕ) (command : Command) (db : Database) (params : Row)
+    (fault : CompileError) → RefusesToRead limit command db params (SqlInputError fault) → ⊥
+no_refusal limit (Select q names) db params fault (inl h) = let e = h.0 in cc
+no_refusal limit (Select q names) db params fault (inr (inl h)) = let e = h.0 in cc
+no_refusal limit (Select q names) db params fault (inr (inr h)) = let e = h.0 in cc
+no_refusal limit (Rows values width names) db params fault h = let e = h.0 in cc
+no_refusal limit _ db params fault h = let e = h in cc
+
+-- a query that is refused for its text can't be asked
+pub refused_text : (old new : State) (fault : CompileError)
+    → FailsToQuery number_text [] old new (SqlInputError fault)
+    ⊎ IsTooLate number_text [] old new (SqlInputError fault) → CantBeAsked old.now
+unfolding FailsToQuery IsNotRun
+refused_text old new fault (inl (inl (inl (inl h, same)))) = (h.0, h.1)
+refused_text old new fault (inl (inl (inl (inr (c, is, inl h), same)))) = absurd (let e = h.1 in cc)
+refused_text old new fault (inl (inl (inl (inr (c, is, inr (inl h)), same)))) =
+    absurd (let e = h.1 in cc)
+refused_text old new fault (inl (inl (inl (inr (c, is, inr (inr h)), same)))) =
+    absurd (let e = h.1 in cc)
+refused_text old new fault (inl (inl (inr h))) = absurd (no_input h.0 fault h.1)
+refused_text old new fault (inl (inr h)) =
+    let none = reads_by number_text asked_bare old.now.schema h.0 h.1.is in
+    let fails = subst (FailsToShow old new number_text h.0 (timed [] h.0.formats h.1.now)
+    (SqlInputError fault)) none h.2 in
+    absurd (no_refusal old.step_limit h.0.command fails.0 (timed [] h.0.formats h.1.now) fault
+    fails.2)
+refused_text old new fault (inr late) = absurd (let e = late.4 in cc)
 
 understood_here : (old new : State) (fault : CompileError) → old.now.schema ≡ room_schema
     → FailsToQuery number_text [] old new (SqlInputError fault)
     ⊎ IsTooLate number_text [] old new (SqlInputError fault) → ⊥
-unfolding FailsToQuery IsNotRun
-understood_here old new fault has (inl (inl (inl (inl h, same)))) =
-    subst IsPlain (ap (λ s. understood s number_text) (sym has) ∙ h.1) asked_plain
-understood_here old new fault has (inl (inl (inl (inr (c, is, inl h), same)))) = let e = h.1 in cc
-understood_here old new fault has (inl (inl (inl (inr (c, is, inr (inl h)), same)))) = let e =
-    h.1 in cc
-understood_here old new fault has (inl (inl (inl (inr (c, is, inr (inr h)), same)))) = let e =
-    h.1 in cc
-understood_here old new fault has (inl (inl (inr h))) = no_input h.0 fault h.1
-understood_here old new fault has (inl (inr h)) =
-    let known = ap (λ s. understood s number_text) (sym has) ∙ h.1.is in
-    let plain = subst IsPlain known asked_plain in
-    let command = ap command_of (sym known) ∙ asked_is.0 in
-    let fails = subst (FailsToShow old new number_text h.0 (timed [] h.0.formats h.1.now)
-    (SqlInputError fault)) plain.0 h.2 in
-    no_refusal old.step_limit fails.0 (timed [] h.0.formats h.1.now) fault
-    (subst (λ k. RefusesToRead old.step_limit k fails.0 (timed [] h.0.formats h.1.now)
-    (SqlInputError fault)) command fails.2)
-understood_here old new fault has (inr late) = let e = late.4 in cc
+understood_here old new fault has h =
+    let refused = refused_text old new fault h in
+    subst IsPlain (ap (λ s. understood s number_text) (sym has) ∙ refused.1) asked_plain
 
 -- ---- over an empty database it isn't
 
@@ -234,7 +244,7 @@ shown_open old new sql params rows h = open_as old new sql h.0 _ rows h.0.return
 tells_by : (wanted : ℤ) (version : Option ℤ) (db : Database) (r : Result (Unit {0}) OpenFault)
     → Says wanted version r → ShowsVersion version db → AnswersVersion wanted db r
 tells_by wanted version db (Ok x) says shows = subst (λ v. ShowsVersion v db) says shows
-tells_by wanted version db (Err NotRooms) says shows = tt
+tells_by wanted version db (Err NotRooms) says shows = inl (subst (λ v. ShowsVersion v db) says shows)
 tells_by wanted version db (Err (OldVersion n)) says shows =
     (subst (λ v. ShowsVersion v db) says.0 shows, says.1)
 tells_by wanted version db (Err (NewVersion n)) says shows =
@@ -280,9 +290,20 @@ module _ (old new : State) (clean : doubt old.is_clean ≤ doubt new.is_clean) w
     within = λ inside. query_within old new clean inside number_text [] (Err e) (λ _. tt) err;
     told = λ now has. by fault called has (err now);
     empty = λ now has. refusal_of e fault called;
-    shown = λ _. refusal_of e fault called;
+    shown = λ now. unread fault called (err now);
   }
     where
+      unread : (f : OpenFault) → IsCalled e f → FailsToQuery number_text [] old new e
+          ⊎ IsTooLate number_text [] old new e → IsUnread old.now f
+      unread NotRooms it h =
+          refused_text old new it.0
+          (subst (λ x. FailsToQuery number_text [] old new x
+          ⊎ IsTooLate number_text [] old new x) it.1 h)
+      unread (OldVersion n) it h = it
+      unread (NewVersion n) it h = it
+      unread Db it h = tt
+      unread Memory it h = tt
+
       by : (f : OpenFault) → IsCalled e f → old.now.schema ≡ room_schema
           → FailsToQuery number_text [] old new e ⊎ IsTooLate number_text [] old new e → IsFailure f
       by NotRooms it has h =
@@ -322,9 +343,9 @@ expects_ok wanted old new version r asks says = record {
     on_ok (Err e) same = tt
 
 -- a query that failed answers no number
-no_number : (wanted : ℤ) (db : Database) (fault : OpenFault) → IsRefusal fault
+no_number : (wanted : ℤ) (db : Database) (fault : OpenFault) → IsUnread db fault
     → AnswersVersion wanted db (Err fault)
-no_number wanted db NotRooms it = tt
+no_number wanted db NotRooms it = inr it
 no_number wanted db (OldVersion n) it = absurd it
 no_number wanted db (NewVersion n) it = absurd it
 no_number wanted db Db it = tt

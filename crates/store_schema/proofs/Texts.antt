@@ -15,10 +15,12 @@ use Rattle.sqlite_tied.specs.Compute.{everything}
 use Rattle.sqlite.specs.Does.{lacks_sequence}
 use Rattle.sqlite_resolve.specs.declared.error.CompileError.TheVariants.{NoSuchTable}
 use Rattle.sqlite.specs.Listing.{understood, reads_listing, listing_schema}
+use Rattle.sqlite_resolve.specs.Compile.{first, returning}
 use Rattle.sqlite.specs.Schema.{Schema}
 use Rattle.sqlite.specs.Table.{Table}
 use Rattle.sqlite.proofs.Callers.{IsPlain, command_of, statement_of}
 use Rattle.store_tables.specs.Tables.{nodes, bodies, members, meta, audits, counters, no_schema, after_nodes, after_bodies, after_members, after_meta, after_audits, room_schema}
+use Rattle.store_tables.proofs.Bare.{LacksReturning}
 use Rattle.store_schema.specs.Opening.{number_text}
 
 abbrev pub nodes_text : List ℕ
@@ -149,6 +151,11 @@ asked_is = (refl, refl)
 pub asked_plain : IsPlain (understood room_schema number_text)
 unfolding understood everything
 asked_plain = (refl, refl)
+
+-- it has no RETURNING, over any schema
+pub asked_bare : LacksReturning number_text
+unfolding first returning everything
+asked_bare = λ schema base. refl
 
 -- there is no such table in an empty database
 pub asked_nowhere : understood no_schema number_text ≡ Err NoSuchTable

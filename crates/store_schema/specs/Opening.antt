@@ -1,5 +1,5 @@
 -- What opening a room is.
-use Rattle.std.specs.Prelude.{◌≡◌, ◌≤◌, ◌<ℤ◌, ℕ, ℤ, pos, List}
+use Rattle.std.specs.Prelude.{◌≡◌, ◌⊎◌, ◌≤◌, ◌<ℤ◌, ℕ, ℤ, pos, List}
 use Rattle.std.specs.Prelude.{[], Option, Some, None, Result, Ok, Err}
 use Rattle.std.specs.Prelude.{MatchResult, IsErrAnd, OnOk, IsTrue, false, codes}
 use Rattle.sqlite_trees.specs.View.{doubt}
@@ -80,10 +80,23 @@ pub record ShowsVersion (version : Option ℤ) (db : Database) : Type 0 where
   pub read : ReadsAs db command clock rows command.returning
   pub number : number_shown rows ≡ version
 
--- A number is answered only where the database showed it.
+-- The text isn't understood over these tables: the table or one of the columns isn't there.
+abbrev pub CantBeAsked : Database → Type 0
+CantBeAsked db = (fault : CompileError) × (understood db.schema number_text ≡ Err fault)
+
+-- why no number was read
+abbrev pub IsUnread : Database → OpenFault → Type 0
+IsUnread db NotRooms = CantBeAsked db
+IsUnread db (OldVersion n) = ⊥
+IsUnread db (NewVersion n) = ⊥
+IsUnread db Db = Unit {0}
+IsUnread db Memory = Unit {0}
+
+-- A number is answered only where the database showed it, and that there is none only where it
+-- showed none or can't be asked.
 abbrev pub AnswersVersion : ℤ → Database → Result (Unit {0}) OpenFault → Type 0
 AnswersVersion wanted db (Ok _) = ShowsVersion (Some wanted) db
-AnswersVersion wanted db (Err NotRooms) = Unit {0}
+AnswersVersion wanted db (Err NotRooms) = ShowsVersion None db ⊎ CantBeAsked db
 AnswersVersion wanted db (Err (OldVersion n)) = ShowsVersion (Some n) db × (n <ℤ wanted)
 AnswersVersion wanted db (Err (NewVersion n)) = ShowsVersion (Some n) db × (wanted <ℤ n)
 AnswersVersion wanted db (Err Db) = Unit {0}
@@ -99,7 +112,8 @@ pub record AsksVersion (old new : State) (result : Result (Option ℤ) OpenFault
       → MatchResult result (λ version. (version ≡ meta_of old.now) × (new.now ≡ old.now)) IsFailure
   pub empty : HasCleanDisk new → old.now.schema ≡ no_schema → IsErrAnd result IsRefusal
   pub shown : HasCleanDisk new
-      → MatchResult result (λ version. ShowsVersion version old.now × IsTrue old.is_open) IsRefusal
+      → MatchResult result (λ version. ShowsVersion version old.now × IsTrue old.is_open)
+      (IsUnread old.now)
 
 -- The schema is expected to have this number.
 pub record Expects (wanted : ℤ) (old new : State)
