@@ -8,6 +8,7 @@ pub mod Founded
 pub mod Answers
 pub mod Asked
 pub mod Adopted
+pub mod Others
 pub mod Stamped
 pub mod Moving
 pub mod Migrated

@@ -1,5 +1,5 @@
 -- A transaction that upgrades a room is committed or rolled back.
-use Rattle.std.proofs.Common.{◌≡◌, ◌≤◌, [], pos, Result, Ok, Err, IsErrAnd, IsTrue, inl, inr, sym, ap, subst, ◌∙◌, true, false, arith}
+use Rattle.std.proofs.Common.{◌≡◌, ◌≤◌, [], pos, Result, Ok, Err, IsErrAnd, IsTrue, inl, inr, sym, ap, subst, subst₂, ◌∙◌, true, false, arith}
 use Rattle.sqlite_trees.specs.View.{doubt}
 use Rattle.sqlite.specs.Effect.{Database, IsDatabase}
 use Rattle.sqlite.specs.declared.error.Error.{Error}
@@ -8,7 +8,7 @@ use Rattle.sqlite.specs.Steps.{FailsToCommit}
 use Rattle.store_tables.specs.Tables.{no_schema}
 use Rattle.store_tables.specs.Shown.{HasTables, IsRoom, room_of}
 use Rattle.store_schema.specs.Opening.{IsFailure, Says}
-use Rattle.store_schema.specs.Raising.{AnswersMigration, IsInside, IsNoRoom, UpgradesTables, Migrates}
+use Rattle.store_schema.specs.Raising.{AnswersMigration, IsInside, IsNoRoom, RetainsOthers, UpgradesTables, Migrates}
 use Rattle.store_schema.specs.NewRoom.{meta_of}
 use Rattle.store_schema.specs.declared.fault.MigrateFault.{MigrateFault}
 use Rattle.store_schema.specs.declared.fault.MigrateFault.TheVariants.{Opening, Unsound}
@@ -66,6 +66,7 @@ module _ (old begun mid end : State) (begins : Begins old begun)
       clean = since;
       was_open = λ now open'. open_first now (was now open');
       leads = leads;
+      retains = λ _ _ _. tt;
       committed = λ _. tt;
       answers = λ _. tt;
       shown = shown;
@@ -142,6 +143,14 @@ module _ (old begun mid end : State) (begins : Begins old begun)
         (room_now within now shows.was_open tables) in
         subst (λ d. UpgradesTables d end.now (Ok tt)) begins.now
         (subst (λ d. UpgradesTables begun.now d (Ok tt)) (sym shows.now_is) leads);
+    retains = λ now open' tables.
+        let shows = (ok now).1 in
+        let settled = begins.settled (open_first within now shows.was_open) in
+        subst₂ (λ (d e : Database). RetainsOthers d.trees e.trees) begins.now (sym shows.now_is)
+        (within.retains (clean_mid within now) shows.was_open
+        (room_committed within now shows.was_open tables)
+        (room_now within now shows.was_open tables)
+        (begins.now ∙ settled ∙ sym begins.committed));
     committed = λ now. (ok now).1.committed_is ∙ sym (ok now).1.now_is;
     answers = λ now. (open_first within now (ok now).1.was_open, (ok now).1.is_open);
     shown = λ now. shown_first within now;

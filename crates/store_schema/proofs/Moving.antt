@@ -1,6 +1,10 @@
 -- The steps of upgrading a room, one after the other.
-use Rattle.std.proofs.Common.{◌≡◌, ◌≤◌, ℕ, pos, Some, Result, Ok, Err, IfOk, IsErrAnd, IsTrue, refl, sym, ap, subst, subst₂, ◌∙◌, arith}
-use Rattle.sqlite_trees.specs.View.{doubt}
+use Rattle.std.proofs.Common.{◌≡◌, ◌≤◌, ℕ, ℤ, pos, List, [], ◌∷◌, ◌++◌, map, filter, Option, Some, Result, Ok, Err, IfOk, OnOk, IsErrAnd, IsTrue, refl, sym, ap, subst, subst₂, ◌∙◌, arith}
+use Rattle.std.proofs.lemmas.List.{append_assoc}
+use Rattle.sqlite_trees.specs.View.{IsShaped, doubt}
+use Rattle.sqlite_trees.specs.declared.store.Shape.TheVariants as Shape
+use Rattle.sqlite.specs.Order.{Row, column}
+use Rattle.sqlite.specs.Tree.{Trees}
 use Rattle.sqlite.specs.Effect.{Database}
 use Rattle.sqlite.specs.declared.error.Error.{Error}
 use Rattle.sqlite.specs.State.{State, HasCleanDisk}
@@ -10,17 +14,34 @@ use Rattle.room_rows.specs.declared.report.Unsound as unsound
 use Rattle.store_tables.specs.Meaning.{rows_of}
 use Rattle.store_tables.specs.Tables.{no_schema}
 use Rattle.store_tables.specs.RoomRows.{room_rows}
-use Rattle.store_tables.specs.Shown.{IsRoom, Stays}
+use Rattle.store_tables.specs.Shown.{IsRoom, Retains, Stays}
 use Rattle.store_tables.specs.Trust.{IsTrusted}
-use Rattle.store_schema.specs.NewRoom.{meta_of}
+use Rattle.store_tables.proofs.Calls.{retains_same}
+use Rattle.store_tables.proofs.Printed.{keeps_on}
+use Rattle.store_schema.specs.NewRoom.{is_version, meta_of, number_shown}
 use Rattle.store_schema.specs.Opening.{AnswersVersion, Expects, IsFailure, Says, ShowsVersion}
 use Rattle.room_inherit.specs.Kept.{kept_report_of}
-use Rattle.store_schema.specs.Raising.{AnswersMigration, AreRaised, IsInside, IsNoRoom, IsRaised, UpgradesTables, SpreadIsRaised, Stamps}
+use Rattle.store_schema.specs.Raising.{AnswersMigration, AreRaised, IsInside, IsNoRoom, IsRaised, RetainsOthers, UpgradesTables, SpreadIsRaised, Stamps, other_rows}
 use Rattle.store_tables.specs.Within.{IsWithin, within_on}
 use Rattle.store_schema.specs.declared.fault.MigrateFault.{MigrateFault}
 use Rattle.store_schema.specs.declared.fault.MigrateFault.TheVariants.{Opening, Unsound}
 use Rattle.store_schema.specs.declared.fault.OpenFault.{OpenFault}
 use Rattle.store_schema.specs.declared.fault.OpenFault.TheVariants.{NotRooms, OldVersion, NewVersion, Db, Memory}
+
+-- the number that these rows of `meta` tell
+abbrev number_in_meta : List Row → Option ℤ
+number_in_meta rows = number_shown (map (λ r. column r 2 ∷ []) (filter is_version rows))
+
+-- what calls of a keeper keep to, and then the number's writing, is kept to by both
+others_on : (a b c : Trees) → Retains a b → RetainsOthers b c → RetainsOthers a c
+others_on a b c p q =
+    record {
+      meta = λ shaped. q.meta (subst (IsShaped Shape.Table) (sym p.meta) shaped)
+          ∙ ap other_rows p.meta;
+      more = p.more ++ q.more;
+      audits = q.audits ∙ ap (λ l. l ++ q.more) p.audits ∙ append_assoc (a 7) p.more q.more;
+      texts = keeps_on (a 0) (b 0) (c 0) p.texts q.texts;
+    }
 
 -- the tables are still a room's
 abbrev StillRoom : State → State → Type 0
@@ -62,6 +83,7 @@ module _ (begun : State) (inside : IsTrue begun.in_transaction) where
         leads = λ now open' one two. (expects.told now two.schema).0;
         shown = λ now. (expects.shown now).0;
         empty = λ now has. expects.empty now has;
+        retains = λ _ _ _ _ _. tt;
       }
 
   module _ (asked : State) (expects : Expects (pos 1) begun asked (Ok tt)) where
@@ -79,9 +101,18 @@ module _ (begun : State) (inside : IsTrue begun.in_transaction) where
         → doubt asked.is_clean ≤ doubt mid.is_clean → IsWithin begun mid
         → (HasCleanDisk mid → IsTrue mid.is_open → IsRoom begun.committed → IsRoom begun.now
         → UpgradesTables begun.now mid.now r)
-        → (HasCleanDisk mid → AnswersMigration begun.now r) → IsInside begun mid r
-    by_steps mid r up within leads shown =
-        record { within = within; leads = leads; shown = shown; empty = not_empty mid r up }
+        → (HasCleanDisk mid → AnswersMigration begun.now r)
+        → (HasCleanDisk mid → IsTrue mid.is_open → IsRoom begun.committed → IsRoom begun.now
+        → begun.now ≡ begun.committed → OnOk r (RetainsOthers begun.now.trees mid.now.trees))
+        → IsInside begun mid r
+    by_steps mid r up within leads shown retains =
+        record {
+          within = within;
+          leads = leads;
+          shown = shown;
+          empty = not_empty mid r up;
+          retains = retains;
+        }
 
     first : IsWithin begun asked
     first = expects.within inside
@@ -116,7 +147,7 @@ module _ (begun : State) (inside : IsTrue begun.in_transaction) where
       not_raised fault failure =
           by_steps raised (Err (Opening fault)) stays.within.clean second
           (λ now open' one two. by_failure begun.now fault failure)
-          (λ now. by_unknown begun.now fault failure)
+          (λ now. by_unknown begun.now fault failure) (λ _ _ _ _ _. tt)
 
       -- the rows aren't sound
       pub not_sound : (path : _) (why : unsound.Unsound)
@@ -130,7 +161,7 @@ module _ (begun : State) (inside : IsTrue begun.in_transaction) where
             told.0,
             sym (subst (λ d. Fault path why ≡ kept_report_of (rows_of d)) told.1
                 (becomes (trusted now open' one two)).0),
-          )) (known raised stays.within.clean)
+          )) (known raised stays.within.clean) (λ _ _ _ _ _. tt)
 
       module _
           (becomes : IsTrusted asked raised
@@ -147,7 +178,7 @@ module _ (begun : State) (inside : IsTrue begun.in_transaction) where
             by_steps stamped (Err (Opening fault))
             (omega (arith, stays.within.clean, stamps.within.clean)) (third stamps.within)
             (λ now open' one two. by_failure begun.now fault failure)
-            (λ now. by_unknown begun.now fault failure)
+            (λ now. by_unknown begun.now fault failure) (λ _ _ _ _ _. tt)
 
         module _ (count : ℕ) (stamps : Stamps raised stamped (Ok count)) where
           third_room : StillRoom begun stamped
@@ -179,14 +210,40 @@ module _ (begun : State) (inside : IsTrue begun.in_transaction) where
 
             -- another number is read
             pub not_read : IsInside begun end (Err (Opening Db))
-            not_read = by_steps end (Err (Opening Db)) up all (λ _ _ _ _. tt) (λ _. tt)
+            not_read =
+                by_steps end (Err (Opening Db)) up all (λ _ _ _ _. tt) (λ _. tt) (λ _ _ _ _ _. tt)
 
           pub all_done : SpreadIsRaised → (end : State) → Expects (pos 2) stamped end (Ok tt)
               → IsInside begun end (Ok tt)
           all_done raised_so end again =
               by_steps end (Ok tt) (up end (Ok tt) again) (all end (Ok tt) again) leads
-              (known end (up end (Ok tt) again))
+              (known end (up end (Ok tt) again)) retains
             where
+              retains : HasCleanDisk end → IsTrue end.is_open → IsRoom begun.committed
+                  → IsRoom begun.now → begun.now ≡ begun.committed
+                  → RetainsOthers begun.now.trees end.now.trees
+              retains now open' one two same =
+                  let now3 = clean_before stamped end again.clean now in
+                  let open3 = (last end (Ok tt) again).was_open now open' in
+                  let room3 = third_room now3 open3 one two in
+                  let now2 = clean_before raised stamped stamps.within.clean now3 in
+                  let open2 = stamps.within.was_open now3 open3 in
+                  let told = expects.told (back now2) two.schema in
+                  let read = again.told now room3.schema in
+                  let trust = trusted now2 open2 one two in
+                  let first' = first.committed (back now2) (stays.within.was_open now2 open2) in
+                  let was = retains_same asked.committed asked.now
+                  (told.1 ∙ same ∙ sym first') in
+                  let kept : Retains begun.now.trees raised.now.trees =
+                  subst (λ (d : Database). Retains d.trees raised.now.trees)
+                  (second.committed now2 open2 ∙ sym same)
+                  (stays.retains now2 open2 trust.committed trust.now was) in
+                  let number : meta_of raised.now ≡ Some (pos 1) =
+                  ap number_in_meta kept.meta ∙ told.0 in
+                  subst (λ (d : Database). RetainsOthers begun.now.trees d.trees) (sym read.1)
+                  (others_on begun.now.trees raised.now.trees stamped.now.trees kept
+                  (stamps.retains now3 (second_room now2 open2 one two) (pos 1) number))
+
               leads : HasCleanDisk end → IsTrue end.is_open → IsRoom begun.committed
                   → IsRoom begun.now → UpgradesTables begun.now end.now (Ok tt)
               leads now open' one two =

@@ -1,10 +1,10 @@
 -- What writing the schema's number anew leaves.
-use Rattle.std.proofs.Common.{◌≡◌, ◌≢◌, ◌≤◌, ℕ, suc, List, [], ◌∷◌, length, inl, inr, Result, Ok, Err, None, IsTrue, OnOk, refl, sym, ap, subst, ◌∙◌, true, false, Bool, arith}
+use Rattle.std.proofs.Common.{◌≡◌, ◌≢◌, ◌≤◌, ℕ, ℤ, pos, suc, List, [], ◌∷◌, length, map, filter, inl, inr, Result, Some, Ok, Err, None, IsTrue, OnOk, refl, sym, ap, subst, ◌∙◌, true, false, Bool, arith}
 use Rattle.std.specs.Prelude.{◌==◌}
 use Rattle.std.specs.List.{AllByRecursion, filter_map}
 use Rattle.std.proofs.lemmas.Bool.{cases_Bool, eqb-true}
-use Rattle.sqlite.specs.Order.{Row}
-use Rattle.sqlite.specs.Tree.{Trees}
+use Rattle.sqlite.specs.Order.{Row, column}
+use Rattle.sqlite.specs.Tree.{Trees, rowid}
 use Rattle.sqlite.specs.Command.TheVariants.{Update}
 use Rattle.sqlite.specs.Does.{Tally, Does}
 use Rattle.sqlite.specs.Edit.{Edit, edit_of, taken_by}
@@ -26,7 +26,22 @@ use Rattle.room_rows.specs.Rows.{Rows}
 use Rattle.store_tables.specs.Meaning.{audit_in, bodies_of, nodes_of, pairs_of, rows_of, unread_of}
 use Rattle.store_tables.specs.Shown.{IsRoom}
 use Rattle.store_tables.specs.Tables.{meta, room_schema}
-use Rattle.store_schema.specs.Raising.{Stamps}
+use Rattle.sqlite.specs.Program.{overlay}
+use Rattle.sqlite.specs.declared.types.Value.TheVariants.{Int, Null}
+use Rattle.sqlite.specs.Edit.{edited}
+use Rattle.sqlite.proofs.Callers.{one_permutation}
+use Rattle.std.specs.List.Sorted.{IsPermutation}
+use Rattle.std.proofs.lemmas.List.{append-nil}
+use Rattle.store_tables.proofs.Printed.{keeps_same}
+use Rattle.store_schema.specs.NewRoom.{meta_of}
+use Rattle.store_schema.specs.Raising.{RetainsOthers, Stamps, other_rows}
+use Rattle.store_schema.proofs.Answers.{passes, selected, shows}
+use Rattle.store_schema.proofs.Asked.{passes_rooms, same_filter}
+use Rattle.store_schema.proofs.Others.{int_of, one_version, others_stay}
+use Rattle.sqlite_rules.specs.Lists.{Has}
+use Rattle.sqlite_rules.proofs.ListLemmas.{has_filtered}
+use Rattle.store_tables.proofs.Rowids.{of_each}
+use Rattle.store_schema.specs.NewRoom.{is_version}
 use Rattle.store_tables.specs.Within.{IsWithin}
 use Rattle.store_schema.proofs.Steps.{went, same_value}
 use Rattle.store_schema.proofs.Texts.{is_rooms, query_of, stamp_is, stamp_plain, stamp_terms, stamp_text}
@@ -52,6 +67,10 @@ stamp_alone olds (r ∷ news) = let some = not_none (length news) in rw some ref
 record Stamped (old new : State) : Type 0 where
   pub schema : new.now.schema ≡ room_schema
   pub sound : IsDatabase new.now
+  pub rows : List Row
+  pub found : IsPermutation
+      (map (shows stamp_terms []) (filter (passes (is_rooms ∷ []) []) (old.now.trees 5))) rows
+  pub meta : new.now.trees 5 ≡ edited old.now.trees (stamp_edit old.now.trees rows)
   pub others : AllByRecursion
       (λ (t : Table). t.tree ≢ 5 → new.now.trees t.tree ≡ old.now.trees t.tree) room_schema.tables
 
@@ -85,6 +104,11 @@ stamped old new count has h =
     record {
       schema = ap (λ (d : Database). d.schema) now;
       sound = w.sound;
+      rows = asked.0;
+      found =
+          selected Null 5 (is_rooms ∷ []) stamp_terms [] (overlay db []) [] asked.0
+          (asked.1.answer Null);
+      meta = ap (λ (d : Database). d.trees 5) now ∙ applies.rows;
       others =
           subst
           (λ (d : Database). AllByRecursion
@@ -132,6 +156,31 @@ stamp_keeps old new count room h =
       same_rows old.now new.now nodes bodies members audits,
     )
 
+stamp_others : (old new : State) (count : ℕ) → IsRoom old.now → (n : ℤ)
+    → meta_of old.now ≡ Some n → Executes stamp_text [] old new (Ok count)
+    → RetainsOthers old.now.trees new.now.trees
+stamp_others old new count room n number h =
+    let it = stamped old new count room.schema h in
+    let one = one_version (old.now.trees 5) n number in
+    let shown : it.rows ≡ shows stamp_terms [] one.0 ∷ [] = one_permutation _ it.rows
+    (subst (λ l. IsPermutation (map (shows stamp_terms []) l) it.rows)
+    (same_filter _ _ passes_rooms (old.now.trees 5) ∙ one.1) it.found) in
+    let there = (has_filtered is_version (old.now.trees 5) one.0
+    (subst (λ l. Has l one.0) (sym one.1) (inl refl))).0 in
+    record {
+      meta = λ shaped.
+          let id = int_of (rowid one.0) (of_each _ (old.now.trees 5) shaped.1 one.0 there) in
+          let rows : it.rows ≡ (Int id.0 ∷ Int id.0 ∷ column one.0 1 ∷ Int (pos 2) ∷ []) ∷ [] =
+          shown ∙ ap (λ v. (v ∷ v ∷ column one.0 1 ∷ Int (pos 2) ∷ []) ∷ []) id.1 in
+          ap other_rows (it.meta
+          ∙ ap (λ l. edited old.now.trees (stamp_edit old.now.trees l)) rows)
+          ∙ others_stay (old.now.trees 5) one.0 id.0 id.1 shaped one.1;
+      more = [];
+      audits = it.others.1.1.1.1.0 (λ e. let e' : 7 ≡ 5 = e in omega (arith, e'))
+          ∙ sym (append-nil (old.now.trees 7));
+      texts = keeps_same _ _ (it.others.0 (λ e. let e' : 0 ≡ 5 = e in omega (arith, e')));
+    }
+
 module _ (old new : State) (clean : doubt old.is_clean ≤ doubt new.is_clean) where
   pub stamps : (r : Result ℕ Error) (e : Error)
       → (old.in_transaction ≡ false → (r ≡ Err e) × IsWithin old new)
@@ -149,17 +198,27 @@ module _ (old new : State) (clean : doubt old.is_clean ≤ doubt new.is_clean) w
       keeps (Ok count) room h = stamp_keeps old new count room h.0
       keeps (Err x) room h = tt
 
+      retains : (q : Result ℕ Error) → IsRoom old.now → (n : ℤ) → meta_of old.now ≡ Some n
+          → ExecutesInside 0 stamp_text [] old new q
+          → OnOk q (RetainsOthers old.now.trees new.now.trees)
+      retains (Ok count) room n number h = stamp_others old new count room n number h.0
+      retains (Err x) room n number h = tt
+
       go : (b : Bool) → old.in_transaction ≡ b → Stamps old new r
       go true is =
           record {
             within = within_inside old new clean stamp_text [] r (λ now. runs now is);
             inside = λ now. mode r (runs now is);
             keeps = λ now room. keeps r room (runs now is);
+            retains = λ now room n number. retains r room n number (runs now is);
           }
       go false is = record {
         within = (ended is).1;
         inside = λ now. subst (λ q. OnOk q (new.in_transaction ≡ true)) (sym (ended is).0) tt;
         keeps =
             λ now room. subst (λ q. OnOk q (IsRoom new.now × (rows_of new.now ≡ rows_of old.now)))
+            (sym (ended is).0) tt;
+        retains =
+            λ now room n number. subst (λ q. OnOk q (RetainsOthers old.now.trees new.now.trees))
             (sym (ended is).0) tt;
       }

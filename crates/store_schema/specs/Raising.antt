@@ -1,14 +1,20 @@
 -- What upgrading the rows of schema 1 is.
-use Rattle.std.specs.Prelude.{◌≡◌, ◌≤◌, ℕ, pos, true, false, Some, Result, Ok, Err}
+use Rattle.std.specs.Prelude.{◌≡◌, ◌≤◌, ℕ, ℤ, pos, true, false, not, Some, Result, Ok, Err}
+use Rattle.std.specs.Prelude.{List, ◌++◌, filter}
 use Rattle.std.specs.Prelude.{IfOk, IsErrAnd, OnOk, OnErr, IsTrue}
-use Rattle.sqlite_trees.specs.View.{doubt}
+use Rattle.sqlite_trees.specs.View.{IsShaped, doubt}
+use Rattle.sqlite_trees.specs.declared.store.Shape.TheVariants.{Table}
 use Rattle.sqlite.specs.Effect.{Database}
+use Rattle.sqlite.specs.Order.{Row}
+use Rattle.sqlite.specs.Tree.{Trees}
 use Rattle.sqlite.specs.State.{State, HasCleanDisk}
 use Rattle.sqlite.specs.declared.error.Error.{Error}
 use Rattle.store_tables.specs.Meaning.{rows_of}
+use Rattle.store_tables.specs.Printed.{KeepsPrinted}
 use Rattle.store_tables.specs.Shown.{HasTables, IsRoom}
 use Rattle.store_tables.specs.Tables.{no_schema}
-use Rattle.store_schema.specs.NewRoom.{meta_of}
+use Rattle.store_tables.specs.Trees as tree
+use Rattle.store_schema.specs.NewRoom.{is_version, meta_of}
 use Rattle.store_schema.specs.Opening.{AnswersVersion, IsRefusal, Says, ShowsVersion}
 use Rattle.store_tables.specs.Within.{IsWithin}
 use Rattle.store_schema.specs.declared.fault.MigrateFault.{MigrateFault}
@@ -57,12 +63,27 @@ pub record CarriesAll {S : Type 0} (k : Ghosts S) (old new : S)
   pub becomes : k.IsTrusted old new → IfOk result (λ _. (changed : ℕ)
       × IsSpreadAll (k.rows old) (k.rows new) changed)
 
+-- the rows of `meta` but that of the schema's number
+abbrev pub other_rows : List Row → List Row
+other_rows rows = filter (λ r. not (is_version r)) rows
+
+-- What an upgrade keeps to, as every call of a store does (`Retains`), but for the schema's number:
+-- each other row of `meta` is as it was, where the rows stand in the order of their numbers.
+pub record RetainsOthers (db next : Trees) : Type 0 where
+  pub meta : IsShaped Table (db tree.meta)
+      → other_rows (next tree.meta) ≡ other_rows (db tree.meta)
+  pub more : List Row
+  pub audits : next tree.audits ≡ db tree.audits ++ more
+  pub texts : KeepsPrinted (db tree.nodes) (next tree.nodes)
+
 -- The number of the schema is written anew, and nothing else.
 pub record Stamps (old new : State) (result : Result ℕ Error) : Type 0 where
   pub within : IsWithin old new
   pub inside : HasCleanDisk new → OnOk result (new.in_transaction ≡ true)
   pub keeps : HasCleanDisk new → IsRoom old.now → OnOk result (IsRoom new.now
       × (rows_of new.now ≡ rows_of old.now))
+  pub retains : HasCleanDisk new → IsRoom old.now → (n : ℤ) → meta_of old.now ≡ Some n
+      → OnOk result (RetainsOthers old.now.trees new.now.trees)
 
 -- What upgrading a room leaves of a database. `Opening` depends on the number of the schema, and
 -- `Unsound` names the first fault.
@@ -93,6 +114,8 @@ pub record IsInside (old new : State) (result : Result (Unit {0}) MigrateFault) 
       → UpgradesTables old.now new.now result
   pub shown : HasCleanDisk new → AnswersMigration old.now result
   pub empty : HasCleanDisk new → old.now.schema ≡ no_schema → IsErrAnd result IsNoRoom
+  pub retains : HasCleanDisk new → IsTrue new.is_open → IsRoom old.committed → IsRoom old.now
+      → old.now ≡ old.committed → OnOk result (RetainsOthers old.now.trees new.now.trees)
 
 -- What upgrading a room is.
 pub record Migrates (old new : State) (result : Result (Unit {0}) MigrateFault) : Type 0 where
@@ -101,6 +124,9 @@ pub record Migrates (old new : State) (result : Result (Unit {0}) MigrateFault) 
   pub was_open : HasCleanDisk new → IsTrue new.is_open → IsTrue old.is_open
   pub leads : HasCleanDisk new → IsTrue new.is_open → HasTables old.now
       → UpgradesTables old.now new.now result
+  -- records, lists and `meta` beside the schema's number
+  pub retains : HasCleanDisk new → IsTrue new.is_open → HasTables old.now
+      → OnOk result (RetainsOthers old.now.trees new.now.trees)
   pub committed : HasCleanDisk new → OnOk result (new.committed ≡ new.now)
   -- a connection that is shut gives no answer
   pub answers : HasCleanDisk new → OnOk result (IsTrue old.is_open × IsTrue new.is_open)
