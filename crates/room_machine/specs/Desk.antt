@@ -1,5 +1,5 @@
 -- What a desk does at a request, and what it counts.
-use Rattle.std.specs.Prelude.{ℕ, ℤ, List, Option, Result, Ok, Err}
+use Rattle.std.specs.Prelude.{ℕ, ℤ, Bool, true, false, List, Option, Result, Ok, Err}
 use Rattle.room_rows.specs.Content.{Content}
 use Rattle.room_rows.specs.Keep.{one_more}
 use Rattle.room_machine.specs.declared.reply.Reply.{Reply}
@@ -18,3 +18,8 @@ Steps old user moment request (Err fault) new = (room : Content) → old room �
 abbrev pub fault_counted : {A E : Type 0} → Result A E → ℕ → ℕ
 fault_counted (Ok answer) count = count
 fault_counted (Err fault) count = one_more count
+
+-- what a test of a fact has told: that the fact holds, or that it doesn't, where there is trust
+abbrev pub Agrees : Type 0 → Type 0 → Bool → Type 0
+Agrees trusted fact true = fact
+Agrees trusted fact false = trusted → ¬ fact

@@ -1,8 +1,8 @@
 //! The desk: what answers requests, one step of the room machine for each.
-ghost use Rattle.std.specs.Prelude.{◌≡◌, ℕ};
+ghost use Rattle.std.specs.Prelude.{◌≡◌, ℕ, IfOk, OnOk};
 ghost use Rattle.std.specs.Option.{option_copied};
 ghost use Rattle.room_rows.specs.Content.{Content};
-ghost use Rattle.room_machine.specs.Desk.{Steps, fault_counted};
+ghost use Rattle.room_machine.specs.Desk.{Agrees, Steps, fault_counted};
 
 use crate::reply::Reply;
 use crate::request::Request;
@@ -25,7 +25,10 @@ pub trait Desk {
     // first.
     ghost trusted: { Self → Type 0 };
 
-    // How often `run` has answered a fault, at most the greatest number of 64 bits.
+    // It answers no request any more, whatever comes.
+    ghost shut: { Self → Type 0 };
+
+    // How often a call has answered a fault, at most the greatest number of 64 bits.
     ghost faults: { Self → ℕ };
 
     /// Carries out one request of a caller, who is anonymous without a name, at a moment in seconds
@@ -42,7 +45,19 @@ pub trait Desk {
         ensures step { trusted self.new → sound self.old → Steps (content self.old)
             (option_copied caller.entry) at request.now result (content self.new) }
         ensures sound { trusted self.new → sound self.old → sound self.new }
-        ensures faults { faults self.new ≡ fault_counted result (faults self.old) };
+        ensures faults { faults self.new ≡ fault_counted result (faults self.old) }
+        ensures shut { shut self.old → shut self.new × (trusted self.new → OnOk result ⊥) };
+
+    /// Whether the desk is shut: a fault of its store may have left it so that it answers no
+    /// request any more. What it keeps stays as it was. The error is that the desk couldn't find
+    /// out, since memory ran out.
+    fn is_shut(&mut self) -> Result<bool, DeskFault>
+        ensures trusted { trusted self.new → trusted self.old }
+        ensures kept { trusted self.new → (room : Content) → content self.old room
+            → content self.new room }
+        ensures sound { trusted self.new → sound self.old → sound self.new }
+        ensures faults { faults self.new ≡ fault_counted result (faults self.old) }
+        ensures told { IfOk result (λ told. Agrees (trusted self.new) (shut self.new) told) };
 
     // There is a content that the desk keeps.
     ghost keeps: { (desk : Self) → (room : Content) × content desk room };

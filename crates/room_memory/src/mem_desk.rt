@@ -66,6 +66,9 @@ impl Desk for MemDesk {
 
     ghost trusted = { λ _. ⊤ };
 
+    // Memory can always be asked again.
+    ghost shut = { λ _. ⊥ };
+
     ghost faults = { λ desk. desk.faults };
 
     fn run(
@@ -85,6 +88,10 @@ impl Desk for MemDesk {
                 Err(DeskFault)
             }
         }
+    }
+
+    fn is_shut(&mut self) -> Result<bool, DeskFault> {
+        Ok(false)
     }
 
     ghost keeps = { λ desk. (content_in desk.keep, refl) };

@@ -4,3 +4,4 @@ mod Leading
 mod Exchanged
 mod Opened
 mod Testing
+mod Shutting

@@ -4,3 +4,4 @@ pub mod Ran
 pub mod Turn
 pub mod Leads
 pub mod Opens
+pub mod Asks

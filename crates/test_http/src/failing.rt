@@ -181,6 +181,8 @@ impl Desk for FaultyDesk {
 
     ghost trusted = { λ _. ⊤ };
 
+    ghost shut = { λ _. ⊤ };
+
     ghost faults = { λ s. s.faults };
 
     fn run(
@@ -192,6 +194,10 @@ impl Desk for FaultyDesk {
     ) -> Result<Reply, DeskFault> {
         self.faults = self.faults.saturating_add(1);
         Err(DeskFault)
+    }
+
+    fn is_shut(&mut self) -> Result<bool, DeskFault> {
+        Ok(true)
     }
 
     ghost keeps = { λ s. (content_in s.desk.keep, refl) };

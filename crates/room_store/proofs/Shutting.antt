@@ -1,0 +1,137 @@
+-- What a test says of a connection that a fault may have shut.
+use Rattle.std.proofs.Common.{◌≡◌, ◌≤◌, ◌⊎◌, ℕ, Bool, true, false, List, [], Result, Ok, Err, IfOk, IsTrue, inl, inr, refl, sym, ap, subst, ◌∙◌, true≢false, arith}
+use Rattle.sqlite.specs.Order.{Row}
+use Rattle.sqlite_trees.specs.View.{doubt}
+use Rattle.sqlite_trees.specs.declared.error.StoreError.{StoreError}
+use Rattle.sqlite_trees.specs.declared.error.StoreError.TheVariants.{OutOfMemory, Io, Corrupt, Full, Broken, Unstorable}
+use Rattle.sqlite.specs.declared.error.Error.{Error}
+use Rattle.sqlite.specs.State.{State, HasCleanDisk, HasCause, IsNoStatement, IsNotRun, IsRolledBack, IsUnchanged, store_error}
+use Rattle.room_machine.specs.Desk.{Agrees}
+use Rattle.room_store.specs.Asks.{Asks, says_shut}
+use Rattle.sqlite.specs.Effect.{Database}
+use Rattle.room_rows.specs.Content.{Content}
+use Rattle.room_rows.specs.Meaning.{meaning}
+use Rattle.room_rows.specs.Rows.{Rows}
+use Rattle.room_rows.specs.Sound.{AreSound}
+use Rattle.store_tables.specs.Meaning.{rows_of}
+use Rattle.store_tables.specs.Shown.{HasTables}
+use Rattle.room_store.specs.Kept.{IsShut, IsSound, Keeps}
+use Rattle.room_store.specs.Ran.{Ran}
+use Rattle.room_store.specs.declared.fault.StoreFault.{StoreFault}
+
+-- what holds of a clean disk holds of any, where a disk that isn't clean shows as shut
+clean_or_not : (clean is_open : Bool) → (clean ≡ false → is_open ≡ false)
+    → (doubt clean ≡ 0 → is_open ≡ false) → is_open ≡ false
+unfolding doubt
+clean_or_not true is_open dirty known = known refl
+clean_or_not false is_open dirty known = dirty refl
+
+-- what was shut isn't opened
+stays_shut : (before after : Bool) → (IsTrue after → IsTrue before) → before ≡ false
+    → after ≡ false
+stays_shut before true opens is = absurd (true≢false (sym (opens refl) ∙ is))
+stays_shut before false opens is = refl
+
+other_error : (why other : Error) → why ≡ other → says_shut other ≡ false
+    → says_shut why ≡ true → ⊥
+other_error why other is else_is says = true≢false (sym says ∙ (ap says_shut is ∙ else_is))
+
+-- of the causes of a failure only one is told as that of a shut connection
+shut_before : (old new : State) (why : Error) (cause : StoreError) → why ≡ store_error cause
+    → says_shut why ≡ true → HasCause old new ⊥ cause → old.is_open ≡ false
+shut_before old new why OutOfMemory is says has = absurd (other_error why _ is refl says)
+shut_before old new why Io is says has = absurd (other_error why _ is refl says)
+shut_before old new why Corrupt is says has = absurd (other_error why _ is refl says)
+shut_before old new why Full is says has = absurd (other_error why _ is refl says)
+shut_before old new why Broken is says has = has
+shut_before old new why Unstorable is says has = absurd (other_error why _ is refl says)
+
+-- a text that is no statement is refused otherwise
+no_statement : (s : State) (sql : List ℕ) (params : Row) (why : Error)
+    → IsNoStatement s sql params why → says_shut why ≡ true → ⊥
+no_statement s sql params why (inl h) says = other_error why _ h.2 refl says
+no_statement s sql params why (inr (c, is, inl h)) says = other_error why _ h.1 refl says
+no_statement s sql params why (inr (c, is, inr (inl h))) says = other_error why _ h.1 refl says
+no_statement s sql params why (inr (c, is, inr (inr h))) says = other_error why _ h.1 refl says
+
+module _ (old new : State) where
+  refused : (sql : List ℕ) (params : Row) (why : Error) → IsNotRun old new sql params why
+      → says_shut why ≡ true → IsShut new
+  unfolding IsNotRun
+  refused sql params why (inl h) says = absurd (no_statement old sql params why h.0 says)
+  refused sql params why (inr (cause, is, has, rolled, told)) says =
+      stays_shut old.is_open new.is_open rolled.was_open
+      (shut_before old new why cause is says has)
+
+  -- the error of a shut connection says that it is shut
+  pub is_shut : (sql : List ℕ) (why : Error) → (new.is_clean ≡ false → new.is_open ≡ false)
+      → (HasCleanDisk new → (params : Row) → IsNotRun old new sql params why)
+      → says_shut why ≡ true → IsShut new
+  is_shut sql why dirty err says =
+      clean_or_not new.is_clean new.is_open dirty (λ now. refused sql _ why (err now []) says)
+
+  -- a connection that was shut stays so
+  pub stays : (new.is_clean ≡ false → new.is_open ≡ false)
+      → (HasCleanDisk new → IsTrue new.is_open → IsTrue old.is_open) → IsShut old → IsShut new
+  stays dirty was_open is =
+      clean_or_not new.is_clean new.is_open dirty
+      (λ now. stays_shut old.is_open new.is_open (was_open now) is)
+
+  was : IsUnchanged old new ⊎ IsRolledBack old new → IsTrue new.is_open → IsTrue old.is_open
+  was (inl same) is = same.0.was_open
+  was (inr undone) is = undone.was_open is
+
+  same_rows : (IsTrue old.is_open → old.now ≡ old.committed)
+      → IsUnchanged old new ⊎ IsRolledBack old new → IsTrue new.is_open → new.now ≡ old.now
+  same_rows settled (inl same) is = same.0.now_is
+  same_rows settled (inr undone) is =
+      (undone.undone is).0 ∙ sym (settled (undone.was_open is))
+
+  -- what the test leaves, and what it tells
+  pub asks : (result : Result Bool StoreFault)
+      → (old.in_transaction ≡ false → new.in_transaction ≡ false)
+      → doubt old.is_clean ≤ doubt new.is_clean
+      → (IsTrue old.is_open → old.now ≡ old.committed)
+      → (HasCleanDisk new → IsUnchanged old new ⊎ IsRolledBack old new)
+      → IfOk result (Agrees (HasCleanDisk new) (IsShut new)) → Asks old new result
+  asks result ended clean settled left told = record {
+    leaves = record {
+      ended = ended;
+      clean = λ now. omega (arith, clean, now);
+      was_open = λ now. was (left now);
+    };
+    same = λ now. same_rows settled (left now);
+    told = told;
+  }
+
+-- an open connection isn't shut
+pub not_shut : (s : State) → IsTrue s.is_open → ¬ IsShut s
+not_shut s is_open shut = true≢false (sym is_open ∙ shut)
+
+-- a test that wasn't made
+pub unasked : (s : State) (fault : StoreFault) → Asks s s (Err fault)
+unasked s fault = record {
+  leaves = record { ended = λ h. h; clean = λ h. h; was_open = λ _ h. h };
+  same = λ _ _. refl;
+  told = tt;
+}
+
+module _ (old new : State) (result : Result Bool StoreFault) (asked : Asks old new result)
+    (now : HasCleanDisk new) where
+  -- what is kept is still kept
+  pub asked_keeps : (room : Content) → Keeps old room → Keeps new room
+  asked_keeps room keeps is_open =
+      ap (λ (db : Database). meaning (rows_of db).read) (asked.same now is_open)
+      ∙ keeps (asked.leaves.was_open now is_open)
+
+  -- and is still sound
+  pub asked_sound : IsSound old → IsSound new
+  asked_sound sound is_open =
+      subst (λ (db : Database). HasTables db × AreSound (rows_of db))
+      (sym (asked.same now is_open)) (sound (asked.leaves.was_open now is_open))
+
+-- a call of a store that was shut gives no answer
+pub shut_answers : {X : Type 0} (old new : State) (x : X) (Blames : Rows → Type 0)
+    (Becomes : Rows → X → Rows → Type 0) → Ran old new (Ok x) Blames Becomes → IsShut old
+    → HasCleanDisk new → ⊥
+shut_answers old new x Blames Becomes ran shut now = not_shut old (ran.answers now).0 shut

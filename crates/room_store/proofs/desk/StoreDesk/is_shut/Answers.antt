@@ -1,0 +1,23 @@
+use Rattle.sqlite.specs.Held.{state}
+use Rattle.room_store.proofs.Shutting.{asked_keeps, asked_sound}
+use Rattle.room_store.proofs.desk.StoreDesk.is_shut.Goals as goal
+
+pub returns-in-Ok-clause-kept : goal.returns-in-Ok-clause-kept
+returns-in-Ok-clause-kept g c =
+    asked_keeps (state g.S.Store c.args.self.now.conn) (state g.S.Store c.test_shut.new.conn) _
+    c.test_shut.ensures
+
+pub returns-in-Ok-clause-sound : goal.returns-in-Ok-clause-sound
+returns-in-Ok-clause-sound g c =
+    asked_sound (state g.S.Store c.args.self.now.conn) (state g.S.Store c.test_shut.new.conn) _
+    c.test_shut.ensures
+
+pub returns-in-Err-clause-kept : goal.returns-in-Err-clause-kept
+returns-in-Err-clause-kept g c =
+    asked_keeps (state g.S.Store c.args.self.now.conn) (state g.S.Store c.test_shut.new.conn) _
+    c.test_shut.ensures
+
+pub returns-in-Err-clause-sound : goal.returns-in-Err-clause-sound
+returns-in-Err-clause-sound g c =
+    asked_sound (state g.S.Store c.args.self.now.conn) (state g.S.Store c.test_shut.new.conn) _
+    c.test_shut.ensures
