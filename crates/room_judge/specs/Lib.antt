@@ -1,3 +1,4 @@
 pub mod Stored
 pub mod Judged
 pub mod Spot
+pub mod Halted

@@ -12,6 +12,25 @@ pub struct Found {
     pub depth: usize,
 }
 
+/// The folder of a path's last name, which grants EXECUTE, and what has that name in it, if
+/// anything has.
+#[derive(Drop)]
+pub struct Under {
+    /// The folder.
+    pub folder: Found,
+    /// What has the last name.
+    pub child: Option<Node>,
+}
+
+/// The folder of a path's last name, which grants EXECUTE, and the object at the path.
+#[derive(Drop)]
+pub struct Both {
+    /// The folder.
+    pub folder: Found,
+    /// The object.
+    pub target: Found,
+}
+
 /// The result of a walk along a path.
 #[derive(Drop)]
 pub enum Arrival {

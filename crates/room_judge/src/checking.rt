@@ -1,48 +1,52 @@
 //! One check of bits on an object, and the records that it calls for.
-ghost use Rattle.std.specs.Prelude.{◌≡◌, ◌-◌, [], ◌∷◌, IfOk, option_and_then, slice_get, take};
+ghost use Rattle.std.specs.Prelude.{◌≡◌, ◌-◌, [], ◌∷◌, IfOk, option_and_then, slice_get};
 ghost use Rattle.room_rows.specs.Keep.{IsNever};
-ghost use Rattle.room_machine.specs.Judge.{denied_at, kind_at, of_verdict, record_at, records_of};
+ghost use Rattle.room_machine.specs.Judge.{kind_at, of_verdict, record_at, records_of};
 ghost use Rattle.room_machine.specs.Plan.{Check};
-ghost use Rattle.room_machine.specs.declared.reply.Reply.TheVariants.{Refused};
-ghost use Rattle.room_judge.specs.Judged.{Does, IsJudged, is_grant, noted};
+ghost use Rattle.room_judge.specs.Halted.{Grants, Judges, Tries};
+ghost use Rattle.room_judge.specs.Judged.{Does, is_grant, noted};
 ghost use Rattle.room_judge.specs.Stored.{found_site};
 
 use crate::arrival::Found;
 use crate::asker::{Asker, copy_user};
+use crate::halt::Halt;
+use crate::walk::Walk;
 use room_ace::{Entry, EntryKind, Mask};
 use room_eval::{Verdict, decide, events};
-use room_machine::{Reason, Reply};
+use room_machine::Reply;
 use room_rows::{AuditRow, Keep, KeepFault, Path, RecordKind, Text};
 use std::alloc::{AllocError, Global};
 
-/// The refusal at the object after this many names of the path. The only error is out of memory.
-pub fn refused(alloc: Global, path: &Path, depth: usize, why: Reason) -> Result<Reply, AllocError>
-    ensures { IfOk result (λ reply. reply ≡ Refused (take depth path.now) why) }
-{
-    Ok(Reply::Refused {
-        at: path.front(alloc, depth)?,
-        why,
-    })
+// One check on the object at the end of a walk, with its outcome.
+#[derive(Drop)]
+pub(crate) struct Checked<'a> {
+    pub path: &'a Path,
+    pub found: &'a Found,
+    pub bits: Mask,
+    pub granted: bool,
 }
 
-// The denial of these bits on the object, with the entry at the place.
-pub(crate) fn denied(
+// Nothing where the verdict on the object's dacl grants, and else the denial.
+pub(crate) fn granted(
     alloc: Global,
     path: &Path,
     found: &Found,
-    bits: Mask,
-    place: Option<usize>,
-) -> Result<Reply, AllocError>
-    ensures { IfOk result
-        (λ reply. Some reply ≡ denied_at (found_site path.now found.now) bits place) }
+    verdict: &Verdict,
+) -> Result<(), Halt>
+    ensures { Grants result (of_verdict (found_site path.now found.now) verdict.now) }
 {
-    let entry = entry_copy(found.node.dacl.full(), place)?;
-    Ok(Reply::Denied {
-        at: path.front(alloc, found.depth)?,
-        bits,
-        place,
-        entry,
-    })
+    match verdict {
+        Verdict::Granted => Ok(()),
+        Verdict::Denied { bits, place } => {
+            let entry = entry_copy(found.node.dacl.full(), *place)?;
+            Err(Halt::Refused(Reply::Denied {
+                at: path.front(alloc, found.depth)?,
+                bits: *bits,
+                place: *place,
+                entry,
+            }))
+        }
+    }
 }
 
 // The entry at the place, counted from 1.
@@ -56,21 +60,6 @@ fn entry_copy(entries: &[Entry], place: Option<usize>) -> Result<Option<Entry>, 
             None => Ok(None),
             Some(entry) => Ok(Some(entry.clone()?)),
         },
-    }
-}
-
-// The reply for a verdict on the object's dacl.
-fn denial(
-    alloc: Global,
-    path: &Path,
-    found: &Found,
-    verdict: Verdict,
-) -> Result<Option<Reply>, AllocError>
-    ensures { IfOk result (λ reply. reply ≡ of_verdict (found_site path.now found.now) verdict) }
-{
-    match verdict {
-        Verdict::Granted => Ok(None),
-        Verdict::Denied { bits, place } => Ok(Some(denied(alloc, path, found, bits, place)?)),
     }
 }
 
@@ -101,76 +90,73 @@ fn record_kind(entries: &[Entry], place: usize) -> RecordKind
 fn row_of(
     alloc: Global,
     asker: &Asker,
-    path: &Path,
-    found: &Found,
-    bits: Mask,
-    granted: bool,
+    checked: &Checked<'_>,
     place: usize,
 ) -> Result<AuditRow, AllocError>
     ensures { IfOk result
-        (λ row. row ≡ record_at asker.now.caller asker.now.at granted
-        (found_site path.now found.now, bits) place) }
+        (λ row. row ≡ record_at asker.now.caller asker.now.at checked.now.granted
+        (found_site checked.now.path.now checked.now.found.now, checked.now.bits) place) }
 {
     let user = copy_user(&asker.caller.user)?;
     Ok(AuditRow {
         at: asker.at,
         user,
-        path: Text::from_string(path.front_text(alloc, found.depth)?),
-        bits,
-        granted,
+        path: Text::from_string(checked.path.front_text(alloc, checked.found.depth)?),
+        bits: checked.bits,
+        granted: checked.granted,
         place,
-        kind: record_kind(found.node.sacl.full(), place),
+        kind: record_kind(checked.found.node.sacl.full(), place),
     })
 }
 
-// Notes the records of one check on the object.
+// Notes the records of one check.
 pub(crate) fn note_check<K: Keep>(
     alloc: Global,
     keep: &mut K,
     asker: &Asker,
-    path: &Path,
-    found: &Found,
-    bits: Mask,
-    granted: bool,
+    checked: &Checked<'_>,
 ) -> Result<(), KeepFault>
     ensures done { Does K.Keep keep.old keep.new result IsNever
         (λ old _ new. new ≡ noted old
-        (records_of asker.now.caller asker.now.at granted (found_site path.now found.now, bits))) }
+        (records_of asker.now.caller asker.now.at checked.now.granted
+        (found_site checked.now.path.now checked.now.found.now, checked.now.bits))) }
 {
     let places = events(
         alloc,
-        found.node.sacl.full(),
+        checked.found.node.sacl.full(),
         &asker.caller,
-        &found.node.owners,
-        bits,
-        granted,
+        &checked.found.node.owners,
+        checked.bits,
+        checked.granted,
     )?;
     'places: for place in places.as_slice() {
-        let row = row_of(alloc, asker, path, found, bits, granted, *place)?;
+        let row = row_of(alloc, asker, checked, *place)?;
         keep.note(row)?;
     }
     Ok(())
 }
 
-/// One check of these bits on the object: the denial where its dacl doesn't grant them all. The
-/// records that its sacl calls for are noted. The error is the keeper's, or that memory ran out.
-pub fn check<K: Keep>(
-    alloc: Global,
-    keep: &mut K,
-    asker: &Asker,
-    path: &Path,
-    found: &Found,
-    mask: Mask,
-) -> Result<Option<Reply>, KeepFault>
-    ensures done { Does K.Keep keep.old keep.new result IsNever
-        (IsJudged asker.now (Check (found_site path.now found.now) mask ∷ [])) }
-{
-    let verdict = decide(
-        found.node.dacl.full(),
-        &asker.caller,
-        &found.node.owners,
-        mask,
-    );
-    note_check(alloc, keep, asker, path, found, mask, is_grant(verdict))?;
-    Ok(denial(alloc, path, found, verdict)?)
+impl<K: Keep> Walk<'_, K> {
+    /// One check of these bits on the object.
+    pub fn check(&mut self, path: &Path, found: &Found, mask: Mask) -> Result<(), Halt>
+        ensures same_keep { self.new.keep.ghost_name ≡ self.old.keep.ghost_name }
+        ensures same_asker { self.new.asker.now ≡ self.old.asker.now }
+        ensures done { Tries K.Keep self.old.keep.now self.new.keep.now result IsNever
+            (Judges self.old.asker.now (Check (found_site path.now found.now) mask ∷ [])) }
+    {
+        let verdict = decide(
+            found.node.dacl.full(),
+            &self.asker.caller,
+            &found.node.owners,
+            mask,
+        );
+        let checked = Checked {
+            path,
+            found,
+            bits: mask,
+            granted: is_grant(verdict),
+        };
+        note_check(self.alloc, self.keep, self.asker, &checked)?;
+        granted(self.alloc, path, found, &verdict)
+    }
 }

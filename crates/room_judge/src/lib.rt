@@ -3,14 +3,19 @@
 
 mod arrival;
 mod asker;
+mod bridging;
 mod checking;
 mod deleting;
+mod halt;
 mod spotting;
+mod walk;
 mod walking;
 
-pub use arrival::{Arrival, Found, Pair, Spot};
+pub use arrival::{Arrival, Both, Found, Pair, Spot, Under};
 pub use asker::{Asker, caller_of};
-pub use checking::{check, refused};
-pub use deleting::check_deletion;
-pub use spotting::{walk_to_pair, walk_to_pair_from, walk_to_spot};
-pub use walking::{check_kind, pass_through, reach, reach_kind, walk_along, walk_from, walk_to};
+pub use bridging::{
+    check, check_deletion, check_kind, pass_through, reach, reach_kind, refused, walk_from,
+    walk_to, walk_to_pair, walk_to_pair_from, walk_to_spot,
+};
+pub use halt::{Halt, refusal};
+pub use walk::Walk;

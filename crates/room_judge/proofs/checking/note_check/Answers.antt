@@ -11,8 +11,8 @@ places-init g c =
     let m = g.met.K.Keep in
     then m.laws (none_done m.laws c.args.keep.now) (none_done m.laws c.args.keep.now)
     (λ old mid new same again.
-    notes_none c.args.asker.now c.args.granted
-    (found_site c.args.path.now c.args.found.now) c.args.bits c.as_slice-place-items.result.now old
+    notes_none c.args.asker.now c.args.checked.now.granted
+    (found_site c.args.checked.now.path.now c.args.checked.now.found.now) c.args.checked.now.bits c.as_slice-place-items.result.now old
     new (again ∙ same))
 
 pub returns-in_err-row : goal.returns-in_err-row
@@ -38,12 +38,12 @@ places-preserved g c =
     let m = g.met.K.Keep in
     let are = c.as_slice-place-items.ensures.value ∙ c.in_ok-places.ensures
     ∙ ap
-    (λ (es : List Ace). events_of es c.args.asker.now.caller c.args.found.now.node.owners
-    c.args.bits c.args.granted) c.full.ensures in
+    (λ (es : List Ace). events_of es c.args.asker.now.caller c.args.checked.now.found.now.node.owners
+    c.args.checked.now.bits c.args.checked.now.granted) c.full.ensures in
     then m.laws c.places.invariant (done (of_write c.in_ok-note.ensures.written))
     (λ old now next sofar more.
-    notes_one c.args.asker.now c.args.granted
-    (found_site c.args.path.now c.args.found.now) c.args.bits c.as_slice-place-items.result.now
+    notes_one c.args.asker.now c.args.checked.now.granted
+    (found_site c.args.checked.now.path.now c.args.checked.now.found.now) c.args.checked.now.bits c.as_slice-place-items.result.now
     c.places.place-index c.in_ok-row.row old now next c.places-test.true
     c.in_ok-row.ensures are sofar more)
 
@@ -54,11 +54,11 @@ returns g c =
     (arith, c.places-test.false, c.places.auto.place-index-end) in
     let are = c.as_slice-place-items.ensures.value ∙ c.in_ok-places.ensures
     ∙ ap
-    (λ (es : List Ace). events_of es c.args.asker.now.caller c.args.found.now.node.owners
-    c.args.bits c.args.granted) c.full.ensures in
+    (λ (es : List Ace). events_of es c.args.asker.now.caller c.args.checked.now.found.now.node.owners
+    c.args.checked.now.bits c.args.checked.now.granted) c.full.ensures in
     record {
       done = finish m.laws tt c.places.invariant (λ old new known sofar.
-          notes_all c.args.asker.now c.args.granted
-          (found_site c.args.path.now c.args.found.now) c.args.bits
+          notes_all c.args.asker.now c.args.checked.now.granted
+          (found_site c.args.checked.now.path.now c.args.checked.now.found.now) c.args.checked.now.bits
           c.as_slice-place-items.result.now c.places.place-index old new full are sofar);
     }

@@ -9,4 +9,5 @@ abbrev pub invariant-places : goal.invariant-places
 invariant-places g l =
     let k = g.K.Keep in
     HasDone k.rows k.Follows k.IsTrusted l.fn.keep l.keep
-    (Notes l.asker l.granted (found_site l.path l.found) l.bits (take l.place-index l.place-items))
+    (Notes l.asker l.checked.granted (found_site l.checked.path.now l.checked.found.now)
+    l.checked.bits (take l.place-index l.place-items))

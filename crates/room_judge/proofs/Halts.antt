@@ -1,0 +1,123 @@
+-- Calls that may be refused, one after the other.
+use Rattle.std.proofs.Common.{◌≡◌, ℕ, Some, Result, Ok, Err, refl, sym, subst}
+use Rattle.std.specs.Result.{IsErrAnd}
+use Rattle.room_rows.specs.declared.keep.KeepFault.{KeepFault}
+use Rattle.room_rows.specs.declared.keep.KeepFault.TheVariants.{Memory}
+use Rattle.room_rows.specs.Keep.{KeepLaws}
+use Rattle.room_rows.specs.Rows.{AreRows, Rows}
+use Rattle.room_machine.specs.declared.reply.Reply.{Reply}
+use Rattle.room_judge.specs.Judged.{IsDone}
+use Rattle.room_judge.proofs.Calls.{HasDone, done, fails, finish, memory, none_done, then}
+use Rattle.room_judge.specs.declared.halt.Halt.{Halt}
+use Rattle.room_judge.specs.declared.halt.Halt.TheVariants.{Refused, Fault}
+use Rattle.room_judge.specs.Halted.{Comes, Refuses, settled}
+
+module _ {S : Type 0} {rows : S → Rows} {failures writes : S → ℕ}
+    {Follows IsTrusted : S → S → Type 0}
+    (laws : KeepLaws rows failures writes Follows IsTrusted) where
+  -- numbers are in order
+  known : {a b : S} {Before : Rows → Rows → Type 0} → HasDone rows Follows IsTrusted a b Before
+      → HasDone rows Follows IsTrusted a b (λ old new. AreRows old × Before old new)
+  known {a = a} {b = b} before =
+      record { follows = before.follows; becomes = λ t. (laws.are a b t, before.becomes t) }
+
+  -- a call is refused or has a fault, which is handed on
+  pub halts : {X Y : Type 0} {a b c : S} (e : Halt) {Before : Rows → Rows → Type 0}
+      {Blames Blames' : Rows → ℕ → Type 0} {After : Rows → Result X Reply → Rows → Type 0}
+      {Becomes : Rows → Result Y Reply → Rows → Type 0}
+      → HasDone rows Follows IsTrusted a b Before
+      → IsDone rows failures Follows IsTrusted b c (settled {X = X} (Err e)) Blames After
+      → ((old mid : Rows) (at : ℕ) → AreRows old → Before old mid → Blames mid at → Blames' old at)
+      → ((old mid new : Rows) (reply : Reply) → AreRows old → Before old mid
+      → After mid (Err reply) new → Becomes old (Err reply) new)
+      → (r : Result Y Halt) → IsErrAnd r (λ x. x ≡ e)
+      → IsDone rows failures Follows IsTrusted a c (settled r) Blames' Becomes
+  halts e before after blames refuses (Ok y) is = absurd is
+  halts {X = X} {Y = Y} {a = a} {b = b} {c = c} e {Before = Before} {Blames = Blames}
+      {Blames' = Blames'} {After = After} {Becomes = Becomes} before after blames refuses (Err f)
+      is =
+      subst
+      (λ h. IsDone rows failures Follows IsTrusted a c (settled {X = Y} (Err h)) Blames' Becomes)
+      (sym is) (on e after)
+    where
+      on : (h : Halt)
+          → IsDone rows failures Follows IsTrusted b c (settled {X = X} (Err h)) Blames After
+          → IsDone rows failures Follows IsTrusted a c (settled {X = Y} (Err h)) Blames' Becomes
+      on (Refused reply) after =
+          finish laws (Err reply) (then laws (known before) (done after)
+          (λ old mid new b a. refuses old mid new reply b.0 b.1 a)) (λ old new are h. h)
+      on (Fault fault) after =
+          fails laws (known before) after (λ old mid at b h. blames old mid at b.0 b.1 h) (Err fault)
+          refl
+
+  -- the same at the first call
+  pub halts_first : {X Y : Type 0} {a c : S} (e : Halt)
+      {Blames Blames' : Rows → ℕ → Type 0} {After : Rows → Result X Reply → Rows → Type 0}
+      {Becomes : Rows → Result Y Reply → Rows → Type 0}
+      → IsDone rows failures Follows IsTrusted a c (settled {X = X} (Err e)) Blames After
+      → ((old : Rows) (at : ℕ) → Blames old at → Blames' old at)
+      → ((old new : Rows) (reply : Reply) → AreRows old → After old (Err reply) new
+      → Becomes old (Err reply) new)
+      → (r : Result Y Halt) → IsErrAnd r (λ x. x ≡ e)
+      → IsDone rows failures Follows IsTrusted a c (settled r) Blames' Becomes
+  halts_first {a = a} e {Blames = Blames} {After = After} after blames refuses r is =
+      halts e (none_done laws a) after
+      (λ old mid at are same h. blames old at (subst (λ (o : Rows). Blames o at) same h))
+      (λ old mid new reply are same h.
+      refuses old new reply are (subst (λ (o : Rows). After o (Err reply) new) same h)) r is
+
+  -- a call of a keeper has a fault, which is handed on
+  pub faults : {X Y : Type 0} {a b c : S} {e : KeepFault} {Before : Rows → Rows → Type 0}
+      {Blames Blames' : Rows → ℕ → Type 0} {After : Rows → X → Rows → Type 0}
+      {Becomes : Rows → Result Y Reply → Rows → Type 0}
+      → HasDone rows Follows IsTrusted a b Before
+      → IsDone rows failures Follows IsTrusted {X = X} b c (Err e) Blames After
+      → ((old mid : Rows) (at : ℕ) → AreRows old → Before old mid → Blames mid at → Blames' old at)
+      → (r : Result Y Halt) → IsErrAnd r (λ x. x ≡ Fault e)
+      → IsDone rows failures Follows IsTrusted a c (settled r) Blames' Becomes
+  faults before after blames (Ok y) is = absurd is
+  faults {Y = Y} {a = a} {c = c} {e = e} {Blames' = Blames'} {Becomes = Becomes} before after
+      blames (Err f) is =
+      subst
+      (λ h. IsDone rows failures Follows IsTrusted a c (settled {X = Y} (Err h)) Blames' Becomes)
+      (sym is)
+      (fails laws (known before) after (λ old mid at b h. blames old mid at b.0 b.1 h) (Err e) refl)
+
+  -- the calls end with this refusal, or memory ran out as it was made
+  pub refused_as : {Y : Type 0} {a b : S} {Before : Rows → Rows → Type 0}
+      {Blames : Rows → ℕ → Type 0} {Becomes : Rows → Result Y Reply → Rows → Type 0}
+      → HasDone rows Follows IsTrusted a b Before → (h : Halt) (wanted : Reply)
+      → Refuses h (Some wanted)
+      → ((old new : Rows) → AreRows old → Before old new → Becomes old (Err wanted) new)
+      → IsDone rows failures Follows IsTrusted a b (settled {X = Y} (Err h)) Blames Becomes
+  refused_as {Becomes = Becomes} before (Refused reply) wanted is becomes =
+      let same : wanted ≡ reply = cc in
+      finish laws (Err reply) before (λ old new are b.
+      subst (λ (r : Reply). Becomes old (Err r) new) same (becomes old new are b))
+  refused_as before (Fault fault) wanted is becomes = memory laws before (Err fault) is
+
+  -- memory ran out after them
+  pub memory_out : {Y : Type 0} {a b : S} {Before : Rows → Rows → Type 0}
+      {Blames : Rows → ℕ → Type 0} {Becomes : Rows → Result Y Reply → Rows → Type 0}
+      → HasDone rows Follows IsTrusted a b Before → (r : Result Y Halt)
+      → IsErrAnd r (λ x. x ≡ Fault Memory)
+      → IsDone rows failures Follows IsTrusted a b (settled r) Blames Becomes
+  memory_out before (Ok y) is = absurd is
+  memory_out {Y = Y} {a = a} {b = b} {Blames = Blames} {Becomes = Becomes} before (Err f) is =
+      subst
+      (λ h. IsDone rows failures Follows IsTrusted a b (settled {X = Y} (Err h)) Blames Becomes)
+      (sym is) (memory laws before (Err Memory) refl)
+
+  -- the calls end with this outcome, or memory ran out as it was made
+  pub comes_to : {X : Type 0} {a b : S} {Before : Rows → Rows → Type 0}
+      {Blames : Rows → ℕ → Type 0} {Becomes : Rows → Result X Reply → Rows → Type 0}
+      → HasDone rows Follows IsTrusted a b Before → (r : Result X Halt) (wanted : Result X Reply)
+      → Comes r wanted → ((old new : Rows) → AreRows old → Before old new → Becomes old wanted new)
+      → IsDone rows failures Follows IsTrusted a b (settled r) Blames Becomes
+  comes_to {X = X} {Becomes = Becomes} before (Ok x) wanted is becomes =
+      finish laws (Ok x) before (λ old new are b.
+      subst (λ (o : Result X Reply). Becomes old o new) (sym is) (becomes old new are b))
+  comes_to {X = X} {Becomes = Becomes} before (Err (Refused reply)) wanted is becomes =
+      finish laws (Err reply) before (λ old new are b.
+      subst (λ (o : Result X Reply). Becomes old o new) (sym is) (becomes old new are b))
+  comes_to before (Err (Fault fault)) wanted is becomes = memory laws before (Err fault) is

@@ -1,0 +1,36 @@
+use Rattle.std.proofs.Common.{◌≡◌, ℕ, List, ◌<◌, ◌+◌, Option, length, ap, ◌∙◌, arith}
+use Rattle.room_rows.specs.declared.node.Node.{Node}
+use Rattle.room_judge.specs.declared.arrival.Spot.TheVariants.{Under}
+use Rattle.room_rows.specs.Content.{child_of}
+use Rattle.room_judge.proofs.Calls.{done, finish, of_read, then}
+use Rattle.room_judge.proofs.Folders.{spot_found}
+use Rattle.room_judge.proofs.Halts.{faults}
+use Rattle.room_judge.proofs.Judging.{blames_first}
+use Rattle.room_judge.proofs.Ways.{name_read}
+use Rattle.room_judge.proofs.walk.Walk.spot_in.Goals as goal
+
+pub returns-in_err-child-clause-done : goal.returns-in_err-child-clause-done
+returns-in_err-child-clause-done g c =
+    faults g.met.K.Keep.laws (done c.in_ok-pass_through.ensures.done)
+    (of_read c.in_err-child.ensures.read)
+    (λ old mid at are judged h. blames_first c.args.self.now.asker.now _ _ old mid at judged h)
+    c.from_residual-in_err-child.result c.from_residual-in_err-child.ensures.1
+
+pub returns-clause-done : goal.returns-clause-done
+returns-clause-done g c =
+    let m = g.met.K.Keep in
+    let path = c.args.path.now in
+    let folder = c.args.folder in
+    let deep : length path ≡ folder.depth + 1 = c.requires in
+    let below : folder.depth < length path = omega arith in
+    let named =
+    name_read path c.names.result.now folder.depth c.index-names-folder.result
+    c.as_str.result.now c.names.ensures below c.index-names-folder.is c.as_str.ensures in
+    finish m.laws _ (then m.laws (done c.in_ok-pass_through.ensures.done)
+    (done (of_read c.in_ok-child.ensures.read))
+    (λ old mid new judged both.
+    spot_found c.args.self.now.asker.now path folder old mid new
+    (Under folder c.in_ok-child.child) judged
+    (ap (λ (o : Option Node). Under folder o)
+    (both.0 ∙ ap (λ (n : List ℕ). child_of mid.read folder.node.id n) named)) both.1))
+    (λ old new are h. h)

@@ -1,0 +1,71 @@
+use Rattle.std.proofs.Common.{◌≡◌, ◌∙◌, refl, take, subst, arith}
+use Rattle.room_judge.specs.declared.arrival.Arrival.TheVariants.{At, Ended}
+use Rattle.room_judge.specs.declared.asker.Asker.{Asker}
+use Rattle.room_judge.specs.Judged.{StepsOn}
+use Rattle.room_judge.proofs.Calls.{done, finish, then}
+use Rattle.room_judge.proofs.Halts.{halts}
+use Rattle.room_judge.proofs.Walked.{walk_done, walking_blames, walks_on}
+use Rattle.room_judge.proofs.Ways.{way_begins}
+use Rattle.room_judge.proofs.walk.Walk.walk_down.Goals as goal
+
+pub names-init : goal.names-init
+names-init g c =
+    let m = g.met.K.Keep in
+    record {
+      same_keep = refl;
+      same_asker = refl;
+      done = record {
+        follows = m.laws.itself c.args.self.now.keep.now;
+        becomes =
+            λ t is. way_begins c.args.self.now.asker.now (take c.args.depth c.args.path.now)
+            c.args.root (g.K.Keep.rows c.args.self.now.keep.now)
+            (g.K.Keep.rows c.args.self.now.keep.now) is refl;
+      };
+    }
+
+pub returns-in_err-node : goal.returns-in_err-node
+returns-in_err-node g c =
+    let asker = c.args.self.now.asker.now in
+    let path = c.args.path.now in
+    record {
+      same_keep = c.in_err-node.ensures.same_keep ∙ c.names.invariant.same_keep;
+      same_asker = c.in_err-node.ensures.same_asker ∙ c.names.invariant.same_asker;
+      done =
+          halts g.met.K.Keep.laws _ c.names.invariant.done c.in_err-node.ensures.done
+          (λ old mid at are walking h is.
+          walking_blames asker (take c.args.depth path) c.names.index (At c.names.node) old mid at
+          (walking is) h)
+          (λ old mid new reply are walking step is.
+          walks_on asker path c.args.depth c.requires c.names.index (At c.names.node)
+          (Ended reply) old mid new c.names-test.true (walking is)
+          (subst (λ (a : Asker).
+          StepsOn a path c.names.index (At c.names.node) mid (Ended reply) new)
+          c.names.invariant.same_asker step))
+          c.from_residual.result c.from_residual.ensures.1;
+    }
+
+pub names-preserved : goal.names-preserved
+names-preserved g c =
+    let asker = c.args.self.now.asker.now in
+    let path = c.args.path.now in
+    record {
+      same_keep = c.in_ok-node.ensures.same_keep ∙ c.names.invariant.same_keep;
+      same_asker = c.in_ok-node.ensures.same_asker ∙ c.names.invariant.same_asker;
+      done =
+          then g.met.K.Keep.laws c.names.invariant.done (done c.in_ok-node.ensures.done)
+          (λ old mid new walking step is.
+          walks_on asker path c.args.depth c.requires c.names.index (At c.names.node)
+          (At c.in_ok-node.node) old mid new c.names-test.true (walking is)
+          (subst (λ (a : Asker).
+          StepsOn a path c.names.index (At c.names.node) mid (At c.in_ok-node.node) new)
+          c.names.invariant.same_asker step));
+    }
+
+pub returns-clause-done : goal.returns-clause-done
+returns-clause-done g c =
+    let below = c.names.auto.index-end in
+    let stops = c.names-test.false in
+    let all : c.names.index ≡ c.args.depth = omega arith in
+    finish g.met.K.Keep.laws _ c.names.invariant.done (λ old new are walking is.
+    walk_done c.args.self.now.asker.now c.args.path.now c.args.depth c.requires c.names.index
+    (At c.names.node) old new all (walking is))

@@ -1,0 +1,140 @@
+-- What calls that may be refused answer, and what they leave.
+use Rattle.std.specs.Prelude.{◌≡◌, ℕ, List, length, Option, Some, None, Result, Ok, Err}
+use Rattle.room_rows.specs.declared.keep.Keep.{Ghosts}
+use Rattle.room_rows.specs.declared.keep.KeepFault.{KeepFault}
+use Rattle.room_rows.specs.declared.keep.KeepFault.TheVariants.{Memory}
+use Rattle.room_rows.specs.declared.node.Node.{Node}
+use Rattle.room_rows.specs.Rows.{Rows}
+use Rattle.room_machine.specs.declared.reply.Reply.{Reply}
+use Rattle.room_machine.specs.declared.reply.Reply.TheVariants.{Refused as RefusedWith}
+use Rattle.room_machine.specs.declared.reply.Reason.TheVariants.{NoSuch}
+use Rattle.room_machine.specs.declared.request.Request.{Request}
+use Rattle.room_machine.specs.Plan.{Item}
+use Rattle.room_machine.specs.Site.{Site}
+use Rattle.room_judge.specs.declared.arrival.Arrival.{Arrival}
+use Rattle.room_judge.specs.declared.arrival.Arrival.TheVariants.{At, Ended}
+use Rattle.room_judge.specs.declared.arrival.Both.{Both}
+use Rattle.room_judge.specs.declared.arrival.Found.{Found}
+use Rattle.room_judge.specs.declared.arrival.Pair.{Pair}
+use Rattle.room_judge.specs.declared.arrival.Pair.TheVariants.{Both as BothOf, Halted}
+use Rattle.room_judge.specs.declared.arrival.Spot.{Spot}
+use Rattle.room_judge.specs.declared.arrival.Spot.TheVariants.{Under as UnderOf, Barred}
+use Rattle.room_judge.specs.declared.arrival.Under.{Under}
+use Rattle.room_judge.specs.declared.asker.Asker.{Asker}
+use Rattle.room_judge.specs.declared.halt.Halt.{Halt}
+use Rattle.room_judge.specs.declared.halt.Halt.TheVariants.{Refused, Fault}
+use Rattle.room_judge.specs.Judged.{CarriesOut, Does, FindsNext, IsJudged, IsReached, IsStepDown}
+use Rattle.room_judge.specs.Spot.{IsPaired, IsSpotted, SpotsUnder}
+
+-- A refusal is an outcome, as an answer is. A fault isn't.
+abbrev pub settled : {X : Type 0} → Result X Halt → Result (Result X Reply) KeepFault
+settled (Ok x) = Ok (Ok x)
+settled (Err (Refused reply)) = Ok (Err reply)
+settled (Err (Fault fault)) = Err fault
+
+-- As `Does`, where calls may be refused: the relation says what each outcome leaves.
+module _ {S : Type 0} (k : Ghosts S) {X : Type 0} (old new : S) (result : Result X Halt) where
+  abbrev pub Tries : (Rows → ℕ → Type 0) → (Rows → Result X Reply → Rows → Type 0) → Type 0
+  Tries Blames Becomes = Does k old new (settled result) Blames Becomes
+
+abbrev pub refusal_of : {X : Type 0} → Result X Reply → Option Reply
+refusal_of (Ok x) = None
+refusal_of (Err reply) = Some reply
+
+-- The refusal is the reply for the first item that fails, and the records of the items up to it
+-- come after the others.
+abbrev pub Judges : {X : Type 0} → Asker → List Item → Rows → Result X Reply → Rows → Type 0
+Judges asker items old outcome new = IsJudged asker items old (refusal_of outcome) new
+
+-- this refusal, or out of memory
+abbrev pub Refuses : Halt → Option Reply → Type 0
+Refuses (Refused reply) wanted = Some reply ≡ wanted
+Refuses (Fault fault) wanted = fault ≡ Memory
+
+-- granted, or this refusal, or out of memory
+abbrev pub Grants : {X : Type 0} → Result X Halt → Option Reply → Type 0
+Grants (Ok x) wanted = None ≡ wanted
+Grants (Err halt) wanted = Refuses halt wanted
+
+-- ---- walks
+
+abbrev pub arrived : Result Node Reply → Arrival
+arrived (Ok node) = At node
+arrived (Err reply) = Ended reply
+
+abbrev pub Reaches : Asker → List (List ℕ) → (Site → List Item) → Rows → Result Node Reply → Rows
+    → Type 0
+Reaches asker path items old outcome new = IsReached asker path items old (arrived outcome) new
+
+abbrev pub Finds : List (List ℕ) → Found → Rows → Result Node Reply → Rows → Type 0
+Finds path from old outcome new = FindsNext path from old (arrived outcome) new
+
+abbrev pub Steps : Asker → List (List ℕ) → Found → Rows → Result Node Reply → Rows → Type 0
+Steps asker path from old outcome new = IsStepDown asker path from old (arrived outcome) new
+
+abbrev pub spotted : Result Under Reply → Spot
+spotted (Ok under) = UnderOf under.folder under.child
+spotted (Err reply) = Barred reply
+
+abbrev pub Spots : Asker → List (List ℕ) → Rows → Result Under Reply → Rows → Type 0
+Spots asker path old outcome new = IsSpotted asker path old (spotted outcome) new
+
+abbrev pub SpotsIn : Asker → List (List ℕ) → Found → Rows → Result Under Reply → Rows → Type 0
+SpotsIn asker path from old outcome new = SpotsUnder asker path from old (spotted outcome) new
+
+abbrev pub paired : Result Both Reply → Pair
+paired (Ok both) = BothOf both.folder both.target
+paired (Err reply) = Halted reply
+
+abbrev pub Pairs : Asker → List (List ℕ) → Rows → Result Both Reply → Rows → Type 0
+Pairs asker path old outcome new = IsPaired asker path old (paired outcome) new
+
+-- the folder and the object at the path, where there is one
+abbrev pub both_with : List (List ℕ) → Found → Option Node → Result Both Reply
+both_with path folder (Some node) =
+    Ok (record { folder = folder; target = record { node = node; depth = length path } })
+both_with path folder None = Err (RefusedWith path NoSuch)
+
+-- this outcome, or out of memory
+abbrev pub Comes : {X : Type 0} → Result X Halt → Result X Reply → Type 0
+Comes (Ok x) wanted = Ok x ≡ wanted
+Comes (Err (Refused reply)) wanted = Err reply ≡ wanted
+Comes (Err (Fault fault)) wanted = fault ≡ Memory
+
+-- ---- a request
+
+-- a refusal is a reply
+abbrev pub replied : Result Reply Reply → Reply
+replied (Ok reply) = reply
+replied (Err reply) = reply
+
+abbrev pub Serves : Asker → Request → Rows → Result Reply Reply → Rows → Type 0
+Serves asker request old outcome new = CarriesOut asker request old (replied outcome) new
+
+-- what a request answers in the end
+abbrev pub reply_of : Result Reply Halt → Result Reply KeepFault
+reply_of (Ok reply) = Ok reply
+reply_of (Err (Refused reply)) = Ok reply
+reply_of (Err (Fault fault)) = Err fault
+
+-- ---- the older forms
+
+abbrev pub as_option : Result (Unit {0}) Halt → Result (Option Reply) KeepFault
+as_option (Ok x) = Ok None
+as_option (Err (Refused reply)) = Ok (Some reply)
+as_option (Err (Fault fault)) = Err fault
+
+abbrev pub as_arrival : Result Node Halt → Result Arrival KeepFault
+as_arrival (Ok node) = Ok (At node)
+as_arrival (Err (Refused reply)) = Ok (Ended reply)
+as_arrival (Err (Fault fault)) = Err fault
+
+abbrev pub as_spot : Result Under Halt → Result Spot KeepFault
+as_spot (Ok under) = Ok (UnderOf under.folder under.child)
+as_spot (Err (Refused reply)) = Ok (Barred reply)
+as_spot (Err (Fault fault)) = Err fault
+
+abbrev pub as_pair : Result Both Halt → Result Pair KeepFault
+as_pair (Ok both) = Ok (BothOf both.folder both.target)
+as_pair (Err (Refused reply)) = Ok (Halted reply)
+as_pair (Err (Fault fault)) = Err fault
