@@ -11,13 +11,19 @@ use Rattle.std.specs.Prelude.{
   length,
   Some,
   None,
+  Result,
+  Ok,
+  Err,
   nat_lt,
   if◌then◌else◌,
 }
 use Rattle.room_entry.specs.declared.limits.TheConstants.{MOST_BYTES}
 use Rattle.room_rows.specs.Content.{body_of}
 use Rattle.room_rows.specs.Keep.{IsUnreadable, SetsBody}
-use Rattle.room_rows.specs.Rows.{Rows, AreRows}
+use Rattle.room_rows.specs.Rows.{Rows}
+use Rattle.room_rows.specs.declared.keep.KeepFault.TheVariants.{Memory}
+use Rattle.room_judge.specs.declared.halt.Halt.{Halt}
+use Rattle.room_judge.specs.declared.halt.Halt.TheVariants.{Refused as Halted, Fault}
 use Rattle.room_machine.specs.declared.reply.Reply.{Reply}
 use Rattle.room_machine.specs.declared.reply.Reply.TheVariants.{Done, Refused}
 use Rattle.room_machine.specs.declared.reply.Reason.TheVariants.{TooLarge}
@@ -44,11 +50,16 @@ pub record IsAppended (path : List (List ℕ)) (id : ℕ) (bytes : List ℕ) (ol
   pub were : body_of old.read id ≡ Some before
   pub put : IsPut path id (before ++ bytes) old reply new
 
--- the same for a document that has those bytes
-abbrev pub Extends : List (List ℕ) → ℕ → List ℕ → List ℕ → Rows → Reply → Rows → Type 0
-Extends path id before bytes old reply new =
-    AreRows old → body_of old.read id ≡ Some before → IsPut path id (before ++ bytes) old reply new
+-- the document of this number has these bytes
+abbrev pub HasBody : ℕ → Rows → List ℕ → Type 0
+HasBody id rows bytes = body_of rows.read id ≡ Some bytes
 
 -- a row that can't be read, or no bytes of this number
 abbrev pub HasNoBytes : ℕ → Rows → ℕ → Type 0
 HasNoBytes id rows at = IsUnreadable rows at ⊎ ((at ≡ id) × (body_of rows.read id ≡ None))
+
+-- this reply, or out of memory
+abbrev pub Answers : Result Reply Halt → Reply → Type 0
+Answers (Ok reply) wanted = reply ≡ wanted
+Answers (Err (Halted reply)) wanted = reply ≡ wanted
+Answers (Err (Fault fault)) wanted = fault ≡ Memory

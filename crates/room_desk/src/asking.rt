@@ -1,58 +1,55 @@
 //! The request that asks what a caller may do.
-ghost use Rattle.std.specs.Prelude.{◌≡◌, IfOk};
-ghost use Rattle.room_desk.specs.Asked.{rulings_at, rulings_by};
+ghost use Rattle.std.specs.Prelude.{◌≡◌, ℕ, [], ◌∷◌, IfOk};
+ghost use Rattle.room_eval.specs.Verdict.{ruling_of};
+ghost use Rattle.room_rows.specs.Held.{full_of};
+ghost use Rattle.room_desk.specs.Asked.{rulings_at};
 ghost use Rattle.room_rows.specs.Keep.{IsDamaged};
-ghost use Rattle.room_judge.specs.Judged.{CarriesOut, Does};
+ghost use Rattle.room_judge.specs.Halted.{Serves, Tries};
 ghost use Rattle.room_machine.specs.declared.reply.Reply.TheVariants.{Rulings as RulingsReply};
 ghost use Rattle.room_machine.specs.declared.request.Request.TheVariants.{Can};
 
-use room_ace::{Caller, Entry, Mask, Owners};
-use room_eval::ruling;
-use room_judge::{Arrival, Asker, walk_to};
+use room_ace::Mask;
+use room_eval::{Ruling, ruling};
+use room_judge::{Asker, Halt, Walk};
 use room_machine::{Reply, Rulings};
-use room_rows::{Keep, KeepFault, Node, Path};
+use room_rows::{Keep, Node, Path};
 use std::alloc::{AllocError, Global};
 
 /// The ruling on each asked bit for the caller.
-pub(crate) fn can<K: Keep>(
-    alloc: Global,
-    keep: &mut K,
-    asker: &Asker,
-    path: &Path,
-    mask: Mask,
-) -> Result<Reply, KeepFault>
-    ensures done { Does K.Keep keep.old keep.new result IsDamaged
-        (CarriesOut asker.now (Can path.now mask)) }
+pub(crate) fn can<K: Keep>(walk: &mut Walk<'_, K>, path: &Path, mask: Mask) -> Result<Reply, Halt>
+    ensures same_keep { walk.new.keep.ghost_name ≡ walk.old.keep.ghost_name }
+    ensures same_asker { walk.new.asker.now ≡ walk.old.asker.now }
+    ensures done { Tries K.Keep walk.old.keep.now walk.new.keep.now result IsDamaged
+        (Serves walk.old.asker.now (Can path.now mask)) }
 {
-    let arrival = walk_to(alloc, keep, asker, path)?;
-    match arrival {
-        Arrival::Ended(reply) => Ok(reply),
-        Arrival::At(node) => Ok(rulings_reply(alloc, asker, &node, mask)?),
-    }
+    let node = walk.walk_to(path)?;
+    Ok(rulings_reply(walk.alloc, walk.asker, &node, mask)?)
 }
 
 // The ruling of the object's dacl on each of these bits.
 fn rulings_reply(alloc: Global, asker: &Asker, node: &Node, mask: Mask) -> Result<Reply, AllocError>
     ensures { IfOk result (λ reply. reply ≡ RulingsReply (rulings_at asker.now node.now mask)) }
 {
-    let rulings = rulings_of(alloc, node.dacl.full(), &asker.caller, &node.owners, mask)?;
-    Ok(Reply::Rulings(rulings))
+    Ok(Reply::Rulings(rulings_of(alloc, asker, node, mask)?))
 }
 
-// The ruling of a list on each of these bits.
-fn rulings_of(
-    alloc: Global,
-    entries: &[Entry],
-    caller: &Caller,
-    owners: &Owners,
-    mask: Mask,
-) -> Result<Rulings, AllocError>
-    ensures { IfOk result (λ rulings. rulings ≡ rulings_by entries.now caller.now owners.now mask) }
+// Each of these bits with its ruling.
+fn rulings_of(alloc: Global, asker: &Asker, node: &Node, mask: Mask) -> Result<Rulings, AllocError>
+    ensures { IfOk result (λ rulings. rulings ≡ rulings_at asker.now node.now mask) }
 {
     let bits = mask.singles(alloc)?;
     let mut items = Vec::new(alloc);
     'bits: for bit in bits.as_slice() {
-        items.push((*bit, ruling(entries, caller, owners, *bit)))?;
+        items.push((*bit, ruling_on(asker, node, *bit)))?;
     }
     Ok(Rulings::from_vec(items))
+}
+
+// The ruling on one bit.
+fn ruling_on(asker: &Asker, node: &Node, bit: Mask) -> Ruling
+    requires { (only : ℕ) × (bit ≡ only ∷ []) }
+    ensures { (only : ℕ) → bit ≡ only ∷ [] → result
+        ≡ ruling_of (full_of node.now.dacl) asker.now.caller node.now.owners only }
+{
+    ruling(node.dacl.full(), &asker.caller, &node.owners, bit)
 }

@@ -1,12 +1,8 @@
 //! Requests that make an object, or replace a document's bytes.
-ghost use Rattle.std.specs.Prelude.{◌≡◌, [], ◌∷◌, IfOk, length, unwrap_or};
+ghost use Rattle.std.specs.Prelude.{◌≡◌, [], ◌∷◌, IfOk, is_some, length, unwrap_or};
 ghost use Rattle.room_entry.specs.Rights.{append_data, write_data};
-ghost use Rattle.room_entry.specs.declared.object.ObjKind.TheVariants.{
-  Document as DocumentKind,
-  Folder as FolderKind,
-};
 ghost use Rattle.room_rows.specs.Keep.{IsDamaged, IsUnreadable, SetsBody};
-ghost use Rattle.room_judge.specs.Judged.{CarriesOut, Does};
+ghost use Rattle.room_judge.specs.Halted.{Serves, Tries, replied};
 ghost use Rattle.room_desk.specs.Made.{
   IsNameOf,
   IsJudgedAndDone,
@@ -25,232 +21,199 @@ ghost use Rattle.room_machine.specs.declared.request.Request.TheVariants.{MakeFo
 use crate::writing::put_bytes;
 use room_ace::{Entries, ListFlags, MOST_BYTES, Mask, Name, ObjKind, Owners};
 use room_inherit::pass;
-use room_judge::{Asker, Found, Spot, check, check_kind, refused, walk_to_spot};
+use room_judge::{Asker, Found, Halt, Under, Walk, refusal};
 use room_machine::{Reason, Reply};
-use room_rows::{Bytes, Held, Keep, KeepFault, NewNode, Node, Path, Text};
+use room_rows::{Bytes, Held, Keep, NewNode, Node, Path, Text};
 use std::alloc::{AllocError, Global};
+
+// What a new object is to be.
+#[derive(Drop)]
+struct NewChild<'a> {
+    name: &'a Text,
+    kind: ObjKind,
+    bytes: &'a Bytes,
+}
 
 /// Gives a document these bytes, or makes a new one.
 pub(crate) fn put<K: Keep>(
-    alloc: Global,
-    keep: &mut K,
-    asker: &Asker,
+    walk: &mut Walk<'_, K>,
     path: &Path,
     bytes: &Bytes,
-) -> Result<Reply, KeepFault>
-    ensures done { Does K.Keep keep.old keep.new result IsDamaged
-        (CarriesOut asker.now (Put path.now bytes.now)) }
+) -> Result<Reply, Halt>
+    ensures same_keep { walk.new.keep.ghost_name ≡ walk.old.keep.ghost_name }
+    ensures same_asker { walk.new.asker.now ≡ walk.old.asker.now }
+    ensures done { Tries K.Keep walk.old.keep.now walk.new.keep.now result IsDamaged
+        (Serves walk.old.asker.now (Put path.now bytes.now)) }
 {
     match path.split_last() {
-        None => Ok(refused(alloc, path, 0, Reason::WrongKind)?),
-        Some((name, _)) => put_below(alloc, keep, asker, path, name, bytes),
+        None => Err(refusal(walk.alloc, path, 0, Reason::WrongKind)),
+        Some((name, _)) => put_below(walk, path, name, bytes),
     }
 }
 
 // Puts the document at a path with a last name.
 fn put_below<K: Keep>(
-    alloc: Global,
-    keep: &mut K,
-    asker: &Asker,
+    walk: &mut Walk<'_, K>,
     path: &Path,
     name: &Text,
     bytes: &Bytes,
-) -> Result<Reply, KeepFault>
+) -> Result<Reply, Halt>
     requires { IsNameOf path.now name.now }
-    ensures done { Does K.Keep keep.old keep.new result IsDamaged
-        (CarriesOut asker.now (Put path.now bytes.now)) }
+    ensures same_keep { walk.new.keep.ghost_name ≡ walk.old.keep.ghost_name }
+    ensures same_asker { walk.new.asker.now ≡ walk.old.asker.now }
+    ensures done { Tries K.Keep walk.old.keep.now walk.new.keep.now result IsDamaged
+        (Serves walk.old.asker.now (Put path.now bytes.now)) }
 {
-    let spot = walk_to_spot(alloc, keep, asker, path)?;
+    let spot = walk.to_spot(path)?;
+    let Under { folder, child } = spot;
     let depth = path.names().len();
-    match spot {
-        Spot::Barred(reply) => Ok(reply),
-        Spot::Under { folder, child } => match child {
-            Some(node) => put_there(alloc, keep, asker, path, &Found { node, depth }, bytes),
-            None => put_new(alloc, keep, asker, path, name, &folder, bytes),
-        },
+    match child {
+        Some(node) => put_there(walk, path, &Found { node, depth }, bytes),
+        None => {
+            let kind = ObjKind::Document;
+            put_new(walk, path, &folder, &NewChild { name, kind, bytes })
+        }
     }
 }
 
 // Replaces the bytes of what is there, if it is a document and there aren't too many.
 fn put_there<K: Keep>(
-    alloc: Global,
-    keep: &mut K,
-    asker: &Asker,
+    walk: &mut Walk<'_, K>,
     path: &Path,
     target: &Found,
     bytes: &Bytes,
-) -> Result<Reply, KeepFault>
-    ensures done { Does K.Keep keep.old keep.new result IsUnreadable
-        (IsJudgedAndDone asker.now (no_folder (found_site path.now target.now) ∷ Check
-        (found_site path.now target.now) (write_data ∷ []) ∷ not_over path.now (length bytes.now)
-        ∷ []) Done (SetsBody target.now.node.id bytes.now)) }
+) -> Result<Reply, Halt>
+    ensures same_keep { walk.new.keep.ghost_name ≡ walk.old.keep.ghost_name }
+    ensures same_asker { walk.new.asker.now ≡ walk.old.asker.now }
+    ensures done { Tries K.Keep walk.old.keep.now walk.new.keep.now result IsUnreadable
+        (λ old outcome new. IsJudgedAndDone walk.old.asker.now (no_folder
+        (found_site path.now target.now) ∷ Check (found_site path.now target.now) (write_data ∷ [])
+        ∷ not_over path.now (length bytes.now) ∷ []) Done
+        (SetsBody target.now.node.id bytes.now) old (replied outcome) new) }
 {
-    let refusal = check_kind(
-        alloc,
-        keep,
-        asker,
-        path,
-        target,
-        ObjKind::Document,
-        Mask::write_data(),
-    )?;
-    match refusal {
-        Some(reply) => Ok(reply),
-        None => put_bytes(alloc, keep, path, target.node.id, bytes.as_slice()),
-    }
+    walk.check_kind(path, target, ObjKind::Document, Mask::write_data())?;
+    put_bytes(walk, path, target.node.id, bytes.as_slice())
 }
 
-// Makes a document of these bytes in the folder, if there aren't too many.
+// Makes a document in the folder, if it hasn't too many bytes.
 fn put_new<K: Keep>(
-    alloc: Global,
-    keep: &mut K,
-    asker: &Asker,
+    walk: &mut Walk<'_, K>,
     path: &Path,
-    name: &Text,
     folder: &Found,
-    bytes: &Bytes,
-) -> Result<Reply, KeepFault>
-    ensures done { Does K.Keep keep.old keep.new result IsUnreadable
-        (IsJudgedAndDone asker.now (Check (found_site path.now folder.now) (write_data ∷ [])
-        ∷ not_over path.now (length bytes.now) ∷ []) Made
-        (IsMade (new_child asker.now.caller DocumentKind folder.now.node name.now bytes.now))) }
+    child: &NewChild<'_>,
+) -> Result<Reply, Halt>
+    ensures same_keep { walk.new.keep.ghost_name ≡ walk.old.keep.ghost_name }
+    ensures same_asker { walk.new.asker.now ≡ walk.old.asker.now }
+    ensures done { Tries K.Keep walk.old.keep.now walk.new.keep.now result IsUnreadable
+        (λ old outcome new. IsJudgedAndDone walk.old.asker.now (Check
+        (found_site path.now folder.now) (write_data ∷ []) ∷ not_over path.now
+        (length child.now.bytes.now) ∷ []) Made (IsMade (new_child walk.old.asker.now.caller
+        child.now.kind folder.now.node child.now.name.now child.now.bytes.now)) old
+        (replied outcome) new) }
 {
-    let refusal = check(alloc, keep, asker, path, folder, Mask::write_data())?;
-    match refusal {
-        Some(reply) => Ok(reply),
-        None => {
-            let too_many = bytes.len() > MOST_BYTES;
-            if too_many {
-                return Ok(refused(alloc, path, path.names().len(), Reason::TooLarge)?);
-            }
-            add_child(
-                alloc,
-                keep,
-                asker,
-                name,
-                &folder.node,
-                ObjKind::Document,
-                bytes,
-            )
-        }
+    walk.check(path, folder, Mask::write_data())?;
+    let too_many = child.bytes.len() > MOST_BYTES;
+    if too_many {
+        return Err(refusal(walk.alloc, path, path.names().len(), Reason::TooLarge));
     }
+    add_child(walk, &folder.node, child)
 }
 
 /// Makes a folder.
-pub(crate) fn make_folder<K: Keep>(
-    alloc: Global,
-    keep: &mut K,
-    asker: &Asker,
-    path: &Path,
-) -> Result<Reply, KeepFault>
-    ensures done { Does K.Keep keep.old keep.new result IsDamaged
-        (CarriesOut asker.now (MakeFolder path.now)) }
+pub(crate) fn make_folder<K: Keep>(walk: &mut Walk<'_, K>, path: &Path) -> Result<Reply, Halt>
+    ensures same_keep { walk.new.keep.ghost_name ≡ walk.old.keep.ghost_name }
+    ensures same_asker { walk.new.asker.now ≡ walk.old.asker.now }
+    ensures done { Tries K.Keep walk.old.keep.now walk.new.keep.now result IsDamaged
+        (Serves walk.old.asker.now (MakeFolder path.now)) }
 {
     match path.split_last() {
-        None => Ok(refused(alloc, path, 0, Reason::Exists)?),
-        Some((name, _)) => make_below(alloc, keep, asker, path, name),
+        None => Err(refusal(walk.alloc, path, 0, Reason::Exists)),
+        Some((name, _)) => make_below(walk, path, name),
     }
 }
 
 // Makes the folder at a path with a last name.
-fn make_below<K: Keep>(
-    alloc: Global,
-    keep: &mut K,
-    asker: &Asker,
-    path: &Path,
-    name: &Text,
-) -> Result<Reply, KeepFault>
+fn make_below<K: Keep>(walk: &mut Walk<'_, K>, path: &Path, name: &Text) -> Result<Reply, Halt>
     requires { IsNameOf path.now name.now }
-    ensures done { Does K.Keep keep.old keep.new result IsDamaged
-        (CarriesOut asker.now (MakeFolder path.now)) }
+    ensures same_keep { walk.new.keep.ghost_name ≡ walk.old.keep.ghost_name }
+    ensures same_asker { walk.new.asker.now ≡ walk.old.asker.now }
+    ensures done { Tries K.Keep walk.old.keep.now walk.new.keep.now result IsDamaged
+        (Serves walk.old.asker.now (MakeFolder path.now)) }
 {
-    let spot = walk_to_spot(alloc, keep, asker, path)?;
-    match spot {
-        Spot::Barred(reply) => Ok(reply),
-        Spot::Under { folder, child } => {
-            make_new(alloc, keep, asker, path, name, &folder, child.is_some())
-        }
-    }
+    let spot = walk.to_spot(path)?;
+    let bytes = Bytes::new(walk.alloc);
+    let kind = ObjKind::Folder;
+    let child = NewChild {
+        name,
+        kind,
+        bytes: &bytes,
+    };
+    make_new(walk, path, &spot, &child)
 }
 
 // Makes a folder in this one, if nothing is there.
 fn make_new<K: Keep>(
-    alloc: Global,
-    keep: &mut K,
-    asker: &Asker,
+    walk: &mut Walk<'_, K>,
     path: &Path,
-    name: &Text,
-    folder: &Found,
-    is_there: bool,
-) -> Result<Reply, KeepFault>
-    ensures done { Does K.Keep keep.old keep.new result IsUnreadable
-        (IsJudgedAndDone asker.now (Check (found_site path.now folder.now) (append_data ∷ [])
-        ∷ Refusal path.now Exists is_there ∷ []) Made
-        (IsMade (new_child asker.now.caller FolderKind folder.now.node name.now []))) }
+    spot: &Under,
+    child: &NewChild<'_>,
+) -> Result<Reply, Halt>
+    ensures same_keep { walk.new.keep.ghost_name ≡ walk.old.keep.ghost_name }
+    ensures same_asker { walk.new.asker.now ≡ walk.old.asker.now }
+    ensures done { Tries K.Keep walk.old.keep.now walk.new.keep.now result IsUnreadable
+        (λ old outcome new. IsJudgedAndDone walk.old.asker.now (Check
+        (found_site path.now spot.now.folder) (append_data ∷ []) ∷ Refusal path.now Exists
+        (is_some spot.now.child) ∷ []) Made (IsMade (new_child walk.old.asker.now.caller
+        child.now.kind spot.now.folder.node child.now.name.now child.now.bytes.now)) old
+        (replied outcome) new) }
 {
-    let refusal = check(alloc, keep, asker, path, folder, Mask::append_data())?;
-    match refusal {
-        Some(reply) => Ok(reply),
-        None => {
-            if is_there {
-                return Ok(refused(alloc, path, path.names().len(), Reason::Exists)?);
-            }
-            let none = Bytes::new(alloc);
-            add_child(
-                alloc,
-                keep,
-                asker,
-                name,
-                &folder.node,
-                ObjKind::Folder,
-                &none,
-            )
-        }
+    walk.check(path, &spot.folder, Mask::append_data())?;
+    let is_there = spot.child.is_some();
+    if is_there {
+        return Err(refusal(walk.alloc, path, path.names().len(), Reason::Exists));
     }
+    add_child(walk, &spot.folder.node, child)
 }
 
-// Adds an object of this kind and name under the parent.
+// Adds the object under the parent.
 fn add_child<K: Keep>(
-    alloc: Global,
-    keep: &mut K,
-    asker: &Asker,
-    name: &Text,
+    walk: &mut Walk<'_, K>,
     parent: &Node,
-    kind: ObjKind,
-    bytes: &Bytes,
-) -> Result<Reply, KeepFault>
-    ensures done { Does K.Keep keep.old keep.new result IsUnreadable
-        (MakesChild asker.now.caller kind parent.now name.now bytes.now) }
+    child: &NewChild<'_>,
+) -> Result<Reply, Halt>
+    ensures same_keep { walk.new.keep.ghost_name ≡ walk.old.keep.ghost_name }
+    ensures same_asker { walk.new.asker.now ≡ walk.old.asker.now }
+    ensures done { Tries K.Keep walk.old.keep.now walk.new.keep.now result IsUnreadable
+        (λ old outcome new. MakesChild walk.old.asker.now.caller child.now.kind parent.now
+        child.now.name.now child.now.bytes.now old (replied outcome) new) }
 {
-    let node = child_at(alloc, asker, name, parent, kind, bytes)?;
-    keep.add(node)?;
+    let node = child_at(walk.alloc, walk.asker, parent, child)?;
+    walk.keep.add(node)?;
     Ok(Reply::Made)
 }
 
-// A new object of this kind and name under the parent.
+// The object under the parent, with what it is passed.
 fn child_at(
     alloc: Global,
     asker: &Asker,
-    name: &Text,
     parent: &Node,
-    kind: ObjKind,
-    bytes: &Bytes,
+    child: &NewChild<'_>,
 ) -> Result<NewNode, AllocError>
-    ensures { IfOk result (λ node. node ≡ new_child asker.now.caller kind parent.now name.now
-        bytes.now) }
+    ensures { IfOk result (λ node. node ≡ new_child asker.now.caller child.now.kind parent.now
+        child.now.name.now child.now.bytes.now) }
 {
-    let dacl = passed_list(alloc, kind, &parent.dacl)?;
-    let sacl = passed_list(alloc, kind, &parent.sacl)?;
+    let dacl = passed_list(alloc, child.kind, &parent.dacl)?;
+    let sacl = passed_list(alloc, child.kind, &parent.sacl)?;
     let owners = owners_of(&asker.caller.user, &parent.owners)?;
-    let name = name.copy()?;
+    let name = child.name.copy()?;
     Ok(NewNode {
         parent: Some(parent.id),
         name,
-        kind,
+        kind: child.kind,
         owners,
         dacl,
         sacl,
-        bytes: copied(alloc, bytes)?,
+        bytes: copied(alloc, child.bytes)?,
     })
 }
 

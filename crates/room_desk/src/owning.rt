@@ -2,32 +2,29 @@
 ghost use Rattle.std.specs.Prelude.{◌≡◌, ◌&&◌, IfOk};
 ghost use Rattle.room_entry.specs.Pieces.{same_text};
 ghost use Rattle.room_rows.specs.Keep.{IsDamaged, IsUnreadable};
-ghost use Rattle.room_judge.specs.Judged.{CarriesOut, Does};
+ghost use Rattle.room_judge.specs.Halted.{Serves, Tries};
+ghost use Rattle.room_judge.specs.Judged.{Does};
 ghost use Rattle.room_desk.specs.Answered.{SetsOwners};
 ghost use Rattle.room_machine.specs.declared.request.Request.TheVariants.{SetOwners};
 
 use room_ace::{Mask, Owners};
-use room_judge::{Arrival, Asker, reach};
+use room_judge::{Halt, Walk};
 use room_machine::Reply;
 use room_rows::{Keep, KeepFault, Node, Path};
-use std::alloc::Global;
 
 /// Gives an object another owner and group.
 pub(crate) fn set_owners<K: Keep>(
-    alloc: Global,
-    keep: &mut K,
-    asker: &Asker,
+    walk: &mut Walk<'_, K>,
     path: &Path,
     owners: &Owners,
-) -> Result<Reply, KeepFault>
-    ensures done { Does K.Keep keep.old keep.new result IsDamaged
-        (CarriesOut asker.now (SetOwners path.now owners.now)) }
+) -> Result<Reply, Halt>
+    ensures same_keep { walk.new.keep.ghost_name ≡ walk.old.keep.ghost_name }
+    ensures same_asker { walk.new.asker.now ≡ walk.old.asker.now }
+    ensures done { Tries K.Keep walk.old.keep.now walk.new.keep.now result IsDamaged
+        (Serves walk.old.asker.now (SetOwners path.now owners.now)) }
 {
-    let arrival = reach(alloc, keep, asker, path, Mask::write_owner())?;
-    match arrival {
-        Arrival::Ended(reply) => Ok(reply),
-        Arrival::At(node) => set_at(keep, &node, owners),
-    }
+    let node = walk.reach(path, Mask::write_owner())?;
+    Ok(set_at(walk.keep, &node, owners)?)
 }
 
 // Gives the object these owners. Where they are what it has, nothing is written.

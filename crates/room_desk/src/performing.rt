@@ -1,6 +1,8 @@
 //! One request carried out on a keeper.
+ghost use Rattle.std.specs.Prelude.{◌≡◌};
 ghost use Rattle.std.specs.Option.{option_copied};
 ghost use Rattle.room_rows.specs.Keep.{IsDamaged};
+ghost use Rattle.room_judge.specs.Halted.{Serves, Tries, reply_of};
 ghost use Rattle.room_judge.specs.Judged.{CarriesOut, Does, Performs};
 
 use crate::asking::can;
@@ -12,7 +14,7 @@ use crate::removing::remove;
 use crate::setting::set_list;
 use crate::writing::append;
 use room_ace::Name;
-use room_judge::{Asker, caller_of};
+use room_judge::{Asker, Halt, Walk, caller_of};
 use room_machine::{Reply, Request};
 use room_rows::{Keep, KeepFault};
 use std::alloc::Global;
@@ -37,7 +39,7 @@ pub fn perform<K: Keep>(
     perform_for(alloc, keep, &asker, request)
 }
 
-// Carries out one request of a caller whose groups are known.
+// Carries out one request of a caller whose groups are known. A refusal is its reply.
 fn perform_for<K: Keep>(
     alloc: Global,
     keep: &mut K,
@@ -47,18 +49,40 @@ fn perform_for<K: Keep>(
     ensures done { Does K.Keep keep.old keep.new result IsDamaged
         (CarriesOut asker.now request.now) }
 {
+    let mut walk = Walk { alloc, keep, asker };
+    reply_of(serve(&mut walk, request))
+}
+
+// A refusal is a reply.
+fn reply_of(outcome: Result<Reply, Halt>) -> Result<Reply, KeepFault>
+    ensures { result ≡ reply_of outcome }
+{
+    match outcome {
+        Ok(reply) => Ok(reply),
+        Err(Halt::Refused(reply)) => Ok(reply),
+        Err(Halt::Fault(fault)) => Err(fault),
+    }
+}
+
+// Serves one request.
+fn serve<K: Keep>(walk: &mut Walk<'_, K>, request: &Request) -> Result<Reply, Halt>
+    ensures same_keep { walk.new.keep.ghost_name ≡ walk.old.keep.ghost_name }
+    ensures same_asker { walk.new.asker.now ≡ walk.old.asker.now }
+    ensures done { Tries K.Keep walk.old.keep.now walk.new.keep.now result IsDamaged
+        (Serves walk.old.asker.now request.now) }
+{
     match request {
-        Request::Read(path) => read(alloc, keep, asker, path),
-        Request::List(path) => list(alloc, keep, asker, path),
-        Request::Put(path, bytes) => put(alloc, keep, asker, path, bytes),
-        Request::Append(path, bytes) => append(alloc, keep, asker, path, bytes),
-        Request::MakeFolder(path) => make_folder(alloc, keep, asker, path),
-        Request::Remove(path) => remove(alloc, keep, asker, path),
-        Request::Move(path, to) => move_object(alloc, keep, asker, path, to),
-        Request::ReadList(path, which) => read_full_list(alloc, keep, asker, path, *which),
-        Request::SetList(path, which, sent) => set_list(alloc, keep, asker, path, *which, sent),
-        Request::ReadAttr(path) => read_attr(alloc, keep, asker, path),
-        Request::SetOwners(path, owners) => set_owners(alloc, keep, asker, path, owners),
-        Request::Can(path, mask) => can(alloc, keep, asker, path, *mask),
+        Request::Read(path) => read(walk, path),
+        Request::List(path) => list(walk, path),
+        Request::Put(path, bytes) => put(walk, path, bytes),
+        Request::Append(path, bytes) => append(walk, path, bytes),
+        Request::MakeFolder(path) => make_folder(walk, path),
+        Request::Remove(path) => remove(walk, path),
+        Request::Move(path, to) => move_object(walk, path, to),
+        Request::ReadList(path, which) => read_full_list(walk, path, *which),
+        Request::SetList(path, which, sent) => set_list(walk, path, *which, sent),
+        Request::ReadAttr(path) => read_attr(walk, path),
+        Request::SetOwners(path, owners) => set_owners(walk, path, owners),
+        Request::Can(path, mask) => can(walk, path, *mask),
     }
 }

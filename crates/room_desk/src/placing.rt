@@ -3,6 +3,7 @@ ghost use Rattle.std.specs.Prelude.{◌≡◌, ◌+◌, length};
 ghost use Rattle.room_entry.specs.Pieces.{same_text};
 ghost use Rattle.room_rows.specs.Calls.{Reads};
 ghost use Rattle.room_rows.specs.Keep.{IsUnreadable};
+ghost use Rattle.room_judge.specs.Halted.{Tries, refusal_of};
 ghost use Rattle.room_judge.specs.Judged.{Does};
 ghost use Rattle.room_desk.specs.Moving.{
   FailsToPlace,
@@ -20,34 +21,34 @@ ghost use Rattle.room_machine.specs.Site.{front};
 use crate::carrying::carry_below;
 use room_ace::{Entries, Which};
 use room_inherit::{pass, takes_from};
-use room_judge::{Found, refused};
+use room_judge::{Found, Halt, Walk, refusal};
 use room_machine::{Reason, Reply};
 use room_rows::{Keep, KeepFault, Node, Path, Text};
-use std::alloc::Global;
 
-/// The refusal where something has the new name, or the object's path begins that of the folder.
+/// Nothing has the new name, and the object's path doesn't begin that of the folder.
 pub(crate) fn check_free<K: Keep>(
-    alloc: Global,
-    keep: &mut K,
+    walk: &mut Walk<'_, K>,
     path: &Path,
     to: &Path,
     folder: &Found,
-) -> Result<Option<Reply>, KeepFault>
+) -> Result<(), Halt>
     requires { length to.now ≡ folder.now.depth + 1 }
-    ensures done { Does K.Keep keep.old keep.new result IsUnreadable
-        (JudgesAll (λ rows. free_place rows.read to.now
-        (begins path.now (front to.now)) folder.now.node)) }
+    ensures same_keep { walk.new.keep.ghost_name ≡ walk.old.keep.ghost_name }
+    ensures same_asker { walk.new.asker.now ≡ walk.old.asker.now }
+    ensures done { Tries K.Keep walk.old.keep.now walk.new.keep.now result IsUnreadable
+        (λ old outcome new. JudgesAll (λ rows. free_place rows.read to.now
+        (begins path.now (front to.now)) folder.now.node) old (refusal_of outcome) new) }
 {
     let name = &to.names()[folder.depth];
-    let is_taken = is_taken(keep, folder.node.id, name.as_str())?;
+    let is_taken = is_taken(walk.keep, folder.node.id, name.as_str())?;
     if is_taken {
-        return Ok(Some(refused(alloc, to, to.names().len(), Reason::Exists)?));
+        return Err(refusal(walk.alloc, to, to.names().len(), Reason::Exists));
     }
     let is_below = begins(path.names(), &to.names()[..folder.depth]);
     if is_below {
-        return Ok(Some(refused(alloc, to, to.names().len(), Reason::Loop)?));
+        return Err(refusal(walk.alloc, to, to.names().len(), Reason::Loop));
     }
-    Ok(None)
+    Ok(())
 }
 
 // Whether the folder of this number has a child of this name.
@@ -84,55 +85,58 @@ fn is_same_name(name: &Text, other: &Text) -> bool
 /// Gives the object another parent and another name. What is linked there takes the entries that
 /// the new parent passes, and hands them down.
 pub(crate) fn place_at<K: Keep>(
-    alloc: Global,
-    keep: &mut K,
+    walk: &mut Walk<'_, K>,
     target: &Node,
     folder: &Node,
     name: &str,
 ) -> Result<Reply, KeepFault>
-    ensures done { Does K.Keep keep.old keep.new result
+    ensures same_keep { walk.new.keep.ghost_name ≡ walk.old.keep.ghost_name }
+    ensures same_asker { walk.new.asker.now ≡ walk.old.asker.now }
+    ensures done { Does K.Keep walk.old.keep.now walk.new.keep.now result
         (FailsToPlace target.now folder.now name.now) (PlacesAt target.now folder.now name.now) }
 {
-    keep.set_place(target.id, folder.id, name)?;
-    renew_list(alloc, keep, target, folder, Which::Dacl)?;
-    renew_list(alloc, keep, target, folder, Which::Sacl)?;
+    walk.keep.set_place(target.id, folder.id, name)?;
+    renew_list(walk, target, folder, Which::Dacl)?;
+    renew_list(walk, target, folder, Which::Sacl)?;
     Ok(Reply::Done)
 }
 
 // Where the list is linked to the folder's, it takes what that passes.
 fn renew_list<K: Keep>(
-    alloc: Global,
-    keep: &mut K,
+    walk: &mut Walk<'_, K>,
     target: &Node,
     folder: &Node,
     which: Which,
 ) -> Result<(), KeepFault>
-    ensures done { Does K.Keep keep.old keep.new result (FailsToRenew target.now)
+    ensures same_keep { walk.new.keep.ghost_name ≡ walk.old.keep.ghost_name }
+    ensures same_asker { walk.new.asker.now ≡ walk.old.asker.now }
+    ensures done { Does K.Keep walk.old.keep.now walk.new.keep.now result (FailsToRenew target.now)
         (Renews which target.now folder.now) }
 {
     if !takes_from(target, folder, which) {
         return Ok(());
     }
-    let passed = pass(alloc, target.kind, folder.held(which).full())?;
-    take_passed(alloc, keep, target, which, &passed)
+    let passed = pass(walk.alloc, target.kind, folder.held(which).full())?;
+    take_passed(walk, target, which, &passed)
 }
 
 // Stores these inherited entries, and carries them down, unless they are stored already: then
 // nothing below has changed.
 fn take_passed<K: Keep>(
-    alloc: Global,
-    keep: &mut K,
+    walk: &mut Walk<'_, K>,
     target: &Node,
     which: Which,
     passed: &Entries,
 ) -> Result<(), KeepFault>
-    ensures done { Does K.Keep keep.old keep.new result (FailsToRenew target.now)
+    ensures same_keep { walk.new.keep.ghost_name ≡ walk.old.keep.ghost_name }
+    ensures same_asker { walk.new.asker.now ≡ walk.old.asker.now }
+    ensures done { Does K.Keep walk.old.keep.now walk.new.keep.now result (FailsToRenew target.now)
         (TakesPassed which target.now passed.now) }
 {
     let is_stored = passed.is_same(target.held(which).inh());
     if is_stored {
         return Ok(());
     }
-    keep.set_inh(target.id, which, passed.as_slice())?;
-    carry_below(alloc, keep, target.id, which)
+    walk.keep.set_inh(target.id, which, passed.as_slice())?;
+    carry_below(walk.alloc, walk.keep, target.id, which)
 }

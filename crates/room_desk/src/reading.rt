@@ -5,7 +5,7 @@ ghost use Rattle.room_rows.specs.Held.{full_of};
 ghost use Rattle.room_rows.specs.Keep.{IsDamaged, IsUnreadable};
 ghost use Rattle.room_desk.specs.Answered.{AreNamesOf, IsBytesOf};
 ghost use Rattle.room_desk.specs.Written.{HasNoBytes};
-ghost use Rattle.room_judge.specs.Judged.{CarriesOut, Does};
+ghost use Rattle.room_judge.specs.Halted.{Serves, Tries};
 ghost use Rattle.room_machine.specs.declared.reply.Reply.TheVariants.{Attr, Lists};
 ghost use Rattle.room_machine.specs.declared.request.Request.TheVariants.{
   List,
@@ -15,33 +15,22 @@ ghost use Rattle.room_machine.specs.declared.request.Request.TheVariants.{
 };
 
 use room_ace::{Entries, Mask, ObjKind, Which};
-use room_judge::{Arrival, Asker, reach, reach_kind};
+use room_judge::{Halt, Walk};
 use room_machine::Reply;
 use room_rows::{Held, Keep, KeepFault, Node, Path};
 use std::alloc::{AllocError, Global};
 
 /// The bytes of a document.
-pub(crate) fn read<K: Keep>(
-    alloc: Global,
-    keep: &mut K,
-    asker: &Asker,
-    path: &Path,
-) -> Result<Reply, KeepFault>
-    ensures done { Does K.Keep keep.old keep.new result IsDamaged
-        (CarriesOut asker.now (Read path.now)) }
+pub(crate) fn read<K: Keep>(walk: &mut Walk<'_, K>, path: &Path) -> Result<Reply, Halt>
+    ensures same_keep { walk.new.keep.ghost_name ≡ walk.old.keep.ghost_name }
+    ensures same_asker { walk.new.asker.now ≡ walk.old.asker.now }
+    ensures done { Tries K.Keep walk.old.keep.now walk.new.keep.now result IsDamaged
+        (Serves walk.old.asker.now (Read path.now)) }
 {
-    let arrival = reach_kind(
-        alloc,
-        keep,
-        asker,
-        path,
-        ObjKind::Document,
-        Mask::read_data(),
-    )?;
-    match arrival {
-        Arrival::Ended(reply) => Ok(reply),
-        Arrival::At(node) => read_at(keep, node.id),
-    }
+    let node = walk.reach_kind(path, ObjKind::Document, Mask::read_data())?;
+    let id = node.id;
+    drop(node);
+    Ok(read_at(walk.keep, id)?)
 }
 
 // The bytes of the document of this number.
@@ -57,20 +46,17 @@ fn read_at<K: Keep>(keep: &mut K, id: u64) -> Result<Reply, KeepFault>
 
 /// The flags and the full list of an object.
 pub(crate) fn read_full_list<K: Keep>(
-    alloc: Global,
-    keep: &mut K,
-    asker: &Asker,
+    walk: &mut Walk<'_, K>,
     path: &Path,
     which: Which,
-) -> Result<Reply, KeepFault>
-    ensures done { Does K.Keep keep.old keep.new result IsDamaged
-        (CarriesOut asker.now (ReadList path.now which)) }
+) -> Result<Reply, Halt>
+    ensures same_keep { walk.new.keep.ghost_name ≡ walk.old.keep.ghost_name }
+    ensures same_asker { walk.new.asker.now ≡ walk.old.asker.now }
+    ensures done { Tries K.Keep walk.old.keep.now walk.new.keep.now result IsDamaged
+        (Serves walk.old.asker.now (ReadList path.now which)) }
 {
-    let arrival = reach(alloc, keep, asker, path, Mask::read_acl())?;
-    match arrival {
-        Arrival::Ended(reply) => Ok(reply),
-        Arrival::At(node) => Ok(list_reply(alloc, node.held(which))?),
-    }
+    let node = walk.reach(path, Mask::read_acl())?;
+    Ok(list_reply(walk.alloc, node.held(which))?)
 }
 
 // The flags and a copy of the full list.
@@ -83,20 +69,14 @@ fn list_reply(alloc: Global, held: &Held) -> Result<Reply, AllocError>
 }
 
 /// The kind and the owners of an object.
-pub(crate) fn read_attr<K: Keep>(
-    alloc: Global,
-    keep: &mut K,
-    asker: &Asker,
-    path: &Path,
-) -> Result<Reply, KeepFault>
-    ensures done { Does K.Keep keep.old keep.new result IsDamaged
-        (CarriesOut asker.now (ReadAttr path.now)) }
+pub(crate) fn read_attr<K: Keep>(walk: &mut Walk<'_, K>, path: &Path) -> Result<Reply, Halt>
+    ensures same_keep { walk.new.keep.ghost_name ≡ walk.old.keep.ghost_name }
+    ensures same_asker { walk.new.asker.now ≡ walk.old.asker.now }
+    ensures done { Tries K.Keep walk.old.keep.now walk.new.keep.now result IsDamaged
+        (Serves walk.old.asker.now (ReadAttr path.now)) }
 {
-    let arrival = reach(alloc, keep, asker, path, Mask::read_attributes())?;
-    match arrival {
-        Arrival::Ended(reply) => Ok(reply),
-        Arrival::At(node) => Ok(attr_reply(node)),
-    }
+    let node = walk.reach(path, Mask::read_attributes())?;
+    Ok(attr_reply(node))
 }
 
 // The kind and the owners of the object.
@@ -107,20 +87,16 @@ fn attr_reply(node: Node) -> Reply
 }
 
 /// The names and kinds of the children of a folder, in order of name.
-pub(crate) fn list<K: Keep>(
-    alloc: Global,
-    keep: &mut K,
-    asker: &Asker,
-    path: &Path,
-) -> Result<Reply, KeepFault>
-    ensures done { Does K.Keep keep.old keep.new result IsDamaged
-        (CarriesOut asker.now (List path.now)) }
+pub(crate) fn list<K: Keep>(walk: &mut Walk<'_, K>, path: &Path) -> Result<Reply, Halt>
+    ensures same_keep { walk.new.keep.ghost_name ≡ walk.old.keep.ghost_name }
+    ensures same_asker { walk.new.asker.now ≡ walk.old.asker.now }
+    ensures done { Tries K.Keep walk.old.keep.now walk.new.keep.now result IsDamaged
+        (Serves walk.old.asker.now (List path.now)) }
 {
-    let arrival = reach_kind(alloc, keep, asker, path, ObjKind::Folder, Mask::read_data())?;
-    match arrival {
-        Arrival::Ended(reply) => Ok(reply),
-        Arrival::At(node) => list_at(keep, node.id),
-    }
+    let node = walk.reach_kind(path, ObjKind::Folder, Mask::read_data())?;
+    let id = node.id;
+    drop(node);
+    Ok(list_at(walk.keep, id)?)
 }
 
 // The names and kinds of the children of the folder of this number.

@@ -3,7 +3,8 @@ ghost use Rattle.std.specs.Prelude.{◌≡◌, ◌↔◌, IfOk, IsTrue, []};
 ghost use Rattle.std.specs.Option.{option_copied};
 ghost use Rattle.room_rows.specs.Held.{held_of, with_held};
 ghost use Rattle.room_rows.specs.Keep.{IsDamaged};
-ghost use Rattle.room_judge.specs.Judged.{CarriesOut, Does};
+ghost use Rattle.room_judge.specs.Halted.{Serves, Tries, replied};
+ghost use Rattle.room_judge.specs.Judged.{Does};
 ghost use Rattle.room_desk.specs.Carrying.{HasLoopFrom, IsCarriedFrom, IsUnreadableIfHeld};
 ghost use Rattle.room_desk.specs.Setting.{
   Beneath,
@@ -26,74 +27,94 @@ ghost use Rattle.room_machine.specs.declared.request.Request.TheVariants.{SetLis
 use crate::carrying::carry_from;
 use room_ace::{Entries, Entry, ListFlags, Mask, ObjKind, SentList, Which, first_bad_entry};
 use room_inherit::pass;
-use room_judge::{Asker, Found, Pair, check, refused, walk_to_pair};
+use room_judge::{Found, Halt, Walk, refused};
 use room_machine::{Reason, Reply};
 use room_rows::{Held, Keep, KeepFault, Node, Path};
 use std::alloc::{AllocError, Global};
 
+// The list that is sent for an object, and what the object is in. The root is in nothing.
+#[derive(Drop)]
+struct Setting<'a, 'b, 'c> {
+    target: &'a Found,
+    above: Option<&'b Node>,
+    which: Which,
+    sent: &'c SentList,
+}
+
 /// Sets one of an object's lists, and carries it down.
 pub(crate) fn set_list<K: Keep>(
-    alloc: Global,
-    keep: &mut K,
-    asker: &Asker,
+    walk: &mut Walk<'_, K>,
     path: &Path,
     which: Which,
     sent: &SentList,
-) -> Result<Reply, KeepFault>
-    ensures done { Does K.Keep keep.old keep.new result IsDamaged
-        (CarriesOut asker.now (SetList path.now which sent.now)) }
+) -> Result<Reply, Halt>
+    ensures same_keep { walk.new.keep.ghost_name ≡ walk.old.keep.ghost_name }
+    ensures same_asker { walk.new.asker.now ≡ walk.old.asker.now }
+    ensures done { Tries K.Keep walk.old.keep.now walk.new.keep.now result IsDamaged
+        (Serves walk.old.asker.now (SetList path.now which sent.now)) }
 {
     if path.is_root() {
-        return set_root(alloc, keep, asker, path, which, sent);
+        return set_root(walk, path, which, sent);
     }
-    let pair = walk_to_pair(alloc, keep, asker, path)?;
-    match pair {
-        Pair::Halted(reply) => Ok(reply),
-        Pair::Both { folder, target } => {
-            let above = Some(&folder.node);
-            set_allowed(alloc, keep, asker, path, &target, above, which, sent)
-        }
-    }
+    let pair = walk.to_pair(path)?;
+    let above = Some(&pair.folder.node);
+    let setting = Setting {
+        target: &pair.target,
+        above,
+        which,
+        sent,
+    };
+    set_allowed(walk, path, &setting)
 }
 
 // Sets the list of the root, which has nothing above it.
 fn set_root<K: Keep>(
-    alloc: Global,
-    keep: &mut K,
-    asker: &Asker,
+    walk: &mut Walk<'_, K>,
     path: &Path,
     which: Which,
     sent: &SentList,
-) -> Result<Reply, KeepFault>
+) -> Result<Reply, Halt>
     requires { path.now ≡ [] }
-    ensures done { Does K.Keep keep.old keep.new result IsDamaged
-        (CarriesOut asker.now (SetList path.now which sent.now)) }
+    ensures same_keep { walk.new.keep.ghost_name ≡ walk.old.keep.ghost_name }
+    ensures same_asker { walk.new.asker.now ≡ walk.old.asker.now }
+    ensures done { Tries K.Keep walk.old.keep.now walk.new.keep.now result IsDamaged
+        (Serves walk.old.asker.now (SetList path.now which sent.now)) }
 {
-    let node = keep.root()?;
+    let node = walk.keep.root()?;
     let root = Found { node, depth: 0 };
-    set_allowed(alloc, keep, asker, path, &root, None, which, sent)
+    let setting = Setting {
+        target: &root,
+        above: None,
+        which,
+        sent,
+    };
+    set_allowed(walk, path, &setting)
 }
 
 // Sets the list of the object that the walk came to, where the caller may write it.
 fn set_allowed<K: Keep>(
-    alloc: Global,
-    keep: &mut K,
-    asker: &Asker,
+    walk: &mut Walk<'_, K>,
     path: &Path,
-    target: &Found,
-    above: Option<&Node>,
-    which: Which,
-    sent: &SentList,
-) -> Result<Reply, KeepFault>
-    ensures done { Does K.Keep keep.old keep.new result
-        (FailsToSet asker.now path.now target.now (option_copied above.entry))
-        (SetsOn asker.now path.now which sent.now target.now (option_copied above.entry)) }
+    setting: &Setting<'_, '_, '_>,
+) -> Result<Reply, Halt>
+    ensures same_keep { walk.new.keep.ghost_name ≡ walk.old.keep.ghost_name }
+    ensures same_asker { walk.new.asker.now ≡ walk.old.asker.now }
+    ensures done { Tries K.Keep walk.old.keep.now walk.new.keep.now result (FailsToSet
+        walk.old.asker.now path.now setting.now.target.now (option_copied setting.now.above))
+        (λ old outcome new. SetsOn walk.old.asker.now path.now setting.now.which
+        setting.now.sent.now setting.now.target.now (option_copied setting.now.above) old
+        (replied outcome) new) }
 {
-    let refusal = check(alloc, keep, asker, path, target, Mask::write_acl())?;
-    match refusal {
-        Some(reply) => Ok(reply),
-        None => set_found(alloc, keep, path, &target.node, above, which, sent),
-    }
+    walk.check(path, setting.target, Mask::write_acl())?;
+    Ok(set_found(
+        walk.alloc,
+        walk.keep,
+        path,
+        &setting.target.node,
+        setting.above,
+        setting.which,
+        setting.sent,
+    )?)
 }
 
 /// Sets the list of the object that was found at the path, below its folder, unless an entry may

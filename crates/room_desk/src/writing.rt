@@ -1,90 +1,83 @@
 //! Requests that change the bytes of documents.
 ghost use Rattle.std.specs.Prelude.{◌≡◌, [], ◌++◌, IfOk};
+ghost use Rattle.room_rows.specs.Calls.{Reads};
 ghost use Rattle.room_rows.specs.Keep.{IsDamaged, IsUnreadable};
-ghost use Rattle.room_judge.specs.Judged.{CarriesOut, Does};
-ghost use Rattle.room_desk.specs.Written.{Extends, HasNoBytes, IsAppended, IsPut, sized_reply};
+ghost use Rattle.room_judge.specs.Halted.{Serves, Tries, replied};
+ghost use Rattle.room_desk.specs.Written.{
+  Answers,
+  HasBody,
+  HasNoBytes,
+  IsAppended,
+  IsPut,
+  sized_reply,
+};
 ghost use Rattle.room_machine.specs.declared.request.Request.TheVariants.{Append};
 
 use room_ace::{MOST_BYTES, Mask, ObjKind};
-use room_judge::{Arrival, Asker, reach_kind, refused};
+use room_judge::{Halt, Walk, refusal};
 use room_machine::{Reason, Reply};
 use room_rows::{Bytes, Keep, KeepFault, Path};
 use std::alloc::{AllocError, Global};
 
 /// Adds bytes at the end of a document.
 pub(crate) fn append<K: Keep>(
-    alloc: Global,
-    keep: &mut K,
-    asker: &Asker,
+    walk: &mut Walk<'_, K>,
     path: &Path,
     bytes: &Bytes,
-) -> Result<Reply, KeepFault>
-    ensures done { Does K.Keep keep.old keep.new result IsDamaged
-        (CarriesOut asker.now (Append path.now bytes.now)) }
+) -> Result<Reply, Halt>
+    ensures same_keep { walk.new.keep.ghost_name ≡ walk.old.keep.ghost_name }
+    ensures same_asker { walk.new.asker.now ≡ walk.old.asker.now }
+    ensures done { Tries K.Keep walk.old.keep.now walk.new.keep.now result IsDamaged
+        (Serves walk.old.asker.now (Append path.now bytes.now)) }
 {
-    let arrival = reach_kind(
-        alloc,
-        keep,
-        asker,
-        path,
-        ObjKind::Document,
-        Mask::append_data(),
-    )?;
-    match arrival {
-        Arrival::Ended(reply) => Ok(reply),
-        Arrival::At(node) => append_at(alloc, keep, path, node.id, bytes),
-    }
+    let node = walk.reach_kind(path, ObjKind::Document, Mask::append_data())?;
+    let id = node.id;
+    drop(node);
+    append_at(walk, path, id, bytes)
 }
 
-// Adds the bytes to those of the document of this number.
+// Adds the bytes to those of the document of this number. Where there are none to add, nothing is
+// written.
 fn append_at<K: Keep>(
-    alloc: Global,
-    keep: &mut K,
+    walk: &mut Walk<'_, K>,
     path: &Path,
     id: u64,
     bytes: &Bytes,
-) -> Result<Reply, KeepFault>
-    ensures done { Does K.Keep keep.old keep.new result (HasNoBytes id)
-        (IsAppended path.now id bytes.now) }
+) -> Result<Reply, Halt>
+    ensures same_keep { walk.new.keep.ghost_name ≡ walk.old.keep.ghost_name }
+    ensures same_asker { walk.new.asker.now ≡ walk.old.asker.now }
+    ensures done { Tries K.Keep walk.old.keep.now walk.new.keep.now result (HasNoBytes id)
+        (λ old outcome new. IsAppended path.now id bytes.now old (replied outcome) new) }
+    ensures quiet { bytes.now ≡ [] → IfOk result
+        (λ _. K.writes walk.new.keep.now ≡ K.writes walk.old.keep.now) }
 {
-    let body = keep.body(id)?;
-    match body {
-        None => Err(KeepFault::Damaged { id }),
-        Some(before) => extend(alloc, keep, path, id, before, bytes),
-    }
-}
-
-// Adds the bytes to those that the document of this number has. Where there are none to add,
-// nothing is written.
-fn extend<K: Keep>(
-    alloc: Global,
-    keep: &mut K,
-    path: &Path,
-    id: u64,
-    before: Bytes,
-    bytes: &Bytes,
-) -> Result<Reply, KeepFault>
-    ensures done { Does K.Keep keep.old keep.new result IsUnreadable
-        (Extends path.now id before bytes.now) }
-    ensures quiet { bytes.now ≡ [] → IfOk result (λ _. K.writes keep.new ≡ K.writes keep.old) }
-{
+    let before = body_of(walk.keep, id)?;
     let are_none = bytes.as_slice().is_empty();
     if are_none {
-        return Ok(sized_reply(alloc, path, before.len())?);
+        return sized_reply(walk.alloc, path, before.len());
     }
     let joined = join(before, bytes)?;
-    put_bytes(alloc, keep, path, id, joined.as_slice())
+    put_bytes(walk, path, id, joined.as_slice())
+}
+
+// The bytes of the document of this number.
+fn body_of<K: Keep>(keep: &mut K, id: u64) -> Result<Bytes, KeepFault>
+    ensures read { Reads K.Keep keep.old keep.new result (HasNoBytes id) (HasBody id) }
+{
+    match keep.body(id)? {
+        Some(bytes) => Ok(bytes),
+        None => Err(KeepFault::Damaged { id }),
+    }
 }
 
 // The reply for a document that is to have this many bytes.
-fn sized_reply(alloc: Global, path: &Path, size: usize) -> Result<Reply, AllocError>
-    ensures { IfOk result (λ reply. reply ≡ sized_reply path.now size) }
+fn sized_reply(alloc: Global, path: &Path, size: usize) -> Result<Reply, Halt>
+    ensures { Answers result (sized_reply path.now size) }
 {
     if size > MOST_BYTES {
-        refused(alloc, path, path.names().len(), Reason::TooLarge)
-    } else {
-        Ok(Reply::Done)
+        return Err(refusal(alloc, path, path.names().len(), Reason::TooLarge));
     }
+    Ok(Reply::Done)
 }
 
 // The bytes, followed by the others.
@@ -98,18 +91,20 @@ fn join(before: Bytes, bytes: &Bytes) -> Result<Vec<u8>, AllocError>
 
 /// Gives the document of this number these bytes, if there aren't too many.
 pub(crate) fn put_bytes<K: Keep>(
-    alloc: Global,
-    keep: &mut K,
+    walk: &mut Walk<'_, K>,
     path: &Path,
     id: u64,
     bytes: &[u8],
-) -> Result<Reply, KeepFault>
-    ensures done { Does K.Keep keep.old keep.new result IsUnreadable (IsPut path.now id bytes.now) }
+) -> Result<Reply, Halt>
+    ensures same_keep { walk.new.keep.ghost_name ≡ walk.old.keep.ghost_name }
+    ensures same_asker { walk.new.asker.now ≡ walk.old.asker.now }
+    ensures done { Tries K.Keep walk.old.keep.now walk.new.keep.now result IsUnreadable
+        (λ old outcome new. IsPut path.now id bytes.now old (replied outcome) new) }
 {
     let too_many = bytes.len() > MOST_BYTES;
     if too_many {
-        return Ok(refused(alloc, path, path.names().len(), Reason::TooLarge)?);
+        return Err(refusal(walk.alloc, path, path.names().len(), Reason::TooLarge));
     }
-    keep.set_body(id, bytes)?;
+    walk.keep.set_body(id, bytes)?;
     Ok(Reply::Done)
 }

@@ -1,12 +1,12 @@
 -- A request that gives a document other bytes is a step.
-use Rattle.std.proofs.Common.{◌≡◌, ℕ, ◌+◌, ◌==◌, Bool, true, false, cond, List, [], ◌∷◌, ◌++◌, length, Option, Some, None, refl, sym, ap, subst, ◌∙◌, append_assoc, length-append, arith}
-use Rattle.std.specs.Prelude.{unwrap_or, nat_lt, nat_le}
+use Rattle.std.proofs.Common.{◌≡◌, ℕ, ◌+◌, ◌==◌, Bool, true, false, cond, List, [], ◌∷◌, ◌++◌, length, Option, Some, None, Result, Ok, Err, refl, sym, ap, subst, ◌∙◌, append_assoc, length-append, arith}
+use Rattle.std.specs.Prelude.{IfOk, unwrap_or, nat_lt, nat_le}
 use Rattle.std.proofs.lemmas.Bool.{eqb-true, ltb-false, le-leb}
 use Rattle.std.proofs.lemmas.List.{append-nil}
 use Rattle.room_entry.specs.Rights.{append_data}
 use Rattle.room_rows.specs.declared.node.Node.{Node}
 use Rattle.room_rows.specs.Content.{node_at, body_of, with_body}
-use Rattle.room_rows.specs.Keep.{IsDamaged, SetsBody, reading}
+use Rattle.room_rows.specs.Keep.{IsDamaged, KeepLaws, SetsBody, reading}
 use Rattle.room_rows.specs.Meaning.{meaning}
 use Rattle.room_rows.specs.Rows.{Rows, AreRows}
 use Rattle.room_rows.proofs.InPlace.{with_body-there}
@@ -21,8 +21,12 @@ use Rattle.room_machine.specs.Site.{Site, site_at}
 use Rattle.room_machine.specs.Plan.{Item, plan_of, not_over, way, where_found}
 use Rattle.room_machine.specs.Effect.{with_site}
 use Rattle.room_judge.specs.Stored.{stored_site, stored_along, to_stored}
-use Rattle.room_judge.specs.Judged.{IsJudged, IsReached, CarriesOut}
-use Rattle.room_desk.specs.Written.{HasNoBytes, IsAppended, IsPut, TakesBytes, sized_reply}
+use Rattle.room_judge.specs.declared.halt.Halt.{Halt}
+use Rattle.room_judge.specs.declared.halt.Halt.TheVariants.{Refused as Halted, Fault}
+use Rattle.room_judge.specs.Halted.{replied, settled}
+use Rattle.room_judge.specs.Judged.{IsDone, IsJudged, IsReached, CarriesOut}
+use Rattle.room_judge.proofs.Calls.{HasDone, finish, memory}
+use Rattle.room_desk.specs.Written.{Answers, HasNoBytes, IsAppended, IsPut, TakesBytes, sized_reply}
 use Rattle.room_judge.proofs.Judging.{fails_first, passes_first, refuses, passes_on, judged_none}
 use Rattle.room_desk.proofs.Sound.SoundParts.{sound_parts, sound_noted}
 use Rattle.room_desk.proofs.Bytes.SoundBytes.{sound_bytes}
@@ -72,6 +76,28 @@ pub put_as : (path : List (List ℕ)) (id : ℕ) {bytes : List ℕ} (old mid new
     → mid ≡ old → IsPut path id bytes mid reply new → IsPut path id bytes old reply new
 put_as path id {bytes} old mid new reply unread put =
     subst (λ (r : Rows). IsPut path id bytes r reply new) unread put
+
+pub if_ok : {X E P : Type 0} (r : Result X E) → P → IfOk r (λ x. P)
+if_ok (Ok x) p = p
+if_ok (Err e) p = tt
+
+module _ {S : Type 0} {rows : S → Rows} {failures writes : S → ℕ}
+    {Follows IsTrusted : S → S → Type 0}
+    (laws : KeepLaws rows failures writes Follows IsTrusted) where
+  -- the calls end with this reply, or memory ran out as it was made
+  pub answers : {a b : S} {Before : Rows → Rows → Type 0} {Blames : Rows → ℕ → Type 0}
+      (Becomes : Rows → Reply → Rows → Type 0) → HasDone rows Follows IsTrusted a b Before
+      → (r : Result Reply Halt) (wanted : Reply) → Answers r wanted
+      → ((old new : Rows) → AreRows old → Before old new → Becomes old wanted new)
+      → IsDone rows failures Follows IsTrusted a b (settled r) Blames
+      (λ old outcome new. Becomes old (replied outcome) new)
+  answers Becomes before (Ok reply) wanted is becomes =
+      finish laws (Ok reply) before (λ old new are b.
+      subst (λ (x : Reply). Becomes old x new) (sym is) (becomes old new are b))
+  answers Becomes before (Err (Halted reply)) wanted is becomes =
+      finish laws (Err reply) before (λ old new are b.
+      subst (λ (x : Reply). Becomes old x new) (sym is) (becomes old new are b))
+  answers Becomes before (Err (Fault fault)) wanted is becomes = memory laws before (Err fault) is
 
 -- ---- items after others at the target
 

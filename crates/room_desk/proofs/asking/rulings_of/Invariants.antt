@@ -1,10 +1,14 @@
-use Rattle.std.proofs.Common.{ℕ, ◌≡◌, ◌∷◌, [], ◌++◌, drop, map}
+use Rattle.std.proofs.Common.{ℕ, ◌≡◌, ◌∷◌, [], ◌++◌, List, drop, map}
+use Rattle.room_eval.specs.declared.outcome.Ruling.{Ruling}
 use Rattle.room_eval.specs.Verdict.{ruling_of}
+use Rattle.room_rows.specs.Held.{full_of}
 use Rattle.room_desk.proofs.asking.rulings_of.Given as goal
 
 -- the rulings so far and those of the rest of the bits are all
 abbrev pub invariant-bits : goal.invariant-bits
 invariant-bits l =
-    l.items.items ++ map (λ (bit : ℕ). (bit ∷ [], ruling_of l.entries l.caller l.owners bit))
+    let ruled : ℕ → List ℕ × Ruling = λ bit.
+    (bit ∷ [], ruling_of (full_of l.node.dacl) l.asker.caller l.node.owners bit) in
+    l.items.items ++ map ruled
     (drop l.bit-index l.fn.mask)
-    ≡ map (λ (bit : ℕ). (bit ∷ [], ruling_of l.entries l.caller l.owners bit)) l.fn.mask
+    ≡ map ruled l.fn.mask

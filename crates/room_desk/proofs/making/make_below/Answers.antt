@@ -1,45 +1,44 @@
-use Rattle.room_judge.specs.declared.arrival.Spot.TheVariants.{Under, Barred}
-use Rattle.room_judge.proofs.Calls.{none_done, tail_known, finish, fails, done}
+use Rattle.std.proofs.Common.{ℕ, List, [], ◌∷◌, refl, subst}
+use Rattle.std.specs.Prelude.{is_some}
+use Rattle.room_entry.specs.declared.object.ObjKind.TheVariants.{Folder}
+use Rattle.room_machine.specs.declared.reply.Reply.TheVariants.{Made}
+use Rattle.room_judge.specs.Halted.{replied}
+use Rattle.room_judge.specs.Stored.{found_site}
+use Rattle.room_judge.specs.declared.asker.Asker.{Asker}
+use Rattle.room_judge.proofs.Calls.{done, tail_known}
+use Rattle.room_judge.proofs.Halts.{halts_first}
+use Rattle.room_desk.specs.Made.{IsJudgedAndDone, IsMade, new_child}
 use Rattle.room_desk.proofs.Made.FolderMade.{folder_barred, make_in}
+use Rattle.room_desk.proofs.Made.FolderPlans.{making}
 use Rattle.room_desk.proofs.Made.ServedItems.{spotted_blames}
 use Rattle.room_desk.proofs.Sound.Blamed.{rootless_damaged}
-use Rattle.room_judge.proofs.Folders.{spotted_as}
 use Rattle.room_desk.proofs.making.make_below.Goals as goal
 
-pub returns-in_err-spot : goal.returns-in_err-spot
-returns-in_err-spot g c =
-    let k = g.K.Keep in
-    let m = g.met.K.Keep in
-    record {
-      done = fails m.laws (none_done m.laws c.args.keep.now) c.in_err-spot.ensures.done
-          (λ old mid at same h. rootless_damaged old mid at same h) c.from_residual.result
-          c.from_residual.ensures.1;
-    }
+pub returns-in_err-spot-clause-done : goal.returns-in_err-spot-clause-done
+returns-in_err-spot-clause-done g c =
+    halts_first g.met.K.Keep.laws _ c.in_err-spot.ensures.done
+    (λ old at h. rootless_damaged old old at refl h)
+    (λ old new reply are spotted.
+    folder_barred c.args.walk.now.asker.now c.args.path.now c.requires.some old new reply are
+    spotted)
+    c.from_residual.result c.from_residual.ensures.1
 
-pub returns-in-Barred : goal.returns-in-Barred
-returns-in-Barred g c =
-    let k = g.K.Keep in
-    let m = g.met.K.Keep in
-    record {
-      done = finish m.laws _ (done c.in_ok-spot.ensures.done) (λ old new are spotted.
-          folder_barred c.args.asker.now c.args.path.now c.requires.some old new c.in-Barred.reply
-          are (spotted_as c.args.asker.now c.args.path.now _
-          (Barred c.in-Barred.reply) old new c.in-Barred.is spotted));
-    }
-
-pub returns-in-Under : goal.returns-in-Under
-returns-in-Under g c =
-    let k = g.K.Keep in
-    let m = g.met.K.Keep in
-    record {
-      done =
-          tail_known m.laws (done c.in_ok-spot.ensures.done) c.make_new.ensures.done
-          (λ old mid at are spotted h.
-          spotted_blames c.args.asker.now c.args.path.now _ old mid at spotted h)
-          (λ old mid reply new are spotted served.
-          make_in c.args.asker.now c.args.path.now old mid c.in-Under.folder c.in-Under.child
-          c.args.name.now c.requires are
-          (spotted_as c.args.asker.now c.args.path.now _
-          (Under c.in-Under.folder c.in-Under.child) old mid c.in-Under.is spotted) c.is_some.result
-          c.is_some.ensures new reply served);
-    }
+pub returns-clause-done : goal.returns-clause-done
+returns-clause-done g c =
+    let asker = c.args.walk.now.asker.now in
+    let path = c.args.path.now in
+    let name = c.args.name.now in
+    let folder = c.in_ok-spot.spot.folder in
+    let child = c.in_ok-spot.spot.child in
+    tail_known g.met.K.Keep.laws (done c.in_ok-spot.ensures.done) c.make_new.ensures.done
+    (λ old mid at are spotted h. spotted_blames asker path _ old mid at spotted h)
+    (λ old mid outcome new are spotted served.
+    make_in asker path old mid folder child name c.requires are spotted (is_some child) refl new
+    (replied outcome)
+    (subst (λ (b : List ℕ). IsJudgedAndDone asker
+    (making path (is_some child) (found_site path folder)) Made
+    (IsMade (new_child asker.caller Folder folder.node name b)) mid (replied outcome) new)
+    c.new-bytes.ensures
+    (subst (λ (a : Asker). IsJudgedAndDone a (making path (is_some child) (found_site path folder))
+    Made (IsMade (new_child a.caller Folder folder.node name c.new-bytes.result)) mid
+    (replied outcome) new) c.in_ok-spot.ensures.same_asker served)))

@@ -1,4 +1,8 @@
-use Rattle.room_judge.proofs.Calls.{none_done, finish}
+use Rattle.std.proofs.Common.{refl, take}
+use Rattle.room_machine.specs.declared.reply.Reply.TheVariants.{Refused}
+use Rattle.room_machine.specs.declared.reply.Reason.TheVariants.{Exists}
+use Rattle.room_judge.proofs.Calls.{none_done}
+use Rattle.room_judge.proofs.Halts.{refused_as}
 use Rattle.room_desk.proofs.Made.FolderMade.{folder_root}
 use Rattle.room_desk.proofs.Made.ServedItems.{name_of_parts}
 use Rattle.room_desk.proofs.making.make_folder.Goals as goal
@@ -8,13 +12,12 @@ make_below-requires g c =
     name_of_parts c.args.path.now c.in-Some.field-0-1.now c.in-Some.name.now c.in-Some.ensures.parts
     c.in-Some.ensures.name
 
-pub returns-in_ok-refused-in-None : goal.returns-in_ok-refused-in-None
-returns-in_ok-refused-in-None g c =
-    let k = g.K.Keep in
+pub returns-in-None-clause-done : goal.returns-in-None-clause-done
+returns-in-None-clause-done g c =
     let m = g.met.K.Keep in
-    record {
-      done = finish m.laws _ (none_done m.laws c.args.keep.now)
-          (λ old new are same.
-          folder_root c.args.asker.now c.args.path.now old new c.in_ok-refused-in-None.field-0
-          c.in-None.ensures.parts c.in_ok-refused-in-None.ensures same);
-    }
+    let path = c.args.path.now in
+    refused_as m.laws (none_done m.laws c.args.walk.now.keep.now) c.refusal.result
+    (Refused (take 0 path) Exists) c.refusal.ensures
+    (λ old new are same.
+    folder_root c.args.walk.now.asker.now path old new (Refused (take 0 path) Exists)
+    c.in-None.ensures.parts refl same)

@@ -1,28 +1,28 @@
-use Rattle.std.proofs.Common.{ℕ, List, [], ◌∷◌, subst}
+use Rattle.std.proofs.Common.{[], ◌∷◌, None, refl, sym, subst, ◌∙◌}
+use Rattle.std.specs.Prelude.{is_some}
 use Rattle.room_entry.specs.Rights.{append_data}
-use Rattle.room_entry.specs.declared.object.ObjKind.TheVariants.{Folder as FolderKind}
 use Rattle.room_machine.specs.declared.reply.Reason.TheVariants.{Exists}
-use Rattle.room_desk.specs.Made.{MakesChild, new_child}
+use Rattle.room_judge.specs.Halted.{replied}
 use Rattle.room_judge.specs.Stored.{found_site}
-use Rattle.room_judge.proofs.Calls.{tail, done}
+use Rattle.room_judge.specs.declared.asker.Asker.{Asker}
+use Rattle.room_judge.proofs.Calls.{done, tail}
+use Rattle.room_desk.specs.Made.{MakesChild, new_child}
 use Rattle.room_desk.proofs.Made.ServedItems.{added_behind, judged_unread}
 use Rattle.room_desk.proofs.making.make_new.Goals as goal
 
-pub returns-else-is_there : goal.returns-else-is_there
-returns-else-is_there g c =
-    let k = g.K.Keep in
-    let m = g.met.K.Keep in
-    record {
-      done = tail m.laws (done c.in_ok-refusal.ensures.done) c.add_child.ensures.done
-          (λ old mid at judged h. judged_unread c.args.asker.now _ _ old mid at judged h)
-          (λ old mid reply new judged made.
-          added_behind c.args.asker.now
-          (found_site c.args.path.now c.args.folder.now) c.append_data.result
-          (append_data ∷ []) c.args.path.now Exists c.args.is_there
-          (new_child c.args.asker.now.caller FolderKind c.args.folder.now.node c.args.name.now [])
-          old mid new c.in_ok-refusal.refusal reply c.append_data.ensures c.in-None.is
-          c.if-is_there.false judged
-          (subst
-          (λ (b : List ℕ). MakesChild c.args.asker.now.caller FolderKind c.args.folder.now.node
-          c.args.name.now b mid reply new) c.new-none.ensures made));
-    }
+pub returns-clause-done : goal.returns-clause-done
+returns-clause-done g c =
+    let asker = c.args.walk.now.asker.now in
+    let path = c.args.path.now in
+    let folder = c.args.spot.now.folder in
+    let child = c.args.child.now in
+    tail g.met.K.Keep.laws (done c.in_ok-check.ensures.done) c.add_child.ensures.done
+    (λ old mid at judged h. judged_unread asker _ _ old mid at judged h)
+    (λ old mid outcome new judged made.
+    added_behind asker (found_site path folder) c.append_data.result (append_data ∷ []) path Exists
+    (is_some c.args.spot.now.child)
+    (new_child asker.caller child.kind folder.node child.name.now child.bytes.now) old mid new None
+    (replied outcome) c.append_data.ensures refl
+    (sym c.is_some-is_there.ensures ∙ c.if-is_there.false) judged
+    (subst (λ (a : Asker). MakesChild a.caller child.kind folder.node child.name.now
+    child.bytes.now mid (replied outcome) new) c.in_ok-check.ensures.same_asker made))

@@ -1,66 +1,64 @@
-use Rattle.std.proofs.Common.{ℕ, List, length, ap}
-use Rattle.room_judge.specs.declared.arrival.Spot.TheVariants.{Under, Barred}
-use Rattle.room_judge.proofs.Calls.{none_done, tail_known, finish, fails, done}
-use Rattle.room_desk.proofs.Made.PutMade.{put_barred, put_on, put_in}
+use Rattle.std.proofs.Common.{ℕ, List, [], ◌∷◌, length, ap, refl, subst}
+use Rattle.room_entry.specs.Rights.{write_data}
+use Rattle.room_entry.specs.declared.object.ObjKind.TheVariants.{Document}
+use Rattle.room_rows.specs.Keep.{SetsBody}
+use Rattle.room_machine.specs.Plan.{Check, no_folder, not_over}
+use Rattle.room_machine.specs.declared.reply.Reply.TheVariants.{Done, Made}
+use Rattle.room_judge.specs.Halted.{replied}
+use Rattle.room_judge.specs.Stored.{found_site}
+use Rattle.room_judge.specs.declared.arrival.Found.{Found}
+use Rattle.room_judge.specs.declared.asker.Asker.{Asker}
+use Rattle.room_judge.proofs.Calls.{done, tail_known}
+use Rattle.room_judge.proofs.Folders.{spotted_child}
+use Rattle.room_judge.proofs.Halts.{halts_first}
+use Rattle.room_desk.specs.Made.{IsJudgedAndDone, IsMade, new_child}
+use Rattle.room_desk.proofs.Made.PutMade.{put_barred, put_in, put_on}
 use Rattle.room_desk.proofs.Made.ServedItems.{spotted_blames}
 use Rattle.room_desk.proofs.Sound.Blamed.{rootless_damaged}
-use Rattle.room_judge.proofs.Folders.{spotted_as, spotted_child}
 use Rattle.room_desk.proofs.making.put_below.Goals as goal
 
-pub returns-in_err-spot : goal.returns-in_err-spot
-returns-in_err-spot g c =
-    let k = g.K.Keep in
-    let m = g.met.K.Keep in
-    record {
-      done = fails m.laws (none_done m.laws c.args.keep.now) c.in_err-spot.ensures.done
-          (λ old mid at same h. rootless_damaged old mid at same h) c.from_residual.result
-          c.from_residual.ensures.1;
-    }
+pub returns-in_err-spot-clause-done : goal.returns-in_err-spot-clause-done
+returns-in_err-spot-clause-done g c =
+    halts_first g.met.K.Keep.laws _ c.in_err-spot.ensures.done
+    (λ old at h. rootless_damaged old old at refl h)
+    (λ old new reply are spotted.
+    put_barred c.args.walk.now.asker.now c.args.path.now c.args.bytes.now old new reply are spotted)
+    c.from_residual.result c.from_residual.ensures.1
 
-pub returns-in-Barred : goal.returns-in-Barred
-returns-in-Barred g c =
-    let k = g.K.Keep in
-    let m = g.met.K.Keep in
-    record {
-      done = finish m.laws _ (done c.in_ok-spot.ensures.done) (λ old new are spotted.
-          put_barred c.args.asker.now c.args.path.now c.args.bytes.now old new c.in-Barred.reply are
-          (spotted_as c.args.asker.now c.args.path.now _
-          (Barred c.in-Barred.reply) old new c.in-Barred.is spotted));
-    }
+pub returns-in-Some-clause-done : goal.returns-in-Some-clause-done
+returns-in-Some-clause-done g c =
+    let asker = c.args.walk.now.asker.now in
+    let path = c.args.path.now in
+    let bytes = c.args.bytes.now in
+    let folder = c.in_ok-spot.spot.folder in
+    let node = c.in-Some.node in
+    let depth = length c.names-depth.result.now in
+    let target : Found = record { node = node; depth = depth } in
+    tail_known g.met.K.Keep.laws (done c.in_ok-spot.ensures.done) c.put_there.ensures.done
+    (λ old mid at are spotted h. spotted_blames asker path _ old mid at spotted h)
+    (λ old mid outcome new are spotted served.
+    put_on asker path bytes old mid folder node are
+    (spotted_child asker path folder c.in_ok-spot.spot.child _ old mid c.in-Some.is spotted) depth
+    (ap (λ (l : List (List ℕ)). length l) c.names-depth.ensures) new (replied outcome)
+    (subst (λ (a : Asker). IsJudgedAndDone a
+    (no_folder (found_site path target) ∷ Check (found_site path target) (write_data ∷ [])
+    ∷ not_over path (length bytes) ∷ []) Done (SetsBody node.id bytes) mid (replied outcome) new)
+    c.in_ok-spot.ensures.same_asker served))
 
-pub returns-in-Some : goal.returns-in-Some
-returns-in-Some g c =
-    let k = g.K.Keep in
-    let m = g.met.K.Keep in
-    record {
-      done =
-          tail_known m.laws (done c.in_ok-spot.ensures.done) c.put_there.ensures.done
-          (λ old mid at are spotted h.
-          spotted_blames c.args.asker.now c.args.path.now _ old mid at spotted h)
-          (λ old mid reply new are spotted served.
-          put_on c.args.asker.now c.args.path.now c.args.bytes.now old mid c.in-Under.folder
-          c.in-Some.node are
-          (spotted_child c.args.asker.now c.args.path.now c.in-Under.folder c.in-Under.child _ old
-          mid c.in-Some.is (spotted_as c.args.asker.now c.args.path.now _
-          (Under c.in-Under.folder c.in-Under.child) old mid c.in-Under.is spotted))
-          (length c.names-depth.result.now)
-          (ap (λ (l : List (List ℕ)). length l) c.names-depth.ensures) new reply served);
-    }
-
-pub returns : goal.returns
-returns g c =
-    let k = g.K.Keep in
-    let m = g.met.K.Keep in
-    record {
-      done =
-          tail_known m.laws (done c.in_ok-spot.ensures.done) c.put_new.ensures.done
-          (λ old mid at are spotted h.
-          spotted_blames c.args.asker.now c.args.path.now _ old mid at spotted h)
-          (λ old mid reply new are spotted served.
-          put_in c.args.asker.now c.args.path.now c.args.bytes.now old mid c.in-Under.folder
-          c.args.name.now c.requires are
-          (spotted_child c.args.asker.now c.args.path.now c.in-Under.folder c.in-Under.child _ old
-          mid c.in-None.is (spotted_as c.args.asker.now c.args.path.now _
-          (Under c.in-Under.folder c.in-Under.child) old mid c.in-Under.is spotted)) new reply
-          served);
-    }
+pub returns-clause-done : goal.returns-clause-done
+returns-clause-done g c =
+    let asker = c.args.walk.now.asker.now in
+    let path = c.args.path.now in
+    let name = c.args.name.now in
+    let bytes = c.args.bytes.now in
+    let folder = c.in_ok-spot.spot.folder in
+    tail_known g.met.K.Keep.laws (done c.in_ok-spot.ensures.done) c.put_new.ensures.done
+    (λ old mid at are spotted h. spotted_blames asker path _ old mid at spotted h)
+    (λ old mid outcome new are spotted served.
+    put_in asker path bytes old mid folder name c.requires are
+    (spotted_child asker path folder c.in_ok-spot.spot.child _ old mid c.in-None.is spotted) new
+    (replied outcome)
+    (subst (λ (a : Asker). IsJudgedAndDone a
+    (Check (found_site path folder) (write_data ∷ []) ∷ not_over path (length bytes) ∷ []) Made
+    (IsMade (new_child a.caller Document folder.node name bytes)) mid (replied outcome) new)
+    c.in_ok-spot.ensures.same_asker served))

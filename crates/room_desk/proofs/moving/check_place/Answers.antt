@@ -1,52 +1,117 @@
-use Rattle.std.proofs.Common.{◌++◌, subst}
-use Rattle.room_rows.specs.Keep.{IsUnreadable}
-use Rattle.room_rows.specs.Rows.{Rows}
-use Rattle.room_judge.specs.Judged.{through}
-use Rattle.room_desk.specs.Moving.{begins, free_place, leaving}
-use Rattle.room_machine.specs.Site.{front}
+use Rattle.std.proofs.Common.{ℕ, Bool, List, [], ◌∷◌, ◌++◌, ◌∙◌, None, Some, subst}
+use Rattle.room_machine.specs.Plan.{Check, Deletion, Item, right_to_add}
+use Rattle.room_machine.specs.Site.{Site, front}
+use Rattle.room_judge.specs.Halted.{refusal_of}
+use Rattle.room_judge.specs.Judged.{IsJudged, through}
 use Rattle.room_judge.specs.Stored.{found_site}
-use Rattle.room_judge.proofs.Calls.{finish, tail, done}
+use Rattle.room_judge.specs.declared.asker.Asker.{Asker}
+use Rattle.room_judge.proofs.Calls.{done, tail, then}
+use Rattle.room_judge.proofs.Halts.{halts, halts_first}
+use Rattle.room_judge.proofs.Judging.{blames_first, fails_first, passes_first}
+use Rattle.room_desk.specs.Moving.{begins, free_place, leaving}
 use Rattle.room_desk.proofs.Moves.FreePlaces.{free_after}
-use Rattle.room_judge.proofs.Judging.{fails_first, judged_as}
 use Rattle.room_desk.proofs.moving.check_place.Goals as goal
 
-pub returns-in-Some : goal.returns-in-Some
-returns-in-Some g c =
-    let k = g.K.Keep in
-    let m = g.met.K.Keep in
-    record {
-      done = finish m.laws _ (done c.in_ok-refusal.ensures.done) (λ old new are judged.
-          fails_first c.args.asker.now
-          (through (found_site c.args.to.now c.args.folder.now)
-          ++ leaving (found_site c.args.path.now c.args.target.now)
-          (found_site c.args.path.now c.args.from.now) (found_site c.args.to.now c.args.folder.now))
-          (free_place old.read c.args.to.now
-          (begins c.args.path.now (front c.args.to.now)) c.args.folder.now.node) old new
-          c.in-Some.reply
-          (judged_as c.args.asker.now
-          (through (found_site c.args.to.now c.args.folder.now)
-          ++ leaving (found_site c.args.path.now c.args.target.now)
-          (found_site c.args.path.now c.args.from.now) (found_site c.args.to.now c.args.folder.now))
-          _ _ old new c.in-Some.is judged));
-    }
+pub returns-in_err-pass_through-clause-done : goal.returns-in_err-pass_through-clause-done
+returns-in_err-pass_through-clause-done g c =
+    let path = c.args.moving.now.path.now in
+    let to = c.args.to.now in
+    let folder = c.args.folder.now in
+    let site : Site = found_site to folder in
+    let leave : List Item = leaving (found_site path c.args.moving.now.target.now)
+    (found_site path c.args.moving.now.from.now) site in
+    halts_first g.met.K.Keep.laws _ c.in_err-pass_through.ensures.done
+    (λ old at never. absurd never)
+    (λ old new reply are judged.
+    fails_first c.args.walk.now.asker.now (through site)
+    (leave ++ free_place old.read to (begins path (front to)) folder.node) old new reply judged)
+    c.from_residual.result c.from_residual.ensures.1
 
-pub returns-in-None : goal.returns-in-None
-returns-in-None g c =
-    let k = g.K.Keep in
+pub returns-in_err-check_deletion-clause-done : goal.returns-in_err-check_deletion-clause-done
+returns-in_err-check_deletion-clause-done g c =
+    let asker = c.args.walk.now.asker.now in
+    let path = c.args.moving.now.path.now in
+    let to = c.args.to.now in
+    let folder = c.args.folder.now in
+    let target = c.args.moving.now.target.now in
+    let site : Site = found_site to folder in
+    let leave : Item = Deletion (found_site path target)
+    (found_site path c.args.moving.now.from.now) in
+    let come : Item = Check site (right_to_add target.node ∷ []) in
+    halts g.met.K.Keep.laws _ (done c.in_ok-pass_through.ensures.done)
+    c.in_err-check_deletion.ensures.done (λ old mid at are passed never. absurd never)
+    (λ old mid new reply are passed judged.
+    passes_first asker (through site)
+    (leave ∷ come ∷ free_place old.read to (begins path (front to)) folder.node) old mid new
+    (Some reply) passed
+    (fails_first asker (leave ∷ [])
+    (come ∷ free_place old.read to (begins path (front to)) folder.node) mid new reply
+    (subst (λ (a : Asker). IsJudged a (leave ∷ []) mid (Some reply) new)
+    c.in_ok-pass_through.ensures.same_asker judged)))
+    c.from_residual-in_err-check_deletion.result c.from_residual-in_err-check_deletion.ensures.1
+
+pub returns-in_err-check-clause-done : goal.returns-in_err-check-clause-done
+returns-in_err-check-clause-done g c =
     let m = g.met.K.Keep in
-    record {
-      done = tail m.laws (done c.in_ok-refusal.ensures.done) c.check_free.ensures.done
-          (λ old mid at judged h. subst (λ (r : Rows). IsUnreadable r at) judged.notes h)
-          (λ old mid answer new judged free.
-          free_after c.args.to.now
-          (begins c.args.path.now (front c.args.to.now)) c.args.folder.now.node c.args.asker.now
-          (through (found_site c.args.to.now c.args.folder.now)
-          ++ leaving (found_site c.args.path.now c.args.target.now)
-          (found_site c.args.path.now c.args.from.now) (found_site c.args.to.now c.args.folder.now))
-          old mid new answer
-          (judged_as c.args.asker.now
-          (through (found_site c.args.to.now c.args.folder.now)
-          ++ leaving (found_site c.args.path.now c.args.target.now)
-          (found_site c.args.path.now c.args.from.now) (found_site c.args.to.now c.args.folder.now))
-          _ _ old mid c.in-None.is judged) free);
-    }
+    let asker = c.args.walk.now.asker.now in
+    let path = c.args.moving.now.path.now in
+    let to = c.args.to.now in
+    let folder = c.args.folder.now in
+    let target = c.args.moving.now.target.now in
+    let site : Site = found_site to folder in
+    let leave : Item = Deletion (found_site path target)
+    (found_site path c.args.moving.now.from.now) in
+    let same = c.in_ok-check_deletion.ensures.same_asker ∙ c.in_ok-pass_through.ensures.same_asker
+    in
+    halts m.laws _ (then m.laws (done c.in_ok-pass_through.ensures.done)
+    (done c.in_ok-check_deletion.ensures.done)
+    (λ old mid new passed judged.
+    passes_first asker (through site) (leave ∷ []) old mid new None passed
+    (subst (λ (a : Asker). IsJudged a (leave ∷ []) mid None new)
+    c.in_ok-pass_through.ensures.same_asker judged)))
+    c.in_err-check.ensures.done (λ old mid at are passed never. absurd never)
+    (λ old mid new reply are passed judged.
+    passes_first asker (through site ++ leave ∷ [])
+    (Check site (right_to_add target.node ∷ [])
+    ∷ free_place old.read to (begins path (front to)) folder.node) old mid new (Some reply) passed
+    (fails_first asker (Check site (right_to_add target.node ∷ []) ∷ [])
+    (free_place old.read to (begins path (front to)) folder.node) mid new reply
+    (subst (λ (b : List ℕ). IsJudged asker (Check site b ∷ []) mid (Some reply) new)
+    c.right_to_add.ensures
+    (subst (λ (a : Asker).
+    IsJudged a (Check site c.right_to_add.result ∷ []) mid (Some reply) new) same judged))))
+    c.from_residual-in_err-check.result c.from_residual-in_err-check.ensures.1
+
+pub returns-clause-done : goal.returns-clause-done
+returns-clause-done g c =
+    let m = g.met.K.Keep in
+    let asker = c.args.walk.now.asker.now in
+    let path = c.args.moving.now.path.now in
+    let to = c.args.to.now in
+    let below : Bool = begins path (front to) in
+    let folder = c.args.folder.now in
+    let target = c.args.moving.now.target.now in
+    let from : Site = found_site path c.args.moving.now.from.now in
+    let site : Site = found_site to folder in
+    let leave : Item = Deletion (found_site path target) from in
+    let same = c.in_ok-check_deletion.ensures.same_asker ∙ c.in_ok-pass_through.ensures.same_asker
+    in
+    tail m.laws (then m.laws (then m.laws (done c.in_ok-pass_through.ensures.done)
+    (done c.in_ok-check_deletion.ensures.done)
+    (λ old mid new passed judged.
+    passes_first asker (through site) (leave ∷ []) old mid new None passed
+    (subst (λ (a : Asker). IsJudged a (leave ∷ []) mid None new)
+    c.in_ok-pass_through.ensures.same_asker judged)))
+    (done c.in_ok-check.ensures.done)
+    (λ old mid new passed judged.
+    passes_first asker (through site ++ leave ∷ [])
+    (Check site (right_to_add target.node ∷ []) ∷ []) old mid new None passed
+    (subst (λ (b : List ℕ). IsJudged asker (Check site b ∷ []) mid None new)
+    c.right_to_add.ensures
+    (subst (λ (a : Asker). IsJudged a (Check site c.right_to_add.result ∷ []) mid None new) same
+    judged))))
+    c.check_free.ensures.done (λ old mid at passed h. blames_first asker _ None old mid at passed h)
+    (λ old mid outcome new passed free.
+    free_after to below folder.node asker
+    (through site ++ leaving (found_site path target) from site) old mid new (refusal_of outcome)
+    passed free)

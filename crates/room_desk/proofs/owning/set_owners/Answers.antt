@@ -1,51 +1,48 @@
 use Rattle.std.proofs.Common.{[], ◌∷◌, refl, sym, subst}
-use Rattle.room_judge.proofs.Calls.{none_done, tail_known, finish, fails, done}
-use Rattle.room_judge.specs.Judged.{CarriesOut}
-use Rattle.room_machine.specs.declared.reply.Reply.{Reply}
-use Rattle.room_desk.proofs.Sound.Blamed.{rootless_damaged}
-use Rattle.room_desk.proofs.Steps.Serving.{CheckAt, reached_as, reached_damaged, not_served}
-use Rattle.room_desk.proofs.Owned.OwnersSet.{owners_set}
-use Rattle.room_judge.specs.declared.arrival.Arrival.TheVariants.{At, Ended}
-use Rattle.room_machine.specs.declared.request.Request.TheVariants.{SetOwners}
 use Rattle.room_entry.specs.Rights.{write_owner}
+use Rattle.room_machine.specs.declared.reply.Reply.{Reply}
+use Rattle.room_machine.specs.declared.request.Request.TheVariants.{SetOwners}
+use Rattle.room_judge.specs.Judged.{CarriesOut}
+use Rattle.room_judge.specs.declared.arrival.Arrival.TheVariants.{At, Ended}
+use Rattle.room_judge.proofs.Calls.{done, finish, then_known}
+use Rattle.room_judge.proofs.Halts.{faults, halts_first}
+use Rattle.room_desk.proofs.Owned.OwnersSet.{owners_set}
+use Rattle.room_desk.proofs.Sound.Blamed.{rootless_damaged}
+use Rattle.room_desk.proofs.Steps.Serving.{CheckAt, not_served, reached_as, reached_damaged}
 use Rattle.room_desk.proofs.owning.set_owners.Goals as goal
 
-pub returns-in_err-arrival : goal.returns-in_err-arrival
-returns-in_err-arrival g c =
-    let k = g.K.Keep in
-    let m = g.met.K.Keep in
-    record {
-      done = fails m.laws (none_done m.laws c.args.keep.now) c.in_err-arrival.ensures.done
-          (λ old mid at same h. rootless_damaged old mid at same h) c.from_residual.result
-          c.from_residual.ensures.1;
-    }
+pub returns-in_err-node-clause-done : goal.returns-in_err-node-clause-done
+returns-in_err-node-clause-done g c =
+    let asker = c.args.walk.now.asker.now in
+    let path = c.args.path.now in
+    halts_first g.met.K.Keep.laws _ c.in_err-node.ensures.done
+    (λ old at h. rootless_damaged old old at refl h)
+    (λ old new reply are reached.
+    not_served asker path (SetOwners path c.args.owners.now) (CheckAt (write_owner ∷ []))
+    (λ content. refl) (λ site. refl) old new reply are
+    (reached_as asker path CheckAt c.write_owner.result (write_owner ∷ []) _ (Ended reply) old new
+    c.write_owner.ensures refl reached))
+    c.from_residual.result c.from_residual.ensures.1
 
-pub returns-in-Ended : goal.returns-in-Ended
-returns-in-Ended g c =
-    let k = g.K.Keep in
-    let m = g.met.K.Keep in
-    record {
-      done = finish m.laws _ (done c.in_ok-arrival.ensures.done) (λ old new are reached.
-          not_served c.args.asker.now c.args.path.now (SetOwners c.args.path.now c.args.owners.now)
-          (CheckAt (write_owner ∷ [])) (λ content. refl) (λ site. refl) old new c.in-Ended.reply are
-          (reached_as c.args.asker.now c.args.path.now CheckAt c.write_owner.result
-          (write_owner ∷ []) _
-          (Ended c.in-Ended.reply) old new c.write_owner.ensures c.in-Ended.is reached));
-    }
+pub returns-in_err-set_at-clause-done : goal.returns-in_err-set_at-clause-done
+returns-in_err-set_at-clause-done g c =
+    faults g.met.K.Keep.laws (done c.in_ok-node.ensures.done) c.in_err-set_at.ensures.done
+    (λ old mid at are reached h.
+    reached_damaged c.args.walk.now.asker.now c.args.path.now _ (At c.in_ok-node.node) old mid at
+    reached h)
+    c.from_residual-in_err-set_at.result c.from_residual-in_err-set_at.ensures.1
 
-pub returns-in-At : goal.returns-in-At
-returns-in-At g c =
-    let k = g.K.Keep in
+pub returns-clause-done : goal.returns-clause-done
+returns-clause-done g c =
     let m = g.met.K.Keep in
-    record {
-      done = tail_known m.laws (done c.in_ok-arrival.ensures.done) c.set_at.ensures.done
-          (λ old mid at are reached h.
-          reached_damaged c.args.asker.now c.args.path.now _ _ old mid at reached h)
-          (λ old mid reply new are reached set.
-          subst (λ (r : Reply). CarriesOut c.args.asker.now
-          (SetOwners c.args.path.now c.args.owners.now) old r new) (sym set.0)
-          (owners_set c.args.asker.now c.args.path.now c.args.owners.now old mid new c.in-At.node
-          are (reached_as c.args.asker.now c.args.path.now CheckAt c.write_owner.result
-          (write_owner ∷ []) _ (At c.in-At.node) old mid c.write_owner.ensures c.in-At.is reached)
-          set.1));
-    }
+    let asker = c.args.walk.now.asker.now in
+    let path = c.args.path.now in
+    let owners = c.args.owners.now in
+    finish m.laws _ (then_known m.laws (done c.in_ok-node.ensures.done)
+    (done c.in_ok-set_at.ensures.done)
+    (λ old mid new are reached set.
+    subst (λ (r : Reply). CarriesOut asker (SetOwners path owners) old r new) (sym set.0)
+    (owners_set asker path owners old mid new c.in_ok-node.node are
+    (reached_as asker path CheckAt c.write_owner.result (write_owner ∷ []) _
+    (At c.in_ok-node.node) old mid c.write_owner.ensures refl reached) set.1)))
+    (λ old new are h. h)

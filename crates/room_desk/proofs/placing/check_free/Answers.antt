@@ -1,13 +1,16 @@
-use Rattle.std.proofs.Common.{◌≡◌, ◌+◌, ◌<◌, length, take, ap, ◌∙◌, arith}
+use Rattle.std.proofs.Common.{◌≡◌, ◌+◌, ◌<◌, length, take, ap, refl, ◌∙◌, arith}
 use Rattle.room_desk.specs.Moving.{begins}
 use Rattle.room_machine.specs.Site.{front}
+use Rattle.room_machine.specs.declared.reply.Reply.TheVariants.{Refused}
+use Rattle.room_machine.specs.declared.reply.Reason.TheVariants.{Exists, Loop}
 use Rattle.room_judge.proofs.Calls.{finish, done, of_read}
+use Rattle.room_judge.proofs.Halts.{refused_as}
 use Rattle.room_desk.proofs.Moves.FreePlaces.{all_free, begun_as, exists_refused, loop_refused}
 use Rattle.room_judge.proofs.Ways.{name_read}
 use Rattle.room_desk.proofs.placing.check_free.Goals as goal
 
-pub returns-then-is_taken : goal.returns-then-is_taken
-returns-then-is_taken g c =
+pub returns-then-is_taken-clause-done : goal.returns-then-is_taken-clause-done
+returns-then-is_taken-clause-done g c =
     let k = g.K.Keep in
     let m = g.met.K.Keep in
     let deep : length c.args.to.now ≡ c.args.folder.now.depth + 1 = c.requires in
@@ -16,17 +19,17 @@ returns-then-is_taken g c =
     name_read c.args.to.now c.names.result.now c.args.folder.now.depth
     c.index-names-folder.result c.as_str.result.now c.names.ensures below
     c.index-names-folder.is c.as_str.ensures in
-    record {
-      done = finish m.laws _ (done (of_read c.in_ok-is_taken.ensures.read)) (λ old new are both.
-          exists_refused c.args.to.now
-          (begins c.args.path.now (front c.args.to.now)) c.args.folder.now.node old new
-          c.in_ok-refused.field-0 c.in_ok-is_taken.is_taken c.names-then-is_taken.result.now
-          c.args.folder.now.depth c.as_str.result.now deep named both.0
-          c.if-is_taken.true c.names-then-is_taken.ensures c.in_ok-refused.ensures both.1);
-    }
+    let refused = Refused (take (length c.names-then-is_taken.result.now) c.args.to.now) Exists in
+    refused_as m.laws (done (of_read c.in_ok-is_taken.ensures.read)) c.refusal.result refused
+    c.refusal.ensures (λ old new are both.
+    exists_refused c.args.to.now
+    (begins c.args.path.now (front c.args.to.now)) c.args.folder.now.node old new refused
+    c.in_ok-is_taken.is_taken c.names-then-is_taken.result.now
+    c.args.folder.now.depth c.as_str.result.now deep named both.0
+    c.if-is_taken.true c.names-then-is_taken.ensures refl both.1)
 
-pub returns-then-is_below : goal.returns-then-is_below
-returns-then-is_below g c =
+pub returns-then-is_below-clause-done : goal.returns-then-is_below-clause-done
+returns-then-is_below-clause-done g c =
     let k = g.K.Keep in
     let m = g.met.K.Keep in
     let deep : length c.args.to.now ≡ c.args.folder.now.depth + 1 = c.requires in
@@ -40,18 +43,19 @@ returns-then-is_below g c =
     (take c.args.folder.now.depth c.names-3.result.now) c.args.folder.now.depth
     c.begins-is_below.result deep c.names-2.ensures
     (ap (take c.args.folder.now.depth) c.names-3.ensures) c.begins-is_below.ensures in
-    record {
-      done = finish m.laws _ (done (of_read c.in_ok-is_taken.ensures.read)) (λ old new are both.
-          loop_refused c.args.to.now
-          (begins c.args.path.now (front c.args.to.now)) c.args.folder.now.node old new
-          c.in_ok-refused-2.field-0 c.in_ok-is_taken.is_taken c.names-then-is_below.result.now
-          c.args.folder.now.depth c.as_str.result.now deep named both.0
-          c.if-is_taken.false (compared ∙ c.if-is_below.true) c.names-then-is_below.ensures
-          c.in_ok-refused-2.ensures both.1);
-    }
+    let refused = Refused (take (length c.names-then-is_below.result.now) c.args.to.now) Loop in
+    refused_as m.laws (done (of_read c.in_ok-is_taken.ensures.read)) c.refusal-then-is_below.result
+    refused
+    c.refusal-then-is_below.ensures (λ old new are both.
+    loop_refused c.args.to.now
+    (begins c.args.path.now (front c.args.to.now)) c.args.folder.now.node old new refused
+    c.in_ok-is_taken.is_taken c.names-then-is_below.result.now
+    c.args.folder.now.depth c.as_str.result.now deep named both.0
+    c.if-is_taken.false (compared ∙ c.if-is_below.true) c.names-then-is_below.ensures
+    refl both.1)
 
-pub returns : goal.returns
-returns g c =
+pub returns-clause-done : goal.returns-clause-done
+returns-clause-done g c =
     let k = g.K.Keep in
     let m = g.met.K.Keep in
     let deep : length c.args.to.now ≡ c.args.folder.now.depth + 1 = c.requires in
@@ -65,10 +69,8 @@ returns g c =
     (take c.args.folder.now.depth c.names-3.result.now) c.args.folder.now.depth
     c.begins-is_below.result deep c.names-2.ensures
     (ap (take c.args.folder.now.depth) c.names-3.ensures) c.begins-is_below.ensures in
-    record {
-      done = finish m.laws _ (done (of_read c.in_ok-is_taken.ensures.read)) (λ old new are both.
-          all_free c.args.to.now
-          (begins c.args.path.now (front c.args.to.now)) c.args.folder.now.node old new
-          c.in_ok-is_taken.is_taken c.args.folder.now.depth c.as_str.result.now deep named both.0
-          c.if-is_taken.false (compared ∙ c.if-is_below.false) both.1);
-    }
+    finish m.laws _ (done (of_read c.in_ok-is_taken.ensures.read)) (λ old new are both.
+    all_free c.args.to.now
+    (begins c.args.path.now (front c.args.to.now)) c.args.folder.now.node old new
+    c.in_ok-is_taken.is_taken c.args.folder.now.depth c.as_str.result.now deep named both.0
+    c.if-is_taken.false (compared ∙ c.if-is_below.false) both.1)

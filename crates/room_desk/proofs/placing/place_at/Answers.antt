@@ -3,60 +3,51 @@ use Rattle.room_machine.specs.declared.reply.Reply.TheVariants.{Done}
 use Rattle.room_desk.proofs.Placed.PlacingCalls.{first_done, first_fails, second_done, second_fails, unplaced}
 use Rattle.room_desk.proofs.placing.place_at.Goals as goal
 
-pub returns-in_err-set_place : goal.returns-in_err-set_place
-returns-in_err-set_place g c =
+pub returns-in_err-set_place-clause-done : goal.returns-in_err-set_place-clause-done
+returns-in_err-set_place-clause-done g c =
     let k = g.K.Keep in
     let m = g.met.K.Keep in
-    record {
-      done = fails m.laws (none_done m.laws c.args.keep.now)
-          (of_write c.in_err-set_place.ensures.written)
-          (λ old mid at same h.
-          unplaced c.args.target.now c.args.folder.now c.args.name.now old mid at same h)
-          c.from_residual.result c.from_residual.ensures.1;
-    }
+    fails m.laws (none_done m.laws c.args.walk.now.keep.now)
+    (of_write c.in_err-set_place.ensures.written)
+    (λ old mid at same h.
+    unplaced c.args.target.now c.args.folder.now c.args.name.now old mid at same h)
+    c.from_residual.result c.from_residual.ensures.1
 
-pub returns-in_err-renew_list : goal.returns-in_err-renew_list
-returns-in_err-renew_list g c =
+pub returns-in_err-renew_list-clause-done : goal.returns-in_err-renew_list-clause-done
+returns-in_err-renew_list-clause-done g c =
     let k = g.K.Keep in
     let m = g.met.K.Keep in
-    record {
-      done =
-          fails m.laws (done (of_write c.in_ok-set_place.ensures.written))
-          c.in_err-renew_list.ensures.done
-          (λ old mid at places h.
-          first_fails c.args.target.now c.args.folder.now c.args.name.now old mid at places h)
-          c.from_residual-in_err-renew_list.result c.from_residual-in_err-renew_list.ensures.1;
-    }
+    fails m.laws (done (of_write c.in_ok-set_place.ensures.written))
+    c.in_err-renew_list.ensures.done
+    (λ old mid at places h.
+    first_fails c.args.target.now c.args.folder.now c.args.name.now old mid at places h)
+    c.from_residual-in_err-renew_list.result c.from_residual-in_err-renew_list.ensures.1
 
-pub returns-in_err-renew_list-2 : goal.returns-in_err-renew_list-2
-returns-in_err-renew_list-2 g c =
+pub returns-in_err-renew_list-2-clause-done : goal.returns-in_err-renew_list-2-clause-done
+returns-in_err-renew_list-2-clause-done g c =
     let k = g.K.Keep in
     let m = g.met.K.Keep in
-    record {
-      done = fails m.laws
-          (then m.laws (done (of_write c.in_ok-set_place.ensures.written))
-          (done c.in_ok-renew_list.ensures.done)
-          (λ old mid new places renews.
-          first_done c.args.target.now c.args.folder.now c.args.name.now old mid new places renews))
-          c.in_err-renew_list-2.ensures.done
-          (λ old mid at first h.
-          second_fails c.args.target.now c.args.folder.now c.args.name.now old mid at first h)
-          c.from_residual-in_err-renew_list-2.result c.from_residual-in_err-renew_list-2.ensures.1;
-    }
+    fails m.laws
+    (then m.laws (done (of_write c.in_ok-set_place.ensures.written))
+    (done c.in_ok-renew_list.ensures.done)
+    (λ old mid new places renews.
+    first_done c.args.target.now c.args.folder.now c.args.name.now old mid new places renews))
+    c.in_err-renew_list-2.ensures.done
+    (λ old mid at first h.
+    second_fails c.args.target.now c.args.folder.now c.args.name.now old mid at first h)
+    c.from_residual-in_err-renew_list-2.result c.from_residual-in_err-renew_list-2.ensures.1
 
-pub returns : goal.returns
-returns g c =
+pub returns-clause-done : goal.returns-clause-done
+returns-clause-done g c =
     let k = g.K.Keep in
     let m = g.met.K.Keep in
-    record {
-      done = finish m.laws Done
-          (then m.laws
-          (then m.laws (done (of_write c.in_ok-set_place.ensures.written))
-          (done c.in_ok-renew_list.ensures.done)
-          (λ old mid new places renews.
-          first_done c.args.target.now c.args.folder.now c.args.name.now old mid new places renews))
-          (done c.in_ok-renew_list-2.ensures.done)
-          (λ old mid new first renews.
-          second_done c.args.target.now c.args.folder.now c.args.name.now old mid new first renews))
-          (λ old new are placed. placed);
-    }
+    finish m.laws Done
+    (then m.laws
+    (then m.laws (done (of_write c.in_ok-set_place.ensures.written))
+    (done c.in_ok-renew_list.ensures.done)
+    (λ old mid new places renews.
+    first_done c.args.target.now c.args.folder.now c.args.name.now old mid new places renews))
+    (done c.in_ok-renew_list-2.ensures.done)
+    (λ old mid new first renews.
+    second_done c.args.target.now c.args.folder.now c.args.name.now old mid new first renews))
+    (λ old new are placed. placed)

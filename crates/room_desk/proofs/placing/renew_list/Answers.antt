@@ -6,19 +6,17 @@ use Rattle.room_judge.proofs.Calls.{none_done, tail, finish}
 use Rattle.room_desk.proofs.Placed.PlacingCalls.{renewing_before, taken_renews, unlinked_renews}
 use Rattle.room_desk.proofs.placing.renew_list.Goals as goal
 
-pub returns-then-not-takes_from : goal.returns-then-not-takes_from
-returns-then-not-takes_from g c =
+pub returns-then-not-takes_from-clause-done : goal.returns-then-not-takes_from-clause-done
+returns-then-not-takes_from-clause-done g c =
     let k = g.K.Keep in
     let m = g.met.K.Keep in
-    record {
-      done = finish m.laws tt (none_done m.laws c.args.keep.now)
-          (λ old new are same.
-          unlinked_renews c.args.which c.args.target.now c.args.folder.now old new
-          (sym c.takes_from.ensures ∙ c.if-not-takes_from.true) same);
-    }
+    finish m.laws tt (none_done m.laws c.args.walk.now.keep.now)
+    (λ old new are same.
+    unlinked_renews c.args.which c.args.target.now c.args.folder.now old new
+    (sym c.takes_from.ensures ∙ c.if-not-takes_from.true) same)
 
-pub returns : goal.returns
-returns g c =
+pub returns-clause-done : goal.returns-clause-done
+returns-clause-done g c =
     let k = g.K.Keep in
     let m = g.met.K.Keep in
     let passed : c.in_ok-passed.passed
@@ -26,10 +24,8 @@ returns g c =
     c.in_ok-passed.ensures
     ∙ ap (pass c.args.target.now.kind)
     (c.full.ensures ∙ ap (λ (h : Held). full_of h) c.held.ensures) in
-    record {
-      done = tail m.laws (none_done m.laws c.args.keep.now) c.take_passed.ensures.done
-          (λ old mid at same h. renewing_before c.args.target.now old mid at same h)
-          (λ old mid x new same takes.
-          taken_renews c.args.which c.args.target.now c.args.folder.now c.in_ok-passed.passed old
-          mid new same (sym c.takes_from.ensures ∙ c.if-not-takes_from.false) passed takes);
-    }
+    tail m.laws (none_done m.laws c.args.walk.now.keep.now) c.take_passed.ensures.done
+    (λ old mid at same h. renewing_before c.args.target.now old mid at same h)
+    (λ old mid x new same takes.
+    taken_renews c.args.which c.args.target.now c.args.folder.now c.in_ok-passed.passed old
+    mid new same (sym c.takes_from.ensures ∙ c.if-not-takes_from.false) passed takes)

@@ -1,46 +1,43 @@
 use Rattle.std.proofs.Common.{[], ◌∷◌, refl}
-use Rattle.room_judge.proofs.Calls.{none_done, tail_known, finish, fails, done, of_read}
+use Rattle.room_entry.specs.Rights.{read_data}
+use Rattle.room_machine.specs.declared.request.Request.TheVariants.{List as ListFolder}
+use Rattle.room_judge.specs.declared.arrival.Arrival.TheVariants.{At, Ended}
+use Rattle.room_judge.proofs.Calls.{done, finish, of_read, then_known}
+use Rattle.room_judge.proofs.Halts.{faults, halts_first}
 use Rattle.room_desk.proofs.Sound.Blamed.{rootless_damaged}
 use Rattle.room_desk.proofs.Steps.Serving.{FolderAt, names_answered, not_served, reached_as, reached_damaged}
-use Rattle.room_judge.specs.declared.arrival.Arrival.TheVariants.{At, Ended}
-use Rattle.room_machine.specs.declared.request.Request.TheVariants.{List as ListFolder}
-use Rattle.room_entry.specs.Rights.{read_data}
 use Rattle.room_desk.proofs.reading.list.Goals as goal
 
-pub returns-in_err-arrival : goal.returns-in_err-arrival
-returns-in_err-arrival g c =
-    let k = g.K.Keep in
-    let m = g.met.K.Keep in
-    record {
-      done = fails m.laws (none_done m.laws c.args.keep.now) c.in_err-arrival.ensures.done
-          (λ old mid at same h. rootless_damaged old mid at same h) c.from_residual.result
-          c.from_residual.ensures.1;
-    }
+pub returns-in_err-node-clause-done : goal.returns-in_err-node-clause-done
+returns-in_err-node-clause-done g c =
+    let asker = c.args.walk.now.asker.now in
+    let path = c.args.path.now in
+    halts_first g.met.K.Keep.laws _ c.in_err-node.ensures.done
+    (λ old at h. rootless_damaged old old at refl h)
+    (λ old new reply are reached.
+    not_served asker path (ListFolder path) (FolderAt (read_data ∷ [])) (λ content. refl)
+    (λ site. refl) old new reply are
+    (reached_as asker path FolderAt c.read_data.result (read_data ∷ []) _ (Ended reply) old new
+    c.read_data.ensures refl reached))
+    c.from_residual.result c.from_residual.ensures.1
 
-pub returns-in-Ended : goal.returns-in-Ended
-returns-in-Ended g c =
-    let k = g.K.Keep in
-    let m = g.met.K.Keep in
-    record {
-      done = finish m.laws _ (done c.in_ok-arrival.ensures.done) (λ old new are reached.
-          not_served c.args.asker.now c.args.path.now (ListFolder c.args.path.now)
-          (FolderAt (read_data ∷ [])) (λ content. refl) (λ site. refl) old new c.in-Ended.reply are
-          (reached_as c.args.asker.now c.args.path.now FolderAt c.read_data.result
-          (read_data ∷ []) _ (Ended c.in-Ended.reply) old new c.read_data.ensures c.in-Ended.is
-          reached));
-    }
+pub returns-in_err-list_at-clause-done : goal.returns-in_err-list_at-clause-done
+returns-in_err-list_at-clause-done g c =
+    faults g.met.K.Keep.laws (done c.in_ok-node.ensures.done)
+    (of_read c.in_err-list_at.ensures.read)
+    (λ old mid at are reached h.
+    reached_damaged c.args.walk.now.asker.now c.args.path.now _ (At c.in_ok-node.node) old mid at
+    reached h)
+    c.from_residual-in_err-list_at.result c.from_residual-in_err-list_at.ensures.1
 
-pub returns-in-At : goal.returns-in-At
-returns-in-At g c =
-    let k = g.K.Keep in
+pub returns-clause-done : goal.returns-clause-done
+returns-clause-done g c =
     let m = g.met.K.Keep in
-    record {
-      done = tail_known m.laws (done c.in_ok-arrival.ensures.done) (of_read c.list_at.ensures.read)
-          (λ old mid at are reached h.
-          reached_damaged c.args.asker.now c.args.path.now _ _ old mid at reached h)
-          (λ old mid reply new are reached told.
-          names_answered c.args.asker.now c.args.path.now old mid new c.in-At.node reply are
-          (reached_as c.args.asker.now c.args.path.now FolderAt c.read_data.result
-          (read_data ∷ []) _ (At c.in-At.node) old mid c.read_data.ensures c.in-At.is reached)
-          told.0 told.1);
-    }
+    let asker = c.args.walk.now.asker.now in
+    let path = c.args.path.now in
+    finish m.laws _ (then_known m.laws (done c.in_ok-node.ensures.done)
+    (done (of_read c.in_ok-list_at.ensures.read))
+    (λ old mid new are reached told.
+    names_answered asker path old mid new c.in_ok-node.node _ are
+    (reached_as asker path FolderAt c.read_data.result (read_data ∷ []) _ (At c.in_ok-node.node)
+    old mid c.read_data.ensures refl reached) told.0 told.1)) (λ old new are h. h)

@@ -1,24 +1,65 @@
-use Rattle.std.proofs.Common.{ℕ, List, [], ◌≡◌, subst, sym, ap, ◌∙◌, take}
-use Rattle.room_judge.proofs.Calls.{none_done, finish}
-use Rattle.room_desk.proofs.Gone.GoneSteps.{no_names, root_kept}
-use Rattle.room_judge.specs.Judged.{CarriesOut}
-use Rattle.room_machine.specs.declared.reply.Reply.TheVariants.{Refused}
+use Rattle.std.proofs.Common.{◌≡◌, ◌∙◌, ℕ, Bool, false, List, [], ◌∷◌, refl, sym, ap, subst, length, take}
+use Rattle.std.specs.Prelude.{◌==◌}
+use Rattle.std.proofs.lemmas.Bool.{false≢true}
+use Rattle.room_rows.specs.Content.{is_empty}
+use Rattle.room_rows.specs.Keep.{Removes}
+use Rattle.room_machine.specs.Plan.{Deletion}
+use Rattle.room_machine.specs.declared.reply.Reply.TheVariants.{Done, Refused}
 use Rattle.room_machine.specs.declared.reply.Reason.TheVariants.{Root}
 use Rattle.room_machine.specs.declared.request.Request.TheVariants.{Remove}
+use Rattle.room_judge.specs.declared.asker.Asker.{Asker}
+use Rattle.room_judge.specs.Judged.{CarriesOut}
+use Rattle.room_judge.specs.Stored.{found_site}
+use Rattle.room_judge.proofs.Calls.{done, none_done, tail_known}
+use Rattle.room_desk.specs.Made.{IsJudgedAndDone}
+use Rattle.room_desk.specs.Removed.{has_children}
+use Rattle.room_desk.proofs.Sound.Blamed.{noted_unread, rootless_damaged}
+use Rattle.room_desk.proofs.Gone.GoneSteps.{no_names, remove_done, remove_halted, root_kept}
+use Rattle.room_judge.specs.Halted.{replied}
+use Rattle.room_judge.proofs.Halts.{halts_first, refused_as}
 use Rattle.room_desk.proofs.removing.remove.Goals as goal
 
-pub returns-then-is_root : goal.returns-then-is_root
-returns-then-is_root g c =
-    let k = g.K.Keep in
+some_names : (path names : List (List ℕ)) (t : Bool) → names ≡ path → t ≡ (length names == 0)
+    → t ≡ false → is_empty path ≡ false
+some_names [] names t same is holds =
+    absurd (false≢true (sym holds ∙ is ∙ ap (λ (l : List (List ℕ)). length l == 0) same))
+some_names (name ∷ more) names t same is holds = refl
+
+pub returns-then-is_root-clause-done : goal.returns-then-is_root-clause-done
+returns-then-is_root-clause-done g c =
     let m = g.met.K.Keep in
-    let at_root : c.args.path.now ≡ [] =
-    no_names c.args.path.now c.names.result.now c.is_empty-is_root.result c.names.ensures
+    let path = c.args.path.now in
+    let at_root : path ≡ [] =
+    no_names path c.names.result.now c.is_empty-is_root.result c.names.ensures
     c.is_empty-is_root.ensures c.if-is_root.true in
-    record {
-      done = finish m.laws _ (none_done m.laws c.args.keep.now) (λ old new are same.
-          subst (λ (p : List (List ℕ)). CarriesOut c.args.asker.now
-          (Remove p) old c.in_ok-refused.field-0 new) (sym at_root)
-          (root_kept c.args.asker.now old new c.in_ok-refused.field-0 are
-          (c.in_ok-refused.ensures ∙ ap (λ (p : List (List ℕ)). Refused (take 0 p) Root) at_root)
-          same));
-    }
+    refused_as m.laws (none_done m.laws c.args.walk.now.keep.now) c.refusal.result
+    (Refused (take 0 path) Root) c.refusal.ensures (λ old new are same.
+    subst (λ (p : List (List ℕ)). CarriesOut c.args.walk.now.asker.now (Remove p) old
+    (Refused (take 0 path) Root) new) (sym at_root)
+    (root_kept c.args.walk.now.asker.now old new (Refused (take 0 path) Root) are
+    (ap (λ (p : List (List ℕ)). Refused (take 0 p) Root) at_root) same))
+
+pub returns-in_err-pair-clause-done : goal.returns-in_err-pair-clause-done
+returns-in_err-pair-clause-done g c =
+    halts_first g.met.K.Keep.laws _ c.in_err-pair.ensures.done
+    (λ old at h. rootless_damaged old old at refl h)
+    (λ old new reply are paired.
+    remove_halted c.args.walk.now.asker.now c.args.path.now old new reply are paired)
+    c.from_residual.result c.from_residual.ensures.1
+
+pub returns-clause-done : goal.returns-clause-done
+returns-clause-done g c =
+    let m = g.met.K.Keep in
+    let path = c.args.path.now in
+    let target = c.in_ok-pair.pair.target in
+    let folder = c.in_ok-pair.pair.folder in
+    tail_known m.laws (done c.in_ok-pair.ensures.done) c.remove_from.ensures.done
+    (λ old mid at are paired h. noted_unread old mid _ at paired.judged.notes h)
+    (λ old mid outcome new are paired acts.
+    remove_done c.args.walk.now.asker.now path old mid folder target are
+    (some_names path c.names.result.now c.is_empty-is_root.result c.names.ensures
+    c.is_empty-is_root.ensures c.if-is_root.false) paired new (replied outcome)
+    (subst (λ (a : Asker). mid.unreadable ≡ [] → IsJudgedAndDone a
+    (Deletion (found_site path target) (found_site path folder)
+    ∷ has_children path mid target.node.id ∷ []) Done (Removes target.node.id) mid
+    (replied outcome) new) c.in_ok-pair.ensures.same_asker acts))

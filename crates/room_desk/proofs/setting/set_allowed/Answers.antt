@@ -1,36 +1,37 @@
-use Rattle.room_judge.proofs.Calls.{none_done, tail, finish, fails, done}
+use Rattle.std.proofs.Common.{None, Some, refl}
+use Rattle.std.specs.Option.{option_copied}
+use Rattle.room_judge.proofs.Calls.{done, finish, then}
+use Rattle.room_judge.proofs.Halts.{faults, halts_first}
 use Rattle.room_desk.proofs.Lists.SetRequest.{allowed_blames, allowed_done, not_allowed}
 use Rattle.room_desk.proofs.setting.set_allowed.Goals as goal
 
-pub returns-in_err-refusal : goal.returns-in_err-refusal
-returns-in_err-refusal g c =
-    let m = g.met.K.Keep in
-    record {
-      done = fails m.laws (none_done m.laws c.args.keep.now) c.in_err-refusal.ensures.done
-          (λ old mid at same never. absurd never) c.from_residual.result c.from_residual.ensures.1;
-    }
+pub returns-in_err-check-clause-done : goal.returns-in_err-check-clause-done
+returns-in_err-check-clause-done g c =
+    let setting = c.args.setting.now in
+    halts_first g.met.K.Keep.laws _ c.in_err-check.ensures.done (λ old at never. absurd never)
+    (λ mid new reply are judged old found.
+    not_allowed c.args.walk.now.asker.now c.args.path.now setting.which setting.sent.now
+    setting.target.now (option_copied setting.above) old mid found new c.write_acl.result
+    (Some reply) reply c.write_acl.ensures refl judged)
+    c.from_residual.result c.from_residual.ensures.1
 
-pub returns-in-Some : goal.returns-in-Some
-returns-in-Some g c =
-    let m = g.met.K.Keep in
-    record {
-      done = finish m.laws _ (done c.in_ok-refusal.ensures.done) (λ mid new are judged old found.
-          not_allowed c.args.asker.now c.args.path.now c.args.which c.args.sent.now
-          c.args.target.now _ old mid found new c.write_acl.result c.in_ok-refusal.refusal
-          c.in-Some.reply c.write_acl.ensures c.in-Some.is judged);
-    }
+pub returns-in_err-set_found-clause-done : goal.returns-in_err-set_found-clause-done
+returns-in_err-set_found-clause-done g c =
+    let setting = c.args.setting.now in
+    faults g.met.K.Keep.laws (done c.in_ok-check.ensures.done) c.in_err-set_found.ensures.done
+    (λ mid end at are judged fails old found.
+    allowed_blames c.args.walk.now.asker.now c.args.path.now setting.which setting.sent.now
+    setting.target.now (option_copied setting.above) old mid found end c.write_acl.result None
+    c.write_acl.ensures refl judged at fails)
+    c.from_residual-in_err-set_found.result c.from_residual-in_err-set_found.ensures.1
 
-pub returns-in-None : goal.returns-in-None
-returns-in-None g c =
+pub returns-clause-done : goal.returns-clause-done
+returns-clause-done g c =
     let m = g.met.K.Keep in
-    record {
-      done = tail m.laws (done c.in_ok-refusal.ensures.done) c.set_found.ensures.done
-          (λ mid end at judged fails old found.
-          allowed_blames c.args.asker.now c.args.path.now c.args.which c.args.sent.now
-          c.args.target.now _ old mid found end c.write_acl.result c.in_ok-refusal.refusal
-          c.write_acl.ensures c.in-None.is judged at fails)
-          (λ mid end reply new judged said old found.
-          allowed_done c.args.asker.now c.args.path.now c.args.which c.args.sent.now
-          c.args.target.now _ old mid found end c.write_acl.result c.in_ok-refusal.refusal
-          c.write_acl.ensures c.in-None.is judged new reply said);
-    }
+    let setting = c.args.setting.now in
+    finish m.laws _ (then m.laws (done c.in_ok-check.ensures.done)
+    (done c.in_ok-set_found.ensures.done)
+    (λ mid end new judged said old found.
+    allowed_done c.args.walk.now.asker.now c.args.path.now setting.which setting.sent.now
+    setting.target.now (option_copied setting.above) old mid found end c.write_acl.result None
+    c.write_acl.ensures refl judged new _ said)) (λ old new are h. h)

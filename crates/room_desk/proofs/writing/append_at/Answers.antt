@@ -1,46 +1,43 @@
-use Rattle.std.proofs.Common.{refl, sym, ap, subst, ◌∙◌, inl, inr}
-use Rattle.room_judge.proofs.Calls.{none_done, damaged, tail_known, fails, done, of_read}
-use Rattle.room_rows.specs.Content.{body_of}
-use Rattle.room_rows.specs.Rows.{Rows, AreRows}
-use Rattle.room_rows.specs.Keep.{IsUnreadable}
-use Rattle.room_desk.proofs.Bytes.Appending.{put_as}
+use Rattle.std.proofs.Common.{ℕ, List, ap, subst, ◌∙◌}
+use Rattle.room_rows.specs.Rows.{Rows}
+use Rattle.room_desk.specs.Written.{HasNoBytes, IsAppended, sized_reply}
+use Rattle.room_judge.proofs.Calls.{done, none_done, of_read}
+use Rattle.room_judge.proofs.Halts.{faults, memory_out}
+use Rattle.room_desk.proofs.Bytes.Appending.{answers, if_ok, no_bytes_more, put_kept}
 use Rattle.room_desk.proofs.writing.append_at.Goals as goal
 
-pub returns-in_err-body : goal.returns-in_err-body
-returns-in_err-body g c =
-    let k = g.K.Keep in
+pub returns-in_err-before-clause-done : goal.returns-in_err-before-clause-done
+returns-in_err-before-clause-done g c =
     let m = g.met.K.Keep in
-    record {
-      done = fails m.laws (none_done m.laws c.args.keep.now)
-          (of_read c.in_err-body.ensures.read)
-          (λ old mid at same never. absurd never) c.from_residual.result c.from_residual.ensures.1;
-    }
+    faults m.laws (none_done m.laws c.args.walk.now.keep.now) (of_read c.in_err-before.ensures.read)
+    (λ old mid at are same h. subst (λ (r : Rows). HasNoBytes c.args.id r at) same h)
+    c.from_residual.result c.from_residual.ensures.1
 
-pub returns-in-None : goal.returns-in-None
-returns-in-None g c =
-    let k = g.K.Keep in
-    let m = g.met.K.Keep in
+pub returns-then-are_none-clause-done : goal.returns-then-are_none-clause-done
+returns-then-are_none-clause-done g c =
+    let path = c.args.path.now in
+    let bytes = c.args.bytes.now in
+    let before : List ℕ = c.in_ok-before.before in
+    let none =
+    no_bytes_more bytes c.as_slice.result.now c.is_empty-are_none.result c.as_slice.ensures
+    c.is_empty-are_none.ensures c.if-are_none.true in
+    answers g.met.K.Keep.laws (IsAppended path c.args.id bytes)
+    (done (of_read c.in_ok-before.ensures.read)) c.sized_reply.result
+    (sized_reply path c.len.result) c.sized_reply.ensures
+    (λ old new are both.
     record {
-      done = damaged m.laws (done (of_read c.in_ok-body.ensures.read))
-          (λ old new are both. inr (refl, sym both.0 ∙ c.in-None.is));
-    }
+      before = before;
+      were = both.0;
+      put =
+          put_kept path c.args.id before bytes old new _ are both.0 none
+          (ap (sized_reply path) c.len.ensures) both.1;
+    })
 
-pub returns-in-Some : goal.returns-in-Some
-returns-in-Some g c =
-    let k = g.K.Keep in
-    let m = g.met.K.Keep in
-    record {
-      done =
-          tail_known m.laws (done (of_read c.in_ok-body.ensures.read)) c.extend.ensures.done
-          (λ old mid at are both h. inl (subst (λ (r : Rows). IsUnreadable r at) both.1 h))
-          (λ old mid reply new are both extends.
-          let were = sym both.0 ∙ c.in-Some.is in
-          record {
-            before = c.in-Some.before;
-            were = were;
-            put =
-                put_as c.args.path.now c.args.id old mid new reply both.1
-                (extends (subst AreRows (sym both.1) are)
-                (ap (λ (r : Rows). body_of r.read c.args.id) both.1 ∙ were));
-          });
-    }
+pub returns-then-are_none-clause-quiet : goal.returns-then-are_none-clause-quiet
+returns-then-are_none-clause-quiet g c =
+    λ none. if_ok c.sized_reply.result c.in_ok-before.ensures.read.unwritten
+
+pub returns-in_err-joined-clause-done : goal.returns-in_err-joined-clause-done
+returns-in_err-joined-clause-done g c =
+    memory_out g.met.K.Keep.laws (done (of_read c.in_ok-before.ensures.read))
+    c.from_residual-in_err-joined.result c.from_residual-in_err-joined.ensures.1

@@ -9,11 +9,11 @@ use Rattle.room_judge.proofs.checking.note_check.Goals as goal
 pub places-init : goal.places-init
 places-init g c =
     let m = g.met.K.Keep in
+    let checked = c.args.checked.now in
     then m.laws (none_done m.laws c.args.keep.now) (none_done m.laws c.args.keep.now)
     (λ old mid new same again.
-    notes_none c.args.asker.now c.args.checked.now.granted
-    (found_site c.args.checked.now.path.now c.args.checked.now.found.now) c.args.checked.now.bits c.as_slice-place-items.result.now old
-    new (again ∙ same))
+    notes_none c.args.asker.now checked.granted (found_site checked.path.now checked.found.now)
+    checked.bits c.as_slice-place-items.result.now old new (again ∙ same))
 
 pub returns-in_err-row : goal.returns-in_err-row
 returns-in_err-row g c =
@@ -36,29 +36,32 @@ returns-in_err-note g c =
 pub places-preserved : goal.places-preserved
 places-preserved g c =
     let m = g.met.K.Keep in
+    let asker = c.args.asker.now in
+    let checked = c.args.checked.now in
     let are = c.as_slice-place-items.ensures.value ∙ c.in_ok-places.ensures
     ∙ ap
-    (λ (es : List Ace). events_of es c.args.asker.now.caller c.args.checked.now.found.now.node.owners
-    c.args.checked.now.bits c.args.checked.now.granted) c.full.ensures in
+    (λ (es : List Ace). events_of es asker.caller checked.found.now.node.owners checked.bits
+    checked.granted) c.full.ensures in
     then m.laws c.places.invariant (done (of_write c.in_ok-note.ensures.written))
     (λ old now next sofar more.
-    notes_one c.args.asker.now c.args.checked.now.granted
-    (found_site c.args.checked.now.path.now c.args.checked.now.found.now) c.args.checked.now.bits c.as_slice-place-items.result.now
-    c.places.place-index c.in_ok-row.row old now next c.places-test.true
-    c.in_ok-row.ensures are sofar more)
+    notes_one asker checked.granted (found_site checked.path.now checked.found.now) checked.bits
+    c.as_slice-place-items.result.now c.places.place-index c.in_ok-row.row old now next
+    c.places-test.true c.in_ok-row.ensures are sofar more)
 
 pub returns : goal.returns
 returns g c =
     let m = g.met.K.Keep in
+    let asker = c.args.asker.now in
+    let checked = c.args.checked.now in
     let full : c.places.place-index ≡ length c.as_slice-place-items.result.now = omega
     (arith, c.places-test.false, c.places.auto.place-index-end) in
     let are = c.as_slice-place-items.ensures.value ∙ c.in_ok-places.ensures
     ∙ ap
-    (λ (es : List Ace). events_of es c.args.asker.now.caller c.args.checked.now.found.now.node.owners
-    c.args.checked.now.bits c.args.checked.now.granted) c.full.ensures in
+    (λ (es : List Ace). events_of es asker.caller checked.found.now.node.owners checked.bits
+    checked.granted) c.full.ensures in
     record {
       done = finish m.laws tt c.places.invariant (λ old new known sofar.
-          notes_all c.args.asker.now c.args.checked.now.granted
-          (found_site c.args.checked.now.path.now c.args.checked.now.found.now) c.args.checked.now.bits
-          c.as_slice-place-items.result.now c.places.place-index old new full are sofar);
+          notes_all asker checked.granted (found_site checked.path.now checked.found.now)
+          checked.bits c.as_slice-place-items.result.now c.places.place-index old new full are
+          sofar);
     }
