@@ -175,6 +175,61 @@ if [ "$loopback" = yes ]; then
     done
     holds "a request, $how: the calls came to an end" [ "$number" -lt 40 ]
   done
+
+  # A sync that fails shuts the connection to the file. The server ends after the request that met
+  # it, and whoever starts it again finds all that it answered.
+  syncs=fdatasync,fsync
+  serve_four() { # NUMBER HOW: how many of four documents were answered, and the server's status
+    local number=$1 how=$2 tries document
+    for tries in {1..50}; do
+      port=$((port + 1))
+      answered=()
+      : >"$work/server.out"
+      { strace -f -qq -o /dev/null -e "trace=$syncs" -e "inject=$syncs:$how:when=$number" \
+        "$rooms" serve F --port "$port" --count 4 </dev/null >"$work/server.out" 2>"$work/server.err"; } 2>/dev/null &
+      server=$!
+      if await_line; then
+        for document in a b c d; do
+          last_message PUT "/doc/$document" root hello >"$work/sent"
+          exchange 2>/dev/null
+          cmp -s "$work/reply" replied || break
+          answered+=("$document")
+        done
+      fi
+      wait_for "$server" || fail 'a traced server' "it doesn't end"
+      wait "$server" 2>/dev/null
+      ended=$?
+      server=
+      grep -q '^fault: net$' "$work/server.err" || return
+    done
+  }
+  printf 'fault: database\n' >shut
+  for how in error=EIO error=ENOSPC; do
+    met=0
+    for number in {1..20}; do
+      restore S
+      serve_four "$number" "$how"
+      [ "$ended" != 0 ] || break
+      name="sync $number, $how"
+      holds "$name: the status is 3" [ "$ended" = 3 ]
+      same "$name: standard error" "$work/server.err" shut
+      if [ -s "$work/server.out" ]; then
+        met=$((met + 1))
+        same "$name: the last reply" "$work/reply" failed
+      fi
+      gives "$name: sound" 0 'sound\n' '' verify F
+      if start_server F $((${#answered[@]} + 1)); then
+        for document in "${answered[@]}"; do
+          asks "$name: $document is there" "reply '200 OK' application/octet-stream hello" GET "/doc/$document" root
+        done
+        asks "$name: it is served again" "json '200 OK' '{}'" GET '/can/?' root
+        server_ends "$name: it ends" 0 ''
+      fi
+    done
+    # One sync for each of the four commits.
+    holds "$how: each commit met it" [ "$met" = 4 ]
+    holds "$how: and then all is answered" [ "${#answered[@]}" = 4 ]
+  done
 else
   skip 'a request at each call on the disk' 'this machine has no loopback'
 fi

@@ -7,12 +7,13 @@ use Rattle.room_rows.specs.Content.{Content}
 use Rattle.room_machine.specs.declared.desk.Desk.{Ghosts}
 use Rattle.room_machine.specs.Run.{Event, Run}
 use Rattle.room_http.specs.Stream.{Runs}
-use Rattle.room_store.specs.Kept.{IsSound, Keeps}
+use Rattle.room_store.specs.Kept.{IsShut, IsSound, Keeps}
 use Rattle.room_store.specs.Leads.{Leads}
 use Rattle.http_serve.specs.Lines.{TellsFaults}
-use Rattle.http_serve.specs.Visits.{IsEnd, IsServedVisit, Served, Visit, moment_of, requests_of}
+use Rattle.http_serve.specs.Staying.{Outlasts, Rests, Served}
+use Rattle.http_serve.specs.Visits.{IsEnd, IsServedVisit, Visit, moment_of, requests_of}
 use Rattle.http_serve.specs.declared.fault.ServingFault.{ServingFault}
-use Rattle.cli_serve.specs.Hosts.{IsServed, Rests, TellsEnd, TellsPort, end_status}
+use Rattle.cli_serve.specs.Hosts.{IsServed, LeavesShut, TellsEnd, TellsPort, end_status}
 use Rattle.cli_serve.specs.Places.{AsksFor, Place}
 
 pub ends : (end : Result (Unit {0}) ServingFault) (port status : ℕ) (out out' : Option (List ℕ))
@@ -35,6 +36,7 @@ unserved d count told desk = (
     run = λ t s room is. (room, refl, is);
   },
   inr refl,
+  refl,
 )
 
 -- nothing was printed of any connection
@@ -73,11 +75,12 @@ pub served : (port count : ℕ) (told told' : List ℤ → Type 0) (old new : St
     → (HasCleanDisk new → HasCleanDisk old)
     → (HasCleanDisk new → IsSound old → IsSound new)
     → (HasCleanDisk new → IsSound old → Runs (Keeps old) (requests_of visits) (Keeps new))
-    → IsEnd count end (length visits) → status ≡ end_status end → OnOk end (TellsPort port out out')
+    → IsEnd count end (length visits) → LeavesShut end new → status ≡ end_status end
+    → OnOk end (TellsPort port out out')
     → Leads old [] new ⊎ TellsPort port out out' → TellsFaults count err mid end
     → TellsEnd end mid err' → IsServed port count told told' old new out out' err err' status
 served port count told told' old new out out' err mid err' status visits end few each moments
-    trusted sound run says is tells first connections last =
+    trusted sound run says shut is tells first connections last =
     record {
       visits = visits;
       few = few;
@@ -89,8 +92,20 @@ served port count told told' old new out out' err mid err' status visits end few
       end = end;
       end_is = is;
       end_says = says;
+      shut = shut;
       faults = record { mid = mid; connections = connections; last = last };
     }
+
+-- a desk that ended the service is shut
+module _ {D : Type 0} (d : Ghosts D) (visits : ℕ) (old new : D) (s : State)
+    (shut : d.shut new → IsShut s) where
+  pub left_shut : (end : Result (Unit {0}) ServingFault) → Outlasts d visits old new end
+      → LeavesShut end s
+  left_shut (Ok done) is = tt
+  left_shut (Err ServingFault.Memory) is = tt
+  left_shut (Err ServingFault.File) is = tt
+  left_shut (Err ServingFault.Net) is = tt
+  left_shut (Err ServingFault.Desk) is = shut is.2.2.tells
 
 -- events after a step without events
 pub after : (old mid new : State) (events : List Event) → Leads old [] mid → Leads mid events new

@@ -1,17 +1,16 @@
 -- What the subcommand `serve` does on an open database (own).
 use Rattle.std.specs.Prelude.{◌≡◌, ◌≤◌, ◌⊎◌, ℕ, ℤ, All, List, [], ◌∷◌, ◌++◌, codes, length, map}
-use Rattle.std.specs.Prelude.{Option, Result, Ok, Err}
+use Rattle.std.specs.Prelude.{Option, Result, Ok, Err, ⊤}
 use Rattle.std.specs.Io.KnownBytes.{Appends}
 use Rattle.sqlite.specs.Held.{Held}
 use Rattle.sqlite.specs.State.{State}
-use Rattle.room_machine.specs.declared.desk.Desk.{Ghosts}
-use Rattle.room_http.specs.Stream.{Runs}
 use Rattle.cli_outcome.specs.Ending.{fault_line, no_room_text}
 use Rattle.cli_outcome.specs.Written.{PrintsFault, PrintsText, WritesSome}
 use Rattle.cli_outcome.specs.declared.fault.Fault.{Fault}
 use Rattle.cli_outcome.specs.declared.no_room.NoRoom.{NoRoom}
 use Rattle.cli_outcome.specs.declared.status.Status.{Status}
 use Rattle.store_schema.specs.declared.fault.OpenFault.{OpenFault}
+use Rattle.room_store.specs.Kept.{IsShut}
 use Rattle.room_store.specs.Leads.{Leads}
 use Rattle.room_store.specs.Opens.{Opens}
 use Rattle.http_serve.specs.Lines.{TellsFaults, listening_line}
@@ -46,6 +45,12 @@ abbrev pub serving_fault : ServingFault → Fault
 serving_fault ServingFault.Memory = Fault.Memory
 serving_fault ServingFault.File = Fault.File
 serving_fault ServingFault.Net = Fault.Net
+serving_fault ServingFault.Desk = Fault.Database
+
+-- the connection to the database is shut where that ended the service
+abbrev pub LeavesShut : Result (Unit {0}) ServingFault → State → Type 0
+LeavesShut (Err ServingFault.Desk) new = IsShut new
+LeavesShut end new = ⊤
 
 -- the status where connections were served
 abbrev pub end_status : Result (Unit {0}) ServingFault → ℕ
@@ -77,12 +82,6 @@ pub record IsTurnedDown (asked asked' : List Place → Type 0) (old new : State)
   pub told : TurnsDown (why_not_opened why) out out' err err' status
   pub asked_none : AsksFor asked asked' []
 
--- nothing was done at a desk
-pub record Rests {D : Type 0} (d : Ghosts D) (old new : D) : Type 0 where
-  pub trusted : d.trusted new → d.trusted old
-  pub sound : d.trusted new → d.sound old → d.sound new
-  pub run : d.trusted new → d.sound old → Runs (d.content old) [] (d.content new)
-
 -- The requests of at most `count` connections were served, each at the moment that the clock read
 -- for it. All is done, or there was a fault, and what the fault says of the connections holds. The
 -- port was printed before the first of them, and faults as they came.
@@ -98,6 +97,7 @@ pub record IsServed (port count : ℕ) (told told' : List ℤ → Type 0) (old n
   pub end : Result (Unit {0}) ServingFault
   pub end_is : status ≡ end_status end
   pub end_says : IsEnd count end (length visits)
+  pub shut : LeavesShut end new
   pub faults : TellsAll count end err err'
 
 module _ {S : Type 0} (shown : Held S → State) where

@@ -3,8 +3,9 @@ ghost use Rattle.std.specs.Prelude.{◌≡◌, ◌⊎◌, List, [], ◌∷◌, O
 ghost use Rattle.sqlite.specs.Held.{state};
 ghost use Rattle.room_store.specs.Leads.{Leads};
 ghost use Rattle.http_serve.specs.Lines.{TellsFaults};
-ghost use Rattle.http_serve.specs.Visits.{Served, Visit, requests_of};
-ghost use Rattle.cli_serve.specs.Hosts.{Hosts, IsServed, Rests, TellsPort};
+ghost use Rattle.http_serve.specs.Staying.{Rests, Served};
+ghost use Rattle.http_serve.specs.Visits.{Visit, requests_of};
+ghost use Rattle.cli_serve.specs.Hosts.{Hosts, IsServed, TellsPort};
 ghost use Rattle.cli_serve.specs.Places.{AsksFor, local_place};
 
 use crate::ports::Ports;
@@ -20,7 +21,8 @@ use std::net::Ipv4Addr;
 /// Serves `count` connections to the room of the database, on this port of 127.0.0.1, one after the
 /// other. It returns the connection with the status: 0 where all is done, 2 where the database
 /// holds no room of this version, which is printed on `out`, and 3 at a fault, which is printed on
-/// `err`.
+/// `err`. A fault of the disk that shuts the connection ends the service after the client's
+/// connection that met it; any other fault of a request doesn't.
 pub fn host<S: Alter, P: Ports, M: Moments, O: Write, E: Write>(
     alloc: Global,
     conn: Connection<S>,

@@ -57,6 +57,7 @@ fn fault_of(fault: ServingFault) -> Fault
         ServingFault::Memory => Fault::Memory,
         ServingFault::File => Fault::File,
         ServingFault::Net => Fault::Net,
+        ServingFault::Desk => Fault::Database,
     }
 }
 

@@ -1,5 +1,5 @@
 -- Connections one after another, as what a desk did.
-use Rattle.std.proofs.Common.{◌≡◌, ℕ, ℤ, ◌+◌, ◌≤◌, ◌<◌, All, List, [], ◌∷◌, ◌++◌, length, map, Option, Err, subst, sym, ap, refl, inl, inr, ◌∙◌, arith, append_assoc}
+use Rattle.std.proofs.Common.{◌≡◌, ℕ, ℤ, ◌+◌, ◌≤◌, All, List, [], ◌∷◌, ◌++◌, length, map, Option, subst, sym, ap, refl, ◌∙◌, arith, append_assoc}
 use Rattle.std.proofs.lemmas.Grind.{flat_map-append}
 use Rattle.std.proofs.lemmas.List.{append-nil, length-append, map-append}
 use Rattle.std.proofs.lemmas.List.Elements.{All-append, All-nil, All-from_recursion, All-weaker}
@@ -8,18 +8,17 @@ use Rattle.room_machine.specs.declared.desk.Desk.{Ghosts}
 use Rattle.room_machine.specs.Run.{Event, Run}
 use Rattle.room_http.specs.Serve.{Connects, IsNext, Next, next_exchange}
 use Rattle.room_http.specs.Stream.{Exchange, IsExchange, IsOpen, Runs}
-use Rattle.http_serve.specs.Visits.{Attends, IsEnd, IsServedVisit, Receives, ReceivesAll, Served, Visit, moment_of, requests_of, visit_events}
-use Rattle.http_serve.specs.declared.fault.ServingFault.{ServingFault}
+use Rattle.http_serve.specs.Visits.{Attends, IsServedVisit, Receives, ReceivesAll, Visit, moment_of, requests_of, visit_events}
 
 -- two runs that meet are one run
-run_then : (old mid new : Content) (events others : List Event)
+pub run_then : (old mid new : Content) (events others : List Event)
     → Run old events mid → Run mid others new → Run old (events ++ others) new
 run_then old mid new [] others first then =
     subst (λ (start : Content). Run start others new) first then
 run_then old mid new (event ∷ events) others first then =
     (first.0, first.1, run_then first.0 mid new events others first.2 then)
 
-runs_then : (old mid new : Content → Type 0) (events others : List Event)
+pub runs_then : (old mid new : Content → Type 0) (events others : List Event)
     → Runs old events mid → Runs mid others new → Runs old (events ++ others) new
 runs_then old mid new events others first then room is =
     let a = first room is in
@@ -43,21 +42,9 @@ next_few (Next.Failing m) = omega arith
 exchange_is : (x : Exchange) → IsOpen x → IsExchange x
 exchange_is x given = given.is
 
--- a fault before any connection came
-none_came : (count : ℕ) (fault : ServingFault) → IsEnd count (Err fault) 0
-none_came count ServingFault.Memory = refl
-none_came count ServingFault.File = inr refl
-none_came count ServingFault.Net = inr refl
-
--- the listener failed before the last connection came
-ends_missing : (count visits : ℕ) (fault : ServingFault) → fault ≡ ServingFault.Net → visits < count
-    → IsEnd count (Err fault) visits
-ends_missing count visits fault is lt =
-    subst (λ (f : ServingFault). IsEnd count (Err f) visits) (sym is) (inl lt)
-
 module _ {D : Type 0} (d : Ghosts D) where
   -- no connection came
-  pub nobody : (count : ℕ) (told : List ℤ → Type 0) (desk : D)
+  unfoldable pub nobody : (count : ℕ) (told : List ℤ → Type 0) (desk : D)
       → Receives d count told told desk desk
   nobody count told desk = record {
     trusted = λ t. t;
@@ -70,7 +57,7 @@ module _ {D : Type 0} (d : Ghosts D) where
   }
 
   -- more connections might have come
-  pub fewer : (less count : ℕ) (told told' : List ℤ → Type 0) (old new : D) → less ≤ count
+  unfoldable pub fewer : (less count : ℕ) (told told' : List ℤ → Type 0) (old new : D) → less ≤ count
       → Receives d less told told' old new → Receives d count told told' old new
   fewer less count told told' old new h given = record {
     trusted = given.trusted;
@@ -83,7 +70,7 @@ module _ {D : Type 0} (d : Ghosts D) where
   }
 
   -- some connections came, and then others
-  pub others : (some more : ℕ) (told told' told'' : List ℤ → Type 0) (old mid new : D)
+  unfoldable pub others : (some more : ℕ) (told told' told'' : List ℤ → Type 0) (old mid new : D)
       → Receives d some told told' old mid → Receives d more told' told'' mid new
       → Receives d (some + more) told told'' old new
   others some more told told' told'' old mid new first then = record {
@@ -114,12 +101,6 @@ module _ {D : Type 0} (d : Ghosts D) where
   all_came number count told told' old new is given =
       subst (λ (n : ℕ). ReceivesAll d n told told' old new) is given
 
-  -- no connection came, and this was the end
-  pub unserved : (count : ℕ) (told : List ℤ → Type 0) (desk : D) (fault : ServingFault)
-      → Served d count told told desk desk (Err fault)
-  unfolding nobody
-  unserved count told desk fault = (nobody count told desk, none_came count fault)
-
   -- the same as exactly none
   pub none : (told : List ℤ → Type 0) (desk : D) → ReceivesAll d 0 told told desk desk
   unfolding nobody
@@ -134,20 +115,6 @@ module _ {D : Type 0} (d : Ghosts D) where
     others some more told told' told'' old mid new first.0 then.0,
     omega (arith, length-append first.0.visits then.0.visits, first.1, then.1),
   )
-
-  -- the listener failed before all connections came
-  pub missing : (number count : ℕ) (told told' told'' : List ℤ → Type 0) (old mid new : D)
-      (fault : ServingFault) → number < count
-      → Receives d number told told' old mid → (fault ≡ ServingFault.Net)
-      × Receives d 0 told' told'' mid new
-      → Served d count told told'' old new (Err fault)
-  unfolding fewer
-  missing number count told told' told'' old mid new fault more first end =
-      let all = others number 0 told told' told'' old mid new first end.1 in
-      let few = all.few in (
-        fewer (number + 0) count told told'' old new (omega (arith, more)) all,
-        ends_missing count (length all.visits) fault end.0 (omega (arith, few, more)),
-      )
 
   -- one connection was served
   pub attends : {z : ℤ} {left sent left_then sent_then : Option (List ℕ)} (at : ℤ) (old new : D)

@@ -5,6 +5,7 @@ use Rattle.std.specs.Fmt.{WritesInCalls}
 use Rattle.std.specs.Io.KnownBytes.{Appends}
 use Rattle.cli_outcome.specs.Written.{WritesSome}
 use Rattle.http_serve.specs.Lines.{MayTell, TellsEach, TellsFaults, Writing}
+use Rattle.http_serve.specs.Staying.{Lasts}
 use Rattle.http_serve.specs.Visits.{ReceivesAll}
 use Rattle.http_serve.specs.declared.fault.ServingFault.{ServingFault}
 use Rattle.room_machine.specs.declared.desk.Desk.{Ghosts}
@@ -35,10 +36,11 @@ pub told_some : (n count : ℕ) (old new : Option (List ℕ)) (fault : ServingFa
     → TellsEach WritesSome n old new → TellsFaults count old new (Err fault)
 told_some n count old new fault few told = (n, few, told)
 
--- What holds once some connections came: what the desk did, and what was written of them, in whole
--- where that is known.
+-- What holds once some connections came: what the desk did, that none left it shut, and what was
+-- written of them, in whole where that is known.
 pub record IsServing {D : Type 0} (d : Ghosts D) (number : ℕ) (clock clock' : List ℤ → Type 0)
     (desk desk' : D) (told : Bool) (err err' : Option (List ℕ)) : Type 0 where
   pub received : ReceivesAll d number clock clock' desk desk'
+  pub stays : Lasts d number desk desk'
   pub whole : IsTrue told → TellsEach Appends number err err'
   pub some : TellsEach WritesSome number err err'

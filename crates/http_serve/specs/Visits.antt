@@ -63,15 +63,11 @@ ReceivesAll d count told told' old new =
 
 -- What an end says of the number of visits. Where all is done, there were as many as connections
 -- were to be served. Out of memory there was none, and where the listener failed at least one is
--- missing. Where a line couldn't be printed, it was that of the port, or all were served.
+-- missing. Where a line couldn't be printed, it was that of the port, or all were served. Where the
+-- desk is shut, a connection left it so.
 abbrev pub IsEnd : ℕ → Result (Unit {0}) ServingFault → ℕ → Type 0
 IsEnd count (Ok done) visits = visits ≡ count
 IsEnd count (Err ServingFault.Memory) visits = visits ≡ 0
 IsEnd count (Err ServingFault.File) visits = (visits ≡ count) ⊎ (visits ≡ 0)
 IsEnd count (Err ServingFault.Net) visits = (visits < count) ⊎ (visits ≡ 0)
-
--- at most `count` connections were received, and what the end says of them holds
-abbrev pub Served : {D : Type 0} → Ghosts D → ℕ → (List ℤ → Type 0) → (List ℤ → Type 0) → D → D
-    → Result (Unit {0}) ServingFault → Type 0
-Served d count told told' old new end =
-    (r : Receives d count told told' old new) × IsEnd count end (length r.visits)
+IsEnd count (Err ServingFault.Desk) visits = 0 < visits

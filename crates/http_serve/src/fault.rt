@@ -10,4 +10,6 @@ pub enum ServingFault {
     File,
     /// The listener can't accept any more connections.
     Net,
+    /// The connection that was served last left the desk shut: it answers no request any more.
+    Desk,
 }

@@ -1,9 +1,10 @@
 //! Connections one after another.
-ghost use Rattle.std.specs.Prelude.{◌≡◌, ◌⊎◌, ◌+◌, IfErr, IsTrue, OnOk};
+ghost use Rattle.std.specs.Prelude.{◌≡◌, ◌⊎◌, ◌+◌, ℤ, IfErr, IfOk, IsTrue, OnOk};
 ghost use Rattle.std.specs.Io.KnownBytes.{Appends};
 ghost use Rattle.cli_outcome.specs.Written.{WritesSome};
 ghost use Rattle.http_serve.specs.Lines.{MayTell, TellsFaults, listening_line};
-ghost use Rattle.http_serve.specs.Visits.{Attends, Receives, ReceivesAll, Served};
+ghost use Rattle.http_serve.specs.Staying.{Passes, Rests, Served, TellsShut};
+ghost use Rattle.http_serve.specs.Visits.{Attends, Receives, ReceivesAll};
 
 use crate::accepting::accepted;
 use crate::fault::ServingFault;
@@ -22,8 +23,12 @@ use std::net::{TcpListener, TcpStream};
 /// printed on `err`, and the next one is served. A connection that is lost before it is accepted
 /// counts as one whose reading failed.
 ///
+/// After each connection the desk is asked whether it is shut. While it isn't, or couldn't find
+/// out, the next connection is accepted, whatever fault it had.
+///
 /// The error is `Memory` where nothing was served, `Net` where the listener accepts no more
-/// connections, and `File` where a line couldn't be printed.
+/// connections, `Desk` where a connection left the desk shut, and `File` where a line couldn't be
+/// printed.
 pub fn serve_on<D: Desk, M: Moments, O: Write, E: Write>(
     alloc: Global,
     desk: &mut D,
@@ -51,8 +56,8 @@ pub fn serve_on<D: Desk, M: Moments, O: Write, E: Write>(
     }
 }
 
-// Serves `count` connections, and prints the fault of each that has one. If a fault couldn't be
-// printed, this is the error once all are served.
+// Serves `count` connections, and prints the fault of each that has one. One that leaves the desk
+// shut is the last. If a fault couldn't be printed, this is the error once all are served.
 fn serve_each<D: Desk, M: Moments, E: Write>(
     alloc: Global,
     routes: &Routes,
@@ -68,11 +73,14 @@ fn serve_each<D: Desk, M: Moments, E: Write>(
 {
     let mut told = true;
     'connections: for number in 0..count {
-        let lost = match serve_next(alloc, routes, desk, clock, listener) {
-            Ok(lost) => lost,
+        let left = match pass(alloc, routes, desk, clock, listener) {
+            Ok(left) => left,
             Err(fault) => return Err(fault),
         };
-        let whole = is_told(err, number, lost);
+        let whole = is_told(err, number, left.lost);
+        if left.shut {
+            return Err(ServingFault::Desk);
+        }
         told = told && whole;
     }
     if told {
@@ -94,6 +102,48 @@ fn is_told<E: Write>(err: &mut E, before: u32, lost: Option<Cause>) -> bool
     }
 }
 
+// What a connection left: the fault that ended it, if one did, and whether the desk is shut.
+#[derive(Clone, Copy)]
+struct Left {
+    lost: Option<Cause>,
+    shut: bool,
+}
+
+// Accepts and serves one connection, and asks the desk whether it is shut.
+fn pass<D: Desk, M: Moments>(
+    alloc: Global,
+    routes: &Routes,
+    desk: &mut D,
+    clock: &mut M,
+    listener: &TcpListener,
+) -> Result<Left, ServingFault>
+    ensures received { OnOk result (ReceivesAll D.Desk 1 (M.told clock.old) (M.told clock.new)
+        desk.old desk.new) }
+    ensures leaves { IfOk result (λ left. Passes D.Desk desk.old desk.new left.shut) }
+    ensures fault { IfErr result (λ fault. (fault ≡ ServingFault.Net) × (desk.new ≡ desk.old)
+        × Receives D.Desk 0 (M.told clock.old) (M.told clock.new) desk.old desk.new) }
+{
+    match serve_next(alloc, routes, desk, clock, listener) {
+        Ok(lost) => {
+            let shut = says_shut(desk);
+            Ok(Left { lost, shut })
+        }
+        Err(fault) => Err(fault),
+    }
+}
+
+// Whether the desk says that it is shut. Where it couldn't find out, it is asked again after the
+// next connection.
+fn says_shut<D: Desk>(desk: &mut D) -> bool
+    ensures rests { Rests D.Desk desk.old desk.new }
+    ensures tells { TellsShut D.Desk desk.old desk.new result }
+{
+    match desk.is_shut() {
+        Ok(shut) => shut,
+        Err(_) => false,
+    }
+}
+
 // Accepts and serves one connection, and answers what fault ended it, if one did.
 fn serve_next<D: Desk, M: Moments>(
     alloc: Global,
@@ -104,7 +154,8 @@ fn serve_next<D: Desk, M: Moments>(
 ) -> Result<Option<Cause>, ServingFault>
     ensures received { OnOk result (ReceivesAll D.Desk 1 (M.told clock.old) (M.told clock.new)
         desk.old desk.new) }
-    ensures fault { IfErr result (λ fault. (fault ≡ ServingFault.Net)
+    ensures attends { OnOk result ((at : ℤ) × Attends D.Desk at desk.old desk.new) }
+    ensures fault { IfErr result (λ fault. (fault ≡ ServingFault.Net) × (desk.new ≡ desk.old)
         × Receives D.Desk 0 (M.told clock.old) (M.told clock.new) desk.old desk.new) }
 {
     match accepted(listener) {

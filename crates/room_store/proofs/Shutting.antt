@@ -108,14 +108,6 @@ module _ (old new : State) where
 pub not_shut : (s : State) → IsTrue s.is_open → ¬ IsShut s
 not_shut s is_open shut = true≢false (sym is_open ∙ shut)
 
--- a test that wasn't made
-pub unasked : (s : State) (fault : StoreFault) → Asks s s (Err fault)
-unasked s fault = record {
-  leaves = record { ended = λ h. h; clean = λ h. h; was_open = λ _ h. h };
-  same = λ _ _. refl;
-  told = tt;
-}
-
 module _ (old new : State) (result : Result Bool StoreFault) (asked : Asks old new result)
     (now : HasCleanDisk new) where
   -- what is kept is still kept

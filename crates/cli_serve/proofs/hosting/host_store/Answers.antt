@@ -2,7 +2,7 @@ use Rattle.std.proofs.Common.{◌⊎◌, [], inl, inr, subst, sym}
 use Rattle.sqlite.specs.Held.{Held, state}
 use Rattle.room_store.specs.Leads.{Leads}
 use Rattle.cli_serve.specs.Hosts.{IsServed, TellsPort}
-use Rattle.cli_serve.proofs.Serving.{rested, served}
+use Rattle.cli_serve.proofs.Serving.{left_shut, rested, served}
 use Rattle.cli_serve.proofs.hosting.host_store.Goals as goal
 
 pub returns-clause-served : goal.returns-clause-served
@@ -29,5 +29,8 @@ returns-clause-served g c =
     (served c.args.port c.args.count told told' old new out out' err mid err' status r.visits
     c.serve_at-end.result r.few
     r.each r.moments r.trusted r.sound r.run
-    received.1 c.tell_end-status.ensures.status c.serve_at-end.ensures.told first
+    received.1
+    (left_shut _ _ c.args.store c.serve_at-end.new.desk new (λ is. is) c.serve_at-end.result
+    received.2)
+    c.tell_end-status.ensures.status c.serve_at-end.ensures.told first
     c.serve_at-end.ensures.faults c.tell_end-status.ensures.told)

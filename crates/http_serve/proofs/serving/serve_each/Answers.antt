@@ -1,22 +1,37 @@
-use Rattle.std.proofs.Common.{◌≡◌, ◌≤◌, arith, inl, refl, sym, ◌∙◌}
+use Rattle.std.proofs.Common.{◌≡◌, ◌≤◌, ◌+◌, arith, refl, sym, ◌∙◌}
 use Rattle.std.specs.Io.KnownBytes.{Appends}
 use Rattle.cli_outcome.specs.Written.{WritesSome}
 use Rattle.http_serve.specs.declared.fault.ServingFault.{ServingFault}
-use Rattle.http_serve.proofs.Receiving.{all_came, all_others, missing, none}
+use Rattle.http_serve.proofs.Receiving.{all_others, none}
+use Rattle.http_serve.proofs.Staying.{all_served, left_shut, missing, stays_on, untold}
 use Rattle.http_serve.proofs.Told.{told_all, told_next, told_some}
 use Rattle.http_serve.proofs.serving.serve_each.Goals as goal
 use Rattle.http_serve.proofs.serving.serve_each.Goals.{then-told, else-told}
 
 pub returns-in-Err-clause-received : goal.returns-in-Err-clause-received
 returns-in-Err-clause-received g c =
-    missing g.D.Desk c.connections.number c.args.count _ _ _ c.args.desk.now c.connections.desk
-    c.serve_next.new.desk c.in-Err.fault
-    c.connections-test.true c.connections.invariant.received.0 c.in-Err.ensures.fault
+    let one = c.connections.invariant in
+    missing g.D.Desk c.connections.number c.args.count _ _ c.args.desk.now c.connections.desk
+    one.received one.stays _ c.pass.new.desk c.in-Err.fault c.connections-test.true
+    c.in-Err.ensures.fault
 
 pub returns-in-Err-clause-faults : goal.returns-in-Err-clause-faults
 returns-in-Err-clause-faults g c =
     told_some c.connections.number c.args.count _ _ c.in-Err.fault (omega arith)
     c.connections.invariant.some
+
+pub returns-then-left-clause-received : goal.returns-then-left-clause-received
+returns-then-left-clause-received g c =
+    let one = c.connections.invariant in
+    left_shut g.D.Desk c.connections.number c.args.count _ _ c.args.desk.now c.connections.desk
+    one.received one.stays _ c.pass.new.desk c.in-Ok.left.shut c.connections-test.true
+    c.in-Ok.ensures.received c.in-Ok.ensures.leaves c.if-left.true
+
+pub returns-then-left-clause-faults : goal.returns-then-left-clause-faults
+returns-then-left-clause-faults g c =
+    let n = c.connections.number in
+    told_some (n + 1) c.args.count _ _ ServingFault.Desk (omega arith)
+    (told_next WritesSome n _ _ _ c.connections.invariant.some c.is_told-whole.ensures.some)
 
 pub connections-preserved : goal.connections-preserved
 connections-preserved g c =
@@ -25,11 +40,15 @@ connections-preserved g c =
     let n = c.connections.number in
     let some = told_next WritesSome n _ _ _ one.some told.some in
     let received =
-    all_others g.D.Desk n 1 _ _ _ c.args.desk.now c.connections.desk c.serve_next.new.desk
+    all_others g.D.Desk n 1 _ _ _ c.args.desk.now c.connections.desk c.pass.new.desk
     one.received c.in-Ok.ensures.received in
+    let stays =
+    stays_on g.D.Desk n c.args.desk.now c.connections.desk c.pass.new.desk c.in-Ok.left.shut
+    one.stays c.in-Ok.ensures.leaves c.if-left.false in
     elim c.if-told.branch [
       | then-told w ↦ record {
         received = received;
+        stays = stays;
         whole =
             λ is. told_next Appends n _ _ _ (one.whole w.if-told.true)
             (told.whole (sym w.told-is ∙ is));
@@ -37,6 +56,7 @@ connections-preserved g c =
       }
       | else-told w ↦ record {
         received = received;
+        stays = stays;
         whole = λ is. absurd (let e = sym w.told-is ∙ is in cc);
         some = some;
       }
@@ -45,16 +65,16 @@ connections-preserved g c =
 pub connections-init : goal.connections-init
 connections-init g c = record {
   received = none g.D.Desk _ c.args.desk.now;
+  stays = refl;
   whole = λ _. refl;
   some = refl;
 }
 
 pub returns-then-told-2-clause-received : goal.returns-then-told-2-clause-received
 returns-then-told-2-clause-received g c =
-    let is : c.connections.number ≡ c.args.count =
-    omega (arith, c.connections.auto.number-end, c.connections-test.false) in
-    all_came g.D.Desk c.connections.number c.args.count _ _ c.args.desk.now c.connections.desk is
-    c.connections.invariant.received
+    let one = c.connections.invariant in
+    all_served g.D.Desk c.connections.number c.args.count _ _ c.args.desk.now c.connections.desk
+    one.received one.stays (omega (arith, c.connections.auto.number-end, c.connections-test.false))
 
 pub returns-then-told-2-clause-faults : goal.returns-then-told-2-clause-faults
 returns-then-told-2-clause-faults g c =
@@ -65,12 +85,9 @@ returns-then-told-2-clause-faults g c =
 
 pub returns-else-told-2-clause-received : goal.returns-else-told-2-clause-received
 returns-else-told-2-clause-received g c =
-    let is : c.connections.number ≡ c.args.count =
-    omega (arith, c.connections.auto.number-end, c.connections-test.false) in
-    let all =
-    all_came g.D.Desk c.connections.number c.args.count _ _ c.args.desk.now c.connections.desk
-    is c.connections.invariant.received in
-    (all.0, inl all.1)
+    let one = c.connections.invariant in
+    untold g.D.Desk c.connections.number c.args.count _ _ c.args.desk.now c.connections.desk
+    one.received one.stays (omega (arith, c.connections.auto.number-end, c.connections-test.false))
 
 pub returns-else-told-2-clause-faults : goal.returns-else-told-2-clause-faults
 returns-else-told-2-clause-faults g c =

@@ -19,3 +19,10 @@ returns-in-Ok-None-clause-received g c =
     exactly_one g.D.Desk c.next-in-Ok-None.result _ _ c.args.desk.now c.args.desk.now
     c.next-in-Ok-None.ensures
     (lost g.D.Desk c.next-in-Ok-None.result c.args.desk.now)
+
+pub returns-in-Ok-Some-clause-attends : goal.returns-in-Ok-Some-clause-attends
+returns-in-Ok-Some-clause-attends g c = (_, c.serve_stream.ensures)
+
+pub returns-in-Ok-None-clause-attends : goal.returns-in-Ok-None-clause-attends
+returns-in-Ok-None-clause-attends g c =
+    (c.next-in-Ok-None.result, lost g.D.Desk c.next-in-Ok-None.result c.args.desk.now)

@@ -1,11 +1,12 @@
+use Rattle.std.proofs.Common.{inr, refl}
 use Rattle.http_serve.specs.declared.fault.ServingFault.{ServingFault}
-use Rattle.http_serve.proofs.Receiving.{unserved}
+use Rattle.http_serve.proofs.Staying.{unserved}
 use Rattle.http_serve.proofs.serving.serve_on.Goals as goal
 
 pub returns-in_default-clause-received : goal.returns-in_default-clause-received
 returns-in_default-clause-received g c =
-    unserved g.D.Desk c.args.count _ c.args.desk.now ServingFault.Memory
+    unserved g.D.Desk c.args.count _ c.args.desk.now ServingFault.Memory refl refl
 
 pub returns-clause-received : goal.returns-clause-received
 returns-clause-received g c =
-    unserved g.D.Desk c.args.count _ c.args.desk.now ServingFault.File
+    unserved g.D.Desk c.args.count _ c.args.desk.now ServingFault.File (inr refl) refl

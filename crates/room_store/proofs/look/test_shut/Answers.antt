@@ -1,6 +1,6 @@
-use Rattle.std.proofs.Common.{◌≡◌, IsTrue, IfOk, Ok, Err, inl, refl, sym, ◌∙◌, true, []}
+use Rattle.std.proofs.Common.{[], inl, refl, sym, ◌∙◌}
 use Rattle.sqlite.specs.Held.{state}
-use Rattle.room_store.proofs.Shutting.{asks, is_shut, not_shut, unasked}
+use Rattle.room_store.proofs.Shutting.{asks, is_shut, not_shut}
 use Rattle.room_store.proofs.Testing.{left_by}
 use Rattle.room_store.proofs.look.test_shut.Goals as goal
 

@@ -1,0 +1,110 @@
+-- Connections one after another, up to one that leaves the desk shut.
+use Rattle.std.proofs.Common.{◌≡◌, ℕ, ℤ, ◌+◌, ◌<◌, Bool, true, false, List, [], length, Ok, Err, subst, sym, refl, inl, ◌∙◌, arith, add-one}
+use Rattle.std.proofs.lemmas.List.{append-nil, length-append}
+use Rattle.std.proofs.lemmas.List.Elements.{All-nil}
+use Rattle.room_machine.specs.declared.desk.Desk.{Ghosts}
+use Rattle.room_machine.specs.Desk.{Agrees}
+use Rattle.room_rows.specs.Content.{Content}
+use Rattle.http_serve.specs.Staying.{Lasts, Outlasts, Passes, Rests, Served, TellsShut}
+use Rattle.http_serve.specs.Visits.{IsEnd, IsServedVisit, Receives, ReceivesAll}
+use Rattle.http_serve.specs.declared.fault.ServingFault.{ServingFault}
+use Rattle.http_serve.proofs.Receiving.{fewer, nobody, others}
+
+module _ {D : Type 0} (d : Ghosts D) where
+  -- the desk was asked, and no connection came
+  pub asked : (told : List ℤ → Type 0) (old new : D) → Rests d old new
+      → ReceivesAll d 0 told told old new
+  asked told old new rests = (
+    record {
+      trusted = rests.trusted;
+      sound = rests.sound;
+      visits = [];
+      few = omega arith;
+      each = All-nil IsServedVisit;
+      moments = λ before is. subst told (sym (append-nil before)) is;
+      run = rests.run;
+    },
+    refl,
+  )
+
+  -- asking leaves what is kept
+  pub rests : (old new : D) → (d.trusted new → d.trusted old)
+      → (d.trusted new → (room : Content) → d.content old room → d.content new room)
+      → (d.trusted new → d.sound old → d.sound new) → Rests d old new
+  rests old new trusted kept sound = record {
+    trusted = trusted;
+    sound = sound;
+    run = λ t s room is. (room, refl, kept t room is);
+  }
+
+  -- what the desk has told of itself
+  pub tells : (old new : D) (shut : Bool) → Agrees (d.trusted new) (d.shut new) shut
+      → TellsShut d old new shut
+  tells old new true is = is
+  tells old new false is = inl is
+
+  -- one connection more
+  pub stays_on : (n : ℕ) (old mid new : D) (shut : Bool) → Lasts d n old mid
+      → Passes d mid new shut → shut ≡ false → Lasts d (n + 1) old new
+  stays_on n old mid new shut before leaves is =
+      let here = subst (λ (b : Bool). Passes d mid new b) is leaves in
+      subst (λ (k : ℕ). Lasts d k old new) (sym (add-one n)) (mid, before, here)
+
+  -- no connection came, and this was the end
+  pub unserved : (count : ℕ) (told : List ℤ → Type 0) (desk : D) (fault : ServingFault)
+      → IsEnd count (Err fault) 0 → Outlasts d 0 desk desk (Err fault)
+      → Served d count told told desk desk (Err fault)
+  unfolding nobody
+  unserved count told desk fault says stays = (nobody d count told desk, says, stays)
+
+  module _ (number count : ℕ) (told told' : List ℤ → Type 0) (old mid : D)
+      (first : ReceivesAll d number told told' old mid) (stays : Lasts d number old mid) where
+    -- as many came as were to come
+    came : number ≡ count → ReceivesAll d count told told' old mid
+    came is = subst (λ (n : ℕ). ReceivesAll d n told told' old mid) is first
+
+    stays_all : (visits : ℕ) → number ≡ count → visits ≡ count → Lasts d visits old mid
+    stays_all visits is all =
+        subst (λ (n : ℕ). Lasts d n old mid) (is ∙ sym all) stays
+
+    pub all_served : number ≡ count → Served d count told told' old mid (Ok tt)
+    all_served is = let all = came is in (all.0, all.1, stays_all _ is all.1)
+
+    -- all came, and a line couldn't be printed
+    pub untold : number ≡ count
+        → Served d count told told' old mid (Err ServingFault.File)
+    untold is = let all = came is in (all.0, inl all.1, stays_all _ is all.1)
+
+    -- the listener failed before all connections came
+    pub missing : (told'' : List ℤ → Type 0) (new : D) (fault : ServingFault) → number < count
+        → (fault ≡ ServingFault.Net) × (new ≡ mid) × Receives d 0 told' told'' mid new
+        → Served d count told told'' old new (Err fault)
+    unfolding fewer others
+    missing told'' new fault more end =
+        let all = others d number 0 told told' told'' old mid new first.0 end.2 in
+        let none = end.2.few in
+        let visits : length all.visits ≡ number =
+        omega (arith, length-append first.0.visits end.2.visits, first.1, none) in
+        let here : Lasts d (length all.visits) old new =
+        subst (λ (n : ℕ). Lasts d n old new) (sym visits)
+        (subst (λ (desk : D). Lasts d number old desk) (sym end.1) stays) in
+        let net : Served d count told told'' old new (Err ServingFault.Net) = (
+          fewer d (number + 0) count told told'' old new (omega (arith, more)) all,
+          inl (omega (arith, visits, more)),
+          here,
+        ) in
+        subst (λ (f : ServingFault). Served d count told told'' old new (Err f)) (sym end.0) net
+
+    -- a connection left the desk shut
+    pub left_shut : (told'' : List ℤ → Type 0) (new : D) (shut : Bool) → number < count
+        → ReceivesAll d 1 told' told'' mid new → Passes d mid new shut → shut ≡ true
+        → Served d count told told'' old new (Err ServingFault.Desk)
+    unfolding fewer others
+    left_shut told'' new shut more next leaves is =
+        let all = others d number 1 told told' told'' old mid new first.0 next.0 in
+        let visits : length all.visits ≡ number + 1 =
+        omega (arith, length-append first.0.visits next.0.visits, first.1, next.1) in (
+          fewer d (number + 1) count told told'' old new (omega (arith, more)) all,
+          omega (arith, visits),
+          (number, visits, (mid, stays, subst (λ (b : Bool). Passes d mid new b) is leaves)),
+        )

@@ -1,0 +1,47 @@
+-- How long connections are accepted: until one leaves the desk shut (own).
+use Rattle.std.specs.Prelude.{◌≡◌, ◌⊎◌, ℕ, ℤ, ◌+◌, Bool, true, false, zero, suc, List, [], length}
+use Rattle.std.specs.Prelude.{Result, Err}
+use Rattle.room_machine.specs.declared.desk.Desk.{Ghosts}
+use Rattle.room_rows.specs.Keep.{one_more}
+use Rattle.room_http.specs.Stream.{Runs}
+use Rattle.http_serve.specs.Visits.{Attends, IsEnd, Receives}
+use Rattle.http_serve.specs.declared.fault.ServingFault.{ServingFault}
+
+-- nothing was done at a desk
+pub record Rests {D : Type 0} (d : Ghosts D) (old new : D) : Type 0 where
+  pub trusted : d.trusted new → d.trusted old
+  pub sound : d.trusted new → d.sound old → d.sound new
+  pub run : d.trusted new → d.sound old → Runs (d.content old) [] (d.content new)
+
+-- The desk was asked whether it is shut. Where it isn't said to be, it isn't, or it couldn't find
+-- out, which is a fault of its own.
+abbrev pub TellsShut : {D : Type 0} → Ghosts D → D → D → Bool → Type 0
+TellsShut d old new true = d.shut new
+TellsShut d old new false =
+    (d.trusted new → ¬ d.shut new) ⊎ (d.faults new ≡ one_more (d.faults old))
+
+-- A connection was served, and then the desk was asked whether it is shut.
+pub record Passes {D : Type 0} (d : Ghosts D) (old new : D) (shut : Bool) : Type 0 where
+  pub at : ℤ
+  pub mid : D
+  pub attends : Attends d at old mid
+  pub rests : Rests d mid new
+  pub tells : TellsShut d mid new shut
+
+-- this many connections, one after another, none of which left a desk that said it was shut
+abbrev pub Lasts : {D : Type 0} → Ghosts D → ℕ → D → D → Type 0
+Lasts d zero old new = new ≡ old
+Lasts {D} d (suc n) old new = (mid : D) × Lasts d n old mid × Passes d mid new false
+
+-- Of the connections that were served, only the last may have left the desk shut, and then this was
+-- the end.
+abbrev pub Outlasts : {D : Type 0} → Ghosts D → ℕ → D → D → Result (Unit {0}) ServingFault → Type 0
+Outlasts {D} d visits old new (Err ServingFault.Desk) = (before : ℕ) × (visits ≡ before + 1)
+    × ((mid : D) × Lasts d before old mid × Passes d mid new true)
+Outlasts d visits old new end = Lasts d visits old new
+
+-- At most `count` connections were received, and what the end says of them and of the desk holds.
+abbrev pub Served : {D : Type 0} → Ghosts D → ℕ → (List ℤ → Type 0) → (List ℤ → Type 0) → D → D
+    → Result (Unit {0}) ServingFault → Type 0
+Served d count told told' old new end = (r : Receives d count told told' old new)
+    × IsEnd count end (length r.visits) × Outlasts d (length r.visits) old new end
