@@ -77,12 +77,20 @@ over_file 'folder' 3 '' 'fault: database\n' folder
 over_file 'noise' 3 '' 'fault: database\n' noise
 over_file 'letter' 3 '' 'fault: database\n' letter
 holds 'the letter stays' grep -q 'no database at all' letter
+printf x >byte
+over_file 'one byte' 2 'refused: not a rooms file\n' '' byte
+holds 'the byte stays' [ "$(cat byte)" = x ]
+{ printf 'SQLite format 3\0'; head -c 9000 /dev/urandom; } >damaged
+over_file 'damaged' 3 '' 'fault: database\n' damaged
+for name in noise letter byte damaged; do holds "$name gets no log" is_missing "$name-wal"; done
 
 # Databases of others, and of other schemas. `migrate` takes an older one.
 for name in other no-row text-row; do
   take "$name.db" "$name.db"
   over_file "$name" 2 'refused: not a rooms file\n' '' "$name.db"
 done
+holds 'the database of another program is as it was' cmp -s other.db "$data/other.db"
+holds 'and gets no log' is_missing other.db-wal
 for number in -1 0 3 9000000000; do
   take "schema.$number.db" "numbered.$number.db"
   age=old

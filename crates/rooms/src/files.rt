@@ -1,6 +1,7 @@
 //! The file of a room: made, found, opened, removed.
 ghost use Rattle.std.specs.Prelude.{◌≡◌, IfOk, false};
 
+use crate::look::test_unopened;
 use cli_console::Stop;
 use cli_outcome::Fault;
 use sqlite::Connection;
@@ -46,14 +47,23 @@ pub fn take_away(rt: &HostRuntime, file: &str, log: &str) {
 }
 
 /// Opens the file of a room. The error is `NotRooms` where the file is empty, and else that of the
-/// file or of the database.
+/// file or of the database. What isn't a room is left as it was, without a log beside it.
 pub fn open<S: Start>(rt: &HostRuntime, file: &str, start: S) -> Result<FileConnection<S>, Stop>
     ensures { IfOk result (λ conn. conn.in_transaction ≡ false) }
 {
-    if is_blank(rt, fs::canonicalize(rt, file)?.as_str())? {
+    test_file(rt, fs::canonicalize(rt, file)?.as_str())?;
+    connect(rt, file, start)
+}
+
+// Tests a file before opening it makes a log.
+fn test_file(rt: &HostRuntime, path: &str) -> Result<(), Stop> {
+    if is_blank(rt, path)? {
         return Err(Stop::NotRooms);
     }
-    connect(rt, file, start)
+    if !fs::metadata(rt, path)?.is_file() || is_there(rt, log_of(rt, path)?.as_str())? {
+        return Ok(());
+    }
+    test_unopened(rt, path)
 }
 
 /// Opens a file that is there as a database. The error is that of the file or of the database, or
@@ -76,10 +86,11 @@ pub fn close<S: Start>(conn: FileConnection<S>) {
     let _ = conn.close();
 }
 
-// Whether the file is empty, and no log beside it holds its content.
+// Whether the file is empty, and no log beside it holds its content. A file of one byte is empty for
+// SQLite, too.
 fn is_blank(rt: &HostRuntime, path: &str) -> Result<bool, Stop> {
     let found = fs::metadata(rt, path)?;
-    if !found.is_file() || found.len() > 0 {
+    if !found.is_file() || found.len() > 1 {
         return Ok(false);
     }
     is_empty(rt, log_of(rt, path)?.as_str())

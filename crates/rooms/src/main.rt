@@ -48,6 +48,7 @@
 #![tactic(auto)]
 
 mod files;
+mod look;
 mod work;
 
 use cli_check::tell_check;
