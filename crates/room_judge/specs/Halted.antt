@@ -116,25 +116,3 @@ abbrev pub reply_of : Result Reply Halt → Result Reply KeepFault
 reply_of (Ok reply) = Ok reply
 reply_of (Err (Refused reply)) = Ok reply
 reply_of (Err (Fault fault)) = Err fault
-
--- ---- the older forms
-
-abbrev pub as_option : Result (Unit {0}) Halt → Result (Option Reply) KeepFault
-as_option (Ok x) = Ok None
-as_option (Err (Refused reply)) = Ok (Some reply)
-as_option (Err (Fault fault)) = Err fault
-
-abbrev pub as_arrival : Result Node Halt → Result Arrival KeepFault
-as_arrival (Ok node) = Ok (At node)
-as_arrival (Err (Refused reply)) = Ok (Ended reply)
-as_arrival (Err (Fault fault)) = Err fault
-
-abbrev pub as_spot : Result Under Halt → Result Spot KeepFault
-as_spot (Ok under) = Ok (UnderOf under.folder under.child)
-as_spot (Err (Refused reply)) = Ok (Barred reply)
-as_spot (Err (Fault fault)) = Err fault
-
-abbrev pub as_pair : Result Both Halt → Result Pair KeepFault
-as_pair (Ok both) = Ok (BothOf both.folder both.target)
-as_pair (Err (Refused reply)) = Ok (Halted reply)
-as_pair (Err (Fault fault)) = Err fault

@@ -1,5 +1,5 @@
 //! What ends a request before its end.
-ghost use Rattle.std.specs.Prelude.{◌≡◌, take};
+ghost use Rattle.std.specs.Prelude.{◌≡◌, IfOk, take};
 ghost use Rattle.room_rows.specs.declared.keep.KeepFault.TheVariants.{Memory};
 ghost use Rattle.room_machine.specs.declared.reply.Reply.TheVariants.{Refused as RefusedWith};
 ghost use Rattle.room_judge.specs.declared.halt.Halt.TheVariants.{Fault};
@@ -32,6 +32,17 @@ impl From<AllocError> for Halt {
     fn from(_error: AllocError) -> Halt {
         Halt::Fault(KeepFault::Memory)
     }
+}
+
+/// The reply of a refusal at the object after this many names of the path. The only error is out of
+/// memory.
+pub fn refused(alloc: Global, path: &Path, depth: usize, why: Reason) -> Result<Reply, AllocError>
+    ensures { IfOk result (λ reply. reply ≡ RefusedWith (take depth path.now) why) }
+{
+    Ok(Reply::Refused {
+        at: path.front(alloc, depth)?,
+        why,
+    })
 }
 
 /// The refusal at the object after this many names of the path, or that memory ran out.

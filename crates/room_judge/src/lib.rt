@@ -3,7 +3,6 @@
 
 mod arrival;
 mod asker;
-mod bridging;
 mod checking;
 mod deleting;
 mod halt;
@@ -13,9 +12,5 @@ mod walking;
 
 pub use arrival::{Arrival, Both, Found, Pair, Spot, Under};
 pub use asker::{Asker, caller_of};
-pub use bridging::{
-    check, check_deletion, check_kind, pass_through, reach, reach_kind, refused, walk_from,
-    walk_to, walk_to_pair, walk_to_pair_from, walk_to_spot,
-};
-pub use halt::{Halt, refusal};
+pub use halt::{Halt, refusal, refused};
 pub use walk::Walk;
