@@ -60,7 +60,7 @@ none() { # NAME FILE: nothing was found
   fi
 }
 
-for page in "$top"/README.md "$top"/CONTRIBUTING.md "$top"/docs/*.md; do
+for page in "$top"/README.md "$top"/CONTRIBUTING.md "$top"/CHANGELOG.md "$top"/docs/*.md; do
   name=${page#"$top"/}
   lost_links "$page" >found
   none "links of $name" found
@@ -80,6 +80,11 @@ if has python3; then
 else
   skip 'the tables of crates' 'python3 is missing'
 fi
+
+# The version stands in the program, and the list of changes has it.
+run --version
+wanted=$(sed 's/^rooms //' "$work/err")
+holds "CHANGELOG.md has version $wanted" [ "$(sed -n 's/^## \[\([0-9][^]]*\)\].*/\1/p' "$top/CHANGELOG.md" | head -n 1)" = "$wanted" ]
 
 # What the page quotes of contracts and definitions stands there.
 stripped() { sed 's/^ *//' "$@" | LC_ALL=C sort -u; }

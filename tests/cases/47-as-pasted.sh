@@ -33,7 +33,10 @@ if [ -n "$(command -v htpasswd)" ]; then exec "$(command -v htpasswd)" "\$@"; fi
 echo "htpasswd \$*" >>"$PWD/asked"
 END
 stand_in systemctl <<END
+if [ "\$*" = 'start rooms-nightly' ]; then exec "$here/../contrib/rooms-nightly" "$PWD/conf"; fi
 case \$1 in
+  is-active) [ -e "$PWD/pid" ] && echo active || echo inactive ;;
+  restart) "\$0" stop && "\$0" start ;;
   stop)
     [ ! -e "$PWD/pid" ] || kill -9 "\$(cat "$PWD/pid")"
     while [ -e "$PWD/pid" ] && kill -0 "\$(cat "$PWD/pid")" 2>/dev/null; do sleep 0.02; done
@@ -148,6 +151,58 @@ $(blocks operating.md '@reply')"
 prints 'one document out of a backup' 204
 answers 'is the old one' 'Dear Sir 200' alice GET /doc/letters/reply
 answers 'of the same owner' '{"group":"staff","kind":"document","owner":"alice"} 200' alice GET /attr/letters/reply
+
+# An upgrade: a backup, the new files, the restart; the earlier files; the earlier room.
+mkdir -p contrib run
+printf '#!/usr/bin/env bash\nexec "%s/../contrib/install" --destdir "%s/machine" --program "%s" "$@"\n' \
+  "$here" "$PWD" "$rooms" >contrib/install
+chmod 755 contrib/install
+stand_in nginx <<'END'
+END
+stand_in rooms-restore <<END
+exec "$here/../contrib/rooms-restore" --conf "$PWD/conf" "\$@"
+END
+rm -rf backups/2026-11-20.030000*
+export ROOMS_RUN=$PWD/run
+if has flock; then
+  paste_in "$(blocks upgrading.md 'start rooms-nightly')"
+  backup=$(ls -d "$PWD"/backups/*)
+  prints 'a backup before an upgrade' "$backup"
+  holds 'has the room' [ -s "$backup/office.rooms" ]
+else
+  skip 'a backup before an upgrade' 'no flock'
+  backup=
+fi
+paste_in "$(blocks upgrading.md 'contrib/install' | head -n 1)"
+holds 'the new files' cmp -s machine/usr/local/bin/rooms "$rooms"
+paste_in "$(blocks upgrading.md 'sleep 1; curl')
+$(blocks upgrading.md 'nginx -t')"
+prints 'the new program serves' '{} 200'
+answers 'what was there before' 'Dear Sir 200' alice GET /doc/letters/reply
+echo '# older' >>machine/usr/local/sbin/rooms-restore
+paste_in "$(blocks upgrading.md 'contrib/install' | tail -n 1)"
+same 'the files of the version before' machine/usr/local/sbin/rooms-restore "$here/../contrib/rooms-restore"
+paste_in "$(blocks upgrading.md 'systemctl restart rooms' | tail -n 1)"
+prints_nothing() { if [ "$status" = 0 ] && [ ! -s "$work/out" ]; then pass; else fail "$1" "status $status"; fi; }
+prints_nothing 'its program runs'
+answers 'on the same room' 'Dear Sir 200' alice GET /doc/letters/reply
+if [ -n "$backup" ]; then
+  answers 'a change after the backup' ' 204' alice PUT /doc/letters/reply 'Dear Madam'
+  paste_in "$(blocks upgrading.md 'rooms-restore 2026' | sed "s/2026-11-20.030000/${backup##*/}/")"
+  holds 'the room of the backup' [ "$status" = 0 ]
+  answers 'has what was there then' 'Dear Sir 200' alice GET /doc/letters/reply
+  bin/systemctl stop rooms
+  mkdir kept
+  mv room/office.rooms* kept/
+  take moved.1.db room/office.rooms
+  paste_in "$(blocks upgrading.md 'rooms migrate')"
+  prints 'a file of schema 1' migrated
+  holds 'is served then' [ "$(curl -s -o /dev/null -w '%{http_code}' "http://127.0.0.1:$((port + 1))/can/?")" = 200 ]
+  bin/systemctl stop rooms
+  rm -f room/office.rooms*
+  mv kept/* room/
+  bin/systemctl start rooms
+fi
 
 # Records that are older than two years.
 if has_sqlite; then
