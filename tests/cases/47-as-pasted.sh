@@ -180,7 +180,7 @@ $(blocks upgrading.md 'nginx -t')"
 prints 'the new program serves' '{} 200'
 answers 'what was there before' 'Dear Sir 200' alice GET /doc/letters/reply
 echo '# older' >>machine/usr/local/sbin/rooms-restore
-paste_in "$(blocks upgrading.md 'contrib/install' | tail -n 1)"
+paste_in "$(blocks upgrading.md 'contrib/install' | sed -n 2p)"
 same 'the files of the version before' machine/usr/local/sbin/rooms-restore "$here/../contrib/rooms-restore"
 paste_in "$(blocks upgrading.md 'systemctl restart rooms' | tail -n 1)"
 prints_nothing() { if [ "$status" = 0 ] && [ ! -s "$work/out" ]; then pass; else fail "$1" "status $status"; fi; }

@@ -49,7 +49,22 @@ says 'another program' 2 'is not rooms'
 installs --destdir here
 says 'a folder that is no path' 2 'bad folder'
 installs --other
-says 'an unknown word' 2 'bad words'
+says 'an unknown word' 2 'bad words: --other; install [--dry-run] [--replace] [--tls CERTIFICATE KEY] [--destdir DIR] [--prefix /usr] [--program FILE]'
+installs --prefix /opt
+says 'a prefix of nobody' 2 'bad prefix'
+installs --prefix /usr --tls one.pem one.key
+says 'a certificate in a package' 2 'bad prefix'
+"$contrib/install" --prefix /usr --program "$rooms" </dev/null >"$work/out" 2>"$work/err"
+status=$?
+says "a package's files without a folder" 2 'bad prefix'
+# The same script as a package has it.
+cp "$contrib/install" rooms-setup
+for word in --replace '--destdir /x' '--program /x' '--prefix /usr' 'x'; do
+  # shellcheck disable=SC2086
+  ./rooms-setup $word </dev/null >"$work/out" 2>"$work/err"
+  status=$?
+  says "rooms-setup $word" 2 'bad words'
+done
 : >a-file
 installs --destdir "$PWD/a-file"
 says 'a folder that can not be made' 1 "can't be made"
