@@ -157,7 +157,7 @@ same_lists() { # NAME FILE
   { list_of / && list_of /letters; } >wanted
   same "$1" "$2" wanted
 }
-says() { # PAGE SENTENCE
+page_says() { # PAGE SENTENCE
   holds "$1 says: $2" grep -qF -e "$2" <(tr '\n' ' ' <"$here/../$1" | tr -s ' ')
 }
 { echo "all=$ALL" && sed -n "s/^\(printf '%s\\\\n' list:.*\) |$/\1/p" "$here/../README.md"; } >readme.sh
@@ -166,11 +166,11 @@ same_lists 'the lists of the README' readme.lists
 sed -n '/ <<END$/,/^END$/p' "$here/../docs/tour.md" | grep -v END >tour.lists
 same_lists 'the lists of the tour' tour.lists
 for page in README.md docs/tour.md; do
-  says "$page" 'Alice may do everything'
-  says "$page" 'taff see which names are at the top'
-  says "$page" 'may read, add and change, and each of them may remove, rename and move away the documents that they added themselves.'
+  page_says "$page" 'Alice may do everything'
+  page_says "$page" 'taff see which names are at the top'
+  page_says "$page" 'may read, add and change, and each of them may remove, rename and move away the documents that they added themselves.'
 done
-says docs/operating.md 'Staff read everything, add documents and folders, and change every document. Each of them may remove, rename and move away the documents that they added themselves.'
+page_says docs/operating.md 'Staff read everything, add documents and folders, and change every document. Each of them may remove, rename and move away the documents that they added themselves.'
 
 # Records: the page promises one for each denied read, and for each attempt to remove, rename or move something or to change a
 # list or an owner; in /contracts one more for whatever is denied.
