@@ -88,7 +88,8 @@ if has dpkg-query && has md5sum; then
   keeps() { # NAME
     installs
     says "$1" 0 'kept /etc/nginx/sites-enabled/default'
-    holds "$1: it is there" is_there "$enabled"
+    # A link that leads nowhere on this machine is there too.
+    holds "$1: it is there" eval '[ -e "$enabled" ] || [ -L "$enabled" ]'
     says "$1: nothing else" 0 'nothing to change'
   }
   ln -s /etc/nginx/sites-available/default "$enabled"
