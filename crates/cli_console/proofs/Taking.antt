@@ -88,12 +88,6 @@ pub unread : (asked : Command) (known : Option (List ℕ)) (why : StreamFault) �
 unread asked None why is = ([], tt, is)
 unread asked (Some input) why is = (input, refl, is)
 
--- the task that is due
-pub taken : (due : Option (Result Task TaskRefusal)) (task : Task) → IsSome due
-    → IfSome due (Gives {F = TaskRefusal} (Ok task)) → IsTask due (Ok task)
-taken None task is gives = absurd (false≢true is)
-taken (Some told) task is gives = ap Some gives
-
 -- or why there is none
 pub refused : (due : Option (Result Task TaskRefusal)) (failure : Failure TaskRefusal) → IsSome due
     → IfSome due (Gives {A = Task} (Err failure)) → IsTask due (Err (stop_of_refusal failure))

@@ -95,12 +95,6 @@ module _ {D : Type 0} (d : Ghosts D) where
         (then.run t (first.sound (then.trusted t) s)));
   }
 
-  -- as many came as were to come
-  pub all_came : (number count : ℕ) (told told' : List ℤ → Type 0) (old new : D) → number ≡ count
-      → ReceivesAll d number told told' old new → ReceivesAll d count told told' old new
-  all_came number count told told' old new is given =
-      subst (λ (n : ℕ). ReceivesAll d n told told' old new) is given
-
   -- the same as exactly none
   pub none : (told : List ℤ → Type 0) (desk : D) → ReceivesAll d 0 told told desk desk
   unfolding nobody

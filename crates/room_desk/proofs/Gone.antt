@@ -1,5 +1,4 @@
 -- An object is removed.
 pub mod Childless
 pub mod SoundRemoved
-pub mod Acting
 pub mod GoneSteps

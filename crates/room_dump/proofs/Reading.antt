@@ -47,20 +47,6 @@ module _ {S : Type 0} (k : Ghosts S)
       subst (λ (w : Rows). Answers w x) (sofar.same (laws.first a b c sofar.follows read.follows t))
       (read.answers (laws.last a b c sofar.follows read.follows t))
 
-  -- where all reads answered, the call that made them answers
-  pub done : {Y : Type 0} (a c : S) (y : Y) {Blames : Rows → ℕ → Type 0}
-      {Answers : Rows → Y → Type 0} → HasRead a c → (k.IsTrusted a c → Answers (k.rows a) y)
-      → Reads k a c (Ok y) Blames Answers
-  done a c y sofar answers =
-      record {
-        follows = sofar.follows;
-        unwritten = sofar.unwritten;
-        same = sofar.same;
-        answers = answers;
-        unfailed = sofar.unfailed;
-        fault = tt;
-      }
-
   -- the rows themselves are at fault
   pub damaged : {Y : Type 0} (a c : S) (id : ℕ) {Blames : Rows → ℕ → Type 0}
       {Answers : Rows → Y → Type 0} → HasRead a c → (k.IsTrusted a c → Blames (k.rows a) id)

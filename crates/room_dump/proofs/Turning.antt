@@ -203,15 +203,6 @@ begins rows are most waiting start text =
     (subst (λ (w : List Waiting). Turning rows w (length (numbers_of rows)) 0 text text)
     (sym start.1.2) (begins_alone rows are start.1.0 start.1.1 text))
 
--- all is printed where none waits
-pub ends : (rows : Rows) (most turn : ℕ) (before text : List ℕ)
-    → Turning rows [] most turn before text → (text ≡ before ++ objects_text rows)
-    × HasAllBytes rows
-ends rows most turn before text t = (
-  sym (append-nil text) ∙ t.told,
-  ap (list_all (has_bytes rows.read)) (sym t.meets ∙ append-nil t.met) ∙ t.filled,
-)
-
 too_many : (a b c d : ℕ) → d ≤ c → ((1 + a) + b) + c ≤ d → ⊥
 too_many a b c d e f = omega (arith, e, f)
 

@@ -53,18 +53,3 @@ not_as_long (x ∷ xs) (y ∷ ys) apart =
     on : (t : Bool) → false ≡ same_entries xs ys → false ≡ (t && same_entries xs ys)
     on true rest = rest
     on false rest = refl
-
--- the entries at one place, and those after it
-pub same_from : (xs ys : List Ace) (i : ℕ) (x y : Ace) → i < length xs → i < length ys
-    → x ≡ get_or xs i x → y ≡ get_or ys i y
-    → same_entries (drop i xs) (drop i ys)
-    ≡ (same_entry x y && same_entries (drop (i + 1) xs) (drop (i + 1) ys))
-same_from xs ys i x y below below' is is' =
-    ap (λ l. same_entries l (drop i ys)) (at xs x below is)
-    ∙ ap (same_entries (x ∷ drop (i + 1) xs)) (at ys y below' is')
-  where
-    at : (zs : List Ace) (z : Ace) → i < length zs → z ≡ get_or zs i z
-        → drop i zs ≡ z ∷ drop (i + 1) zs
-    at zs z below is =
-        drop-cons zs i z below ∙ ap (λ (e : Ace). e ∷ drop (suc i) zs) (sym is)
-        ∙ ap (λ (j : ℕ). z ∷ drop j zs) (sym (add-one i))

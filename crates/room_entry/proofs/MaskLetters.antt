@@ -52,22 +52,6 @@ letters_more text i below before here =
     ∙ ap (λ t. t && (is_among mask_letters (get_or text i 0) && true)) before
     ∙ ap (λ t. t && true) here
 
--- all letters are read
-pub all_read : (text : List ℕ) (i : ℕ) → length text ≤ i → are_letters (take i text) ≡ true
-    → Ok (spelled (take i text)) ≡ read_mask_of text
-all_read text i past letters =
-    let whole = take_all i text past in
-    ap (λ (l : List ℕ). Ok (spelled l)) whole
-    ∙ sym (ap (λ t. ok_or (cond t (Some (spelled text)) None) BadMask)
-    (sym (ap are_letters whole) ∙ letters))
-
--- a letter that stands for no bit
-pub bad_letter : (text : List ℕ) (i : ℕ) → i < length text
-    → is_among mask_letters (get_or text i 0) ≡ false → Err BadMask ≡ read_mask_of text
-bad_letter text i below none =
-    sym (ap (λ t. ok_or (cond t (Some (spelled text)) None) BadMask)
-    (list_all_at (is_among mask_letters) text i 0 below none))
-
 -- ---- one letter
 
 abbrev is_row : ℕ × ℕ → Bool

@@ -42,9 +42,6 @@ rising_push xs y last up k d low below =
     ∙ last d (omega arith))))
     (cases_lt (k + 1) (length xs))
 
-unlike : (o : Ordering) → (o ≡ Less) → is_eq o ≡ false
-unlike o is = ap is_eq is
-
 -- what a binary search says of texts in order
 pub searched : (xs : List (List ℕ)) (name : List ℕ) (r : Result ℕ ℕ) → AreRising xs
     → IsSearchInRange r (length xs)

@@ -125,20 +125,3 @@ stopped-next buf u v spans r h head size Cause.Read b s copied sized stop = (
 )
 stopped-next buf u v spans r h head size Cause.Write b s copied sized stop = absurd stop.2
 stopped-next buf u v spans r h head size Cause.Memory b s copied sized stop = (stop.0, stop.1, tt)
-
-pub refused-next : (buf : List ℕ) (spans : List HeaderSpan) (r : RequestSpans) (h : RequestHead)
-    (head : Head) (refusal : Refusal)
-    → BeginsWith buf h (drop r.len buf) → AreSpansOf spans r h
-    → head ≡ head_at (take r.len buf) spans r
-    → Err refusal ≡ body_size head.fields
-    → IsRefusedHead buf refusal
-refused-next buf spans r h head refusal b s copied refused =
-    let parts : head ≡ head_of h = parts-are buf spans r h head b s copied in
-    inr (h, drop r.len buf, b, ap (λ (q : Head). body_size q.fields) (sym parts) ∙ sym refused)
-
--- what holds of an `Ok`, at the arm that found which
-pub at-ok : {A E : Type 0} (P : A → Type 0) (result : Result A E) (found value : A)
-    → result ≡ Ok found → found ≡ value → IfOk result P → P value
-at-ok {A} {E} P result found value e f h =
-    let Q : Result A E → Type 0 = λ r. IfOk r P in
-    subst P f (subst Q e h)

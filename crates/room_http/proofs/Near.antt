@@ -22,14 +22,6 @@ Grown start buf =
     ⊎ ((before : List ℕ) × (more : List ℕ) × (buf ≡ before ++ more) × HasNoRequest before
     × (length before < max_head) × (length more ≤ read_size))
 
-pub grown : (start buf after : List ℕ) (u v : Option (List ℕ)) → Came u v buf after
-    → length after ≤ length buf + read_size
-    → HasNoRequest buf → length buf < max_head → Grown start after
-grown start buf after u v came size none short =
-    let len : length after ≡ length buf + length came.0 = ap length came.2
-    ∙ length-append buf came.0 in
-    inr (buf, came.0, came.2, none, short, omega (arith, len, size))
-
 -- a head that the bytes begin with, and that ends before more came, was there before
 there-before : (buf before more : List ℕ) (h : RequestHead) (rest : List ℕ) → BeginsWith buf h rest
     → buf ≡ before ++ more
@@ -64,13 +56,6 @@ near-found start buf spans r (inr g) found short =
           absurd (there-before buf g.0 g.1 found.0 (drop r.len buf) found.1 g.2
           (subst (λ n. n ≤ length g.0) found.2.len le) g.3)
     ]
-
-pub near-refused : (start buf : List ℕ) → Grown start buf → length start < read_size
-    → IsNearHead buf
-near-refused start buf (inl same) short =
-    let len : length buf ≡ length start = ap length same in
-    omega (arith, len, short)
-near-refused start buf (inr g) short = near-after buf g.0 g.1 max_head g.2 g.5 g.4
 
 -- what is left of the bytes where a message stands in front of them
 pub near-message : (buf : List ℕ) (next : NextMessage) (w : WholeNext buf next)

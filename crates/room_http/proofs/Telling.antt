@@ -20,9 +20,6 @@ use Rattle.room_http.specs.Tell.{Replies, Begun, IsBegun, StopsFault, StopsWithi
 use Rattle.room_http.specs.declared.ended.Cause.{Cause}
 use Rattle.room_http.proofs.KnownBytes.{Appends-none}
 
-pub asks-of : (asked : Asked) (call : message.UserRequest) → asked ≡ Ok call → IsRequest asked
-asks-of asked call e = subst IsRequest (sym e) tt
-
 rose-by : (old new : ℕ) → (old < 2 ^ 64 - 1) ⊎ (2 ^ 64 - 1 ≤ old) → new ≡ min (old + 1) (2 ^ 64 - 1)
     → Rose old new
 rose-by old new (inl lt) e = inl (omega arith)

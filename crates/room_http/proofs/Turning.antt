@@ -337,23 +337,3 @@ turn-cut holds at n left mid sent content faults buf came more e = record {
   run = λ s. Runs-none content;
   faults = refl;
 }
-
--- a read brought nothing
-pub turn-stopped : (holds : Type 0) (at : ℤ) (n : ℕ) (left mid sent : Option (List ℕ))
-    (content : Content → Type 0) (faults : ℕ)
-    (buf : List ℕ) (cause : Cause) → StopsReading left mid buf cause
-    → TurnsStop holds at n (record { left = left; sent = sent; content = content; faults = faults })
-    (record { left = mid; sent = sent; content = content; faults = faults }) buf
-    (record { acted = false; cause = cause })
-turn-stopped holds at n left mid sent content faults buf cause s = record {
-  next = Next.Unknown;
-  rest = s.0;
-  came = s.1;
-  is_next = tt;
-  near = tt;
-  writes = ([], [], refl, Appends-none sent);
-  acted = refl;
-  cause = s.2;
-  run = λ h. Runs-none content;
-  faults = refl;
-}

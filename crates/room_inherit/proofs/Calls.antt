@@ -197,18 +197,6 @@ module _ {S : Type 0} (k : Ghosts S)
     pub along : k.IsTrusted a b → Known a
         → HasRenewed d above left all before mid (k.rows a) written (k.rows b)
 
-  pub renewing_none : (a : S) → Renewing all before 0 a a
-  renewing_none a = record {
-    follows = laws.itself a;
-    counted = sym (capped_below (k.writes a) (laws.ends a).1) ∙ ap capped (omega arith);
-    along =
-        λ t known. record {
-          counted = omega arith;
-          waits = refl;
-          storing = record { unreadable = refl; known = known; leaves = refl };
-        };
-  }
-
   module _ (child : Node) (left mid after : List Node) (number : ℕ) (a b c : S)
       (sofar : Renewing (child ∷ left) mid number a b) where
     pub renewing_on : (n : ℕ) → RenewsAll k b c d above (child ∷ []) mid after (Ok n)

@@ -333,14 +333,6 @@ module _ (rows : Content) (apart : Apart rows.nodes) where
       assoc true b c = refl
       assoc false b c = refl
 
-  -- whether an object is among the children
-  pub is_child : (id : ℕ) (n : Node) → node_at rows n.id ≡ Some n
-      → has_id n.id (children_of rows id) ≡ has_parent id n
-  is_child id n there =
-      any_sorted (λ (m : Node). m.id == n.id) (filter (has_parent id) rows.nodes)
-      ∙ any_filter (λ (m : Node). m.id == n.id) (has_parent id) rows.nodes
-      ∙ any_here (has_parent id) n rows.nodes apart there
-
   -- an object has as many children as there are objects with it as their parent
   pub length_children : (id : ℕ) → length (children_of rows id) ≡ count (has_parent id) rows.nodes
   length_children id =

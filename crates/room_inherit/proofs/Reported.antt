@@ -69,10 +69,6 @@ parts : (holding : Holding) (rows : Rows) (list : Option ℕ) (tree : Option Rep
 parts holding rows list tree body law lists trees bodies laws =
     λ i. outcome rows.read (lists i) (trees i) (bodies i) (laws i)
 
-pub by_list : (holding : Holding) (rows : Rows) (id : ℕ) → first_bad_list rows ≡ Some id
-    → Fault (numbered id) BadList ≡ report_by holding rows
-by_list holding rows id bad = parts holding rows (Some id) _ _ _ (sym bad) refl refl refl
-
 module _ (holding : Holding) (rows : Rows) (nodes : List Node) (are : nodes ≡ rows.read.nodes)
     (lists : first_bad_list rows ≡ None) where
   tree_is : (found : Option Report) → found ≡ tree_fault (only nodes) → found ≡ tree_fault rows.read

@@ -27,9 +27,6 @@ use Rattle.room_inherit.proofs.Sweeping.{Sweep}
 same_some : (x y : Node) → Some x ≡ Some y → x ≡ y
 same_some x y e = cc
 
-none_some : (p : ℕ) (X : Type 0) → None ≡ Some p → X
-none_some p X e = absurd (let wrong : ⊥ = cc in wrong)
-
 -- what holds of each object holds of the one that is found
 each_find : (P : Node → Type 0) (test : Node → Bool) (nodes : List Node) (node : Node)
     → Each P nodes → find test nodes ≡ Some node → P node

@@ -33,12 +33,6 @@ use Rattle.room_judge.proofs.Spots.{below_of, missing, last_look, stem, way_alon
 -- ---- the folder of the last name
 
 module _ (asker : Asker) (path : List (List ℕ)) (from : Found) where
-  -- a folder that is refused, as a document or without EXECUTE, bars the spot with that reply
-  pub spot_barred : (old new : Rows) (reply : Reply)
-      → IsJudged asker (through (found_site path from)) old (Some reply) new
-      → SpotsUnder asker path from old (Barred reply) new
-  spot_barred old new reply judged = record { judged = judged; folder = tt; child = tt }
-
   -- where the folder is passed, the spot is the folder with what has the next name in it
   pub spot_found : (old mid new : Rows) (spot : Spot)
       → IsJudged asker (through (found_site path from)) old None mid → IsSpotIn path from mid spot
@@ -346,25 +340,6 @@ pub walked_front : (asker : Asker) (path : List (List ℕ)) (depth : ℕ) (arriv
 walked_front asker path depth arrival old new deep reached =
     subst (λ (p : List (List ℕ)). IsReached asker p (λ _. []) old arrival new)
     (take_front path depth deep) reached
-
--- the same where the names that were walked are cut off a copy of the path
-pub reached_front : (asker : Asker) (path names begin : List (List ℕ)) (arrival place : Arrival)
-    (old new : Rows) → 0 < length path → names ≡ path → begin ≡ take (length names - 1) path
-    → arrival ≡ place
-    → IsReached asker begin (λ _. []) old arrival new
-    → IsReached asker (front path) (λ _. []) old place new
-reached_front asker path names begin arrival place old new some are is comes reached =
-    let size : length names ≡ length path = ap (λ (l : List (List ℕ)). length l) are in
-    let deep : length path ≡ (length names - 1) + 1 = omega arith in
-    subst (λ (p : List (List ℕ)). IsReached asker p (λ _. []) old place new)
-    (is ∙ take_front path (length names - 1) deep)
-    (subst (λ (a : Arrival). IsReached asker begin (λ _. []) old a new) comes reached)
-
--- a spot that was reached may be replaced by one that is equal to it
-pub spotted_as : (asker : Asker) (path : List (List ℕ)) (spot other : Spot) (old new : Rows)
-    → spot ≡ other → IsSpotted asker path old spot new → IsSpotted asker path old other new
-spotted_as asker path spot other old new same spotted =
-    subst (λ (s : Spot). IsSpotted asker path old s new) same spotted
 
 -- so may, in a spot under a folder, what has the last name there
 pub spotted_child : (asker : Asker) (path : List (List ℕ)) (folder : Found)

@@ -36,10 +36,6 @@ noted_more old first second = ap (with_audits old) (append_assoc old.read.audits
 
 -- ---- lists of items in parts
 
-or_else_none : (o : Option Reply) → or_else o None ≡ o
-or_else_none None = refl
-or_else_none (Some reply) = refl
-
 or_else_group : (a b c : Option Reply) → or_else a (or_else b c) ≡ or_else (or_else a b) c
 or_else_group None b c = refl
 or_else_group (Some reply) b c = refl
@@ -77,86 +73,12 @@ module _ (caller : Caller) (moment : ℤ) where
       on None first = sym (append_assoc first (records_of_plan caller moment items) _)
       on (Some reply) first = sym (append-nil (first ++ []))
 
-  -- one check alone
-  pub records_of_check : (site : Site) (bits : List ℕ)
-      → records_of_plan caller moment (Check site bits ∷ [])
-      ≡ records_of caller moment (passes caller (Check site bits)) (site, bits)
-  records_of_check site bits = on (passes caller (Check site bits))
-    where
-      on : (t : Bool) → records_of_checks caller moment t ((site, bits) ∷ []) ++ cond t [] []
-          ≡ records_of caller moment t (site, bits)
-      on true = append-nil _ ∙ append-nil _
-      on false = append-nil _ ∙ append-nil _
-
--- the refusal of an object of another kind
-pub kind_item : (wanted : ObjKind) (site : Site)
-    → of_kind wanted site ≡ Refusal site.path WrongKind (is_other site.node.kind wanted)
-kind_item Document site = refl
-kind_item Folder site =
-    ap (λ (t : Bool). Refusal site.path WrongKind t) (twice (is_document site.node.kind))
-  where
-    twice : (t : Bool) → not (not t) ≡ t
-    twice true = refl
-    twice false = refl
-
--- what `is_none` answers
-pub none_is : {X : Type 0} (o : Option X) (t : Bool) → is_some o ≡ not t → t ≡ is_none o
-none_is None true is = refl
-none_is None false is = is
-none_is (Some x) true is = is
-none_is (Some x) false is = refl
-
 -- ---- judging in parts
 
 module _ (asker : Asker) where
   -- where there is nothing to judge, nothing is refused, and no records are added
   pub judged_none : (old new : Rows) → new ≡ old → IsJudged asker [] old None new
   judged_none old new same = record { answers = refl; notes = same ∙ sym (noted_none old) }
-
-  -- one check is judged by whether it fails, with the records of that outcome added
-  pub judged_check : (site : Site) (bits : List ℕ) (old new : Rows) (answer : Option Reply)
-      → answer ≡ failure asker.caller (Check site bits)
-      → new ≡ noted old (records_of asker.caller asker.at (is_none answer) (site, bits))
-      → IsJudged asker (Check site bits ∷ []) old answer new
-  judged_check site bits old new answer is notes = record {
-    answers = is ∙ sym (or_else_none (failure asker.caller (Check site bits)));
-    notes =
-        notes ∙ ap (λ o. noted old (records_of asker.caller asker.at (is_none o) (site, bits))) is
-        ∙ ap (noted old) (sym (records_of_check asker.caller asker.at site bits));
-  }
-
-  -- a deletion is judged with the records of two checks, DELETE there and a right at the parent
-  pub judged_deletion : (target parent : Site) (second : List ℕ) (old new : Rows)
-      (answer : Option Reply) → answer ≡ failure asker.caller (Deletion target parent)
-      → second ≡ cond (is_by_adding asker.caller target parent) write_data delete_child ∷ []
-      → new
-      ≡ noted old (records_of_checks asker.caller asker.at (is_none answer)
-      ((target, delete ∷ []) ∷ (parent, second) ∷ []))
-      → IsJudged asker (Deletion target parent ∷ []) old answer new
-  judged_deletion target parent second old new answer is rights notes = record {
-    answers = is ∙ sym (or_else_none (failure asker.caller (Deletion target parent)));
-    notes =
-        notes ∙ ap (λ o. noted old (of_both (is_none o) second)) is
-        ∙ ap (λ s. noted old (of_both (passes asker.caller (Deletion target parent)) s)) rights
-        ∙ ap (noted old) (sym (plain (passes asker.caller (Deletion target parent))));
-  }
-    where
-      of_both : Bool → List ℕ → List AuditRow
-      of_both t bits =
-          records_of_checks asker.caller asker.at t ((target, delete ∷ []) ∷ (parent, bits) ∷ [])
-
-      plain : (t : Bool)
-          → of_both t (cond (is_by_adding asker.caller target parent) write_data delete_child ∷ [])
-          ++ cond t [] []
-          ≡ of_both t (cond (is_by_adding asker.caller target parent) write_data delete_child ∷ [])
-      plain true = append-nil _
-      plain false = append-nil _
-
-  -- items judged with one answer are judged with any answer equal to it
-  pub judged_as : (items : List Item) (answer other : Option Reply) (old new : Rows)
-      → answer ≡ other → IsJudged asker items old answer new → IsJudged asker items old other new
-  judged_as items answer other old new same judged =
-      subst (λ (o : Option Reply). IsJudged asker items old o new) same judged
 
   -- what can't be read afterwards couldn't be read before
   pub blames_first : (items : List Item) (answer : Option Reply) (old new : Rows) (at : ℕ)

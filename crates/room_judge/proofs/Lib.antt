@@ -5,6 +5,5 @@ pub mod Ways
 pub mod Walked
 pub mod Spots
 pub mod Folders
-pub mod Verdicts
 pub mod Halts
 pub mod Pairing

@@ -91,14 +91,6 @@ module _ (asker : Asker) (path : List (List ℕ)) (n : ℕ) (within : n ≤ leng
       (all ∙ sym size) walking
   walk_done depth (Ended reply) old now all walking = walking
 
--- all names of the path
-pub walked_whole : (asker : Asker) (path : List (List ℕ)) (n : ℕ) (arrival : Arrival)
-    (old new : Rows) → n ≡ length path → IsReached asker (take n path) (λ _. []) old arrival new
-    → IsReached asker path (λ _. []) old arrival new
-walked_whole asker path n arrival old new all reached =
-    subst (λ p. IsReached asker p (λ _. []) old arrival new)
-    (ap (λ (k : ℕ). take k path) all ∙ take-length path) reached
-
 -- ---- from the root
 
 -- no step is done at the root
@@ -109,17 +101,6 @@ root_reached asker path n node old new none is same =
     subst (λ (k : ℕ). IsReached asker (take k path) (λ _. []) old (At node) new) (sym none)
     (way_done asker [] (record { node = node; depth = 0 }) old new refl
     (way_begins asker [] node old new is same))
-
--- the first step
-pub first_step : (asker : Asker) (path : List (List ℕ)) (n : ℕ) → n ≤ length path
-    → (root : Found) (next : Arrival) (old new : Rows) → root.depth ≡ 0 → 0 < n
-    → root_of old.read ≡ Some root.node → IsStepDown asker path root old next new
-    → IsWalking asker (take n path) 1 next old new
-first_step asker path n within root next old new top some is step =
-    walks_on asker path n within 0 (At root.node) next old old new some
-    (way_begins asker (take n path) root.node old old is refl)
-    (subst (λ (d : ℕ). IsStepDown asker path (record { node = root.node; depth = d }) old next new)
-    top step)
 
 -- the root that was read is that of the rows
 pub reached_from : (asker : Asker) (path : List (List ℕ)) (root : Node) (arrival : Arrival)

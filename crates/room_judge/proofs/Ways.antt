@@ -23,17 +23,6 @@ use Rattle.room_judge.proofs.Judging.{SoFar, fails_first, passes_first, judged_n
 
 -- ---- one step
 
--- a refusal alone
-pub refusal_alone : (asker : Asker) (path : List (List ℕ)) (holds : Bool) (old new : Rows)
-    (answer : Option Reply) → answer ≡ cond holds (Some (Refused path NoSuch)) None → new ≡ old
-    → IsJudged asker (Refusal path NoSuch holds ∷ []) old answer new
-refusal_alone asker path true old new answer is same =
-    subst (λ (o : Option Reply). IsJudged asker (Refusal path NoSuch true ∷ []) old o new) (sym is)
-    (refuses asker path NoSuch true [] old new (Refused path NoSuch) refl refl same)
-refusal_alone asker path false old new answer is same =
-    subst (λ (o : Option Reply). IsJudged asker (Refusal path NoSuch false ∷ []) old o new) (sym is)
-    (passes_on asker path NoSuch false [] old new None refl (judged_none asker old new same))
-
 one_name_more : (path : List (List ℕ)) (depth : ℕ) → depth < length path
     → take (depth + 1) path ≡ take depth path ++ name_after path depth ∷ []
 one_name_more path depth below = take_more path depth [] below
@@ -45,56 +34,6 @@ module _ (asker : Asker) (path : List (List ℕ)) (from : Found)
 
   abbrev site : Site
   site = found_site path from
-
-  step_ends : (old new : Rows) (reply : Reply) → IsJudged asker (through site) old (Some reply) new
-      → IsStepDown asker path from old (Ended reply) new
-  step_ends old new reply judged =
-      record {
-        judged = fails_first asker (through site)
-            (Refusal (site.path ++ name ∷ []) NoSuch (is_none (child_of old.read from.node.id name))
-            ∷ []) old new reply judged;
-        found =
-            tt;
-      }
-
-  step_goes_on : (old mid new : Rows) (arrival : Arrival)
-      → IsJudged asker (through site) old None mid → FindsNext path from mid arrival new
-      → IsStepDown asker path from old arrival new
-  step_goes_on old mid new arrival judged finds =
-      let same_child : child_of mid.read from.node.id name ≡ child_of old.read from.node.id name =
-      ap (λ (r : Rows). child_of r.read from.node.id name) judged.notes in
-      record {
-        judged =
-            passes_first asker (through site)
-            (Refusal (site.path ++ name ∷ []) NoSuch (is_none (child_of old.read from.node.id name))
-            ∷ []) old mid new (ending_reply arrival) judged
-            (refusal_alone asker (site.path ++ name ∷ [])
-            (is_none (child_of old.read from.node.id name)) mid new (ending_reply arrival)
-            (finds.answers
-            ∙ ap (λ (o : Option Node). cond (is_none o)
-            (Some (Refused (take (from.depth + 1) path) NoSuch)) None) same_child
-            ∙ ap (λ (p : List (List ℕ)). cond (is_none (child_of old.read from.node.id name))
-            (Some (Refused p NoSuch)) None) (one_name_more path from.depth below))
-            finds.same);
-        found = moved arrival finds.found;
-      }
-    where
-      moved : (arrival : Arrival)
-          → IfAt arrival (λ next. child_of mid.read from.node.id name ≡ Some next)
-          → IfAt arrival (λ next. child_of old.read from.node.id name ≡ Some next)
-      moved (At next) h =
-          sym (ap (λ (r : Rows). child_of r.read from.node.id name) judged.notes) ∙ h
-      moved (Ended reply) h = tt
-
-  -- an object judged on the way, and what comes of that, are one step down, refused or not
-  pub step_taken : (old mid new : Rows) (refusal : Option Reply) (arrival : Arrival)
-      → IsJudged asker (through site) old refusal mid → GoesOn path from refusal mid arrival new
-      → IsStepDown asker path from old arrival new
-  step_taken old mid new None arrival judged goes = step_goes_on old mid new arrival judged goes
-  step_taken old mid new (Some reply) arrival judged goes =
-      subst (λ (a : Arrival). IsStepDown asker path from old a new) (sym goes.0)
-      (step_ends old new reply
-      (subst (λ (r : Rows). IsJudged asker (through site) old (Some reply) r) (sym goes.1) judged))
 
 -- the name that is read off the path
 pub name_read : (path names : List (List ℕ)) (i : ℕ) (name text : List ℕ) → names ≡ path
@@ -110,41 +49,6 @@ reached_blames asker path items arrival old now at reached h =
     subst (λ (r : Rows). IsUnreadable r at) reached.judged.notes h
 
 -- the check that the next name is there
-module _ (path : List (List ℕ)) (from : Found) where
-  -- where a child has the next name, the walk comes to it
-  pub found_next : (old new : Rows) (name : List ℕ) (next : Node)
-      → name ≡ name_after path from.depth → new ≡ old
-      → Some next ≡ child_of old.read from.node.id name → FindsNext path from old (At next) new
-  found_next old new name next named same is =
-      let child : child_of old.read from.node.id (name_after path from.depth) ≡ Some next = ap
-      (child_of old.read from.node.id) (sym named) ∙ sym is in
-      record {
-        same = same;
-        answers =
-            ap (λ (o : Option Node). cond (is_none o)
-            (Some (Refused (take (from.depth + 1) path) NoSuch)) None) (sym child);
-        found =
-            child;
-      }
-
-  -- where no child has the next name, the walk ends, refused with the names as far as that one
-  pub none_next : (old new : Rows) (name : List ℕ) (reply : Reply)
-      → name ≡ name_after path from.depth → new ≡ old → None ≡ child_of old.read from.node.id name
-      → reply ≡ Refused (take (from.depth + 1) path) NoSuch
-      → FindsNext path from old (Ended reply) new
-  none_next old new name reply named same is refusal =
-      let child : child_of old.read from.node.id (name_after path from.depth) ≡ None = ap
-      (child_of old.read from.node.id) (sym named) ∙ sym is in
-      record {
-        same = same;
-        answers =
-            ap (λ (r : Reply). Some r) refusal
-            ∙ ap (λ (o : Option Node). cond (is_none o)
-            (Some (Refused (take (from.depth + 1) path) NoSuch)) None) (sym child);
-        found =
-            tt;
-      }
-
 -- ---- the whole way
 
 not_empty : (rows : Content) (path : List (List ℕ)) (node : Node) (names : List (List ℕ))

@@ -34,9 +34,6 @@ name_by_bytes name some short dot dots utf8 =
 
 -- ---- which fault comes first
 
-pub too_long : (bytes : List ℕ) → 4096 < length bytes → path_of bytes ≡ Err TooLong
-too_long bytes long = cond-true _ _ _ (lt-ltb 4096 (length bytes) long)
-
 pub within : (bytes : List ℕ) → length bytes ≤ 4096
     → path_of bytes ≡ (if is_utf8 bytes then names_in (pieces 47 bytes) else Err NotUtf8)
 within bytes short = cond-false _ _ _ (le-ltb 4096 (length bytes) short)

@@ -82,33 +82,6 @@ module _ (content : Content) (change : Node → Node) (same : KeepsPlaces conten
   rises-with_each rises =
       subst (λ (ids : List ℕ). IsTrue (is_rising (0 ∷ ids))) (sym numbers-with_each) rises
 
-  -- what depends on the place alone stays, as the numbers and names of the children
-  pub children_of-part : {A : Type 0} (part : Node → A)
-      → ((a b : Node) → IsSamePlace a b → part a ≡ part b) → (id : ℕ)
-      → map part (children_of (with_each content change) id) ≡ map part (children_of content id)
-  children_of-part part of_place id =
-      ap (map part) (children_of-with_each id)
-      ∙ same_place.map-changed change part of_place (children_of content id)
-      (lookups.each-sorted (λ (n : Node). IsSamePlace (change n) n)
-      (filter (has_parent id) content.nodes)
-      (lookups.each-weaker (λ (n : Node). IsSamePlace (change n) n × (has_parent id n ≡ true))
-      (λ (n : Node). IsSamePlace (change n) n) (λ n is. is.0) (filter (has_parent id) content.nodes)
-      (lookups.each-kept (λ (n : Node). IsSamePlace (change n) n)
-      (has_parent id) content.nodes same)))
-
-  -- the numbers in the list of children stay, in their order
-  pub children_numbers-with_each : (id : ℕ)
-      → map (λ (n : Node). n.id) (children_of (with_each content change) id)
-      ≡ map (λ (n : Node). n.id) (children_of content id)
-  children_numbers-with_each id =
-      children_of-part (λ (n : Node). n.id) (λ a b place. place.number) id
-
-  -- the names in the list of children stay, in their order
-  pub children_names-with_each : (id : ℕ)
-      → map (λ (n : Node). n.name) (children_of (with_each content change) id)
-      ≡ map (λ (n : Node). n.name) (children_of content id)
-  children_names-with_each id = children_of-part (λ (n : Node). n.name) (λ a b place. place.name) id
-
   parent_at : (parent : Option ℕ)
       → option_and_then (node_at (with_each content change)) parent
       ≡ option_map change (option_and_then (node_at content) parent)
@@ -146,75 +119,6 @@ module _ (content : Content) (rises : Rises content) (id : ℕ) (node new : Node
       (same_place.put-replaces 0 content.nodes id node new rises found
       (same.number ∙ node_at-number content id node found))
 
-  -- the new object in place of the old one leaves the number, parent and name of each object
-  pub places-replaced : KeepsPlaces content (replaced new)
-  places-replaced = same_place.replaced_places 0 content.nodes id node new rises found same
-
-  -- by the number of the new object it is found, and by any other what was found before
-  pub node_at-replaced : (at : ℕ)
-      → node_at (with_node content new) at ≡ option_map (replaced new) (node_at content at)
-  node_at-replaced at =
-      ap (λ (c : Content). node_at c at) with_node-replaces
-      ∙ node_at-with_each content (replaced new) places-replaced at
-
-  -- the root is the new object if it replaced the root, and else the same as before
-  pub root_of-replaced : root_of (with_node content new)
-      ≡ option_map (replaced new) (root_of content)
-  root_of-replaced =
-      ap root_of with_node-replaces ∙ root_of-with_each content (replaced new) places-replaced
-
-  -- a name below an object leads to the same child, or to the new object if it replaced that
-  pub child_of-replaced : (at : ℕ) (name : List ℕ)
-      → child_of (with_node content new) at name
-      ≡ option_map (replaced new) (child_of content at name)
-  child_of-replaced at name =
-      ap (λ (c : Content). child_of c at name) with_node-replaces
-      ∙ child_of-with_each content (replaced new) places-replaced at name
-
-  -- the list of children is as before, but for the new object where the old one was in it
-  pub children_of-replaced : (at : ℕ)
-      → children_of (with_node content new) at ≡ map (replaced new) (children_of content at)
-  children_of-replaced at =
-      ap (λ (c : Content). children_of c at) with_node-replaces
-      ∙ children_of-with_each content (replaced new) places-replaced at
-
-  -- the parent of any object is the same as before, or the new object if it replaced that
-  pub parent_of-replaced : (other : Node)
-      → parent_of (with_node content new) other
-      ≡ option_map (replaced new) (parent_of content other)
-  parent_of-replaced other =
-      ap (λ (c : Content). parent_of c other) with_node-replaces
-      ∙ parent_of-with_each content (replaced new) places-replaced other
-
-  -- the children of any object have the numbers that they had before one was replaced
-  pub children_numbers-replaced : (at : ℕ)
-      → map (λ (n : Node). n.id) (children_of (with_node content new) at)
-      ≡ map (λ (n : Node). n.id) (children_of content at)
-  children_numbers-replaced at =
-      ap (λ (c : Content). map (λ (n : Node). n.id) (children_of c at)) with_node-replaces
-      ∙ children_numbers-with_each content (replaced new) places-replaced at
-
-  -- the children of any object have the names that they had before one was replaced
-  pub children_names-replaced : (at : ℕ)
-      → map (λ (n : Node). n.name) (children_of (with_node content new) at)
-      ≡ map (λ (n : Node). n.name) (children_of content at)
-  children_names-replaced at =
-      ap (λ (c : Content). map (λ (n : Node). n.name) (children_of c at)) with_node-replaces
-      ∙ children_names-with_each content (replaced new) places-replaced at
-
-  -- an object replaced by one of its number leaves the list of all numbers as it was
-  pub numbers-replaced : map (λ (n : Node). n.id) (with_node content new).nodes
-      ≡ map (λ (n : Node). n.id) content.nodes
-  numbers-replaced =
-      ap (λ (c : Content). map (λ (n : Node). n.id) c.nodes) with_node-replaces
-      ∙ numbers-with_each content (replaced new) places-replaced
-
-  -- the numbers of the objects rise still once one is replaced by another of its number
-  pub rises-replaced : Rises (with_node content new)
-  rises-replaced =
-      subst Rises (sym with_node-replaces)
-      (rises-with_each content (replaced new) places-replaced rises)
-
 -- all numbers in use stay
 pub numbers_of-reading : (rows : Rows) (content : Content)
     → map (λ (n : Node). n.id) content.nodes ≡ map (λ (n : Node). n.id) rows.read.nodes
@@ -239,11 +143,6 @@ place-with_inh which entries node =
 pub place-with_owners : (owners : Owners) (node : Node) → IsSamePlace (with_owners owners node) node
 place-with_owners owners node = record { number = refl; parent = refl; name = refl }
 
--- a move leaves the number
-pub number-with_place : (parent : ℕ) (name : List ℕ) (node : Node)
-    → (with_place parent name node).id ≡ node.id
-number-with_place parent name node = refl
-
 -- ---- the lists of a changed object
 
 -- the list that was set is the object's list of that attribute
@@ -252,69 +151,13 @@ pub held_of-with_held : (which : Which) (held : Held) (node : Node)
 held_of-with_held Dacl held node = refl
 held_of-with_held Sacl held node = refl
 
--- the list of the other attribute stays when one is set
-pub held_of-with_held-other : (which other : Which) (held : Held) (node : Node)
-    → (which ≡ other → ⊥) → held_of other (with_held which held node) ≡ held_of other node
-held_of-with_held-other Dacl Dacl held node apart = absurd (apart refl)
-held_of-with_held-other Dacl Sacl held node apart = refl
-held_of-with_held-other Sacl Dacl held node apart = refl
-held_of-with_held-other Sacl Sacl held node apart = absurd (apart refl)
-
 -- inherited entries that are set leave the own entries and flags of their list
 pub held_of-with_inh : (which : Which) (entries : List Ace) (node : Node)
     → held_of which (with_inh which entries node) ≡ record (held_of which node) { inh = entries }
 held_of-with_inh which entries node =
     held_of-with_held which (record (held_of which node) { inh = entries }) node
 
--- they leave the list of the other attribute as a whole
-pub held_of-with_inh-other : (which other : Which) (entries : List Ace) (node : Node)
-    → (which ≡ other → ⊥) → held_of other (with_inh which entries node) ≡ held_of other node
-held_of-with_inh-other which other entries node apart =
-    held_of-with_held-other which other (record (held_of which node) { inh = entries }) node apart
-
--- with another list a document is still a document, and a folder a folder
-pub kind-with_held : (which : Which) (held : Held) (node : Node)
-    → (with_held which held node).kind ≡ node.kind
-kind-with_held Dacl held node = refl
-kind-with_held Sacl held node = refl
-
--- with another list an object still has its owner and group
-pub owners-with_held : (which : Which) (held : Held) (node : Node)
-    → (with_held which held node).owners ≡ node.owners
-owners-with_held Dacl held node = refl
-owners-with_held Sacl held node = refl
-
 -- ---- what isn't an object
-
--- an object that is put leaves the bytes of all documents
-pub body_of-with_node : (content : Content) (node : Node) (id : ℕ)
-    → body_of (with_node content node) id ≡ body_of content id
-body_of-with_node content node id = refl
-
--- it leaves the groups of each user
-pub groups_of-with_node : (content : Content) (node : Node) (user : List ℕ)
-    → groups_of (with_node content node) user ≡ groups_of content user
-groups_of-with_node content node user = refl
-
--- it leaves the records
-pub records-with_node : (content : Content) (node : Node)
-    → (with_node content node).audits ≡ content.audits
-records-with_node content node = refl
-
--- a change of each object leaves the bytes of all documents
-pub body_of-with_each : (content : Content) (change : Node → Node) (id : ℕ)
-    → body_of (with_each content change) id ≡ body_of content id
-body_of-with_each content change id = refl
-
--- bytes that are set leave the objects
-pub node_at-with_body : (content : Content) (id : ℕ) (bytes : List ℕ) (at : ℕ)
-    → node_at (with_body content id bytes) at ≡ node_at content at
-node_at-with_body content id bytes at = refl
-
--- records that are added leave the objects
-pub node_at-with_records : (content : Content) (rows : List AuditRow) (at : ℕ)
-    → node_at (with_records content rows) at ≡ node_at content at
-node_at-with_records content rows at = refl
 
 body_yes : (row : ℕ × List ℕ) (rows : List (ℕ × List ℕ)) (id : ℕ) → (row.0 == id) ≡ true
     → body_at (row ∷ rows) id ≡ Some row.1

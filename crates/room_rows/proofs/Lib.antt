@@ -8,5 +8,3 @@ pub mod Lookups
 pub mod SamePlace
 pub mod Frames
 pub mod InPlace
-pub mod Writes
-pub mod Chains

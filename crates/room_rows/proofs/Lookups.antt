@@ -179,56 +179,12 @@ stands-found p (y ∷ ys) node found = elim (cases_Bool (p y)) [
   | inr isnt ↦ inr (stands-found p ys node (sym (find_no p y ys isnt) ∙ found))
 ]
 
--- an object that passes a test is among those of the list that are kept by it
-pub stands-kept : (q : Node → Bool) (nodes : List Node) (node : Node) → Stands node nodes
-    → q node ≡ true → Stands node (filter q nodes)
-stands-kept q [] node h kept = absurd h
-stands-kept q (y ∷ ys) node (inl it) kept =
-    subst (Stands node) (sym (keep_yes q y ys (ap q it ∙ kept))) (inl it)
-stands-kept q (y ∷ ys) node (inr later) kept =
-    let rest = stands-kept q ys node later kept in
-    elim (cases_Bool (q y)) [
-      | inl stays ↦ subst (Stands node) (sym (keep_yes q y ys stays)) (inr rest)
-      | inr goes ↦ subst (Stands node) (sym (keep_no q y ys goes)) rest
-    ]
-
-stands-put_by_name : (other : Node) (nodes : List Node) (node : Node) → (other ≡ node)
-    ⊎ Stands node nodes → Stands node (put_by_name other nodes)
-stands-put_by_name other [] node h = h
-stands-put_by_name other (y ∷ ys) node h = elim (cases_Bool (is_before y.name other.name)) [
-  | inl is ↦ subst (Stands node) (sym (name_behind other y ys is)) (elim h [
-    | inl it ↦ inr (stands-put_by_name other ys node (inl it))
-    | inr rest ↦
-        elim rest [
-          | inl it ↦ inl it
-          | inr later ↦
-              inr (stands-put_by_name other ys node (inr later))
-        ]
-  ])
-  | inr isnt ↦ subst (Stands node) (sym (name_here other y ys isnt)) h
-]
-
--- an object of a list is in the list sorted by name
-pub stands-sorted : (nodes : List Node) (node : Node) → Stands node nodes
-    → Stands node (sorted_by_name nodes)
-stands-sorted [] node h = absurd h
-stands-sorted (y ∷ ys) node (inl it) = stands-put_by_name y (sorted_by_name ys) node (inl it)
-stands-sorted (y ∷ ys) node (inr later) =
-    stands-put_by_name y (sorted_by_name ys) node (inr (stands-sorted ys node later))
-
 -- what holds of each object of a list holds of one that is in it
 pub stands-each : (P : Node → Type 0) (nodes : List Node) (node : Node) → AllByRecursion P nodes
     → Stands node nodes → P node
 stands-each P [] node each h = absurd h
 stands-each P (y ∷ ys) node each (inl it) = subst P it each.0
 stands-each P (y ∷ ys) node each (inr later) = stands-each P ys node each.1 later
-
--- an object of a list is contained in it as contracts say it, at some index
-pub contains-stands : (nodes : List Node) (node : Node) → Stands node nodes → Contains nodes node
-contains-stands [] node h = absurd h
-contains-stands (y ∷ ys) node (inl it) = (0, omega arith, it)
-contains-stands (y ∷ ys) node (inr later) = let rest = contains-stands ys node later in let below =
-    rest.1 in (suc rest.0, omega (arith, below), rest.2)
 
 -- ---- numbers
 
@@ -329,53 +285,3 @@ find-put_other node (x ∷ xs) id other =
         | inr above ↦ ap (find test) (put_before node x xs above) ∙ find_no test node (x ∷ xs) fails
       ]
     ]
-
--- a new object that fails a test leaves what the test finds
-pub find-put_failing : (p : Node → Bool) (node : Node) (nodes : List Node) → p node ≡ false
-    → find_id node.id nodes ≡ None → find p (put_node node nodes) ≡ find p nodes
-find-put_failing p node [] fails unused = find_no p node [] fails
-find-put_failing p node (x ∷ xs) fails unused =
-    let parts = none_found (λ (n : Node). n.id == node.id) x xs unused in
-    elim (cases_order x.id node.id) [
-      | inl e ↦ absurd (false≢true (sym parts.0 ∙ eq-eqb x.id node.id e))
-      | inr apart ↦ elim apart [
-        | inl below ↦ ap (find p) (put_behind node x xs below) ∙ (elim (cases_Bool (p x)) [
-          | inl is ↦ find_yes p x (put_node node xs) is ∙ sym (find_yes p x xs is)
-          | inr isnt ↦ find_no p x (put_node node xs) isnt
-              ∙ find-put_failing p node xs fails parts.1 ∙ sym (find_no p x xs isnt)
-        ])
-        | inr above ↦ ap (find p) (put_before node x xs above) ∙ find_no p node (x ∷ xs) fails
-      ]
-    ]
-
--- an object that passes a test which none passed is what the test finds
-pub find-put_passing : (p : Node → Bool) (node : Node) (nodes : List Node) → p node ≡ true
-    → find p nodes ≡ None → find p (put_node node nodes) ≡ Some node
-find-put_passing p node [] passes none = find_yes p node [] passes
-find-put_passing p node (x ∷ xs) passes none =
-    let parts = none_found p x xs none in
-    elim (cases_order x.id node.id) [
-      | inl e ↦ ap (find p) (put_same node x xs e) ∙ find_yes p node xs passes
-      | inr apart ↦ elim apart [
-        | inl below ↦ ap (find p) (put_behind node x xs below)
-            ∙ find_no p x (put_node node xs) parts.0 ∙ find-put_passing p node xs passes parts.1
-        | inr above ↦ ap (find p) (put_before node x xs above) ∙ find_yes p node (x ∷ xs) passes
-      ]
-    ]
-
--- of two with the same number the later one stays
-pub put-put : (first second : Node) (nodes : List Node) → first.id ≡ second.id
-    → put_node second (put_node first nodes) ≡ put_node second nodes
-put-put first second [] e = put_same second first [] e
-put-put first second (x ∷ xs) e = elim (cases_order x.id first.id) [
-  | inl same ↦ ap (put_node second) (put_same first x xs same) ∙ put_same second first xs e
-      ∙ sym (put_same second x xs (same ∙ e))
-  | inr apart ↦ elim apart [
-    | inl below ↦ ap (put_node second) (put_behind first x xs below)
-        ∙ put_behind second x (put_node first xs) (omega (arith, below, e))
-        ∙ ap (λ (l : List Node). x ∷ l) (put-put first second xs e)
-        ∙ sym (put_behind second x xs (omega (arith, below, e)))
-    | inr above ↦ ap (put_node second) (put_before first x xs above)
-        ∙ put_same second first (x ∷ xs) e ∙ sym (put_before second x xs (omega (arith, above, e)))
-  ]
-]

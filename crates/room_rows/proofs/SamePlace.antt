@@ -87,48 +87,6 @@ put_there k (x ∷ xs) node rises found =
           ∙ ap (λ (l : List Node). x ∷ l) (put_there x.id xs node parts.1 later)
     ]
 
-place_of : (a b c : Node) → a ≡ b → IsSamePlace b c → IsSamePlace a c
-place_of a b c e same = subst (λ (n : Node). IsSamePlace n c) (sym e) same
-
-untouched_places : (k : ℕ) (nodes : List Node) (new : Node)
-    → is_rising (k ∷ map (λ (n : Node). n.id) nodes) ≡ true → new.id ≤ k
-    → AllByRecursion (λ (n : Node). IsSamePlace (replaced new n) n) nodes
-untouched_places k [] new rises below = tt
-untouched_places k (x ∷ xs) new rises below =
-    let parts = and_parts (nat_lt k x.id) (is_rising (x.id ∷ map (λ (n : Node). n.id) xs)) rises in
-    let up = ltb-true k x.id parts.0 in (
-      place_of (replaced new x) x x
-          (replaced_elsewhere new x (λ e. absurd (omega (arith, up, below, e)))) (same_place x),
-      untouched_places x.id xs new parts.1 (omega (arith, up, below)),
-    )
-
--- an object that replaces one of the same place leaves all places
-pub replaced_places : (k : ℕ) (nodes : List Node) (id : ℕ) (node new : Node)
-    → is_rising (k ∷ map (λ (n : Node). n.id) nodes) ≡ true → find_id id nodes ≡ Some node
-    → IsSamePlace new node
-    → AllByRecursion (λ (n : Node). IsSamePlace (replaced new n) n) nodes
-replaced_places k [] id node new rises found same = tt
-replaced_places k (x ∷ xs) id node new rises found same =
-    let parts = and_parts (nat_lt k x.id) (is_rising (x.id ∷ map (λ (n : Node). n.id) xs)) rises in
-    elim (cases_Bool (x.id == id)) [
-      | inl is ↦
-          let it = same_some x node (sym (find_yes (λ (n : Node). n.id == id) x xs is) ∙ found) in
-          let e : x.id ≡ new.id = ap (λ (n : Node). n.id) it ∙ sym same.number in (
-            place_of (replaced new x) new x (replaced_here new x e)
-                (subst (λ (n : Node). IsSamePlace new n) (sym it) same),
-            untouched_places x.id xs new parts.1 (omega (arith, e)),
-          )
-      | inr isnt ↦
-          let later = sym (find_no (λ (n : Node). n.id == id) x xs isnt) ∙ found in
-          let above = found_above x.id xs id node parts.1 later in
-          let number = same.number in
-          let below : x.id < new.id = omega (arith, above, number) in (
-            place_of (replaced new x) x x
-                (replaced_elsewhere new x (λ e. absurd (omega (arith, below, e)))) (same_place x),
-            replaced_places x.id xs id node new parts.1 later same,
-          )
-    ]
-
 -- ---- changes that leave number, parent and name
 
 module _ (change : Node → Node) where

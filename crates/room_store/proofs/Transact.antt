@@ -35,39 +35,8 @@ damage_of keep.Memory is = absurd (let e = is in cc)
 damage_of keep.Store is = absurd (let e = is in cc)
 damage_of (keep.Damaged id) is = (id, refl)
 
-no_damage : {X : Type 0} (fault : StoreFault) → fault ≡ Db
-    → ◌≡◌ {A = Result X StoreFault} (Err fault) (Err Damaged) → ⊥
-no_damage fault is damaged = absurd (let e = sym is ∙ fault_in damaged in cc)
-  where
-    fault_in : {X : Type 0} {a b : StoreFault} → ◌≡◌ {A = Result X StoreFault} (Err a) (Err b)
-        → a ≡ b
-    fault_in e = cc
-
 same_fault : {X : Type 0} {a b : StoreFault} → ◌≡◌ {A = Result X StoreFault} (Err a) (Err b) → a ≡ b
 same_fault e = cc
-
-pub refused : {X : Type 0} (old : State) (Blames : Rows → Type 0)
-    (Becomes : Rows → X → Rows → Type 0) → Ran {X = X} old old (Err Db) Blames Becomes
-refused old Blames Becomes = record {
-  leaves = record { ended = λ h. h; clean = λ h. h; was_open = λ _ h. h };
-  answers = λ _. tt;
-  committed = λ _. tt;
-  step = λ _. tt;
-  kept = λ _ _. refl;
-  tables = λ premise _. premise.tables;
-  retains = λ _ _. retains_same old.now old.now refl;
-  damaged = λ _ _ is. absurd (no_damage Db refl is);
-}
-
-pub not_looked : {X : Type 0} (old : State) (Blames : Database → Type 0)
-    (Answers : Database → X → Type 0) → Looked {X = X} old old (Err Db) Blames Answers
-not_looked old Blames Answers = record {
-  leaves = record { ended = λ h. h; clean = λ h. h; was_open = λ _ h. h };
-  same = λ _ _. refl;
-  answers = λ _. tt;
-  answer = λ _. tt;
-  damaged = λ _ _ is. absurd (no_damage Db refl is);
-}
 
 module _ (old begun mid end : State) (begins : Begins old begun) (stays : Stays begun mid)
     (ended : end.in_transaction ≡ false) (clean : doubt mid.is_clean ≤ doubt end.is_clean) where

@@ -50,26 +50,6 @@ found_above t k (x ∷ xs) n rises found =
           omega (arith, up, next)
     ]
 
--- an object that any test finds is found by its number
-pub found_self : (t : Node → Bool) (k : ℕ) (xs : List Node) (n : Node)
-    → is_rising (k ∷ map (λ (m : Node). m.id) xs) ≡ true → find t xs ≡ Some n
-    → find_id n.id xs ≡ Some n
-found_self t k [] n rises found = absurd (false≢true (sym (ap is_none found)))
-found_self t k (x ∷ xs) n rises found =
-    let parts = and_parts (nat_lt k x.id) (is_rising (x.id ∷ ids_of xs)) rises in
-    elim (cases_Bool (t x)) [
-      | inl is ↦
-          let it = same_object x n (sym (found_first t x xs is) ∙ found) in
-          found_first (λ (m : Node). m.id == n.id) x xs
-          (eq-eqb x.id n.id (ap (λ (m : Node). m.id) it)) ∙ ap Some it
-      | inr isnt ↦
-          let later = sym (found_later t x xs isnt) ∙ found in
-          let up = found_above t x.id xs n parts.1 later in
-          found_later (λ (m : Node). m.id == n.id) x xs
-          (ne_eqb x.id n.id (λ e. absurd (omega (arith, up, e))))
-          ∙ found_self t x.id xs n parts.1 later
-    ]
-
 -- what is found by its number and passes a test, is found by the test too
 pub some_passes : (t : Node → Bool) (id : ℕ) (xs : List Node) (n : Node) → find_id id xs ≡ Some n
     → t n ≡ true → find t xs ≡ None → ⊥

@@ -291,18 +291,3 @@ removed_rows nodes bodies members audits id old = record {
       (λ e other is. among_left id nodes e.0 (not-true (e.0 == id) other) is) old.bodies;
   members = old.members;
 }
-
--- other pairs in order, or other records
-pub member_rows : (nodes : List Node) (bodies : List (ℕ × List ℕ))
-    (members pairs : List (List ℕ × List ℕ)) (audits : List AuditRow) → set_of pairs ≡ pairs
-    → AreRows (memory_rows nodes bodies members audits)
-    → AreRows (memory_rows nodes bodies pairs audits)
-member_rows nodes bodies members pairs audits ordered old =
-    record {
-      numbers = old.numbers;
-      unreadable = old.unreadable;
-      apart = old.apart;
-      body_numbers = old.body_numbers;
-      bodies = old.bodies;
-      members = ordered;
-    }

@@ -465,27 +465,3 @@ module _ {Y : Type 0} where
   taken_view es new_es places nodes id tied view entries =
       ap values_of entries ∙ removed id es tied.keyed tied.sorted
       ∙ ap (filter (λ node. not (node.id == id))) view
-
-  -- the object alone
-  pub tied_alone : (node : Node) (es : List (ℕ × Node)) (places : List ((ℕ × String Y) × ℕ))
-      → 0 < node.id → node.parent ≡ None → es ≡ (node.id, node) ∷ []
-      → IsStrictlySortedBy nat_cmp (keys_of es) → AreTied es places
-  tied_alone node es places above none is sorted = record {
-    keyed = ap (list_all is_keyed) is ∙ and_from _ _ (eq-eqb node.id node.id refl) refl;
-    sorted = sorted;
-    rising =
-        ap (λ (l : List (ℕ × Node)). is_rising (0 ∷ map (λ (n : Node). n.id) (values_of l))) is
-        ∙ and_from _ _ (lt-ltb 0 node.id above) refl;
-    listed = λ id p m found has. elim (cases_Bool (node.id == id)) [
-      | inl here ↦
-          let it : node ≡ m = same_object node m
-          (sym (cond-true _ _ _ here)
-          ∙ ap (λ (l : List (ℕ × Node)). find_id id (values_of l)) (sym is) ∙ found) in
-          absurd (false≢true (ap is_none (sym has ∙ ap (λ (n : Node). n.parent) (sym it) ∙ none)))
-      | inr isnt ↦
-          absurd
-          (false≢true
-          (sym (ap is_none (sym (cond-false _ (Some node) _ isnt)
-          ∙ ap (λ (l : List (ℕ × Node)). find_id id (values_of l)) (sym is) ∙ found))))
-    ];
-  }

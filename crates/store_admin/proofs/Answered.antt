@@ -23,10 +23,3 @@ unfolding Shown
 answered sql params old new (Ok rows) ok now = let h = ok now in
     at_open sql h.0 _ old new rows.items h.0.returning h.2
 answered sql params old new (Err e) ok now = tt
-
--- a call after another one
-pub answered_behind : {X E : Type 0} (a b c : State) (r : Result X E) → Stays a b
-    → doubt b.is_clean ≤ doubt c.is_clean → AnswersOpen b c r → AnswersOpen a c r
-answered_behind a b c (Ok x) stays clean opens now =
-    (stays.within.was_open (omega (arith, clean, now)) (opens now).0, (opens now).1)
-answered_behind a b c (Err e) stays clean opens now = tt

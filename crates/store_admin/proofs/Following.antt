@@ -10,31 +10,6 @@ use Rattle.store_admin.specs.Carries.{CallsInside, NoTables}
 use Rattle.store_admin.specs.Operating.{Exchanges, ExchangesMembers, Gathers}
 use Rattle.store_admin.proofs.Gathering.{replaced}
 
-pub gathered : (a b c : State) (before mid after : List Pair) (r : Result (Unit {0}) KeepFault)
-    → CallsInside {X = Unit {0}} a b (Ok tt) NoTables (Gathers before mid)
-    → CallsInside b c r NoTables (Gathers mid after)
-    → CallsInside a c r NoTables (Gathers before after)
-gathered a b c before mid after (Ok done) p q = record {
-  stays = stays_on a b c p.stays q.stays;
-  becomes = λ trust held.
-      let one = p.becomes (trusted_first a b c p.stays q.stays trust) held in
-      let two = q.becomes (trusted_last a b c p.stays q.stays trust) one.members in
-      record {
-        nodes = two.nodes ∙ one.nodes;
-        bodies = two.bodies ∙ one.bodies;
-        members = two.members;
-        only = λ all. two.only (one.only all);
-        meta = two.meta ∙ one.meta;
-        audits = two.audits ∙ one.audits;
-      };
-  blames = λ trust id is. absurd (let e = is in cc);
-}
-gathered a b c before mid after (Err fault) p q = record {
-  stays = stays_on a b c p.stays q.stays;
-  becomes = λ _. tt;
-  blames = λ trust id is. q.blames (trusted_last a b c p.stays q.stays trust) id is;
-}
-
 pub exchanged : (pairs order : List Pair) (a b c : State) (count : ℕ)
     (r : Result (Unit {0}) KeepFault) → IsPermutation pairs order
     → ExecutesSql (OfAny (Exchanges [])) a b (Ok count)

@@ -207,12 +207,6 @@ unfolding Shown
 shown_nowhere old new rows has h = let e =
     sym asked_nowhere ∙ ap (λ s. understood s number_text) (sym has) ∙ h.1.is in cc
 
--- so nothing shows a number over it
-pub no_version : (version : Option ℤ) (db : Database) → db.schema ≡ no_schema
-    → ShowsVersion version db → ⊥
-no_version version db has v = let e =
-    sym asked_nowhere ∙ ap (λ s. understood s number_text) (sym has) ∙ v.is in cc
-
 read_as : (old new : State) (c : Compiled) (clock : ℕ) (rows : List Row) (r : Option Returning)
     → ShowsRows old new number_text c (timed [] c.formats clock) rows r
     → ReadsAs old.now c clock rows r
@@ -240,17 +234,6 @@ shown_open : (old new : State) (sql : List ℕ) (params : Row) (rows : List Row)
     → Shown sql params old new rows → IsTrue old.is_open
 unfolding Shown
 shown_open old new sql params rows h = open_as old new sql h.0 _ rows h.0.returning h.2
-
-tells_by : (wanted : ℤ) (version : Option ℤ) (db : Database) (r : Result (Unit {0}) OpenFault)
-    → Says wanted version r → ShowsVersion version db → AnswersVersion wanted db r
-tells_by wanted version db (Ok x) says shows = subst (λ v. ShowsVersion v db) says shows
-tells_by wanted version db (Err NotRooms) says shows = inl (subst (λ v. ShowsVersion v db) says shows)
-tells_by wanted version db (Err (OldVersion n)) says shows =
-    (subst (λ v. ShowsVersion v db) says.0 shows, says.1)
-tells_by wanted version db (Err (NewVersion n)) says shows =
-    (subst (λ v. ShowsVersion v db) says.0 shows, says.1)
-tells_by wanted version db (Err Db) says shows = tt
-tells_by wanted version db (Err Memory) says shows = tt
 
 refusal_of : (e : Error) (fault : OpenFault) → IsCalled e fault → IsRefusal fault
 refusal_of e NotRooms called = tt
@@ -314,56 +297,3 @@ module _ (old new : State) (clean : doubt old.is_clean ≤ doubt new.is_clean) w
       by (NewVersion n) it has h = it
       by Db it has h = tt
       by Memory it has h = tt
-
-pub expects_ok : (wanted : ℤ) (old new : State) (version : Option ℤ)
-    (r : Result (Unit {0}) OpenFault) → AsksVersion old new (Ok version) → Says wanted version r
-    → Expects wanted old new r
-expects_ok wanted old new version r asks says = record {
-  clean = asks.clean;
-  within = asks.within;
-  told =
-      λ now has. (
-        subst (λ v. Says wanted v r) (asks.told now has).0 says,
-        on_ok r (asks.told now has).1,
-      );
-  empty = λ now has. absurd (asks.empty now has);
-  shown =
-      λ now. (
-        tells_by wanted version old.now r says (asks.shown now).0,
-        open_ok r (asks.shown now).1,
-      );
-}
-  where
-    open_ok : (r : Result (Unit {0}) OpenFault) → IsTrue old.is_open → OnOk r (IsTrue old.is_open)
-    open_ok (Ok x) open' = open'
-    open_ok (Err e) open' = tt
-
-    on_ok : (r : Result (Unit {0}) OpenFault) → new.now ≡ old.now → OnOk r (new.now ≡ old.now)
-    on_ok (Ok x) same = same
-    on_ok (Err e) same = tt
-
--- a query that failed answers no number
-no_number : (wanted : ℤ) (db : Database) (fault : OpenFault) → IsUnread db fault
-    → AnswersVersion wanted db (Err fault)
-no_number wanted db NotRooms it = inr it
-no_number wanted db (OldVersion n) it = absurd it
-no_number wanted db (NewVersion n) it = absurd it
-no_number wanted db Db it = tt
-no_number wanted db Memory it = tt
-
-pub expects_err : (wanted : ℤ) (old new : State) (fault : OpenFault)
-    → AsksVersion old new (Err fault) → Expects wanted old new (Err fault)
-expects_err wanted old new fault asks = record {
-  clean = asks.clean;
-  within = asks.within;
-  told = λ now has. (says fault (asks.told now has), tt);
-  empty = asks.empty;
-  shown = λ now. (no_number wanted old.now fault (asks.shown now), tt);
-}
-  where
-    says : (f : OpenFault) → IsFailure f → Says wanted (meta_of old.now) (Err f)
-    says NotRooms it = absurd it
-    says (OldVersion n) it = absurd it
-    says (NewVersion n) it = absurd it
-    says Db it = tt
-    says Memory it = tt

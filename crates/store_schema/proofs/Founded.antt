@@ -21,18 +21,6 @@ pub record Begins (old begun : State) : Type 0 where
   pub mode : begun.in_transaction ≡ true
   pub settled : IsTrue old.is_open → old.now ≡ old.committed
 
--- nothing is begun where the database isn't empty
-pub not_blank : (owners : Owners) (old : State) → old.in_transaction ≡ false
-    → Founds owners old old (Err Db)
-not_blank owners old ended = record {
-  ended = ended;
-  clean = omega arith;
-  was_open = λ _ h. h;
-  made = λ _. tt;
-  refused = λ _. (refl, refl, refl);
-  kept = λ _ _. (refl, refl);
-}
-
 module _ (owners : Owners) (old begun mid end : State) (blank : old.now.schema ≡ no_schema)
     (begins : Begins old begun) (ended : end.in_transaction ≡ false)
     (clean : doubt mid.is_clean ≤ doubt end.is_clean) where
@@ -74,24 +62,6 @@ module _ (owners : Owners) (old begun mid end : State) (blank : old.now.schema �
     undone e back =
         given_up e (λ now open'. (back now).was_open open')
         (λ now open'. undone_at now open' (back now))
-
-    pub not_committed : (e : CreateFault) (why : Error)
-        → (HasCleanDisk end → FailsToCommit mid end why) → Founds owners old end (Err e)
-    not_committed e why err =
-        given_up e (λ now open'. was now open' (err now)) (λ now open'. left now open' (err now))
-      where
-        was : HasCleanDisk end → IsTrue end.is_open → FailsToCommit mid end why → IsTrue mid.is_open
-        was now open' (inl fails) = fails.3.was_open open'
-        was now open' (inr (is, mode, same)) = same.0.was_open
-
-        left : HasCleanDisk end → IsTrue end.is_open → FailsToCommit mid end why
-            → (end.now ≡ old.committed) × (end.committed ≡ old.committed)
-        left now open' (inl fails) = undone_at now open' fails.3
-        left now open' (inr (is, mode, same)) =
-            let settled = within.settled (clean_mid now) same.0.was_open
-            (λ off. absurd (let e' : true ≡ false = sym begins.mode ∙ off in cc)) mode in
-            let kept = committed_mid now same.0.was_open in
-            (same.0.now_is ∙ settled ∙ kept, same.0.committed_is ∙ kept)
 
   pub committed : Makes {X = Unit {0}} {E = Error} (HasEmpty no_schema [])
       (IsNewRoom owners) begun mid (Ok tt)

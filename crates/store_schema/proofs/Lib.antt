@@ -7,7 +7,6 @@ pub mod FirstRows
 pub mod Founded
 pub mod Answers
 pub mod Asked
-pub mod Adopted
 pub mod Others
 pub mod Stamped
 pub mod Moving

@@ -81,34 +81,6 @@ module _ (old begun mid end : State) (begins : Begins old begun)
         let same = committed_mid now (back.was_open open') in
         ((back.undone open').0 ∙ same, (back.undone open').1 ∙ same)
 
-    pub not_committed : (e : OpenFault) (why : Error) → IsFailure e
-        → (HasCleanDisk end → FailsToCommit mid end why) → Migrates old end (Err (Opening e))
-    not_committed e why failure err =
-        given_up (Opening e) (λ now open'. was now open' (err now))
-        (λ now open' tables. by_failure old.now e failure)
-        (λ now open'. left now open' (err now))
-        (λ now. by_unknown old.now e failure) (λ now has. no_room e failure)
-      where
-        no_room : (f : OpenFault) → IsFailure f → IsNoRoom (Opening f)
-        no_room NotRooms it = absurd it
-        no_room (OldVersion n) it = absurd it
-        no_room (NewVersion n) it = absurd it
-        no_room Db it = tt
-        no_room Memory it = tt
-
-        was : HasCleanDisk end → IsTrue end.is_open → FailsToCommit mid end why → IsTrue mid.is_open
-        was now open' (inl fails) = fails.3.was_open open'
-        was now open' (inr (is, mode, same)) = same.0.was_open
-
-        left : HasCleanDisk end → IsTrue end.is_open → FailsToCommit mid end why
-            → (end.now ≡ old.committed) × (end.committed ≡ old.committed)
-        left now open' (inl fails) = undone_at now open' fails.3
-        left now open' (inr (is, mode, same)) =
-            let settled = within.within.settled (clean_mid now) same.0.was_open
-            (λ off. absurd (let e' : true ≡ false = sym begins.mode ∙ off in cc)) mode in
-            let kept = committed_mid now same.0.was_open in
-            (same.0.now_is ∙ settled ∙ kept, same.0.committed_is ∙ kept)
-
   -- a fault says only what was there before
   told_before : (e : MigrateFault) (db : Database) → UpgradesTables begun.now mid.now (Err e)
       → UpgradesTables old.now db (Err e)

@@ -74,18 +74,6 @@ by_unknown db Db it = tt
 by_unknown db Memory it = tt
 
 module _ (begun : State) (inside : IsTrue begun.in_transaction) where
-  -- the schema's number is another
-  pub other_number : (mid : State) (fault : OpenFault) → Expects (pos 1) begun mid (Err fault)
-      → IsInside begun mid (Err (Opening fault))
-  other_number mid fault expects =
-      record {
-        within = expects.within inside;
-        leads = λ now open' one two. (expects.told now two.schema).0;
-        shown = λ now. (expects.shown now).0;
-        empty = λ now has. expects.empty now has;
-        retains = λ _ _ _ _ _. tt;
-      }
-
   module _ (asked : State) (expects : Expects (pos 1) begun asked (Ok tt)) where
     -- the database answered 1
     known : (mid : State) → doubt asked.is_clean ≤ doubt mid.is_clean → HasCleanDisk mid
@@ -141,28 +129,6 @@ module _ (begun : State) (inside : IsTrue begun.in_transaction) where
             committed = subst IsRoom (sym (first.committed (back now) open'')) one;
           }
 
-      -- the keeper fails
-      pub not_raised : (fault : OpenFault) → IsFailure fault
-          → IsInside begun raised (Err (Opening fault))
-      not_raised fault failure =
-          by_steps raised (Err (Opening fault)) stays.within.clean second
-          (λ now open' one two. by_failure begun.now fault failure)
-          (λ now. by_unknown begun.now fault failure) (λ _ _ _ _ _. tt)
-
-      -- the rows aren't sound
-      pub not_sound : (path : _) (why : unsound.Unsound)
-          → (IsTrusted asked raised
-          → IfOk {E = KeepFault} (Ok (Fault path why))
-          (λ report. IsRaised (rows_of asked.now) report (rows_of raised.now)))
-          → IsInside begun raised (Err (Unsound path why))
-      not_sound path why becomes =
-          by_steps raised (Err (Unsound path why)) stays.within.clean second (λ now open' one two.
-          let told = expects.told (back now) two.schema in (
-            told.0,
-            sym (subst (λ d. Fault path why ≡ kept_report_of (rows_of d)) told.1
-                (becomes (trusted now open' one two)).0),
-          )) (known raised stays.within.clean) (λ _ _ _ _ _. tt)
-
       module _
           (becomes : IsTrusted asked raised
           → IfOk {E = KeepFault} (Ok Sound)
@@ -170,15 +136,6 @@ module _ (begun : State) (inside : IsTrue begun.in_transaction) where
           (stamped : State) where
         third : IsWithin raised stamped → IsWithin begun stamped
         third within = within_on begun raised stamped second within
-
-        -- the number can't be written
-        pub not_stamped : (e : Error) (fault : OpenFault) → Stamps raised stamped (Err e)
-            → IsFailure fault → IsInside begun stamped (Err (Opening fault))
-        not_stamped e fault stamps failure =
-            by_steps stamped (Err (Opening fault))
-            (omega (arith, stays.within.clean, stamps.within.clean)) (third stamps.within)
-            (λ now open' one two. by_failure begun.now fault failure)
-            (λ now. by_unknown begun.now fault failure) (λ _ _ _ _ _. tt)
 
         module _ (count : ℕ) (stamps : Stamps raised stamped (Ok count)) where
           third_room : StillRoom begun stamped
@@ -207,11 +164,6 @@ module _ (begun : State) (inside : IsTrue begun.in_transaction) where
 
             up : doubt asked.is_clean ≤ doubt end.is_clean
             up = omega (arith, stays.within.clean, stamps.within.clean, again.clean)
-
-            -- another number is read
-            pub not_read : IsInside begun end (Err (Opening Db))
-            not_read =
-                by_steps end (Err (Opening Db)) up all (λ _ _ _ _. tt) (λ _. tt) (λ _ _ _ _ _. tt)
 
           pub all_done : SpreadIsRaised → (end : State) → Expects (pos 2) stamped end (Ok tt)
               → IsInside begun end (Ok tt)

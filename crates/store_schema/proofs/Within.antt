@@ -56,16 +56,3 @@ module _ (old new : State) (clean : doubt old.is_clean ≤ doubt new.is_clean) w
           }
 
 -- ---- calls one after the other
-
-pub makes_then : {X Y E F : Type 0} (Before Middle After : Database → Type 0) (a b c : State)
-    (x : X) (r : Result Y F)
-    → Makes {X = X} {E = E} Before Middle a b (Ok x) → Makes Middle After b c r
-    → Makes Before After a c r
-makes_then Before Middle After a b c x r p q = record {
-  makes = λ now before. q.makes now (p.makes (omega (arith, q.within.clean, now)) before);
-  within = within_on a b c p.within q.within;
-}
-
-pub makes_none : {X E : Type 0} (Before After : Database → Type 0) (a b : State) (e : E)
-    → IsWithin a b → Makes {X = X} Before After a b (Err e)
-makes_none Before After a b e within = record { makes = λ _ _. tt; within = within }

@@ -18,12 +18,6 @@ use Rattle.store_tables.proofs.Removed.{same_rows}
 
 -- ---- a record that is stored is read back
 
-pub mask_back : (n : ℕ) (mask : List ℕ) → bits_of n ≡ mask → number_of mask ≡ n
-    → mask_in (Int (pos n)) ≡ Some mask
-mask_back n mask bits number =
-    cond-true (nat_eq (number_of (bits_of n)) n) (Some (bits_of n)) None
-    (eq-eqb (number_of (bits_of n)) n (ap number_of bits ∙ number)) ∙ ap Some bits
-
 pub user_named : (text name : List ℕ) → name_in (Text text) ≡ Some name
     → user_in (Text text) ≡ Some (Some name)
 unfolding is_name

@@ -126,18 +126,6 @@ at_most_one id (r ∷ rows) table = go (has_rowid id r) refl (at_most_one id row
         )
     go false is more = more
 
--- taking a number out changes nothing where the search for it comes back empty
-pub kept_all : (id : ℤ) (rows : List Row) → filter (has_rowid id) rows ≡ []
-    → without_rowid id rows ≡ rows
-kept_all id [] none = refl
-kept_all id (r ∷ rows) none = go (has_rowid id r) none (kept_all id rows)
-  where
-    go : (b : Bool) → cond b (r ∷ filter (has_rowid id) rows) (filter (has_rowid id) rows) ≡ []
-        → (filter (has_rowid id) rows ≡ [] → without_rowid id rows ≡ rows)
-        → cond (not b) (r ∷ without_rowid id rows) (without_rowid id rows) ≡ r ∷ rows
-    go true e more = absurd (let x = e in cc)
-    go false e more = ap (λ l. r ∷ l) (more e)
-
 -- a row that `find` gives stands in the list that was searched
 pub has_found : {A : Type 0} (p : A → Bool) (xs : List A) (x : A) → find p xs ≡ Some x → Has xs x
 has_found p [] x h = absurd (let e = h in cc)

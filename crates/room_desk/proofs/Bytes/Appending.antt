@@ -72,11 +72,6 @@ put_kept path id before bytes old new reply are were none replies same =
     on true = same
     on false = λ document. same ∙ sym (ap (reading old) (with_body-there old are id before were))
 
-pub put_as : (path : List (List ℕ)) (id : ℕ) {bytes : List ℕ} (old mid new : Rows) (reply : Reply)
-    → mid ≡ old → IsPut path id bytes mid reply new → IsPut path id bytes old reply new
-put_as path id {bytes} old mid new reply unread put =
-    subst (λ (r : Rows). IsPut path id bytes r reply new) unread put
-
 pub if_ok : {X E P : Type 0} (r : Result X E) → P → IfOk r (λ x. P)
 if_ok (Ok x) p = p
 if_ok (Err e) p = tt

@@ -37,10 +37,6 @@ use Rattle.room_desk.proofs.Sound.Filled.{fill_item, judged_filled, site_filled,
 use Rattle.room_desk.proofs.Steps.Stepping.{changed_step, refused_step}
 use Rattle.room_desk.proofs.Steps.Serving.{along_there}
 
-pub has_name : (path : List (List ℕ)) → 0 < length path → is_empty path ≡ false
-has_name [] some = absurd (omega arith)
-has_name (name ∷ names) some = refl
-
 pub no_names : (path names : List (List ℕ)) (t : Bool) → names ≡ path → t ≡ (length names == 0)
     → t ≡ true → path ≡ []
 no_names [] names t same is holds = refl

@@ -22,11 +22,6 @@ unread_damaged old mid at same h = inl (inl (subst (λ (r : Rows). IsUnreadable 
 pub damaged_before : (old mid : Rows) (at : ℕ) → mid ≡ old → IsDamaged mid at → IsDamaged old at
 damaged_before old mid at same h = subst (λ (r : Rows). IsDamaged r at) same h
 
--- records damage nothing
-pub noted_damaged : (old mid : Rows) (records : List AuditRow) (at : ℕ) → mid ≡ noted old records
-    → IsDamaged mid at → IsDamaged old at
-noted_damaged old mid records at same h = subst (λ (r : Rows). IsDamaged r at) same h
-
 pub noted_unread : (old mid : Rows) (records : List AuditRow) (at : ℕ) → mid ≡ noted old records
     → IsUnreadable mid at → IsDamaged old at
 noted_unread old mid records at same h = inl (inl (subst (λ (r : Rows). IsUnreadable r at) same h))

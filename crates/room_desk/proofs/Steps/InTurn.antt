@@ -47,15 +47,6 @@ events_more (a ∷ asked) (r ∷ replies) one reply each =
     ap (λ (events : List Event). HasAsked a.user a.at a.request r ∷ events)
     (events_more asked replies one reply (omega (arith, each)))
 
-pub runs_none : (asked : List Asked) (old new : Rows) → new ≡ old
-    → RunsAll (take 0 asked) old [] new
-runs_none asked old new same sound =
-    record {
-      each = refl;
-      run = ap (λ (r : Rows). meaning r.read) same;
-      sound = subst AreSound (sym same) sound;
-    }
-
 run_more : (asked : List Asked) (one : Asked) (replies : List Reply) (reply : Reply)
     (old mid new : Rows) → RunsAll asked old replies mid
     → Performs one.user one.at one.request mid reply new
@@ -93,9 +84,6 @@ runs_more asked n one replies all reply old mid new below is made sofar more =
     (subst (λ (l : List Reply). RunsAll (take n asked ++ one ∷ []) old l new) (sym made)
     (run_more (take n asked) one replies reply old mid new sofar more))
 
-pub first_none : (asked : List Asked) (old new : Rows) → new ≡ old → AreFirst asked 0 old [] new
-first_none asked old new same = record { ran = runs_none asked old new same; none = λ is. same }
-
 pub first_more : (asked : List Asked) (n : ℕ) (one : Asked) (replies all : List Reply)
     (reply : Reply) (old mid new : Rows) → n < length asked → one ≡ get_or asked n one
     → all ≡ replies ++ reply ∷ []
@@ -127,9 +115,3 @@ never_after asked rows at sound after =
     let run : IsRunOfRows (take after.count asked) rows after.replies after.rows =
     after.first.ran sound in
     sound_undamaged after.rows at run.sound after.damaged
-
-pub runs_all : (asked : List Asked) (n : ℕ) (replies : List Reply) (old new : Rows)
-    → n ≡ length asked → RunsAll (take n asked) old replies new → RunsAll asked old replies new
-runs_all asked n replies old new full sofar =
-    subst (λ (l : List Asked). RunsAll l old replies new)
-    (ap (λ (k : ℕ). take k asked) full ∙ take-length asked) sofar

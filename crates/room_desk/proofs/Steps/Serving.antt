@@ -198,15 +198,6 @@ reached_as asker path items bits named arrival place old new same comes reached 
     subst (λ (b : List ℕ). IsReached asker path (items b) old place new) same
     (subst (λ (a : Arrival). IsReached asker path (items bits) old a new) comes reached)
 
--- records don't change what is found
-pub reached_rows : {X : Type 0} (part : Content → X) (asker : Asker) (path : List (List ℕ))
-    (items : Site → List Item) (arrival : Arrival) (old mid : Rows)
-    → ((content : Content) (records : List AuditRow)
-    → part (with_records content records) ≡ part content)
-    → IsReached asker path items old arrival mid → part mid.read ≡ part old.read
-reached_rows part asker path items arrival old mid kept reached =
-    ap (λ (r : Rows). part r.read) reached.judged.notes ∙ kept old.read _
-
 -- a row that can't be read afterwards couldn't be read before
 pub reached_damaged : (asker : Asker) (path : List (List ℕ)) (items : Site → List Item)
     (arrival : Arrival) (old mid : Rows) (at : ℕ) → IsReached asker path items old arrival mid
