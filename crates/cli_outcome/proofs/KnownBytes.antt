@@ -63,11 +63,6 @@ Keeps-zero v w n text e x =
 pub writes_none : (u : Option (List ℕ)) (text : List ℕ) → WritesSome u u text
 writes_none u text = ([], text, refl, Appends-none u)
 
--- all of it was written, and nothing more
-pub writes_all : (u v w : Option (List ℕ)) (text : List ℕ) → Appends u v text → Keeps v w
-    → WritesSome u w text
-writes_all u v w text x y = (text, [], sym (append-nil text), Appends-kept u v w text x y)
-
 -- a text was sent, or a front of it
 pub sent_some : (u v : Option (List ℕ)) (text : List ℕ) (sent : Result (Unit {0}) Fault)
     → OnOk sent (Appends u v text) → OnErr sent (WritesSome u v text) → WritesSome u v text

@@ -1,6 +1,7 @@
 -- What is answered from the rows, or done to them, once an object was reached.
 use Rattle.std.specs.Prelude.{◌≡◌, ℕ, ◌⊎◌, List, [], Some, map}
 use Rattle.room_rows.specs.Content.{body_of, children_of}
+use Rattle.room_entry.specs.declared.object.ObjKind.{ObjKind}
 use Rattle.room_entry.specs.declared.parties.Owners.{Owners}
 use Rattle.room_rows.specs.declared.node.Node.{Node}
 use Rattle.room_rows.specs.Keep.{Changes, with_owners}
@@ -14,11 +15,12 @@ pub record IsBytesOf (id : ℕ) (rows : Rows) (reply : Reply) : Type 0 where
   pub are : body_of rows.read id ≡ Some bytes
   pub reply_is : reply ≡ Bytes bytes
 
--- the names and kinds of the children of the folder of this number, where all rows can be read
-abbrev pub AreNamesOf : ℕ → Rows → Reply → Type 0
-AreNamesOf id rows reply =
-    rows.unreadable ≡ []
-    → reply ≡ Names (map (λ node. (node.name, node.kind)) (children_of rows.read id))
+-- names and kinds: those of the children of the folder of this number, where all rows can be read
+pub record AreNamesOf (id : ℕ) (rows : Rows) (reply : Reply) : Type 0 where
+  pub names : List (List ℕ × ObjKind)
+  pub reply_is : reply ≡ Names names
+  pub are : rows.unreadable ≡ []
+      → names ≡ map (λ node. (node.name, node.kind)) (children_of rows.read id)
 
 -- the object had these owners already, or has them now
 abbrev pub SetsOwners : Node → Owners → Rows → Reply → Rows → Type 0

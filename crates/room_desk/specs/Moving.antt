@@ -57,8 +57,9 @@ use Rattle.room_machine.specs.Site.{Site, last_name}
 use Rattle.room_machine.specs.Plan.{Item, Check, Deletion, Refusal, right_to_add}
 use Rattle.room_machine.specs.Effect.{moved_node}
 use Rattle.room_judge.specs.Spot.{IsPaired}
-use Rattle.room_judge.specs.Stored.{stored_site}
-use Rattle.room_judge.specs.Judged.{IsJudged, CarriesOut, through}
+use Rattle.room_machine.specs.Stored.{stored_site}
+use Rattle.room_judge.specs.Closed.{IsServed}
+use Rattle.room_judge.specs.Judged.{IsJudged, through}
 use Rattle.room_desk.specs.Carrying.{IsCarriedDown, IsRooted, IsUnreadableIfRooted}
 
 -- ---- what is judged
@@ -98,7 +99,7 @@ abbrev pub MovesOn : Asker → List (List ℕ) → List (List ℕ) → Node → 
     → Rows → Type 0
 MovesOn asker path to root from target mid reply new =
     root_of mid.read ≡ Some root → (old : Rows) → AreRows old → IsPaired asker path old
-    (Both from target) mid → CarriesOut asker (Move path to) old reply new
+    (Both from target) mid → IsServed asker (Move path to) old reply new
 
 abbrev pub FailsToMove : Asker → List (List ℕ) → Node → Found → Found → Rows → ℕ → Type 0
 FailsToMove asker path root from target mid at =
@@ -135,10 +136,6 @@ pub record IsPlaced (target folder : Node) (name : List ℕ) (old new : Rows) : 
       (moved_node (stored_site [] target) (stored_site [] folder) name)
   pub sound : AreSound new
 
-abbrev pub PlacesAt : Node → Node → List ℕ → Rows → Reply → Rows → Type 0
-PlacesAt target folder name old reply new =
-    (reply ≡ Done) × (CanPlace target folder name old → IsPlaced target folder name old new)
-
 -- The same for rows that needn't be sound.
 pub record CanGo (target folder : Node) (name : List ℕ) (rows : Rows) : Type 0 where
   pub are : AreRows rows
@@ -148,6 +145,12 @@ pub record CanGo (target folder : Node) (name : List ℕ) (rows : Rows) : Type 0
   pub is_free : child_of rows.read folder.id name ≡ None
   pub steps : ℕ
   pub past : goes_past steps rows.read target.id (Some folder.id) ≡ true
+
+-- The records stay as they are where the rows needn't be sound.
+abbrev pub PlacesAt : Node → Node → List ℕ → Rows → Reply → Rows → Type 0
+PlacesAt target folder name old reply new =
+    (reply ≡ Done) × (CanPlace target folder name old → IsPlaced target folder name old new)
+    × (CanGo target folder name old → new.read.audits ≡ old.read.audits)
 
 abbrev pub FailsToPlace : Node → Node → List ℕ → Rows → ℕ → Type 0
 FailsToPlace target folder name old at = CanGo target folder name old → IsUnreadable old at
@@ -180,9 +183,10 @@ pub record HasRenewedLists (which : Which) (old new : Rows) : Type 0 where
       ≡ false → lists node ≡ (held_of which node).inh
   pub law : AllAgree new.read which
 
--- what is rooted stays so, and no other row becomes unreadable
+-- what is rooted stays so, no other row becomes unreadable, and the records stay as they are
 pub record KeepsRoot (id : ℕ) (old new : Rows) : Type 0 where
   pub unreadable : new.unreadable ≡ old.unreadable
+  pub audits : new.read.audits ≡ old.read.audits
   pub rooted : IsRooted id old → IsRooted id new
 
 pub record Renews (which : Which) (target folder : Node) (old : Rows) (answer : Unit {0})

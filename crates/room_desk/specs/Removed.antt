@@ -1,25 +1,38 @@
 -- What becomes of an object that a caller asks to be removed.
-use Rattle.std.specs.Prelude.{◌≡◌, ℕ, Bool, not, List, [], Option, Some, None, if◌then◌else◌}
-use Rattle.room_rows.specs.Content.{children_of, is_empty}
-use Rattle.room_rows.specs.Keep.{Removes}
+use Rattle.std.specs.Prelude.{◌≡◌, ℕ, Bool, List, [], ◌∷◌, Option, Some, None, if◌then◌else◌}
+use Rattle.room_rows.specs.Keep.{HasChildren, Removes}
 use Rattle.room_rows.specs.Rows.{Rows}
+use Rattle.room_judge.specs.declared.asker.Asker.{Asker}
+use Rattle.room_judge.specs.Judged.{IsJudged}
 use Rattle.room_machine.specs.declared.reply.Reply.{Reply}
 use Rattle.room_machine.specs.declared.reply.Reply.TheVariants.{Done, Refused}
 use Rattle.room_machine.specs.declared.reply.Reason.TheVariants.{NotEmpty}
-use Rattle.room_machine.specs.Plan.{Item, Refusal}
+use Rattle.room_machine.specs.Plan.{Deletion}
+use Rattle.room_machine.specs.Site.{Site}
 use Rattle.room_desk.specs.Made.{Ends}
 
 -- the refusal of an object that has children
-abbrev pub has_children : List (List ℕ) → Rows → ℕ → Item
-has_children path rows id = Refusal path NotEmpty (not (is_empty (children_of rows.read id)))
+abbrev pub refused_where : Bool → List (List ℕ) → Option Reply
+refused_where has_some path = if has_some then Some (Refused path NotEmpty) else None
 
--- the refusal of an object, unless it has no children
-abbrev pub refused_unless : Bool → List (List ℕ) → Option Reply
-refused_unless has_none path = if has_none then None else Some (Refused path NotEmpty)
+-- An object without children is removed, and one that has some is refused. Where a row can't be
+-- read, it may be a child, and the keeper may answer so.
+pub record RemovesChildless (path : List (List ℕ)) (id : ℕ) (old : Rows) (reply : Reply)
+    (new : Rows) : Type 0 where
+  pub has_some : Bool
+  pub answer : HasChildren id old has_some
+  pub ends : Ends Done (Removes id) (refused_where has_some path) old reply new
 
--- An object without children is removed, and any other is refused, where all rows can be read.
-abbrev pub RemovesChildless : List (List ℕ) → ℕ → Rows → Reply → Rows → Type 0
-RemovesChildless path id old reply new =
-    old.unreadable ≡ []
-    → Ends Done (Removes id) (refused_unless (is_empty (children_of old.read id)) path)
-    old reply new
+-- Where the deletion isn't granted, that is the reply, and nothing is removed.
+abbrev pub RemovesIfGranted :
+    Option Reply → List (List ℕ) → ℕ → Rows → Reply → Rows → Type 0
+RemovesIfGranted None path id old reply new = RemovesChildless path id old reply new
+RemovesIfGranted (Some refusal) path id old reply new = (reply ≡ refusal) × (new ≡ old)
+
+-- The deletion of the object from its folder is judged, and an object without children is removed.
+pub record RemovesFrom (asker : Asker) (path : List (List ℕ)) (target folder : Site) (old : Rows)
+    (reply : Reply) (new : Rows) : Type 0 where
+  pub answer : Option Reply
+  pub mid : Rows
+  pub judged : IsJudged asker (Deletion target folder ∷ []) old answer mid
+  pub ends : RemovesIfGranted answer path target.node.id mid reply new

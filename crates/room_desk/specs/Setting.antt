@@ -41,7 +41,8 @@ use Rattle.room_desk.specs.Carrying.{GoesDown}
 use Rattle.room_judge.specs.declared.arrival.Arrival.TheVariants.{At}
 use Rattle.room_judge.specs.declared.arrival.Found.{Found}
 use Rattle.room_judge.specs.declared.asker.Asker.{Asker}
-use Rattle.room_judge.specs.Judged.{CarriesOut, IsReached}
+use Rattle.room_judge.specs.Closed.{IsServed}
+use Rattle.room_judge.specs.Judged.{IsReached}
 use Rattle.room_machine.specs.declared.reply.Reason.{Reason}
 use Rattle.room_machine.specs.declared.reply.Reason.TheVariants.{BadList, NoSuch, NotFolder}
 use Rattle.room_machine.specs.declared.reply.Reply.{Reply}
@@ -141,10 +142,12 @@ pub record IsSetWell (which : Which) (sent : Sent) (node : Node) (old new : Rows
       (option_map (kept_site old.read) (parent_of old.read node)) (kept_site old.read node)
   pub sound : AreSound new
 
+-- The records stay as they are where the object is there.
 abbrev pub IsSet : Which → Sent → Node → Rows → Rows → Type 0
 IsSet which sent node old new =
-    node_at old.read node.id ≡ Some node → fault_in 1 which node.kind sent.entries ≡ None
-    → limit_fault sent.entries ≡ None → AreSound old → IsSetWell which sent node old new
+    (node_at old.read node.id ≡ Some node → new.read.audits ≡ old.read.audits)
+    × (node_at old.read node.id ≡ Some node → fault_in 1 which node.kind sent.entries ≡ None
+    → limit_fault sent.entries ≡ None → AreSound old → IsSetWell which sent node old new)
 
 -- the relation holds where this is the object's parent
 abbrev pub Beneath : {X : Type 0} → Option Node → Node → (Rows → X → Rows → Type 0) → Rows → X
@@ -183,7 +186,7 @@ abbrev pub SetsOn : Asker → List (List ℕ) → Which → Sent → Found → O
     → Type 0
 SetsOn asker path which sent target above mid reply new =
     (old : Rows) → IsFoundUnder asker path target above old mid
-    → CarriesOut asker (SetList path which sent) old reply new
+    → IsServed asker (SetList path which sent) old reply new
 
 abbrev pub FailsToSet : Asker → List (List ℕ) → Found → Option Node → Rows → ℕ → Type 0
 FailsToSet asker path target above mid at =

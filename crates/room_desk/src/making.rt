@@ -46,9 +46,21 @@ pub(crate) fn put<K: Keep>(
         (Serves walk.old.asker.now (Put path.now bytes.now)) }
 {
     match path.split_last() {
-        None => Err(refusal(walk.alloc, path, 0, Reason::WrongKind)),
+        None => put_root(walk, path, bytes),
         Some((name, _)) => put_below(walk, path, name, bytes),
     }
+}
+
+// Puts the root. A folder is refused, as anywhere.
+fn put_root<K: Keep>(walk: &mut Walk<'_, K>, path: &Path, bytes: &Bytes) -> Result<Reply, Halt>
+    requires { path.now ≡ [] }
+    ensures same_keep { walk.new.keep.ghost_name ≡ walk.old.keep.ghost_name }
+    ensures same_asker { walk.new.asker.now ≡ walk.old.asker.now }
+    ensures done { Tries K.Keep walk.old.keep.now walk.new.keep.now result IsDamaged
+        (Serves walk.old.asker.now (Put path.now bytes.now)) }
+{
+    let node = walk.walk_to(path)?;
+    put_there(walk, path, &Found { node, depth: 0 }, bytes)
 }
 
 // Puts the document at a path with a last name.

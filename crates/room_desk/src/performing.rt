@@ -3,7 +3,8 @@ ghost use Rattle.std.specs.Prelude.{◌≡◌};
 ghost use Rattle.std.specs.Option.{option_copied};
 ghost use Rattle.room_rows.specs.Keep.{IsDamaged};
 ghost use Rattle.room_judge.specs.Halted.{Serves, Tries, reply_of};
-ghost use Rattle.room_judge.specs.Judged.{CarriesOut, Does, Performs};
+ghost use Rattle.room_judge.specs.Closed.{IsServed, Performs};
+ghost use Rattle.room_judge.specs.Judged.{Does};
 
 use crate::asking::can;
 use crate::making::{make_folder, put};
@@ -24,6 +25,9 @@ use std::alloc::Global;
 /// the room machine, and the rows are sound again. A fault of the keeper ends the request. What the
 /// keeper holds then depends on the transaction around the call alone. `Damaged` names a row that
 /// can't be read or a document without bytes, or is 0 where there is no root.
+///
+/// From any rows, damaged ones too, each check that stands before the reply in the request's plan
+/// was granted by the lists as they are stored, and its records are added.
 pub fn perform<K: Keep>(
     alloc: Global,
     keep: &mut K,
@@ -47,7 +51,7 @@ fn perform_for<K: Keep>(
     request: &Request,
 ) -> Result<Reply, KeepFault>
     ensures done { Does K.Keep keep.old keep.new result IsDamaged
-        (CarriesOut asker.now request.now) }
+        (IsServed asker.now request.now) }
 {
     let mut walk = Walk { alloc, keep, asker };
     reply_of(serve(&mut walk, request))

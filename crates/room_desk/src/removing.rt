@@ -1,13 +1,10 @@
 //! The request that removes an object.
-ghost use Rattle.std.specs.Prelude.{◌≡◌, [], ◌∷◌};
-ghost use Rattle.room_rows.specs.Keep.{IsDamaged, IsUnreadable, Removes};
+ghost use Rattle.std.specs.Prelude.{◌≡◌};
+ghost use Rattle.room_rows.specs.Keep.{IsDamaged, IsUnreadable};
 ghost use Rattle.room_judge.specs.Halted.{Serves, Tries, replied};
 ghost use Rattle.room_judge.specs.Stored.{found_site};
-ghost use Rattle.room_machine.specs.Plan.{Deletion};
-ghost use Rattle.room_machine.specs.declared.reply.Reply.TheVariants.{Done};
 ghost use Rattle.room_machine.specs.declared.request.Request.TheVariants.{Remove};
-ghost use Rattle.room_desk.specs.Made.{IsJudgedAndDone};
-ghost use Rattle.room_desk.specs.Removed.{RemovesChildless, has_children};
+ghost use Rattle.room_desk.specs.Removed.{RemovesChildless, RemovesFrom};
 
 use room_judge::{Found, Halt, Walk, refusal};
 use room_machine::{Reason, Reply};
@@ -38,10 +35,9 @@ fn remove_from<K: Keep>(
     ensures same_keep { walk.new.keep.ghost_name ≡ walk.old.keep.ghost_name }
     ensures same_asker { walk.new.asker.now ≡ walk.old.asker.now }
     ensures done { Tries K.Keep walk.old.keep.now walk.new.keep.now result IsUnreadable
-        (λ old outcome new. old.unreadable ≡ [] → IsJudgedAndDone walk.old.asker.now (Deletion
-        (found_site path.now target.now) (found_site path.now folder.now)
-        ∷ has_children path.now old target.now.node.id ∷ []) Done (Removes target.now.node.id)
-        old (replied outcome) new) }
+        (λ old outcome new. RemovesFrom walk.old.asker.now path.now
+        (found_site path.now target.now) (found_site path.now folder.now) old (replied outcome)
+        new) }
 {
     walk.check_deletion(path, target, folder)?;
     remove_childless(walk, path, target.node.id)

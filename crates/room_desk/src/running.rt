@@ -1,7 +1,8 @@
 //! Requests carried out one after another.
 ghost use Rattle.std.specs.Prelude.{◌≡◌, [], ◌∷◌, ◌++◌, OnOk};
 ghost use Rattle.room_rows.specs.Keep.{IsDamaged};
-ghost use Rattle.room_judge.specs.Judged.{Does, Performs};
+ghost use Rattle.room_judge.specs.Closed.{Performs};
+ghost use Rattle.room_judge.specs.Judged.{Does};
 ghost use Rattle.room_desk.specs.InTurn.{IsDamagedAfter, RunsAll};
 
 use crate::performing::perform;

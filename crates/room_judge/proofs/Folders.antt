@@ -23,7 +23,8 @@ use Rattle.room_machine.specs.declared.reply.Reason.TheVariants.{NoSuch}
 use Rattle.room_machine.specs.Site.{Site, site_at, front, last_name}
 use Rattle.room_machine.specs.Plan.{Item, Refusal, way, where_found}
 use Rattle.room_machine.specs.Judge.{first_failure, or_else, records_of_plan}
-use Rattle.room_judge.specs.Stored.{stored_site, stored_along, found_site, to_stored}
+use Rattle.room_machine.specs.Stored.{stored_site, stored_along, to_stored}
+use Rattle.room_judge.specs.Stored.{found_site}
 use Rattle.room_judge.specs.Judged.{IsJudged, IsReached, name_after, noted, through}
 use Rattle.room_judge.specs.Spot.{IsSpotIn, IsSpotted, IsPaired, SpotsAfter, SpotsUnder, pair_at_spot, pair_with}
 use Rattle.room_judge.proofs.Judging.{failure_of_parts, records_of_parts, fails_first, passes_first, refuses, passes_on, judged_none}

@@ -10,7 +10,7 @@ use Rattle.room_judge.specs.Judged.{IsDone}
 use Rattle.room_judge.proofs.Calls.{HasDone, done, fails, finish, memory, none_done, then}
 use Rattle.room_judge.specs.declared.halt.Halt.{Halt}
 use Rattle.room_judge.specs.declared.halt.Halt.TheVariants.{Refused, Fault}
-use Rattle.room_judge.specs.Halted.{Comes, Refuses, settled}
+use Rattle.room_judge.specs.Halted.{Comes, Refuses, replied, reply_of, settled}
 
 module _ {S : Type 0} {rows : S → Rows} {failures writes : S → ℕ}
     {Follows IsTrusted : S → S → Type 0}
@@ -121,3 +121,25 @@ module _ {S : Type 0} {rows : S → Rows} {failures writes : S → ℕ}
       finish laws (Err reply) before (λ old new are b.
       subst (λ (o : Result X Reply). Becomes old o new) (sym is) (becomes old new are b))
   comes_to before (Err (Fault fault)) wanted is becomes = memory laws before (Err fault) is
+
+  -- a refusal is a reply
+  pub replies : {a b : S} (outcome : Result Reply Halt) {Blames : Rows → ℕ → Type 0}
+      {Becomes : Rows → Reply → Rows → Type 0}
+      → IsDone rows failures Follows IsTrusted a b (settled outcome) Blames
+      (λ old out new. Becomes old (replied out) new)
+      → (r : Result Reply KeepFault) → r ≡ reply_of outcome
+      → IsDone rows failures Follows IsTrusted a b r Blames Becomes
+  replies {a = a} {b = b} outcome {Blames = Blames} {Becomes = Becomes} done r is =
+      subst (λ x. IsDone rows failures Follows IsTrusted a b x Blames Becomes) (sym is)
+      (on outcome done)
+    where
+      on : (o : Result Reply Halt)
+          → IsDone rows failures Follows IsTrusted a b (settled o) Blames
+          (λ old out new. Becomes old (replied out) new)
+          → IsDone rows failures Follows IsTrusted a b (reply_of o) Blames Becomes
+      on (Ok reply) done =
+          record { follows = done.follows; becomes = done.becomes; fault = tt }
+      on (Err (Refused reply)) done =
+          record { follows = done.follows; becomes = done.becomes; fault = tt }
+      on (Err (Fault fault)) done =
+          record { follows = done.follows; becomes = λ _. tt; fault = done.fault }

@@ -7,3 +7,4 @@ pub mod Spots
 pub mod Folders
 pub mod Halts
 pub mod Pairing
+pub mod Closing

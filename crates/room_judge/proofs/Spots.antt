@@ -9,7 +9,7 @@ use Rattle.room_rows.specs.Content.{Content, child_of, root_of, is_empty}
 use Rattle.room_machine.specs.declared.reply.Reason.TheVariants.{NoSuch}
 use Rattle.room_machine.specs.Site.{Site, site_at, parent_at, front, last_name}
 use Rattle.room_machine.specs.Plan.{Item, Refusal, way, where_found}
-use Rattle.room_judge.specs.Stored.{stored_site, stored_from, stored_along}
+use Rattle.room_machine.specs.Stored.{stored_site, stored_from, stored_along}
 use Rattle.room_judge.specs.Judged.{name_after, through}
 
 -- ---- a path and its last name

@@ -13,7 +13,7 @@ use Rattle.room_judge.specs.declared.arrival.Found.{Found}
 use Rattle.room_judge.specs.declared.asker.Asker.{Asker}
 use Rattle.room_machine.specs.declared.reply.Reason.TheVariants.{NoSuch}
 use Rattle.room_machine.specs.Plan.{Item, Refusal}
-use Rattle.room_judge.specs.Stored.{stored_site}
+use Rattle.room_machine.specs.Stored.{stored_site}
 use Rattle.room_judge.specs.Judged.{FromRoot, IsJudged, IsStepDown, IsReached, IfAt, StepsOn, ending_reply, name_after, through}
 use Rattle.room_judge.proofs.Ways.{IsOnWay, reached_blames, way_begins, way_blames, way_done, way_ends, way_goes_on}
 

@@ -17,7 +17,8 @@ use Rattle.room_machine.specs.declared.reply.Reply.TheVariants.{Refused}
 use Rattle.room_machine.specs.declared.reply.Reason.TheVariants.{NoSuch}
 use Rattle.room_machine.specs.Site.{Site, site_at}
 use Rattle.room_machine.specs.Plan.{Item, Refusal, way, where_found}
-use Rattle.room_judge.specs.Stored.{stored_site, stored_from, stored_along, found_site, to_stored}
+use Rattle.room_machine.specs.Stored.{stored_site, stored_from, stored_along, to_stored}
+use Rattle.room_judge.specs.Stored.{found_site}
 use Rattle.room_judge.specs.Judged.{IsJudged, IsStepDown, IsReached, FindsNext, GoesOn, IfAt, ending_reply, name_after, through, arrival_of}
 use Rattle.room_judge.proofs.Judging.{SoFar, fails_first, passes_first, judged_none, refuses, passes_on, so_far_none, so_far_as, so_far_on, so_far_fails, so_far_last}
 

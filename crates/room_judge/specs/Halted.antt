@@ -23,7 +23,8 @@ use Rattle.room_judge.specs.declared.arrival.Under.{Under}
 use Rattle.room_judge.specs.declared.asker.Asker.{Asker}
 use Rattle.room_judge.specs.declared.halt.Halt.{Halt}
 use Rattle.room_judge.specs.declared.halt.Halt.TheVariants.{Refused, Fault}
-use Rattle.room_judge.specs.Judged.{CarriesOut, Does, FindsNext, IsJudged, IsReached, IsStepDown}
+use Rattle.room_judge.specs.Closed.{IsServed}
+use Rattle.room_judge.specs.Judged.{Does, FindsNext, IsJudged, IsReached, IsStepDown}
 use Rattle.room_judge.specs.Spot.{IsPaired, IsSpotted, SpotsUnder}
 
 -- A refusal is an outcome, as an answer is. A fault isn't.
@@ -109,7 +110,7 @@ replied (Ok reply) = reply
 replied (Err reply) = reply
 
 abbrev pub Serves : Asker → Request → Rows → Result Reply Reply → Rows → Type 0
-Serves asker request old outcome new = CarriesOut asker request old (replied outcome) new
+Serves asker request old outcome new = IsServed asker request old (replied outcome) new
 
 -- what a request answers in the end
 abbrev pub reply_of : Result Reply Halt → Result Reply KeepFault

@@ -33,7 +33,8 @@ use Rattle.room_machine.specs.declared.request.Request.{Request}
 use Rattle.room_machine.specs.Site.{Site, site_at}
 use Rattle.room_machine.specs.Plan.{Item, Check, Refusal, no_folder, no_document}
 use Rattle.room_machine.specs.Judge.{first_failure, records_of_plan}
-use Rattle.room_judge.specs.Stored.{stored_site, stored_along, found_site, to_stored}
+use Rattle.room_machine.specs.Stored.{stored_site, stored_along, to_stored}
+use Rattle.room_judge.specs.Stored.{found_site}
 use Rattle.room_machine.specs.Step.{Step, caller_in, Reset}
 
 -- ---- several calls of a keeper
@@ -193,11 +194,6 @@ pub record IsStepOfRows (user : Option (List ℕ)) (moment : ℤ) (request : Req
 abbrev pub CarriesOut : Asker → Request → Rows → Reply → Rows → Type 0
 CarriesOut asker request old reply new = IsKnown asker old → AreSound old
     → IsStepOfRows asker.caller.user asker.at request old reply new
-
--- What `perform` promises.
-abbrev pub Performs : Option (List ℕ) → ℤ → Request → Rows → Reply → Rows → Type 0
-Performs user moment request old reply new = AreSound old
-    → IsStepOfRows user moment request old reply new
 
 -- What the operator's reset promises: from sound rows it is that step, and the rows are sound
 -- again.

@@ -16,7 +16,8 @@ use Rattle.room_machine.specs.declared.reply.Reply.TheVariants.{Refused}
 use Rattle.room_machine.specs.declared.reply.Reason.TheVariants.{NoSuch}
 use Rattle.room_machine.specs.Site.{site_at, parent_at}
 use Rattle.room_machine.specs.Plan.{way}
-use Rattle.room_judge.specs.Stored.{found_site, stored_along, stored_site}
+use Rattle.room_machine.specs.Stored.{stored_along, stored_site}
+use Rattle.room_judge.specs.Stored.{found_site}
 use Rattle.room_judge.specs.Judged.{IsJudged, child_below, through}
 
 abbrev pub barred : Spot → Option Reply

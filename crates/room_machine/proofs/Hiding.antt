@@ -1,5 +1,6 @@
 -- What a denial on the way to an object hides.
-use Rattle.std.proofs.Common.{ℕ, zero, suc, ◌+◌, ◌≡◌, ◌⊎◌, inl, inr, Bool, true, false, cond, not, ◌&&◌, List, [], ◌∷◌, ◌++◌, length, length-append, take, Option, Some, None, refl, sym, ap, ◌∙◌, add-one, zero-add, arith}
+use Rattle.std.proofs.Common.{ℕ, zero, suc, ◌+◌, ◌≡◌, ◌⊎◌, inl, inr, Bool, true, false, cond, not, ◌&&◌, List, [], ◌∷◌, ◌++◌, length, length-append, take, Option, Some, None, refl, sym, ap, subst, ◌∙◌, add-one, zero-add, arith}
+use Rattle.std.specs.Option.{option_map_or}
 use Rattle.room_entry.specs.Ace.{Ace}
 use Rattle.room_entry.specs.Rights.{execute}
 use Rattle.room_entry.specs.declared.parties.Caller.{Caller}
@@ -8,20 +9,23 @@ use Rattle.room_eval.specs.Verdict.{verdict}
 use Rattle.room_eval.specs.declared.outcome.Verdict.{Verdict}
 use Rattle.room_eval.specs.declared.outcome.Verdict.TheVariants.{Granted, Denied as DeniedWith}
 use Rattle.room_rows.specs.declared.node.Node.{Node}
-use Rattle.room_rows.specs.Content.{Content, is_empty, is_folder}
+use Rattle.room_rows.specs.Content.{Content, child_of, is_empty, is_folder, root_of}
+use Rattle.room_rows.specs.Rows.{Rows}
 use Rattle.room_rows.specs.Walk.{walk_of}
 use Rattle.room_machine.specs.declared.request.Request.{Request}
 use Rattle.room_machine.specs.declared.request.Request.TheVariants.{Read, List as ListFolder, Put, Append, MakeFolder, Remove, Move, ReadList, SetList, ReadAttr, SetOwners, Can}
 use Rattle.room_machine.specs.declared.reply.Reply.{Reply}
-use Rattle.room_machine.specs.declared.reply.Reply.TheVariants.{Denied, Refused}
+use Rattle.room_machine.specs.declared.reply.Reply.TheVariants.{Bytes, Names, Lists, Attr, Rulings, Made, Done, Denied, Refused}
 use Rattle.room_machine.specs.declared.reply.Reason.{Reason}
 use Rattle.room_machine.specs.declared.reply.Reason.TheVariants.{NotFolder, NoSuch}
 use Rattle.room_machine.specs.Site.{Site, sites_of, sites_below, site_below, root_site, sites_along, full_at}
-use Rattle.room_machine.specs.Plan.{Item, Check, Refusal, way, plan_of}
+use Rattle.room_machine.specs.Plan.{Along, Item, Check, Refusal, way, plan_by}
+use Rattle.room_machine.specs.Stored.{stored_along, stored_from, stored_site}
+use Rattle.room_machine.specs.Closed.{TellsFailure, failure_told}
 use Rattle.room_machine.specs.Judge.{entry_at, failure, first_failure, of_verdict, or_else}
 use Rattle.room_machine.specs.Effect.{effect}
 use Rattle.room_machine.specs.Step.{caller_in}
-use Rattle.room_machine.specs.Laws.{first_path, Hides}
+use Rattle.room_machine.specs.Laws.{first_path, Hides, HidesStored}
 use Rattle.room_machine.proofs.Replies.{or_reply, reply_of, same_caller}
 
 -- the way as far as the check of EXECUTE on the object after n names
@@ -66,6 +70,14 @@ far_take (suc n) (site ∷ sites) (name ∷ names) =
     ∙ ap (λ items. Refusal site.path NotFolder (not (is_folder site.node))
     ∷ Check site (execute ∷ []) ∷ Refusal (site.path ++ name ∷ []) NoSuch (is_empty sites) ∷ items)
     (far_take n sites names)
+
+far_same : (n : ℕ) (sites others : List Site) (names : List (List ℕ))
+    → take (n + 1) sites ≡ take (n + 1) others
+    → way_as_far n sites names ≡ way_as_far n others names
+far_same n sites others names same =
+    let suc_same : take (suc n) sites ≡ take (suc n) others = rw add-one at same in
+    sym (far_take n sites names) ∙ ap (λ l. way_as_far n l names) suc_same
+    ∙ far_take n others names
 
 same_far : (n : ℕ) (chain other : List Node) (names : List (List ℕ))
     → take (n + 1) chain ≡ take (n + 1) other
@@ -145,11 +157,11 @@ module _ (caller : Caller) (lack : Bool) (rest : List Item) (at : List (List ℕ
       ∙ denied_first n sites names there.1)
 
 -- the plan of a request with a path begins with the way
-module _ (b : Content) (caller : Caller) (n : ℕ) (at : List (List ℕ)) (bits : List ℕ)
-    (place : Option ℕ) (entry : Option Ace) where
+module _ (along : Along) (b : Content) (caller : Caller) (n : ℕ) (at : List (List ℕ))
+    (bits : List ℕ) (place : Option ℕ) (entry : Option Ace) where
   abbrev IsDenied : Request → Type 0
   IsDenied request =
-      first_failure caller (way_as_far n (sites_along b (first_path request)) (first_path request))
+      first_failure caller (way_as_far n (along (first_path request)) (first_path request))
       ≡ Some (Denied at bits place entry)
 
   no_way : (sites : List Site) → way_as_far n sites [] ≡ []
@@ -157,37 +169,76 @@ module _ (b : Content) (caller : Caller) (n : ℕ) (at : List (List ℕ)) (bits 
   no_way (site ∷ sites) = refl
 
   plan_denied : (request : Request) → IsDenied request
-      → first_failure caller (plan_of b request) ≡ Some (Denied at bits place entry)
+      → first_failure caller (plan_by along b request) ≡ Some (Denied at bits place entry)
   plan_denied (Read path) is =
-      denied_first caller false _ at bits place entry n (sites_along b path) path is
+      denied_first caller false _ at bits place entry n (along path) path is
   plan_denied (ListFolder path) is =
-      denied_first caller false _ at bits place entry n (sites_along b path) path is
+      denied_first caller false _ at bits place entry n (along path) path is
   plan_denied (Put path bytes) is =
-      denied_first caller true _ at bits place entry n (sites_along b path) path is
+      denied_first caller true _ at bits place entry n (along path) path is
   plan_denied (Append path bytes) is =
-      denied_first caller false _ at bits place entry n (sites_along b path) path is
+      denied_first caller false _ at bits place entry n (along path) path is
   plan_denied (MakeFolder []) is =
-      absurd (none_some (sym (ap (first_failure caller) (no_way (sites_along b []))) ∙ is))
+      absurd (none_some (sym (ap (first_failure caller) (no_way (along []))) ∙ is))
     where
       none_some : first_failure caller [] ≡ Some (Denied at bits place entry) → ⊥
       none_some same = cc
   plan_denied (MakeFolder (name ∷ names)) is =
-      denied_first caller true _ at bits place entry n (sites_along b (name ∷ names))
+      denied_first caller true _ at bits place entry n (along (name ∷ names))
       (name ∷ names) is
   plan_denied (Remove path) is =
-      denied_first caller false _ at bits place entry n (sites_along b path) path is
+      denied_first caller false _ at bits place entry n (along path) path is
   plan_denied (Move path to) is =
-      denied_first caller false _ at bits place entry n (sites_along b path) path is
+      denied_first caller false _ at bits place entry n (along path) path is
   plan_denied (ReadList path which) is =
-      denied_first caller false _ at bits place entry n (sites_along b path) path is
+      denied_first caller false _ at bits place entry n (along path) path is
   plan_denied (SetList path which sent) is =
-      denied_first caller false _ at bits place entry n (sites_along b path) path is
+      denied_first caller false _ at bits place entry n (along path) path is
   plan_denied (ReadAttr path) is =
-      denied_first caller false _ at bits place entry n (sites_along b path) path is
+      denied_first caller false _ at bits place entry n (along path) path is
   plan_denied (SetOwners path owners) is =
-      denied_first caller false _ at bits place entry n (sites_along b path) path is
+      denied_first caller false _ at bits place entry n (along path) path is
   plan_denied (Can path mask) is =
-      denied_first caller false _ at bits place entry n (sites_along b path) path is
+      denied_first caller false _ at bits place entry n (along path) path is
+
+-- each object's path has one name more than that of the one before
+abbrev Deepens : Site → List Site → Type 0
+Deepens site [] = Unit {0}
+Deepens site (next ∷ sites) = (length next.path ≡ length site.path + 1) × Deepens next sites
+
+deepens_below : (site : Site) (chain : List Node) → Deepens site (sites_below site chain)
+deepens_below site [] = tt
+deepens_below site (node ∷ chain) =
+    (length-append site.path (node.name ∷ []), deepens_below (site_below site node) chain)
+
+-- the objects after the first of those with their stored lists
+abbrev stored_tail : Content → List (List ℕ) → Node → List (List ℕ) → List Site
+stored_tail rows path node [] = []
+stored_tail rows path node (name ∷ names) =
+    option_map_or (λ child. stored_from rows (path ++ name ∷ []) child names)
+    (child_of rows node.id name) []
+
+stored_head : (rows : Content) (path : List (List ℕ)) (node : Node) (names : List (List ℕ))
+    → stored_from rows path node names ≡ stored_site path node ∷ stored_tail rows path node names
+stored_head rows path node [] = refl
+stored_head rows path node (name ∷ names) = refl
+
+deepens_stored : (rows : Content) (path : List (List ℕ)) (node : Node) (names : List (List ℕ))
+    → Deepens (stored_site path node) (stored_tail rows path node names)
+deepens_stored rows path node [] = tt
+deepens_stored rows path node (name ∷ names) = on (child_of rows node.id name)
+    (λ child. deepens_stored rows (path ++ name ∷ []) child names)
+  where
+    on : (o : Option Node)
+        → ((child : Node) → Deepens (stored_site (path ++ name ∷ []) child)
+        (stored_tail rows (path ++ name ∷ []) child names))
+        → Deepens (stored_site path node)
+        (option_map_or (λ child. stored_from rows (path ++ name ∷ []) child names) o [])
+    on None more = tt
+    on (Some child) more =
+        subst (Deepens (stored_site path node))
+        (sym (stored_head rows (path ++ name ∷ []) child names))
+        (length-append path (name ∷ []), more child)
 
 -- where the way is denied, it is denied at an object on it
 module _ (caller : Caller) (lack : Bool) (at : List (List ℕ)) (bits : List ℕ) (place : Option ℕ)
@@ -251,11 +302,11 @@ module _ (caller : Caller) (lack : Bool) (at : List (List ℕ)) (bits : List ℕ
         passes ∙ below.2,
   )
 
-  denied_below : (site : Site) (chain : List Node) (names : List (List ℕ))
-      → first_failure caller (way lack (site ∷ sites_below site chain) names) ≡ denied
-      → IsDeniedBelow site (sites_below site chain) names
-  denied_below site chain [] is = absurd (no_failure is)
-  denied_below site [] (name ∷ names) is =
+  denied_below : (site : Site) (sites : List Site) (names : List (List ℕ)) → Deepens site sites
+      → first_failure caller (way lack (site ∷ sites) names) ≡ denied
+      → IsDeniedBelow site sites names
+  denied_below site sites [] deeper is = absurd (no_failure is)
+  denied_below site [] (name ∷ names) deeper is =
       let failed : Option Reply = failure caller (Check site (execute ∷ [])) in
       let more : Option Reply = or_else
       (cond (not (lack && is_empty names))
@@ -269,30 +320,53 @@ module _ (caller : Caller) (lack : Bool) (at : List (List ℕ)) (bits : List ℕ
             (no_failure (past_refusal caller lack [] at bits place entry
             (site.path ++ name ∷ []) NoSuch (not (lack && is_empty names)) None on.1).1)
       ]
-  denied_below site (node ∷ chain) (name ∷ names) is =
-      let next : Site = site_below site node in
+  denied_below site (next ∷ sites) (name ∷ names) deeper is =
       let failed : Option Reply = failure caller (Check site (execute ∷ [])) in
-      let more : Option Reply = first_failure caller
-      (way lack (next ∷ sites_below next chain) names) in
+      let more : Option Reply = first_failure caller (way lack (next ∷ sites) names) in
       let folder = past_refusal caller lack [] at bits place entry site.path NotFolder
       (not (is_folder site.node)) (or_else failed more) is in
       elim (either failed more folder.1) [
-        | inl here ↦ denied_here site (next ∷ sites_below next chain) name names folder.0 here
+        | inl here ↦ denied_here site (next ∷ sites) name names folder.0 here
         | inr on ↦
-            denied_next site next (sites_below next chain) name names
-            (length-append site.path (node.name ∷ [])) folder.0 on.0
-            (denied_below next chain names on.1)
+            denied_next site next sites name names deeper.0 folder.0 on.0
+            (denied_below next sites names deeper.1 on.1)
       ]
+
+  at_depth : (site : Site) (sites : List Site) (names : List (List ℕ)) → length site.path ≡ 0
+      → IsDeniedBelow site sites names
+      → first_failure caller (way_as_far (length at) (site ∷ sites) names) ≡ denied
+  at_depth site sites names none below =
+      ap (λ n. first_failure caller (way_as_far n (site ∷ sites) names))
+      (below.1 ∙ ap (λ n. n + below.0) none ∙ zero-add below.0) ∙ below.2
 
   denied_along : (chain : List Node) (names : List (List ℕ))
       → first_failure caller (way lack (sites_of chain) names) ≡ denied
       → first_failure caller (way_as_far (length at) (sites_of chain) names) ≡ denied
   denied_along [] names is = absurd (no_failure is)
   denied_along (root ∷ chain) names is =
-      let below : IsDeniedBelow (root_site root) (sites_below (root_site root) chain) names =
-      denied_below (root_site root) chain names is in
-      ap (λ n. first_failure caller (way_as_far n (sites_of (root ∷ chain)) names))
-      (below.1 ∙ zero-add below.0) ∙ below.2
+      at_depth (root_site root) (sites_below (root_site root) chain) names refl
+      (denied_below (root_site root) (sites_below (root_site root) chain) names
+      (deepens_below (root_site root) chain) is)
+
+  denied_stored : (rows : Content) (path names : List (List ℕ))
+      → first_failure caller (way lack (stored_along rows path) names) ≡ denied
+      → first_failure caller (way_as_far (length at) (stored_along rows path) names) ≡ denied
+  denied_stored rows path names is = on (root_of rows) is
+    where
+      on : (o : Option Node)
+          → first_failure caller
+          (way lack (option_map_or (λ root. stored_from rows [] root path) o []) names) ≡ denied
+          → first_failure caller (way_as_far (length at)
+          (option_map_or (λ root. stored_from rows [] root path) o []) names) ≡ denied
+      on None is = absurd (no_failure is)
+      on (Some root) is =
+          subst (λ sites. first_failure caller (way_as_far (length at) sites names) ≡ denied)
+          (sym (stored_head rows [] root path))
+          (at_depth (stored_site [] root) (stored_tail rows [] root path) names refl
+          (denied_below (stored_site [] root) (stored_tail rows [] root path) names
+          (deepens_stored rows [] root path)
+          (subst (λ sites. first_failure caller (way lack sites names) ≡ denied)
+          (stored_head rows [] root path) is)))
 
 pub hides : Hides
 hides a b user moment request may_lack at bits place entry reply after denied objects groups
@@ -311,4 +385,45 @@ hides a b user moment request may_lack at bits place entry reply after denied ob
     (sym (same_far n (walk_of a path).chain (walk_of b path).chain path objects)) ∙ first in
     reply_of b user moment request reply after stepped
     ∙ ap (λ f. or_reply f (effect b (caller_in b user) stepped.0 request).0)
-    (plan_denied b (caller_in b user) n at bits place entry request there)
+    (plan_denied (sites_along b) b (caller_in b user) n at bits place entry request there)
+
+-- a reply that tells this denial is it
+told_denial : (rows : Rows) (reply : Reply) (at : List (List ℕ)) (bits : List ℕ)
+    (place : Option ℕ) (entry : Option Ace)
+    → TellsFailure rows reply (Some (Denied at bits place entry))
+    → reply ≡ Denied at bits place entry
+told_denial rows reply at bits place entry (inl told) = is_told reply told
+  where
+    is_told : (r : Reply) → Some (Denied at bits place entry) ≡ failure_told r
+        → r ≡ Denied at bits place entry
+    is_told (Bytes bytes) told = absurd (let wrong : ⊥ = cc in wrong)
+    is_told (Names names) told = absurd (let wrong : ⊥ = cc in wrong)
+    is_told (Lists flags entries) told = absurd (let wrong : ⊥ = cc in wrong)
+    is_told (Attr kind owners) told = absurd (let wrong : ⊥ = cc in wrong)
+    is_told (Rulings rulings) told = absurd (let wrong : ⊥ = cc in wrong)
+    is_told Made told = absurd (let wrong : ⊥ = cc in wrong)
+    is_told Done told = absurd (let wrong : ⊥ = cc in wrong)
+    is_told (Denied of_path of_bits of_place of_entry) told = cc
+    is_told (Refused path why) told = absurd (let wrong : ⊥ = cc in wrong)
+told_denial rows reply at bits place entry (inr more) =
+    absurd (let passes = more.passes in let wrong : ⊥ = cc in wrong)
+
+pub hides_stored : HidesStored
+hides_stored a b user moment request may_lack at bits place entry reply after denied objects groups
+    closed =
+    let path = first_path request in
+    let n : ℕ = length at in
+    let first : first_failure (caller_in a.read user)
+    (way_as_far n (stored_along a.read path) path) ≡ Some (Denied at bits place entry) =
+    denied_stored (caller_in a.read user) may_lack at bits place entry a.read path path denied in
+    let there : first_failure (caller_in b.read user)
+    (way_as_far n (stored_along b.read path) path) ≡ Some (Denied at bits place entry) =
+    ap (λ c. first_failure c (way_as_far n (stored_along b.read path) path))
+    (sym (same_caller a.read b.read user groups))
+    ∙ ap (first_failure (caller_in a.read user))
+    (sym (far_same n (stored_along a.read path) (stored_along b.read path) path objects))
+    ∙ first in
+    told_denial b reply at bits place entry
+    (subst (TellsFailure b reply)
+    (plan_denied (stored_along b.read) b.read (caller_in b.read user) n at bits place entry request
+    there) closed.judged)

@@ -2,6 +2,8 @@
 use Rattle.std.specs.Prelude.{ℕ, ℤ, Bool, true, false, List, Option, Result, Ok, Err}
 use Rattle.room_rows.specs.Content.{Content}
 use Rattle.room_rows.specs.Keep.{one_more}
+use Rattle.room_rows.specs.Rows.{Rows}
+use Rattle.room_machine.specs.Closed.{FailsClosed}
 use Rattle.room_machine.specs.declared.reply.Reply.{Reply}
 use Rattle.room_machine.specs.declared.request.Request.{Request}
 use Rattle.room_machine.specs.Step.{Step}
@@ -13,6 +15,14 @@ abbrev pub Steps : {E : Type 0} → (Content → Type 0) → Option (List ℕ) �
 Steps old user moment request (Ok reply) new = (room : Content) → old room → (next : Content)
     × Step room user moment request reply next × new next
 Steps old user moment request (Err fault) new = (room : Content) → old room → new room
+
+-- The same for the rows that are stored, sound or not: a reply is judged by the lists that they
+-- store, and a fault leaves them as they were.
+abbrev pub Closes : {E : Type 0} → (Rows → Type 0) → Option (List ℕ) → ℤ → Request
+    → Result Reply E → (Rows → Type 0) → Type 0
+Closes old user moment request (Ok reply) new = (rows : Rows) → old rows → (next : Rows)
+    × FailsClosed user moment request rows reply next × new next
+Closes old user moment request (Err fault) new = (rows : Rows) → old rows → new rows
 
 -- the count of faults after one more answer
 abbrev pub fault_counted : {A E : Type 0} → Result A E → ℕ → ℕ

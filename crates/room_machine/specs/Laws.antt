@@ -12,7 +12,10 @@ use Rattle.room_machine.specs.declared.request.Request.TheVariants.{ReadAttr, Se
 use Rattle.room_machine.specs.declared.reply.Reply.{Reply}
 use Rattle.room_machine.specs.declared.reply.Reply.TheVariants.{Denied}
 use Rattle.room_entry.specs.Ace.{Ace}
-use Rattle.room_machine.specs.Site.{sites_along, site_at}
+use Rattle.room_rows.specs.Rows.{Rows}
+use Rattle.room_machine.specs.Site.{Site, sites_along, site_at}
+use Rattle.room_machine.specs.Stored.{stored_along}
+use Rattle.room_machine.specs.Closed.{FailsClosed}
 use Rattle.room_machine.specs.Plan.{way}
 use Rattle.room_machine.specs.Judge.{first_failure}
 use Rattle.room_machine.specs.Step.{Step, IsFree, caller_in}
@@ -86,6 +89,23 @@ Hides =
     chain_to at a (first_path request) ≡ chain_to at b (first_path request) →
     groups_for a user ≡ groups_for b user →
     Step b user moment request reply after → reply ≡ Denied at bits place entry
+
+-- the stored lists of the objects down to the one at the first of these paths
+abbrev pub stored_to : List (List ℕ) → Content → List (List ℕ) → List Site
+stored_to at rows path = take (length at + 1) (stored_along rows path)
+
+-- The same where rows needn't be sound, by the lists as they are stored.
+abbrev pub HidesStored : Type 0
+HidesStored =
+    (a b : Rows) (user : Option (List ℕ)) (moment : ℤ) (request : Request) (may_lack : Bool)
+    (at : List (List ℕ)) (bits : List ℕ) (place : Option ℕ) (entry : Option Ace) (reply : Reply)
+    (after : Rows) →
+    first_failure (caller_in a.read user)
+    (way may_lack (stored_along a.read (first_path request)) (first_path request))
+    ≡ Some (Denied at bits place entry) →
+    stored_to at a.read (first_path request) ≡ stored_to at b.read (first_path request) →
+    groups_for a.read user ≡ groups_for b.read user →
+    FailsClosed user moment request b reply after → reply ≡ Denied at bits place entry
 
 -- Some number is free, so the machine can always step.
 abbrev pub SomeFree : Type 0

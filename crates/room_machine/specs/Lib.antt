@@ -6,3 +6,5 @@ pub mod Step
 pub mod Run
 pub mod Laws
 pub mod Desk
+pub mod Stored
+pub mod Closed

@@ -44,9 +44,16 @@ way may_lack (site ∷ sites) (name ∷ names) =
 abbrev pub where_found : Option Site → (Site → List Item) → List Item
 where_found found items = option_map_or items found []
 
-abbrev pub to_target : Content → List (List ℕ) → (Site → List Item) → List Item
-to_target content path items = let sites = sites_along content path in
+-- what a walk along a path finds
+abbrev pub Along : Type 0
+Along = List (List ℕ) → List Site
+
+abbrev pub target_by : Along → List (List ℕ) → (Site → List Item) → List Item
+target_by along path items = let sites = along path in
     way false sites path ++ where_found (site_at sites path) items
+
+abbrev pub to_target : Content → List (List ℕ) → (Site → List Item) → List Item
+to_target content path items = target_by (sites_along content) path items
 
 abbrev pub no_folder : Site → Item
 no_folder site = Refusal site.path WrongKind (is_folder site.node)
@@ -67,8 +74,8 @@ abbrev pub right_to_add : Node → ℕ
 right_to_add node = if is_document node.kind then write_data else append_data
 
 -- a move of an object from its folder to another by a new name
-abbrev pub move_to : Content → List (List ℕ) → Site → Site → List Item
-move_to content to target from = let sites = sites_along content (front to) in
+abbrev pub move_to : Along → Content → List (List ℕ) → Site → Site → List Item
+move_to along content to target from = let sites = along (front to) in
     way false sites (front to)
     ++ where_found (site_at sites (front to)) (λ folder.
     Refusal folder.path NotFolder (not (is_folder folder.node))
@@ -79,9 +86,10 @@ move_to content to target from = let sites = sites_along content (front to) in
     ∷ Refusal to Loop (list_any (λ site. site.node.id == target.node.id) sites)
     ∷ [])
 
-abbrev pub move_items : Content → List (List ℕ) → Site → Site → List Item
-move_items content [] target from = Deletion target from ∷ Refusal [] Exists true ∷ []
-move_items content (name ∷ names) target from = move_to content (name ∷ names) target from
+abbrev pub move_items : Along → Content → List (List ℕ) → Site → Site → List Item
+move_items along content [] target from = Deletion target from ∷ Refusal [] Exists true ∷ []
+move_items along content (name ∷ names) target from =
+    move_to along content (name ∷ names) target from
 
 -- a document that is there, or one that isn't yet
 abbrev pub put_items : List (List ℕ) → ℕ → Option Site → Option Site → List Item
@@ -90,44 +98,48 @@ put_items path size (Some target) parent = no_folder target ∷ Check target (wr
 put_items path size None parent = where_found parent
     (λ folder. Check folder (write_data ∷ []) ∷ not_over path size ∷ [])
 
--- The plan of a request.
-abbrev pub plan_of : Content → Request → List Item
-plan_of content (Read path) = to_target content path
+-- The plan of a request, where walks find these objects with these lists.
+abbrev pub plan_by : Along → Content → Request → List Item
+plan_by along content (Read path) = target_by along path
     (λ target. no_folder target ∷ Check target (read_data ∷ []) ∷ [])
-plan_of content (ListFolder path) = to_target content path
+plan_by along content (ListFolder path) = target_by along path
     (λ target. no_document target ∷ Check target (read_data ∷ []) ∷ [])
-plan_of content (Put path bytes) = let sites = sites_along content path in
+plan_by along content (Put path bytes) = let sites = along path in
     way true sites path ++ put_items path (length bytes) (site_at sites path) (parent_at sites path)
-plan_of content (Append path bytes) = to_target content path (λ target.
+plan_by along content (Append path bytes) = target_by along path (λ target.
     no_folder target
     ∷ Check target (append_data ∷ [])
     ∷ not_over path (length (unwrap_or (body_of content target.node.id) []) + length bytes)
     ∷ [])
-plan_of content (MakeFolder []) = Refusal [] Exists true ∷ []
-plan_of content (MakeFolder (name ∷ names)) = let sites = sites_along content (name ∷ names) in
+plan_by along content (MakeFolder []) = Refusal [] Exists true ∷ []
+plan_by along content (MakeFolder (name ∷ names)) = let sites = along (name ∷ names) in
     way true sites (name ∷ names)
     ++ where_found (parent_at sites (name ∷ names)) (λ folder.
     Check folder (append_data ∷ [])
     ∷ Refusal (name ∷ names) Exists (is_some (site_at sites (name ∷ names)))
     ∷ [])
-plan_of content (Remove path) = let sites = sites_along content path in
-    to_target content path (λ target.
+plan_by along content (Remove path) = let sites = along path in
+    target_by along path (λ target.
     Refusal path Root (is_empty path)
     ∷ where_found (parent_at sites path) (λ folder.
     Deletion target folder
     ∷ Refusal path NotEmpty (not (is_empty (children_of content target.node.id)))
     ∷ []))
-plan_of content (Move path to) = let sites = sites_along content path in
-    to_target content path (λ target.
+plan_by along content (Move path to) = let sites = along path in
+    target_by along path (λ target.
     Refusal path Root (is_empty path)
-    ∷ where_found (parent_at sites path) (move_items content to target))
-plan_of content (ReadList path which) = to_target content path
+    ∷ where_found (parent_at sites path) (move_items along content to target))
+plan_by along content (ReadList path which) = target_by along path
     (λ target. Check target (read_acl ∷ []) ∷ [])
-plan_of content (SetList path which sent) = to_target content path
+plan_by along content (SetList path which sent) = target_by along path
     (λ target. Check target (write_acl ∷ [])
     ∷ bad_list path (first_bad_entry 1 which target.node.kind sent.entries))
-plan_of content (ReadAttr path) = to_target content path
+plan_by along content (ReadAttr path) = target_by along path
     (λ target. Check target (read_attributes ∷ []) ∷ [])
-plan_of content (SetOwners path owners) = to_target content path
+plan_by along content (SetOwners path owners) = target_by along path
     (λ target. Check target (write_owner ∷ []) ∷ [])
-plan_of content (Can path mask) = to_target content path (λ target. [])
+plan_by along content (Can path mask) = target_by along path (λ target. [])
+
+-- The plan of a request, with the lists that are computed from the root.
+abbrev pub plan_of : Content → Request → List Item
+plan_of content request = plan_by (sites_along content) content request

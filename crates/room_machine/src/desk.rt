@@ -2,7 +2,8 @@
 ghost use Rattle.std.specs.Prelude.{◌≡◌, ℕ, IfOk, OnOk};
 ghost use Rattle.std.specs.Option.{option_copied};
 ghost use Rattle.room_rows.specs.Content.{Content};
-ghost use Rattle.room_machine.specs.Desk.{Agrees, Steps, fault_counted};
+ghost use Rattle.room_rows.specs.Rows.{Rows};
+ghost use Rattle.room_machine.specs.Desk.{Agrees, Closes, Steps, fault_counted};
 
 use crate::reply::Reply;
 use crate::request::Request;
@@ -17,6 +18,9 @@ pub struct DeskFault;
 pub trait Desk {
     // This is what the desk keeps, as far as it is known.
     ghost content: { Self → Content → Type 0 };
+
+    // These are the rows that the desk has stored, sound or not, as far as they are known.
+    ghost stored: { Self → Rows → Type 0 };
 
     // What the desk keeps is sound.
     ghost sound: { Self → Type 0 };
@@ -33,7 +37,8 @@ pub trait Desk {
 
     /// Carries out one request of a caller, who is anonymous without a name, at a moment in seconds
     /// from 1970-01-01 00:00 UTC. A denial or a refusal is a reply. The error is a fault of the
-    /// desk, which leaves what is kept as it was.
+    /// desk, which leaves what is kept as it was. Of damaged rows too, nothing is served, shown or
+    /// changed that the lists that they store don't grant.
     fn run(
         &mut self,
         alloc: Global,
@@ -45,6 +50,8 @@ pub trait Desk {
         ensures step { trusted self.new → sound self.old → Steps (content self.old)
             (option_copied caller.entry) at request.now result (content self.new) }
         ensures sound { trusted self.new → sound self.old → sound self.new }
+        ensures closed { trusted self.new → Closes (stored self.old)
+            (option_copied caller.entry) at request.now result (stored self.new) }
         ensures faults { faults self.new ≡ fault_counted result (faults self.old) }
         ensures shut { shut self.old → shut self.new × (trusted self.new → OnOk result ⊥) };
 
@@ -56,6 +63,8 @@ pub trait Desk {
         ensures kept { trusted self.new → (room : Content) → content self.old room
             → content self.new room }
         ensures sound { trusted self.new → sound self.old → sound self.new }
+        ensures held { trusted self.new → (rows : Rows) → stored self.old rows
+            → stored self.new rows }
         ensures faults { faults self.new ≡ fault_counted result (faults self.old) }
         ensures told { IfOk result (λ told. Agrees (trusted self.new) (shut self.new) told) };
 

@@ -1,6 +1,6 @@
 //! Laws of the room machine.
 ghost use Rattle.room_machine.specs.Run.{RunsMeet};
-ghost use Rattle.room_machine.specs.Laws.{ReadsOnly, Hides, SomeFree};
+ghost use Rattle.room_machine.specs.Laws.{ReadsOnly, Hides, HidesStored, SomeFree};
 
 /// Two runs that meet are one run.
 pub fn two_runs_meet()
@@ -16,6 +16,11 @@ pub fn reads_only()
 /// Where the way to a request's path is denied, what lies below doesn't show.
 pub fn hides()
     ensures { Hides }
+{}
+
+/// The same on damaged rows, by the lists as they are stored.
+pub fn hides_stored()
+    ensures { HidesStored }
 {}
 
 /// Some number is free, so the machine can always step.

@@ -2,7 +2,13 @@
 ghost use Rattle.std.specs.Prelude.{◌≡◌, IfOk, ⊤, refl};
 ghost use Rattle.std.specs.Option.{option_copied};
 ghost use Rattle.room_rows.specs.Keep.{one_more};
-ghost use Rattle.room_memory.specs.Memory.{content_in, IsSoundKeep, Tries};
+ghost use Rattle.room_memory.specs.Memory.{
+  content_in,
+  HasRows,
+  IsSoundKeep,
+  Tries,
+  TriesClosed,
+};
 
 use room_ace::Name;
 use room_desk::perform;
@@ -50,7 +56,9 @@ impl MemDesk {
         at: i64,
         request: &Request,
     ) -> Result<(MemKeep, Reply), KeepFault>
-        ensures { IfOk result (λ done. Tries
+        ensures tried { IfOk result (λ done. Tries
+            (option_copied caller.entry) at request.now self.now.keep done.1 done.0) }
+        ensures closed { IfOk result (λ done. TriesClosed
             (option_copied caller.entry) at request.now self.now.keep done.1 done.0) }
     {
         let mut keep = self.keep.copy()?;
@@ -61,6 +69,8 @@ impl MemDesk {
 
 impl Desk for MemDesk {
     ghost content = { λ desk room. content_in desk.keep ≡ room };
+
+    ghost stored = { λ desk rows. HasRows desk.keep rows };
 
     ghost sound = { λ desk. IsSoundKeep desk.keep };
 

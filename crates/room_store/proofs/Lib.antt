@@ -5,3 +5,4 @@ mod Exchanged
 mod Opened
 mod Testing
 mod Shutting
+pub mod Closing

@@ -15,7 +15,7 @@ use Rattle.room_rows.specs.Rows.{Rows}
 use Rattle.room_rows.specs.Sound.{AreSound}
 use Rattle.store_tables.specs.Meaning.{rows_of}
 use Rattle.store_tables.specs.Shown.{HasTables}
-use Rattle.room_store.specs.Kept.{IsShut, IsSound, Keeps}
+use Rattle.room_store.specs.Kept.{IsShut, IsSound, Keeps, Stores}
 use Rattle.room_store.specs.Ran.{Ran}
 use Rattle.room_store.specs.declared.fault.StoreFault.{StoreFault}
 
@@ -121,6 +121,12 @@ module _ (old new : State) (result : Result Bool StoreFault) (asked : Asks old n
   asked_sound sound is_open =
       subst (λ (db : Database). HasTables db × AreSound (rows_of db))
       (sym (asked.same now is_open)) (sound (asked.leaves.was_open now is_open))
+
+  -- and so are the rows, sound or not
+  pub asked_stored : (rows : Rows) → Stores old rows → Stores new rows
+  asked_stored rows stored is_open =
+      subst (λ (db : Database). HasTables db × (rows_of db ≡ rows))
+      (sym (asked.same now is_open)) (stored (asked.leaves.was_open now is_open))
 
 -- a call of a store that was shut gives no answer
 pub shut_answers : {X : Type 0} (old new : State) (x : X) (Blames : Rows → Type 0)

@@ -2,7 +2,7 @@
 ghost use Rattle.std.specs.Prelude.{◌≡◌};
 ghost use Rattle.std.specs.Option.{option_copied};
 ghost use Rattle.sqlite.specs.Held.{state};
-ghost use Rattle.room_judge.specs.Judged.{Performs};
+ghost use Rattle.room_judge.specs.Closed.{Performs};
 ghost use Rattle.room_store.specs.Ran.{HasDamage, Ran};
 ghost use Rattle.store_admin.specs.Carries.{ByRows, CallsInside, OnRows};
 

@@ -2,9 +2,13 @@
 ghost use Rattle.std.specs.Prelude.{◌≡◌, [], OnOk};
 ghost use Rattle.std.specs.Option.{option_copied};
 ghost use Rattle.sqlite.specs.Held.{state};
+ghost use Rattle.sqlite.specs.State.{HasCleanDisk};
 ghost use Rattle.room_inherit.specs.Reading.{IsReport};
-ghost use Rattle.room_judge.specs.Judged.{Performs, Resets};
+ghost use Rattle.room_judge.specs.Closed.{Performs};
+ghost use Rattle.room_judge.specs.Judged.{Resets};
+ghost use Rattle.room_machine.specs.Desk.{Closes};
 ghost use Rattle.room_machine.specs.Run.{Event};
+ghost use Rattle.room_store.specs.Kept.{Stores};
 ghost use Rattle.room_store.specs.Leads.{Leads, event_of};
 ghost use Rattle.room_store.specs.Premise.{StorePremise};
 ghost use Rattle.room_store.specs.Ran.{HasDamage, Looked, Ran};
@@ -68,8 +72,8 @@ impl<S: Alter> Store<S> {
 
     /// Carries out one request of a caller, who is anonymous without a name, at a moment in seconds
     /// from 1970-01-01 00:00 UTC. From sound rows it is one step of the room machine on what the
-    /// tables mean. A fault leaves the tables, and `Damaged` comes only for a damaged row, so never
-    /// on sound rows.
+    /// tables mean. From any rows, damaged ones too, it is judged by the lists that they store. A
+    /// fault leaves the tables, and `Damaged` comes only for a damaged row, so never on sound rows.
     pub fn run(
         &mut self,
         alloc: Global,
@@ -79,6 +83,9 @@ impl<S: Alter> Store<S> {
     ) -> Result<Reply, StoreFault>
         ensures ran { Ran (state S.Store self.old.conn) (state S.Store self.new.conn) result
             HasDamage (Performs (option_copied caller.entry) at request.now) }
+        ensures closed { HasCleanDisk (state S.Store self.new.conn)
+            → Closes (Stores (state S.Store self.old.conn)) (option_copied caller.entry) at
+            request.now result (Stores (state S.Store self.new.conn)) }
         ensures leads { Leads (state S.Store self.old.conn) (event_of result
             (Event.Asked (option_copied caller.entry) at request.now))
             (state S.Store self.new.conn) }

@@ -118,12 +118,24 @@ module _ (db : Database) (room : IsRoom db) (parent : ℕ) where
       sym (ap (λ o. is_empty (sorted_by_name (cons_option o (filter_map see rows)))) seen.0.1
       ∙ put_is_some seen.0.0 (sorted_by_name (filter_map see rows)))
 
+  no_child : (rows all : List Row) → IsPermutation (map shown_number rows) all
+      → not (length (take 1 all) == 0) ≡ false → sorted_by_name (filter_map see rows) ≡ []
+  no_child [] all perm says = refl
+  no_child (r ∷ rows) [] perm says =
+      absurd (let e = no_map shown_number (r ∷ rows)
+      (alone_in (map shown_number (r ∷ rows))
+      (IsPermutation-sym (map shown_number (r ∷ rows)) [] perm)) in cc)
+  no_child (r ∷ rows) (x ∷ more) perm says = absurd (let wrong : ⊥ = cc in wrong)
+
   pub tells_some : (rows : List Row) → HasSome (pos parent) db.trees rows
       → HasChildren parent (rows_of db) (not (length rows == 0))
-  tells_some rows shown none =
-      ap (λ l. not (length l == 0)) shown.2
-      ∙ ap not (some_child kept shown.0 refl (under_seen db room parent none) shown.1)
-      ∙ sym (ap (λ l. not (is_empty l)) (children_read db parent))
+  tells_some rows shown = (
+    λ says. children_read db parent
+        ∙ no_child kept shown.0 shown.1 (sym (ap (λ l. not (length l == 0)) shown.2) ∙ says),
+    λ none. ap (λ l. not (length l == 0)) shown.2
+        ∙ ap not (some_child kept shown.0 refl (under_seen db room parent none) shown.1)
+        ∙ sym (ap (λ l. not (is_empty l)) (children_read db parent)),
+  )
 
   -- ---- names and kinds
 

@@ -1,6 +1,7 @@
 //! Readers, writers and desks that fail.
 ghost use Rattle.std.specs.Prelude.{◌≡◌, ⊤, refl};
 ghost use Rattle.room_memory.specs.Memory.{content_in};
+ghost use Rattle.room_tree.specs.Memory.{rows_in};
 
 use room_ace::Name;
 use room_http::Cause;
@@ -176,6 +177,8 @@ struct FaultyDesk {
 
 impl Desk for FaultyDesk {
     ghost content = { λ s room. content_in s.desk.keep ≡ room };
+
+    ghost stored = { λ s rows. rows_in s.desk.keep ≡ rows };
 
     ghost sound = { λ _. ⊤ };
 

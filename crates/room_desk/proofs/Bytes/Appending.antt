@@ -4,6 +4,7 @@ use Rattle.std.specs.Prelude.{IfOk, unwrap_or, nat_lt, nat_le}
 use Rattle.std.proofs.lemmas.Bool.{eqb-true, ltb-false, le-leb}
 use Rattle.std.proofs.lemmas.List.{append-nil}
 use Rattle.room_entry.specs.Rights.{append_data}
+use Rattle.room_entry.specs.Valid.{is_document}
 use Rattle.room_rows.specs.declared.node.Node.{Node}
 use Rattle.room_rows.specs.Content.{node_at, body_of, with_body}
 use Rattle.room_rows.specs.Keep.{IsDamaged, KeepLaws, SetsBody, reading}
@@ -20,13 +21,15 @@ use Rattle.room_machine.specs.declared.request.Request.TheVariants.{Append}
 use Rattle.room_machine.specs.Site.{Site, site_at}
 use Rattle.room_machine.specs.Plan.{Item, plan_of, not_over, way, where_found}
 use Rattle.room_machine.specs.Effect.{with_site}
-use Rattle.room_judge.specs.Stored.{stored_site, stored_along, to_stored}
+use Rattle.room_judge.specs.Closed.{IsClosed, IsServed}
+use Rattle.room_machine.specs.Stored.{stored_site, stored_along, stored_plan, to_stored}
 use Rattle.room_judge.specs.declared.halt.Halt.{Halt}
 use Rattle.room_judge.specs.declared.halt.Halt.TheVariants.{Refused as Halted, Fault}
 use Rattle.room_judge.specs.Halted.{replied, settled}
 use Rattle.room_judge.specs.Judged.{IsDone, IsJudged, IsReached, CarriesOut}
 use Rattle.room_judge.proofs.Calls.{HasDone, finish, memory}
 use Rattle.room_desk.specs.Written.{Answers, HasNoBytes, IsAppended, IsPut, TakesBytes, sized_reply}
+use Rattle.room_judge.proofs.Closing.{closed_done, closed_failed}
 use Rattle.room_judge.proofs.Judging.{fails_first, passes_first, refuses, passes_on, judged_none}
 use Rattle.room_desk.proofs.Sound.SoundParts.{sound_parts, sound_noted}
 use Rattle.room_desk.proofs.Bytes.SoundBytes.{sound_bytes}
@@ -111,23 +114,40 @@ module _ (asker : Asker) (path : List (List ℕ)) (bytes : List ℕ) where
   abbrev items : Rows → Site → List Item
   items old site = DocumentAt (append_data ∷ []) site ++ sized old site
 
-  planned : (old new : Rows) (answer : Option Reply) → AreRows old → AreSound old
+  -- what is judged in parts is the plan by the stored lists
+  as_stored : (old new : Rows) (answer : Option Reply)
       → IsJudged asker (to_stored old.read path (DocumentAt (append_data ∷ []))
       ++ where_found (site_at (stored_along old.read path) path) (sized old)) old answer new
+      → IsJudged asker (stored_plan old.read (Append path bytes)) old answer new
+  as_stored old new answer judged =
+      subst (λ list. IsJudged asker list old answer new)
+      (sym (more_items (DocumentAt (append_data ∷ [])) (sized old)
+      (way false (stored_along old.read path) path) (site_at (stored_along old.read path) path)))
+      judged
+
+  planned : (old new : Rows) (answer : Option Reply) → AreRows old → AreSound old
+      → IsJudged asker (stored_plan old.read (Append path bytes)) old answer new
       → IsJudged asker (plan_of (meaning old.read) (Append path bytes)) old answer new
   planned old new answer are sound judged =
       plan_judged asker path (items old) old new answer are (sound_parts old sound) (λ site. refl)
-      (subst (λ list. IsJudged asker list old answer new)
-      (sym (more_items (DocumentAt (append_data ∷ [])) (sized old)
-      (way false (stored_along old.read path) path) (site_at (stored_along old.read path) path)))
-      judged)
+      judged
+
+  -- an item fails
+  not_appended : (old new : Rows) (reply : Reply) → AreRows old
+      → IsJudged asker (stored_plan old.read (Append path bytes)) old (Some reply) new
+      → IsServed asker (Append path bytes) old reply new
+  not_appended old new reply are judged = (
+    λ known sound. refused_step asker (Append path bytes) old known sound new reply
+        (planned old new (Some reply) are sound judged),
+    closed_failed asker (Append path bytes) old reply new judged,
+  )
 
   pub append_ended : (old new : Rows) (reply : Reply) → AreRows old
       → IsReached asker path (DocumentAt (append_data ∷ [])) old (Ended reply) new
-      → CarriesOut asker (Append path bytes) old reply new
-  append_ended old new reply are reached known sound =
-      refused_step asker (Append path bytes) old known sound new reply
-      (planned old new (Some reply) are sound
+      → IsServed asker (Append path bytes) old reply new
+  append_ended old new reply are reached =
+      not_appended old new reply are
+      (as_stored old new (Some reply)
       (fails_first asker (to_stored old.read path (DocumentAt (append_data ∷ [])))
       (where_found (site_at (stored_along old.read path) path) (sized old)) old new reply
       reached.judged))
@@ -140,10 +160,10 @@ module _ (asker : Asker) (path : List (List ℕ)) (bytes : List ℕ) where
     -- what the item of the size answers
     sized_judged : (before : List ℕ) (new : Rows) (answer : Option Reply)
         → body_of old.read node.id ≡ Some before
-        → IsJudged asker (limit (length (before ++ bytes)) ∷ []) mid answer new → AreSound old
-        → IsJudged asker (plan_of (meaning old.read) (Append path bytes)) old answer new
-    sized_judged before new answer were judged sound =
-        planned old new answer are sound
+        → IsJudged asker (limit (length (before ++ bytes)) ∷ []) mid answer new
+        → IsJudged asker (stored_plan old.read (Append path bytes)) old answer new
+    sized_judged before new answer were judged =
+        as_stored old new answer
         (passes_first asker (to_stored old.read path (DocumentAt (append_data ∷ [])))
         (where_found (site_at (stored_along old.read path) path) (sized old)) old mid new answer
         reached.judged
@@ -153,19 +173,33 @@ module _ (asker : Asker) (path : List (List ℕ)) (bytes : List ℕ) where
         (sym were) ∙ ap (λ o. where_found o (sized old)) (sym reached.found))
         judged))
 
+    few_judged : (before : List ℕ) → body_of old.read node.id ≡ Some before
+        → nat_lt 1048576 (length (before ++ bytes)) ≡ false
+        → IsJudged asker (stored_plan old.read (Append path bytes)) old None mid
+    few_judged before were few =
+        sized_judged before mid None were
+        (passes_on asker path TooLarge (nat_lt 1048576 (length (before ++ bytes)))
+        [] mid mid None few (judged_none asker mid mid refl))
+
+    there : (node_at old.read node.id ≡ Some node) × (is_document node.kind ≡ true)
+    there = document_there asker path (append_data ∷ []) old mid node are reached
+
+    bytes_set : (after : List ℕ) (new : Rows) → SetsBody node.id after mid new
+        → new ≡ reading mid (with_body mid.read node.id after)
+    bytes_set after new sets =
+        sets (
+          node,
+          ap (λ (r : Rows). node_at r.read node.id) reached.judged.notes ∙ there.0,
+          there.1,
+        )
+
     append_set : (before : List ℕ) (new : Rows) → body_of old.read node.id ≡ Some before
         → nat_lt 1048576 (length (before ++ bytes)) ≡ false
-        → TakesBytes false node.id (before ++ bytes) mid new
+        → SetsBody node.id (before ++ bytes) mid new
         → CarriesOut asker (Append path bytes) old Done new
-    append_set before new were few takes known sound =
-        let there = document_there asker path (append_data ∷ []) old mid node are reached in
-        let judged = sized_judged before mid None were
-        (passes_on asker path TooLarge (nat_lt 1048576 (length (before ++ bytes)))
-        [] mid mid None few (judged_none asker mid mid refl)) sound in
-        let there_mid : node_at mid.read node.id ≡ Some node = ap
-        (λ (r : Rows). node_at r.read node.id) reached.judged.notes ∙ there.0 in
-        let new_is : new ≡ reading mid (with_body mid.read node.id (before ++ bytes)) = takes
-        (node, there_mid, there.1) in
+    append_set before new were few sets known sound =
+        let judged = planned old mid None are sound (few_judged before were few) in
+        let new_is = bytes_set (before ++ bytes) new sets in
         let fits : nat_le (length (before ++ bytes)) 1048576 ≡ true = le-leb
         (length (before ++ bytes)) 1048576 (ltb-false 1048576 (length (before ++ bytes)) few) in
         let target = target_there old are (sound_parts old sound) path
@@ -196,22 +230,30 @@ module _ (asker : Asker) (path : List (List ℕ)) (bytes : List ℕ) where
         (sound_noted (reading old (with_body old.read node.id (before ++ bytes))) _
         (sound_bytes old node.id node (before ++ bytes) are sound there.0 there.1 fits)))
 
+    append_closed : (before : List ℕ) (new : Rows) → body_of old.read node.id ≡ Some before
+        → nat_lt 1048576 (length (before ++ bytes)) ≡ false
+        → SetsBody node.id (before ++ bytes) mid new
+        → IsClosed asker (Append path bytes) old Done new
+    append_closed before new were few sets =
+        closed_done asker (Append path bytes) old Done mid new (few_judged before were few) refl
+        refl (ap (λ (r : Rows). r.read.audits) (bytes_set (before ++ bytes) new sets)) refl
+
     on_size : (before : List ℕ) (t : Bool) (new : Rows) (reply : Reply)
         → body_of old.read node.id ≡ Some before → nat_lt 1048576 (length (before ++ bytes)) ≡ t
         → reply ≡ cond t (Refused path TooLarge) Done
         → TakesBytes t node.id (before ++ bytes) mid new
-        → CarriesOut asker (Append path bytes) old reply new
-    on_size before true new reply were many replies takes known sound =
-        refused_step asker (Append path bytes) old known sound new reply
+        → IsServed asker (Append path bytes) old reply new
+    on_size before true new reply were many replies takes =
+        not_appended old new reply are
         (sized_judged before new (Some reply) were
         (refuses asker path TooLarge (nat_lt 1048576 (length (before ++ bytes)))
-        [] mid new reply replies many takes) sound)
-    on_size before false new reply were few replies takes known sound =
-        subst (λ (r : Reply). CarriesOut asker (Append path bytes) old r new) (sym replies)
-        (append_set before new were few takes) known sound
+        [] mid new reply replies many takes))
+    on_size before false new reply were few replies takes =
+        subst (λ (r : Reply). IsServed asker (Append path bytes) old r new) (sym replies)
+        (append_set before new were few takes, append_closed before new were few takes)
 
     pub append_done : (new : Rows) (reply : Reply) → IsAppended path node.id bytes mid reply new
-        → CarriesOut asker (Append path bytes) old reply new
+        → IsServed asker (Append path bytes) old reply new
     append_done new reply appended =
         on_size appended.before (nat_lt 1048576 (length (appended.before ++ bytes))) new reply
         (sym (ap (λ (r : Rows). body_of r.read node.id) reached.judged.notes) ∙ appended.were) refl

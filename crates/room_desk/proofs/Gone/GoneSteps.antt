@@ -1,12 +1,12 @@
 -- A request that removes an object is a step.
-use Rattle.std.proofs.Common.{◌≡◌, ℕ, ◌<◌, ◌==◌, Bool, true, false, cond, not, List, [], ◌∷◌, ◌++◌, map, length, take, Option, Some, None, refl, sym, ap, subst, ◌∙◌, arith}
+use Rattle.std.proofs.Common.{◌≡◌, ℕ, ◌==◌, Bool, true, false, not, List, [], ◌∷◌, ◌++◌, map, length, take, Option, Some, None, refl, sym, ap, subst, ◌∙◌, inl, inr, arith}
 use Rattle.std.proofs.Math.Seq.{take-length}
-use Rattle.std.proofs.lemmas.Bool.{eqb-true}
+use Rattle.std.proofs.lemmas.Bool.{eqb-true, false≢true}
 use Rattle.std.specs.Option.{option_map, option_map_or}
 use Rattle.std.proofs.lemmas.List.{map-append}
 use Rattle.room_rows.specs.declared.node.Node.{Node}
-use Rattle.room_rows.specs.Content.{Content, children_of, is_empty, node_at, with_records, without_node}
-use Rattle.room_rows.specs.Keep.{CanRemove, Removes, reading}
+use Rattle.room_rows.specs.Content.{Content, children_of, is_empty, node_at, root_of, with_records, without_node}
+use Rattle.room_rows.specs.Keep.{CanRemove, HasChildren, Removes, reading}
 use Rattle.room_rows.specs.Meaning.{kept_node, meaning}
 use Rattle.room_rows.specs.Rows.{Rows, AreRows}
 use Rattle.room_rows.proofs.InPlace.{children_of-with_each, keeps_places}
@@ -20,18 +20,22 @@ use Rattle.room_machine.specs.declared.reply.Reason.TheVariants.{NotEmpty, Root}
 use Rattle.room_machine.specs.declared.request.Request.TheVariants.{Remove}
 use Rattle.room_machine.specs.Site.{Site, sites_along, site_at, parent_at, front}
 use Rattle.room_machine.specs.Plan.{Item, Deletion, Refusal, plan_of, way, where_found}
-use Rattle.room_machine.specs.Judge.{failure, or_else, records_of_plan}
+use Rattle.room_machine.specs.Judge.{records_of_plan}
 use Rattle.room_machine.specs.Effect.{with_site}
-use Rattle.room_judge.specs.Stored.{found_site, stored_along, stored_from, stored_site}
-use Rattle.room_judge.specs.Judged.{CarriesOut, IsJudged, IsStepOfRows, NotSound}
+use Rattle.room_judge.specs.Closed.{IsClosed, IsServed}
+use Rattle.room_machine.specs.Stored.{stored_along, stored_from, stored_plan, stored_site}
+use Rattle.room_judge.specs.Stored.{found_site}
+use Rattle.room_judge.specs.Judged.{CarriesOut, IsJudged}
 use Rattle.room_judge.specs.Spot.{IsPaired}
-use Rattle.room_desk.specs.Made.{Ends, IsJudgedAndDone}
-use Rattle.room_desk.specs.Removed.{has_children}
-use Rattle.room_judge.proofs.Judging.{fails_first, passes_first, passes_on, refuses}
-use Rattle.room_desk.proofs.Sound.SoundParts.{root_there, seen_noted, sound_noted, sound_parts}
+use Rattle.room_desk.specs.Made.{Ends}
+use Rattle.room_desk.specs.Removed.{RemovesFrom, RemovesIfGranted, refused_where}
+use Rattle.room_judge.proofs.Closing.{closed_done, closed_failed, closed_more}
+use Rattle.room_judge.proofs.Judging.{fails_first, judged_none, passes_first, passes_on, refuses}
+use Rattle.room_desk.proofs.Sound.SoundParts.{none_unreadable, root_there, sound_noted, sound_parts}
 use Rattle.room_desk.proofs.Gone.SoundRemoved.{CanGo, removed_means, sound_removed}
 use Rattle.room_desk.proofs.Gone.Childless.{childless}
 use Rattle.room_desk.proofs.Made.Pairs.{parent_along}
+use Rattle.room_desk.proofs.Made.ServedItems.{judged_refused}
 use Rattle.room_desk.proofs.Sound.Sites.{fill, sites_filled}
 use Rattle.room_desk.proofs.Sound.Filled.{fill_item, judged_filled, site_filled, target_there, way_filled}
 use Rattle.room_desk.proofs.Steps.Stepping.{changed_step, refused_step}
@@ -44,17 +48,6 @@ no_names (name ∷ more) names t same is holds =
     let none = eqb-true (length names) 0 (sym is ∙ holds) in
     let long = sym (ap (λ (l : List (List ℕ)). length l) same) ∙ none in
     absurd (let wrong : ⊥ = omega (arith, long) in wrong)
-
--- what is known of items that pass
-none_left : (a b : Option Reply) → None ≡ or_else a b → None ≡ b
-none_left None b is = is
-none_left (Some reply) b is = absurd (let wrong : ⊥ = cc in wrong)
-
-nothing_there : (path : List (List ℕ)) (nodes : List Node)
-    → None ≡ or_else (cond (not (is_empty nodes)) (Some (Refused path NotEmpty)) None) None
-    → nodes ≡ []
-nothing_there path [] passes = refl
-nothing_there path (x ∷ xs) passes = absurd (let wrong : ⊥ = cc in wrong)
 
 -- what is stored and what is meant agree on whether there are children
 empty_kept : (content : Content) (id : ℕ)
@@ -114,7 +107,7 @@ module _ (asker : Asker) (path : List (List ℕ)) where
 
   -- what is judged at the stored lists is judged by the plan
   planned : (old new : Rows) (answer : Option Reply) → AreRows old → AreSound old
-      → IsJudged asker (items_along old.read (stored_along old.read path)) old answer new
+      → IsJudged asker (stored_plan old.read (Remove path)) old answer new
       → IsJudged asker (plan_of (meaning old.read) (Remove path)) old answer new
   planned old new answer are sound judged =
       judged_filled asker (plan_of (meaning old.read) (Remove path)) old new answer
@@ -122,15 +115,24 @@ module _ (asker : Asker) (path : List (List ℕ)) where
       (ap (items_along old.read) (sym (sites_filled old are (sound_parts old sound) path))
       ∙ items_filled old.read (sites_along (meaning old.read) path)) judged)
 
+  -- an item fails
+  not_removed : (old new : Rows) (reply : Reply) → AreRows old
+      → IsJudged asker (stored_plan old.read (Remove path)) old (Some reply) new
+      → IsServed asker (Remove path) old reply new
+  not_removed old new reply are judged = (
+    λ known sound. refused_step asker (Remove path) old known sound new reply
+        (planned old new (Some reply) are sound judged),
+    closed_failed asker (Remove path) old reply new judged,
+  )
+
   pub remove_halted : (old new : Rows) (reply : Reply) → AreRows old
-      → IsPaired asker path old (Halted reply) new → CarriesOut asker (Remove path) old reply new
-  remove_halted old new reply are paired known sound =
-      refused_step asker (Remove path) old known sound new reply
-      (planned old new (Some reply) are sound
+      → IsPaired asker path old (Halted reply) new → IsServed asker (Remove path) old reply new
+  remove_halted old new reply are paired =
+      not_removed old new reply are
       (fails_first asker (way false (stored_along old.read path) path)
       (where_found (site_at (stored_along old.read path) path)
       (items_at old.read (parent_at (stored_along old.read path) path))) old new reply
-      paired.judged))
+      paired.judged)
 
   module _ (old mid : Rows) (folder target : Found) (are : AreRows old)
       (named : is_empty path ≡ false)
@@ -138,9 +140,13 @@ module _ (asker : Asker) (path : List (List ℕ)) where
     abbrev id : ℕ
     id = target.node.id
 
+    -- the refusal of an object that has children
+    abbrev has_children : Rows → Item
+    has_children rows = Refusal path NotEmpty (not (is_empty (children_of rows.read id)))
+
     -- the items at them
     abbrev removal : Rows → Site → List Item
-    removal rows site = Deletion site (found_site path folder) ∷ has_children path rows id ∷ []
+    removal rows site = Deletion site (found_site path folder) ∷ has_children rows ∷ []
 
     removal_is : removal mid (found_site path target) ≡ removal old (stored_site path target.node)
     removal_is =
@@ -155,19 +161,18 @@ module _ (asker : Asker) (path : List (List ℕ)) where
         ap (λ o. where_found o (items_at old.read (parent_at (stored_along old.read path) path)))
         paired.target ∙ ap (λ o. items_at old.read o (stored_site path target.node)) paired.folder
 
-    judged_all : (new : Rows) (answer : Option Reply) → AreSound old
+    at_stored : (new : Rows) (answer : Option Reply)
         → IsJudged asker (removal mid (found_site path target)) mid answer new
-        → IsJudged asker (plan_of (meaning old.read) (Remove path)) old answer new
-    judged_all new answer sound judged =
-        planned old new answer are sound
-        (passes_first asker (way false (stored_along old.read path) path)
+        → IsJudged asker (stored_plan old.read (Remove path)) old answer new
+    at_stored new answer judged =
+        passes_first asker (way false (stored_along old.read path) path)
         (where_found (site_at (stored_along old.read path) path)
         (items_at old.read (parent_at (stored_along old.read path) path))) old mid new answer
         paired.judged
         (subst (λ list. IsJudged asker list mid answer new) (sym items_are)
         (passes_on asker path Root (is_empty path)
         (removal old (stored_site path target.node)) mid new answer named
-        (subst (λ list. IsJudged asker list mid answer new) removal_is judged))))
+        (subst (λ list. IsJudged asker list mid answer new) removal_is judged)))
 
     there : node_at old.read id ≡ Some target.node
     there = along_there old.read are.numbers path (stored_site path target.node) paired.target
@@ -177,86 +182,166 @@ module _ (asker : Asker) (path : List (List ℕ)) where
         parent_along old.read path (found_site path folder)
         (stored_site path target.node) paired.folder paired.target
 
-    removed : (last new : Rows) → AreSound old
-        → IsJudged asker (removal mid (found_site path target)) mid None last → Removes id last new
-        → (Rattle.room_judge.specs.Judged.IsKnown asker old)
-        → IsStepOfRows asker.caller.user asker.at (Remove path) old Done new
-    removed last new sound judged removes known =
-        let all = judged_all last None sound judged in
-        let records = records_of_plan asker.caller asker.at
-        (plan_of (meaning old.read) (Remove path)) in
-        let site = target_there old are (sound_parts old sound) path
-        (stored_site path target.node) paired.target in
-        let none : children_of old.read id ≡ [] =
-        sym (ap (λ (r : Rows). children_of r.read id) paired.judged.notes)
-        ∙ nothing_there path (children_of mid.read id)
-        (none_left
-        (failure asker.caller (Deletion (found_site path target) (found_site path folder))) _
-        judged.answers) in
-        let can : CanGo old.read id = record {
-          rises = are.numbers;
-          node = target.node;
-          there = there;
-          parent = folder.node.id;
-          below = below;
-          none = childless old.read id none;
-        } in
-        let may : CanRemove id last = record {
+    -- the deletion may be refused
+    denied : (last new : Rows) (refusal reply : Reply)
+        → IsJudged asker (Deletion (found_site path target) (found_site path folder) ∷ []) mid
+        (Some refusal) last → reply ≡ refusal → new ≡ last → IsServed asker (Remove path) old reply new
+    denied last new refusal reply judged replies same =
+        not_removed old new reply are
+        (at_stored new (Some reply)
+        (fails_first asker (Deletion (found_site path target) (found_site path folder) ∷ [])
+        (has_children mid ∷ []) mid new reply
+        (judged_refused asker (Deletion (found_site path target) (found_site path folder) ∷ []) mid
+        last new refusal reply judged replies same)))
+
+    -- the deletion is granted
+    module _ (last : Rows) (granted : IsJudged asker
+        (Deletion (found_site path target) (found_site path folder) ∷ []) mid None last) where
+      then_children : (new : Rows) (answer : Option Reply)
+          → IsJudged asker (has_children mid ∷ []) last answer new
+          → IsJudged asker (stored_plan old.read (Remove path)) old answer new
+      then_children new answer judged =
+          at_stored new answer
+          (passes_first asker (Deletion (found_site path target) (found_site path folder) ∷ [])
+          (has_children mid ∷ []) mid last new answer granted judged)
+
+      -- where there are none, nothing fails
+      none_fails : (new : Rows) → new ≡ last → is_empty (children_of mid.read id) ≡ true
+          → IsJudged asker (stored_plan old.read (Remove path)) old None new
+      none_fails new same none =
+          then_children new None
+          (passes_on asker path NotEmpty (not (is_empty (children_of mid.read id))) [] last new None
+          (ap not none) (judged_none asker last new same))
+
+      childless_then : children_of last.read id ≡ [] → is_empty (children_of mid.read id) ≡ true
+      childless_then none =
+          sym (ap (λ (r : Rows). is_empty (children_of r.read id)) granted.notes)
+          ∙ ap (λ (nodes : List Node). is_empty nodes) none
+
+      module _ (none : children_of last.read id ≡ []) where
+        all : IsJudged asker (stored_plan old.read (Remove path)) old None last
+        all = none_fails last refl (childless_then none)
+
+        may : CanRemove id last
+        may = record {
           node = target.node;
           is_there = ap (λ (r : Rows). node_at r.read id) all.notes ∙ there;
           parent = folder.node.id;
           has_parent = below;
-          no_children = ap (λ (r : Rows). children_of r.read id) all.notes ∙ none;
-        } in
-        changed_step asker (Remove path) old known sound last new Done
-        (without_node (meaning old.read) id) all
-        (λ number. ap (λ o. with_site (meaning old.read) o
-        (λ t. (Done, without_node (meaning old.read) t.node.id))) site.at
-        ∙ ap (λ (n : Node). (Done, without_node (meaning old.read) n.id)) site.kept)
-        (ap (λ (r : Rows). meaning r.read) (removes may)
-        ∙ ap (λ (r : Rows). meaning (without_node r.read id)) all.notes
-        ∙ ap (λ (c : Content). with_records c records) (removed_means old.read id can))
-        (subst AreSound
-        (sym (removes may ∙ ap (λ (r : Rows). reading r (without_node r.read id)) all.notes))
-        (sound_noted (reading old (without_node old.read id)) records
-        (sound_removed old id sound can)))
+          no_children = none;
+        }
 
-    removed_as : (new : Rows) (reply : Reply)
-        → IsJudgedAndDone asker (removal mid (found_site path target)) Done
-        (Removes id) mid reply new → CarriesOut asker (Remove path) old reply new
-    removed_as new reply acts known sound = on acts.answer acts.judged acts.ends
-      where
-        on : (answer : Option Reply)
-            → IsJudged asker (removal mid (found_site path target)) mid answer acts.mid
-            → Ends Done (Removes id) answer acts.mid reply new
-            → IsStepOfRows asker.caller.user asker.at (Remove path) old reply new
-        on (Some refusal) judged after =
-            refused_step asker (Remove path) old known sound new reply
-            (judged_all new (Some reply) sound
-            (subst (λ (r : Rows). IsJudged asker (removal mid (found_site path target)) mid
-            (Some reply) r) (sym after.1)
-            (subst (λ (r : Reply). IsJudged asker (removal mid (found_site path target)) mid
-            (Some r) acts.mid) (sym after.0) judged)))
-        on None judged after =
-            subst (λ (r : Reply). IsStepOfRows asker.caller.user asker.at (Remove path) old r new)
-            (sym after.0) (removed acts.mid new sound judged after.1 known)
+        removed : (new : Rows) → Removes id last new → CarriesOut asker (Remove path) old Done new
+        removed new removes known sound =
+            let plan = planned old last None are sound all in
+            let records = records_of_plan asker.caller asker.at
+            (plan_of (meaning old.read) (Remove path)) in
+            let site = target_there old are (sound_parts old sound) path
+            (stored_site path target.node) paired.target in
+            let can : CanGo old.read id = record {
+              rises = are.numbers;
+              node = target.node;
+              there = there;
+              parent = folder.node.id;
+              below = below;
+              none = childless old.read id
+                  (sym (ap (λ (r : Rows). children_of r.read id) all.notes) ∙ none);
+            } in
+            changed_step asker (Remove path) old known sound last new Done
+            (without_node (meaning old.read) id) plan
+            (λ number. ap (λ o. with_site (meaning old.read) o
+            (λ t. (Done, without_node (meaning old.read) t.node.id))) site.at
+            ∙ ap (λ (n : Node). (Done, without_node (meaning old.read) n.id)) site.kept)
+            (ap (λ (r : Rows). meaning r.read) (removes may)
+            ∙ ap (λ (r : Rows). meaning (without_node r.read id)) plan.notes
+            ∙ ap (λ (c : Content). with_records c records) (removed_means old.read id can))
+            (subst AreSound
+            (sym (removes may ∙ ap (λ (r : Rows). reading r (without_node r.read id)) plan.notes))
+            (sound_noted (reading old (without_node old.read id)) records
+            (sound_removed old id sound can)))
+
+        removed_closed : (new : Rows) → Removes id last new
+            → IsClosed asker (Remove path) old Done new
+        removed_closed new removes =
+            closed_done asker (Remove path) old Done last new all refl refl
+            (ap (λ (r : Rows). r.read.audits) (removes may)) refl
+
+      -- a child that can't be read
+      unread : (new : Rows) (reply : Reply) → HasChildren id last true
+          → is_empty (children_of mid.read id) ≡ true → reply ≡ Refused path NotEmpty → new ≡ last
+          → IsServed asker (Remove path) old reply new
+      unread new reply answer none replies same =
+          let seen : last.unreadable ≡ old.unreadable =
+          ap (λ (r : Rows). r.unreadable) granted.notes
+          ∙ ap (λ (r : Rows). r.unreadable) paired.judged.notes in
+          let hidden : old.unreadable ≡ [] → ⊥ =
+          λ all_read. false≢true (sym (answer.1 (seen ∙ all_read)
+          ∙ ap (λ (r : Rows). not (is_empty (children_of r.read id))) granted.notes
+          ∙ ap not none)) in (
+            λ known sound. absurd (hidden (none_unreadable old (sound_parts old sound))),
+            closed_more asker (Remove path) old reply new path NotEmpty
+                (none_fails new same none) replies (inl hidden),
+          )
+
+      on_children : (has_some : Bool) → HasChildren id last has_some → (new : Rows) (reply : Reply)
+          → Ends Done (Removes id) (refused_where has_some path) last reply new
+          → IsServed asker (Remove path) old reply new
+      on_children false answer new reply ends =
+          subst (λ (r : Reply). IsServed asker (Remove path) old r new) (sym ends.0)
+          (removed (answer.0 refl) new ends.1, removed_closed (answer.0 refl) new ends.1)
+      on_children true answer new reply ends =
+          on (is_empty (children_of mid.read id)) refl
+        where
+          on : (t : Bool) → is_empty (children_of mid.read id) ≡ t
+              → IsServed asker (Remove path) old reply new
+          on true none = unread new reply answer none ends.0 ends.1
+          on false some =
+              not_removed old new reply are
+              (then_children new (Some reply)
+              (refuses asker path NotEmpty (not (is_empty (children_of mid.read id)))
+              [] last new reply ends.0 (ap not some) ends.1))
+
+    removed_if : (answer : Option Reply) (last new : Rows) (reply : Reply)
+        → IsJudged asker (Deletion (found_site path target) (found_site path folder) ∷ []) mid
+        answer last → RemovesIfGranted answer path id last reply new
+        → IsServed asker (Remove path) old reply new
+    removed_if (Some refusal) last new reply judged ends =
+        denied last new refusal reply judged ends.0 ends.1
+    removed_if None last new reply judged ends =
+        on_children last judged ends.has_some ends.answer new reply ends.ends
 
     pub remove_done : (new : Rows) (reply : Reply)
-        → (mid.unreadable ≡ []
-        → IsJudgedAndDone asker (removal mid (found_site path target)) Done
-        (Removes id) mid reply new) → CarriesOut asker (Remove path) old reply new
-    remove_done new reply acts known sound =
-        removed_as new reply (acts (seen_noted old mid _ paired.judged.notes sound)) known sound
+        → RemovesFrom asker path (found_site path target) (found_site path folder) mid reply new
+        → IsServed asker (Remove path) old reply new
+    remove_done new reply removes =
+        removed_if removes.answer removes.mid new reply removes.judged removes.ends
 
 -- ---- the root
 
 pub root_kept : (asker : Asker) (old new : Rows) (reply : Reply) → AreRows old
-    → reply ≡ Refused [] Root → new ≡ old → CarriesOut asker (Remove []) old reply new
-root_kept asker old new reply are replies same known sound =
-    let there = root_there old.read.nodes (sound_parts old sound).root in
-    refused_step asker (Remove []) old known sound new reply
-    (planned asker [] old new (Some reply) are sound
-    (subst (λ list. IsJudged asker list old (Some reply) new)
-    (sym (ap (λ o. items_along asker [] old.read
-    (option_map_or (λ root. stored_from old.read [] root []) o [])) there.1))
-    (refuses asker [] Root true [] old new reply replies refl same)))
+    → reply ≡ Refused [] Root → new ≡ old → IsServed asker (Remove []) old reply new
+root_kept asker old new reply are replies same = on (root_of old.read) refl
+  where
+    plan_is : (o : Option Node) → root_of old.read ≡ o
+        → items_along asker [] old.read
+        (option_map_or (λ root. stored_from old.read [] root []) o [])
+        ≡ stored_plan old.read (Remove [])
+    plan_is o is =
+        sym (ap (λ o. items_along asker [] old.read
+        (option_map_or (λ root. stored_from old.read [] root []) o [])) is)
+
+    on : (o : Option Node) → root_of old.read ≡ o → IsServed asker (Remove []) old reply new
+    on (Some root) is =
+        not_removed asker [] old new reply are
+        (subst (λ list. IsJudged asker list old (Some reply) new) (plan_is (Some root) is)
+        (refuses asker [] Root true [] old new reply replies refl same))
+    on None is = (
+      λ known sound. absurd (none_some (root_there old.read.nodes (sound_parts old sound).root) is),
+      closed_more asker (Remove []) old reply new [] Root
+          (subst (λ list. IsJudged asker list old None new) (plan_is None is)
+          (judged_none asker old new same)) replies (inr is),
+    )
+      where
+        none_some : (there : (root : Node) × (root_of old.read ≡ Some root))
+            → root_of old.read ≡ None → ⊥
+        none_some there is = let wrong : Some there.0 ≡ None = sym there.1 ∙ is in cc

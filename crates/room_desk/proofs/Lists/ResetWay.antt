@@ -13,7 +13,7 @@ use Rattle.room_machine.specs.Judge.{first_failure, or_else}
 use Rattle.room_machine.specs.Plan.{Item, way, where_found}
 use Rattle.room_machine.specs.Site.{Site, site_at}
 use Rattle.room_machine.specs.Step.{is_refusal}
-use Rattle.room_judge.specs.Stored.{stored_from, stored_site}
+use Rattle.room_machine.specs.Stored.{stored_from, stored_site}
 use Rattle.std.proofs.Math.Seq.{take-append_seam}
 use Rattle.std.proofs.lemmas.List.{append-nil}
 use Rattle.room_entry.specs.declared.object.ObjKind.{ObjKind}

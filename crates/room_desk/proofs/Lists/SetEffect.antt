@@ -16,7 +16,7 @@ use Rattle.room_machine.specs.declared.request.Request.TheVariants.{SetList}
 use Rattle.room_machine.specs.Effect.{effect, kept_by_child, sent_held, set_list, with_site}
 use Rattle.room_desk.specs.Setting.{kept_site}
 use Rattle.room_machine.specs.Site.{Site, front, full_at, parent_at, site_at, sites_along}
-use Rattle.room_judge.specs.Stored.{stored_along, stored_site}
+use Rattle.room_machine.specs.Stored.{stored_along, stored_site}
 use Rattle.room_desk.proofs.Sound.Filled.{IsTarget, site_filled, target_there}
 use Rattle.room_desk.proofs.Sound.Sites.{fill, sites_filled}
 use Rattle.room_desk.proofs.Sound.SoundParts.{SoundParts}

@@ -26,6 +26,9 @@ use Rattle.room_machine.specs.declared.request.Request.TheVariants.{SetList}
 use Rattle.room_machine.specs.Effect.{set_list}
 use Rattle.room_judge.specs.declared.arrival.Found.{Found}
 use Rattle.room_judge.specs.declared.arrival.Pair.TheVariants.{Both, Halted}
+use Rattle.room_machine.specs.Closed.{failure_told}
+use Rattle.room_judge.specs.Closed.{IsServed}
+use Rattle.room_judge.proofs.Closing.{closed_done, closed_failed}
 use Rattle.room_judge.specs.Judged.{CarriesOut, IsJudged, IsReached, arrival_of, noted}
 use Rattle.room_judge.specs.Spot.{IsPaired}
 use Rattle.room_judge.proofs.Folders.{pair_reached}
@@ -38,7 +41,8 @@ use Rattle.room_desk.proofs.Moves.MovingPlan.{along_noted}
 use Rattle.room_desk.proofs.Sound.RootedWays.{rooted_along}
 use Rattle.room_desk.specs.Setting.{Beneath, IsFoundUnder, IsSetOrRefused, IsSetWell, SetUnless, kept_site, reason_of}
 use Rattle.room_machine.specs.Site.{Site, site_at}
-use Rattle.room_judge.specs.Stored.{found_site, stored_along, to_stored}
+use Rattle.room_machine.specs.Stored.{stored_along, stored_plan, to_stored}
+use Rattle.room_judge.specs.Stored.{found_site}
 use Rattle.room_desk.proofs.Sound.Filled.{fill_item, plan_judged}
 use Rattle.room_judge.proofs.Judging.{fails_first, judged_none, passes_first, refuses}
 use Rattle.room_desk.proofs.Steps.Serving.{CheckAt}
@@ -89,15 +93,28 @@ module _ (asker : Asker) (path : List (List ℕ)) (which : Which) (sent : Sent) 
       (way false (stored_along old.read path) path) (site_at (stored_along old.read path) path)))
       judged)
 
+  by_stored : (old new : Rows) (answer : Option Reply)
+      → IsJudged asker (to_stored old.read path (CheckAt (write_acl ∷ []))
+      ++ where_found (site_at (stored_along old.read path) path) refusing) old answer new
+      → IsJudged asker (stored_plan old.read (SetList path which sent)) old answer new
+  by_stored old new answer judged =
+      subst (λ list. IsJudged asker list old answer new)
+      (sym (more_items (CheckAt (write_acl ∷ [])) refusing
+      (way false (stored_along old.read path) path) (site_at (stored_along old.read path) path)))
+      judged
+
   pub set_ended : (old new : Rows) (reply : Reply) → AreRows old
       → IsReached asker path (CheckAt (write_acl ∷ [])) old (Ended reply) new
-      → CarriesOut asker (SetList path which sent) old reply new
-  set_ended old new reply are reached known sound =
-      refused_step asker (SetList path which sent) old known sound new reply
-      (planned old new (Some reply) are sound
-      (fails_first asker (to_stored old.read path (CheckAt (write_acl ∷ [])))
+      → IsServed asker (SetList path which sent) old reply new
+  set_ended old new reply are reached =
+      let judged = fails_first asker (to_stored old.read path (CheckAt (write_acl ∷ [])))
       (where_found (site_at (stored_along old.read path) path) refusing) old new reply
-      reached.judged))
+      reached.judged in (
+        λ known sound. refused_step asker (SetList path which sent) old known sound new reply
+            (planned old new (Some reply) are sound judged),
+        closed_failed asker (SetList path which sent) old reply new
+            (by_stored old new (Some reply) judged),
+      )
 
   module _ (old mid : Rows) (node : Node) (are : AreRows old)
       (reached : IsReached asker path (CheckAt (write_acl ∷ [])) old (At node) mid) where
@@ -108,18 +125,25 @@ module _ (asker : Asker) (path : List (List ℕ)) (which : Which) (sent : Sent) 
     there_mid = ap (λ (r : Rows). node_at r.read node.id) reached.judged.notes ∙ there
 
     -- what the items after the check answer
+    all_items : (faults : Option EntryFault) (new : Rows) (answer : Option Reply)
+        → first_bad_entry 1 which node.kind sent.entries ≡ faults
+        → IsJudged asker (bad_list path faults) mid answer new
+        → IsJudged asker (to_stored old.read path (CheckAt (write_acl ∷ []))
+        ++ where_found (site_at (stored_along old.read path) path) refusing) old answer new
+    all_items faults new answer are_faults judged =
+        passes_first asker (to_stored old.read path (CheckAt (write_acl ∷ [])))
+        (where_found (site_at (stored_along old.read path) path) refusing) old mid new answer
+        reached.judged
+        (subst (λ list. IsJudged asker list mid answer new)
+        (ap (bad_list path) (sym are_faults) ∙ ap (λ o. where_found o refusing) (sym reached.found))
+        judged)
+
     behind : (faults : Option EntryFault) (new : Rows) (answer : Option Reply)
         → first_bad_entry 1 which node.kind sent.entries ≡ faults
         → IsJudged asker (bad_list path faults) mid answer new → AreSound old
         → IsJudged asker (plan_of (meaning old.read) (SetList path which sent)) old answer new
     behind faults new answer are_faults judged sound =
-        planned old new answer are sound
-        (passes_first asker (to_stored old.read path (CheckAt (write_acl ∷ [])))
-        (where_found (site_at (stored_along old.read path) path) refusing) old mid new answer
-        reached.judged
-        (subst (λ list. IsJudged asker list mid answer new)
-        (ap (bad_list path) (sym are_faults) ∙ ap (λ o. where_found o refusing) (sym reached.found))
-        judged))
+        planned old new answer are sound (all_items faults new answer are_faults judged)
 
     set_well : (new : Rows) → first_bad_entry 1 which node.kind sent.entries ≡ None
         → IsSetWell which sent node mid new
@@ -143,19 +167,28 @@ module _ (asker : Asker) (path : List (List ℕ)) (which : Which) (sent : Sent) 
         → IsSetOrRefused path which sent node mid reply new
         → reply ≡ option_map_or (λ why. Refused path why) (reason_of faults) Done
         → SetUnless (reason_of faults) which sent node mid new
-        → CarriesOut asker (SetList path which sent) old reply new
-    on_faults None new reply none said replies becomes known sound =
-        subst (λ (r : Reply). CarriesOut asker (SetList path which sent) old r new) (sym replies)
-        (set_well new none (becomes there_mid (ap reason_of none) said.few
-        (subst AreSound (sym reached.judged.notes) (sound_noted old _ sound)))) known sound
-    on_faults (Some fault) new reply some said replies becomes known sound =
-        refused_step asker (SetList path which sent) old known sound new reply
-        (behind (Some fault) new (Some reply) some
-        (refuses asker path (BadList fault.place fault.why) true
-        [] mid new reply replies refl becomes) sound)
+        → IsServed asker (SetList path which sent) old reply new
+    on_faults None new reply none said replies becomes = (
+      λ known sound.
+          subst (λ (r : Reply). CarriesOut asker (SetList path which sent) old r new) (sym replies)
+          (set_well new none (becomes.1 there_mid (ap reason_of none) said.few
+          (subst AreSound (sym reached.judged.notes) (sound_noted old _ sound)))) known sound,
+      closed_done asker (SetList path which sent) old reply mid new
+          (by_stored old mid None (all_items None mid None none (judged_none asker mid mid refl)))
+          refl (ap failure_told replies) (becomes.0 there_mid) replies,
+    )
+    on_faults (Some fault) new reply some said replies becomes =
+        let refused = refuses asker path (BadList fault.place fault.why) true [] mid new reply
+        replies refl becomes in (
+          λ known sound. refused_step asker (SetList path which sent) old known sound new reply
+              (behind (Some fault) new (Some reply) some refused sound),
+          closed_failed asker (SetList path which sent) old reply new
+              (by_stored old new (Some reply)
+              (all_items (Some fault) new (Some reply) some refused)),
+        )
 
     pub set_done : (new : Rows) (reply : Reply) → IsSetOrRefused path which sent node mid reply new
-        → CarriesOut asker (SetList path which sent) old reply new
+        → IsServed asker (SetList path which sent) old reply new
     set_done new reply said =
         on_faults (first_bad_entry 1 which node.kind sent.entries) new reply refl said said.replies
         said.becomes
@@ -193,7 +226,7 @@ module _ (asker : Asker) (path : List (List ℕ)) (which : Which) (sent : Sent) 
   pub not_allowed : (new : Rows) (bits : List ℕ) (refusal : Option Reply) (reply : Reply)
       → bits ≡ write_acl ∷ [] → refusal ≡ Some reply
       → IsJudged asker (Check (found_site path target) bits ∷ []) mid refusal new
-      → CarriesOut asker (SetList path which sent) old reply new
+      → IsServed asker (SetList path which sent) old reply new
   not_allowed new bits refusal reply same comes judged =
       set_ended asker path which sent old new reply found.are
       (checked new bits refusal (Some reply) same comes judged)
@@ -203,7 +236,7 @@ module _ (asker : Asker) (path : List (List ℕ)) (which : Which) (sent : Sent) 
       (judged : IsJudged asker (Check (found_site path target) bits ∷ []) mid refusal end) where
     pub allowed_done : (new : Rows) (reply : Reply)
         → Beneath above target.node (IsSetOrRefused path which sent target.node) end reply new
-        → CarriesOut asker (SetList path which sent) old reply new
+        → IsServed asker (SetList path which sent) old reply new
     allowed_done new reply said =
         let reached = checked end bits refusal None same comes judged in
         set_done asker path which sent old end target.node found.are reached new reply
@@ -218,7 +251,7 @@ module _ (asker : Asker) (path : List (List ℕ)) (which : Which) (sent : Sent) 
 
 pub set_halted : (asker : Asker) (path : List (List ℕ)) (which : Which) (sent : Sent)
     (old new : Rows) (reply : Reply) → AreRows old → IsPaired asker path old (Halted reply) new
-    → CarriesOut asker (SetList path which sent) old reply new
+    → IsServed asker (SetList path which sent) old reply new
 set_halted asker path which sent old new reply are paired =
     set_ended asker path which sent old new reply are
     (not_reached asker path (CheckAt (write_acl ∷ [])) old new reply

@@ -30,7 +30,7 @@ use Rattle.room_desk.proofs.Sound.RootedWays.{above_end, rooted_last, stands_las
 use Rattle.room_desk.specs.Setting.{Beneath, IsResetAtEnd, IsSetOrRefused, SetUnless, reason_of}
 use Rattle.room_machine.specs.Site.{Site, site_at, sites_along}
 use Rattle.room_machine.specs.Step.{answered, is_refusal, reset}
-use Rattle.room_judge.specs.Stored.{stored_along, stored_from, stored_site}
+use Rattle.room_machine.specs.Stored.{stored_along, stored_from, stored_site}
 use Rattle.room_desk.proofs.Sound.Filled.{fill_item, target_filled}
 use Rattle.room_desk.proofs.Lists.ResetWay.{Comes, comes, end_from, refusals, same_last, walk_end}
 use Rattle.room_desk.proofs.Lists.SetEffect.{set_effect}
@@ -171,7 +171,7 @@ module _ (old : Rows) (are : AreRows old) (sound : AreSound old) (path : List (L
         → SetUnless (reason_of faults) which sent last old new
         → Resets path which sent old reply new
     at_target None none there found is said replies becomes _ =
-        let well = becomes there (ap reason_of none) said.few sound in
+        let well = becomes.1 there (ap reason_of none) said.few sound in
         record {
           reset =
               reset_is None is ∙ set_effect old are (sound_parts old sound) which sent last path

@@ -266,10 +266,23 @@ module _ (which : Which) (sent : Sent) (node : Node) (inh : List Ace) (old new :
   stored : held ≡ stored_held which sent node.kind (parent_of old.read node)
   stored = ap (held_with sent) is
 
-  pub well_stored : Stores which node held old tt new → IsSet which sent node old new
-  well_stored (inl stays) there valid few sound =
+  records_stay : Stores which node held old tt new → node_at old.read node.id ≡ Some node
+      → new.read.audits ≡ old.read.audits
+  records_stay (inl stays) there = ap (λ (r : Rows). r.read.audits) stays.1
+  records_stay (inr written) there = on sent.flags.auto (written.goes there)
+      ∙ ap (λ (r : Rows). r.read.audits) (written.writes node there)
+    where
+      on : (t : Bool) → GoesDown t which node.id written.mid new
+          → new.read.audits ≡ written.mid.read.audits
+      on true goes = ap (λ (r : Rows). r.read.audits) goes.1.becomes
+      on false goes = ap (λ (r : Rows). r.read.audits) goes
+
+  well : Stores which node held old tt new → node_at old.read node.id ≡ Some node
+      → fault_in 1 which node.kind sent.entries ≡ None → limit_fault sent.entries ≡ None
+      → AreSound old → IsSetWell which sent node old new
+  well (inl stays) there valid few sound =
       set_same which sent node old are there sound held stored valid few new stays.0 stays.1
-  well_stored (inr written) there valid few sound = on sent.flags.auto refl (written.goes there)
+  well (inr written) there valid few sound = on sent.flags.auto refl (written.goes there)
     where
       on : (t : Bool) → sent.flags.auto ≡ t → GoesDown t which node.id written.mid new
           → IsSetWell which sent node old new
@@ -279,3 +292,6 @@ module _ (which : Which) (sent : Sent) (node : Node) (inh : List Ace) (old new :
       on false is goes =
           set_still which sent node old are there sound held stored valid few new is
           (goes ∙ written.writes node there)
+
+  pub well_stored : Stores which node held old tt new → IsSet which sent node old new
+  well_stored stores = (records_stay stores, well stores)

@@ -13,7 +13,8 @@ use Rattle.room_machine.specs.declared.reply.Reason.TheVariants.{NotFolder}
 use Rattle.room_machine.specs.Site.{Site, front, last_name}
 use Rattle.room_machine.specs.Plan.{Item, Check, Refusal, way, where_found}
 use Rattle.room_machine.specs.Judge.{failure, first_failure}
-use Rattle.room_judge.specs.Stored.{stored_along, found_site}
+use Rattle.room_machine.specs.Stored.{stored_along}
+use Rattle.room_judge.specs.Stored.{found_site}
 use Rattle.room_judge.specs.Judged.{through}
 use Rattle.room_judge.specs.Spot.{IsSpotted}
 use Rattle.room_judge.proofs.Judging.{failure_of_parts}

@@ -9,7 +9,6 @@ use Rattle.room_rows.specs.declared.node.Node.{Node}
 use Rattle.room_rows.specs.Content.{child_of, with_node}
 use Rattle.room_rows.specs.Meaning.{meaning}
 use Rattle.room_rows.specs.Rows.{Rows, AreRows}
-use Rattle.room_rows.specs.Sound.{AreSound}
 use Rattle.room_judge.specs.declared.arrival.Found.{Found}
 use Rattle.room_judge.specs.declared.arrival.Spot.TheVariants.{Under, Barred}
 use Rattle.room_judge.specs.declared.asker.Asker.{Asker}
@@ -21,17 +20,21 @@ use Rattle.room_machine.specs.Site.{Site, last_name, parent_at, site_at}
 use Rattle.room_machine.specs.Plan.{Check, Refusal, plan_of, way, where_found}
 use Rattle.room_machine.specs.Effect.{new_node, with_site}
 use Rattle.room_machine.specs.Judge.{failure, first_failure, records_of_plan}
-use Rattle.room_judge.specs.Stored.{stored_site, stored_along, found_site}
+use Rattle.room_judge.specs.Closed.{IsClosed, IsServed}
+use Rattle.room_machine.specs.Stored.{stored_site, stored_along, stored_plan}
+use Rattle.room_judge.specs.Stored.{found_site}
 use Rattle.room_judge.specs.Judged.{IsJudged, CarriesOut}
 use Rattle.room_desk.specs.Made.{Ends, IsMade, IsNameOf, IsJudgedAndDone, new_child}
 use Rattle.room_judge.specs.Spot.{IsSpotted}
+use Rattle.room_judge.proofs.Closing.{closed_done, closed_failed}
 use Rattle.room_judge.proofs.Judging.{fails_first, passes_first, refuses}
 use Rattle.room_desk.proofs.Steps.Serving.{none_both}
 use Rattle.room_desk.proofs.Sound.SoundParts.{sound_parts}
-use Rattle.room_desk.proofs.Made.FolderFound.{found_folder}
-use Rattle.room_desk.proofs.Made.FolderPlans.{folder_judged, making, planned_parent}
-use Rattle.room_desk.proofs.Made.NewStep.{made_new}
+use Rattle.room_desk.proofs.Made.FolderFound.{IsFoundFolder, found_folder}
+use Rattle.room_desk.proofs.Made.FolderPlans.{folder_at, folder_judged, folder_plan, making, planned_parent}
+use Rattle.room_desk.proofs.Made.NewStep.{made_audits, made_new}
 use Rattle.room_desk.proofs.Made.PutMade.{is_none_none}
+use Rattle.room_desk.proofs.Made.ServedItems.{judged_refused}
 use Rattle.room_desk.proofs.Steps.Stepping.{made_step, refused_step}
 
 not_there : (path : List (List ℕ)) (o : Option Node)
@@ -46,23 +49,46 @@ same_there path (Some node) = refl
 
 module _ (asker : Asker) (path : List (List ℕ)) where
   pub folder_root : (old new : Rows) (reply : Reply) → path ≡ [] → reply ≡ Refused [] Exists
-      → new ≡ old → CarriesOut asker (MakeFolder path) old reply new
-  folder_root old new reply root replies same known sound =
-      refused_step asker (MakeFolder path) old known sound new reply
-      (subst (λ (p : List (List ℕ)). IsJudged asker (plan_of (meaning old.read) (MakeFolder p)) old
-      (Some reply) new) (sym root)
-      (refuses asker [] Exists true [] old new reply replies refl same))
+      → new ≡ old → IsServed asker (MakeFolder path) old reply new
+  folder_root old new reply root replies same = (
+    λ known sound. refused_step asker (MakeFolder path) old known sound new reply
+        (subst (λ (p : List (List ℕ)). IsJudged asker (plan_of (meaning old.read) (MakeFolder p))
+        old (Some reply) new) (sym root)
+        (refuses asker [] Exists true [] old new reply replies refl same)),
+    closed_failed asker (MakeFolder path) old reply new
+        (subst (λ (p : List (List ℕ)). IsJudged asker (stored_plan old.read (MakeFolder p)) old
+        (Some reply) new) (sym root)
+        (refuses asker [] Exists true [] old new reply replies refl same)),
+  )
+
+  -- what is judged at the stored lists is the plan by them
+  as_stored : 0 < length path → (old new : Rows) (answer : Option Reply)
+      → IsJudged asker (folder_at path (stored_along old.read path)) old answer new
+      → IsJudged asker (stored_plan old.read (MakeFolder path)) old answer new
+  as_stored some old new answer judged =
+      subst (λ list. IsJudged asker list old answer new)
+      (sym (folder_plan (stored_along old.read) old.read path some)) judged
+
+  -- an item fails
+  not_made : 0 < length path → (old new : Rows) (reply : Reply) → AreRows old
+      → IsJudged asker (folder_at path (stored_along old.read path)) old (Some reply) new
+      → IsServed asker (MakeFolder path) old reply new
+  not_made some old new reply are judged = (
+    λ known sound. refused_step asker (MakeFolder path) old known sound new reply
+        (folder_judged asker old new (Some reply) are (sound_parts old sound) path some judged),
+    closed_failed asker (MakeFolder path) old reply new
+        (as_stored some old new (Some reply) judged),
+  )
 
   pub folder_barred : 0 < length path → (old new : Rows) (reply : Reply) → AreRows old
       → IsSpotted asker path old (Barred reply) new
-      → CarriesOut asker (MakeFolder path) old reply new
-  folder_barred some old new reply are spotted known sound =
-      refused_step asker (MakeFolder path) old known sound new reply
-      (folder_judged asker old new (Some reply) are (sound_parts old sound) path some
+      → IsServed asker (MakeFolder path) old reply new
+  folder_barred some old new reply are spotted =
+      not_made some old new reply are
       (fails_first asker (way true (stored_along old.read path) path)
       (where_found (parent_at (stored_along old.read path) path)
       (making path (is_some (site_at (stored_along old.read path) path)))) old new reply
-      spotted.judged))
+      spotted.judged)
 
   module _ (old mid : Rows) (folder : Found) (child : Option Node) (name : List ℕ)
       (named : IsNameOf path name) (are : AreRows old)
@@ -76,36 +102,42 @@ module _ (asker : Asker) (path : List (List ℕ)) where
         ∙ ap (λ t. making path t (found_site path folder))
         (ap is_some spotted.child ∙ same_there path child)
 
-    plan_judged : (new : Rows) (answer : Option Reply) → AreSound old
+    at_stored : (new : Rows) (answer : Option Reply)
         → IsJudged asker (making path (is_some child) (found_site path folder)) mid answer new
-        → IsJudged asker (plan_of (meaning old.read) (MakeFolder path)) old answer new
-    plan_judged new answer sound judged =
-        folder_judged asker old new answer are (sound_parts old sound) path named.some
-        (passes_first asker (way true (stored_along old.read path) path)
+        → IsJudged asker (folder_at path (stored_along old.read path)) old answer new
+    at_stored new answer judged =
+        passes_first asker (way true (stored_along old.read path) path)
         (where_found (parent_at (stored_along old.read path) path)
         (making path (is_some (site_at (stored_along old.read path) path)))) old mid new answer
         spotted.judged
-        (subst (λ list. IsJudged asker list mid answer new) (sym items_are) judged))
+        (subst (λ list. IsJudged asker list mid answer new) (sym items_are) judged)
 
-    folder_made : (last new : Rows)
+    found : IsFoundFolder old path folder.node child
+    found = found_folder asker path named.some old mid folder child are spotted
+
+    absent : (last : Rows)
         → IsJudged asker (making path (is_some child) (found_site path folder)) mid None last
-        → IsMade (new_child asker.caller Folder folder.node name []) last new
-        → CarriesOut asker (MakeFolder path) old Made new
-    folder_made last new judged made known sound =
+        → child_of old.read folder.node.id name ≡ None
+    absent last judged =
         let first = none_both
         (failure asker.caller (Check (found_site path folder) (append_data ∷ [])))
         (first_failure asker.caller (Refusal path Exists (is_some child) ∷ [])) judged.answers
         in
         let second = none_both
         (failure asker.caller (Refusal path Exists (is_some child))) None first.1 in
-        let found = found_folder asker path named.some old mid folder child are spotted in
-        let absent : child_of old.read folder.node.id name ≡ None =
         ap (child_of old.read folder.node.id) named.last
         ∙ is_none_none (child_of old.read folder.node.id (last_name path))
-        (found.lacks ∙ not_there path child second.0) in
-        let plan = plan_judged last None sound judged in
+        (found.lacks ∙ not_there path child second.0)
+
+    folder_made : (last new : Rows)
+        → IsJudged asker (making path (is_some child) (found_site path folder)) mid None last
+        → IsMade (new_child asker.caller Folder folder.node name []) last new
+        → CarriesOut asker (MakeFolder path) old Made new
+    folder_made last new judged made known sound =
+        let plan = folder_judged asker old last None are (sound_parts old sound) path named.some
+        (at_stored last None judged) in
         let new_step = made_new old are sound asker.caller Folder folder.node name
-        [] found.there found.folds absent
+        [] found.there found.folds (absent last judged)
         (records_of_plan asker.caller asker.at (plan_of (meaning old.read) (MakeFolder path)))
         (take folder.depth path) last new plan.notes named.sound
         (λ document. absurd (false≢true document)) made in
@@ -134,26 +166,35 @@ module _ (asker : Asker) (path : List (List ℕ)) where
         )) (sym named.last))
         new_step.means new_step.sound
 
+    folder_closed : (last new : Rows)
+        → IsJudged asker (making path (is_some child) (found_site path folder)) mid None last
+        → IsMade (new_child asker.caller Folder folder.node name []) last new
+        → IsClosed asker (MakeFolder path) old Made new
+    folder_closed last new judged made =
+        let all = at_stored last None judged in
+        closed_done asker (MakeFolder path) old Made last new
+        (as_stored named.some old last None all) refl refl
+        (made_audits asker.caller Folder folder.node name [] old last new _ found.there found.folds
+        (absent last judged) all.notes made) refl
+
     made_on : (answer : Option Reply) (last new : Rows) (reply : Reply)
         → IsJudged asker (making path (is_some child) (found_site path folder)) mid answer last
         → Ends Made (IsMade (new_child asker.caller Folder folder.node name [])) answer last reply
         new
-        → CarriesOut asker (MakeFolder path) old reply new
-    made_on None last new reply judged ends known sound =
-        subst (λ (r : Reply). CarriesOut asker (MakeFolder path) old r new) (sym ends.0)
-        (folder_made last new judged ends.1) known sound
-    made_on (Some refusal) last new reply judged ends known sound =
-        refused_step asker (MakeFolder path) old known sound new reply
-        (subst (λ (r : Reply). IsJudged asker (plan_of (meaning old.read) (MakeFolder path)) old
-        (Some r) new) (sym ends.0)
-        (subst (λ (r : Rows). IsJudged asker (plan_of (meaning old.read) (MakeFolder path)) old
-        (Some refusal) r) (sym ends.1)
-        (plan_judged last (Some refusal) sound judged)))
+        → IsServed asker (MakeFolder path) old reply new
+    made_on None last new reply judged ends =
+        subst (λ (r : Reply). IsServed asker (MakeFolder path) old r new) (sym ends.0)
+        (folder_made last new judged ends.1, folder_closed last new judged ends.1)
+    made_on (Some refusal) last new reply judged ends =
+        not_made named.some old new reply are
+        (at_stored new (Some reply)
+        (judged_refused asker (making path (is_some child) (found_site path folder)) mid last new
+        refusal reply judged ends.0 ends.1))
 
     pub make_in : (there : Bool) → there ≡ is_some child → (new : Rows) (reply : Reply)
         → IsJudgedAndDone asker (making path there (found_site path folder)) Made
         (IsMade (new_child asker.caller Folder folder.node name [])) mid reply new
-        → CarriesOut asker (MakeFolder path) old reply new
+        → IsServed asker (MakeFolder path) old reply new
     make_in there is new reply served =
         made_on served.answer served.mid new reply
         (subst

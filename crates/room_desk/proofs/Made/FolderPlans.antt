@@ -5,6 +5,7 @@ use Rattle.std.specs.Prelude.{is_some}
 use Rattle.std.specs.Option.{option_map}
 use Rattle.std.proofs.lemmas.List.{map-append}
 use Rattle.room_entry.specs.Rights.{append_data}
+use Rattle.room_rows.specs.Content.{Content}
 use Rattle.room_rows.specs.Meaning.{meaning}
 use Rattle.room_rows.specs.Rows.{Rows, AreRows}
 use Rattle.room_judge.specs.declared.asker.Asker.{Asker}
@@ -12,8 +13,8 @@ use Rattle.room_machine.specs.declared.reply.Reply.{Reply}
 use Rattle.room_machine.specs.declared.reply.Reason.TheVariants.{Exists}
 use Rattle.room_machine.specs.declared.request.Request.TheVariants.{Put, MakeFolder}
 use Rattle.room_machine.specs.Site.{Site, sites_along, site_at, parent_at, front}
-use Rattle.room_machine.specs.Plan.{Item, Check, Refusal, plan_of, put_items, way, where_found}
-use Rattle.room_judge.specs.Stored.{stored_along}
+use Rattle.room_machine.specs.Plan.{Along, Item, Check, Refusal, plan_by, plan_of, put_items, way, where_found}
+use Rattle.room_machine.specs.Stored.{stored_along}
 use Rattle.room_judge.specs.Judged.{IsJudged}
 use Rattle.room_desk.proofs.Sound.SoundParts.{SoundParts}
 use Rattle.room_desk.proofs.Sound.Sites.{fill, sites_filled}
@@ -82,6 +83,12 @@ folder_at path sites =
     way true sites path ++ where_found (parent_at sites path)
     (making path (is_some (site_at sites path)))
 
+-- the plan of a folder that isn't the root, whatever the walk finds
+pub folder_plan : (along : Along) (content : Content) (names : List (List ℕ)) → 0 < length names
+    → plan_by along content (MakeFolder names) ≡ folder_at names (along names)
+folder_plan along content [] some = absurd (let wrong : ⊥ = omega arith in wrong)
+folder_plan along content (name ∷ names) some = refl
+
 put_items_filled : (path : List (List ℕ)) (size : ℕ) (target parent : Option Site)
     → put_items path size (option_map fill target) (option_map fill parent)
     ≡ map fill_item (put_items path size target parent)
@@ -140,11 +147,6 @@ module _ (asker : Asker) (old new : Rows) (answer : Option Reply) (are : AreRows
       → IsJudged asker (folder_at path (stored_along old.read path)) old answer new
       → IsJudged asker (plan_of (meaning old.read) (MakeFolder path)) old answer new
   folder_judged some judged =
-      subst (λ list. IsJudged asker list old answer new) (sym (plan_is path some))
+      subst (λ list. IsJudged asker list old answer new)
+      (sym (folder_plan (sites_along (meaning old.read)) (meaning old.read) path some))
       (by_sites old are parts path asker (folder_at path) (folder_filled path) new answer judged)
-    where
-      plan_is : (names : List (List ℕ)) → 0 < length names
-          → plan_of (meaning old.read) (MakeFolder names)
-          ≡ folder_at names (sites_along (meaning old.read) names)
-      plan_is [] some = absurd (let wrong : ⊥ = omega arith in wrong)
-      plan_is (name ∷ names) some = refl

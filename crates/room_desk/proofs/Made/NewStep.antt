@@ -1,5 +1,5 @@
 -- What becomes of the rows where an object is made.
-use Rattle.std.proofs.Common.{◌≡◌, ℕ, true, cond, List, length, Option, Some, None, refl, sym, ap, subst, ◌∙◌}
+use Rattle.std.proofs.Common.{◌≡◌, ℕ, Bool, true, false, cond, List, length, Option, Some, None, refl, sym, ap, subst, ◌∙◌}
 use Rattle.std.specs.Prelude.{is_none, nat_le}
 use Rattle.std.specs.Option.{option_map}
 use Rattle.room_entry.specs.Valid.{is_document}
@@ -9,8 +9,8 @@ use Rattle.room_entry.specs.declared.parties.Caller.{Caller}
 use Rattle.room_rows.specs.declared.node.AuditRow.{AuditRow}
 use Rattle.room_rows.specs.declared.node.NewNode.{NewNode}
 use Rattle.room_rows.specs.declared.node.Node.{Node}
-use Rattle.room_rows.specs.Content.{Content, node_at, child_of, is_folder, put_node, with_records}
-use Rattle.room_rows.specs.Keep.{IsAdded, node_of, reading, with_new}
+use Rattle.room_rows.specs.Content.{Content, node_at, child_of, is_folder, put_node, with_body, with_node, with_records}
+use Rattle.room_rows.specs.Keep.{CanAdd, IsAdded, node_of, reading, with_new}
 use Rattle.room_rows.specs.Meaning.{kept_node, meaning}
 use Rattle.room_rows.specs.Paths.{is_object_name}
 use Rattle.room_rows.specs.Rows.{Rows, AreRows}
@@ -20,7 +20,7 @@ use Rattle.room_machine.specs.Effect.{new_node}
 use Rattle.room_judge.specs.Judged.{noted}
 use Rattle.room_desk.specs.Made.{IsMade, new_child}
 use Rattle.room_machine.specs.Step.{IsFree}
-use Rattle.room_judge.specs.Stored.{stored_site}
+use Rattle.room_machine.specs.Stored.{stored_site}
 use Rattle.room_desk.proofs.Made.NewObject.{added, added_means, added_sound, bodies_then}
 use Rattle.room_desk.proofs.Sound.SoundParts.{sound_noted}
 
@@ -44,6 +44,34 @@ new_rows content id Folder new is =
       bodies = bodies_then Document id new.bytes content.bodies;
     })
     (record content { nodes = put_node (node_of id new) content.nodes })) is
+
+new_audits : (content : Content) (id : ℕ) (new : NewNode)
+    → (with_new content id new).audits ≡ content.audits
+new_audits content id new = on (is_document new.kind)
+  where
+    on : (t : Bool)
+        → (cond t (with_body (with_node content (node_of id new)) id new.bytes)
+        (with_node content (node_of id new))).audits ≡ content.audits
+    on true = refl
+    on false = refl
+
+-- an object that is made leaves the records as they were
+pub made_audits : (caller : Caller) (kind : ObjKind) (folder : Node) (name bytes : List ℕ)
+    (old mid new : Rows) (records : List AuditRow) → node_at old.read folder.id ≡ Some folder
+    → is_folder folder ≡ true → child_of old.read folder.id name ≡ None → mid ≡ noted old records
+    → IsMade (new_child caller kind folder name bytes) mid new
+    → new.read.audits ≡ mid.read.audits
+made_audits caller kind folder name bytes old mid new records there is_above absent notes made =
+    let node : NewNode = new_child caller kind folder name bytes in
+    let can : CanAdd node (noted old records) = record {
+      parent = folder.id;
+      parent_is = refl;
+      folder = (folder, there, is_above);
+      name_is_free = absent;
+    } in
+    let adds : IsAdded node mid made.0 new = made.1
+    (subst (λ (r : Rows). CanAdd node r) (sym notes) can) in
+    ap (λ (r : Rows). r.read.audits) adds.becomes ∙ new_audits mid.read made.0 node
 
 none_mapped : (o : Option Node) (f : Node → Node) → o ≡ None → is_none (option_map f o) ≡ true
 none_mapped o f is = ap (λ p. is_none (option_map f p)) is

@@ -5,7 +5,7 @@ use Rattle.room_rows.specs.declared.node.Node.{Node}
 use Rattle.room_rows.specs.Content.{Content, child_of, root_of}
 use Rattle.room_rows.proofs.Frames.{child_of-parent}
 use Rattle.room_machine.specs.Site.{Site, site_at, parent_at, last_name}
-use Rattle.room_judge.specs.Stored.{stored_site, stored_from, stored_along}
+use Rattle.room_machine.specs.Stored.{stored_site, stored_from, stored_along}
 
 -- The object at the end of the names stands in the folder by the last name.
 child_from : (content : Content) (names path : List (List ℕ)) (node : Node) (folder target : Site)

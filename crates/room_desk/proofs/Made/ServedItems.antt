@@ -44,6 +44,14 @@ module _ (asker : Asker) where
   judged_unread items answer old mid at judged h =
       blames_first asker items answer old mid at judged h
 
+  -- a refusal that is handed on
+  pub judged_refused : (items : List Item) (old mid new : Rows) (refusal reply : Reply)
+      → IsJudged asker items old (Some refusal) mid → reply ≡ refusal → new ≡ mid
+      → IsJudged asker items old (Some reply) new
+  judged_refused items old mid new refusal reply judged replies same =
+      subst (λ (r : Reply). IsJudged asker items old (Some r) new) (sym replies)
+      (subst (λ (r : Rows). IsJudged asker items old (Some refusal) r) (sym same) judged)
+
   -- a check passed, and what a refusal asks for isn't so
   pub added_behind : (site : Site) (mask bits : List ℕ) (at : List (List ℕ)) (why : Reason)
       (holds : Bool) (node : NewNode) (old mid new : Rows) (answer : Option Reply) (reply : Reply)

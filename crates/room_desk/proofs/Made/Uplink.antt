@@ -6,7 +6,7 @@ use Rattle.room_rows.specs.declared.node.Node.{Node}
 use Rattle.room_rows.specs.Content.{Content, child_of, node_at, parent_of, root_of}
 use Rattle.room_rows.proofs.Frames.{Rises, child_of-is_there, child_of-parent, root_of-is_there, root_of-parent}
 use Rattle.room_machine.specs.Site.{Site, front, parent_at, site_at}
-use Rattle.room_judge.specs.Stored.{stored_along, stored_from, stored_site}
+use Rattle.room_machine.specs.Stored.{stored_along, stored_from, stored_site}
 
 -- an object that is there
 abbrev pub Stands : Content → Node → Type 0

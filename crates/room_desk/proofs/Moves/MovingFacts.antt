@@ -19,7 +19,7 @@ use Rattle.room_machine.specs.declared.reply.Reason.TheVariants.{Exists, Loop, N
 use Rattle.room_machine.specs.Judge.{failure, first_failure, or_else}
 use Rattle.room_machine.specs.Site.{Site, site_at, parent_at, front, last_name}
 use Rattle.room_machine.specs.Plan.{Check, Deletion, Refusal, right_to_add}
-use Rattle.room_judge.specs.Stored.{stored_site, stored_from, stored_along}
+use Rattle.room_machine.specs.Stored.{stored_site, stored_from, stored_along}
 use Rattle.room_judge.specs.Judged.{noted}
 use Rattle.room_desk.specs.Moving.{CanGo, CanPlace, at_place, begins, free_place, goes_past}
 use Rattle.room_desk.proofs.Placed.Climbing.{same_some}

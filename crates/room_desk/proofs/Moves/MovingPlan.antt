@@ -17,7 +17,7 @@ use Rattle.room_machine.specs.declared.reply.Reason.TheVariants.{Exists, Loop, R
 use Rattle.room_machine.specs.declared.request.Request.TheVariants.{Move}
 use Rattle.room_machine.specs.Site.{Site, site_at, sites_along, parent_at, front, last_name}
 use Rattle.room_machine.specs.Plan.{Item, Deletion, Refusal, plan_of, move_items, way, where_found, to_target}
-use Rattle.room_judge.specs.Stored.{stored_site, stored_from, stored_along, to_stored}
+use Rattle.room_machine.specs.Stored.{stored_site, stored_from, stored_along, to_stored, stored_plan}
 use Rattle.room_judge.specs.Judged.{IsJudged, noted, through}
 use Rattle.room_desk.specs.Moving.{at_place, begins, leaving}
 use Rattle.room_desk.proofs.Sound.Filled.{fill_item, judged_filled, site_filled, way_filled}
@@ -43,6 +43,49 @@ at_found rows path to target =
 -- all that a move judges
 abbrev pub stored_move : Content → List (List ℕ) → List (List ℕ) → List Item
 stored_move rows path to = to_stored rows path (at_found rows path to)
+
+-- ---- by the stored lists
+
+same_where : (o : Option Site) (items others : Site → List Item)
+    → ((site : Site) → o ≡ Some site → items site ≡ others site)
+    → where_found o items ≡ where_found o others
+same_where None items others same = refl
+same_where (Some site) items others same = same site refl
+
+-- The plan by the stored lists is what a move judges, since a way meets the object of a path exactly
+-- if it begins with that path.
+module _ (old : Rows) (are : AreRows old) where
+  abbrev along : List (List ℕ) → List Site
+  along = stored_along old.read
+
+  items_stored : (path to : List (List ℕ)) (target from : Site)
+      → site_at (along path) path ≡ Some target
+      → stored_items old.read to (begins path (front to)) target from
+      ≡ move_items along old.read to target from
+  items_stored path [] target from found = refl
+  items_stored path (name ∷ names) target from found =
+      ap (λ t. stored_items old.read (name ∷ names) t target from)
+      (sym (met_by_names old.read are.numbers path (front (name ∷ names)) target
+      (along_there old.read are.numbers path target found) found))
+
+  move_stored_is : (path to : List (List ℕ))
+      → stored_move old.read path to ≡ stored_plan old.read (Move path to)
+  move_stored_is path to =
+      ap (λ rest. way false (along path) path ++ rest)
+      (same_where (site_at (along path) path) (at_found old.read path to)
+      (λ target. Refusal path Root (is_empty path)
+      ∷ where_found (parent_at (along path) path) (move_items along old.read to target))
+      (λ target found. ap (λ rest. Refusal path Root (is_empty path) ∷ rest)
+      (same_where (parent_at (along path) path)
+      (stored_items old.read to (begins path (front to)) target)
+      (move_items along old.read to target)
+      (λ from known. items_stored path to target from found))))
+
+  pub move_stored : (asker : Asker) (path to : List (List ℕ)) (new : Rows) (answer : Option Reply)
+      → IsJudged asker (stored_move old.read path to) old answer new
+      → IsJudged asker (stored_plan old.read (Move path to)) old answer new
+  move_stored asker path to new answer judged =
+      subst (λ items. IsJudged asker items old answer new) (move_stored_is path to) judged
 
 -- ---- records don't matter
 
@@ -173,7 +216,7 @@ module _ (old : Rows) (are : AreRows old) (parts : SoundParts old) where
       → is_below ≡ list_any (λ (site : Site). site.node.id == target.node.id)
       (sites_along means (front to))
       → stored_items old.read to is_below (fill target) (fill from)
-      ≡ map fill_item (move_items means to target from)
+      ≡ map fill_item (move_items (sites_along means) means to target from)
   items_filled [] is_below target from below = refl
   items_filled (name ∷ names) is_below target from below =
       filled_with (front (name ∷ names))
@@ -185,7 +228,7 @@ module _ (old : Rows) (are : AreRows old) (parts : SoundParts old) where
       → site_at (sites_along means path) path ≡ Some target
       → at_found old.read path to (fill target)
       ≡ map fill_item (Refusal path Root (is_empty path)
-      ∷ where_found (parent_at (sites_along means path) path) (move_items means to target))
+      ∷ where_found (parent_at (sites_along means path) path) (move_items (sites_along means) means to target))
   found_here path to target found =
       ap (λ items. Refusal path Root (is_empty path) ∷ items)
       (ap (λ sites. where_found (parent_at sites path)
@@ -194,7 +237,7 @@ module _ (old : Rows) (are : AreRows old) (parts : SoundParts old) where
       ∙ ap (λ o. where_found o (stored_items old.read to (begins path (front to)) (fill target)))
       (parent_filled (sites_along means path) path)
       ∙ found_filled (parent_at (sites_along means path) path)
-      (stored_items old.read to (begins path (front to)) (fill target)) (move_items means to target)
+      (stored_items old.read to (begins path (front to)) (fill target)) (move_items (sites_along means) means to target)
       (λ from known. items_filled to (begins path (front to)) target from
       (met_kept path (front to) target found)))
 
@@ -206,6 +249,6 @@ module _ (old : Rows) (are : AreRows old) (parts : SoundParts old) where
       (subst (λ items. IsJudged asker items old answer new)
       (filled_with path (at_found old.read path to)
       (λ target. Refusal path Root (is_empty path)
-      ∷ where_found (parent_at (sites_along means path) path) (move_items means to target))
+      ∷ where_found (parent_at (sites_along means path) path) (move_items (sites_along means) means to target))
       (found_here path to))
       judged)

@@ -1,5 +1,5 @@
 -- A move is a step.
-use Rattle.std.proofs.Common.{◌≡◌, ℕ, ◌<◌, ◌==◌, Bool, true, false, List, [], ◌∷◌, ◌++◌, length, take, Option, Some, None, refl, sym, ap, subst, ◌∙◌, arith}
+use Rattle.std.proofs.Common.{◌≡◌, ℕ, ◌<◌, ◌==◌, Bool, true, false, List, [], ◌∷◌, ◌++◌, length, take, Option, Some, None, refl, sym, ap, subst, ◌∙◌, inr, arith}
 use Rattle.std.specs.Option.{option_map_or}
 use Rattle.std.proofs.lemmas.Bool.{eqb-true}
 use Rattle.std.proofs.Math.Seq.{take-length}
@@ -24,14 +24,17 @@ use Rattle.room_machine.specs.Site.{Site, site_at, sites_along, parent_at, front
 use Rattle.room_machine.specs.Plan.{Item, Deletion, Refusal, plan_of, way, where_found}
 use Rattle.room_machine.specs.Judge.{first_failure, records_of_plan}
 use Rattle.room_machine.specs.Effect.{moved_node, with_site}
-use Rattle.room_judge.specs.Stored.{found_site, stored_site, stored_from, stored_along, to_stored}
+use Rattle.room_machine.specs.Stored.{stored_site, stored_from, stored_along, to_stored}
+use Rattle.room_judge.specs.Stored.{found_site}
 use Rattle.room_judge.specs.Spot.{IsPaired}
+use Rattle.room_judge.specs.Closed.{IsClosed, IsServed}
+use Rattle.room_judge.proofs.Closing.{closed_done, closed_failed, closed_more}
 use Rattle.room_judge.specs.Judged.{CarriesOut, FromRoot, IsJudged, IsReached, noted}
 use Rattle.room_desk.specs.Moving.{CanGo, CanPlace, FailsToPlace, IsPlaced, at_place, begins}
 use Rattle.room_desk.proofs.Sound.Filled.{IsTarget, target_there}
-use Rattle.room_judge.proofs.Judging.{failure_of_parts, fails_first, passes_first, passes_on, refuses}
+use Rattle.room_judge.proofs.Judging.{failure_of_parts, fails_first, judged_none, passes_first, passes_on, refuses}
 use Rattle.room_desk.proofs.Moves.MovingFacts.{IsFree, all_passed, goable, placeable}
-use Rattle.room_desk.proofs.Moves.MovingPlan.{along_noted, at_found, move_judged, stored_items, stored_move, way_noted}
+use Rattle.room_desk.proofs.Moves.MovingPlan.{along_noted, at_found, move_judged, move_stored, stored_items, stored_move, way_noted}
 use Rattle.room_desk.proofs.Sound.Blamed.{noted_unread}
 use Rattle.room_desk.proofs.Steps.Serving.{none_both}
 use Rattle.room_desk.proofs.Sound.Sites.{fill}
@@ -43,34 +46,55 @@ use Rattle.room_desk.proofs.Steps.Stepping.{changed_step, refused_step}
 module _ (asker : Asker) (path to : List (List ℕ)) where
   pub root_stays : (old new : Rows) (reply : Reply) → AreRows old → path ≡ []
       → reply ≡ Refused (take 0 path) Root → new ≡ old
-      → CarriesOut asker (Move path to) old reply new
-  root_stays old new reply are is replies same known sound =
-      refused_step asker (Move path to) old known sound new reply
-      (move_judged old are (sound_parts old sound) asker path to new (Some reply)
-      (subst (λ p. IsJudged asker (stored_move old.read p to) old (Some reply) new)
-      (sym is) judged))
+      → IsServed asker (Move path to) old reply new
+  root_stays old new reply are is replies same = (
+    λ known sound.
+        let root = root_there old.read.nodes (sound_parts old sound).root in
+        refused_step asker (Move path to) old known sound new reply
+        (move_judged old are (sound_parts old sound) asker path to new (Some reply)
+        (subst (λ p. IsJudged asker (stored_move old.read p to) old (Some reply) new)
+        (sym is) (judged root.0 root.1))),
+    subst (λ p. IsClosed asker (Move p to) old reply new) (sym is) (closed (root_of old.read) refl),
+  )
     where
-      root : (node : Node) × (root_of old.read ≡ Some node)
-      root = root_there old.read.nodes (sound_parts old sound).root
+      replies_root : reply ≡ Refused [] Root
+      replies_root = replies ∙ ap (λ p. Refused (take 0 p) Root) is
 
-      judged : IsJudged asker (stored_move old.read [] to) old (Some reply) new
-      judged =
+      judged : (root : Node) → root_of old.read ≡ Some root
+          → IsJudged asker (stored_move old.read [] to) old (Some reply) new
+      judged root is_root =
           subst
           (λ o. IsJudged asker
           (way false (option_map_or (λ r. stored_from old.read [] r []) o []) []
           ++ where_found (site_at (option_map_or (λ r. stored_from old.read [] r []) o []) [])
-          (at_found old.read [] to)) old (Some reply) new) (sym root.1)
-          (refuses asker [] Root true [] old new reply
-          (replies ∙ ap (λ p. Refused (take 0 p) Root) is) refl same)
+          (at_found old.read [] to)) old (Some reply) new) (sym is_root)
+          (refuses asker [] Root true [] old new reply replies_root refl same)
+
+      closed : (o : Option Node) → root_of old.read ≡ o → IsClosed asker (Move [] to) old reply new
+      closed (Some root) is_root =
+          closed_failed asker (Move [] to) old reply new
+          (move_stored old are asker [] to new (Some reply) (judged root is_root))
+      closed None none =
+          closed_more asker (Move [] to) old reply new [] Root
+          (move_stored old are asker [] to new None
+          (subst
+          (λ o. IsJudged asker
+          (way false (option_map_or (λ r. stored_from old.read [] r []) o []) []
+          ++ where_found (site_at (option_map_or (λ r. stored_from old.read [] r []) o []) [])
+          (at_found old.read [] to)) old None new) (sym none) (judged_none asker old new same)))
+          replies_root (inr none)
 
   pub way_halted : (old new : Rows) (reply : Reply) → AreRows old
-      → IsPaired asker path old (Halted reply) new → CarriesOut asker (Move path to) old reply new
-  way_halted old new reply are paired known sound =
-      refused_step asker (Move path to) old known sound new reply
-      (move_judged old are (sound_parts old sound) asker path to new (Some reply)
-      (fails_first asker (way false (stored_along old.read path) path)
+      → IsPaired asker path old (Halted reply) new → IsServed asker (Move path to) old reply new
+  way_halted old new reply are paired =
+      let judged = fails_first asker (way false (stored_along old.read path) path)
       (where_found (site_at (stored_along old.read path) path) (at_found old.read path to)) old new
-      reply paired.judged))
+      reply paired.judged in (
+        λ known sound. refused_step asker (Move path to) old known sound new reply
+            (move_judged old are (sound_parts old sound) asker path to new (Some reply) judged),
+        closed_failed asker (Move path to) old reply new
+            (move_stored old are asker path to new (Some reply) judged),
+      )
 
 -- ---- once the object was found
 
@@ -136,15 +160,18 @@ module _ (asker : Asker) (path to : List (List ℕ)) (from target : Found) (old 
 
   ended : (new : Rows) (reply : Reply)
       → IsJudged asker (stored_items old.read to is_below target_site from_site) mid
-      (Some reply) new → CarriesOut asker (Move path to) old reply new
-  ended new reply judged known sound =
-      refused_step asker (Move path to) old known sound new reply
-      (move_judged old are (sound_parts old sound) asker path to new (Some reply)
-      (with_items new (Some reply) judged))
+      (Some reply) new → IsServed asker (Move path to) old reply new
+  ended new reply judged = (
+    λ known sound. refused_step asker (Move path to) old known sound new reply
+        (move_judged old are (sound_parts old sound) asker path to new (Some reply)
+        (with_items new (Some reply) judged)),
+    closed_failed asker (Move path to) old reply new
+        (move_stored old are asker path to new (Some reply) (with_items new (Some reply) judged)),
+  )
 
   pub root_refused : (new : Rows) (reply : Reply) → to ≡ []
       → IsJudged asker (Deletion target_site from_site ∷ Refusal [] Exists true ∷ []) mid
-      (Some reply) new → CarriesOut asker (Move path to) old reply new
+      (Some reply) new → IsServed asker (Move path to) old reply new
   root_refused new reply is judged =
       ended new reply
       (subst (λ p. IsJudged asker (stored_items old.read p is_below target_site from_site) mid
@@ -163,7 +190,7 @@ module _ (asker : Asker) (path to : List (List ℕ)) (from target : Found) (old 
 
     pub place_ended : (new : Rows) (reply : Reply)
         → IsReached asker (front to) (at_place mid.read to is_below target_site from_site) mid
-        (Ended reply) new → CarriesOut asker (Move path to) old reply new
+        (Ended reply) new → IsServed asker (Move path to) old reply new
     place_ended new reply reached =
         ended new reply (subst (λ items. IsJudged asker items mid (Some reply) new)
         (at_first ∙ sym (items_there old.read to is_below target_site from_site some_to))
@@ -225,17 +252,19 @@ module _ (asker : Asker) (path to : List (List ℕ)) (from target : Found) (old 
           (placeable old judgements path to from_site target.node folder sound some paired.folder
           paired.target (ap is_object_name (sym is_last) ∙ named) can_go))
 
+      go_on : CanGo target.node folder name last
+      go_on =
+          subst (λ (r : Rows). CanGo target.node folder name r) (sym judged_all.notes)
+          (subst (λ n. CanGo target.node folder n (noted old judgements)) (sym is_last) can_go)
+
       pub never_unplaced : (at : ℕ) → FailsToPlace target.node folder name last at
           → IsDamaged old at
-      never_unplaced at fails =
-          noted_unread old last judgements at judged_all.notes
-          (fails (subst (λ (r : Rows). CanGo target.node folder name r) (sym judged_all.notes)
-          (subst (λ n. CanGo target.node folder n (noted old judgements)) (sym is_last) can_go)))
+      never_unplaced at fails = noted_unread old last judgements at judged_all.notes (fails go_on)
 
-      pub moves : (new : Rows)
+      moves_on : (new : Rows)
           → (CanPlace target.node folder name last → IsPlaced target.node folder name last new)
           → CarriesOut asker (Move path to) old Done new
-      moves new places known sound =
+      moves_on new places known sound =
           changed_step asker (Move path to) old known sound last new Done
           (with_node means (moved_node t.planned f.planned (last_name to))) planned
           (λ id. ap
@@ -276,6 +305,16 @@ module _ (asker : Asker) (path to : List (List ℕ)) (from target : Found) (old 
               ∙ ap (λ (s : Site). moved_node s (stored_site [] folder) (last_name to))
               (sym t.filled)
               ∙ ap (λ (s : Site). moved_node (fill t.planned) s (last_name to)) (sym f.filled)
+
+      pub moves : (new : Rows)
+          → (CanPlace target.node folder name last → IsPlaced target.node folder name last new)
+          → (CanGo target.node folder name last → new.read.audits ≡ last.read.audits)
+          → IsServed asker (Move path to) old Done new
+      moves new places same = (
+        moves_on new places,
+        closed_done asker (Move path to) old Done last new
+            (move_stored old are asker path to last None judged_all) refl refl (same go_on) refl,
+      )
 
 -- ---- in terms of the calls
 

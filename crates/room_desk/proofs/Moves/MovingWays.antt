@@ -8,7 +8,8 @@ use Rattle.room_judge.specs.declared.arrival.Arrival.TheVariants.{At}
 use Rattle.room_judge.specs.declared.asker.Asker.{Asker}
 use Rattle.room_machine.specs.declared.reply.Reply.{Reply}
 use Rattle.room_machine.specs.Site.{Site, front}
-use Rattle.room_judge.specs.Stored.{found_site, stored_site}
+use Rattle.room_machine.specs.Stored.{stored_site}
+use Rattle.room_judge.specs.Stored.{found_site}
 use Rattle.room_judge.specs.Judged.{IsJudged, IsReached, arrival_of}
 use Rattle.room_desk.specs.Moving.{at_place}
 use Rattle.room_judge.proofs.Spots.{take_front}

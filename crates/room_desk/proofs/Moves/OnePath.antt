@@ -14,7 +14,7 @@ use Rattle.room_rows.specs.Content.{Content, child_of, node_at, root_of}
 use Rattle.room_rows.proofs.Frames.{Rises, child_of-is_there, child_of-name, child_of-parent, root_of-is_there, root_of-parent}
 use Rattle.room_rows.specs.Sound.{names_up}
 use Rattle.room_machine.specs.Site.{Site, site_at}
-use Rattle.room_judge.specs.Stored.{stored_site, stored_from, stored_along}
+use Rattle.room_machine.specs.Stored.{stored_site, stored_from, stored_along}
 use Rattle.room_desk.specs.Moving.{begins}
 use Rattle.room_desk.proofs.Placed.Climbing.{same_some}
 

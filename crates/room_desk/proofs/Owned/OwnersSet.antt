@@ -19,8 +19,10 @@ use Rattle.room_judge.specs.declared.asker.Asker.{Asker}
 use Rattle.room_machine.specs.declared.reply.Reply.TheVariants.{Done}
 use Rattle.room_machine.specs.declared.request.Request.TheVariants.{SetOwners}
 use Rattle.room_machine.specs.Effect.{with_site}
-use Rattle.room_judge.specs.Stored.{stored_site}
+use Rattle.room_machine.specs.Stored.{stored_site}
 use Rattle.room_judge.specs.Judged.{IsReached, CarriesOut}
+use Rattle.room_judge.specs.Closed.{IsServed}
+use Rattle.room_judge.proofs.Closing.{closed_done}
 use Rattle.room_desk.proofs.Sound.SoundParts.{sound_parts, sound_noted}
 use Rattle.room_desk.proofs.Owned.SoundOwners.{owned, owned_means, put_owned, sound_owned}
 use Rattle.room_desk.proofs.Sound.Filled.{plan_judged, target_there}
@@ -63,25 +65,10 @@ owners_changed : (asker : Asker) (path : List (List ℕ)) (owners : Owners) (old
     (node : Node) → AreRows old
     → IsReached asker path (CheckAt (write_owner ∷ [])) old (At node) mid
     → Changes node.id (with_owners owners) mid new
-    → CarriesOut asker (SetOwners path owners) old Done new
-owners_changed asker path owners old mid new node are reached changes known sound =
-    let target = target_there old are (sound_parts old sound) path
-    (stored_site path node) reached.found in
-    let judged = plan_judged asker path (CheckAt (write_owner ∷ [])) old mid None are
-    (sound_parts old sound) (λ site. refl) reached.judged in
-    changed_step asker (SetOwners path owners) old known sound mid new Done
-    (with_each (meaning old.read) (owned node.id owners)) judged
-    (λ id. ap (λ o. with_site (meaning old.read) o
-    (λ t. (Done, with_node (meaning old.read) (with_owners owners t.node)))) target.at
-    ∙ ap (λ (n : Node). (Done, with_node (meaning old.read) (with_owners owners n))) target.kept
-    ∙ ap (λ c. (Done, c)) means_owned)
-    (ap (λ (r : Rows). meaning r.read) new_is ∙ owned_means mid.read node.id owners
-    ∙ ap (λ (r : Rows). with_each (meaning r.read) (owned node.id owners)) judged.notes)
-    (subst AreSound
-    (sym (new_is ∙ ap (λ (r : Rows). reading r (with_each r.read (owned node.id owners)))
-    reached.judged.notes))
-    (sound_noted (reading old (with_each old.read (owned node.id owners))) _
-    (sound_owned old node.id owners sound)))
+    → IsServed asker (SetOwners path owners) old Done new
+owners_changed asker path owners old mid new node are reached changes =
+    (carried, closed_done asker (SetOwners path owners) old Done mid new reached.judged refl refl
+    (ap (λ (r : Rows). r.read.audits) new_is) refl)
   where
     there : node_at old.read node.id ≡ Some node
     there = along_there old.read are.numbers path (stored_site path node) reached.found
@@ -107,11 +94,31 @@ owners_changed asker path owners old mid new node are reached changes known soun
         (node_at-with_each old.read (kept_node old.read) places node.id
         ∙ ap (option_map (kept_node old.read)) there)
 
+    carried : CarriesOut asker (SetOwners path owners) old Done new
+    carried known sound =
+        let target = target_there old are (sound_parts old sound) path
+        (stored_site path node) reached.found in
+        let judged = plan_judged asker path (CheckAt (write_owner ∷ [])) old mid None are
+        (sound_parts old sound) (λ site. refl) reached.judged in
+        changed_step asker (SetOwners path owners) old known sound mid new Done
+        (with_each (meaning old.read) (owned node.id owners)) judged
+        (λ id. ap (λ o. with_site (meaning old.read) o
+        (λ t. (Done, with_node (meaning old.read) (with_owners owners t.node)))) target.at
+        ∙ ap (λ (n : Node). (Done, with_node (meaning old.read) (with_owners owners n))) target.kept
+        ∙ ap (λ c. (Done, c)) means_owned)
+        (ap (λ (r : Rows). meaning r.read) new_is ∙ owned_means mid.read node.id owners
+        ∙ ap (λ (r : Rows). with_each (meaning r.read) (owned node.id owners)) judged.notes)
+        (subst AreSound
+        (sym (new_is ∙ ap (λ (r : Rows). reading r (with_each r.read (owned node.id owners)))
+        reached.judged.notes))
+        (sound_noted (reading old (with_each old.read (owned node.id owners))) _
+        (sound_owned old node.id owners sound)))
+
 pub owners_set : (asker : Asker) (path : List (List ℕ)) (owners : Owners) (old mid new : Rows)
     (node : Node) → AreRows old
     → IsReached asker path (CheckAt (write_owner ∷ [])) old (At node) mid
     → ((owners ≡ node.owners) × (new ≡ mid)) ⊎ Changes node.id (with_owners owners) mid new
-    → CarriesOut asker (SetOwners path owners) old Done new
+    → IsServed asker (SetOwners path owners) old Done new
 owners_set asker path owners old mid new node are reached (inl same) =
     let there = ap (λ (r : Rows). node_at r.read node.id) reached.judged.notes
     ∙ along_there old.read are.numbers path (stored_site path node) reached.found in

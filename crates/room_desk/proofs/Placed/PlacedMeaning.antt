@@ -18,7 +18,7 @@ use Rattle.room_inherit.proofs.Children.{each_there}
 use Rattle.room_inherit.proofs.Renewing.{map_agree, map_map}
 use Rattle.room_machine.specs.Effect.{moved_held, moved_node}
 use Rattle.room_desk.specs.Moving.{CanPlace}
-use Rattle.room_judge.specs.Stored.{stored_site}
+use Rattle.room_machine.specs.Stored.{stored_site}
 use Rattle.room_desk.proofs.Placed.Climbing.{node_at-changed}
 use Rattle.room_desk.proofs.Placed.PlacedLinks.{linked_elsewhere, linked_here}
 use Rattle.room_desk.proofs.Placed.PlacedParts.{apart, lists}

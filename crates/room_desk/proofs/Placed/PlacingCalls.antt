@@ -24,6 +24,7 @@ pub keeps_all : (id : ℕ) (old new : Rows) → new ≡ old → IsRooted id old 
 keeps_all id old new same rooted =
     record {
       unreadable = ap (λ (r : Rows). r.unreadable) same;
+      audits = ap (λ (r : Rows). r.read.audits) same;
       rooted = λ _. subst (IsRooted id) (sym same) rooted;
     }
 
@@ -59,6 +60,7 @@ taken which target folder passed old new linked is (inr takes) = record {
       (first.rooted rooted) in
       record {
         unreadable = second.unreadable ∙ first.unreadable;
+        audits = second.audits ∙ first.audits;
         rooted = λ _. second.rooted (first.rooted rooted);
       };
 }
@@ -103,22 +105,28 @@ renewing_before target old mid at same fails =
 
 module _ (target folder : Node) (name : List ℕ) where
   -- the object is at its place, where its parents lead to the root
+  pub record IsStill (old mid : Rows) : Type 0 where
+    pub unreadable : mid.unreadable ≡ old.unreadable
+    pub audits : mid.read.audits ≡ old.read.audits
+    pub rooted : IsRooted target.id mid
+
   abbrev Stays : Rows → Rows → Type 0
-  Stays old mid = CanGo target folder name old → (mid.unreadable ≡ old.unreadable)
-      × IsRooted target.id mid
+  Stays old mid = CanGo target folder name old → IsStill old mid
 
   stays_unread : (old mid : Rows) (at : ℕ) → Stays old mid → FailsToRenew target mid at
       → FailsToPlace target folder name old at
   stays_unread old mid at stays fails can = let rooted = stays can in
       subst (λ (l : List ℕ). Rattle.std.specs.Prelude.IsTrue
-      (Rattle.room_entry.specs.Pieces.is_among l at)) rooted.0 (fails rooted.1)
+      (Rattle.room_entry.specs.Pieces.is_among l at)) rooted.unreadable (fails rooted.rooted)
 
   placed_stays : (old mid : Rows) → Places target.id folder.id name old mid → Stays old mid
   placed_stays old mid places can =
       let becomes : mid ≡ reading old (with_node old.read (with_place folder.id name target)) =
-      places (folder, can.folder_there, can.folder_is) can.is_free target can.target_there in (
-        ap (λ (r : Rows). r.unreadable) becomes,
-        subst (IsRooted target.id) (sym becomes) (record {
+      places (folder, can.folder_there, can.folder_is) can.is_free target can.target_there in
+      record {
+        unreadable = ap (λ (r : Rows). r.unreadable) becomes;
+        audits = ap (λ (r : Rows). r.read.audits) becomes;
+        rooted = subst (IsRooted target.id) (sym becomes) (record {
           rises =
               rises_after old.read can.are.numbers target
               (with_place folder.id name target) can.target_there refl;
@@ -131,15 +139,19 @@ module _ (target folder : Node) (name : List ℕ) where
               past_up old.read can.are.numbers target
               (with_place folder.id name target) can.target_there refl can.steps
               (Some folder.id) can.past;
-        }),
-      )
+        });
+      }
 
   renewed_stays : (which : Which) (old mid new : Rows) → Stays old mid
       → Renews which target folder mid tt new → Stays old new
   renewed_stays which old mid new stays renews can =
       let before = stays can in
-      let keeps = renews.keeps before.1 in
-      (keeps.unreadable ∙ before.0, keeps.rooted before.1)
+      let keeps = renews.keeps before.rooted in
+      record {
+        unreadable = keeps.unreadable ∙ before.unreadable;
+        audits = keeps.audits ∙ before.audits;
+        rooted = keeps.rooted before.rooted;
+      }
 
   pub unplaced : (old mid : Rows) (at : ℕ) → mid ≡ old → IsUnreadable mid at
       → FailsToPlace target folder name old at
@@ -191,4 +203,5 @@ module _ (target folder : Node) (name : List ℕ) where
         (subst (λ (r : Rows). HasRenewedLists Sacl r new)
         (mid_is old target folder name can mid new (first.renewed can))
         (renews.renewed (can_renew_sacl old target folder name can mid new (first.renewed can)))),
+    λ can. (renewed_stays Sacl old mid new first.stays renews can).audits,
   )

@@ -14,7 +14,7 @@ use Rattle.room_machine.specs.declared.reply.Reason.TheVariants.{NotFolder, NoSu
 use Rattle.room_machine.specs.Site.{Site, sites_along, site_at}
 use Rattle.room_machine.specs.Plan.{Item, Check, Deletion, Refusal, way, where_found, to_target}
 use Rattle.room_machine.specs.Judge.{failure, passes, or_else, first_failure, checks_of, records_of_checks, records_of_plan}
-use Rattle.room_judge.specs.Stored.{stored_along, to_stored}
+use Rattle.room_machine.specs.Stored.{stored_along, to_stored}
 use Rattle.room_judge.specs.Judged.{IsJudged, noted}
 use Rattle.room_desk.proofs.Sound.SoundParts.{SoundParts}
 use Rattle.room_desk.proofs.Sound.Sites.{fill, sites_filled}

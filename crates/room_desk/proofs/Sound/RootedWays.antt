@@ -10,7 +10,7 @@ use Rattle.room_rows.specs.Rows.{Rows}
 use Rattle.room_rows.specs.Walk.{behind, walk_from, walk_of}
 use Rattle.room_rows.proofs.Frames.{Rises, child_of-is_there, child_of-parent, root_of-is_there, root_of-parent}
 use Rattle.room_machine.specs.Site.{Site, site_at}
-use Rattle.room_judge.specs.Stored.{stored_along, stored_from, stored_site}
+use Rattle.room_machine.specs.Stored.{stored_along, stored_from, stored_site}
 use Rattle.room_desk.specs.Carrying.{IsRooted}
 use Rattle.room_desk.proofs.Placed.Climbing.{same_some}
 use Rattle.room_desk.proofs.Lists.ResetWay.{same_front, same_last}

@@ -21,7 +21,7 @@ use Rattle.room_rows.specs.Pass.{pass}
 use Rattle.room_rows.specs.Law.{agrees_with, agrees}
 use Rattle.room_rows.specs.Sound.{keeps_law}
 use Rattle.room_machine.specs.Site.{Site, full_at, root_site, site_below, sites_below, sites_of, sites_along}
-use Rattle.room_judge.specs.Stored.{stored_site, stored_from, stored_along}
+use Rattle.room_machine.specs.Stored.{stored_site, stored_from, stored_along}
 use Rattle.room_desk.proofs.Sound.SoundParts.{SoundParts, or_true, passes_test}
 
 -- the object with the inherited entries of its lists

@@ -287,12 +287,6 @@ all_read rows (x ∷ xs) are none =
 pub none_unreadable : (rows : Rows) → SoundParts rows → rows.unreadable ≡ []
 none_unreadable rows parts = all_read rows rows.unreadable refl parts.lists
 
--- nor does a record hide one
-pub seen_noted : (old mid : Rows) (records : List AuditRow) → mid ≡ noted old records → AreSound old
-    → mid.unreadable ≡ []
-seen_noted old mid records notes sound =
-    ap (λ (r : Rows). r.unreadable) notes ∙ none_unreadable old (sound_parts old sound)
-
 -- ---- no row of sound rows is blamed
 
 pub readable_unsound : (rows : Rows) (at : ℕ) → IsUnreadable rows at → NotSound rows at

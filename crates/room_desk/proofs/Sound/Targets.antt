@@ -8,7 +8,7 @@ use Rattle.room_rows.specs.Meaning.{kept_node, meaning}
 use Rattle.room_rows.specs.Walk.{walk_of, walk_from, behind}
 use Rattle.room_rows.proofs.InPlace.{KeepsPlaces, keeps_places, root_of-with_each, child_of-with_each}
 use Rattle.room_machine.specs.Site.{Site, root_site, site_below, sites_below, sites_of, sites_along, site_at}
-use Rattle.room_judge.specs.Stored.{stored_from, stored_along}
+use Rattle.room_machine.specs.Stored.{stored_from, stored_along}
 
 -- ---- what stands after n names
 

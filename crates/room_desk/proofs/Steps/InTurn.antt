@@ -12,7 +12,9 @@ use Rattle.room_machine.specs.declared.reply.Reply.{Reply}
 use Rattle.room_machine.specs.declared.request.Request.{Request}
 use Rattle.room_desk.specs.declared.running.Asked.{Asked}
 use Rattle.room_desk.specs.InTurn.{AreFirst, IsDamagedAfter, IsRunOfRows, RunsAll, asked_events}
-use Rattle.room_judge.specs.Judged.{CarriesOut, IsKnown, IsStepOfRows, Performs}
+use Rattle.room_machine.specs.Closed.{FailsClosed, IsClosedFor}
+use Rattle.room_judge.specs.Closed.{IsClosed, IsServed, Performs}
+use Rattle.room_judge.specs.Judged.{CarriesOut, IsKnown, IsStepOfRows}
 use Rattle.room_machine.proofs.Meeting.{meet}
 use Rattle.room_desk.proofs.Sound.Blamed.{sound_undamaged}
 use Rattle.room_machine.specs.Run.{Event, Run, Asked as HasAsked}
@@ -21,10 +23,11 @@ use Rattle.room_machine.specs.Step.{caller_in}
 -- ---- one request
 
 -- the groups of the caller are those of the rows, so that the request is carried out from there
-pub carried : (user : Option (List ℕ)) (moment : ℤ) (asker : Asker) (request : Request)
+carried : (user : Option (List ℕ)) (moment : ℤ) (asker : Asker) (request : Request)
     (old mid new : Rows) (reply : Reply) → asker.at ≡ moment
     → (asker.caller ≡ caller_in old.read user) × (mid ≡ old)
-    → CarriesOut asker request mid reply new → Performs user moment request old reply new
+    → CarriesOut asker request mid reply new → AreSound old
+    → IsStepOfRows user moment request old reply new
 carried user moment asker request old mid new reply at both carries sound =
     let named : asker.caller.user ≡ user = ap (λ (c : Caller). c.user) both.0 in
     let known : IsKnown asker mid = both.0 ∙ ap (λ (r : Rows). caller_in r.read user) (sym both.1)
@@ -33,6 +36,25 @@ carried user moment asker request old mid new reply at both carries sound =
     (subst (λ u. IsStepOfRows u asker.at request old reply new) named
     (subst (λ (r : Rows). IsStepOfRows asker.caller.user asker.at request r reply new) both.1
     (carries known (subst AreSound (sym both.1) sound))))
+
+-- and that it is judged by the stored lists
+closed_for : (user : Option (List ℕ)) (moment : ℤ) (asker : Asker) (request : Request)
+    (old mid new : Rows) (reply : Reply) → asker.at ≡ moment
+    → (asker.caller ≡ caller_in old.read user) × (mid ≡ old)
+    → IsClosed asker request mid reply new → FailsClosed user moment request old reply new
+closed_for user moment asker request old mid new reply at both closed =
+    subst (λ t. IsClosedFor (caller_in old.read user) t request old reply new) at
+    (subst (λ (c : Caller). IsClosedFor c asker.at request old reply new) both.0
+    (subst (λ (r : Rows). IsClosed asker request r reply new) both.1 closed))
+
+pub performed : (user : Option (List ℕ)) (moment : ℤ) (asker : Asker) (request : Request)
+    (old mid new : Rows) (reply : Reply) → asker.at ≡ moment
+    → (asker.caller ≡ caller_in old.read user) × (mid ≡ old)
+    → IsServed asker request mid reply new → Performs user moment request old reply new
+performed user moment asker request old mid new reply at both served = record {
+  step = carried user moment asker request old mid new reply at both served.0;
+  closed = closed_for user moment asker request old mid new reply at both served.1;
+}
 
 -- ---- several requests
 
@@ -53,7 +75,7 @@ run_more : (asked : List Asked) (one : Asked) (replies : List Reply) (reply : Re
     → RunsAll (asked ++ one ∷ []) old (replies ++ reply ∷ []) new
 run_more asked one replies reply old mid new sofar more sound =
     let before : IsRunOfRows asked old replies mid = sofar sound in
-    let step : IsStepOfRows one.user one.at one.request mid reply new = more before.sound in
+    let step : IsStepOfRows one.user one.at one.request mid reply new = more.step before.sound in
     record {
       each =
           omega (

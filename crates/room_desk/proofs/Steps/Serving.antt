@@ -27,37 +27,52 @@ use Rattle.room_machine.specs.declared.reply.Reply.TheVariants.{Bytes, Names, Li
 use Rattle.room_machine.specs.declared.request.Request.{Request}
 use Rattle.room_machine.specs.declared.request.Request.TheVariants.{Read, List as ListFolder, ReadList, ReadAttr, Can}
 use Rattle.room_machine.specs.Site.{Site, full_at, sites_along, site_at}
-use Rattle.room_machine.specs.Plan.{Item, Check, to_target, plan_of, where_found, no_folder, way}
+use Rattle.room_machine.specs.Plan.{Along, Item, Check, plan_by, plan_of, target_by, where_found, no_folder, way}
 use Rattle.room_machine.specs.Judge.{failure, first_failure, or_else}
 use Rattle.room_machine.specs.Effect.{effect, with_site}
-use Rattle.room_judge.specs.Stored.{stored_site, stored_from, stored_along}
-use Rattle.room_judge.specs.Judged.{IsJudged, IsReached, CarriesOut, of_kind}
+use Rattle.room_machine.specs.Closed.{IsShown, failure_told}
+use Rattle.room_judge.specs.Closed.{IsServed}
+use Rattle.room_machine.specs.Stored.{stored_site, stored_from, stored_along, stored_plan}
+use Rattle.room_judge.specs.Judged.{IsJudged, IsReached, of_kind}
+use Rattle.room_judge.proofs.Closing.{closed_asked, closed_failed}
 use Rattle.room_judge.proofs.Judging.{failure_of_parts}
 use Rattle.room_rows.specs.Keep.{IsDamaged, IsUnreadable}
 use Rattle.room_desk.specs.Answered.{AreNamesOf, IsBytesOf}
 use Rattle.room_desk.specs.Asked.{rulings_at}
 use Rattle.room_desk.specs.Written.{HasNoBytes}
-use Rattle.room_desk.proofs.Sound.SoundParts.{seen_noted, sound_parts}
+use Rattle.room_desk.proofs.Sound.SoundParts.{none_unreadable, sound_parts}
 use Rattle.room_desk.proofs.Sound.Sites.{fill}
 use Rattle.room_desk.proofs.Sound.Filled.{fill_item, plan_judged, target_there}
 use Rattle.room_desk.proofs.Steps.Stepping.{refused_step, served_step}
 
 module _ (asker : Asker) (path : List (List ℕ)) (request : Request) (items : Site → List Item)
-    (planned : (content : Content) → plan_of content request ≡ to_target content path items)
+    (planned : (along : Along) (content : Content)
+    → plan_by along content request ≡ target_by along path items)
     (same : (site : Site) → items (fill site) ≡ map fill_item (items site)) where
   plan_is : (old new : Rows) (answer : Option Reply) → AreRows old → AreSound old
-      → IsJudged asker (Rattle.room_judge.specs.Stored.to_stored old.read path items) old answer new
+      → IsJudged asker (Rattle.room_machine.specs.Stored.to_stored old.read path items) old answer new
       → IsJudged asker (plan_of (meaning old.read) request) old answer new
   plan_is old new answer are sound judged =
-      subst (λ list. IsJudged asker list old answer new) (sym (planned (meaning old.read)))
+      subst (λ list. IsJudged asker list old answer new)
+      (sym (planned (sites_along (meaning old.read)) (meaning old.read)))
       (plan_judged asker path items old new answer are (sound_parts old sound) same judged)
+
+  -- the plan by the stored lists is what the walk to the target has judged
+  pub stored_is : (old new : Rows) (answer : Option Reply)
+      → IsJudged asker (Rattle.room_machine.specs.Stored.to_stored old.read path items) old answer new
+      → IsJudged asker (stored_plan old.read request) old answer new
+  stored_is old new answer judged =
+      subst (λ list. IsJudged asker list old answer new)
+      (sym (planned (stored_along old.read) old.read)) judged
 
   -- an item fails
   pub not_served : (old new : Rows) (reply : Reply) → AreRows old
-      → IsReached asker path items old (Ended reply) new → CarriesOut asker request old reply new
-  not_served old new reply are reached known sound =
-      refused_step asker request old known sound new reply
-      (plan_is old new (Some reply) are sound reached.judged)
+      → IsReached asker path items old (Ended reply) new → IsServed asker request old reply new
+  not_served old new reply are reached = (
+    λ known sound. refused_step asker request old known sound new reply
+        (plan_is old new (Some reply) are sound reached.judged),
+    closed_failed asker request old reply new (stored_is old new (Some reply) reached.judged),
+  )
 
   -- none fails, and the request does this at its target
   pub served : (act : Content → Site → Reply)
@@ -68,16 +83,21 @@ module _ (asker : Asker) (path : List (List ℕ)) (request : Request) (items : S
       → (old new : Rows) (node : Node) (reply : Reply) → AreRows old
       → IsReached asker path items old (At node) new
       → ((target : Site) → fill target ≡ stored_site path node
-      → act (meaning old.read) target ≡ reply) → CarriesOut asker request old reply new
-  served act acts old new node reply are reached replies known sound =
-      let target = target_there old are (sound_parts old sound) path
-      (stored_site path node) reached.found in
-      served_step asker request old known sound new reply
-      (λ id. acts (meaning old.read) id
-      ∙ ap (λ o. with_site (meaning old.read) o (λ t. (act (meaning old.read) t, meaning old.read)))
-      target.at
-      ∙ ap (λ (r : Reply). (r, meaning old.read)) (replies target.planned target.filled))
-      (plan_is old new None are sound reached.judged)
+      → act (meaning old.read) target ≡ reply) → failure_told reply ≡ None
+      → IsShown old asker.caller request reply → IsServed asker request old reply new
+  served act acts old new node reply are reached replies none shown = (
+    λ known sound.
+        let target = target_there old are (sound_parts old sound) path
+        (stored_site path node) reached.found in
+        served_step asker request old known sound new reply
+        (λ id. acts (meaning old.read) id
+        ∙ ap
+        (λ o. with_site (meaning old.read) o (λ t. (act (meaning old.read) t, meaning old.read)))
+        target.at
+        ∙ ap (λ (r : Reply). (r, meaning old.read)) (replies target.planned target.filled))
+        (plan_is old new None are sound reached.judged),
+    closed_asked asker request old reply new (stored_is old new None reached.judged) none shown,
+  )
 
 -- ---- what a target with its stored lists says
 
@@ -110,73 +130,92 @@ module _ (asker : Asker) (path : List (List ℕ)) where
       → IsReached asker path
       (λ target. of_kind Document target ∷ Check target (read_data ∷ []) ∷ []) old (At node) new
       → Some bytes ≡ body_of old.read node.id
-      → CarriesOut asker (Read path) old (Bytes bytes) new
+      → IsServed asker (Read path) old (Bytes bytes) new
   served_bytes old new node bytes are reached body =
       served asker path (Read path)
-      (λ target. of_kind Document target ∷ Check target (read_data ∷ []) ∷ []) (λ content. refl)
+      (λ target. of_kind Document target ∷ Check target (read_data ∷ []) ∷ []) (λ along content. refl)
       (λ site. refl)
       (λ content target. Bytes (unwrap_or (body_of content target.node.id) []))
       (λ content id. refl) old new node (Bytes bytes) are reached
       (λ target filled. ap (λ (s : Site). Bytes (unwrap_or (body_of old.read s.node.id) [])) filled
-      ∙ ap (λ (o : Option (List ℕ)). Bytes (unwrap_or o [])) (sym body))
+      ∙ ap (λ (o : Option (List ℕ)). Bytes (unwrap_or o [])) (sym body)) refl
+      (stored_site path node, reached.found, (bytes, refl, sym body))
 
+  -- names are those of the children where all rows can be read
   pub served_names : (old new : Rows) (node : Node) (names : List (List ℕ × ObjKind)) → AreRows old
       → IsReached asker path
       (λ target. of_kind Folder target ∷ Check target (read_data ∷ []) ∷ []) old (At node) new
-      → names ≡ map shown (children_of old.read node.id)
-      → CarriesOut asker (ListFolder path) old (Names names) new
-  served_names old new node names are reached listed =
-      served asker path (ListFolder path)
-      (λ target. of_kind Folder target ∷ Check target (read_data ∷ []) ∷ []) (λ content. refl)
-      (λ site. refl)
-      (λ content target. Names (map shown (children_of content target.node.id)))
-      (λ content id. refl) old new node (Names names) are reached
-      (λ target filled. ap
-      (λ (s : Site). Names (map shown (children_of (meaning old.read) s.node.id))) filled
-      ∙ ap (λ (nodes : List Node). Names (map shown nodes))
-      (children_of-with_each old.read (kept_node old.read)
-      (keeps_places old.read (kept_node old.read)
-      (λ n. record { number = refl; parent = refl; name = refl })) node.id)
-      ∙ ap (λ (l : List (List ℕ × ObjKind)). Names l)
-      (names_kept old.read (children_of old.read node.id) ∙ sym listed))
+      → (old.unreadable ≡ [] → names ≡ map shown (children_of old.read node.id))
+      → IsServed asker (ListFolder path) old (Names names) new
+  served_names old new node names are reached listed = (
+    λ known sound. (sound_names (listed (none_unreadable old (sound_parts old sound)))).0 known sound,
+    closed_asked asker (ListFolder path) old (Names names) new reached.judged refl
+        (stored_site path node, reached.found, (names, refl, listed)),
+  )
+    where
+      sound_names : names ≡ map shown (children_of old.read node.id)
+          → IsServed asker (ListFolder path) old (Names names) new
+      sound_names listed =
+          served asker path (ListFolder path)
+          (λ target. of_kind Folder target ∷ Check target (read_data ∷ []) ∷ [])
+          (λ along content. refl) (λ site. refl)
+          (λ content target. Names (map shown (children_of content target.node.id)))
+          (λ content id. refl) old new node (Names names) are reached
+          (λ target filled. ap
+          (λ (s : Site). Names (map shown (children_of (meaning old.read) s.node.id))) filled
+          ∙ ap (λ (nodes : List Node). Names (map shown nodes))
+          (children_of-with_each old.read (kept_node old.read)
+          (keeps_places old.read (kept_node old.read)
+          (λ n. record { number = refl; parent = refl; name = refl })) node.id)
+          ∙ ap (λ (l : List (List ℕ × ObjKind)). Names l)
+          (names_kept old.read (children_of old.read node.id) ∙ sym listed)) refl
+          (stored_site path node, reached.found, (names, refl, λ _. listed))
 
   pub served_list : (which : Which) (old new : Rows) (node : Node) (reply : Reply) → AreRows old
       → IsReached asker path (λ target. Check target (read_acl ∷ []) ∷ []) old (At node) new
       → reply ≡ Lists (held_of which node).flags (full_of (held_of which node))
-      → CarriesOut asker (ReadList path which) old reply new
+      → IsServed asker (ReadList path which) old reply new
   served_list which old new node reply are reached replies =
       served asker path (ReadList path which) (λ target. Check target (read_acl ∷ []) ∷ [])
-      (λ content. refl) (λ site. refl)
+      (λ along content. refl) (λ site. refl)
       (λ content target. Lists (held_of which target.node).flags (full_at which target))
       (λ content id. refl) old new node reply are reached
       (λ target filled. ap (λ f. Lists f (full_at which target)) (sym (flags_of which target))
       ∙ ap (λ l. Lists (held_of which (fill target).node).flags l) (sym (fulls_of which target))
       ∙ ap (λ (s : Site). Lists (held_of which s.node).flags (full_at which s)) filled
       ∙ ap (λ l. Lists (held_of which node).flags l) (stored_full which path node) ∙ sym replies)
+      (ap failure_told replies)
+      (
+        stored_site path node,
+        reached.found,
+        replies ∙ ap (λ l. Lists (held_of which node).flags l) (sym (stored_full which path node)),
+      )
 
   pub served_attr : (old new : Rows) (node : Node) (reply : Reply) → AreRows old
       → IsReached asker path (λ target. Check target (read_attributes ∷ []) ∷ []) old (At node) new
-      → reply ≡ Attr node.kind node.owners → CarriesOut asker (ReadAttr path) old reply new
+      → reply ≡ Attr node.kind node.owners → IsServed asker (ReadAttr path) old reply new
   served_attr old new node reply are reached replies =
       served asker path (ReadAttr path) (λ target. Check target (read_attributes ∷ []) ∷ [])
-      (λ content. refl) (λ site. refl)
+      (λ along content. refl) (λ site. refl)
       (λ content target. Attr target.node.kind target.node.owners)
       (λ content id. refl) old new node reply are reached
       (λ target filled. ap (λ (s : Site). Attr s.node.kind s.node.owners) filled ∙ sym replies)
+      (ap failure_told replies) (stored_site path node, reached.found, replies)
 
   pub served_rulings : (mask : List ℕ) (old new : Rows) (node : Node) (reply : Reply) → AreRows old
       → IsReached asker path (λ _. []) old (At node) new
       → reply ≡ Rulings (rulings_at asker node mask)
-      → CarriesOut asker (Can path mask) old reply new
+      → IsServed asker (Can path mask) old reply new
   served_rulings mask old new node reply are reached replies =
-      served asker path (Can path mask) (λ _. []) (λ content. refl) (λ site. refl)
+      served asker path (Can path mask) (λ _. []) (λ along content. refl) (λ site. refl)
       (λ content target. Rulings
       (map (λ bit. (bit ∷ [], ruling_of (full_at Dacl target) asker.caller target.node.owners bit))
       mask)) (λ content id. refl) old new node reply are reached
       (λ target filled. ap
       (λ (s : Site). Rulings
       (map (λ bit. (bit ∷ [], ruling_of (full_at Dacl s) asker.caller s.node.owners bit)) mask))
-      filled ∙ sym replies)
+      filled ∙ sym replies) (ap failure_told replies)
+      (stored_site path node, reached.found, replies)
 
 -- ---- the same in terms of the calls
 
@@ -311,19 +350,19 @@ no_bytes asker path bits old mid node at are reached (inr lacks) =
 module _ (asker : Asker) (path : List (List ℕ)) where
   pub bytes_answered : (old mid new : Rows) (node : Node) (reply : Reply) → AreRows old
       → IsReached asker path (DocumentAt (read_data ∷ [])) old (At node) mid
-      → IsBytesOf node.id mid reply → new ≡ mid → CarriesOut asker (Read path) old reply new
+      → IsBytesOf node.id mid reply → new ≡ mid → IsServed asker (Read path) old reply new
   bytes_answered old mid new node reply are reached told same =
-      subst (λ (r : Reply). CarriesOut asker (Read path) old r new) (sym told.reply_is)
+      subst (λ (r : Reply). IsServed asker (Read path) old r new) (sym told.reply_is)
       (served_bytes asker path old new node told.bytes are
       (reached_then asker path (DocumentAt (read_data ∷ [])) (At node) old mid new same reached)
       (sym told.are ∙ ap (λ (r : Rows). body_of r.read node.id) reached.judged.notes))
 
   pub names_answered : (old mid new : Rows) (node : Node) (reply : Reply) → AreRows old
       → IsReached asker path (FolderAt (read_data ∷ [])) old (At node) mid
-      → AreNamesOf node.id mid reply → new ≡ mid → CarriesOut asker (ListFolder path) old reply new
-  names_answered old mid new node reply are reached told same known sound =
-      subst (λ (r : Reply). CarriesOut asker (ListFolder path) old r new)
-      (sym (told (seen_noted old mid _ reached.judged.notes sound)))
-      (served_names asker path old new node (map shown (children_of mid.read node.id)) are
+      → AreNamesOf node.id mid reply → new ≡ mid → IsServed asker (ListFolder path) old reply new
+  names_answered old mid new node reply are reached told same =
+      subst (λ (r : Reply). IsServed asker (ListFolder path) old r new) (sym told.reply_is)
+      (served_names asker path old new node told.names are
       (reached_then asker path (FolderAt (read_data ∷ [])) (At node) old mid new same reached)
-      (ap (λ (r : Rows). map shown (children_of r.read node.id)) reached.judged.notes)) known sound
+      (λ read. told.are (ap (λ (r : Rows). r.unreadable) reached.judged.notes ∙ read)
+      ∙ ap (λ (r : Rows). map shown (children_of r.read node.id)) reached.judged.notes))

@@ -15,7 +15,7 @@ returns-in_err-node-clause-done g c =
     halts_first g.met.K.Keep.laws _ c.in_err-node.ensures.done
     (λ old at h. rootless_damaged old old at refl h)
     (λ old new reply are reached.
-    not_served c.args.walk.now.asker.now path (Can path c.args.mask) (λ _. []) (λ content. refl)
+    not_served c.args.walk.now.asker.now path (Can path c.args.mask) (λ _. []) (λ along content. refl)
     (λ site. refl) old new reply are reached)
     c.from_residual.result c.from_residual.ensures.1
 

@@ -1,9 +1,3 @@
-use Rattle.std.proofs.Common.{refl, take}
-use Rattle.room_machine.specs.declared.reply.Reply.TheVariants.{Refused}
-use Rattle.room_machine.specs.declared.reply.Reason.TheVariants.{WrongKind}
-use Rattle.room_judge.proofs.Calls.{none_done}
-use Rattle.room_judge.proofs.Halts.{refused_as}
-use Rattle.room_desk.proofs.Made.PutMade.{put_root}
 use Rattle.room_desk.proofs.Made.ServedItems.{name_of_parts}
 use Rattle.room_desk.proofs.making.put.Goals as goal
 
@@ -11,13 +5,3 @@ pub put_below-requires : goal.put_below-requires
 put_below-requires g c =
     name_of_parts c.args.path.now c.in-Some.field-0-1.now c.in-Some.name.now c.in-Some.ensures.parts
     c.in-Some.ensures.name
-
-pub returns-in-None-clause-done : goal.returns-in-None-clause-done
-returns-in-None-clause-done g c =
-    let m = g.met.K.Keep in
-    let path = c.args.path.now in
-    refused_as m.laws (none_done m.laws c.args.walk.now.keep.now) c.refusal.result
-    (Refused (take 0 path) WrongKind) c.refusal.ensures
-    (λ old new are same.
-    put_root c.args.walk.now.asker.now path c.args.bytes.now old new
-    (Refused (take 0 path) WrongKind) are c.in-None.ensures.parts refl same)

@@ -6,7 +6,8 @@ use Rattle.room_machine.specs.declared.reply.Reply.{Reply}
 use Rattle.room_machine.specs.declared.reply.Reason.TheVariants.{Exists}
 use Rattle.room_machine.specs.declared.request.Request.TheVariants.{Move}
 use Rattle.room_judge.specs.Halted.{replied}
-use Rattle.room_judge.specs.Judged.{CarriesOut, IsJudged}
+use Rattle.room_judge.specs.Closed.{IsServed}
+use Rattle.room_judge.specs.Judged.{IsJudged}
 use Rattle.room_judge.specs.Stored.{found_site}
 use Rattle.room_judge.proofs.Calls.{done, finish, none_done, tail, then}
 use Rattle.room_judge.proofs.Halts.{faults, halts_first}
@@ -85,6 +86,6 @@ returns-in_ok-place_at-in-Some-clause-done g c =
     finish m.laws _ (then m.laws (done c.in_ok-folder-in-Some.ensures.done)
     (done c.in_ok-place_at-in-Some.ensures.done)
     (λ mid end new reached places rooted first are paired.
-    subst (λ (r : Reply). CarriesOut asker (Move path to) first r new) (sym places.0)
+    subst (λ (r : Reply). IsServed asker (Move path to) first r new) (sym places.0)
     (moves asker path to from target first mid are paired some c.in_ok-folder-in-Some.folder end
-    c.as_str.result.now last named (reached rooted) new places.1))) (λ old new are h. h)
+    c.as_str.result.now last named (reached rooted) new places.1 places.2))) (λ old new are h. h)

@@ -2,7 +2,7 @@ use Rattle.std.proofs.Common.{[], ◌∷◌, refl, sym, subst}
 use Rattle.room_entry.specs.Rights.{write_owner}
 use Rattle.room_machine.specs.declared.reply.Reply.{Reply}
 use Rattle.room_machine.specs.declared.request.Request.TheVariants.{SetOwners}
-use Rattle.room_judge.specs.Judged.{CarriesOut}
+use Rattle.room_judge.specs.Closed.{IsServed}
 use Rattle.room_judge.specs.declared.arrival.Arrival.TheVariants.{At, Ended}
 use Rattle.room_judge.proofs.Calls.{done, finish, then_known}
 use Rattle.room_judge.proofs.Halts.{faults, halts_first}
@@ -19,7 +19,7 @@ returns-in_err-node-clause-done g c =
     (λ old at h. rootless_damaged old old at refl h)
     (λ old new reply are reached.
     not_served asker path (SetOwners path c.args.owners.now) (CheckAt (write_owner ∷ []))
-    (λ content. refl) (λ site. refl) old new reply are
+    (λ along content. refl) (λ site. refl) old new reply are
     (reached_as asker path CheckAt c.write_owner.result (write_owner ∷ []) _ (Ended reply) old new
     c.write_owner.ensures refl reached))
     c.from_residual.result c.from_residual.ensures.1
@@ -41,7 +41,7 @@ returns-clause-done g c =
     finish m.laws _ (then_known m.laws (done c.in_ok-node.ensures.done)
     (done c.in_ok-set_at.ensures.done)
     (λ old mid new are reached set.
-    subst (λ (r : Reply). CarriesOut asker (SetOwners path owners) old r new) (sym set.0)
+    subst (λ (r : Reply). IsServed asker (SetOwners path owners) old r new) (sym set.0)
     (owners_set asker path owners old mid new c.in_ok-node.node are
     (reached_as asker path CheckAt c.write_owner.result (write_owner ∷ []) _
     (At c.in_ok-node.node) old mid c.write_owner.ensures refl reached) set.1)))

@@ -3,7 +3,7 @@ use Rattle.std.proofs.lemmas.Int.{to_z-of_z}
 use Rattle.room_judge.proofs.Calls.{tail, done, of_read}
 use Rattle.room_desk.proofs.Sound.Blamed.{damaged_before}
 use Rattle.std.specs.Option.{option_copied}
-use Rattle.room_desk.proofs.Steps.InTurn.{carried}
+use Rattle.room_desk.proofs.Steps.InTurn.{performed}
 use Rattle.room_desk.proofs.performing.perform.Goals as goal
 
 pub returns : goal.returns
@@ -14,8 +14,8 @@ returns g c =
       done =
           tail m.laws (done (of_read c.in_ok-caller.ensures.read)) c.perform_for.ensures.done
           (λ old mid at both damaged. damaged_before old mid at both.1 damaged)
-          (λ old mid reply new both carries. carried (option_copied c.args.user) c.args.at
+          (λ old mid reply new both served. performed (option_copied c.args.user) c.args.at
           (record { caller = c.in_ok-caller.caller; at = to_z w64 (of_z w64 c.args.at) })
           c.args.request.now old mid new reply
-          (to_z-of_z w64 c.args.at c.ranges.at) both carries);
+          (to_z-of_z w64 c.args.at c.ranges.at) both served);
     }

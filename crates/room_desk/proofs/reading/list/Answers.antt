@@ -15,7 +15,7 @@ returns-in_err-node-clause-done g c =
     halts_first g.met.K.Keep.laws _ c.in_err-node.ensures.done
     (λ old at h. rootless_damaged old old at refl h)
     (λ old new reply are reached.
-    not_served asker path (ListFolder path) (FolderAt (read_data ∷ [])) (λ content. refl)
+    not_served asker path (ListFolder path) (FolderAt (read_data ∷ [])) (λ along content. refl)
     (λ site. refl) old new reply are
     (reached_as asker path FolderAt c.read_data.result (read_data ∷ []) _ (Ended reply) old new
     c.read_data.ensures refl reached))

@@ -18,7 +18,7 @@ returns-in_err-node-clause-done g c =
     halts_first g.met.K.Keep.laws _ c.in_err-node.ensures.done
     (λ old at h. rootless_damaged old old at refl h)
     (λ old new reply are reached.
-    not_served asker path (ReadList path c.args.which) (CheckAt (read_acl ∷ [])) (λ content. refl)
+    not_served asker path (ReadList path c.args.which) (CheckAt (read_acl ∷ [])) (λ along content. refl)
     (λ site. refl) old new reply are
     (reached_as asker path CheckAt c.read_acl.result (read_acl ∷ []) _ (Ended reply) old new
     c.read_acl.ensures refl reached))

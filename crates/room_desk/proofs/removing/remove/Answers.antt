@@ -2,17 +2,14 @@ use Rattle.std.proofs.Common.{◌≡◌, ◌∙◌, ℕ, Bool, false, List, [], 
 use Rattle.std.specs.Prelude.{◌==◌}
 use Rattle.std.proofs.lemmas.Bool.{false≢true}
 use Rattle.room_rows.specs.Content.{is_empty}
-use Rattle.room_rows.specs.Keep.{Removes}
-use Rattle.room_machine.specs.Plan.{Deletion}
-use Rattle.room_machine.specs.declared.reply.Reply.TheVariants.{Done, Refused}
+use Rattle.room_machine.specs.declared.reply.Reply.TheVariants.{Refused}
 use Rattle.room_machine.specs.declared.reply.Reason.TheVariants.{Root}
 use Rattle.room_machine.specs.declared.request.Request.TheVariants.{Remove}
 use Rattle.room_judge.specs.declared.asker.Asker.{Asker}
-use Rattle.room_judge.specs.Judged.{CarriesOut}
+use Rattle.room_judge.specs.Closed.{IsServed}
 use Rattle.room_judge.specs.Stored.{found_site}
 use Rattle.room_judge.proofs.Calls.{done, none_done, tail_known}
-use Rattle.room_desk.specs.Made.{IsJudgedAndDone}
-use Rattle.room_desk.specs.Removed.{has_children}
+use Rattle.room_desk.specs.Removed.{RemovesFrom}
 use Rattle.room_desk.proofs.Sound.Blamed.{noted_unread, rootless_damaged}
 use Rattle.room_desk.proofs.Gone.GoneSteps.{no_names, remove_done, remove_halted, root_kept}
 use Rattle.room_judge.specs.Halted.{replied}
@@ -34,7 +31,7 @@ returns-then-is_root-clause-done g c =
     c.is_empty-is_root.ensures c.if-is_root.true in
     refused_as m.laws (none_done m.laws c.args.walk.now.keep.now) c.refusal.result
     (Refused (take 0 path) Root) c.refusal.ensures (λ old new are same.
-    subst (λ (p : List (List ℕ)). CarriesOut c.args.walk.now.asker.now (Remove p) old
+    subst (λ (p : List (List ℕ)). IsServed c.args.walk.now.asker.now (Remove p) old
     (Refused (take 0 path) Root) new) (sym at_root)
     (root_kept c.args.walk.now.asker.now old new (Refused (take 0 path) Root) are
     (ap (λ (p : List (List ℕ)). Refused (take 0 p) Root) at_root) same))
@@ -55,11 +52,9 @@ returns-clause-done g c =
     let folder = c.in_ok-pair.pair.folder in
     tail_known m.laws (done c.in_ok-pair.ensures.done) c.remove_from.ensures.done
     (λ old mid at are paired h. noted_unread old mid _ at paired.judged.notes h)
-    (λ old mid outcome new are paired acts.
+    (λ old mid outcome new are paired removes.
     remove_done c.args.walk.now.asker.now path old mid folder target are
     (some_names path c.names.result.now c.is_empty-is_root.result c.names.ensures
     c.is_empty-is_root.ensures c.if-is_root.false) paired new (replied outcome)
-    (subst (λ (a : Asker). mid.unreadable ≡ [] → IsJudgedAndDone a
-    (Deletion (found_site path target) (found_site path folder)
-    ∷ has_children path mid target.node.id ∷ []) Done (Removes target.node.id) mid
-    (replied outcome) new) c.in_ok-pair.ensures.same_asker acts))
+    (subst (λ (a : Asker). RemovesFrom a path (found_site path target) (found_site path folder) mid
+    (replied outcome) new) c.in_ok-pair.ensures.same_asker removes))

@@ -1,4 +1,4 @@
-use Rattle.std.proofs.Common.{ℕ, List, ap, subst, ◌∙◌}
+use Rattle.std.proofs.Common.{ℕ, List, ap, subst}
 use Rattle.room_rows.specs.Rows.{Rows}
 use Rattle.room_desk.specs.Written.{HasNoBytes, IsAppended, sized_reply}
 use Rattle.room_judge.proofs.Calls.{done, none_done, of_read}

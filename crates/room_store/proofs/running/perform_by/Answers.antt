@@ -2,7 +2,7 @@ use Rattle.std.proofs.Common.{subst, w64, to_z, of_z}
 use Rattle.std.proofs.lemmas.Int.{to_z-of_z}
 use Rattle.std.specs.Option.{option_copied}
 use Rattle.sqlite.specs.Held.{state}
-use Rattle.room_judge.specs.Judged.{Performs}
+use Rattle.room_judge.specs.Closed.{Performs}
 use Rattle.room_store.specs.Ran.{HasDamage}
 use Rattle.store_admin.specs.Carries.{ByRows, CallsInside, OnRows}
 use Rattle.room_store.proofs.Turning.{carried}

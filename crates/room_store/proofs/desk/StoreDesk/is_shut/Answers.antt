@@ -1,5 +1,5 @@
 use Rattle.sqlite.specs.Held.{state}
-use Rattle.room_store.proofs.Shutting.{asked_keeps, asked_sound}
+use Rattle.room_store.proofs.Shutting.{asked_keeps, asked_sound, asked_stored}
 use Rattle.room_store.proofs.desk.StoreDesk.is_shut.Goals as goal
 
 pub returns-in-Ok-clause-kept : goal.returns-in-Ok-clause-kept
@@ -20,4 +20,14 @@ returns-in-Err-clause-kept g c =
 pub returns-in-Err-clause-sound : goal.returns-in-Err-clause-sound
 returns-in-Err-clause-sound g c =
     asked_sound (state g.S.Store c.args.self.now.conn) (state g.S.Store c.test_shut.new.conn) _
+    c.test_shut.ensures
+
+pub returns-in-Ok-clause-held : goal.returns-in-Ok-clause-held
+returns-in-Ok-clause-held g c =
+    asked_stored (state g.S.Store c.args.self.now.conn) (state g.S.Store c.test_shut.new.conn) _
+    c.test_shut.ensures
+
+pub returns-in-Err-clause-held : goal.returns-in-Err-clause-held
+returns-in-Err-clause-held g c =
+    asked_stored (state g.S.Store c.args.self.now.conn) (state g.S.Store c.test_shut.new.conn) _
     c.test_shut.ensures

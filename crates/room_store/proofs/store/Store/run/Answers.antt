@@ -2,11 +2,22 @@ use Rattle.std.proofs.Common.{subst, w64}
 use Rattle.std.proofs.lemmas.Int.{to_z-of_z}
 use Rattle.std.specs.Option.{option_copied}
 use Rattle.sqlite.specs.Held.{state}
-use Rattle.room_judge.specs.Judged.{Performs}
+use Rattle.room_judge.specs.Closed.{Performs}
 use Rattle.room_machine.specs.Run.{Asked}
 use Rattle.room_store.specs.Ran.{HasDamage, Ran}
+use Rattle.room_store.proofs.Closing.{closes}
 use Rattle.room_store.proofs.Leading.{leading, performed}
 use Rattle.room_store.proofs.store.Store.run.Goals as goal
+
+pub returns-clause-closed : goal.returns-clause-closed
+returns-clause-closed g c =
+    let old = state g.S.Store c.args.self.now.conn in
+    let new = state g.S.Store c.run_on.new.conn in
+    let user = option_copied c.args.caller in
+    let asked = c.args.request.now in
+    let ran = subst (λ at. Ran old new c.run_on.result HasDamage (Performs user at asked))
+    (to_z-of_z w64 c.args.at c.ranges.at) c.run_on.ensures.ran in
+    closes user c.args.at asked old new c.run_on.result ran
 
 pub returns-clause-leads : goal.returns-clause-leads
 returns-clause-leads g c =

@@ -2,7 +2,7 @@ use Rattle.std.proofs.Common.{◌≡◌, length, not, refl, sym, ap, subst, ◌�
 use Rattle.std.proofs.Math.Facts.{to_z-of_z}
 use Rattle.std.specs.Prelude.{◌==◌}
 use Rattle.sqlite.specs.Held.{state}
-use Rattle.room_rows.specs.Content.{children_of, is_empty}
+use Rattle.room_rows.specs.Keep.{HasChildren}
 use Rattle.store_tables.specs.Meaning.{rows_of}
 use Rattle.store_tables.specs.Statements.{HasSome}
 use Rattle.store_tables.proofs.Listed.{tells_some}
@@ -19,12 +19,11 @@ returns-in-Ok g c =
         unwritten = refl;
         same = λ trust. ap rows_of (c.in-Ok.ensures.asks.same trust.clean trust.now).0.now_is;
         answers =
-            λ trust none. subst
-            (λ b. not b ≡ not (is_empty (children_of (rows_of old.now).read c.args.parent)))
+            λ trust. subst (λ b. HasChildren c.args.parent (rows_of old.now) (not b))
             (sym (c.is_empty.ensures ∙ ap (λ l. length l == 0) c.as_slice.ensures.value))
             (tells_some old.now trust.now c.args.parent c.in-Ok.rows.items
             (subst (λ z. HasSome z old.now.trees c.in-Ok.rows.items) at
-            (c.in-Ok.ensures.asks.rows trust.clean trust.now)) none);
+            (c.in-Ok.ensures.asks.rows trust.clean trust.now)));
         unfailed = refl;
         fault = tt;
       };

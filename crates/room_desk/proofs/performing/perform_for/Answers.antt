@@ -1,0 +1,18 @@
+use Rattle.std.proofs.Common.{rules, ◌≡◌, subst}
+use Rattle.room_rows.specs.Keep.{IsDamaged}
+use Rattle.room_judge.specs.Closed.{IsServed}
+use Rattle.room_judge.specs.Judged.{Does}
+use Rattle.room_judge.proofs.Halts.{replies}
+use Rattle.room_desk.proofs.performing.perform_for.Goals as goal
+
+pub returns : goal.returns
+returns g c =
+    let end = c.serve.new.walk.keep.now in
+    let same : end ≡ c.keep-1.given.0 = search rules in
+    record {
+      done =
+          subst (λ k. Does g.K.Keep c.args.keep.now k c.reply_of.result IsDamaged
+          (IsServed c.args.asker.now c.args.request.now)) same
+          (replies g.met.K.Keep.laws c.serve.result c.serve.ensures.done c.reply_of.result
+          c.reply_of.ensures);
+    }

@@ -1,0 +1,127 @@
+-- Requests that were judged by the stored lists.
+use Rattle.std.proofs.Common.{◌≡◌, ℕ, Bool, true, false, List, [], ◌∷◌, Option, Some, None, refl, sym, ap, subst, ◌∙◌, inl, inr}
+use Rattle.std.specs.Prelude.{◌⊎◌, IsTrue, is_some, ◌||◌, if◌then◌else◌}
+use Rattle.room_entry.specs.declared.parties.Caller.{Caller}
+use Rattle.room_eval.specs.declared.outcome.Verdict.{Verdict}
+use Rattle.room_eval.specs.declared.outcome.Verdict.TheVariants.{Granted, Denied as DeniedWith}
+use Rattle.room_eval.specs.declared.deletion.DeleteVerdict.{DeleteVerdict}
+use Rattle.room_eval.specs.declared.deletion.DeleteVerdict.TheVariants.{Granted as MayDelete}
+use Rattle.room_eval.specs.declared.deletion.DeleteVerdict.TheVariants.{AtTarget, AtParent}
+use Rattle.room_rows.specs.Content.{root_of}
+use Rattle.room_rows.specs.Rows.{Rows}
+use Rattle.room_machine.specs.declared.reply.Reply.{Reply}
+use Rattle.room_machine.specs.declared.reply.Reply.TheVariants.{Refused}
+use Rattle.room_machine.specs.declared.reply.Reason.{Reason}
+use Rattle.room_machine.specs.declared.request.Request.{Request}
+use Rattle.room_machine.specs.Site.{Site}
+use Rattle.room_machine.specs.Plan.{Item, Check, Deletion, Refusal}
+use Rattle.room_machine.specs.Judge.{failure, first_failure, of_deletion, of_verdict, or_else}
+use Rattle.room_judge.specs.declared.asker.Asker.{Asker}
+use Rattle.room_judge.specs.Judged.{IsJudged}
+use Rattle.room_machine.specs.Stored.{stored_plan}
+use Rattle.room_machine.specs.Closed.{IsShown, asks_only, failure_told}
+use Rattle.room_judge.specs.Closed.{IsClosed}
+
+-- a reply that is told as a failure
+abbrev IsTold : Option Reply → Type 0
+IsTold None = Unit {0}
+IsTold (Some reply) = failure_told reply ≡ Some reply
+
+verdict_told : (site : Site) (v : Verdict) → IsTold (of_verdict site v)
+verdict_told site Granted = tt
+verdict_told site (DeniedWith bits place) = refl
+
+deletion_told : (target parent : Site) (v : DeleteVerdict) → IsTold (of_deletion target parent v)
+deletion_told target parent (MayDelete by_add) = tt
+deletion_told target parent (AtTarget place) = refl
+deletion_told target parent (AtParent bits place) = refl
+
+refusal_told : (at : List (List ℕ)) (why : Reason) (holds : Bool)
+    → IsTold (if holds then Some (Refused at why) else None)
+refusal_told at why true = refl
+refusal_told at why false = tt
+
+item_told : (caller : Caller) (item : Item) → IsTold (failure caller item)
+item_told caller (Check site bits) = verdict_told site _
+item_told caller (Deletion target parent) = deletion_told target parent _
+item_told caller (Refusal at why holds) = refusal_told at why holds
+
+either_told : (a b : Option Reply) → IsTold a → IsTold b → IsTold (or_else a b)
+either_told None b first second = second
+either_told (Some reply) b first second = first
+
+first_told : (caller : Caller) (items : List Item) → IsTold (first_failure caller items)
+first_told caller [] = tt
+first_told caller (item ∷ items) = either_told (failure caller item) (first_failure caller items)
+    (item_told caller item) (first_told caller items)
+
+-- what an item answers is a denial or a refusal
+pub is_told : (caller : Caller) (items : List Item) (reply : Reply)
+    → Some reply ≡ first_failure caller items → failure_told reply ≡ Some reply
+is_told caller items reply is = subst IsTold (sym is) (first_told caller items)
+
+module _ (asker : Asker) (request : Request) (old : Rows) (reply : Reply) where
+  -- an item fails
+  pub closed_failed : (new : Rows)
+      → IsJudged asker (stored_plan old.read request) old (Some reply) new
+      → IsClosed asker request old reply new
+  closed_failed new judged =
+      let told = is_told asker.caller (stored_plan old.read request) reply judged.answers in
+      record {
+        judged = inl (sym judged.answers ∙ sym told);
+        records = ap (λ (r : Rows). r.read.audits) judged.notes;
+        unchanged = λ _. judged.notes;
+        shown = λ none. absurd (some_none (sym told ∙ none));
+      }
+    where
+      some_none : Some reply ≡ None → ⊥
+      some_none is = cc
+
+  -- none fails, and a damaged room refuses the request
+  pub closed_more : (new : Rows) (path : List (List ℕ)) (why : Reason)
+      → IsJudged asker (stored_plan old.read request) old None new → reply ≡ Refused path why
+      → (old.unreadable ≡ [] → ⊥) ⊎ (root_of old.read ≡ None) → IsClosed asker request old reply new
+  closed_more new path why judged refused damaged = record {
+    judged = inr (record {
+      path = path;
+      why = why;
+      refused = refused;
+      passes = sym judged.answers;
+      damaged = damaged;
+    });
+    records = ap (λ (r : Rows). r.read.audits) judged.notes;
+    unchanged = λ _. judged.notes;
+    shown = λ none. absurd (some_none (sym (ap failure_told refused) ∙ none));
+  }
+    where
+      some_none : Some (Refused path why) ≡ None → ⊥
+      some_none is = cc
+
+  -- none fails, and nothing but records is changed
+  pub closed_asked : (new : Rows) → IsJudged asker (stored_plan old.read request) old None new
+      → failure_told reply ≡ None → IsShown old asker.caller request reply
+      → IsClosed asker request old reply new
+  closed_asked new judged none shown = record {
+    judged = inl (sym judged.answers ∙ sym none);
+    records = ap (λ (r : Rows). r.read.audits) judged.notes;
+    unchanged = λ _. judged.notes;
+    shown = λ _. shown;
+  }
+
+  -- none fails, and what is changed then leaves the records as they are
+  pub closed_done : (mid new : Rows)
+      → IsJudged asker (stored_plan old.read request) old None mid → asks_only request ≡ false
+      → failure_told reply ≡ None → new.read.audits ≡ mid.read.audits
+      → IsShown old asker.caller request reply → IsClosed asker request old reply new
+  closed_done mid new judged writes none same shown = record {
+    judged = inl (sym judged.answers ∙ sym none);
+    records = same ∙ ap (λ (r : Rows). r.read.audits) judged.notes;
+    unchanged = λ changes. absurd (never (asks_only request) (failure_told reply) writes none changes);
+    shown = λ _. shown;
+  }
+    where
+      never : (asks : Bool) (told : Option Reply) → asks ≡ false → told ≡ None
+          → IsTrue (asks || is_some told) → ⊥
+      never true told writes none changes = absurd (let wrong : ⊥ = cc in wrong)
+      never false (Some r) writes none changes = absurd (let wrong : ⊥ = cc in wrong)
+      never false None writes none changes = absurd (let wrong : ⊥ = cc in wrong)

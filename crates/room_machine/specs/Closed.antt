@@ -1,0 +1,118 @@
+-- What a request does where rows may be damaged: nothing is served, shown or changed that the
+-- stored lists don't grant.
+use Rattle.std.specs.Prelude.{◌≡◌, ℕ, ℤ, ◌⊎◌, ◌||◌, Bool, true, false, List, [], ◌++◌}
+use Rattle.std.specs.Prelude.{Option, Some, None, is_some, IsTrue}
+use Rattle.room_entry.specs.declared.object.ObjKind.{ObjKind}
+use Rattle.room_entry.specs.declared.parties.Caller.{Caller}
+use Rattle.room_rows.specs.declared.node.AuditRow.{AuditRow}
+use Rattle.room_rows.specs.Content.{Content, body_of, root_of, with_records}
+use Rattle.room_rows.specs.Held.{held_of}
+use Rattle.room_rows.specs.Keep.{reading}
+use Rattle.room_rows.specs.Rows.{Rows}
+use Rattle.room_machine.specs.declared.reply.Reply.{Reply}
+use Rattle.room_machine.specs.declared.reply.Reply.TheVariants.{Bytes, Names, Lists, Attr, Rulings}
+use Rattle.room_machine.specs.declared.reply.Reply.TheVariants.{Made, Done, Denied, Refused}
+use Rattle.room_machine.specs.declared.reply.Reason.{Reason}
+use Rattle.room_machine.specs.declared.request.Request.{Request}
+use Rattle.room_machine.specs.declared.request.Request.TheVariants.{Read, List as ListFolder, Put}
+use Rattle.room_machine.specs.declared.request.Request.TheVariants.{Append, MakeFolder, Remove}
+use Rattle.room_machine.specs.declared.request.Request.TheVariants.{Move, ReadList, SetList}
+use Rattle.room_machine.specs.declared.request.Request.TheVariants.{ReadAttr, SetOwners, Can}
+use Rattle.room_machine.specs.Effect.{listed, rulings}
+use Rattle.room_machine.specs.Judge.{first_failure, records_of_plan}
+use Rattle.room_machine.specs.Site.{Site, full_at, site_at}
+use Rattle.room_machine.specs.Step.{caller_in}
+use Rattle.room_machine.specs.Stored.{stored_along, stored_plan}
+
+-- the denial or the refusal that a reply tells
+abbrev pub failure_told : Reply → Option Reply
+failure_told (Bytes bytes) = None
+failure_told (Names names) = None
+failure_told (Lists flags entries) = None
+failure_told (Attr kind owners) = None
+failure_told (Rulings rulings) = None
+failure_told Made = None
+failure_told Done = None
+failure_told (Denied path bits place entry) = Some (Denied path bits place entry)
+failure_told (Refused path why) = Some (Refused path why)
+
+-- Rows of which some can't be read, or that have no root, may be refused more than the plan says: an
+-- object whose children can't all be read isn't removed, and what would be at the root's place isn't
+-- looked for.
+pub record RefusesMore (rows : Rows) (reply : Reply) (failure : Option Reply) : Type 0 where
+  pub path : List (List ℕ)
+  pub why : Reason
+  pub refused : reply ≡ Refused path why
+  pub passes : failure ≡ None
+  pub damaged : (rows.unreadable ≡ [] → ⊥) ⊎ (root_of rows.read ≡ None)
+
+-- the reply tells the first failure, if there is one, and no other
+abbrev pub TellsFailure : Rows → Reply → Option Reply → Type 0
+TellsFailure rows reply failure =
+    (failure ≡ failure_told reply) ⊎ RefusesMore rows reply failure
+
+-- the requests that change nothing but records
+abbrev pub asks_only : Request → Bool
+asks_only (Read path) = true
+asks_only (ListFolder path) = true
+asks_only (ReadList path which) = true
+asks_only (ReadAttr path) = true
+asks_only (Can path mask) = true
+asks_only (Put path bytes) = false
+asks_only (Append path bytes) = false
+asks_only (MakeFolder path) = false
+asks_only (Remove path) = false
+asks_only (Move path to) = false
+asks_only (SetList path which sent) = false
+asks_only (SetOwners path owners) = false
+
+-- the object that the walk along the path finds, with its stored lists
+abbrev pub AtStored : Content → List (List ℕ) → (Site → Type 0) → Type 0
+AtStored rows path P =
+    (target : Site) × (site_at (stored_along rows path) path ≡ Some target) × P target
+
+-- What is shown is what the object at the path has. Names are told of the rows where all of them can
+-- be read.
+abbrev pub IsShown : Rows → Caller → Request → Reply → Type 0
+IsShown rows caller (Read path) reply = AtStored rows.read path (λ target.
+    (bytes : List ℕ) × (reply ≡ Bytes bytes) × (body_of rows.read target.node.id ≡ Some bytes))
+IsShown rows caller (ListFolder path) reply = AtStored rows.read path (λ target.
+    (names : List (List ℕ × ObjKind)) × (reply ≡ Names names)
+    × (rows.unreadable ≡ [] → names ≡ listed rows.read target.node.id))
+IsShown rows caller (ReadList path which) reply = AtStored rows.read path (λ target.
+    reply ≡ Lists (held_of which target.node).flags (full_at which target))
+IsShown rows caller (ReadAttr path) reply = AtStored rows.read path (λ target.
+    reply ≡ Attr target.node.kind target.node.owners)
+IsShown rows caller (Can path mask) reply = AtStored rows.read path (λ target.
+    reply ≡ Rulings (rulings caller mask target))
+IsShown rows caller (Put path bytes) reply = (reply ≡ Made) ⊎ (reply ≡ Done)
+IsShown rows caller (Append path bytes) reply = reply ≡ Done
+IsShown rows caller (MakeFolder path) reply = reply ≡ Made
+IsShown rows caller (Remove path) reply = reply ≡ Done
+IsShown rows caller (Move path to) reply = reply ≡ Done
+IsShown rows caller (SetList path which sent) reply = reply ≡ Done
+IsShown rows caller (SetOwners path owners) reply = reply ≡ Done
+
+-- the records of the plan's items up to the first that fails, by the stored lists
+abbrev pub stored_records : Caller → ℤ → Content → Request → List AuditRow
+stored_records caller moment rows request =
+    records_of_plan caller moment (stored_plan rows request)
+
+-- Whatever the rows are, the request is judged by the lists as they are stored, and each item
+-- before the first that fails has passed: what is served was granted, and a denial names an entry
+-- that is stored. The records of the checks are added. Who asks only changes nothing else, nor does
+-- who is refused, and what is shown is what the object at the path has.
+pub record IsClosedFor (caller : Caller) (moment : ℤ) (request : Request) (old : Rows)
+    (reply : Reply) (new : Rows) : Type 0 where
+  pub judged : TellsFailure old reply (first_failure caller (stored_plan old.read request))
+  pub records : new.read.audits
+      ≡ old.read.audits ++ stored_records caller moment old.read request
+  pub unchanged : IsTrue (asks_only request || is_some (failure_told reply))
+      → new ≡ reading old
+      (with_records old.read (stored_records caller moment old.read request))
+  pub shown : failure_told reply ≡ None → IsShown old caller request reply
+
+-- the same for the caller of this name, or without one, with the groups of the rows
+abbrev pub FailsClosed : Option (List ℕ) → ℤ → Request → Rows → Reply → Rows → Type 0
+FailsClosed user moment request old reply new =
+    IsClosedFor (caller_in old.read user) moment request old reply new
