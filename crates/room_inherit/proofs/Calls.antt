@@ -1,14 +1,18 @@
 -- Calls of a keeper that write lists, one after the other.
-use Rattle.std.proofs.Common.{◌≡◌, ℕ, suc, ◌+◌, ◌<◌, ◌^◌, ◌-◌, Bool, true, false, cond, List, [], ◌∷◌, ◌++◌, length, map, filter, drop, get_or, Some, Result, Ok, Err, IfOk, IfErr, refl, sym, ap, subst, ◌∙◌, inl, inr, arith, add-one, drop-cons}
-use Rattle.std.proofs.lemmas.Bool.{cases_lt}
+use Rattle.std.proofs.Common.{◌≡◌, ℕ, suc, ◌+◌, ◌<◌, ◌^◌, ◌-◌, ◌==◌, Bool, true, false, cond, not, List, [], ◌∷◌, ◌++◌, length, map, filter, drop, get_or, Some, Result, Ok, Err, IfOk, IfErr, refl, sym, ap, subst, ◌∙◌, inl, inr, arith, add-one, drop-cons}
+use Rattle.std.specs.List.{list_any}
+use Rattle.std.proofs.lemmas.Bool.{cases_lt, eqb-true, not-false}
 use Rattle.std.proofs.lemmas.List.{append_assoc, append-nil, length-append}
 use Rattle.room_entry.specs.Ace.{Ace}
+use Rattle.room_entry.specs.Valid.{is_document}
 use Rattle.room_entry.specs.declared.object.Which.{Which}
 use Rattle.room_rows.specs.declared.keep.Keep.{Ghosts}
 use Rattle.room_rows.specs.declared.node.Node.{Node}
-use Rattle.room_rows.specs.Content.{Content, children_of, node_at, with_node}
+use Rattle.room_rows.specs.Content.{Content, children_of, has_parent, node_at, with_node}
 use Rattle.room_rows.specs.Counts.{capped_below, capped_past}
 use Rattle.room_rows.specs.HeldList.{Held}
+use Rattle.room_rows.specs.declared.keep.KeepFault.{KeepFault}
+use Rattle.room_rows.specs.declared.keep.KeepFault.TheVariants.{Memory}
 use Rattle.room_rows.specs.Keep.{Changes, IsUnreadable, IsRead, IsWrite, AreChildrenOf, Leaves, capped, reading, with_inh, KeepLaws}
 use Rattle.room_rows.specs.Rows.{Rows, is_unreadable}
 use Rattle.room_rows.proofs.Steps.{later_cause}
@@ -17,9 +21,11 @@ use Rattle.room_inherit.specs.declared.descent.Reach.{Reach}
 use Rattle.room_inherit.specs.declared.outcome.SpreadFault.{SpreadFault}
 use Rattle.room_inherit.specs.declared.outcome.SpreadFault.TheVariants.{Keeper, Loop}
 use Rattle.room_inherit.specs.Spread.{HasSpreadCause}
-use Rattle.room_inherit.specs.Turn.{AreKnown, MeetsAgain, IsVisit, IsRenewal, Renews, RenewsAll, Visits, with_nodes, brought_up, is_outdated, passed_to, renewed, renewals, next_of, meets_again, waits_next}
+use Rattle.room_inherit.specs.Turn.{AreKnown, IsChildless, LeavesOut, MeetsAgain, IsVisit, IsRenewal, Renews, RenewsAll, TellsWaiting, Visits, with_nodes, brought_up, is_outdated, one_if, passed_to, renewed, renewals, next_of, meets_again, waits_next}
 use Rattle.room_inherit.proofs.Kinship.{held_with, same_id}
 use Rattle.room_inherit.proofs.Renewing.{known_other, known_renewals, turn_becomes}
+use Rattle.room_inherit.proofs.Chosen.{below_put, chosen_append, chosen_there, none_below, one_chosen}
+use Rattle.room_inherit.proofs.Members.{no_length}
 
 -- ---- counts with an end
 
@@ -94,7 +100,7 @@ module _ (which : Which) (above child : Node) (entries : List Ace)
   only_child : renewals which above (child ∷ []) ≡ renewed which above child ∷ []
   only_child = ap (λ t. map (renewed which above) (cond t (child ∷ []) [])) is
 
-  stored_so : (old new : Rows) → AreKnown which (renewals which above (child ∷ [])) old.read
+  pub stored_so : (old new : Rows) → AreKnown which (renewals which above (child ∷ [])) old.read
       → Changes child.id (with_inh which entries) old new
       → new ≡ reading old (with_nodes old.read (renewals which above (child ∷ [])))
   stored_so old new known changes =
@@ -109,33 +115,16 @@ module _ (which : Which) (above child : Node) (entries : List Ace)
       changes here.0 found ∙ ap (λ (n : Node). reading old (with_node old.read n)) same
       ∙ ap (λ (l : List Node). reading old (with_nodes old.read l)) (sym only_child)
 
-  -- an outdated child gets the entries that are passed to it
-  pub child_renewed : {S : Type 0} (k : Ghosts S) (a b : S)
-      → IsWrite k.rows k.failures k.writes k.Follows k.IsTrusted {X = Unit {0}} a b
-      (Ok tt) IsUnreadable (Leaves (Changes child.id (with_inh which entries)))
-      → Renews k a b which above child (Ok true)
-  child_renewed k a b write =
-      record {
-        follows = write.follows;
-        written = write.written;
-        becomes =
-            λ t. record {
-              outdated = sym is;
-              stores = stored_so (k.rows a) (k.rows b) t.1
-                  (write.becomes t.0);
-            };
-        fault =
-            tt;
-      }
-
 module _ (d : Descent) (above : Node) where
   -- some of the children are renewed, and these are left
   pub record HasRenewed (left all before mid : List Node) (old : Rows) (written : ℕ)
       (now : Rows) : Type 0 where
     pub counted : written + length (renewals d.which above left)
         ≡ length (renewals d.which above all)
-    pub waits : mid ++ next_of d.reach d.which above left ≡ before
-        ++ next_of d.reach d.which above all
+    pub waits : (more : List Node)
+        → LeavesOut old.read (next_of d.reach d.which above left) more
+        → (next : List Node) × (mid ++ more ≡ before ++ next)
+        × LeavesOut old.read (next_of d.reach d.which above all) next
     pub storing : IsStoring d.which (renewals d.which above left)
         (renewals d.which above all) old now
 
@@ -153,24 +142,40 @@ module _ (d : Descent) (above : Node) where
       on false known = tt
 
   one_more : (child : Node) (left all before mid after : List Node) (old now next : Rows)
-      (number n : ℕ) → HasRenewed (child ∷ left) all before mid old number now
+      (number n : ℕ) → AreKnown d.which (renewals d.which above all) old.read
+      → HasRenewed (child ∷ left) all before mid old number now
       → IsRenewal d above (child ∷ []) mid after now n next
       → HasRenewed left all before after old (number + n) next
-  one_more child left all before mid after old now next number n sofar one = record {
+  one_more child left all before mid after old now next number n known sofar one = record {
     counted = let e =
         ap length (renewals_cons d.which above child left)
         ∙ length-append (renewals d.which above (child ∷ [])) (renewals d.which above left) in
         let s =
         sofar.counted in let o = one.counted in omega (arith, e, s, o);
-    waits =
-        ap (λ (l : List Node). l ++ next_of d.reach d.which above left) one.waits
-        ∙ append_assoc mid (next_of d.reach d.which above (child ∷ []))
-        (next_of d.reach d.which above left)
-        ∙ ap (λ (l : List Node). mid ++ l) (sym (next_cons d.reach d.which above child left))
-        ∙ sofar.waits;
+    waits = λ more chosen.
+        let both = chosen_append old.read (next_of d.reach d.which above (child ∷ []))
+        (next_of d.reach d.which above left) one.next more
+        (chosen_there now.read old.read below (next_of d.reach d.which above (child ∷ []))
+        one.next one.chosen) chosen in
+        let (ends, joined, whole) = sofar.waits (one.next ++ more)
+        (subst (λ (l : List Node). LeavesOut old.read l (one.next ++ more))
+        (sym (next_cons d.reach d.which above child left)) both) in (
+          ends,
+          ap (λ (l : List Node). l ++ more) one.waits ∙ append_assoc mid one.next more ∙ joined,
+          whole,
+        );
     storing = on (is_outdated d.which above child) sofar.storing one.stores;
   }
     where
+      -- the objects below which something stands are those of the beginning
+      below : (id : ℕ)
+          → list_any (has_parent id) old.read.nodes ≡ list_any (has_parent id) now.read.nodes
+      below id =
+          sym (below_put d.which old.read (renewals d.which above all) known id)
+          ∙ ap (λ (r : Rows). list_any (has_parent id) r.read.nodes) (sym sofar.storing.leaves)
+          ∙ below_put d.which now.read (renewals d.which above (child ∷ left))
+          sofar.storing.known id
+
       on : (t : Bool)
           → IsStoring d.which (map (renewed d.which above)
           (cond t (child ∷ filter (is_outdated d.which above) left)
@@ -209,7 +214,7 @@ module _ {S : Type 0} (k : Ghosts S)
       along = λ t known.
           let before' = sofar.along (laws.first a b c sofar.follows one.follows t) known in
           one_more d above child left all before mid after (k.rows a) (k.rows b)
-          (k.rows c) number n before'
+          (k.rows c) number n known before'
           (one.becomes (
             laws.last a b c sofar.follows one.follows t,
             known_one d above child left (k.rows b).read before'.storing.known,
@@ -258,24 +263,29 @@ module _ {S : Type 0} (k : Ghosts S)
     written = sofar.counted;
     becomes = λ t.
         let ended = sofar.along t.0 t.1 in
+        let (next, joined, chosen) = ended.waits [] refl in
         record {
           counted = (let e = ended.counted in omega (arith, e));
-          waits = sym (append-nil mid) ∙ ended.waits;
+          next = next;
+          waits = sym (append-nil mid) ∙ joined;
+          chosen = chosen;
           stores = ended.storing.leaves;
         };
     fault = tt;
   }
 
-  -- where there is no child, nothing is renewed
-  pub none_renewed : all ≡ [] → (a : S) → RenewsAll k a a d above all before before (Ok 0)
-  none_renewed none a =
-      subst (λ (l : List Node). RenewsAll k a a d above l before before (Ok 0)) (sym none)
-      (record {
-        follows = laws.itself a;
-        written = sym (capped_below (k.writes a) (laws.ends a).1) ∙ ap capped (omega arith);
-        becomes = λ t. record { counted = refl; waits = sym (append-nil before); stores = refl };
-        fault = tt;
-      })
+  -- at the beginning nothing is renewed
+  pub renewing_begins : (a : S) → Renewing all before 0 a a
+  renewing_begins a = record {
+    follows = laws.itself a;
+    counted = sym (capped_below (k.writes a) (laws.ends a).1) ∙ ap capped (omega arith);
+    along = λ t known.
+        record {
+          counted = omega arith;
+          waits = λ more chosen. (more, refl, chosen);
+          storing = record { unreadable = refl; known = known; leaves = refl };
+        };
+  }
 
   -- ---- one turn
 
@@ -324,8 +334,13 @@ module _ {S : Type 0} (k : Ghosts S)
             ∙ ap (λ (l : List Node). reading (k.rows a) (record (k.rows a).read { nodes = l }))
             (turn_becomes d.which above (k.rows a).read (laws.are a b (first t)).numbers);
         counted = h.counted ∙ ap (λ (l : List Node). length (renewals d.which above l)) (kids t);
-        waits =
-            h.waits ∙ ap (λ (l : List Node). before ++ next_of d.reach d.which above l) (kids t);
+        next = h.next;
+        waits = h.waits;
+        chosen =
+            subst (λ (l : List Node).
+            LeavesOut (k.rows a).read (next_of d.reach d.which above l) h.next) (kids t)
+            (subst (λ (w : Rows). LeavesOut w.read (next_of d.reach d.which above all) h.next)
+            (read.same (first t)) h.chosen);
       }
       becomes (Err e) t h = tt
 
@@ -352,3 +367,204 @@ module _ {S : Type 0} (k : Ghosts S)
           (k.IsTrusted a c → MeetsAgain d.which d.start above (k.rows a)))
       cause (Ok n) h = tt
       cause (Err e) h = told e h
+
+-- ---- whether a child waits
+
+module _ {S : Type 0} (k : Ghosts S) (a b : S) where
+  -- a call that tells whether something may stand below an object
+  abbrev MayHave : Node → Result Bool KeepFault → Type 0
+  MayHave object result =
+      IsRead k.rows k.failures k.writes k.Follows k.IsTrusted a b result IsUnreadable
+      (λ rows may. may ≡ false → IsChildless rows.read object)
+
+  abbrev Tells : Reach → Which → Node → Node → Result Bool KeepFault → Type 0
+  Tells reach which above child result =
+      IsRead k.rows k.failures k.writes k.Follows k.IsTrusted a b result IsUnreadable
+      (λ rows waits. TellsWaiting rows.read reach which above child waits)
+
+  -- the children of a document were read
+  pub document_asked : (object : Node) (below : List Node) (empty : Bool)
+      → is_document object.kind ≡ true → empty ≡ (length below == 0)
+      → IsRead k.rows k.failures k.writes k.Follows k.IsTrusted a b (Ok below) IsUnreadable
+      (AreChildrenOf object.id) → MayHave object (Ok (not empty))
+  document_asked object below empty document is read = record {
+    follows = read.follows;
+    unwritten = read.unwritten;
+    same = read.same;
+    answers = λ t no. (
+      document,
+      none_below object.id (k.rows a).read.nodes
+          (sym (read.answers t)
+          ∙ no_length below (eqb-true (length below) 0 (sym is ∙ not-false empty no))),
+    );
+    unfailed = read.unfailed;
+    fault = tt;
+  }
+
+  -- a child that would wait waits, unless nothing stands below it
+  pub told_below : (reach : Reach) (which : Which) (above child : Node) (r : Result Bool KeepFault)
+      → true ≡ waits_next reach which above child → MayHave child r
+      → Tells reach which above child r
+  told_below reach which above child r is read = record {
+    follows = read.follows;
+    unwritten = read.unwritten;
+    same = read.same;
+    answers = λ t. on r (read.answers t);
+    unfailed = read.unfailed;
+    fault = read.fault;
+  }
+    where
+      on : (r : Result Bool KeepFault)
+          → IfOk r (λ may. may ≡ false → IsChildless (k.rows a).read child)
+          → IfOk r (TellsWaiting (k.rows a).read reach which above child)
+      on (Ok true) h = inl is
+      on (Ok false) h = inr (refl, h refl)
+      on (Err e) h = tt
+
+-- a child that doesn't wait
+pub told_none : {S : Type 0} (k : Ghosts S)
+    → KeepLaws k.rows k.failures k.writes k.Follows k.IsTrusted → (a : S) (reach : Reach)
+    (which : Which) (above child : Node) → false ≡ waits_next reach which above child
+    → IsRead k.rows k.failures k.writes k.Follows k.IsTrusted a a (Ok false) IsUnreadable
+    (λ rows waits. TellsWaiting rows.read reach which above child waits)
+told_none k laws a reach which above child is = record {
+  follows = laws.itself a;
+  unwritten = refl;
+  same = λ t. refl;
+  answers = λ t. inl is;
+  unfailed = refl;
+  fault = tt;
+}
+
+-- ---- one child
+
+module _ {S : Type 0} (k : Ghosts S)
+    (laws : KeepLaws k.rows k.failures k.writes k.Follows k.IsTrusted) (d : Descent)
+    (above child : Node) (renews : Bool) (is : renews ≡ is_outdated d.which above child) where
+  abbrev only : List Node
+  only = renewals d.which above (child ∷ [])
+
+  -- it is asked whether the child waits next
+  abbrev Asks : S → S → Result Bool KeepFault → Type 0
+  Asks a b result =
+      IsRead k.rows k.failures k.writes k.Follows k.IsTrusted a b result IsUnreadable
+      (λ rows waits. TellsWaiting rows.read d.reach d.which above child waits)
+
+  -- its new entries are written
+  abbrev Stores : List Ace → S → S → Result (Unit {0}) KeepFault → Type 0
+  Stores entries a b result =
+      IsWrite k.rows k.failures k.writes k.Follows k.IsTrusted a b result IsUnreadable
+      (Leaves (Changes child.id (with_inh d.which entries)))
+
+  only_is : (t : Bool) → renews ≡ t → only ≡ cond t (renewed d.which above child ∷ []) []
+  only_is t e =
+      ap (λ u. map (renewed d.which above) (cond u (child ∷ []) [])) (sym is ∙ e) ∙ on t
+    where
+      on : (u : Bool) → map (renewed d.which above) (cond u (child ∷ []) [])
+          ≡ cond u (renewed d.which above child ∷ []) []
+      on true = refl
+      on false = refl
+
+  pub asking_fails : (e : KeepFault) (a b : S) → Asks a b (Err e)
+      → Renews k a b d above child renews (Err (Keeper e))
+  asking_fails e a b read = record {
+    follows = read.follows;
+    written = tt;
+    becomes = λ t. tt;
+    fault =
+        later_cause (k.failures a) (k.failures a) (k.failures b) e _ _ (omega arith)
+        (laws.rise a b read.follows) (λ at damaged t. damaged t.0) read.fault;
+  }
+
+  -- a child that isn't outdated stays as it is
+  pub child_stays : (waits : Bool) (a b : S) → Asks a b (Ok waits) → renews ≡ false
+      → Renews k a b d above child renews (Ok waits)
+  child_stays waits a b read stays = record {
+    follows = read.follows;
+    written =
+        read.unwritten ∙ sym (capped_below (k.writes a) (laws.ends a).1)
+        ∙ ap capped (let none : one_if renews ≡ 0 = ap one_if stays in omega (arith, none));
+    becomes = λ t.
+        record {
+          told = read.answers t.0;
+          stores =
+              read.same t.0
+              ∙ ap (λ (l : List Node). reading (k.rows a) (with_nodes (k.rows a).read l))
+              (sym (only_is false stays));
+        };
+    fault = tt;
+  }
+
+  module _ (waits : Bool) (a b c : S) (read : Asks a b (Ok waits)) (entries : List Ace) where
+    pub write_fails : (e : KeepFault) → Stores entries b c (Err e)
+        → Renews k a c d above child renews (Err (Keeper e))
+    write_fails e write = record {
+      follows = laws.on a b c read.follows write.follows;
+      written = tt;
+      becomes = λ t. tt;
+      fault =
+          later_cause (k.failures a) (k.failures b) (k.failures c) e _ _
+          (laws.rise a b read.follows) (laws.rise b c write.follows)
+          (λ at damaged t. ap (λ (w : Rows). is_unreadable w at)
+          (sym (read.same (laws.first a b c read.follows write.follows t.0)))
+          ∙ damaged (laws.last a b c read.follows write.follows t.0)) write.fault;
+    }
+
+    -- an outdated child gets the entries that are passed to it
+    pub child_renewed : renews ≡ true → entries ≡ passed_to d.which above child
+        → Stores entries b c (Ok tt) → Renews k a c d above child renews (Ok waits)
+    child_renewed stale passes write = record {
+      follows = laws.on a b c read.follows write.follows;
+      written =
+          write.written
+          ∙ (λ i. capped (read.unwritten i + one_if (sym stale i)));
+      becomes = λ t.
+          let before = laws.first a b c read.follows write.follows t.0 in
+          let same = read.same before in
+          let stored = stored_so d.which above child entries (sym is ∙ stale) passes (k.rows b)
+          (k.rows c) (subst (λ (w : Rows). AreKnown d.which only w.read) (sym same) t.1)
+          (write.becomes (laws.last a b c read.follows write.follows t.0)) in
+          record {
+            told = read.answers before;
+            stores =
+                stored ∙ ap (λ (w : Rows). reading w (with_nodes w.read only)) same;
+          };
+      fault = tt;
+    }
+
+  -- ---- and it is added to the objects that wait
+
+  pub one_fails : (e : SpreadFault) (before after : List Node) (a b : S)
+      → Renews k a b d above child renews (Err e)
+      → RenewsAll k a b d above (child ∷ []) before after (Err e)
+  one_fails e before after a b failed =
+      record { follows = failed.follows; written = tt; becomes = λ t. tt; fault = failed.fault }
+
+  pub one_forgotten : (waits : Bool) (before after : List Node) (a b : S)
+      → Renews k a b d above child renews (Ok waits)
+      → RenewsAll k a b d above (child ∷ []) before after (Err (Keeper Memory))
+  one_forgotten waits before after a b done =
+      record { follows = done.follows; written = tt; becomes = λ t. tt; fault = tt }
+
+  pub one_renewed : (waits : Bool) (before after : List Node) (number : ℕ) (a b : S)
+      → Renews k a b d above child renews (Ok waits) → number ≡ one_if renews
+      → after ≡ before ++ cond waits (brought_up d.which above child ∷ []) []
+      → RenewsAll k a b d above (child ∷ []) before after (Ok number)
+  one_renewed waits before after number a b done many joined = record {
+    follows = done.follows;
+    written = done.written ∙ ap (λ n. capped (k.writes a + n)) (sym many);
+    becomes = λ t.
+        let made = done.becomes t in
+        record {
+          counted = many ∙ counts renews ∙ ap length (sym (only_is renews refl));
+          next = cond waits (brought_up d.which above child ∷ []) [];
+          waits = joined;
+          chosen = one_chosen (k.rows a).read d above child waits made.told;
+          stores = made.stores;
+        };
+    fault = tt;
+  }
+    where
+      counts : (t : Bool) → one_if t ≡ length (cond t (renewed d.which above child ∷ []) [])
+      counts true = refl
+      counts false = refl

@@ -14,7 +14,7 @@ use Rattle.room_rows.specs.Rows.{Rows, AreRows, numbers_of, is_unreadable}
 use Rattle.room_rows.proofs.InPlace.{numbers_of-reading}
 use Rattle.room_rows.proofs.Steps.{later_cause}
 use Rattle.room_inherit.specs.Spread.{ChangedAgree, HasSpreadCause, IsSpread, IsOwnAncestor, Holds, Spreads, SpreadsIf, with_lists, is_changed}
-use Rattle.room_inherit.specs.Turn.{IsVisit, MeetsAgain, next_of}
+use Rattle.room_inherit.specs.Turn.{IsVisit, LeavesOut, MeetsAgain, next_of}
 use Rattle.room_inherit.specs.declared.descent.Descent.{Descent}
 use Rattle.room_inherit.specs.declared.descent.Reach.{Reach}
 use Rattle.room_inherit.specs.declared.descent.Reach.TheVariants.{Renewed}
@@ -24,6 +24,7 @@ use Rattle.room_inherit.specs.declared.outcome.SpreadFault.TheVariants.{Keeper, 
 use Rattle.room_inherit.proofs.Members.{count, count-is}
 use Rattle.room_inherit.proofs.Children.{found_id}
 use Rattle.room_inherit.proofs.Frontier.{Frontier, ids_set}
+use Rattle.room_inherit.proofs.Chosen.{all_chosen, below_lists, chosen_append, chosen_length, chosen_there, frontier_chosen}
 use Rattle.room_inherit.proofs.OneTurn.{after, rows_after, frontier_after, as_many, count_after}
 use Rattle.room_inherit.proofs.Ends.{own_lists, with_own_lists, own_unchanged, count_own, frontier_first, law_without, law_at_end, changed_agree, loop_found, count_less, as_many_numbers}
 use Rattle.room_inherit.proofs.Turns.{Progress}
@@ -84,11 +85,13 @@ module _ (d : Descent) (reach : d.reach ≡ Renewed) (turns : ℕ) (rest : List 
   abbrev going : List Node
   going = next_of Renewed d.which w (children_of (with_lists d.which f old.read) w.id)
 
-  waits : next ≡ rest ++ going
-  waits =
-      step.waits
-      ∙ ap (λ (r : Reach). rest ++ next_of r d.which w
-      (children_of (with_lists d.which f old.read) w.id)) reach
+  chosen : LeavesOut old.read going step.next
+  chosen =
+      chosen_there (with_lists d.which f old.read) old.read
+      (λ id. sym (below_lists d.which f old.read id)) going step.next
+      (subst (λ (r : Reach). LeavesOut (with_lists d.which f old.read)
+      (next_of r d.which w (children_of (with_lists d.which f old.read) w.id)) step.next) reach
+      step.chosen)
 
   total : changed + number ≡ count (is_changed d.which lists) old.read.nodes
   total =
@@ -103,17 +106,20 @@ module _ (d : Descent) (reach : d.reach ≡ Renewed) (turns : ℕ) (rest : List 
         ∙ ap (reading old)
         (rows_after d.which d.start old.read are.numbers f rest w sofar.front step.not_met);
     front =
-        subst (λ (l : List Node). Frontier d.which d.start old.read lists l) (sym waits)
-        (frontier_after d.which d.start old.read are.numbers f rest w sofar.front step.not_met);
+        subst (λ (l : List Node). Frontier d.which d.start old.read lists l) (sym step.waits)
+        (frontier_chosen d.which d.start old.read lists (rest ++ going) (rest ++ step.next)
+        (chosen_append old.read rest going rest step.next (all_chosen old.read rest) chosen)
+        (frontier_after d.which d.start old.read are.numbers f rest w sofar.front step.not_met));
     counted = total;
     turned =
-        let l = ap length waits ∙ length-append rest going in
+        let l = ap length step.waits ∙ length-append rest step.next in
+        let less = chosen_length old.read going step.next chosen in
         let few = as_many d.which d.start old.read are.numbers f rest w sofar.front step.not_met in
         let k = length-append rest (w ∷ []) in
         let t = sofar.turned in
         let s = sofar.counted in
         let n = step.counted in
-        omega (arith, l, few, k, t, s, n, total);
+        omega (arith, l, less, few, k, t, s, n, total);
     first = sofar.first;
     first_is = sofar.first_is;
   }

@@ -163,7 +163,7 @@ any_put p x (y ∷ ys) = on (is_before y.name x.name) (any_put p x ys)
     on true rest = ap (λ r. p y || r) rest ∙ swapped (p y) (p x) (list_any p ys)
     on false rest = refl
 
-any_sorted : (p : Node → Bool) (xs : List Node) → list_any p (sorted_by_name xs) ≡ list_any p xs
+pub any_sorted : (p : Node → Bool) (xs : List Node) → list_any p (sorted_by_name xs) ≡ list_any p xs
 any_sorted p [] = refl
 any_sorted p (x ∷ xs) = any_put p x (sorted_by_name xs) ∙ ap (λ r. p x || r) (any_sorted p xs)
 

@@ -15,7 +15,8 @@ use Rattle.room_rows.proofs.Steps.{later_cause}
 use Rattle.room_rows.specs.Law.{AllAgree}
 use Rattle.room_inherit.specs.Spread.{ChangedAgree, HasSpreadCause, with_lists, is_changed}
 use Rattle.room_inherit.specs.SpreadAll.{IsRoot, IsSwept, Sweeps, SweepsIf}
-use Rattle.room_inherit.specs.Turn.{IsVisit, MeetsAgain, next_of}
+use Rattle.room_inherit.specs.Turn.{IsVisit, LeavesOut, MeetsAgain, next_of}
+use Rattle.room_inherit.proofs.Chosen.{folders_chosen}
 use Rattle.room_inherit.specs.declared.descent.Descent.{Descent}
 use Rattle.room_inherit.specs.declared.descent.Reach.{Reach}
 use Rattle.room_inherit.specs.declared.descent.Reach.TheVariants.{All}
@@ -97,10 +98,14 @@ module _ (d : Descent) (reach : d.reach ≡ All) (turns : ℕ) (rest : List Node
     waits : next ≡ rest ++ all
     waits =
         step.waits
-        ∙ ap (λ (r : Reach). rest ++ next_of r d.which w
-        (children_of (with_lists d.which f old.read) w.id)) reach
         ∙ ap (λ (l : List Node). rest ++ l)
-        (kids_are d.which old.read are.numbers sofar.root top f sofar.seen rest w sofar.front)
+        (folders_chosen (with_lists d.which f old.read)
+        (children_of (with_lists d.which lists old.read) w.id) step.next
+        (subst (λ (l : List Node). LeavesOut (with_lists d.which f old.read) l step.next)
+        (ap (λ (r : Reach). next_of r d.which w
+        (children_of (with_lists d.which f old.read) w.id)) reach
+        ∙ kids_are d.which old.read are.numbers sofar.root top f sofar.seen rest w sofar.front)
+        step.chosen))
 
     pub sweeping_turn : IsSweeping d (turns + 1) next (changed + number) old new
     sweeping_turn = record {

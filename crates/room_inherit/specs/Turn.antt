@@ -1,9 +1,10 @@
 -- One object's children, and what they are to inherit from it.
-use Rattle.std.specs.Prelude.{◌≡◌, ℕ, ◌==◌, ◌&&◌, Bool, true, false, not, List, [], ◌∷◌, ◌++◌}
-use Rattle.std.specs.Prelude.{length, map, filter, Some, Result, if◌then◌else◌}
+use Rattle.std.specs.Prelude.{◌≡◌, ℕ, ◌==◌, ◌&&◌, ◌⊎◌, Bool, true, false, not, List, [], ◌∷◌, ◌++◌}
+use Rattle.std.specs.Prelude.{length, map, filter, Some, Result, IsTrue, if◌then◌else◌}
 use Rattle.std.specs.List.{list_any}
 use Rattle.room_entry.specs.Ace.{Ace}
 use Rattle.room_entry.specs.Same.{same_entries}
+use Rattle.room_entry.specs.Valid.{is_document}
 use Rattle.room_entry.specs.declared.object.ObjKind.{ObjKind}
 use Rattle.room_entry.specs.declared.object.ObjKind.TheVariants.{Document, Folder}
 use Rattle.room_entry.specs.declared.object.Which.{Which}
@@ -94,30 +95,54 @@ abbrev pub next_of : Reach → Which → Node → List Node → List Node
 next_of reach which above nodes =
     map (brought_up which above) (filter (waits_next reach which above) nodes)
 
+-- a document below which nothing stands
+abbrev pub IsChildless : Content → Node → Type 0
+IsChildless rows node =
+    IsTrue (is_document node.kind) × (list_any (has_parent node.id) rows.nodes ≡ false)
+
+-- The second list is the first, perhaps without documents below which nothing stands.
+abbrev pub LeavesOut : Content → List Node → List Node → Type 0
+LeavesOut rows [] next = next ≡ []
+LeavesOut rows (node ∷ nodes) next =
+    (rest : List Node) × LeavesOut rows nodes rest
+    × ((next ≡ node ∷ rest) ⊎ ((next ≡ rest) × IsChildless rows node))
+
+-- whether the child waits next, or it is left out since nothing stands below it
+abbrev pub TellsWaiting : Content → Reach → Which → Node → Node → Bool → Type 0
+TellsWaiting rows reach which above child waits =
+    (waits ≡ waits_next reach which above child)
+    ⊎ ((waits ≡ false) × IsChildless rows child)
+
 -- One object's outdated children are renewed, and those that wait next are added after the objects
--- that wait. The first object isn't among the children.
+-- that wait, perhaps without documents below which nothing stands. The first object isn't among the
+-- children.
 pub record IsVisit (descent : Descent) (above : Node) (before after : List Node) (old : Rows)
     (written : ℕ) (new : Rows) : Type 0 where
   pub not_met : meets_again descent.which descent.start above (children_of old.read above.id)
       ≡ false
   pub becomes : new ≡ reading old (with_each old.read (renewed_below descent.which above))
   pub counted : written ≡ length (renewals descent.which above (children_of old.read above.id))
-  pub waits : after
-      ≡ before ++ next_of descent.reach descent.which above (children_of old.read above.id)
+  pub next : List Node
+  pub waits : after ≡ before ++ next
+  pub chosen : LeavesOut old.read
+      (next_of descent.reach descent.which above (children_of old.read above.id)) next
 
 -- The outdated ones of these children are renewed in the rows, and those that wait next are added
--- after the objects that wait.
+-- after the objects that wait, perhaps without documents below which nothing stands.
 pub record IsRenewal (descent : Descent) (above : Node) (nodes before after : List Node)
     (old : Rows) (written : ℕ) (new : Rows) : Type 0 where
   pub counted : written ≡ length (renewals descent.which above nodes)
-  pub waits : after ≡ before ++ next_of descent.reach descent.which above nodes
+  pub next : List Node
+  pub waits : after ≡ before ++ next
+  pub chosen : LeavesOut old.read (next_of descent.reach descent.which above nodes) next
   pub stores : new ≡ reading old (with_nodes old.read (renewals descent.which above nodes))
 
--- The child is renewed in the rows, if it is outdated.
-pub record IsRenewed (which : Which) (above child : Node) (old : Rows) (renews : Bool)
+-- The child is renewed in the rows, if it is outdated, and it is told whether it waits next.
+pub record IsRenewed (descent : Descent) (above child : Node) (old : Rows) (waits : Bool)
     (new : Rows) : Type 0 where
-  pub outdated : renews ≡ is_outdated which above child
-  pub stores : new ≡ reading old (with_nodes old.read (renewals which above (child ∷ [])))
+  pub told : TellsWaiting old.read descent.reach descent.which above child waits
+  pub stores : new
+      ≡ reading old (with_nodes old.read (renewals descent.which above (child ∷ [])))
 
 abbrev pub one_if : Bool → ℕ
 one_if test = if test then 1 else 0
@@ -138,11 +163,11 @@ module _ {S : Type 0} (k : Ghosts S) (old new : S) where
       (λ written. written) result (λ _. ⊥) (IsRenewal descent above nodes before after)
 
   -- This child is renewed, if it is outdated and known to the rows.
-  abbrev pub Renews : Which → Node → Node → Result Bool SpreadFault → Type 0
-  Renews which above child result =
+  abbrev pub Renews : Descent → Node → Node → Bool → Result Bool SpreadFault → Type 0
+  Renews descent above child renews result =
       CarriesIf k old new
-      (λ rows. AreKnown which (renewals which above (child ∷ [])) rows.read)
-      one_if result (λ _. ⊥) (IsRenewed which above child)
+      (λ rows. AreKnown descent.which (renewals descent.which above (child ∷ [])) rows.read)
+      (λ _. one_if renews) result (λ _. ⊥) (IsRenewed descent above child)
 
 -- what a list passes to the children of a kind
 abbrev pub to_kind : Passed → ObjKind → List Ace

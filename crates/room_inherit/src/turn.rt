@@ -1,16 +1,18 @@
 //! One turn of carrying lists down: an object's children.
-ghost use Rattle.std.specs.Prelude.{◌≡◌, ◌<◌, ◌≤◌, ◌^◌, ◌++◌, ◌∷◌, [], IfOk, OnOk};
+ghost use Rattle.std.specs.Prelude.{◌≡◌, ◌<◌, ◌≤◌, ◌^◌, ◌++◌, ◌∷◌, false, [], IfOk, OnOk};
+ghost use Rattle.room_rows.specs.Calls.{Reads};
 ghost use Rattle.room_rows.specs.Held.{held_of};
-ghost use Rattle.room_inherit.specs.Turn.{IsPassed, Renews, RenewsAll, Visits};
-ghost use Rattle.room_inherit.specs.Turn.{brought_up, is_outdated, meets_again, next_of};
-ghost use Rattle.room_inherit.specs.Turn.{waits_next};
+ghost use Rattle.room_rows.specs.Keep.{IsUnreadable};
+ghost use Rattle.room_inherit.specs.Turn.{IsChildless, IsPassed, Renews, RenewsAll};
+ghost use Rattle.room_inherit.specs.Turn.{TellsWaiting, Visits, brought_up, is_outdated};
+ghost use Rattle.room_inherit.specs.Turn.{meets_again, waits_next};
 
 use crate::descent::{Descent, Reach};
 use crate::inheriting::{stores, takes_from};
 use crate::outcome::SpreadFault;
 use crate::passed::Passed;
 use room_ace::Which;
-use room_rows::{Keep, Node};
+use room_rows::{Keep, KeepFault, Node};
 use std::alloc::{AllocError, Global};
 
 /// Renews the outdated children of an object, answers how many they are, and adds those that it
@@ -28,10 +30,6 @@ pub(crate) fn visit<K: Keep>(
     ensures few { IfOk result (λ written. written < 2 ^ 63) }
 {
     let children = keep.children(above.id)?;
-    // Most documents end here, before it is worked out what they pass.
-    if children.is_empty() {
-        return Ok(0);
-    }
     if meets_again(children.as_slice(), descent, above) {
         return Err(SpreadFault::Loop);
     }
@@ -84,26 +82,31 @@ fn renew_next<K: Keep>(
         waiting.new.items result }
     ensures one { IfOk result (λ written. written ≤ 1) }
 {
-    let renews = renew(keep, descent.which, passed, &child)?;
-    wait_next(alloc, descent, passed, child, renews, waiting)?;
+    let renews = is_outdated(passed, &child, descent.which);
+    let waits = renew(keep, descent, passed, &child, renews)?;
+    if waits {
+        wait_next(alloc, descent.which, passed, child, renews, waiting)?;
+    }
     Ok(if renews { 1 } else { 0 })
 }
 
-// Renews the child in the rows, if it is outdated, and answers whether it was.
+// Renews the child in the rows, if it is outdated, and answers whether it waits next.
 fn renew<K: Keep>(
     keep: &mut K,
-    which: Which,
+    descent: &Descent,
     passed: &Passed,
     child: &Node,
+    renews: bool,
 ) -> Result<bool, SpreadFault>
-    ensures renewed { (above : Node) → IsPassed (held_of which above) passed.now
-        → Renews K.Keep keep.old keep.new which above child.now result }
+    ensures renewed { (above : Node) → IsPassed (held_of descent.now.which above) passed.now
+        → renews ≡ is_outdated descent.now.which above child.now
+        → Renews K.Keep keep.old keep.new descent.now above child.now renews result }
 {
-    let renews = is_outdated(passed, child, which);
+    let waits = waits_next(keep, &descent.reach, child, renews)?;
     if renews {
-        keep.set_inh(child.id, which, passed.to(child.kind).as_slice())?;
+        keep.set_inh(child.id, descent.which, passed.to(child.kind).as_slice())?;
     }
-    Ok(renews)
+    Ok(waits)
 }
 
 // Whether the child is linked, and stores something else than it is to store.
@@ -116,31 +119,27 @@ fn is_outdated(passed: &Passed, child: &Node, which: Which) -> bool
     is_linked && !stores(held, passed.to(child.kind))
 }
 
-// Adds the child after the others, as it is to be, if it waits next.
-fn wait_next(
-    alloc: Global,
-    descent: &Descent,
-    passed: &Passed,
-    child: Node,
+// Whether the child waits next. A document does only where something stands below it, which damaged
+// rows may have.
+fn waits_next<K: Keep>(
+    keep: &mut K,
+    reach: &Reach,
+    child: &Node,
     renews: bool,
-    waiting: &mut Vec<Node>,
-) -> Result<(), AllocError>
-    ensures { (above : Node) → IsPassed (held_of descent.now.which above) passed.now
-        → renews ≡ is_outdated descent.now.which above child
-        → OnOk result (waiting.new.items ≡ waiting.old.items
-        ++ next_of descent.now.reach descent.now.which above (child ∷ [])) }
+) -> Result<bool, KeepFault>
+    ensures asked { (which : Which) (above : Node) → renews ≡ is_outdated which above child.now
+        → Reads K.Keep keep.old keep.new result IsUnreadable
+        (λ rows waits. TellsWaiting rows.read reach.now which above child.now waits) }
 {
-    let waits = waits_next(&descent.reach, &child, renews);
+    let waits = may_wait(reach, child, renews);
     if waits {
-        let next = brought_up(alloc, passed, child, descent.which, renews)?;
-        waiting.push(next)?;
+        return may_have_below(keep, child);
     }
-    Ok(())
+    Ok(false)
 }
 
-// Whether the child waits next. A renewed document does too, since damaged rows may have objects
-// below it.
-fn waits_next(reach: &Reach, child: &Node, renews: bool) -> bool
+// Whether the child is one of those to which it goes on.
+fn may_wait(reach: &Reach, child: &Node, renews: bool) -> bool
     ensures { (which : Which) (above : Node) → renews ≡ is_outdated which above child.now
         → result ≡ waits_next reach.now which above child.now }
 {
@@ -148,6 +147,37 @@ fn waits_next(reach: &Reach, child: &Node, renews: bool) -> bool
         Reach::Renewed => renews,
         Reach::All => !child.is_document(),
     }
+}
+
+// Whether something may stand below the object. Of a document it is asked.
+fn may_have_below<K: Keep>(keep: &mut K, object: &Node) -> Result<bool, KeepFault>
+    ensures asked { Reads K.Keep keep.old keep.new result IsUnreadable
+        (λ rows may. may ≡ false → IsChildless rows.read object.now) }
+{
+    if object.is_document() {
+        let below = keep.children(object.id)?;
+        return Ok(!below.is_empty());
+    }
+    Ok(true)
+}
+
+// Adds the child after the others, as it is to be.
+fn wait_next(
+    alloc: Global,
+    which: Which,
+    passed: &Passed,
+    child: Node,
+    renews: bool,
+    waiting: &mut Vec<Node>,
+) -> Result<(), AllocError>
+    ensures { (above : Node) → IsPassed (held_of which above) passed.now
+        → renews ≡ is_outdated which above child
+        → OnOk result (waiting.new.items
+        ≡ waiting.old.items ++ brought_up which above child ∷ []) }
+{
+    let next = brought_up(alloc, passed, child, which, renews)?;
+    waiting.push(next)?;
+    Ok(())
 }
 
 // The child, with what it is to inherit where it was renewed.

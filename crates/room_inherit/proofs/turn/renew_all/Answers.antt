@@ -6,8 +6,16 @@ use Rattle.std.proofs.Math.Seq.{drop-length}
 use Rattle.room_rows.specs.declared.node.Node.{Node}
 use Rattle.room_inherit.specs.declared.outcome.SpreadFault.{SpreadFault}
 use Rattle.room_inherit.specs.Turn.{RenewsAll}
-use Rattle.room_inherit.proofs.Calls.{Renewing, rest_of, handed_on, renewing_on, renewing_fails, renewing_ends}
+use Rattle.room_inherit.proofs.Calls.{Renewing, rest_of, handed_on, renewing_begins, renewing_on, renewing_fails, renewing_ends}
 use Rattle.room_inherit.proofs.turn.renew_all.Goals as goal
+
+pub children-init : goal.children-init
+children-init g c = record {
+  renewing = λ above is.
+      renewing_begins g.K.Keep g.met.K.Keep.laws c.args.descent.now above c.args.children.items
+      c.args.waiting.now.items c.args.keep.now;
+  few = omega arith;
+}
 
 pub returns-in_err-written-clause-renewed : goal.returns-in_err-written-clause-renewed
 returns-in_err-written-clause-renewed g c = λ above is.

@@ -1,26 +1,9 @@
-use Rattle.std.proofs.Common.{◌≡◌, false, List, [], Ok, length, sym, ap, subst, ◌∙◌}
-use Rattle.std.proofs.lemmas.Bool.{eqb-true}
+use Rattle.std.proofs.Common.{◌≡◌, false, List, sym, ap, subst, ◌∙◌}
 use Rattle.room_rows.specs.declared.node.Node.{Node}
 use Rattle.room_rows.specs.HeldList.{Held}
 use Rattle.room_inherit.specs.Turn.{IsPassed, RenewsAll, meets_again}
-use Rattle.room_inherit.proofs.Calls.{none_renewed, visited}
-use Rattle.room_inherit.proofs.Members.{no_length}
+use Rattle.room_inherit.proofs.Calls.{visited}
 use Rattle.room_inherit.proofs.turn.visit.Goals as goal
-
-pub returns-then-is_empty-clause-visit : goal.returns-then-is_empty-clause-visit
-returns-then-is_empty-clause-visit g c =
-    let k = g.K.Keep in
-    let laws = g.met.K.Keep.laws in
-    let d = c.args.descent.now in
-    let above = c.args.above.now in
-    let children = c.in_ok-children.children in
-    let before = c.args.waiting.now.items in
-    let none : children ≡ [] = no_length children
-    (eqb-true (length children) 0 (sym c.is_empty.ensures ∙ c.if-is_empty.true)) in
-    visited k laws d above children before (Ok 0) before c.args.keep.now c.children.new.self
-    c.children.new.self c.in_ok-children.ensures.read
-    (ap (meets_again d.which d.start above) none)
-    (none_renewed k laws d above children before none c.children.new.self)
 
 pub returns-clause-visit : goal.returns-clause-visit
 returns-clause-visit g c =

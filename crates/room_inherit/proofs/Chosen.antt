@@ -1,0 +1,291 @@
+-- Documents below which nothing stands, left out of the objects that wait.
+use Rattle.std.proofs.Common.{◌≡◌, ℕ, ◌≤◌, ◌==◌, Bool, true, false, cond, not, ◌&&◌, ◌||◌, List, [], ◌∷◌, ◌++◌, map, filter, length, Option, Some, refl, sym, ap, subst, ◌∙◌, inl, inr, arith}
+use Rattle.std.specs.Prelude.{nat_lt}
+use Rattle.std.specs.List.{list_any}
+use Rattle.std.specs.Option.{option_map_or}
+use Rattle.std.proofs.lemmas.Bool.{cases_Bool, or_cases, or_from, or_left, or_parts, or_right, false≢true, eqb-true, ltb-true}
+use Rattle.room_entry.specs.Ace.{Ace}
+use Rattle.room_entry.specs.Valid.{is_document}
+use Rattle.room_entry.specs.declared.object.Which.{Which}
+use Rattle.room_rows.specs.declared.node.Node.{Node}
+use Rattle.room_rows.specs.Content.{Content, has_parent, is_folder, put_node, sorted_by_name, with_node}
+use Rattle.room_rows.specs.Finding.{find_id}
+use Rattle.room_rows.specs.Held.{held_of}
+use Rattle.room_inherit.specs.declared.descent.Descent.{Descent}
+use Rattle.room_inherit.specs.Spread.{with_lists}
+use Rattle.room_inherit.specs.Turn.{AreKnown, IsChildless, LeavesOut, TellsWaiting, brought_up, is_outdated, next_of, passed_to, put_nodes, renewed, waits_next}
+use Rattle.room_inherit.proofs.Kinship.{same_id, same_kind, same_parent}
+use Rattle.room_inherit.proofs.Members.{Each, any_agree, any_filter, any_map, each_fails, each_filter}
+use Rattle.room_inherit.proofs.Children.{Apart, any_sorted, each_found, has_id}
+use Rattle.room_inherit.proofs.Renewing.{known_other}
+use Rattle.room_inherit.proofs.Frontier.{Frontier, Waits, set, set_parent}
+
+-- ---- what stands below an object
+
+-- an object that is found is one of those with its parent
+found_below : (id i : ℕ) (nodes : List Node) (node : Node) → find_id i nodes ≡ Some node
+    → has_parent id node ≡ true → list_any (has_parent id) nodes ≡ true
+found_below id i nodes node found has = elim (cases_Bool (list_any (has_parent id) nodes)) [
+  | inl some ↦ some
+  | inr none ↦
+      absurd (false≢true (sym (each_found (λ n. has_parent id n ≡ false) i nodes node
+      (each_fails (has_parent id) nodes none) found) ∙ has))
+]
+
+-- an object without children has none with it as their parent
+pub none_below : (id : ℕ) (nodes : List Node)
+    → sorted_by_name (filter (has_parent id) nodes) ≡ [] → list_any (has_parent id) nodes ≡ false
+none_below id nodes none =
+    sym (any_agree (λ n. has_parent id n && true) (has_parent id) nodes (every nodes))
+    ∙ sym (any_filter (λ _. true) (has_parent id) nodes)
+    ∙ sym (any_sorted (λ _. true) (filter (has_parent id) nodes)) ∙ ap (list_any (λ _. true)) none
+  where
+    and_true : (t : Bool) → (t && true) ≡ t
+    and_true true = refl
+    and_true false = refl
+
+    every : (xs : List Node) → Each (λ n. (has_parent id n && true) ≡ has_parent id n) xs
+    every [] = tt
+    every (x ∷ xs) = (and_true (has_parent id x), every xs)
+
+-- an object put in the place of one of its number and its parent
+below_one : (id : ℕ) (new stored : Node) (nodes : List Node)
+    → find_id new.id nodes ≡ Some stored → has_parent id new ≡ has_parent id stored
+    → list_any (has_parent id) (put_node new nodes) ≡ list_any (has_parent id) nodes
+below_one id new stored [] found same = absurd (let wrong : ⊥ = cc in wrong)
+below_one id new stored (x ∷ xs) found same =
+    on (nat_lt x.id new.id) (x.id == new.id) refl refl found (λ later.
+    below_one id new stored xs later same)
+  where
+    more : (t r : Bool) → (t ≡ true → r ≡ true) → (t || r) ≡ r
+    more true r implies = sym (implies refl)
+    more false r implies = refl
+
+    same_some : (y : Node) → Some x ≡ Some y → x ≡ y
+    same_some y e = cc
+
+    on : (s t : Bool) → nat_lt x.id new.id ≡ s → (x.id == new.id) ≡ t
+        → cond t (Some x) (find_id new.id xs) ≡ Some stored
+        → (find_id new.id xs ≡ Some stored
+        → list_any (has_parent id) (put_node new xs) ≡ list_any (has_parent id) xs)
+        → list_any (has_parent id)
+        (cond s (x ∷ put_node new xs) (cond t (new ∷ xs) (new ∷ x ∷ xs)))
+        ≡ list_any (has_parent id) (x ∷ xs)
+    on true true less is found rest =
+        absurd (let below = ltb-true x.id new.id less in let e = eqb-true x.id new.id is in
+        let wrong : ⊥ = omega (arith, below, e) in wrong)
+    on true false less is found rest = ap (λ r. has_parent id x || r) (rest found)
+    on false true less is found rest =
+        ap (λ t. t || list_any (has_parent id) xs)
+        (same ∙ ap (has_parent id) (sym (same_some stored found)))
+    on false false less is found rest =
+        more (has_parent id new) (list_any (has_parent id) (x ∷ xs))
+        (λ has. or_right (has_parent id x) (list_any (has_parent id) xs)
+        (found_below id new.id xs stored found (sym same ∙ has)))
+
+-- putting known objects leaves below which objects something stands
+pub below_put : (which : Which) (content : Content) (nodes : List Node)
+    → AreKnown which nodes content → (id : ℕ)
+    → list_any (has_parent id) (put_nodes nodes content.nodes)
+    ≡ list_any (has_parent id) content.nodes
+below_put which content [] known id = refl
+below_put which content (x ∷ xs) known id =
+    below_put which (with_node content x) xs (known_other which content x xs known.1 known.2) id
+    ∙ below_one id x known.0.0 content.nodes known.0.1
+    (ap (has_parent id) known.0.2
+    ∙ ap (λ (p : Option ℕ). option_map_or (λ parent. parent == id) p false)
+    (same_parent which (held_of which x).inh known.0.0))
+
+-- so do other lists
+pub below_lists : (which : Which) (f : Node → List Ace) (old : Content) (id : ℕ)
+    → list_any (has_parent id) (with_lists which f old).nodes
+    ≡ list_any (has_parent id) old.nodes
+below_lists which f old id =
+    any_map (has_parent id) (set which f) old.nodes
+    ∙ any_agree (λ n. has_parent id (set which f n)) (has_parent id) old.nodes (every old.nodes)
+  where
+    every : (xs : List Node) → Each (λ n. has_parent id (set which f n) ≡ has_parent id n) xs
+    every [] = tt
+    every (x ∷ xs) = (set_parent which f id x, every xs)
+
+-- ---- lists without some documents
+
+-- nothing is left out
+pub all_chosen : (rows : Content) (nodes : List Node) → LeavesOut rows nodes nodes
+all_chosen rows [] = refl
+all_chosen rows (x ∷ xs) = (xs, all_chosen rows xs, inl refl)
+
+-- what is left out of each of two lists is left out of both, one after the other
+pub chosen_append : (rows : Content) (nodes more next last : List Node)
+    → LeavesOut rows nodes next → LeavesOut rows more last
+    → LeavesOut rows (nodes ++ more) (next ++ last)
+chosen_append rows [] more next last none rest =
+    subst (λ (l : List Node). LeavesOut rows more (l ++ last)) (sym none) rest
+chosen_append rows (x ∷ xs) more next last (front, chosen, how) rest = (
+  front ++ last,
+  chosen_append rows xs more front last chosen rest,
+  elim how [
+    | inl kept ↦ inl (ap (λ (l : List Node). l ++ last) kept)
+    | inr left ↦ inr (ap (λ (l : List Node). l ++ last) left.0, left.1)
+  ],
+)
+
+-- the same in rows where something stands below the same objects
+pub chosen_there : (rows now : Content)
+    → ((id : ℕ) → list_any (has_parent id) now.nodes ≡ list_any (has_parent id) rows.nodes)
+    → (nodes next : List Node) → LeavesOut rows nodes next → LeavesOut now nodes next
+chosen_there rows now same [] next chosen = chosen
+chosen_there rows now same (x ∷ xs) next (rest, chosen, how) = (
+  rest,
+  chosen_there rows now same xs rest chosen,
+  elim how [
+    | inl kept ↦ inl kept
+    | inr left ↦ inr (left.0, (left.1.0, same x.id ∙ left.1.1))
+  ],
+)
+
+-- no more are left than there were
+pub chosen_length : (rows : Content) (nodes next : List Node) → LeavesOut rows nodes next
+    → length next ≤ length nodes
+chosen_length rows [] next none = let e = ap length none in omega (arith, e)
+chosen_length rows (x ∷ xs) next (rest, chosen, how) =
+    let less = chosen_length rows xs rest chosen in
+    elim how [
+      | inl kept ↦ let e = ap length kept in omega (arith, e, less)
+      | inr left ↦ let e = ap length left.0 in omega (arith, e, less)
+    ]
+
+-- of folders none is left out
+pub folders_chosen : (rows : Content) (nodes next : List Node)
+    → LeavesOut rows (filter is_folder nodes) next → next ≡ filter is_folder nodes
+folders_chosen rows nodes next chosen =
+    none_left (filter is_folder nodes) next
+    (each_filter (λ n. is_folder n ≡ true) is_folder nodes (every nodes)) chosen
+  where
+    every : (xs : List Node) → Each (λ n. is_folder n ≡ true → is_folder n ≡ true) xs
+    every [] = tt
+    every (x ∷ xs) = (λ is. is, every xs)
+
+    none_left : (xs next : List Node) → Each (λ n. is_folder n ≡ true) xs → LeavesOut rows xs next
+        → next ≡ xs
+    none_left [] next all none = none
+    none_left (x ∷ xs) next all (rest, chosen, how) =
+        let same = none_left xs rest all.1 chosen in
+        elim how [
+          | inl kept ↦ kept ∙ ap (λ (l : List Node). x ∷ l) same
+          | inr left ↦ absurd (false≢true (ap not (sym left.1.0) ∙ all.0))
+        ]
+
+-- ---- the objects that wait
+
+each_chosen : (P : Node → Type 0) (rows : Content) (nodes next : List Node)
+    → LeavesOut rows nodes next → Each P nodes → Each P next
+each_chosen P rows [] next none all = subst (Each P) (sym none) tt
+each_chosen P rows (x ∷ xs) next (rest, chosen, how) all =
+    let few = each_chosen P rows xs rest chosen all.1 in
+    elim how [
+      | inl kept ↦ subst (Each P) (sym kept) (all.0, few)
+      | inr left ↦ subst (Each P) (sym left.0) few
+    ]
+
+unmet : (id : ℕ) (rows : Content) (nodes next : List Node) → LeavesOut rows nodes next
+    → has_id id nodes ≡ false → has_id id next ≡ false
+unmet id rows [] next none is = ap (has_id id) none
+unmet id rows (x ∷ xs) next (rest, chosen, how) is =
+    let parts = or_parts (x.id == id) (has_id id xs) is in
+    let few = unmet id rows xs rest chosen parts.1 in
+    elim how [
+      | inl kept ↦ ap (has_id id) kept ∙ or_from (x.id == id) (has_id id rest) parts.0 few
+      | inr left ↦ ap (has_id id) left.0 ∙ few
+    ]
+
+apart_chosen : (rows : Content) (nodes next : List Node) → LeavesOut rows nodes next → Apart nodes
+    → Apart next
+apart_chosen rows [] next none apart = subst Apart (sym none) tt
+apart_chosen rows (x ∷ xs) next (rest, chosen, how) apart =
+    let few = apart_chosen rows xs rest chosen apart.1 in
+    elim how [
+      | inl kept ↦ subst Apart (sym kept) (unmet x.id rows xs rest chosen apart.0, few)
+      | inr left ↦ subst Apart (sym left.0) few
+    ]
+
+-- an object below which something stands still waits
+still_waits : (id : ℕ) (rows : Content) (nodes next : List Node) → LeavesOut rows nodes next
+    → list_any (has_parent id) rows.nodes ≡ true → has_id id nodes ≡ true → has_id id next ≡ true
+still_waits id rows [] next none some is = absurd (false≢true is)
+still_waits id rows (x ∷ xs) next (rest, chosen, how) some is =
+    elim (or_cases (x.id == id) (has_id id xs) is) [
+      | inl here ↦ elim how [
+        | inl kept ↦ ap (has_id id) kept ∙ or_left (x.id == id) (has_id id rest) here
+        | inr left ↦
+            absurd (false≢true (sym left.1.1
+            ∙ ap (λ i. list_any (has_parent i) rows.nodes) (eqb-true x.id id here) ∙ some))
+      ]
+      | inr later ↦
+          let few = still_waits id rows xs rest chosen some later in
+          elim how [
+            | inl kept ↦ ap (has_id id) kept ∙ or_right (x.id == id) (has_id id rest) few
+            | inr left ↦ ap (has_id id) left.0 ∙ few
+          ]
+    ]
+
+module _ (which : Which) (start : ℕ) (old : Content) (f : Node → List Ace) where
+  -- documents below which nothing stands needn't wait
+  pub frontier_chosen : (nodes next : List Node) → LeavesOut old nodes next
+      → Frontier which start old f nodes → Frontier which start old f next
+  frontier_chosen nodes next chosen front = record {
+    known = each_chosen (Waits which start old f) old nodes next chosen front.known;
+    apart = apart_chosen old nodes next chosen front.apart;
+    came = λ n there changed.
+        let c = front.came n there changed in
+        record {
+          isnt_start = c.isnt_start;
+          below = c.below;
+          parent = c.parent;
+          there = c.there;
+          has = c.has;
+          reached = c.reached;
+          taken = unmet c.parent.id old nodes next chosen c.taken;
+          agrees = c.agrees;
+        };
+    law = λ but n p there there' has link. elim (front.law but n p there there' has link) [
+      | inl waiting ↦
+          inl (still_waits p.id old nodes next chosen (found_below p.id n.id old.nodes n there has)
+          waiting)
+      | inr agrees ↦ inr agrees
+    ];
+  }
+
+-- ---- one child
+
+-- one child waits next, or is left out
+pub one_chosen : (rows : Content) (d : Descent) (above child : Node) (waits : Bool)
+    → TellsWaiting rows d.reach d.which above child waits
+    → LeavesOut rows (next_of d.reach d.which above (child ∷ []))
+    (cond waits (brought_up d.which above child ∷ []) [])
+one_chosen rows d above child waits (inl told) =
+    subst (LeavesOut rows (next_of d.reach d.which above (child ∷ [])))
+    (on (waits_next d.reach d.which above child)
+    ∙ ap (λ t. cond t (brought_up d.which above child ∷ []) []) (sym told))
+    (all_chosen rows (next_of d.reach d.which above (child ∷ [])))
+  where
+    on : (t : Bool) → map (brought_up d.which above) (cond t (child ∷ []) [])
+        ≡ cond t (brought_up d.which above child ∷ []) []
+    on true = refl
+    on false = refl
+one_chosen rows d above child waits (inr (stays, childless)) =
+    subst (λ t. LeavesOut rows (next_of d.reach d.which above (child ∷ []))
+    (cond t (brought_up d.which above child ∷ []) [])) (sym stays)
+    (on (waits_next d.reach d.which above child))
+  where
+    still : (t : Bool) → IsChildless rows (cond t (renewed d.which above child) child)
+    still true = (
+      ap is_document (same_kind d.which (passed_to d.which above child) child) ∙ childless.0,
+      ap (λ i. list_any (has_parent i) rows.nodes)
+          (same_id d.which (passed_to d.which above child) child) ∙ childless.1,
+    )
+    still false = childless
+
+    on : (t : Bool) → LeavesOut rows (map (brought_up d.which above) (cond t (child ∷ []) [])) []
+    on true = ([], refl, inr (refl, still (is_outdated d.which above child)))
+    on false = refl
