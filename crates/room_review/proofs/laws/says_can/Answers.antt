@@ -1,0 +1,5 @@
+use Rattle.room_review.proofs.Ways as ways
+use Rattle.room_review.proofs.laws.says_can.Goals as goal
+
+pub returns : goal.returns
+returns c = ways.says_can

@@ -1,0 +1,137 @@
+-- Laws of a review: what a row says is what the room would answer.
+use Rattle.std.specs.Prelude.{◌≡◌, ℕ, ℤ, ◌||◌, Bool, true, false, not, List, [], ◌∷◌, Option, Some}
+use Rattle.std.specs.Prelude.{IsTrue, if◌then◌else◌}
+use Rattle.std.specs.List.{flat_map, list_all, list_any}
+use Rattle.room_entry.specs.Ace.{Ace}
+use Rattle.room_entry.specs.Bits.{all_bits}
+use Rattle.room_entry.specs.Pieces.{same_text}
+use Rattle.room_entry.specs.declared.entry.Who.{Who}
+use Rattle.room_entry.specs.declared.entry.Who.TheVariants.{Owner, Group, Everyone, Anonymous}
+use Rattle.room_entry.specs.declared.entry.Who.TheVariants.{Authenticated, User, Members}
+use Rattle.room_entry.specs.declared.object.Which.TheVariants.{Dacl}
+use Rattle.room_eval.specs.Verdict.{is_allowed}
+use Rattle.room_rows.specs.declared.node.Node.{Node}
+use Rattle.room_rows.specs.Content.{Content, is_folder}
+use Rattle.room_rows.specs.Held.{full_of}
+use Rattle.room_machine.specs.declared.reply.Reason.{Reason}
+use Rattle.room_machine.specs.declared.reply.Reason.TheVariants.{NoSuch, NotFolder, WrongKind}
+use Rattle.room_machine.specs.declared.reply.Reason.TheVariants.{Exists, NotEmpty, Root, Loop}
+use Rattle.room_machine.specs.declared.reply.Reason.TheVariants.{BadList, TooLarge}
+use Rattle.room_machine.specs.declared.reply.Reply.{Reply}
+use Rattle.room_machine.specs.declared.reply.Reply.TheVariants.{Bytes, Names, Lists, Attr, Rulings}
+use Rattle.room_machine.specs.declared.reply.Reply.TheVariants.{Made, Done, Denied, Refused}
+use Rattle.room_machine.specs.declared.request.Request.{Request}
+use Rattle.room_machine.specs.declared.request.Request.TheVariants.{Can, Remove}
+use Rattle.room_machine.specs.Site.{Site, full_at, site_at, sites_along}
+use Rattle.room_machine.specs.Step.{Step}
+use Rattle.room_review.specs.Rights.{may_remove_at, reaches_at, rights_at, sites_above}
+
+-- ---- what replies say of rights
+
+-- the bits that a reply to `Can` calls allowed
+abbrev pub allowed_in : Reply → List ℕ
+allowed_in (Rulings pairs) = flat_map (λ pair. if is_allowed pair.1 then pair.0 else []) pairs
+allowed_in _ = []
+
+abbrev pub is_rulings : Reply → Bool
+is_rulings (Rulings pairs) = true
+is_rulings _ = false
+
+abbrev pub is_denial : Reply → Bool
+is_denial (Denied at bits place entry) = true
+is_denial _ = false
+
+abbrev pub is_not_empty : Reason → Bool
+is_not_empty NotEmpty = true
+is_not_empty _ = false
+
+-- The reply to a `Remove` that passed its rights: it is done, or refused since the folder has
+-- children, which is looked at after the rights.
+abbrev pub passed_rights : Reply → Bool
+passed_rights Done = true
+passed_rights (Refused at why) = is_not_empty why
+passed_rights _ = false
+
+-- ---- the laws
+
+-- The rights of a row are exactly those that the reply to `Can` on all bits calls allowed. There
+-- are rulings exactly where the row's caller comes to the object. Where it doesn't, and all that
+-- lies before the object are folders, as in every content, the reply is a denial.
+abbrev pub SaysCan : Type 0
+SaysCan =
+    (content : Content) (user : Option (List ℕ)) (moment : ℤ) (path : List (List ℕ))
+    (target : Site) (reply : Reply) (after : Content) →
+    site_at (sites_along content path) path ≡ Some target →
+    Step content user moment (Can path all_bits) reply after →
+    (rights_at content user path ≡ allowed_in reply)
+    × (reaches_at content user path ≡ is_rulings reply)
+    × (IsTrue (list_all (λ site. is_folder site.node) (sites_above content path))
+    → not (reaches_at content user path) ≡ is_denial reply)
+
+-- `remove` is yes exactly where the reply to `Remove` is one that passed its rights.
+abbrev pub SaysRemove : Type 0
+SaysRemove =
+    (content : Content) (user : Option (List ℕ)) (moment : ℤ) (path : List (List ℕ))
+    (target : Site) (reply : Reply) (after : Content) →
+    site_at (sites_along content path) path ≡ Some target →
+    Step content user moment (Remove path) reply after →
+    may_remove_at content user path ≡ passed_rights reply
+
+-- ---- strangers
+
+abbrev pub is_user_named : List ℕ → Who → Bool
+is_user_named name Owner = false
+is_user_named name Group = false
+is_user_named name Everyone = false
+is_user_named name Anonymous = false
+is_user_named name Authenticated = false
+is_user_named name (User other) = same_text name other
+is_user_named name (Members group) = false
+
+-- the name owns the object, or an entry of its dacl names it
+abbrev pub is_known_at : List ℕ → Site → Bool
+is_known_at name site =
+    same_text name site.node.owners.owner
+    || list_any (λ entry. is_user_named name entry.who) (full_at Dacl site)
+
+-- the name is in a pair
+abbrev pub is_paired : Content → List ℕ → Bool
+is_paired content name = list_any (λ pair. same_text pair.1 name) content.members
+
+-- The name is in no pair, owns nothing on the way to the path's object nor that object, and stands
+-- in none of their dacls. So a review of the object has no row of this name.
+abbrev pub IsStranger : Content → List (List ℕ) → List ℕ → Type 0
+IsStranger content path name =
+    IsTrue (not (is_paired content name))
+    × IsTrue (list_all (λ site. not (is_known_at name site)) (sites_along content path))
+
+-- Two names that are strangers to an object have the same rights at it, and may both remove it or
+-- both not.
+abbrev pub StrangersAlike : Type 0
+StrangersAlike =
+    (content : Content) (path : List (List ℕ)) (name other : List ℕ) →
+    IsStranger content path name → IsStranger content path other →
+    (rights_at content (Some name) path ≡ rights_at content (Some other) path)
+    × (may_remove_at content (Some name) path ≡ may_remove_at content (Some other) path)
+
+-- the name owns the object, or an entry of its dacl, own or kept, names it
+abbrev pub is_known_to : List ℕ → Node → Bool
+is_known_to name node =
+    same_text name node.owners.owner
+    || list_any (λ entry. is_user_named name entry.who) (full_of node.dacl)
+
+-- The name is in no pair, owns nothing, and stands in no dacl.
+abbrev pub IsUnknownIn : Content → List ℕ → Type 0
+IsUnknownIn content name =
+    IsTrue (not (is_paired content name))
+    × IsTrue (list_all (λ node. not (is_known_to name node)) content.nodes)
+
+-- Two names that a content doesn't know get the same reply to each request. What differs is the
+-- name in what is created and recorded.
+abbrev pub StrangersGetTheSame : Type 0
+StrangersGetTheSame =
+    (content : Content) (name other : List ℕ) (moment : ℤ) (request : Request)
+    (reply another : Reply) (after later : Content) →
+    IsUnknownIn content name → IsUnknownIn content other →
+    Step content (Some name) moment request reply after →
+    Step content (Some other) moment request another later → reply ≡ another
