@@ -35,10 +35,10 @@ pub(crate) fn move_object<K: Keep>(
     ensures done { Tries K.Keep walk.old.keep.now walk.new.keep.now result IsDamaged
         (Serves walk.old.asker.now (Move path.now to.now)) }
 {
+    let root = walk.keep.root()?;
     if path.is_root() {
         return Err(refusal(walk.alloc, path, 0, Reason::Root));
     }
-    let root = walk.keep.root()?;
     let pair = walk.to_pair_from(path, &root)?;
     let moving = Moving {
         path,

@@ -1,5 +1,5 @@
 //! The request that removes an object.
-ghost use Rattle.std.specs.Prelude.{◌≡◌};
+ghost use Rattle.std.specs.Prelude.{◌≡◌, []};
 ghost use Rattle.room_rows.specs.Keep.{IsDamaged, IsUnreadable};
 ghost use Rattle.room_judge.specs.Halted.{Serves, Tries, replied};
 ghost use Rattle.room_judge.specs.Stored.{found_site};
@@ -19,10 +19,22 @@ pub(crate) fn remove<K: Keep>(walk: &mut Walk<'_, K>, path: &Path) -> Result<Rep
 {
     let is_root = path.names().is_empty();
     if is_root {
-        return Err(refusal(walk.alloc, path, 0, Reason::Root));
+        return keep_root(walk, path);
     }
     let pair = walk.to_pair(path)?;
     remove_from(walk, path, &pair.target, &pair.folder)
+}
+
+// Refuses to remove the root, which has to be there.
+fn keep_root<K: Keep>(walk: &mut Walk<'_, K>, path: &Path) -> Result<Reply, Halt>
+    requires { path.now ≡ [] }
+    ensures same_keep { walk.new.keep.ghost_name ≡ walk.old.keep.ghost_name }
+    ensures same_asker { walk.new.asker.now ≡ walk.old.asker.now }
+    ensures done { Tries K.Keep walk.old.keep.now walk.new.keep.now result IsDamaged
+        (Serves walk.old.asker.now (Remove path.now)) }
+{
+    walk.keep.root()?;
+    Err(refusal(walk.alloc, path, 0, Reason::Root))
 }
 
 // Removes an object from its folder, where the caller may delete it and it has no children.

@@ -540,12 +540,6 @@ module _ {S : Type 0} (k : Ghosts S)
   one_fails e before after a b failed =
       record { follows = failed.follows; written = tt; becomes = λ t. tt; fault = failed.fault }
 
-  pub one_forgotten : (waits : Bool) (before after : List Node) (a b : S)
-      → Renews k a b d above child renews (Ok waits)
-      → RenewsAll k a b d above (child ∷ []) before after (Err (Keeper Memory))
-  one_forgotten waits before after a b done =
-      record { follows = done.follows; written = tt; becomes = λ t. tt; fault = tt }
-
   pub one_renewed : (waits : Bool) (before after : List Node) (number : ℕ) (a b : S)
       → Renews k a b d above child renews (Ok waits) → number ≡ one_if renews
       → after ≡ before ++ cond waits (brought_up d.which above child ∷ []) []

@@ -1,17 +1,17 @@
 -- Requests that were judged by the stored lists.
 use Rattle.std.proofs.Common.{◌≡◌, ℕ, Bool, true, false, List, [], ◌∷◌, Option, Some, None, refl, sym, ap, subst, ◌∙◌, inl, inr}
-use Rattle.std.specs.Prelude.{◌⊎◌, IsTrue, is_some, ◌||◌, if◌then◌else◌}
+use Rattle.std.specs.Prelude.{IsTrue, is_some, ◌||◌, if◌then◌else◌}
 use Rattle.room_entry.specs.declared.parties.Caller.{Caller}
 use Rattle.room_eval.specs.declared.outcome.Verdict.{Verdict}
 use Rattle.room_eval.specs.declared.outcome.Verdict.TheVariants.{Granted, Denied as DeniedWith}
 use Rattle.room_eval.specs.declared.deletion.DeleteVerdict.{DeleteVerdict}
 use Rattle.room_eval.specs.declared.deletion.DeleteVerdict.TheVariants.{Granted as MayDelete}
 use Rattle.room_eval.specs.declared.deletion.DeleteVerdict.TheVariants.{AtTarget, AtParent}
-use Rattle.room_rows.specs.Content.{root_of}
 use Rattle.room_rows.specs.Rows.{Rows}
 use Rattle.room_machine.specs.declared.reply.Reply.{Reply}
 use Rattle.room_machine.specs.declared.reply.Reply.TheVariants.{Refused}
 use Rattle.room_machine.specs.declared.reply.Reason.{Reason}
+use Rattle.room_machine.specs.declared.reply.Reason.TheVariants.{NotEmpty}
 use Rattle.room_machine.specs.declared.request.Request.{Request}
 use Rattle.room_machine.specs.Site.{Site}
 use Rattle.room_machine.specs.Plan.{Item, Check, Deletion, Refusal}
@@ -77,24 +77,23 @@ module _ (asker : Asker) (request : Request) (old : Rows) (reply : Reply) where
       some_none : Some reply ≡ None → ⊥
       some_none is = cc
 
-  -- none fails, and a damaged room refuses the request
-  pub closed_more : (new : Rows) (path : List (List ℕ)) (why : Reason)
-      → IsJudged asker (stored_plan old.read request) old None new → reply ≡ Refused path why
-      → (old.unreadable ≡ [] → ⊥) ⊎ (root_of old.read ≡ None) → IsClosed asker request old reply new
-  closed_more new path why judged refused damaged = record {
+  -- none fails, and a removal is refused for a row that can't be read
+  pub closed_more : (new : Rows) (path : List (List ℕ))
+      → IsJudged asker (stored_plan old.read request) old None new → reply ≡ Refused path NotEmpty
+      → (old.unreadable ≡ [] → ⊥) → IsClosed asker request old reply new
+  closed_more new path judged refused unread = record {
     judged = inr (record {
       path = path;
-      why = why;
       refused = refused;
       passes = sym judged.answers;
-      damaged = damaged;
+      unread = unread;
     });
     records = ap (λ (r : Rows). r.read.audits) judged.notes;
     unchanged = λ _. judged.notes;
     shown = λ none. absurd (some_none (sym (ap failure_told refused) ∙ none));
   }
     where
-      some_none : Some (Refused path why) ≡ None → ⊥
+      some_none : Some (Refused path NotEmpty) ≡ None → ⊥
       some_none is = cc
 
   -- none fails, and nothing but records is changed

@@ -5,14 +5,14 @@ use Rattle.std.specs.Prelude.{Option, Some, None, is_some, IsTrue}
 use Rattle.room_entry.specs.declared.object.ObjKind.{ObjKind}
 use Rattle.room_entry.specs.declared.parties.Caller.{Caller}
 use Rattle.room_rows.specs.declared.node.AuditRow.{AuditRow}
-use Rattle.room_rows.specs.Content.{Content, body_of, root_of, with_records}
+use Rattle.room_rows.specs.Content.{Content, body_of, with_records}
 use Rattle.room_rows.specs.Held.{held_of}
 use Rattle.room_rows.specs.Keep.{reading}
 use Rattle.room_rows.specs.Rows.{Rows}
 use Rattle.room_machine.specs.declared.reply.Reply.{Reply}
 use Rattle.room_machine.specs.declared.reply.Reply.TheVariants.{Bytes, Names, Lists, Attr, Rulings}
 use Rattle.room_machine.specs.declared.reply.Reply.TheVariants.{Made, Done, Denied, Refused}
-use Rattle.room_machine.specs.declared.reply.Reason.{Reason}
+use Rattle.room_machine.specs.declared.reply.Reason.TheVariants.{NotEmpty}
 use Rattle.room_machine.specs.declared.request.Request.{Request}
 use Rattle.room_machine.specs.declared.request.Request.TheVariants.{Read, List as ListFolder, Put}
 use Rattle.room_machine.specs.declared.request.Request.TheVariants.{Append, MakeFolder, Remove}
@@ -36,15 +36,13 @@ failure_told Done = None
 failure_told (Denied path bits place entry) = Some (Denied path bits place entry)
 failure_told (Refused path why) = Some (Refused path why)
 
--- Rows of which some can't be read, or that have no root, may be refused more than the plan says: an
--- object whose children can't all be read isn't removed, and what would be at the root's place isn't
--- looked for.
+-- Where rows can't be read, more may be refused than the plan says: an object isn't removed if such a
+-- row may be its child.
 pub record RefusesMore (rows : Rows) (reply : Reply) (failure : Option Reply) : Type 0 where
   pub path : List (List ℕ)
-  pub why : Reason
-  pub refused : reply ≡ Refused path why
+  pub refused : reply ≡ Refused path NotEmpty
   pub passes : failure ≡ None
-  pub damaged : (rows.unreadable ≡ [] → ⊥) ⊎ (root_of rows.read ≡ None)
+  pub unread : rows.unreadable ≡ [] → ⊥
 
 -- the reply tells the first failure, if there is one, and no other
 abbrev pub TellsFailure : Rows → Reply → Option Reply → Type 0

@@ -358,9 +358,6 @@ module _ (a b : List ℕ) where
 
     -- ---- what is done
 
-    abbrev AreSame : Reply × Content → Reply × Content → Type 0
-    AreSame one other = one.0 ≡ other.0
-
     found_same : (o : Option Site) (f g : Site → Reply × Content)
         → ((site : Site) → o ≡ Some site → (f site).0 ≡ (g site).0)
         → (option_map_or f o (Done, content)).0 ≡ (option_map_or g o (Done, content)).0

@@ -279,8 +279,8 @@ module _ (asker : Asker) (path : List (List ℕ)) where
           ∙ ap (λ (r : Rows). not (is_empty (children_of r.read id))) granted.notes
           ∙ ap not none)) in (
             λ known sound. absurd (hidden (none_unreadable old (sound_parts old sound))),
-            closed_more asker (Remove path) old reply new path NotEmpty
-                (none_fails new same none) replies (inl hidden),
+            closed_more asker (Remove path) old reply new path (none_fails new same none) replies
+                hidden,
           )
 
       on_children : (has_some : Bool) → HasChildren id last has_some → (new : Rows) (reply : Reply)
@@ -318,30 +318,16 @@ module _ (asker : Asker) (path : List (List ℕ)) where
 
 -- ---- the root
 
-pub root_kept : (asker : Asker) (old new : Rows) (reply : Reply) → AreRows old
-    → reply ≡ Refused [] Root → new ≡ old → IsServed asker (Remove []) old reply new
-root_kept asker old new reply are replies same = on (root_of old.read) refl
+pub root_kept : (asker : Asker) (root : Node) (old new : Rows) (reply : Reply) → AreRows old
+    → root_of old.read ≡ Some root → reply ≡ Refused [] Root → new ≡ old
+    → IsServed asker (Remove []) old reply new
+root_kept asker root old new reply are is replies same =
+    not_removed asker [] old new reply are
+    (subst (λ list. IsJudged asker list old (Some reply) new) plan_is
+    (refuses asker [] Root true [] old new reply replies refl same))
   where
-    plan_is : (o : Option Node) → root_of old.read ≡ o
-        → items_along asker [] old.read
-        (option_map_or (λ root. stored_from old.read [] root []) o [])
+    plan_is : items_along asker [] old.read (stored_from old.read [] root [])
         ≡ stored_plan old.read (Remove [])
-    plan_is o is =
+    plan_is =
         sym (ap (λ o. items_along asker [] old.read
         (option_map_or (λ root. stored_from old.read [] root []) o [])) is)
-
-    on : (o : Option Node) → root_of old.read ≡ o → IsServed asker (Remove []) old reply new
-    on (Some root) is =
-        not_removed asker [] old new reply are
-        (subst (λ list. IsJudged asker list old (Some reply) new) (plan_is (Some root) is)
-        (refuses asker [] Root true [] old new reply replies refl same))
-    on None is = (
-      λ known sound. absurd (none_some (root_there old.read.nodes (sound_parts old sound).root) is),
-      closed_more asker (Remove []) old reply new [] Root
-          (subst (λ list. IsJudged asker list old None new) (plan_is None is)
-          (judged_none asker old new same)) replies (inr is),
-    )
-      where
-        none_some : (there : (root : Node) × (root_of old.read ≡ Some root))
-            → root_of old.read ≡ None → ⊥
-        none_some there is = let wrong : Some there.0 ≡ None = sym there.1 ∙ is in cc

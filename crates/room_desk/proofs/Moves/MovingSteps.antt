@@ -1,5 +1,5 @@
 -- A move is a step.
-use Rattle.std.proofs.Common.{◌≡◌, ℕ, ◌<◌, ◌==◌, Bool, true, false, List, [], ◌∷◌, ◌++◌, length, take, Option, Some, None, refl, sym, ap, subst, ◌∙◌, inr, arith}
+use Rattle.std.proofs.Common.{◌≡◌, ℕ, ◌<◌, ◌==◌, Bool, true, false, List, [], ◌∷◌, ◌++◌, length, take, Option, Some, None, refl, sym, ap, subst, ◌∙◌, arith}
 use Rattle.std.specs.Option.{option_map_or}
 use Rattle.std.proofs.lemmas.Bool.{eqb-true}
 use Rattle.std.proofs.Math.Seq.{take-length}
@@ -27,12 +27,12 @@ use Rattle.room_machine.specs.Effect.{moved_node, with_site}
 use Rattle.room_machine.specs.Stored.{stored_site, stored_from, stored_along, to_stored}
 use Rattle.room_judge.specs.Stored.{found_site}
 use Rattle.room_judge.specs.Spot.{IsPaired}
-use Rattle.room_judge.specs.Closed.{IsClosed, IsServed}
-use Rattle.room_judge.proofs.Closing.{closed_done, closed_failed, closed_more}
+use Rattle.room_judge.specs.Closed.{IsServed}
+use Rattle.room_judge.proofs.Closing.{closed_done, closed_failed}
 use Rattle.room_judge.specs.Judged.{CarriesOut, FromRoot, IsJudged, IsReached, noted}
 use Rattle.room_desk.specs.Moving.{CanGo, CanPlace, FailsToPlace, IsPlaced, at_place, begins}
 use Rattle.room_desk.proofs.Sound.Filled.{IsTarget, target_there}
-use Rattle.room_judge.proofs.Judging.{failure_of_parts, fails_first, judged_none, passes_first, passes_on, refuses}
+use Rattle.room_judge.proofs.Judging.{failure_of_parts, fails_first, passes_first, passes_on, refuses}
 use Rattle.room_desk.proofs.Moves.MovingFacts.{IsFree, all_passed, goable, placeable}
 use Rattle.room_desk.proofs.Moves.MovingPlan.{along_noted, at_found, move_judged, move_stored, stored_items, stored_move, way_noted}
 use Rattle.room_desk.proofs.Sound.Blamed.{noted_unread}
@@ -44,45 +44,30 @@ use Rattle.room_desk.proofs.Steps.Stepping.{changed_step, refused_step}
 -- ---- at the root, and where the way ends
 
 module _ (asker : Asker) (path to : List (List ℕ)) where
-  pub root_stays : (old new : Rows) (reply : Reply) → AreRows old → path ≡ []
-      → reply ≡ Refused (take 0 path) Root → new ≡ old
+  pub root_stays : (root : Node) (old new : Rows) (reply : Reply) → AreRows old → path ≡ []
+      → root_of old.read ≡ Some root → reply ≡ Refused (take 0 path) Root → new ≡ old
       → IsServed asker (Move path to) old reply new
-  root_stays old new reply are is replies same = (
-    λ known sound.
-        let root = root_there old.read.nodes (sound_parts old sound).root in
-        refused_step asker (Move path to) old known sound new reply
-        (move_judged old are (sound_parts old sound) asker path to new (Some reply)
-        (subst (λ p. IsJudged asker (stored_move old.read p to) old (Some reply) new)
-        (sym is) (judged root.0 root.1))),
-    subst (λ p. IsClosed asker (Move p to) old reply new) (sym is) (closed (root_of old.read) refl),
+  root_stays root old new reply are is is_root replies same = (
+    λ known sound. refused_step asker (Move path to) old known sound new reply
+        (move_judged old are (sound_parts old sound) asker path to new (Some reply) judged),
+    closed_failed asker (Move path to) old reply new
+        (move_stored old are asker path to new (Some reply) judged),
   )
     where
-      replies_root : reply ≡ Refused [] Root
-      replies_root = replies ∙ ap (λ p. Refused (take 0 p) Root) is
-
-      judged : (root : Node) → root_of old.read ≡ Some root
-          → IsJudged asker (stored_move old.read [] to) old (Some reply) new
-      judged root is_root =
+      at_root : IsJudged asker (stored_move old.read [] to) old (Some reply) new
+      at_root =
           subst
           (λ o. IsJudged asker
           (way false (option_map_or (λ r. stored_from old.read [] r []) o []) []
           ++ where_found (site_at (option_map_or (λ r. stored_from old.read [] r []) o []) [])
           (at_found old.read [] to)) old (Some reply) new) (sym is_root)
-          (refuses asker [] Root true [] old new reply replies_root refl same)
+          (refuses asker [] Root true [] old new reply
+          (replies ∙ ap (λ p. Refused (take 0 p) Root) is) refl same)
 
-      closed : (o : Option Node) → root_of old.read ≡ o → IsClosed asker (Move [] to) old reply new
-      closed (Some root) is_root =
-          closed_failed asker (Move [] to) old reply new
-          (move_stored old are asker [] to new (Some reply) (judged root is_root))
-      closed None none =
-          closed_more asker (Move [] to) old reply new [] Root
-          (move_stored old are asker [] to new None
-          (subst
-          (λ o. IsJudged asker
-          (way false (option_map_or (λ r. stored_from old.read [] r []) o []) []
-          ++ where_found (site_at (option_map_or (λ r. stored_from old.read [] r []) o []) [])
-          (at_found old.read [] to)) old None new) (sym none) (judged_none asker old new same)))
-          replies_root (inr none)
+      judged : IsJudged asker (stored_move old.read path to) old (Some reply) new
+      judged =
+          subst (λ p. IsJudged asker (stored_move old.read p to) old (Some reply) new) (sym is)
+          at_root
 
   pub way_halted : (old new : Rows) (reply : Reply) → AreRows old
       → IsPaired asker path old (Halted reply) new → IsServed asker (Move path to) old reply new

@@ -66,9 +66,11 @@ owners_changed : (asker : Asker) (path : List (List ℕ)) (owners : Owners) (old
     → IsReached asker path (CheckAt (write_owner ∷ [])) old (At node) mid
     → Changes node.id (with_owners owners) mid new
     → IsServed asker (SetOwners path owners) old Done new
-owners_changed asker path owners old mid new node are reached changes =
-    (carried, closed_done asker (SetOwners path owners) old Done mid new reached.judged refl refl
-    (ap (λ (r : Rows). r.read.audits) new_is) refl)
+owners_changed asker path owners old mid new node are reached changes = (
+  carried,
+  closed_done asker (SetOwners path owners) old Done mid new reached.judged refl refl
+      (ap (λ (r : Rows). r.read.audits) new_is) refl,
+)
   where
     there : node_at old.read node.id ≡ Some node
     there = along_there old.read are.numbers path (stored_site path node) reached.found

@@ -184,8 +184,7 @@ module _ (asker : Asker) (path : List (List ℕ)) where
       ∙ ap (λ l. Lists (held_of which (fill target).node).flags l) (sym (fulls_of which target))
       ∙ ap (λ (s : Site). Lists (held_of which s.node).flags (full_at which s)) filled
       ∙ ap (λ l. Lists (held_of which node).flags l) (stored_full which path node) ∙ sym replies)
-      (ap failure_told replies)
-      (
+      (ap failure_told replies) (
         stored_site path node,
         reached.found,
         replies ∙ ap (λ l. Lists (held_of which node).flags l) (sym (stored_full which path node)),

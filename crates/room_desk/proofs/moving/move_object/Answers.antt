@@ -19,11 +19,12 @@ pub returns-then-is_root-clause-done : goal.returns-then-is_root-clause-done
 returns-then-is_root-clause-done g c =
     let m = g.met.K.Keep in
     let path = c.args.path.now in
-    refused_as m.laws (none_done m.laws c.args.walk.now.keep.now) c.refusal.result
+    refused_as m.laws (done (of_read c.in_ok-root.ensures.read)) c.refusal.result
     (Refused (take 0 path) Root) c.refusal.ensures
-    (λ old new are same.
-    root_stays c.args.walk.now.asker.now path c.args.to.now old new (Refused (take 0 path) Root) are
-    (empty_path path c.is_root.result c.is_root.ensures c.if-is_root.true) refl same)
+    (λ old new are both.
+    root_stays c.args.walk.now.asker.now path c.args.to.now c.in_ok-root.root old new
+    (Refused (take 0 path) Root) are
+    (empty_path path c.is_root.result c.is_root.ensures c.if-is_root.true) both.0 refl both.1)
 
 pub returns-in_err-root-clause-done : goal.returns-in_err-root-clause-done
 returns-in_err-root-clause-done g c =

@@ -22,19 +22,10 @@ some_names [] names t same is holds =
     absurd (false≢true (sym holds ∙ is ∙ ap (λ (l : List (List ℕ)). length l == 0) same))
 some_names (name ∷ more) names t same is holds = refl
 
-pub returns-then-is_root-clause-done : goal.returns-then-is_root-clause-done
-returns-then-is_root-clause-done g c =
-    let m = g.met.K.Keep in
-    let path = c.args.path.now in
-    let at_root : path ≡ [] =
-    no_names path c.names.result.now c.is_empty-is_root.result c.names.ensures
-    c.is_empty-is_root.ensures c.if-is_root.true in
-    refused_as m.laws (none_done m.laws c.args.walk.now.keep.now) c.refusal.result
-    (Refused (take 0 path) Root) c.refusal.ensures (λ old new are same.
-    subst (λ (p : List (List ℕ)). IsServed c.args.walk.now.asker.now (Remove p) old
-    (Refused (take 0 path) Root) new) (sym at_root)
-    (root_kept c.args.walk.now.asker.now old new (Refused (take 0 path) Root) are
-    (ap (λ (p : List (List ℕ)). Refused (take 0 p) Root) at_root) same))
+pub keep_root-requires : goal.keep_root-requires
+keep_root-requires g c =
+    no_names c.args.path.now c.names.result.now c.is_empty-is_root.result c.names.ensures
+    c.is_empty-is_root.ensures c.if-is_root.true
 
 pub returns-in_err-pair-clause-done : goal.returns-in_err-pair-clause-done
 returns-in_err-pair-clause-done g c =
