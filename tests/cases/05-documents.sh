@@ -1,4 +1,5 @@
 # The documents: each link leads to a file or a heading that is there, and lines are no longer than 100 columns.
+# The proofs: each lemma is named somewhere.
 
 top=$here/..
 
@@ -77,8 +78,18 @@ none 'links of the installed pages' found
 if has python3; then
   "$top/tools/crates" --check >found
   none 'the tables of crates' found
+  "$top/tools/unused" >found 2>&1 && : >found
+  none 'lemmas that nothing names' found
+
+  # It finds a lemma that nothing names.
+  mkdir -p spare/crates/one/proofs spare/tools
+  printf '%s\n' 'pub spare : (t : Bool) → t ≡ t' 'spare t = refl' >spare/crates/one/proofs/Spare.antt
+  cp "$top/tools/unused" spare/tools
+  spare/tools/unused >found
+  printf '%s\n' 'crates/one/proofs/Spare.antt:1 spare (2 lines)' '1 unused, 2 lines' >wanted
+  same 'a lemma that nothing names' found wanted
 else
-  skip 'the tables of crates' 'python3 is missing'
+  skip 'the tables of crates, and the lemmas' 'python3 is missing'
 fi
 
 # The version stands in the program, and the list of changes has it.
