@@ -1,5 +1,5 @@
 # The documents: each link leads to a file or a heading that is there, and lines are no longer than 100 columns.
-# The proofs: each lemma is named somewhere.
+# The proofs: each lemma is named somewhere, and stated once.
 
 top=$here/..
 
@@ -80,14 +80,20 @@ if has python3; then
   none 'the tables of crates' found
   "$top/tools/unused" >found 2>&1 && : >found
   none 'lemmas that nothing names' found
+  "$top/tools/unused" --twice >found 2>&1 && : >found
+  none 'lemmas that are stated more than once' found
 
-  # It finds a lemma that nothing names.
-  mkdir -p spare/crates/one/proofs spare/tools
-  printf '%s\n' 'pub spare : (t : Bool) → t ≡ t' 'spare t = refl' >spare/crates/one/proofs/Spare.antt
+  # In a folder with two lemmas that are alike, and named nowhere, it finds both.
+  for crate in one two; do
+    mkdir -p "spare/crates/$crate/proofs"
+    printf '%s\n' 'pub spare : (t : Bool) → t ≡ t' 'spare t = refl' >"spare/crates/$crate/proofs/Spare.antt"
+  done
+  mkdir spare/tools
   cp "$top/tools/unused" spare/tools
-  spare/tools/unused >found
-  printf '%s\n' 'crates/one/proofs/Spare.antt:1 spare (2 lines)' '1 unused, 2 lines' >wanted
-  same 'a lemma that nothing names' found wanted
+  { spare/tools/unused; spare/tools/unused --twice; } >found
+  printf '%s\n' 'crates/one/proofs/Spare.antt:1 spare (2 lines)' 'crates/two/proofs/Spare.antt:1 spare (2 lines)' '2 unused, 4 lines' \
+    '2 times: crates/one/proofs/Spare.antt:1 spare, crates/two/proofs/Spare.antt:1 spare' '1 stated more than once, 1 copies' >wanted
+  same 'lemmas that are spare' found wanted
 else
   skip 'the tables of crates, and the lemmas' 'python3 is missing'
 fi

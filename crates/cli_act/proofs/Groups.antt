@@ -1,10 +1,9 @@
 -- The set of groups that came before, as pairs are counted.
 use Rattle.std.proofs.Common.{ℕ, ◌≡◌, ◌+◌, ◌∷◌, ◌++◌, Bool, true, false, cond, length, List, [], String, string_bytes, string_cmp, refl, sym, ap, subst, ◌∙◌, ◌<◌, ◌≤◌, get_or, drop, drop-cons, add-one}
-use Rattle.std.specs.Prelude.{◌||◌, not, if◌then◌else◌}
+use Rattle.std.specs.Prelude.{not, if◌then◌else◌}
 use Rattle.std.specs.Bool.{OnFalse}
 use Rattle.std.specs.List.{list_any}
 use Rattle.std.specs.Ordering.{is_eq}
-use Rattle.std.specs.Cmp.Lexicographic.{bytes_decides}
 use Rattle.std.specs.BTreeSet.{BTreeSet, contains}
 use Rattle.std.proofs.lemmas.Bool.{cond-true, cond-false}
 use Rattle.std.proofs.lemmas.List.Folds.{list_any-append}
@@ -12,6 +11,8 @@ use Rattle.std.proofs.lemmas.List.{drop_all, length-append}
 use Rattle.std.proofs.lemmas.Map.Text.{is_eq-slice_cmp}
 use Rattle.room_entry.specs.Pieces.{same_text}
 use Rattle.cli_act.specs.Counting.{groups_after, distinct_groups, with_group}
+use Rattle.room_entry.proofs.Facts.Booleans.{one_more}
+use Rattle.room_entry.proofs.Texts.{same_text-sym}
 
 -- the set has these texts, no others, and this many
 pub record HasSeen {A : Type 0} (seen : BTreeSet (String A)) (groups : List (List ℕ)) : Type 0 where
@@ -19,28 +20,12 @@ pub record HasSeen {A : Type 0} (seen : BTreeSet (String A)) (groups : List (Lis
       → contains string_cmp seen key ≡ list_any (same_text (string_bytes key)) groups
   pub len : length seen.keys ≡ length groups
 
-agree : (a b : Bool) → (a ≡ true → b ≡ true) → (b ≡ true → a ≡ true) → a ≡ b
-agree true b to from = sym (to refl)
-agree false true to from = from refl
-agree false false to from = refl
-
-same_text-sym : (a b : List ℕ) → same_text a b ≡ same_text b a
-same_text-sym a b =
-    agree _ _ (λ e. (bytes_decides b a).1 (sym ((bytes_decides a b).0 e)))
-    (λ e. (bytes_decides a b).1 (sym ((bytes_decides b a).0 e)))
-
 -- two keys compare as equal where their texts are the same
 key_equal : {A : Type 0} (x y : String A)
     → is_eq (string_cmp x y) ≡ same_text (string_bytes y) (string_bytes x)
 key_equal x y =
     is_eq-slice_cmp (string_bytes x) (string_bytes y)
     ∙ same_text-sym (string_bytes x) (string_bytes y)
-
-one_more : (is : Bool) (before : Bool) → cond is true before ≡ (before || (is || false))
-one_more true true = refl
-one_more true false = refl
-one_more false true = refl
-one_more false false = refl
 
 seen_more : {A : Type 0} (seen more : BTreeSet (String A)) (groups : List (List ℕ)) (key : String A)
     → ((other : String A)

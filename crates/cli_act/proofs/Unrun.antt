@@ -1,11 +1,9 @@
 -- A call that isn't made, since memory ran out.
 use Rattle.std.proofs.Common.{◌≡◌, Result, Ok, Err, refl}
-use Rattle.std.specs.Prelude.{[]}
 use Rattle.sqlite.specs.State.{State}
 use Rattle.room_rows.specs.Rows.{Rows}
 use Rattle.room_store.specs.declared.fault.StoreFault.{StoreFault}
 use Rattle.room_store.specs.declared.fault.StoreFault.TheVariants.{Memory, Damaged}
-use Rattle.room_store.specs.Leads.{Leads}
 use Rattle.room_store.specs.Ran.{Ran}
 use Rattle.store_tables.proofs.Calls.{retains_same}
 
@@ -29,8 +27,3 @@ unrun old Blames Becomes = record {
   retains = λ _ _. retains_same old.now old.now refl;
   damaged = λ _ _ is. absurd (no_damage is);
 }
-
--- Nothing happens.
-pub still : (old : State) → Leads old [] old
-still old =
-    record { trusted = λ h. h; sound = λ _ h. h; run = λ _ _ room keeps. (room, refl, keeps) }

@@ -1,7 +1,5 @@
 //! The header lines of an input: who asks, at which object, for what.
-ghost use Rattle.std.specs.Prelude.{◌≡◌, ◌==◌, ℕ, ◌<◌, ◌≤◌, [], ◌∷◌, Result, Ok, Err, length};
-ghost use Rattle.std.specs.Prelude.{MatchOption};
-ghost use Rattle.std.specs.List.{position};
+ghost use Rattle.std.specs.Prelude.{◌≡◌, ℕ, ◌≤◌, [], ◌∷◌, Result, Ok, Err, length};
 ghost use Rattle.room_entry.specs.Bytes.{comma};
 ghost use Rattle.room_entry.specs.Gives.{Gives};
 ghost use Rattle.room_ace.specs.Lists.{lines_of};
@@ -16,9 +14,9 @@ ghost use Rattle.cli_check.specs.Check.{owners_of, user_of, value_of, without_sp
 
 use crate::fault::{InputFault, InputWhy};
 use room_ace::{
-    Failure, Mask, Name, Names, Owners, TextFault, Why, names_are_text, read_mask, read_name,
-    split_line, text_of,
+    Failure, Mask, Name, Names, Owners, TextFault, Why, read_mask, read_name, split_line, text_of,
 };
+use room_entry::cut;
 use std::alloc::Global;
 
 /// The caller's name in the first of the lines, if there is one. The lines below are left.
@@ -130,7 +128,6 @@ fn without_spaces(bytes: &[u8]) -> &[u8]
 fn checked_name(alloc: Global, value: &[u8]) -> Result<Name, Failure<InputWhy>>
     ensures { Gives result (checked_name value.now) }
 {
-    names_are_text();
     let text = match text_of(value) {
         None => return Err(Failure::Fault(InputWhy::BadName)),
         Some(text) => text,
@@ -172,7 +169,7 @@ fn checked_names(alloc: Global, value: &[u8]) -> Result<Names, Failure<InputWhy>
 {
     let mut names = Names::new(alloc);
     let mut rest = value;
-    while let Some((part, behind)) = cut_at(b',', rest) {
+    while let Some((part, behind)) = cut(rest, &b',') {
         let name = checked_name(alloc, part)?;
         names.push(name)?;
         rest = behind;
@@ -186,11 +183,11 @@ fn checked_names(alloc: Global, value: &[u8]) -> Result<Names, Failure<InputWhy>
 fn owners_in(alloc: Global, value: &[u8]) -> Result<Owners, Failure<InputWhy>>
     ensures { Gives result (owners_of value.now) }
 {
-    let (owner, group) = match cut_at(b':', value) {
+    let (owner, group) = match cut(value, &b':') {
         None => return Err(Failure::Fault(InputWhy::BadName)),
         Some(parts) => parts,
     };
-    match cut_at(b':', group) {
+    match cut(group, &b':') {
         Some(_) => Err(Failure::Fault(InputWhy::BadName)),
         None => {
             let owner = checked_name(alloc, owner)?;
@@ -212,23 +209,4 @@ fn asked_in(value: &[u8]) -> Result<Mask, Failure<InputWhy>>
             Err(_) => Err(bad),
         },
     }
-}
-
-// The bytes before the first separator, and those after it.
-fn cut_at(separator: u8, bytes: &[u8]) -> Option<(&[u8], &[u8])>
-    ensures { MatchOption result (pieces separator bytes.now ≡ bytes.now ∷ []) (λ cut.
-        (pieces separator bytes.now ≡ cut.0.now ∷ pieces separator cut.1.now)
-        × (length cut.1.now < length bytes.now)) }
-{
-    match place_of(separator, bytes) {
-        None => None,
-        Some(index) => Some((&bytes[..index], &bytes[index + 1..])),
-    }
-}
-
-// Where the separator stands first.
-fn place_of(separator: u8, bytes: &[u8]) -> Option<usize>
-    ensures { result ≡ position (λ byte. byte == separator) bytes.now }
-{
-    bytes.iter().position(|byte| *byte == separator)
 }

@@ -1,63 +1,17 @@
 -- Known bytes that are written one text after another.
-use Rattle.std.proofs.Common.{◌≡◌, ℕ, ◌+◌, ◌-◌, arith, List, [], ◌++◌, length, take, drop, subst, Option, Some, None, Result, Ok, Err, refl, sym, ap, ◌∙◌, append_assoc}
-use Rattle.std.proofs.lemmas.List.{append-nil, take-append-drop, take_all, length-drop}
-use Rattle.std.proofs.Math.Seq.{take-add}
+use Rattle.std.proofs.Common.{ℕ, List, [], take, drop, Option, Result, Ok, Err, refl, sym}
+use Rattle.std.proofs.lemmas.List.{append-nil, take-append-drop}
 use Rattle.std.specs.Io.KnownBytes.{Appends, Keeps}
 use Rattle.std.specs.Prelude.{OnErr, OnOk}
 use Rattle.cli_outcome.specs.Written.{WritesSome}
 use Rattle.cli_outcome.specs.declared.fault.Fault.{Fault}
-
-Appends-then : (u v w : Option (List ℕ)) (a b : List ℕ) → Appends u v a → Appends v w b
-    → Appends u w (a ++ b)
-Appends-then None v w a b x y = tt
-Appends-then (Some xs) None w a b x y = absurd x
-Appends-then (Some xs) (Some ys) None a b x y = y
-Appends-then (Some xs) (Some ys) (Some zs) a b x y =
-    y ∙ ap (λ (t : List ℕ). t ++ b) x ∙ append_assoc xs a b
-
--- a text was written, and then the bytes were left as they were
-pub Appends-kept : (u v w : Option (List ℕ)) (a : List ℕ) → Appends u v a → Keeps v w
-    → Appends u w a
-Appends-kept None v w a x y = tt
-Appends-kept (Some xs) None w a x y = absurd x
-Appends-kept (Some xs) (Some ys) None a x y = absurd y
-Appends-kept (Some xs) (Some ys) (Some zs) a x y = y ∙ x
-
--- nothing was written
-pub Appends-none : (u : Option (List ℕ)) → Appends u u []
-Appends-none None = tt
-Appends-none (Some xs) = sym (append-nil xs)
+use Rattle.room_entry.proofs.Facts.KnownBytes.{Appends-kept, Appends-none}
 
 -- a front was written, and nothing more
 pub WritesSome-at : (u v w : Option (List ℕ)) (text : List ℕ) (n : ℕ)
     → Appends u v (take n text) → Keeps v w → WritesSome u w text
 WritesSome-at u v w text n x y =
     (take n text, drop n text, sym (take-append-drop n text), Appends-kept u v w (take n text) x y)
-
--- n bytes of a text were written, and then m bytes of its rest: so its first n + m were
-pub Appends-at : (u v w : Option (List ℕ)) (text : List ℕ) (n m : ℕ)
-    → Appends u v (take n text) → Appends v w (take m (take (length text - n) (drop n text)))
-    → Appends u w (take (n + m) text)
-Appends-at u v w text n m x y =
-    let W : List ℕ → Type 0 = λ t. Appends u w t in
-    let V : List ℕ → Type 0 = λ t. Appends v w t in
-    let len : length (drop n text) ≡ length text - n = length-drop n text in
-    let rest : take (length text - n) (drop n text) ≡ drop n text = take_all (length text - n)
-    (drop n text) (omega (arith, len)) in
-    let y' : Appends v w (take m (drop n text)) = subst V (ap (λ t. take m t) rest) y in
-    subst W (sym (take-add n m text)) (Appends-then u v w (take n text) (take m (drop n text)) x y')
-
-Keeps-none : (v w : Option (List ℕ)) → Appends v w [] → Keeps v w
-Keeps-none None w x = tt
-Keeps-none (Some xs) None x = x
-Keeps-none (Some xs) (Some ys) x = x ∙ append-nil xs
-
--- where a write took 0 bytes of a text, what was written before stays as it was
-pub Keeps-zero : (v w : Option (List ℕ)) (n : ℕ) (text : List ℕ) → n ≡ 0 → Appends v w (take n text)
-    → Keeps v w
-Keeps-zero v w n text e x =
-    let V : List ℕ → Type 0 = λ t. Appends v w t in
-    Keeps-none v w (subst V (ap (λ k. take k text) e) x)
 
 -- nothing of it was written
 pub writes_none : (u : Option (List ℕ)) (text : List ℕ) → WritesSome u u text

@@ -1,6 +1,5 @@
 -- Texts that are printed where a database isn't opened.
 use Rattle.std.proofs.Common.{◌≡◌, ℕ, List, Option, Result, Ok, Err, subst}
-use Rattle.cli_outcome.proofs.KnownBytes.{Appends-none}
 use Rattle.cli_outcome.specs.Ending.{fault_line}
 use Rattle.cli_outcome.specs.Written.{PrintsText, WritesSome}
 use Rattle.cli_outcome.specs.declared.fault.Fault.{Fault}
@@ -8,6 +7,7 @@ use Rattle.cli_outcome.specs.declared.no_room.NoRoom.{NoRoom}
 use Rattle.cli_outcome.specs.declared.status.Status.{Status}
 use Rattle.store_schema.specs.declared.fault.OpenFault.{OpenFault}
 use Rattle.cli_serve.specs.Hosts.{PrintsRefusal, TurnsDown, why_not_opened}
+use Rattle.room_entry.proofs.Facts.KnownBytes.{Appends-none}
 
 pub told_as : (text text' : List ℕ) (how : Status) (u v w x : Option (List ℕ)) (status : ℕ)
     → text ≡ text' → PrintsText text how u v w x status → PrintsText text' how u v w x status

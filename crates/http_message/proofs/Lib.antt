@@ -1,11 +1,9 @@
 pub mod Adding
-pub mod Cutting
 mod Examples
 pub mod FieldValues
 pub mod Fronts
 pub mod InJson
 pub mod NoFloat
-pub mod NoText
 pub mod Printed
 mod Replies
 mod Routed

@@ -18,7 +18,7 @@ use Rattle.percent_encoding.proofs.PercentLemmas.{All-percent_encode, IsByte, Is
 use Rattle.room_entry.specs.Utf8.{is_utf8}
 use Rattle.room_rows.specs.Laws.{PathReadsBack}
 use Rattle.room_rows.specs.Paths.{is_object_name, is_path, path_of, path_text}
-use Rattle.room_rows.proofs.Utf8.{passes_as_utf8, text_from}
+use Rattle.room_rows.proofs.Utf8.{text_from}
 use Rattle.http_message.specs.declared.word.Word.{Word}
 use Rattle.http_message.specs.declared.fault.HttpFault.{HttpFault}
 use Rattle.http_message.specs.Asked.{target_path, told}
@@ -27,6 +27,7 @@ use Rattle.http_message.specs.Routes.{word_of}
 use Rattle.http_message.specs.Target.{is_mark, named_path, path_part, query_part}
 use Rattle.http_message.specs.Words.{word_text}
 use Rattle.http_message.proofs.Seeking.{words_begin}
+use Rattle.room_entry.proofs.Texts.{passes_as_utf8}
 
 -- ---- text is bytes
 

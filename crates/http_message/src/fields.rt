@@ -8,7 +8,7 @@ ghost use Rattle.http_message.specs.Values.{AreValues};
 
 use crate::fault::HttpFault;
 use crate::head::Field;
-use room_ace::{Failure, Name, names_are_text, read_name, text_of};
+use room_ace::{Failure, Name, read_name, text_of};
 use std::alloc::Global;
 
 /// The values of the fields of one name.
@@ -109,7 +109,6 @@ fn asked_user(alloc: Global, bytes: &[u8]) -> Result<Option<Name>, Failure<HttpF
     ensures { Gives result (asked_user bytes.now) }
 {
     let bad = Failure::Fault(HttpFault::BadUser);
-    names_are_text();
     match text_of(bytes) {
         None => Err(bad),
         Some(text) => match read_name(alloc, text) {

@@ -3,27 +3,13 @@ use Rattle.std.proofs.Common.{◌≡◌, ℕ, ℤ, ◌+◌, ◌≤◌, All, List
 use Rattle.std.proofs.lemmas.Grind.{flat_map-append}
 use Rattle.std.proofs.lemmas.List.{append-nil, length-append, map-append}
 use Rattle.std.proofs.lemmas.List.Elements.{All-append, All-nil, All-from_recursion, All-weaker}
-use Rattle.room_rows.specs.Content.{Content}
 use Rattle.room_machine.specs.declared.desk.Desk.{Ghosts}
-use Rattle.room_machine.specs.Run.{Event, Run}
+use Rattle.room_machine.specs.Run.{Event}
 use Rattle.room_http.specs.Serve.{Connects, IsNext, Next, next_exchange}
 use Rattle.room_http.specs.Stream.{Exchange, IsExchange, IsOpen, Runs}
 use Rattle.http_serve.specs.Visits.{Attends, IsServedVisit, Receives, ReceivesAll, Visit, moment_of, requests_of, visit_events}
-
--- two runs that meet are one run
-pub run_then : (old mid new : Content) (events others : List Event)
-    → Run old events mid → Run mid others new → Run old (events ++ others) new
-run_then old mid new [] others first then =
-    subst (λ (start : Content). Run start others new) first then
-run_then old mid new (event ∷ events) others first then =
-    (first.0, first.1, run_then first.0 mid new events others first.2 then)
-
-pub runs_then : (old mid new : Content → Type 0) (events others : List Event)
-    → Runs old events mid → Runs mid others new → Runs old (events ++ others) new
-runs_then old mid new events others first then room is =
-    let a = first room is in
-    let b = then a.0 a.2 in
-    (b.0, run_then room a.0 b.0 events others a.1 b.1, b.2)
+use Rattle.room_machine.proofs.Meeting.{meet}
+use Rattle.room_http.proofs.Runs.{Runs-then}
 
 -- what comes next is an exchange, if anything comes
 next_each : (left : List ℕ) (n : ℕ) (next : Next) → IsNext left n next
@@ -90,7 +76,7 @@ module _ {D : Type 0} (d : Ghosts D) where
     run = λ t s.
         subst (λ (events : List Event). Runs (d.content old) events (d.content new))
         (sym (flat_map-append visit_events first.visits then.visits))
-        (runs_then (d.content old) (d.content mid) (d.content new) (requests_of first.visits)
+        (Runs-then (d.content old) (d.content mid) (d.content new) (requests_of first.visits)
         (requests_of then.visits) (first.run (then.trusted t) s)
         (then.run t (first.sound (then.trusted t) s)));
   }

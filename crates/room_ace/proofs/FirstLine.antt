@@ -5,10 +5,10 @@ use Rattle.std.specs.Option.{option_map_or}
 use Rattle.std.specs.List.{position, list_all}
 use Rattle.std.specs.Str.{IsUtf8, IsAscii}
 use Rattle.std.specs.Str.Lossy.{utf8_valid_len}
-use Rattle.std.proofs.lemmas.Bool.{ltb-true, eq-eqb, ne_eqb, and_parts, or_right, or_from, false_from_ne_true}
+use Rattle.std.proofs.lemmas.Bool.{ltb-true, ne_eqb, and_parts, or_from, false_from_ne_true}
 use Rattle.std.proofs.lemmas.List.{length-drop}
 use Rattle.std.proofs.lemmas.List.Splits.{length-slice_split}
-use Rattle.std.proofs.lemmas.Str.{utf8_valid_len-IsUtf8, IsUtf8-from_ascii}
+use Rattle.std.proofs.lemmas.Str.{IsUtf8-from_ascii}
 use Rattle.std.proofs.lemmas.Str.Ascii.{IsAscii-nil, IsAscii-cons}
 use Rattle.room_entry.specs.Pieces.{pieces}
 use Rattle.room_ace.specs.Lists.{after_line, lines_of, lines_of_pieces, without_return}
@@ -84,10 +84,6 @@ without_return-push (byte ∷ next ∷ front) last =
     ∙ cond_cons byte (last == 13) (next ∷ front) ((next ∷ front) ++ last ∷ [])
 
 -- ---- UTF-8
-
-pub is_utf8-text : (bytes : List ℕ) → IsUtf8 bytes → is_utf8 bytes ≡ true
-is_utf8-text bytes text =
-    or_right _ _ (eq-eqb (utf8_valid_len bytes) (length bytes) (utf8_valid_len-IsUtf8 bytes text))
 
 pub is_utf8-other : (bytes : List ℕ) → (IsUtf8 bytes → ⊥) → utf8_valid_len bytes < length bytes
     → is_utf8 bytes ≡ false

@@ -29,8 +29,9 @@ use Rattle.room_entry.specs.declared.fault.ListFault.TheVariants.{TooManyEntries
 use Rattle.room_ace.specs.declared.fault.LineFault.{LineFault}
 use Rattle.room_ace.specs.declared.fault.Why.TheVariants.{NotUtf8}
 use Rattle.room_ace.proofs.RoundTrip.{apart, pieces_at, all_flags, all-map, of_known, reads_back}
-use Rattle.room_entry.proofs.Texts.{all-append, all_imply, at_bit}
+use Rattle.room_entry.proofs.Texts.{all-append, at_bit}
 use Rattle.room_entry.proofs.Visible.{is_visible, are_visible, visible_name, visible_utf8}
+use Rattle.room_entry.proofs.Facts.Lists.{all_implied}
 
 -- ---- a printed entry is of visible ASCII bytes
 
@@ -84,7 +85,7 @@ other_byte c byte hidden shown =
 visible_apart : (c : ℕ) (text : List ℕ) → is_visible c ≡ false → are_visible text ≡ true
     → apart c text ≡ true
 visible_apart c text hidden shown =
-    all_imply is_visible (λ byte. not (byte == c)) text (λ byte. other_byte c byte hidden) shown
+    all_implied is_visible (λ byte. not (byte == c)) (λ byte. other_byte c byte hidden) text shown
 
 -- ---- lines of visible bytes
 

@@ -18,8 +18,9 @@ use Rattle.room_entry.specs.declared.entry.Who.{Who}
 use Rattle.room_entry.specs.declared.entry.Who.TheVariants.{Owner, Group, Everyone, Anonymous, Authenticated}
 use Rattle.room_entry.specs.declared.flags.EntryFlags.{EntryFlags}
 use Rattle.room_entry.specs.declared.fault.TextFault.{TextFault}
-use Rattle.room_entry.proofs.Texts.{all-append, all_imply, at_bit}
+use Rattle.room_entry.proofs.Texts.{all-append, at_bit}
 use Rattle.room_entry.proofs.Visible.{name_ascii}
+use Rattle.room_entry.proofs.Facts.Lists.{all_implied}
 
 abbrev is_ascii : ℕ → Bool
 is_ascii byte = nat_lt byte 128
@@ -53,13 +54,13 @@ kind_ascii text kind known =
 flags_ascii : (text : List ℕ) (flags : EntryFlags) → flags_of text ≡ Some flags
     → are_ascii text ≡ true
 flags_ascii text flags known =
-    all_imply (is_among flag_letters) is_ascii text (λ byte. at_bit is_ascii flag_letters byte refl)
+    all_implied (is_among flag_letters) is_ascii (λ byte. at_bit is_ascii flag_letters byte refl) text
     (if_some (list_all (is_among flag_letters) text) _ flags known)
 
 mask_ascii : (text : List ℕ) (mask : List ℕ) → mask_of text ≡ Some mask → are_ascii text ≡ true
 unfolding mask_letters
 mask_ascii text mask known =
-    all_imply (is_among mask_letters) is_ascii text (λ byte. at_bit is_ascii mask_letters byte refl)
+    all_implied (is_among mask_letters) is_ascii (λ byte. at_bit is_ascii mask_letters byte refl) text
     (if_some (list_all (is_among mask_letters) text) _ mask known)
 
 who_ascii : (group : Bool) (text : List ℕ) (who : Who) → who_of group text ≡ Some who

@@ -1,50 +1,25 @@
 -- What holds of each member of a list, and how many members pass a test.
-use Rattle.std.proofs.Common.{◌≡◌, ℕ, ◌+◌, ◌≤◌, Bool, true, false, cond, not, List, [], ◌∷◌, ◌++◌, map, filter, reverse, length, Some, refl, sym, ap, subst, ◌∙◌, arith, add_assoc}
-use Rattle.std.specs.List.{find, flat_map}
+use Rattle.std.proofs.Common.{◌≡◌, ℕ, ◌+◌, ◌≤◌, Bool, true, false, cond, not, List, [], ◌∷◌, ◌++◌, filter, reverse, length, Some, refl, sym, ap, subst, ◌∙◌, arith, add_assoc}
+use Rattle.std.specs.List.{find, flat_map, AllByRecursion as Each}
 use Rattle.std.specs.Option.{option_map_or}
-use Rattle.std.proofs.lemmas.Bool.{false≢true}
 use Rattle.std.proofs.lemmas.List.{reverse-append}
-use Rattle.room_rows.specs.declared.node.Node.{Node}
-use Rattle.room_rows.specs.Content.{is_before, put_by_name, sorted_by_name}
+use Rattle.room_entry.proofs.Facts.Members.{each_append, each_weaker, one_if, count}
 
 -- ---- each member
-
-abbrev pub Each : {A : Type 0} → (A → Type 0) → List A → Type 0
-Each P [] = Unit {0}
-Each P (x ∷ xs) = P x × Each P xs
 
 pub each_always : {A : Type 0} (P : A → Type 0) → ((x : A) → P x) → (xs : List A) → Each P xs
 each_always P always [] = tt
 each_always P always (x ∷ xs) = (always x, each_always P always xs)
 
-pub each_append : {A : Type 0} (P : A → Type 0) (xs ys : List A) → Each P xs → Each P ys
-    → Each P (xs ++ ys)
-each_append P [] ys front back = back
-each_append P (x ∷ xs) ys front back = (front.0, each_append P xs ys front.1 back)
-
-pub each_front : {A : Type 0} (P : A → Type 0) (xs ys : List A) → Each P (xs ++ ys) → Each P xs
-each_front P [] ys all = tt
-each_front P (x ∷ xs) ys all = (all.0, each_front P xs ys all.1)
-
 pub each_last : {A : Type 0} (P : A → Type 0) (xs : List A) (y : A) → Each P (xs ++ y ∷ []) → P y
 each_last P [] y all = all.0
 each_last P (x ∷ xs) y all = each_last P xs y all.1
-
-pub each_map : {A B : Type 0} (P : A → Type 0) (f : B → A) (xs : List B) → Each (λ x. P (f x)) xs
-    → Each P (map f xs)
-each_map P f [] all = tt
-each_map P f (x ∷ xs) all = (all.0, each_map P f xs all.1)
 
 pub each_reverse : {A : Type 0} (P : A → Type 0) (xs : List A) → Each P xs → Each P (reverse xs)
 each_reverse P [] all = tt
 each_reverse P (x ∷ xs) all =
     subst (Each P) (sym (reverse-append (x ∷ []) xs))
     (each_append P (reverse xs) (x ∷ []) (each_reverse P xs all.1) (all.0, tt))
-
-pub each_weaker : {A : Type 0} (P Q : A → Type 0) → ((x : A) → P x → Q x) → (xs : List A)
-    → Each P xs → Each Q xs
-each_weaker P Q weaker [] all = tt
-each_weaker P Q weaker (x ∷ xs) all = (weaker x all.0, each_weaker P Q weaker xs all.1)
 
 pub each_both : {A : Type 0} (P Q R : A → Type 0) → ((x : A) → P x → Q x → R x) → (xs : List A)
     → Each P xs → Each Q xs → Each R xs
@@ -61,23 +36,6 @@ each_filter P q (x ∷ xs) all = on (q x) all.0 (each_filter P q xs all.1)
     on true here rest = (here, rest)
     on false here rest = rest
 
-each_put : (P : Node → Type 0) (node : Node) (nodes : List Node) → P node → Each P nodes
-    → Each P (put_by_name node nodes)
-each_put P node [] here all = (here, tt)
-each_put P node (other ∷ others) here all =
-    on (is_before other.name node.name) (each_put P node others here all.1)
-  where
-    on : (t : Bool) → Each P (put_by_name node others)
-        → Each P (cond t (other ∷ put_by_name node others) (node ∷ other ∷ others))
-    on true rest = (all.0, rest)
-    on false rest = (here, all)
-
-pub each_sorted : (P : Node → Type 0) (nodes : List Node) → Each P nodes
-    → Each P (sorted_by_name nodes)
-each_sorted P [] all = tt
-each_sorted P (node ∷ nodes) all =
-    each_put P node (sorted_by_name nodes) all.0 (each_sorted P nodes all.1)
-
 pub each_found : {A : Type 0} (P : A → Type 0) (p : A → Bool) (xs : List A) (x : A) → Each P xs
     → find p xs ≡ Some x → P x
 each_found P p [] x all found = absurd (let wrong : ⊥ = cc in wrong)
@@ -89,19 +47,9 @@ each_found P p (y ∷ ys) x all found = on (p y) found (each_found P p ys x all.
 
 -- ---- counts
 
-abbrev pub one_if : Bool → ℕ
-one_if t = cond t 1 0
-
-abbrev pub count : {A : Type 0} → (A → Bool) → List A → ℕ
-count p [] = 0
-count p (x ∷ xs) = one_if (p x) + count p xs
-
 -- sums of plain numbers
 same_behind : (a b c : ℕ) → a ≡ b → a + (c + 0) ≡ c + b
 same_behind a b c e = omega (arith, e)
-
-past_one : (a b c d : ℕ) → c ≡ b + d → a + c ≡ b + (a + d)
-past_one a b c d e = omega (arith, e)
 
 after_one : (a b c d : ℕ) → b + c ≡ d → a + b + c ≡ a + d
 after_one a b c d e = omega (arith, e)
@@ -136,31 +84,6 @@ count_reverse p [] = refl
 count_reverse p (x ∷ xs) =
     ap (count p) (reverse-append (x ∷ []) xs) ∙ count_append p (reverse xs) (x ∷ [])
     ∙ same_behind (count p (reverse xs)) (count p xs) (one_if (p x)) (count_reverse p xs)
-
-pub count_map : {A B : Type 0} (p : A → Bool) (f : B → A) (xs : List B)
-    → count p (map f xs) ≡ count (λ x. p (f x)) xs
-count_map p f [] = refl
-count_map p f (x ∷ xs) = ap (λ (n : ℕ). one_if (p (f x)) + n) (count_map p f xs)
-
-count_put : (p : Node → Bool) (node : Node) (nodes : List Node)
-    → count p (put_by_name node nodes) ≡ one_if (p node) + count p nodes
-count_put p node [] = refl
-count_put p node (other ∷ others) = on (is_before other.name node.name) (count_put p node others)
-  where
-    on : (t : Bool) → count p (put_by_name node others) ≡ one_if (p node) + count p others
-        → count p (cond t (other ∷ put_by_name node others) (node ∷ other ∷ others))
-        ≡ one_if (p node) + (one_if (p other) + count p others)
-    on true rest =
-        past_one (one_if (p other)) (one_if (p node)) (count p (put_by_name node others))
-        (count p others) rest
-    on false rest = refl
-
-pub count_sorted : (p : Node → Bool) (nodes : List Node)
-    → count p (sorted_by_name nodes) ≡ count p nodes
-count_sorted p [] = refl
-count_sorted p (node ∷ nodes) =
-    count_put p node (sorted_by_name nodes)
-    ∙ ap (λ (n : ℕ). one_if (p node) + n) (count_sorted p nodes)
 
 -- those that pass another test, and those that fail it
 pub count_parts : {A : Type 0} (p q : A → Bool) (xs : List A)
@@ -238,21 +161,6 @@ count_all [] = refl
 count_all (x ∷ xs) = let rest = count_all xs in omega (arith, rest)
 
 -- ---- a test that implies another
-
-pub filter_weaker : {A : Type 0} (p q : A → Bool) → ((x : A) → p x ≡ true → q x ≡ true)
-    → (xs : List A) → filter p (filter q xs) ≡ filter p xs
-filter_weaker p q weaker [] = refl
-filter_weaker p q weaker (x ∷ xs) = on (p x) (q x) refl refl (filter_weaker p q weaker xs)
-  where
-    on : (s t : Bool) → p x ≡ s → q x ≡ t → filter p (filter q xs) ≡ filter p xs
-        → filter p (cond t (x ∷ filter q xs) (filter q xs)) ≡ cond s (x ∷ filter p xs) (filter p xs)
-    on true true is passes rest =
-        ap (λ b. cond b (x ∷ filter p (filter q xs)) (filter p (filter q xs))) is
-        ∙ ap (λ l. x ∷ l) rest
-    on true false is fails rest = absurd (false≢true (sym fails ∙ weaker x is))
-    on false true is passes rest =
-        ap (λ b. cond b (x ∷ filter p (filter q xs)) (filter p (filter q xs))) is ∙ rest
-    on false false is fails rest = rest
 
 pub same_flat : {A B : Type 0} (f g : A → List B) (xs : List A) → Each (λ x. f x ≡ g x) xs
     → flat_map f xs ≡ flat_map g xs

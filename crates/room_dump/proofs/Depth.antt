@@ -1,12 +1,15 @@
 -- How deep a tree is written: no deeper than there are objects that weren't reached yet.
 use Rattle.std.proofs.Common.{◌≡◌, ℕ, zero, suc, ◌+◌, ◌<◌, ◌≤◌, ◌==◌, Bool, true, false, cond, not, List, [], ◌∷◌, ◌++◌, filter, Option, Some, None, refl, ap, subst, ◌∙◌, arith}
-use Rattle.std.specs.List.{flat_map}
+use Rattle.std.specs.List.{flat_map, AllByRecursion as Each}
 use Rattle.std.specs.Option.{option_map_or}
 use Rattle.std.proofs.lemmas.Bool.{false≢true, eqb-true, eq-eqb}
 use Rattle.room_rows.specs.declared.node.Node.{Node}
 use Rattle.room_rows.specs.Content.{Content, children_of, has_parent}
 use Rattle.room_dump.specs.Dump.{path_below, tree_of}
-use Rattle.room_dump.proofs.Counting.{Each, count, count_parts, each_both, each_counted, each_filter, each_sorted, filter_weaker, none_counted, same_flat}
+use Rattle.room_dump.proofs.Counting.{count_parts, each_both, each_counted, each_filter, none_counted, same_flat}
+use Rattle.room_entry.proofs.Facts.Members.{count}
+use Rattle.room_entry.proofs.Facts.Lists.{filter_weaker}
+use Rattle.room_rows.proofs.Lookups.{each-sorted}
 
 abbrev pub is_number : ℕ → Node → Bool
 is_number id node = node.id == id
@@ -87,7 +90,7 @@ module _ {X : Type 0} (tell : List ℕ → Node → List X) where
       ap (λ (text : List X). tell path node ++ text)
       (same_flat (λ child. tree_of tell d content (path_below path child) child)
       (λ child. tree_of tell e content (path_below path child) child) (children_of content node.id)
-      (each_sorted SameBelow (filter (has_parent node.id) content.nodes)
+      (each-sorted SameBelow (filter (has_parent node.id) content.nodes)
       (subst (Each SameBelow) all below)))
     where
       SameBelow : Node → Type 0

@@ -1,22 +1,26 @@
 -- What waits after n turns, and the text that was added.
-use Rattle.std.proofs.Common.{◌≡◌, ℕ, suc, ◌+◌, ◌<◌, ◌≤◌, ◌==◌, Bool, true, false, cond, not, List, [], ◌∷◌, ◌++◌, map, filter, reverse, length, Option, Some, None, nat_lt, refl, sym, ap, subst, ◌∙◌, inl, inr, arith, append_assoc}
+use Rattle.std.proofs.Common.{◌≡◌, ℕ, ◌+◌, ◌<◌, ◌≤◌, ◌==◌, Bool, true, false, cond, not, List, [], ◌∷◌, ◌++◌, map, filter, reverse, length, Option, Some, None, nat_lt, refl, sym, ap, subst, ◌∙◌, inl, inr, arith, append_assoc}
 use Rattle.std.specs.Prelude.{is_none}
-use Rattle.std.specs.List.{flat_map, list_all}
+use Rattle.std.specs.List.{flat_map, list_all, AllByRecursion as Each}
 use Rattle.std.specs.Option.{option_map_or}
 use Rattle.std.proofs.lemmas.Bool.{false≢true, and_from, and_parts, eqb-true, eq-eqb, ne_eqb, ltb-true}
-use Rattle.std.proofs.lemmas.List.{append-nil, length-map}
+use Rattle.std.proofs.lemmas.List.{length-map}
+use Rattle.std.proofs.Math.Nat.{le_trans}
 use Rattle.room_rows.specs.declared.node.Node.{Node}
 use Rattle.room_rows.specs.Content.{Content, body_of, children_of, has_parent, is_rising, node_at, root_of}
 use Rattle.room_rows.specs.Finding.{find_id}
-use Rattle.room_rows.specs.Rows.{AreRows, Rows, numbers_of, put_number, put_numbers}
+use Rattle.room_rows.specs.Rows.{AreRows, Rows, numbers_of}
 use Rattle.room_rows.specs.Keep.{IsDamaged}
 use Rattle.room_dump.specs.declared.dumping.Waiting.{Waiting}
-use Rattle.room_dump.specs.Dump.{HasAllBytes, all_of, has_bytes, itself, object_lines, objects_text, path_below, tree_of}
+use Rattle.room_dump.specs.Dump.{all_of, has_bytes, itself, object_lines, objects_text, path_below, tree_of}
 use Rattle.room_dump.specs.Telling.{Begins, IsUntellable}
 use Rattle.room_dump.specs.Waiting.{waiting_below, waiting_children, waiting_root}
-use Rattle.room_dump.proofs.Counting.{Each, count, count_all, count_append, count_found, count_map, count_parts, count_reverse, count_sorted, each_always, each_append, each_both, each_filter, each_found, each_front, each_last, each_map, each_reverse, each_sorted, each_weaker, filter_weaker, none_counted, one_if}
+use Rattle.room_dump.proofs.Counting.{count_all, count_append, count_found, count_parts, count_reverse, each_always, each_both, each_filter, each_found, each_last, each_reverse, none_counted}
 use Rattle.room_dump.proofs.Depth.{HasAll, all_still, always, goes_on, is_number, others}
 use Rattle.room_dump.proofs.Waits.{texts, texts-below, texts-last}
+use Rattle.room_entry.proofs.Facts.Members.{each_append, each_front, each_map, each_weaker, one_if, count, count_map}
+use Rattle.room_entry.proofs.Facts.Lists.{filter_weaker}
+use Rattle.room_rows.proofs.Lookups.{each-sorted, count_sorted, length_numbers}
 
 -- ---- rows
 
@@ -92,27 +96,12 @@ once_rising k id (x ∷ xs) rises = on (x.id == id) refl (once_rising x.id id xs
         omega (arith, none)
     on false is rest = omega (arith, rest)
 
-length_put : (id : ℕ) (ids : List ℕ) → length (put_number id ids) ≡ suc (length ids)
-length_put id [] = refl
-length_put id (other ∷ others) = on (nat_lt other id) (length_put id others)
-  where
-    on : (t : Bool) → length (put_number id others) ≡ suc (length others)
-        → length (cond t (other ∷ put_number id others) (id ∷ other ∷ others))
-        ≡ suc (suc (length others))
-    on true rest = ap suc rest
-    on false rest = refl
-
-no_fewer : (more ids : List ℕ) → length ids ≤ length (put_numbers more ids)
-no_fewer [] ids = omega arith
-no_fewer (id ∷ more) ids = let one = length_put id (put_numbers more ids) in let rest =
-    no_fewer more ids in omega (arith, one, rest)
-
 -- there are no more objects than rows
 no_more_objects : (rows : Rows) → count always rows.read.nodes ≤ length (numbers_of rows)
 no_more_objects rows =
     let all = count_all rows.read.nodes in
     let numbers = length-map rows.read.nodes (λ (n : Node). n.id) in
-    let fewer = no_fewer rows.unreadable (map (λ (n : Node). n.id) rows.read.nodes) in
+    let fewer = length_numbers rows.unreadable (map (λ (n : Node). n.id) rows.read.nodes) in
     as_many (count always rows.read.nodes) (length rows.read.nodes)
     (length (map (λ (n : Node). n.id) rows.read.nodes)) (length (numbers_of rows)) all numbers fewer
   where
@@ -150,9 +139,6 @@ below_root id node is = on node.parent is
     on None is = absurd (false≢true is)
     on (Some p) is = refl
 
-up_to : (a b c : ℕ) → a ≤ b → b ≤ c → a ≤ c
-up_to a b c e f = omega (arith, e, f)
-
 none_yet_turned : (a b c : ℕ) → a ≤ b → b ≤ c → a + 0 ≤ c
 none_yet_turned a b c e f = omega (arith, e, f)
 
@@ -188,9 +174,7 @@ begins_alone rows are root is text =
       );
       rests = each_always (HasAll rows.read rest) all rest;
       once =
-          λ id. up_to (count (is_number id) (root ∷ []) + count (is_number id) rest)
-          (count (is_number id) nodes) 1 (found (is_number id))
-          (once_rising 0 id nodes are.numbers);
+          λ id. le_trans (found (is_number id)) (once_rising 0 id nodes are.numbers);
       fewer =
           none_yet_turned (count always (root ∷ []) + count always rest) (count always nodes)
           (length (numbers_of rows)) (found always) (no_more_objects rows);
@@ -323,7 +307,7 @@ turns_on rows are waits object most turn before text t bytes =
     let kids_there = each_filter (IsThere content) (has_parent node.id) content.nodes
     (each_there 0 content.nodes are.numbers) in
     let fit_node = λ (n : Node). HasAll content left n × IsThere content n in
-    let kids_fit = each_sorted fit_node (filter (has_parent node.id) content.nodes)
+    let kids_fit = each-sorted fit_node (filter (has_parent node.id) content.nodes)
     (each_both (HasAll content left) (IsThere content) fit_node (λ n has there. (has, there))
     (filter (has_parent node.id) content.nodes) kids_all kids_there) in
     let low = rest_below (count any_waits waits) (count always rest) turn most fewer in

@@ -3,9 +3,9 @@ use Rattle.std.proofs.Common.{ℕ, ◌+◌, ◌<◌, ◌≤◌, [], length, sym,
 use Rattle.room_rows.specs.Rows.{numbers_of}
 use Rattle.room_dump.specs.Dump.{object_lines}
 use Rattle.room_dump.specs.Laws.{TextIsWhole}
-use Rattle.room_dump.proofs.Counting.{count}
 use Rattle.room_dump.proofs.Depth.{always, deep_enough}
 use Rattle.room_dump.proofs.Turning.{begins_alone, told_from}
+use Rattle.room_entry.proofs.Facts.Members.{count}
 
 below_both : (rest most depth : ℕ) → ((1 + 0) + rest) + 0 ≤ most → most ≤ depth → rest < depth
 below_both rest most depth e f = omega (arith, e, f)

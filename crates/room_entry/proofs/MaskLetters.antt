@@ -1,18 +1,17 @@
 -- Masks read from their letters.
-use Rattle.std.proofs.Common.{ℕ, ◌+◌, ◌<◌, ◌≤◌, ◌≡◌, Bool, true, false, cond, ◌&&◌, ◌||◌, List, [], ◌∷◌, map, Option, Some, None, Ok, Err, refl, sym, ap, ◌∙◌, subst, inl, inr, length, take, get_or}
+use Rattle.std.proofs.Common.{ℕ, ◌+◌, ◌<◌, ◌≡◌, Bool, true, false, ◌&&◌, ◌||◌, List, [], ◌∷◌, map, Option, refl, sym, ap, ◌∙◌, subst, inl, inr, length, take, get_or}
 use Rattle.std.specs.Prelude.{◌==◌, filter, find, bit_and, MatchOption}
 use Rattle.std.specs.List.{list_all}
-use Rattle.std.specs.Option.{ok_or, option_map}
+use Rattle.std.specs.Option.{option_map}
 use Rattle.std.proofs.lemmas.Bool.{cases_Bool, and_parts, eqb-true}
-use Rattle.std.proofs.lemmas.List.{take_more, take_all}
-use Rattle.std.proofs.lemmas.List.Folds.{list_any-append, list_all-append, list_all_at}
+use Rattle.std.proofs.lemmas.List.{take_more}
+use Rattle.std.proofs.lemmas.List.Folds.{list_any-append, list_all-append}
 use Rattle.room_entry.specs.Bits.{all_bits, has, bits_of}
 use Rattle.room_entry.specs.BitLaws.{has-chosen, chosen_agree}
 use Rattle.room_entry.specs.Pieces.{is_among, same_text}
-use Rattle.room_entry.specs.Letters.{bit_named, letter_of, mask_letters, read_mask_of}
+use Rattle.room_entry.specs.Letters.{bit_named, letter_of, mask_letters}
 use Rattle.room_entry.proofs.Letters.{the_table}
 use Rattle.room_entry.proofs.Texts.{same_text-true}
-use Rattle.room_entry.specs.declared.fault.TextFault.TheVariants.{BadMask}
 
 -- the mask of the letters of a text
 abbrev pub spelled : List ℕ → List ℕ
@@ -20,10 +19,6 @@ spelled text = filter (λ bit. is_among text (letter_of bit)) all_bits
 
 abbrev pub are_letters : List ℕ → Bool
 are_letters text = list_all (is_among mask_letters) text
-
-pub spelled-nothing : [] ≡ spelled []
-unfolding all_bits
-spelled-nothing = refl
 
 -- one letter more
 pub spelled_more : (text : List ℕ) (i : ℕ) → i < length text

@@ -1,10 +1,16 @@
 -- Tests of each byte of a text, and texts that are the same.
-use Rattle.std.proofs.Common.{ℕ, ◌≡◌, Bool, true, List, [], ◌∷◌, ◌++◌, refl, sym, ap, ◌∙◌, inl, inr}
+use Rattle.std.proofs.Common.{ℕ, ◌≡◌, Bool, true, cond, List, [], ◌∷◌, ◌++◌, filter, refl, sym, ap, ◌∙◌, inl, inr, length}
 use Rattle.std.specs.Prelude.{◌==◌}
 use Rattle.std.specs.List.{list_all}
-use Rattle.std.proofs.lemmas.Bool.{and_parts, and_from, eqb-true, false≢true, or_cases}
+use Rattle.std.specs.Cmp.Lexicographic.{bytes_decides}
+use Rattle.std.proofs.lemmas.Bool.{and_parts, and_from, eq-eqb, eqb-true, false≢true, or_cases, or_left, or_right}
+use Rattle.std.specs.Str.{IsUtf8}
+use Rattle.std.specs.Str.Lossy.{utf8_valid_len}
+use Rattle.std.proofs.lemmas.Str.{utf8_valid_len-IsUtf8}
 use Rattle.room_entry.specs.Bits.{has}
 use Rattle.room_entry.specs.Pieces.{same_text}
+use Rattle.room_entry.proofs.Facts.Booleans.{same_truth}
+use Rattle.room_entry.specs.Utf8.{is_utf8}
 
 -- texts that pass the test of the same texts are equal
 pub same_text-true : (a b : List ℕ) → same_text a b ≡ true → a ≡ b
@@ -23,14 +29,6 @@ all-append p (x ∷ xs) ys first second =
     let parts = and_parts (p x) (list_all p xs) first in
     and_from (p x) (list_all p (xs ++ ys)) parts.0 (all-append p xs ys parts.1 second)
 
--- where each byte of a text passes p, and q follows from p, each byte passes q
-pub all_imply : (p q : ℕ → Bool) (xs : List ℕ) → ((x : ℕ) → p x ≡ true → q x ≡ true)
-    → list_all p xs ≡ true → list_all q xs ≡ true
-all_imply p q [] each all = refl
-all_imply p q (x ∷ xs) each all =
-    let parts = and_parts (p x) (list_all p xs) all in
-    and_from (q x) (list_all q xs) (each x parts.0) (all_imply p q xs each parts.1)
-
 -- what a test gives at a bit of the list
 pub at_bit : (p : ℕ → Bool) (xs : List ℕ) (b : ℕ) → list_all p xs ≡ true → has xs b ≡ true
     → p b ≡ true
@@ -42,3 +40,23 @@ at_bit p (x ∷ xs) b all it =
       | inr there ↦
           at_bit p xs b parts.1 there
     ]
+
+-- bytes that are UTF-8 pass the test
+pub passes_as_utf8 : (bytes : List ℕ) → IsUtf8 bytes → is_utf8 bytes ≡ true
+passes_as_utf8 bytes text =
+    or_right _ _ (eq-eqb (utf8_valid_len bytes) (length bytes) (utf8_valid_len-IsUtf8 bytes text))
+
+-- two tests that agree at each bit of the list keep the same bits of it
+pub filter_agree : (p q : ℕ → Bool) (xs : List ℕ) → ((b : ℕ) → has xs b ≡ true → p b ≡ q b)
+    → filter p xs ≡ filter q xs
+filter_agree p q [] same = refl
+filter_agree p q (x ∷ xs) same =
+    let here : p x ≡ q x = same x (or_left (x == x) (has xs x) (eq-eqb x x refl)) in
+    let there = filter_agree p q xs (λ b h. same b (or_right (x == b) (has xs b) h)) in
+    ap (λ t. cond t (x ∷ filter p xs) (filter p xs)) here ∙ ap (λ ys. cond (q x) (x ∷ ys) ys) there
+
+-- the test of the same texts doesn't ask which text comes first
+pub same_text-sym : (a b : List ℕ) → same_text a b ≡ same_text b a
+same_text-sym a b =
+    same_truth _ _ (λ e. (bytes_decides b a).1 (sym ((bytes_decides a b).0 e)))
+    (λ e. (bytes_decides a b).1 (sym ((bytes_decides b a).0 e)))

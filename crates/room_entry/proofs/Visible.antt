@@ -1,16 +1,17 @@
 -- A name is of visible ASCII bytes, and so it is a text.
-use Rattle.std.proofs.Common.{ℕ, ◌≡◌, ◌≤◌, Bool, true, ◌&&◌, ◌||◌, List, [], ◌∷◌, refl, subst, inl, inr, codes, arith}
+use Rattle.std.proofs.Common.{ℕ, ◌≡◌, ◌≤◌, Bool, true, false, ◌&&◌, ◌||◌, List, [], ◌∷◌, refl, subst, inl, inr, codes, arith}
 use Rattle.std.specs.Prelude.{nat_le, nat_lt}
 use Rattle.std.specs.List.{list_all, join_with_byte}
 use Rattle.std.specs.Char.{is_ascii_alphanumeric}
 use Rattle.std.specs.Str.{IsAscii}
-use Rattle.std.proofs.lemmas.Bool.{and_parts, and_from, false≢true, or_cases, or_left, leb-true, le-leb, lt-ltb, ltb-true}
+use Rattle.std.proofs.lemmas.Bool.{and_parts, and_from, both_ways, false≢true, false_from_ne_true, or_cases, or_left, leb-true, le-leb, lt-ltb, ltb-true}
 use Rattle.std.proofs.lemmas.List.Splits.{join_with_byte-slice_split}
 use Rattle.std.proofs.lemmas.Str.Ascii.{IsAscii-nil, IsAscii-cons}
 use Rattle.room_entry.specs.Pieces.{pieces, is_among}
 use Rattle.room_entry.specs.Utf8.{is_utf8}
 use Rattle.room_entry.specs.Names.{is_name, is_part, is_local_byte, is_domain_byte, are_name_parts}
-use Rattle.room_entry.proofs.Texts.{all-append, all_imply, at_bit}
+use Rattle.room_entry.proofs.Texts.{all-append, at_bit}
+use Rattle.room_entry.proofs.Facts.Lists.{all_implied}
 
 abbrev is_between : ℕ → ℕ → ℕ → Bool
 is_between low high byte = nat_le low byte && nat_le byte high
@@ -61,7 +62,7 @@ visible_part : (p : ℕ → Bool) (text : List ℕ)
     → ((byte : ℕ) → p byte ≡ true → is_visible byte ≡ true) → is_part p text ≡ true
     → are_visible text ≡ true
 visible_part p text each holds =
-    all_imply p is_visible text each (and_parts _ (list_all p text) holds).1
+    all_implied p is_visible each text (and_parts _ (list_all p text) holds).1
 
 visible_parts : (parts : List (List ℕ)) → are_name_parts parts ≡ true
     → are_visible (join_with_byte 64 parts) ≡ true
@@ -91,7 +92,7 @@ ascii_byte byte shown =
 
 visible_ascii : (text : List ℕ) → are_visible text ≡ true
     → list_all (λ byte. nat_lt byte 128) text ≡ true
-visible_ascii text shown = all_imply is_visible (λ byte. nat_lt byte 128) text ascii_byte shown
+visible_ascii text shown = all_implied is_visible (λ byte. nat_lt byte 128) ascii_byte text shown
 
 -- a text of visible bytes is UTF-8
 pub visible_utf8 : (text : List ℕ) → are_visible text ≡ true → is_utf8 text ≡ true
@@ -106,6 +107,11 @@ name_ascii name holds = visible_ascii name (visible_name name holds)
 -- a name is UTF-8, so it can be kept as a text
 pub name_text : (name : List ℕ) → is_name name ≡ true → is_utf8 name ≡ true
 name_text name holds = visible_utf8 name (visible_name name holds)
+
+-- bytes that aren't UTF-8 are no name
+pub no_text_no_name : (bytes : List ℕ) → is_utf8 bytes ≡ false → is_name bytes ≡ false
+no_text_no_name bytes none =
+    false_from_ne_true (is_name bytes) (λ it. both_ways (is_utf8 bytes) none (name_text bytes it))
 
 -- bytes that are tested to be below 128 are ASCII in the standard library's sense
 pub ascii : (bytes : List ℕ) → list_all (λ byte. nat_lt byte 128) bytes ≡ true → IsAscii bytes

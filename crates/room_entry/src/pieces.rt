@@ -1,5 +1,5 @@
 //! Bytes cut at a separator.
-ghost use Rattle.std.specs.Prelude.{◌≡◌, ◌==◌, [], ◌∷◌, MatchOption};
+ghost use Rattle.std.specs.Prelude.{◌≡◌, ◌==◌, ◌<◌, [], ◌∷◌, length, MatchOption};
 ghost use Rattle.std.specs.List.{position};
 ghost use Rattle.room_entry.specs.Pieces.{pieces};
 
@@ -7,7 +7,8 @@ ghost use Rattle.room_entry.specs.Pieces.{pieces};
 /// none.
 pub fn cut<'a>(bytes: &'a [u8], separator: &u8) -> Option<(&'a [u8], &'a [u8])>
     ensures { MatchOption result (pieces separator.now bytes.now ≡ bytes.now ∷ []) (λ parts.
-        pieces separator.now bytes.now ≡ parts.0.now ∷ pieces separator.now parts.1.now) }
+        (pieces separator.now bytes.now ≡ parts.0.now ∷ pieces separator.now parts.1.now)
+        × (length parts.1.now < length bytes.now)) }
 {
     match place_of(bytes, separator) {
         None => None,

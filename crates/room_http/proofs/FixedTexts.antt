@@ -1,4 +1,4 @@
--- The replies of fixed text, byte for byte.
+-- Worked replies: those of a fixed text, byte for byte.
 use Rattle.std.proofs.Common.{◌≡◌, refl, codes}
 use Rattle.std.specs.Fmt.{digits}
 use Rattle.serde_json.proofs.OnLiterals.{serde_json_on_literals}

@@ -1,5 +1,5 @@
 -- The message at the front of the bytes.
-use Rattle.std.proofs.Common.{◌≡◌, ℕ, ◌+◌, ◌-◌, ◌<◌, ◌≤◌, List, ◌++◌, length, map, take, drop, refl, inr, sym, ap, subst, ◌∙◌, arith, append_assoc, Option, Result, Ok, Err, IfOk}
+use Rattle.std.proofs.Common.{◌≡◌, ℕ, ◌+◌, ◌-◌, ◌<◌, ◌≤◌, List, ◌++◌, length, map, take, drop, refl, inr, sym, ap, ◌∙◌, arith, append_assoc, Option, Ok}
 use Rattle.std.specs.List.{slice_range}
 use Rattle.std.proofs.lemmas.List.{take-append-drop, length-append, length-take-le}
 use Rattle.std.proofs.Math.Seq.{drop-append_seam, take-append_seam, drop-append-add}
@@ -7,8 +7,7 @@ use Rattle.httparse.specs.declared.spans.HeaderSpan.{HeaderSpan}
 use Rattle.httparse.specs.declared.spans.RequestSpans.{RequestSpans}
 use Rattle.httparse.specs.Grammar.{RequestHead, print_request}
 use Rattle.http_message.specs.declared.head.Head.{Head}
-use Rattle.room_http.specs.declared.refusal.Refusal.{Refusal}
-use Rattle.room_http.specs.Message.{print_message, BeginsWith, IsPart, IsRefusedHead, head_of, field_of, body_size}
+use Rattle.room_http.specs.Message.{print_message, BeginsWith, IsPart, head_of, field_of, body_size}
 use Rattle.room_http.specs.declared.ended.Cause.{Cause}
 use Rattle.room_http.specs.Spans.{AreSpansOf, head_at, StopsBody, StopsReading}
 use Rattle.room_http.specs.Turn.{WholeNext}

@@ -14,15 +14,12 @@ use Rattle.httparse.specs.declared.spans.RequestSpans.{RequestSpans}
 use Rattle.httparse.specs.Grammar.{RequestHead, print_request}
 use Rattle.httparse.specs.Spans.{span_bytes, header_bytes, name_and_value, IsWithin, IsHeaderWithin, IsRequestWithin, IsRequestAt}
 use Rattle.room_http.specs.Limits.{max_head, max_fields}
-use Rattle.std.proofs.Math.Nat.{min_comm}
+use Rattle.std.proofs.Math.Nat.{min_comm, le_trans}
 use Rattle.room_http.specs.Message.{IsHead, BeginsWith, HasTooMany}
 use Rattle.room_http.specs.declared.cut.HeadScan.{HeadScan}
 use Rattle.room_http.specs.declared.refusal.Refusal.{Refusal}
 use Rattle.httparse.specs.Grammar.{HasNoRequest, NeverHasRequest, MayBecomeRequest}
 use Rattle.room_http.specs.Spans.{AreSpansOf, Scans, ScansWindow}
-
-le-trans : {a b c : ℕ} → a ≤ b → b ≤ c → a ≤ c
-le-trans {a} {b} {c} x y = omega arith
 
 -- a slice of the front is a slice of the whole
 pub slice_range-append : (p q : List ℕ) (a b : ℕ) → a ≤ b → b ≤ length p
@@ -106,7 +103,7 @@ whole-in-window w spans r h room short within at = (
   record {
     valid = at.reads.0;
     few = subst (λ m. length h.fields ≤ m) room (few-fields w spans r h at);
-    short = subst (λ m. m ≤ max_head) at.len (le-trans within.section.len_fits short);
+    short = subst (λ m. m ≤ max_head) at.len (le_trans within.section.len_fits short);
   },
   at.reads.1,
   spans-of-head w spans r h within at,

@@ -1,30 +1,11 @@
 -- Known bytes that are read or written one text after another.
 use Rattle.std.proofs.Common.{Bool, true, false, Result, Ok, Err, OnOk, OnErr, IfErr, ◌≡◌, ℕ, ◌+◌, ◌-◌, ◌<◌, arith, List, [], ◌++◌, length, take, drop, subst, Option, Some, None, sym, ap, refl, ◌∙◌, append_assoc}
-use Rattle.std.proofs.lemmas.List.{append-nil, take-append-drop, take_all, length-append, length-drop}
-use Rattle.std.proofs.Math.Seq.{take-add}
+use Rattle.std.proofs.lemmas.List.{append-nil, take-append-drop, length-append, length-drop}
 use Rattle.std.specs.Io.KnownBytes.{Appends, Consumes, Keeps}
 use Rattle.room_http.specs.declared.ended.Cause.{Cause}
 use Rattle.room_http.specs.Spans.{Came, StopsReading}
 use Rattle.room_http.specs.Turn.{WritesPart}
-
-pub Appends-then : (u v w : Option (List ℕ)) (a b : List ℕ) → Appends u v a → Appends v w b
-    → Appends u w (a ++ b)
-Appends-then None v w a b x y = tt
-Appends-then (Some xs) None w a b x y = absurd x
-Appends-then (Some xs) (Some ys) None a b x y = y
-Appends-then (Some xs) (Some ys) (Some zs) a b x y =
-    y ∙ ap (λ (t : List ℕ). t ++ b) x ∙ append_assoc xs a b
-
-pub Appends-kept : (u v w : Option (List ℕ)) (a : List ℕ) → Appends u v a → Keeps v w
-    → Appends u w a
-Appends-kept None v w a x y = tt
-Appends-kept (Some xs) None w a x y = absurd x
-Appends-kept (Some xs) (Some ys) None a x y = absurd y
-Appends-kept (Some xs) (Some ys) (Some zs) a x y = y ∙ x
-
-pub Appends-none : (u : Option (List ℕ)) → Appends u u []
-Appends-none None = tt
-Appends-none (Some xs) = sym (append-nil xs)
+use Rattle.room_entry.proofs.Facts.KnownBytes.{Appends-then, Appends-kept}
 
 pub Consumes-then : (u v w : Option (List ℕ)) (a b : List ℕ) → Consumes u v a → Consumes v w b
     → Consumes u w (a ++ b)
@@ -76,18 +57,6 @@ WritesPart-at u v w text n lt x y =
       omega (arith, len, lt),
     )
 
-pub Appends-at : (u v w : Option (List ℕ)) (text : List ℕ) (n m : ℕ)
-    → Appends u v (take n text) → Appends v w (take m (take (length text - n) (drop n text)))
-    → Appends u w (take (n + m) text)
-Appends-at u v w text n m x y =
-    let W : List ℕ → Type 0 = λ t. Appends u w t in
-    let V : List ℕ → Type 0 = λ t. Appends v w t in
-    let len : length (drop n text) ≡ length text - n = length-drop n text in
-    let rest : take (length text - n) (drop n text) ≡ drop n text = take_all (length text - n)
-    (drop n text) (omega (arith, len)) in
-    let y' : Appends v w (take m (drop n text)) = subst V (ap (λ t. take m t) rest) y in
-    subst W (sym (take-add n m text)) (Appends-then u v w (take n text) (take m (drop n text)) x y')
-
 -- two parts of a text one after the other
 pub both-written : {A E : Type 0} (result : Result A E) (u v w : Option (List ℕ))
     (front rest text : List ℕ) → front ++ rest ≡ text
@@ -125,18 +94,6 @@ second-part (Err why) u v w front rest text e x y =
       ),
       y.1,
     )
-
--- nothing was written
-pub Keeps-none : (v w : Option (List ℕ)) → Appends v w [] → Keeps v w
-Keeps-none None w x = tt
-Keeps-none (Some xs) None x = x
-Keeps-none (Some xs) (Some ys) x = x ∙ append-nil xs
-
-pub Keeps-zero : (v w : Option (List ℕ)) (n : ℕ) (text : List ℕ) → n ≡ 0 → Appends v w (take n text)
-    → Keeps v w
-Keeps-zero v w n text e x =
-    let V : List ℕ → Type 0 = λ t. Appends v w t in
-    Keeps-none v w (subst V (ap (λ k. take k text) e) x)
 
 -- an answer is one of two
 abbrev IsNoYes : {E : Type 0} → Result Bool E → Type 0

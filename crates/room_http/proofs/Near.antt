@@ -10,7 +10,7 @@ use Rattle.room_http.specs.declared.ended.Cause.{Cause}
 use Rattle.room_http.specs.declared.next.NextMessage.{NextMessage}
 use Rattle.room_http.specs.Limits.{max_head, read_size}
 use Rattle.room_http.specs.Message.{print_message, BeginsWith, IsPart}
-use Rattle.room_http.specs.Serve.{IsNear, IsNearHead}
+use Rattle.room_http.specs.Serve.{IsNear}
 use Rattle.room_http.specs.Spans.{Came, Loses, SpansHead, StopsBody, StopsReading}
 use Rattle.room_http.specs.Turn.{WholeNext}
 use Rattle.room_http.proofs.KnownBytes.{Came-then}

@@ -1,25 +1,18 @@
 -- Runs over what a desk kept at several moments.
-use Rattle.std.proofs.Common.{ℤ, List, [], ◌∷◌, ◌++◌, subst, sym, refl}
+use Rattle.std.proofs.Common.{ℤ, List, [], ◌++◌, subst, sym, refl}
 use Rattle.std.specs.List.{flat_map}
 use Rattle.std.proofs.lemmas.Grind.{flat_map-append}
 use Rattle.room_rows.specs.Content.{Content}
-use Rattle.room_machine.specs.Run.{Event, Run}
+use Rattle.room_machine.specs.Run.{Event}
 use Rattle.room_http.specs.Stream.{Exchange, event_at, RunsExchanges, Runs}
+use Rattle.room_machine.proofs.Meeting.{meet}
 
--- two runs that meet are one run
-Run-then : (old mid new : Content) (events others : List Event)
-    → Run old events mid → Run mid others new → Run old (events ++ others) new
-Run-then old mid new [] others first then =
-    subst (λ (start : Content). Run start others new) first then
-Run-then old mid new (event ∷ events) others first then =
-    (first.0, first.1, Run-then first.0 mid new events others first.2 then)
-
-Runs-then : (old mid new : Content → Type 0) (events others : List Event)
+pub Runs-then : (old mid new : Content → Type 0) (events others : List Event)
     → Runs old events mid → Runs mid others new → Runs old (events ++ others) new
 Runs-then old mid new events others first then room is =
     let a = first room is in
     let b = then a.0 a.2 in
-    (b.0, Run-then room a.0 b.0 events others a.1 b.1, b.2)
+    (b.0, meet room a.0 b.0 events others a.1 b.1, b.2)
 
 pub Runs-none : (old : Content → Type 0) → Runs old [] old
 Runs-none old room is = (room, refl, is)

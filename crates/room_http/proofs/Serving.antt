@@ -14,7 +14,8 @@ use Rattle.room_http.specs.Message.{print_message}
 use Rattle.room_http.specs.Stream.{Exchange, IsOpen, exchange_text, bytes_of, texts_of, last_text, Last, last_exchange, RunsExchanges, EndsStream}
 use Rattle.room_http.specs.Serve.{Seen, Blames, FaultsRose, Serves, Stops, Connects, Next, next_text, next_exchange, IsNext, NextRose, NearLast, NearNext}
 use Rattle.room_http.specs.Turn.{Along, TurnsOpen, TurnsLast, TurnsStop}
-use Rattle.room_http.proofs.KnownBytes.{Appends-then, Appends-none, Consumes-then, Consumes-none}
+use Rattle.room_http.proofs.KnownBytes.{Consumes-then, Consumes-none}
+use Rattle.room_entry.proofs.Facts.KnownBytes.{Appends-then, Appends-none}
 
 pub Along-begin : (holds : Type 0) (at : ℤ) (old : Seen) → Along holds at 0 old old []
 Along-begin holds at old = record {

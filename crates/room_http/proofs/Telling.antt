@@ -12,13 +12,13 @@ use Rattle.room_http.specs.declared.told.Answer.{Answer}
 use Rattle.room_http.specs.declared.told.Response.{Response}
 use Rattle.room_http.specs.declared.told.Lost.{Lost}
 use Rattle.room_rows.specs.Content.{Content}
-use Rattle.room_http.specs.Stream.{Agrees, IsRequest, answer_text, events_at, Runs}
+use Rattle.room_http.specs.Stream.{Agrees, answer_text, events_at, Runs}
 use Rattle.room_http.specs.Text.{store_text}
 use Rattle.room_http.specs.Serve.{Seen, BlamesText, BlamesWriter}
 use Rattle.room_http.specs.Turn.{WritesPart}
 use Rattle.room_http.specs.Tell.{Replies, Begun, IsBegun, StopsFault, StopsWithin}
 use Rattle.room_http.specs.declared.ended.Cause.{Cause}
-use Rattle.room_http.proofs.KnownBytes.{Appends-none}
+use Rattle.room_entry.proofs.Facts.KnownBytes.{Appends-none}
 
 rose-by : (old new : ℕ) → (old < 2 ^ 64 - 1) ⊎ (2 ^ 64 - 1 ≤ old) → new ≡ min (old + 1) (2 ^ 64 - 1)
     → Rose old new

@@ -1,10 +1,11 @@
 -- One turn of the server.
-use Rattle.std.proofs.Common.{◌≡◌, ℕ, ℤ, ◌+◌, ◌<◌, ◌||◌, ◌==◌, Bool, true, false, List, [], ◌∷◌, ◌++◌, length, drop, refl, sym, ap, subst, ◌∙◌, arith, Option, Some, None, unwrap_or, Result, Ok, Err, IfOk, IfErr}
+use Rattle.std.proofs.Common.{◌≡◌, ℕ, ℤ, ◌+◌, ◌<◌, ◌||◌, ◌==◌, Bool, true, false, List, [], ◌∷◌, ◌++◌, length, drop, refl, sym, ap, subst, ◌∙◌, arith, Option, Some, None, Result, Ok, Err, IfOk, IfErr}
 use Rattle.std.proofs.Common.{◌≢◌}
 use Rattle.std.proofs.lemmas.Bool.{eq-eqb, true≢false}
 use Rattle.std.proofs.lemmas.List.{append-nil}
 use Rattle.std.specs.List.{slice_range}
 use Rattle.std.specs.Io.KnownBytes.{Appends, IsAtEnd}
+use Rattle.std.proofs.lemmas.Option.{same_Some, none-some}
 use Rattle.room_rows.specs.Content.{Content}
 use Rattle.room_machine.specs.declared.reply.Reply.{Reply}
 use Rattle.room_machine.specs.Run.{Event}
@@ -20,13 +21,14 @@ use Rattle.room_http.specs.Limits.{max_messages, read_size}
 use Rattle.room_http.specs.Message.{Message, print_message, IsRefusedHead, IsPart, asked, closes, head_of}
 use Rattle.room_http.specs.Text.{store_text, refusal_reply}
 use Rattle.room_http.specs.Stream.{Last, answer_text, events_at, Runs, RunsExchanges, says_close}
-use Rattle.room_http.specs.Spans.{Came, StopsReading}
+use Rattle.room_http.specs.Spans.{Came}
 use Rattle.room_http.specs.Serve.{Seen, Next, BlamesBefore, IsNearHead}
 use Rattle.room_http.specs.Turn.{TurnsOpen, TurnsLast, TurnsStop, Turns, WholeNext}
 use Rattle.room_http.specs.Tell.{Replies, Fails, Begun, IsBegun, StopsWithin}
 use Rattle.room_http.proofs.Near.{near-message, near-rest}
-use Rattle.room_http.proofs.KnownBytes.{Appends-none, Came-none, Came-then, Consumes-none}
+use Rattle.room_http.proofs.KnownBytes.{Came-none, Came-then, Consumes-none}
 use Rattle.room_http.specs.declared.refusal.Refusal.{Refusal}
+use Rattle.room_entry.proofs.Facts.KnownBytes.{Appends-none}
 
 -- the message asks what its copied head and its body ask
 pub asks-the-same : (buf : List ℕ) (next : NextMessage) (w : WholeNext buf next)
@@ -251,15 +253,6 @@ shift holds at n left mid sent content faults new buf came after (Err stop) more
   faults = t.faults;
 }
 
--- what stands at the front was refused
-none-is-no-some : {A : Type 0} {x : A} → None ≡ Some x → ⊥
-none-is-no-some {A} {x} e =
-    let P : Option A → Type 0 = λ o. elim o [ None ↦ Unit {0} | Some y ↦ ⊥ ] in
-    subst P e tt
-
-some-same : {A : Type 0} (x y : A) → Some x ≡ Some y → x ≡ y
-some-same x y e = ap (λ o. unwrap_or o x) e
-
 pub turn-refused : (holds : Type 0) (at : ℤ) (n : ℕ) (left mid sent wrote : Option (List ℕ))
     (content : Content → Type 0) (faults : ℕ)
     (buf came after : List ℕ) (reason : Refusal) (result : Result (Option Ended) Halt)
@@ -271,12 +264,12 @@ pub turn-refused : (holds : Type 0) (at : ℤ) (n : ℕ) (left mid sent wrote : 
     (record { left = mid; sent = wrote; content = content; faults = faults }) buf after result
 turn-refused holds at n left mid sent wrote content faults buf came after reason
     (Ok None) more is near ok err =
-    absurd (none-is-no-some ok.0)
+    absurd (none-some _ ok.0)
 turn-refused holds at n left mid sent wrote content faults buf came after reason
     (Ok (Some ended)) more is near ok err =
     record {
       last = Last.Refused reason;
-      is = some-same ended Ended.Closed ok.0;
+      is = same_Some ended Ended.Closed ok.0;
       rest = came;
       came = more;
       ends = is;

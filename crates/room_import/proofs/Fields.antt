@@ -1,20 +1,7 @@
 -- The fields of a row, and what they say.
-use Rattle.std.proofs.Common.{ℕ, ◌≡◌, ◌+◌, ◌<◌, ◌≤◌, Bool, true, false, List, [], ◌∷◌, length, Some, None, Result, Ok, Err, codes, refl, sym, ap, ◌∙◌, arith}
-use Rattle.std.specs.Prelude.{◌&&◌, if◌then◌else◌}
-use Rattle.std.specs.List.{list_all}
-use Rattle.std.specs.Cmp.Lexicographic.{pointwise}
-use Rattle.std.proofs.lemmas.Bool.{cond-true, cond-false, le-ltb, lt-ltb}
+use Rattle.std.proofs.Common.{ℕ, ◌≡◌, List, [], ◌∷◌, length, Some, None, refl, arith}
 use Rattle.csv.specs.Records.{field_at}
-use Rattle.room_entry.specs.Gives.{Gives}
-use Rattle.room_entry.specs.Utf8.{is_utf8}
-use Rattle.room_entry.specs.Names.{is_name}
-use Rattle.room_entry.specs.Pieces.{same_text}
-use Rattle.room_entry.specs.declared.failure.Failure.{Failure}
-use Rattle.room_entry.specs.declared.failure.Failure.TheVariants.{OutOfMemory, Fault}
-use Rattle.room_import.specs.declared.fault.CsvFault.{CsvFault}
-use Rattle.room_import.specs.declared.fault.CsvWhy.TheVariants.{BadHeader, NotTwoFields, BadName, TooManyRows, NotUtf8}
-use Rattle.room_import.specs.Groups.{and_then, fault_at, group_header, pair_of, pair_of_row, pairs_after, pairs_of_rows, with_pair}
-use Rattle.room_import.specs.Rows.{named, two_of}
+use Rattle.room_import.specs.Rows.{two_of}
 
 -- ---- two fields
 
@@ -40,9 +27,3 @@ two_there (x ∷ y ∷ []) group user two first second =
     let at_second : user ≡ y = cc second in
     rw (at_first, at_second) refl
 two_there (x ∷ y ∷ z ∷ fields) group user two first second = absurd (omega (arith, two))
-
--- ---- the header
-
--- ---- rows below it
-
--- ---- names

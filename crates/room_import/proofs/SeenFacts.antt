@@ -1,10 +1,9 @@
 -- The set of pairs that came before, as pairs are added.
-use Rattle.std.proofs.Common.{ℕ, ◌≡◌, ◌∷◌, ◌++◌, Bool, true, false, cond, List, [], String, string_bytes, string_cmp, refl, sym, ap, ◌∙◌}
-use Rattle.std.specs.Prelude.{◌&&◌, ◌||◌, not}
+use Rattle.std.proofs.Common.{ℕ, ◌≡◌, ◌∷◌, ◌++◌, true, false, cond, List, [], String, string_bytes, string_cmp, refl, sym, ap, ◌∙◌}
+use Rattle.std.specs.Prelude.{◌&&◌}
 use Rattle.std.specs.List.{list_any}
 use Rattle.std.specs.Ordering.{is_eq}
 use Rattle.std.specs.Cmp.{tied_then}
-use Rattle.std.specs.Cmp.Lexicographic.{bytes_decides}
 use Rattle.std.specs.BTreeSet.{BTreeSet, contains}
 use Rattle.std.proofs.lemmas.Bool.{cond-true, cond-false}
 use Rattle.std.proofs.lemmas.List.Folds.{list_any-append}
@@ -12,16 +11,8 @@ use Rattle.std.proofs.lemmas.Map.Text.{is_eq-slice_cmp}
 use Rattle.room_entry.specs.Pieces.{same_text}
 use Rattle.room_import.specs.Groups.{same_pair, with_pair}
 use Rattle.room_import.specs.Seen.{HasSeen, pair_bytes, pair_cmp}
-
-agree : (a b : Bool) → (a ≡ true → b ≡ true) → (b ≡ true → a ≡ true) → a ≡ b
-agree true b to from = sym (to refl)
-agree false true to from = from refl
-agree false false to from = refl
-
-same_text-sym : (a b : List ℕ) → same_text a b ≡ same_text b a
-same_text-sym a b =
-    agree _ _ (λ e. (bytes_decides b a).1 (sym ((bytes_decides a b).0 e)))
-    (λ e. (bytes_decides a b).1 (sym ((bytes_decides b a).0 e)))
+use Rattle.room_entry.proofs.Facts.Booleans.{one_more}
+use Rattle.room_entry.proofs.Texts.{same_text-sym}
 
 -- two keys compare as equal where their texts are the same
 key_equal : {A : Type 0} (x y : String A × String A)
@@ -34,12 +25,6 @@ key_equal x y =
     ∙ ap (λ b. same_text (string_bytes y.0) (string_bytes x.0) && b)
     (is_eq-slice_cmp (string_bytes x.1) (string_bytes y.1)
     ∙ same_text-sym (string_bytes x.1) (string_bytes y.1))
-
-one_more : (is : Bool) (before : Bool) → cond is true before ≡ (before || (is || false))
-one_more true true = refl
-one_more true false = refl
-one_more false true = refl
-one_more false false = refl
 
 pub seen_more : {A : Type 0} (seen more : BTreeSet (String A × String A))
     (pairs : List (List ℕ × List ℕ)) (key : String A × String A) → HasSeen seen pairs
@@ -68,14 +53,6 @@ with_new pairs pair isnt = cond-false _ _ _ isnt
 pub with_old : (pairs : List (List ℕ × List ℕ)) (pair : List ℕ × List ℕ)
     → list_any (same_pair pair) pairs ≡ true → with_pair pairs pair ≡ pairs
 with_old pairs pair is = cond-true _ _ _ is
-
-pub untrue : (b : Bool) → not b ≡ true → b ≡ false
-untrue true e = sym e
-untrue false e = refl
-
-pub unfalse : (b : Bool) → not b ≡ false → b ≡ true
-unfalse true e = refl
-unfalse false e = sym e
 
 pub key_named : {A : Type 0} (first second : String A) (group user : List ℕ)
     → string_bytes first ≡ group → string_bytes second ≡ user

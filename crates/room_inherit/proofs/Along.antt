@@ -14,7 +14,8 @@ use Rattle.room_rows.specs.Full.{fulls, fulls_below, full_below}
 use Rattle.room_rows.specs.Law.{AllAgree, agrees, agrees_with}
 use Rattle.room_inherit.specs.Laws.{StoredAlongPath}
 use Rattle.room_rows.specs.Pass.{pass}
-use Rattle.room_inherit.proofs.Stored.{all_found, or_true}
+use Rattle.room_inherit.proofs.Stored.{all_found}
+use Rattle.room_entry.proofs.Facts.Booleans.{implied}
 
 module _ (content : Content) (rises : Rises content) (which : Which)
     (all : AllAgree content which) where
@@ -39,7 +40,7 @@ module _ (content : Content) (rises : Rises content) (which : Which)
       on true linked agree =
           ap (λ es. (held_of which child).own ++ es)
           (sym (entries_equal (held_of which child).inh (pass child.kind (stored parent))
-          (or_true (is_linked (held_of which child) (Some (held_of which parent))) _ agree linked)))
+          (implied (is_linked (held_of which child) (Some (held_of which parent))) _ agree linked)))
       on false linked agree = refl
 
   child_above : (parent child : Node) (name : List ℕ) → node_at content parent.id ≡ Some parent

@@ -24,7 +24,7 @@ use Rattle.room_inherit.specs.declared.outcome.Spread.{Spread}
 use Rattle.room_inherit.specs.declared.outcome.SpreadFault.{SpreadFault}
 use Rattle.room_inherit.specs.declared.outcome.SpreadFault.TheVariants.{Keeper, Loop}
 use Rattle.room_inherit.proofs.Kinship.{same_parent}
-use Rattle.room_inherit.proofs.Members.{count-is, count_length, count_map}
+use Rattle.room_entry.proofs.Facts.Members.{count-is, count_length, count_map}
 use Rattle.room_inherit.proofs.Renewing.{map_map}
 use Rattle.room_inherit.proofs.Frontier.{set, find_set}
 use Rattle.room_inherit.proofs.Folders.{folders_stay}

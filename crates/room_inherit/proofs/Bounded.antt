@@ -15,7 +15,7 @@ use Rattle.room_inherit.specs.declared.descent.Descent.{Descent}
 use Rattle.room_inherit.specs.declared.outcome.SpreadFault.{SpreadFault}
 use Rattle.room_inherit.specs.declared.outcome.SpreadFault.TheVariants.{Keeper}
 use Rattle.room_inherit.proofs.Calls.{capped_add}
-use Rattle.room_inherit.proofs.Members.{no_length}
+use Rattle.room_entry.proofs.Facts.Members.{no_length}
 use Rattle.room_inherit.proofs.Turns.{Progress, Carried, Turned, turned_on, turn_fails, first_turn}
 
 -- a count added to one that stays at its end

@@ -22,10 +22,10 @@ use Rattle.room_inherit.specs.declared.outcome.SpreadFault.{SpreadFault}
 use Rattle.room_inherit.specs.declared.outcome.SpreadFault.TheVariants.{Keeper, Loop}
 use Rattle.room_inherit.specs.Spread.{HasSpreadCause}
 use Rattle.room_inherit.specs.Turn.{AreKnown, IsChildless, LeavesOut, MeetsAgain, IsVisit, IsRenewal, Renews, RenewsAll, TellsWaiting, Visits, with_nodes, brought_up, is_outdated, one_if, passed_to, renewed, renewals, next_of, meets_again, waits_next}
-use Rattle.room_inherit.proofs.Kinship.{held_with, same_id}
 use Rattle.room_inherit.proofs.Renewing.{known_other, known_renewals, turn_becomes}
 use Rattle.room_inherit.proofs.Chosen.{below_put, chosen_append, chosen_there, none_below, one_chosen}
-use Rattle.room_inherit.proofs.Members.{no_length}
+use Rattle.room_rows.proofs.InPlace.{held_of-with_inh, with_inh-id}
+use Rattle.room_entry.proofs.Facts.Members.{no_length}
 
 -- ---- counts with an end
 
@@ -106,11 +106,11 @@ module _ (which : Which) (above child : Node) (entries : List Ace)
   stored_so old new known changes =
       let here = (subst (λ (l : List Node). AreKnown which l old.read) only_child known).0 in
       let found : node_at old.read child.id ≡ Some here.0 = ap (node_at old.read)
-      (sym (same_id which (passed_to which above child) child)) ∙ here.1 in
+      (sym (with_inh-id which (passed_to which above child) child)) ∙ here.1 in
       let same : with_inh which entries here.0 ≡ renewed which above child = ap
       (λ e. with_inh which e here.0)
       (passes
-      ∙ sym (ap (λ (h : Held). h.inh) (held_with which (passed_to which above child) child)))
+      ∙ sym (ap (λ (h : Held). h.inh) (held_of-with_inh which (passed_to which above child) child)))
       ∙ sym here.2 in
       changes here.0 found ∙ ap (λ (n : Node). reading old (with_node old.read n)) same
       ∙ ap (λ (l : List Node). reading old (with_nodes old.read l)) (sym only_child)

@@ -21,13 +21,13 @@ use Rattle.room_inherit.specs.declared.descent.Reach.TheVariants.{Renewed}
 use Rattle.room_inherit.specs.declared.outcome.Spread.{Spread}
 use Rattle.room_inherit.specs.declared.outcome.SpreadFault.{SpreadFault}
 use Rattle.room_inherit.specs.declared.outcome.SpreadFault.TheVariants.{Keeper, Loop}
-use Rattle.room_inherit.proofs.Members.{count, count-is}
-use Rattle.room_inherit.proofs.Children.{found_id}
+use Rattle.room_entry.proofs.Facts.Members.{count, count-is}
 use Rattle.room_inherit.proofs.Frontier.{Frontier, ids_set}
 use Rattle.room_inherit.proofs.Chosen.{all_chosen, below_lists, chosen_append, chosen_length, chosen_there, frontier_chosen}
 use Rattle.room_inherit.proofs.OneTurn.{after, rows_after, frontier_after, as_many, count_after}
 use Rattle.room_inherit.proofs.Ends.{own_lists, with_own_lists, own_unchanged, count_own, frontier_first, law_without, law_at_end, changed_agree, loop_found, count_less, as_many_numbers}
 use Rattle.room_inherit.proofs.Turns.{Progress}
+use Rattle.room_rows.proofs.Lookups.{found_number}
 
 -- ---- rows
 
@@ -48,7 +48,7 @@ pub fewer : (which : Which) (start : ℕ) (waiting : List Node) (old : Rows) (li
     → Frontier which start old.read lists waiting
     → suc (count (is_changed which lists) old.read.nodes) ≤ length (numbers_of old)
 fewer which start waiting old lists first is front =
-    let same = found_id start old.read.nodes first is in
+    let same = found_number start old.read.nodes first is in
     let unchanged : is_changed which lists first ≡ false = false_from_ne_true
     (is_changed which lists first) (λ changed.
     false≢true (sym (front.came first (ap (node_at old.read) same ∙ is) changed).isnt_start
@@ -232,7 +232,7 @@ module _ {S : Type 0} (k : Ghosts S)
       same t = found.same (first t)
 
       number : k.IsTrusted a c → start.id ≡ id
-      number t = found_id id (k.rows a).read.nodes start (sym (found.answers (first t)).0)
+      number t = found_number id (k.rows a).read.nodes start (sym (found.answers (first t)).0)
 
       given : k.IsTrusted a c → k.IsTrusted b c × Holds start (k.rows b)
       given t = (

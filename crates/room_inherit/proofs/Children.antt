@@ -1,12 +1,14 @@
 -- Objects of rows by their numbers, and the children of one.
-use Rattle.std.proofs.Common.{◌≡◌, ℕ, suc, ◌+◌, ◌<◌, ◌==◌, Bool, true, false, cond, ◌&&◌, ◌||◌, List, [], ◌∷◌, map, filter, length, Some, refl, sym, ap, subst, ◌∙◌, inl, inr, arith}
+use Rattle.std.proofs.Common.{◌≡◌, ℕ, suc, ◌<◌, ◌==◌, Bool, true, false, cond, ◌&&◌, ◌||◌, List, [], ◌∷◌, map, filter, length, Some, refl, sym, ap, subst, ◌∙◌, inl, inr, arith}
 use Rattle.std.specs.Prelude.{nat_lt}
-use Rattle.std.specs.List.{list_any}
+use Rattle.std.specs.List.{list_any, AllByRecursion as Each}
 use Rattle.std.proofs.lemmas.Bool.{cases_Bool, and_parts, or_parts, or_from, or_left, or_right, false≢true, eq-eqb, eqb-true, ne_eqb, ltb-true, false_from_ne_true}
+use Rattle.std.proofs.lemmas.Option.{same_Some}
 use Rattle.room_rows.specs.declared.node.Node.{Node}
 use Rattle.room_rows.specs.Content.{Content, node_at, has_parent, children_of, put_by_name, sorted_by_name, is_before, is_rising, with_each}
 use Rattle.room_rows.specs.Finding.{find_id}
-use Rattle.room_inherit.proofs.Members.{Each, each_weaker, each_filter, each_unfiltered, any_filter, any_agree, any_none, each_fails, none_of_both, none_filter, one_if, count, count_filter, count_length}
+use Rattle.room_entry.proofs.Facts.Members.{each_weaker, each_filter, each_unfiltered, any_filter, any_agree, any_none, each_fails, none_of_both, none_filter, count, count_filter, count_length}
+use Rattle.room_rows.proofs.Lookups.{each-sorted, count_sorted}
 
 -- ---- by number
 
@@ -23,14 +25,11 @@ Apart (x ∷ xs) = (has_id x.id xs ≡ false) × Apart xs
 abbrev pub ids_of : List Node → List ℕ
 ids_of nodes = map (λ (n : Node). n.id) nodes
 
-same_some : (x y : Node) → Some x ≡ Some y → x ≡ y
-same_some x y e = cc
-
-found_first : (id : ℕ) (x : Node) (xs : List Node) → (x.id == id) ≡ true
+pub found_first : (id : ℕ) (x : Node) (xs : List Node) → (x.id == id) ≡ true
     → find_id id (x ∷ xs) ≡ Some x
 found_first id x xs is = rw is refl
 
-found_later : (id : ℕ) (x : Node) (xs : List Node) → (x.id == id) ≡ false
+pub found_later : (id : ℕ) (x : Node) (xs : List Node) → (x.id == id) ≡ false
     → find_id id (x ∷ xs) ≡ find_id id xs
 found_later id x xs is = rw is refl
 
@@ -39,18 +38,8 @@ pub each_found : (P : Node → Type 0) (id : ℕ) (nodes : List Node) (node : No
     → find_id id nodes ≡ Some node → P node
 each_found P id [] node all found = absurd (let wrong : ⊥ = cc in wrong)
 each_found P id (x ∷ xs) node all found = elim (cases_Bool (x.id == id)) [
-  | inl is ↦ subst P (same_some x node (sym (found_first id x xs is) ∙ found)) all.0
+  | inl is ↦ subst P (same_Some x node (sym (found_first id x xs is) ∙ found)) all.0
   | inr isnt ↦ each_found P id xs node all.1 (sym (found_later id x xs isnt) ∙ found)
-]
-
--- an object that is found by a number has it
-pub found_id : (id : ℕ) (nodes : List Node) (node : Node) → find_id id nodes ≡ Some node
-    → node.id ≡ id
-found_id id [] node found = absurd (let wrong : ⊥ = cc in wrong)
-found_id id (x ∷ xs) node found = elim (cases_Bool (x.id == id)) [
-  | inl is ↦ ap (λ (n : Node). n.id) (sym (same_some x node (sym (found_first id x xs is) ∙ found)))
-      ∙ eqb-true x.id id is
-  | inr isnt ↦ found_id id xs node (sym (found_later id x xs isnt) ∙ found)
 ]
 
 found_has : (id : ℕ) (nodes : List Node) (node : Node) → find_id id nodes ≡ Some node
@@ -84,7 +73,7 @@ pub any_here : (T : Node → Bool) (x : Node) (nodes : List Node) → Apart node
 any_here T x [] apart found = absurd (let wrong : ⊥ = cc in wrong)
 any_here T x (y ∷ ys) apart found = elim (cases_Bool (y.id == x.id)) [
   | inl is ↦
-      let same : y ≡ x = same_some y x (sym (found_first x.id y ys is) ∙ found) in
+      let same : y ≡ x = same_Some y x (sym (found_first x.id y ys is) ∙ found) in
       let none : list_any (λ m. T m && (m.id == x.id)) ys ≡ false = none_of_both
       (λ (m : Node). m.id == x.id) T ys
       (ap (λ i. has_id i ys) (sym (eqb-true y.id x.id is)) ∙ apart.0) in
@@ -133,20 +122,6 @@ apart_rising k (x ∷ xs) rises =
 
 -- ---- sorted by name
 
-each_put : (P : Node → Type 0) (x : Node) (xs : List Node) → P x → Each P xs
-    → Each P (put_by_name x xs)
-each_put P x [] here all = (here, tt)
-each_put P x (y ∷ ys) here all = on (is_before y.name x.name) (each_put P x ys here all.1)
-  where
-    on : (t : Bool) → Each P (put_by_name x ys)
-        → Each P (cond t (y ∷ put_by_name x ys) (x ∷ y ∷ ys))
-    on true rest = (all.0, rest)
-    on false rest = (here, all)
-
-each_sorted : (P : Node → Type 0) (xs : List Node) → Each P xs → Each P (sorted_by_name xs)
-each_sorted P [] all = tt
-each_sorted P (x ∷ xs) all = each_put P x (sorted_by_name xs) all.0 (each_sorted P xs all.1)
-
 any_put : (p : Node → Bool) (x : Node) (xs : List Node)
     → list_any p (put_by_name x xs) ≡ (p x || list_any p xs)
 any_put p x [] = refl
@@ -166,27 +141,6 @@ any_put p x (y ∷ ys) = on (is_before y.name x.name) (any_put p x ys)
 pub any_sorted : (p : Node → Bool) (xs : List Node) → list_any p (sorted_by_name xs) ≡ list_any p xs
 any_sorted p [] = refl
 any_sorted p (x ∷ xs) = any_put p x (sorted_by_name xs) ∙ ap (λ r. p x || r) (any_sorted p xs)
-
-count_put : (q : Node → Bool) (x : Node) (xs : List Node)
-    → count q (put_by_name x xs) ≡ one_if (q x) + count q xs
-count_put q x [] = refl
-count_put q x (y ∷ ys) = on (is_before y.name x.name) (count_put q x ys)
-  where
-    on : (t : Bool) → count q (put_by_name x ys) ≡ one_if (q x) + count q ys
-        → count q (cond t (y ∷ put_by_name x ys) (x ∷ y ∷ ys))
-        ≡ one_if (q x) + (one_if (q y) + count q ys)
-    on true rest =
-        ap (λ n. one_if (q y) + n) rest ∙ swapped (one_if (q y)) (one_if (q x)) (count q ys)
-      where
-        swapped : (a b c : ℕ) → a + (b + c) ≡ b + (a + c)
-        swapped a b c = omega arith
-    on false rest = refl
-
--- sorting leaves how many pass a test
-pub count_sorted : (q : Node → Bool) (xs : List Node) → count q (sorted_by_name xs) ≡ count q xs
-count_sorted q [] = refl
-count_sorted q (x ∷ xs) =
-    count_put q x (sorted_by_name xs) ∙ ap (λ n. one_if (q x) + n) (count_sorted q xs)
 
 length_put : (x : Node) (xs : List Node) → length (put_by_name x xs) ≡ suc (length xs)
 length_put x [] = refl
@@ -305,7 +259,7 @@ module _ (rows : Content) (apart : Apart rows.nodes) where
       → ((n : Node) → node_at rows n.id ≡ Some n → has_parent id n ≡ true → P n)
       → Each P (children_of rows id)
   each_child P id all =
-      each_sorted P (filter (has_parent id) rows.nodes)
+      each-sorted P (filter (has_parent id) rows.nodes)
       (each_filter P (has_parent id) rows.nodes
       (each_there (λ n. has_parent id n ≡ true → P n) rows.nodes apart all))
 

@@ -14,8 +14,9 @@ use Rattle.room_rows.specs.Held.{held_of}
 use Rattle.room_inherit.specs.declared.descent.Descent.{Descent}
 use Rattle.room_inherit.specs.Spread.{with_lists}
 use Rattle.room_inherit.specs.Turn.{AreKnown, IsChildless, LeavesOut, TellsWaiting, brought_up, is_outdated, next_of, passed_to, put_nodes, renewed, waits_next}
-use Rattle.room_inherit.proofs.Kinship.{same_id, same_kind, same_parent}
-use Rattle.room_inherit.proofs.Members.{Each, any_agree, any_filter, any_map, each_fails, each_filter}
+use Rattle.room_inherit.proofs.Kinship.{same_kind, same_parent}
+use Rattle.room_rows.proofs.InPlace.{with_inh-id}
+use Rattle.room_entry.proofs.Facts.Members.{Each, any_agree, any_filter, any_map, each_fails, each_filter}
 use Rattle.room_inherit.proofs.Children.{Apart, any_sorted, each_found, has_id}
 use Rattle.room_inherit.proofs.Renewing.{known_other}
 use Rattle.room_inherit.proofs.Frontier.{Frontier, Waits, set, set_parent}
@@ -282,7 +283,7 @@ one_chosen rows d above child waits (inr (stays, childless)) =
     still true = (
       ap is_document (same_kind d.which (passed_to d.which above child) child) ∙ childless.0,
       ap (λ i. list_any (has_parent i) rows.nodes)
-          (same_id d.which (passed_to d.which above child) child) ∙ childless.1,
+          (with_inh-id d.which (passed_to d.which above child) child) ∙ childless.1,
     )
     still false = childless
 

@@ -1,7 +1,7 @@
 -- Where carrying a change down begins, and where it ends.
 use Rattle.std.proofs.Common.{◌≡◌, ℕ, zero, suc, ◌+◌, ◌≤◌, ◌==◌, Bool, true, false, cond, not, ◌||◌, List, [], ◌∷◌, ◌++◌, map, length, Option, Some, None, refl, sym, ap, ◌∙◌, inl, inr, arith}
-use Rattle.std.specs.Prelude.{option_and_then, nat_lt}
-use Rattle.std.specs.List.{list_all}
+use Rattle.std.specs.Prelude.{option_and_then}
+use Rattle.std.specs.List.{list_all, AllByRecursion as Each}
 use Rattle.std.specs.Option.{option_map, option_map_or}
 use Rattle.std.proofs.lemmas.Bool.{cases_Bool, and_parts, or_cases, or_left, or_right, not-false, false≢true, eq-eqb, eqb-true}
 use Rattle.std.proofs.lemmas.List.{length-map, map-id}
@@ -15,17 +15,19 @@ use Rattle.room_rows.specs.Content.{Content, node_at, parent_of, has_parent, chi
 use Rattle.room_rows.specs.Finding.{find_id}
 use Rattle.room_rows.specs.Held.{held_of, full_of, is_linked}
 use Rattle.room_rows.specs.HeldList.{Held}
-use Rattle.room_rows.specs.Rows.{Rows, numbers_of, put_number, put_numbers}
+use Rattle.room_rows.specs.Rows.{Rows, numbers_of}
 use Rattle.room_rows.specs.Pass.{pass}
 use Rattle.room_rows.specs.Law.{AllAgree, AllAgreeBut, agrees, agrees_with}
 use Rattle.room_inherit.specs.Spread.{ChangedAgree, stores_as_before, with_lists, is_changed, is_linked_within, is_within, IsOwnAncestor}
 use Rattle.room_inherit.specs.Turn.{is_linked_to, is_met_again, meets_again}
 use Rattle.room_inherit.proofs.Kinship.{same_parent, same_kind, with_own}
-use Rattle.room_inherit.proofs.Members.{Each, each_back, each_map, each_weaker, all_each, one_if, count, count_ends}
-use Rattle.room_inherit.proofs.Children.{ids_of, each_found, found_id, each_there, apart_rising, apart_map, some_child}
+use Rattle.room_entry.proofs.Facts.Members.{each_back, each_map, each_weaker, all_each, one_if, count, count_ends}
+use Rattle.room_inherit.proofs.Children.{ids_of, each_found, each_there, apart_rising, apart_map, some_child}
 use Rattle.room_inherit.proofs.Renewing.{map_agree, one_object}
 use Rattle.room_inherit.proofs.Frontier.{set, set_id, set_parent, set_held, find_set, links, passes, There, Waits, Came, AgreesOrWaits, Frontier}
-use Rattle.room_inherit.proofs.Outdated.{parent_is, same_above, parent_found, base_of}
+use Rattle.room_inherit.proofs.Outdated.{same_above, parent_found, base_of}
+use Rattle.room_rows.proofs.Lookups.{found_number, length_numbers}
+use Rattle.room_rows.proofs.Frames.{parent_is}
 
 -- where a test of all objects is passed, each object passes it
 pub each_all : (p : Node → Bool) (xs : List Node) → list_all p xs ≡ true → Each (λ x. p x ≡ true) xs
@@ -90,7 +92,7 @@ module _ (which : Which) (start : ℕ) (old : Content)
   pub frontier_first : (s : Node) → node_at old start ≡ Some s
       → Frontier which start old (own_lists which) (s ∷ [])
   frontier_first s found =
-      let same : s.id ≡ start = found_id start old.nodes s found in
+      let same : s.id ≡ start = found_number start old.nodes s found in
       record {
         known = (
           record {
@@ -155,7 +157,7 @@ module _ (which : Which) (start : ℕ) (old : Content)
         with_parent : (q : Node) (p : ℕ) → n.parent ≡ Some p → node_at old p ≡ Some q
             → agrees_with which (set which f n) (set which f q) ≡ true
         with_parent q p up found =
-            let same : q.id ≡ p = found_id p old.nodes q found in
+            let same : q.id ≡ p = found_number p old.nodes q found in
             let there' : There which start old q = ap (node_at old) same ∙ found in
             let has : has_parent q.id n ≡ true = ap
             (λ o. option_map_or (λ parent. parent == q.id) o false) up
@@ -311,20 +313,6 @@ count_less p id (x ∷ xs) s found isnt = on (x.id == id) found (count_less p id
     on true is rest = let same : x ≡ s = cc in let none : one_if (p x) ≡ 0 =
         ap one_if (ap p same ∙ isnt) in omega (arith, none, ends)
     on false is rest = let r = rest is isnt in let o = one_at_most (p x) in omega (arith, r, o)
-
-length_put : (id : ℕ) (ids : List ℕ) → length (put_number id ids) ≡ suc (length ids)
-length_put id [] = refl
-length_put id (x ∷ xs) = on (nat_lt x id) (length_put id xs)
-  where
-    on : (t : Bool) → length (put_number id xs) ≡ suc (length xs)
-        → length (cond t (x ∷ put_number id xs) (id ∷ x ∷ xs)) ≡ suc (length (x ∷ xs))
-    on true rest = ap suc rest
-    on false rest = refl
-
-length_numbers : (more ids : List ℕ) → length ids ≤ length (put_numbers more ids)
-length_numbers [] ids = omega arith
-length_numbers (id ∷ more) ids = let e = length_put id (put_numbers more ids) in let r =
-    length_numbers more ids in omega (arith, e, r)
 
 -- there are at least as many numbers in use as objects that can be read
 pub as_many_numbers : (rows : Rows) → length rows.read.nodes ≤ length (numbers_of rows)

@@ -11,8 +11,9 @@ use Rattle.room_rows.proofs.SamePlace.{IsSamePlace}
 use Rattle.room_inherit.specs.Spread.{with_lists}
 use Rattle.room_inherit.proofs.Kinship.{same_kind, same_name, same_parent}
 use Rattle.room_inherit.proofs.Frontier.{set, set_id}
-use Rattle.room_inherit.proofs.Outdated.{parent_is, parent_found}
+use Rattle.room_inherit.proofs.Outdated.{parent_found}
 use Rattle.room_inherit.proofs.Unmoved.{all_map, folder_above}
+use Rattle.room_rows.proofs.Frames.{parent_is}
 
 -- an object stands in a folder if its parent is one
 pub in_folder_is : (content : Content) (node parent : Node)

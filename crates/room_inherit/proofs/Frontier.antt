@@ -1,6 +1,7 @@
 -- The objects that wait, while a change of a list is carried down.
 use Rattle.std.proofs.Common.{◌≡◌, ℕ, ◌==◌, Bool, true, false, cond, not, ◌||◌, List, [], ◌∷◌, ◌++◌, map, Option, Some, refl, ap, ◌∙◌, ◌⊎◌}
 use Rattle.std.specs.Option.{option_map, option_map_or}
+use Rattle.std.specs.List.{AllByRecursion as Each}
 use Rattle.room_entry.specs.Ace.{Ace}
 use Rattle.room_entry.specs.Valid.{is_document}
 use Rattle.room_entry.specs.declared.object.Which.{Which}
@@ -12,10 +13,10 @@ use Rattle.room_rows.specs.Keep.{with_inh}
 use Rattle.room_rows.specs.Law.{AllAgreeBut}
 use Rattle.room_rows.specs.Pass.{pass}
 use Rattle.room_inherit.specs.Spread.{is_changed, IsLinkedBelow}
-use Rattle.room_inherit.proofs.Kinship.{same_id, same_kind, same_parent, held_with}
-use Rattle.room_inherit.proofs.Members.{Each}
+use Rattle.room_inherit.proofs.Kinship.{same_kind, same_parent}
 use Rattle.room_inherit.proofs.Children.{has_id, Apart, ids_of}
 use Rattle.room_inherit.proofs.Renewing.{map_agree, map_map}
+use Rattle.room_rows.proofs.InPlace.{held_of-with_inh, with_inh-id}
 
 -- ---- objects with other lists
 
@@ -24,7 +25,7 @@ module _ (which : Which) (f : Node → List Ace) where
   set node = with_inh which (f node) node
 
   pub set_id : (n : Node) → (set n).id ≡ n.id
-  set_id n = same_id which (f n) n
+  set_id n = with_inh-id which (f n) n
 
   pub set_parent : (id : ℕ) (n : Node) → has_parent id (set n) ≡ has_parent id n
   set_parent id n =
@@ -35,7 +36,7 @@ module _ (which : Which) (f : Node → List Ace) where
   set_folder n = ap (λ k. not (is_document k)) (same_kind which (f n) n)
 
   pub set_held : (n : Node) → held_of which (set n) ≡ record (held_of which n) { inh = f n }
-  set_held n = held_with which (f n) n
+  set_held n = held_of-with_inh which (f n) n
 
   -- the same objects are found, with their other lists
   pub find_set : (id : ℕ) (nodes : List Node)

@@ -7,12 +7,6 @@ use Rattle.room_rows.specs.declared.node.Node.{Node}
 use Rattle.room_rows.specs.Held.{held_of}
 use Rattle.room_rows.specs.Keep.{with_inh}
 
--- with other inherited entries an object keeps its number
-pub same_id : (which : Which) (entries : List Ace) (node : Node)
-    → (with_inh which entries node).id ≡ node.id
-same_id Dacl entries node = refl
-same_id Sacl entries node = refl
-
 -- it keeps its parent, so it stays below the same object
 pub same_parent : (which : Which) (entries : List Ace) (node : Node)
     → (with_inh which entries node).parent ≡ node.parent
@@ -30,12 +24,6 @@ pub same_kind : (which : Which) (entries : List Ace) (node : Node)
     → (with_inh which entries node).kind ≡ node.kind
 same_kind Dacl entries node = refl
 same_kind Sacl entries node = refl
-
--- its list has these inherited entries, and the own entries and flags that it had
-pub held_with : (which : Which) (entries : List Ace) (node : Node)
-    → held_of which (with_inh which entries node) ≡ record (held_of which node) { inh = entries }
-held_with Dacl entries node = refl
-held_with Sacl entries node = refl
 
 -- inherited entries set after others replace them
 pub with_last : (which : Which) (entries before : List Ace) (node : Node)

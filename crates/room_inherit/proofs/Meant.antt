@@ -1,7 +1,7 @@
 -- What sound rows mean is a content.
 use Rattle.std.proofs.Common.{◌≡◌, ℕ, ◌+◌, ◌<◌, ◌≤◌, ◌==◌, Bool, true, false, cond, not, ◌&&◌, ◌||◌, List, [], ◌∷◌, map, filter, length, Option, Some, None, refl, sym, ap, ◌∙◌, inl, inr, arith}
 use Rattle.std.specs.Prelude.{is_none, is_some, nat_lt, nat_le}
-use Rattle.std.specs.List.{find, list_all, list_any}
+use Rattle.std.specs.List.{find, list_all, list_any, AllByRecursion as Each}
 use Rattle.std.specs.Option.{option_map, option_map_or}
 use Rattle.std.proofs.lemmas.Bool.{cases_Bool, and_parts, and_from, or_from, false≢true, eqb-true, eq-eqb, ne_eqb, ltb-true, lt-ltb, false_from_ne_true}
 use Rattle.std.proofs.lemmas.List.{length-map}
@@ -21,12 +21,13 @@ use Rattle.room_rows.proofs.InPlace.{KeepsPlaces, numbers-with_each, root_of-wit
 use Rattle.room_rows.proofs.SamePlace.{IsSamePlace, filter-changed}
 use Rattle.room_inherit.specs.Laws.{HasNoFault, SoundIsContent}
 use Rattle.room_rows.specs.Sound.{bad_root, has_sound_body, has_sound_name, reaches, same_place}
-use Rattle.room_inherit.proofs.Children.{apart_rising, each_above, each_found, each_there, found_id, ids_of}
-use Rattle.room_inherit.proofs.Members.{Each, any_map, any_none, count, count_length, each_fails, one_if}
+use Rattle.room_inherit.proofs.Children.{apart_rising, each_above, each_found, each_there, ids_of}
+use Rattle.room_entry.proofs.Facts.Members.{any_map, any_none, count, count_length, each_fails, one_if}
 use Rattle.room_inherit.proofs.NoFault.{no_fault, none_bad, root_alone}
 use Rattle.room_inherit.proofs.Stored.{all_found, linked_kept}
 use Rattle.room_inherit.proofs.Unmoved as unmoved
 use Rattle.room_inherit.proofs.Whole.{among_found, none_unreadable}
+use Rattle.room_rows.proofs.Lookups.{found_number}
 
 -- ---- lists
 
@@ -408,7 +409,7 @@ module _ (rows : Rows) (are : AreRows rows) (none : HasNoFault rows)
       on (Some n) found =
           let fits : has_sound_body rows.read n ≡ true = all_found (has_sound_body rows.read)
           (λ m. m.id == id) rows.read.nodes n none.bodies found in
-          ap (λ i. is_some (body_of rows.read i)) (sym (found_id id rows.read.nodes n found))
+          ap (λ i. is_some (body_of rows.read i)) (sym (found_number id rows.read.nodes n found))
           ∙ fitting (is_document n.kind) (body_of rows.read n.id) fits
 
   bodies : map (λ row. row.0) rows.read.bodies

@@ -2,6 +2,7 @@
 use Rattle.std.proofs.Common.{◌≡◌, ℕ, Bool, true, false, cond, not, ap, ◌&&◌, List, [], ◌∷◌, filter, length, Option, Some, None, refl, sym, ◌∙◌}
 use Rattle.std.specs.List.{find, list_all}
 use Rattle.std.specs.Option.{option_map}
+use Rattle.std.proofs.Math.Bool.{not-not}
 use Rattle.room_rows.specs.declared.node.Node.{Node}
 use Rattle.room_rows.specs.Content.{has_folder_above, is_root}
 use Rattle.room_rows.specs.Rows.{Rows, numbers_of}
@@ -36,13 +37,9 @@ none_fails test (x ∷ xs) all = on (test x) (none_fails test xs) all
     on true rest all = rest all
     on false rest all = absurd (let wrong : ⊥ = cc in wrong)
 
-twice : (t : Bool) → not (not t) ≡ t
-twice true = refl
-twice false = refl
-
 unbad : (rows : Rows)
     → find (λ id. not (not (has_bad_list rows id))) (numbers_of rows) ≡ first_bad_list rows
-unbad rows = λ i. find (λ id. twice (has_bad_list rows id) i) (numbers_of rows)
+unbad rows = λ i. find (λ id. not-not (has_bad_list rows id) i) (numbers_of rows)
 
 -- ---- the report by what each test found
 

@@ -5,6 +5,7 @@ use Rattle.std.specs.List.Sorted.{IsSortedBy}
 use Rattle.std.specs.declared.cmp.Ordering.TheVariants.{Less, Equal, Greater}
 use Rattle.std.specs.Ordering.{nat_cmp, is_lt}
 use Rattle.std.proofs.lemmas.Bool.{false≢true, and_parts, eqb-true, eq-eqb, ne_eqb, ltb-true, lt-ltb, le-ltb, cond-true, cond-false}
+use Rattle.std.specs.Cmp.{nat_cmp_is}
 use Rattle.room_rows.specs.declared.node.Node.{Node}
 use Rattle.room_rows.specs.Content.{is_rising}
 use Rattle.room_rows.specs.Finding.{find_id}
@@ -73,14 +74,11 @@ equal_from_cmp x y is = on (nat_lt x y) (x == y) refl is
     on false true e is = eqb-true x y e
     on false false e is = absurd (let wrong : ⊥ = cc in wrong)
 
-equal_cmp : (x y : ℕ) → x ≡ y → nat_cmp x y ≡ Equal
-equal_cmp x y e = cond-false _ _ _ (le-ltb x y (omega (arith, e))) ∙ cond-true _ _ _ (eq-eqb x y e)
-
 pub apart_from_less : (x y : ℕ) → nat_cmp x y ≡ Less → x ≡ y → ⊥
-apart_from_less x y is e = let same = equal_cmp x y e in let wrong : ⊥ = cc in wrong
+apart_from_less x y is e = let same = sym (nat_cmp_is x y Equal e) in let wrong : ⊥ = cc in wrong
 
 pub apart_from_greater : (x y : ℕ) → nat_cmp x y ≡ Greater → x ≡ y → ⊥
-apart_from_greater x y is e = let same = equal_cmp x y e in let wrong : ⊥ = cc in wrong
+apart_from_greater x y is e = let same = sym (nat_cmp_is x y Equal e) in let wrong : ⊥ = cc in wrong
 
 pub sorted_by_number : (k : ℕ) (nodes : List Node) → is_rising (k ∷ ids_of nodes) ≡ true
     → IsSortedBy (λ (a b : Node). is_lt (nat_cmp a.id b.id)) nodes

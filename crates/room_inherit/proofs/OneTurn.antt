@@ -3,6 +3,8 @@ use Rattle.std.proofs.Common.{◌≡◌, ℕ, zero, suc, ◌+◌, ◌==◌, Bool
 use Rattle.std.specs.Option.{option_map, option_map_or}
 use Rattle.std.proofs.lemmas.Bool.{cases_Bool, and_from, and_left, cond-true, or_cases, or_parts, or_from, or_left, or_right, false≢true, eq-eqb, eqb-true, false_from_ne_true}
 use Rattle.std.proofs.lemmas.List.{length-map}
+use Rattle.std.specs.List.{AllByRecursion as Each}
+use Rattle.std.proofs.Math.Bool.{or-false}
 use Rattle.room_entry.specs.Ace.{Ace}
 use Rattle.room_entry.specs.Same.{same_entries}
 use Rattle.room_entry.specs.declared.object.Which.{Which}
@@ -15,12 +17,12 @@ use Rattle.room_rows.specs.Pass.{pass}
 use Rattle.room_inherit.specs.Spread.{with_lists, is_changed, is_linked_within, IsLinkedBelow}
 use Rattle.room_inherit.specs.Turn.{brought_up, is_linked_to, is_outdated, next_of, passed_to, renewed, renewals, renewed_below, is_met_again, meets_again, waits_next}
 use Rattle.room_inherit.specs.declared.descent.Reach.TheVariants.{Renewed}
-use Rattle.room_inherit.proofs.Kinship.{same_id}
-use Rattle.room_inherit.proofs.Members.{Each, each_append, each_front, each_back, each_weaker, each_map, each_filter, count}
+use Rattle.room_entry.proofs.Facts.Members.{each_append, each_front, each_back, each_weaker, each_map, each_filter, count}
 use Rattle.room_inherit.proofs.Children.{has_id, Apart, ids_of, apart_rising, apart_filter, apart_map, has_id_map, each_child, apart_children, is_such_child, no_child}
 use Rattle.room_inherit.proofs.Outdated as step
-use Rattle.room_inherit.proofs.Outdated.{parent_found, same_above, has_either, apart_join, apart_front, apart_last, has_last, or_false, base_of}
+use Rattle.room_inherit.proofs.Outdated.{parent_found, same_above, has_either, apart_join, apart_front, apart_last, has_last, base_of}
 use Rattle.room_inherit.proofs.Frontier.{set, set_id, set_parent, find_set, links, passes, is_reached, There, Waits, Came, Frontier}
+use Rattle.room_rows.proofs.InPlace.{with_inh-id}
 
 module _ (which : Which) (start : ℕ) (old : Content)
     (rises : is_rising (0 ∷ ids_of old.nodes) ≡ true) (f : Node → List Ace) (rest : List Node)
@@ -123,7 +125,7 @@ module _ (which : Which) (start : ℕ) (old : Content)
   kept_id n = on (is_outdated which w n)
     where
       on : (t : Bool) → (cond t (renewed which w n) n).id ≡ n.id
-      on true = same_id which (passed_to which w n) n
+      on true = with_inh-id which (passed_to which w n) n
       on false = refl
 
   kids_has : (n : Node) → There which start old n → has_id n.id kids ≡ stale n
@@ -283,7 +285,7 @@ module _ (which : Which) (start : ℕ) (old : Content)
         | inr last ↦
             absurd
             (false≢true (sym other ∙ eq-eqb p.id w.id
-            (sym (eqb-true w.id p.id (sym (or_false (w.id == p.id)) ∙ last)))))
+            (sym (eqb-true w.id p.id (sym (or-false (w.id == p.id)) ∙ last)))))
       ]
   other_agrees n p there there' has other (inr agrees) =
       let fresh : stale n ≡ false = and_left (has_parent w.id n) _

@@ -2,10 +2,12 @@
 -- are renewed.
 use Rattle.std.proofs.Common.{◌≡◌, ℕ, ◌+◌, ◌==◌, Bool, true, false, cond, not, ◌&&◌, ◌||◌, List, [], ◌∷◌, ◌++◌, filter, length, Option, Some, None, refl, sym, ap, ◌∙◌, inl, inr}
 use Rattle.std.specs.Prelude.{option_and_then}
-use Rattle.std.specs.Option.{option_map, option_map_or}
-use Rattle.std.proofs.lemmas.Bool.{cases_Bool, and_parts, or_parts, or_from, or_left, or_right, not-true, not-false, not_from_false, false≢true, eq-eqb, eqb-true, ne_eqb, cond-true, cond-false, false_from_ne_true}
+use Rattle.std.specs.Option.{option_map}
+use Rattle.std.proofs.lemmas.Bool.{cases_Bool, and_parts, or_parts, or_from, or_left, or_right, not-true, not-false, not_from_false, false≢true, eq-eqb, ne_eqb, cond-true, cond-false, false_from_ne_true}
 use Rattle.std.proofs.lemmas.List.Folds.{list_any-append}
 use Rattle.std.proofs.lemmas.List.{length-map}
+use Rattle.std.specs.List.{AllByRecursion as Each}
+use Rattle.std.proofs.Math.Bool.{or-false}
 use Rattle.room_entry.specs.Ace.{Ace}
 use Rattle.room_entry.specs.Same.{same_entries}
 use Rattle.room_entry.specs.declared.object.ObjKind.{ObjKind}
@@ -21,19 +23,13 @@ use Rattle.room_rows.specs.Pass.{pass}
 use Rattle.room_inherit.specs.Spread.{with_lists, is_changed}
 use Rattle.room_inherit.specs.Turn.{is_linked_to, is_outdated, renewed, renewals, renewed_below}
 use Rattle.room_inherit.proofs.Kinship.{same_kind, with_last}
-use Rattle.room_inherit.proofs.Members.{Each, count, count_length, count_map, count_agree, count_either}
+use Rattle.room_entry.proofs.Facts.Members.{count, count_length, count_map, count_agree, count_either}
 use Rattle.room_inherit.proofs.Children.{has_id, Apart, each_there, apart_map, count_children}
 use Rattle.room_inherit.proofs.Renewing.{map_agree, map_map, one_object}
 use Rattle.room_inherit.proofs.Frontier.{set, set_id, set_parent, set_held, links, passes}
+use Rattle.room_rows.proofs.Frames.{parent_is}
 
 -- ---- parents
-
-pub parent_is : (id : ℕ) (node : Node) → has_parent id node ≡ true → node.parent ≡ Some id
-parent_is id node has = on node.parent has
-  where
-    on : (p : Option ℕ) → option_map_or (λ parent. parent == id) p false ≡ true → p ≡ Some id
-    on None has = absurd (false≢true has)
-    on (Some parent) has = ap Some (eqb-true parent id has)
 
 pub same_above : (a b : ℕ) (node : Node) → has_parent a node ≡ true → has_parent b node ≡ true
     → a ≡ b
@@ -82,10 +78,6 @@ has_last xs y =
     has_either y.id xs (y ∷ [])
     ∙ or_right (has_id y.id xs) (has_id y.id (y ∷ []))
     (or_left (y.id == y.id) false (eq-eqb y.id y.id refl))
-
-pub or_false : (t : Bool) → (t || false) ≡ t
-or_false true = refl
-or_false false = refl
 
 pub base_of : (which : Which) (f : Node → List Ace) (m : Node) (o : Option Node)
     → option_map (set which f) o ≡ Some m → (n : Node) × (o ≡ Some n) × (m ≡ set which f n)
@@ -209,7 +201,7 @@ module _ (which : Which) (f : Node → List Ace) (w w0 : Node) where
     changed_is n there = elim (cases_Bool (stale n)) [
       | inl is ↦ changed_stale n there is ∙ sym (or_right (is_changed which f n) (stale n) is)
       | inr isnt ↦ ap (λ e. not (same_entries e (held_of which n).inh)) (keeps n isnt)
-          ∙ sym (or_false (is_changed which f n)) ∙ ap (λ t. is_changed which f n || t) (sym isnt)
+          ∙ sym (or-false (is_changed which f n)) ∙ ap (λ t. is_changed which f n || t) (sym isnt)
     ]
 
     pub count_renewed : w ≡ set which f w0 → Apart old.nodes

@@ -3,7 +3,7 @@ use Rattle.std.proofs.Common.{◌≡◌, ℕ, zero, suc, ◌==◌, Bool, true, f
 use Rattle.std.specs.Prelude.{is_none, nat_le, nat_lt, option_and_then}
 use Rattle.std.specs.List.{cons_option, list_all}
 use Rattle.std.specs.Option.{option_map, option_map_or}
-use Rattle.std.proofs.lemmas.Bool.{and_parts, and_from, cases_Bool, false≢true, false_from_ne_true, or_from, or_parts}
+use Rattle.std.proofs.lemmas.Bool.{and_parts, and_from, cases_Bool, false≢true, false_from_ne_true, or_from, or_parts, not-false, not-true}
 use Rattle.std.proofs.lemmas.List.Folds.{list_all-append}
 use Rattle.room_entry.specs.Ace.{Ace}
 use Rattle.room_entry.specs.Valid.{entry_fault, is_document}
@@ -29,29 +29,17 @@ use Rattle.room_rows.specs.Pass.{pass, passed_flags, ended, carried, waiting}
 use Rattle.room_rows.specs.Sound.{AreSound, bad_root, first_fault, has_bad_list, has_sound_body, has_sound_lists, has_sound_name, is_sound_held, reaches, same_place}
 use Rattle.room_inherit.specs.Spread.{is_changed}
 use Rattle.room_inherit.specs.SpreadAll.{IsSpreadAll, with_both}
-use Rattle.room_inherit.proofs.Children.{apart_rising, each_there, found_id}
-use Rattle.room_inherit.proofs.Members.{any_map}
+use Rattle.room_inherit.proofs.Children.{apart_rising, each_there}
+use Rattle.room_entry.proofs.Facts.Members.{any_map}
 use Rattle.room_inherit.proofs.NoFault.{IsChecked, checked, list_checked, sound}
 use Rattle.room_inherit.proofs.Renewing.{map_agree, map_map}
-use Rattle.room_inherit.proofs.Stored.{all_found, or_true}
+use Rattle.room_inherit.proofs.Stored.{all_found}
 use Rattle.room_inherit.proofs.Unmoved as unmoved
 use Rattle.room_inherit.proofs.Valid.{pass_is_valid}
 use Rattle.room_inherit.proofs.Whole.{not_bad}
-
-not_false : (t : Bool) → not t ≡ false → t ≡ true
-not_false true is = refl
-not_false false is = absurd (false≢true (sym is))
-
-not_true : (t : Bool) → not t ≡ true → t ≡ false
-not_true true is = absurd (false≢true is)
-not_true false is = refl
-
--- what all pass of one test, all pass of a weaker one
-all_weaker : {X : Type 0} (p q : X → Bool) → ((x : X) → p x ≡ true → q x ≡ true) → (xs : List X)
-    → list_all p xs ≡ true → list_all q xs ≡ true
-all_weaker p q weaker [] all = refl
-all_weaker p q weaker (x ∷ xs) all = let parts = and_parts (p x) (list_all p xs) all in
-    and_from (q x) (list_all q xs) (weaker x parts.0) (all_weaker p q weaker xs parts.1)
+use Rattle.room_entry.proofs.Facts.Lists.{all_implied}
+use Rattle.room_rows.proofs.Lookups.{found_number}
+use Rattle.room_entry.proofs.Facts.Booleans.{implied}
 
 all_both : {X : Type 0} (p q : X → Bool) (xs : List X) → list_all p xs ≡ true → list_all q xs ≡ true
     → list_all (λ x. p x && q x) xs ≡ true
@@ -67,7 +55,7 @@ all_both p q (x ∷ xs) one two =
 abbrev are_marked : List Ace → Bool
 are_marked entries = list_all (λ entry. entry.flags.inherited) entries
 
-marked_flags : (kind : ObjKind) (flags : EntryFlags)
+pub marked_flags : (kind : ObjKind) (flags : EntryFlags)
     → option_map_or (λ f. f.inherited) (passed_flags kind flags) true ≡ true
 marked_flags Document flags = on flags.file_inherit
   where
@@ -126,7 +114,7 @@ module _ (which : Which) (kind : ObjKind) (held : Held)
       (list_all-append (λ entry. is_none (entry_fault entry which kind)) held.own entries
       ∙ and_from (are_valid which kind held.own) (are_valid which kind entries) own_valid valid)
 
-folder_is : (kind : ObjKind) → not (is_document kind) ≡ true → kind ≡ Folder
+pub folder_is : (kind : ObjKind) → not (is_document kind) ≡ true → kind ≡ Folder
 folder_is Document is = absurd (false≢true is)
 folder_is Folder is = refl
 
@@ -185,7 +173,7 @@ module _ (f g : Node → List Ace) (old : Content) where
     unchanged : (which : Which) (node : Node) → is_changed which (lists which) node ≡ false
         → lists which node ≡ (held_of which node).inh
     unchanged which node same =
-        entries_equal (lists which node) (held_of which node).inh (not_false _ same)
+        entries_equal (lists which node) (held_of which node).inh (not-false _ same)
 
     -- ---- the meaning
 
@@ -233,7 +221,7 @@ module _ (f g : Node → List Ace) (old : Content) where
           sym (ap (λ (h : Held). h.inh) (held_new which node))
           ∙ entries_equal (held_of which (both node)).inh
           (pass node.kind (full_of (held_of which (both parent))))
-          (or_true (is_linked (held_of which (both node)) (Some (held_of which (both parent)))) _
+          (implied (is_linked (held_of which (both node)) (Some (held_of which (both parent)))) _
           agree links)
 
       abbrev SoundNow : Which → Node → Type 0
@@ -278,7 +266,7 @@ module _ (f g : Node → List Ace) (old : Content) where
               (sym (ap (λ o. option_map_or (λ (p : Node). reaches_root k old p.parent) o false)
               found) ∙ reaches))
           on (Some parent) found before =
-              let there' : There parent = ap (node_at old) (found_id id old.nodes parent found)
+              let there' : There parent = ap (node_at old) (found_number id old.nodes parent found)
               ∙ found in
               let sound = before parent there'
               (sym (ap (λ o. option_map_or (λ (p : Node). reaches_root k old p.parent) o false)
@@ -340,7 +328,7 @@ module _ (old new : Rows) (changed : ℕ) (spread : IsSpreadAll old new changed)
 
     there_good : (node : Node) → node_at old.read node.id ≡ Some node → has_sound_lists node ≡ true
     there_good node there =
-        not_false _ (sym (ap (λ o. option_map_or (λ n. not (has_sound_lists n)) o false) there)
+        not-false _ (sym (ap (λ o. option_map_or (λ n. not (has_sound_lists n)) o false) there)
         ∙ (or_parts (is_unreadable old node.id) _
         (not_bad old (list_checked old tests) node.id node there)).1)
 
@@ -374,7 +362,7 @@ module _ (old new : Rows) (changed : ℕ) (spread : IsSpreadAll old new changed)
         on None found = refl
         on (Some node) found =
             let there : node_at old.read node.id ≡ Some node = ap (node_at old.read)
-            (found_id id old.read.nodes node found) ∙ found in
+            (found_number id old.read.nodes node found) ∙ found in
             ap not (and_from (is_sound_held Dacl node.kind (set node).dacl) _ (good Dacl node there)
             (good Sacl node there))
 
@@ -400,8 +388,8 @@ module _ (old new : Rows) (changed : ℕ) (spread : IsSpreadAll old new changed)
       lists =
           ap (λ ids. list_all (λ id. not (has_bad_list after id)) (put_numbers old.unreadable ids))
           (numbers-with_each old.read set keeps_place)
-          ∙ all_weaker (λ id. not (has_bad_list old id)) (λ id. not (has_bad_list after id))
-          (λ id is. ap not (still_good id (not_true _ is))) (numbers_of old) tests.lists;
+          ∙ all_implied (λ id. not (has_bad_list old id)) (λ id. not (has_bad_list after id))
+          (λ id is. ap not (still_good id (not-true _ is))) (numbers_of old) tests.lists;
       root = one_root;
       parents =
           unmoved.all_kept set (has_folder_above after.read) (has_folder_above old.read)

@@ -3,6 +3,8 @@ use Rattle.std.proofs.Common.{◌≡◌, ℕ, ◌<◌, ◌==◌, Bool, true, fal
 use Rattle.std.specs.Prelude.{nat_lt}
 use Rattle.std.proofs.lemmas.Bool.{cases_Bool, and_parts, false≢true, eq-eqb, eqb-true, ne_eqb, lt-ltb, le-ltb, cond-true, cond-false, or_left}
 use Rattle.std.proofs.lemmas.List.{map-id}
+use Rattle.std.specs.List.{AllByRecursion as Each}
+use Rattle.std.proofs.lemmas.Option.{same_Some}
 use Rattle.room_entry.specs.declared.object.Which.{Which}
 use Rattle.room_rows.specs.HeldList.{Held}
 use Rattle.room_rows.specs.declared.node.Node.{Node}
@@ -10,9 +12,9 @@ use Rattle.room_rows.specs.Content.{Content, node_at, children_of, put_node, wit
 use Rattle.room_rows.specs.Finding.{find_id}
 use Rattle.room_rows.specs.Keep.{with_inh}
 use Rattle.room_inherit.specs.Turn.{is_outdated, passed_to, renewed, renewals, renewed_below, put_nodes, AreKnown}
-use Rattle.room_inherit.proofs.Kinship.{same_id, held_with}
-use Rattle.room_inherit.proofs.Members.{Each, each_weaker, each_filter, each_fails}
-use Rattle.room_inherit.proofs.Children.{has_id, Apart, ids_of, each_found, each_there, each_above, apart_rising, apart_filter, has_id_map, each_child, apart_children, is_such_child}
+use Rattle.room_entry.proofs.Facts.Members.{each_weaker, each_filter, each_fails}
+use Rattle.room_inherit.proofs.Children.{has_id, Apart, ids_of, each_found, each_there, each_above, apart_rising, apart_filter, has_id_map, each_child, apart_children, is_such_child, found_first, found_later}
+use Rattle.room_rows.proofs.InPlace.{held_of-with_inh, with_inh-id}
 
 -- two facts of each member, taken together, are one fact of each
 pub each_both : {A : Type 0} (P Q : A → Type 0) (xs : List A) → Each P xs → Each Q xs
@@ -32,22 +34,11 @@ pub map_map : {A B C : Type 0} (f : B → C) (g : A → B) (xs : List A)
 map_map f g [] = refl
 map_map f g (x ∷ xs) = ap (λ ys. f (g x) ∷ ys) (map_map f g xs)
 
-same_some : (x y : Node) → Some x ≡ Some y → x ≡ y
-same_some x y e = cc
-
-found_first : (id : ℕ) (x : Node) (xs : List Node) → (x.id == id) ≡ true
-    → find_id id (x ∷ xs) ≡ Some x
-found_first id x xs is = rw is refl
-
-found_later : (id : ℕ) (x : Node) (xs : List Node) → (x.id == id) ≡ false
-    → find_id id (x ∷ xs) ≡ find_id id xs
-found_later id x xs is = rw is refl
-
 -- two objects that stand under one number are one
 pub one_object : (nodes : List Node) (x y : Node) → find_id x.id nodes ≡ Some x
     → find_id y.id nodes ≡ Some y → x.id ≡ y.id → x ≡ y
 one_object nodes x y there there' same =
-    same_some x y (sym there ∙ ap (λ i. find_id i nodes) same ∙ there')
+    same_Some x y (sym there ∙ ap (λ i. find_id i nodes) same ∙ there')
 
 -- an object put into the rows leaves those of other numbers
 pub find_other : (id : ℕ) (new : Node) (nodes : List Node) → (new.id == id) ≡ false
@@ -74,7 +65,7 @@ put_is_map k (x ∷ xs) id old new rises found same =
     let parts = and_parts (nat_lt k x.id) (is_rising (x.id ∷ ids_of xs)) rises in
     elim (cases_Bool (x.id == id)) [
       | inl is ↦
-          let it = same_some x old (sym (found_first id x xs is) ∙ found) in
+          let it = same_Some x old (sym (found_first id x xs is) ∙ found) in
           let e : x.id ≡ new.id = ap (λ (n : Node). n.id) it ∙ sym same in
           let head : cond (x.id == new.id) new x ≡ new = cond-true (x.id == new.id) new x
           (eq-eqb x.id new.id e) in
@@ -191,7 +182,7 @@ module _ (which : Which) (above : Node) (content : Content)
   outdated = filter (is_outdated which above) (children_of content above.id)
 
   renewed_id : (n : Node) → (renewed which above n).id ≡ n.id
-  renewed_id n = same_id which (passed_to which above n) n
+  renewed_id n = with_inh-id which (passed_to which above n) n
 
   are_apart : Apart outdated
   are_apart =
@@ -213,7 +204,7 @@ module _ (which : Which) (above : Node) (content : Content)
     (
       k,
       ap (λ i. node_at content i) (renewed_id k) ∙ there.0,
-      sym (ap (λ (h : Held). with_inh which h.inh k) (held_with which (passed_to which above k) k)),
+      sym (ap (λ (h : Held). with_inh which h.inh k) (held_of-with_inh which (passed_to which above k) k)),
     ),
     has_id_map (renewed which above) renewed_id (renewed which above k).id ks
         ∙ ap (λ i. has_id i ks) (renewed_id k) ∙ apart.0,

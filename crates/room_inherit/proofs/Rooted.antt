@@ -3,6 +3,7 @@ use Rattle.std.proofs.Common.{◌≡◌, ℕ, zero, suc, ◌==◌, Bool, true, f
 use Rattle.std.specs.Prelude.{option_and_then}
 use Rattle.std.specs.Option.{option_map_or}
 use Rattle.std.proofs.lemmas.Bool.{false≢true, or_cases, eqb-true}
+use Rattle.std.proofs.lemmas.Option.{same_Some}
 use Rattle.room_rows.specs.declared.node.Node.{Node}
 use Rattle.room_rows.specs.Content.{Content, node_at, reaches_root}
 use Rattle.room_inherit.specs.Spread.{is_within}
@@ -43,15 +44,12 @@ module _ (rows : Content) (id m : ℕ) (node : Node) (found : node_at rows id �
       further before (Some q) zero is up = false≢true is
       further before (Some q) (suc j) is up = before j q.parent is up
 
-same_node : (x y : Node) → Some x ≡ Some y → x ≡ y
-same_node x y e = cc
-
 -- an object whose parents lead to the root isn't below itself
 pub rooted_no_loop : RootedIsNoLoop
 rooted_no_loop rows id n node found reaches loop = on loop.2.0 loop.2.1
   where
     same : loop.0 ≡ node
-    same = same_node loop.0 node (sym loop.1 ∙ found)
+    same = same_Some loop.0 node (sym loop.1 ∙ found)
 
     on : (m : ℕ) → is_within m rows id loop.0 ≡ true → ⊥
     on zero is = false≢true is

@@ -9,8 +9,8 @@ use Rattle.std.proofs.lemmas.Cmp.{nat_list_cmp_total}
 use Rattle.room_rows.specs.declared.node.Node.{Node}
 use Rattle.room_rows.specs.Content.{is_before, put_by_name, sorted_by_name}
 use Rattle.room_inherit.specs.Laws.{SortedByName, are_in_order}
-use Rattle.room_inherit.proofs.Members.{count-is}
-use Rattle.room_inherit.proofs.Children.{count_sorted}
+use Rattle.room_entry.proofs.Facts.Members.{count-is}
+use Rattle.room_rows.proofs.Lookups.{count_sorted}
 
 -- a name that comes before another doesn't come after it
 before_once : (a b : List ℕ) → is_before a b ≡ true → is_before b a ≡ false

@@ -23,7 +23,7 @@ use Rattle.room_inherit.specs.declared.descent.Reach.TheVariants.{All}
 use Rattle.room_inherit.specs.declared.outcome.Spread.{Spread}
 use Rattle.room_inherit.specs.declared.outcome.SpreadFault.{SpreadFault}
 use Rattle.room_inherit.specs.declared.outcome.SpreadFault.TheVariants.{Keeper, Loop}
-use Rattle.room_inherit.proofs.Members.{count, count-is, count_ends}
+use Rattle.room_entry.proofs.Facts.Members.{count, count-is, count_ends}
 use Rattle.room_inherit.proofs.Frontier.{ids_set}
 use Rattle.room_inherit.proofs.Sweeping.{Sweep, after, seen_after, kids, kids_are, rows_after, sweep_after, count_seen, count_after, not_met_again}
 use Rattle.room_inherit.proofs.SweepEnds.{root_there, root_top, seen_first, sweep_first, count_has, changed_swept, law_swept}

@@ -1,9 +1,10 @@
 -- Where going through the tree begins, and where it ends.
 use Rattle.std.proofs.Common.{◌≡◌, ℕ, zero, suc, ◌+◌, ◌≤◌, ◌==◌, Bool, true, false, cond, List, [], ◌∷◌, length, Option, Some, None, refl, sym, ap, subst, ◌∙◌, inl, inr, arith}
 use Rattle.std.specs.Prelude.{is_none, option_and_then}
-use Rattle.std.specs.List.{find}
+use Rattle.std.specs.List.{find, AllByRecursion as Each}
 use Rattle.std.specs.Option.{option_map, option_map_or}
 use Rattle.std.proofs.lemmas.Bool.{or_left, false≢true, eq-eqb, eqb-true}
+use Rattle.std.proofs.lemmas.Option.{same_Some}
 use Rattle.room_entry.specs.Ace.{Ace}
 use Rattle.room_entry.specs.declared.object.Which.{Which}
 use Rattle.room_rows.specs.declared.node.Node.{Node}
@@ -15,17 +16,14 @@ use Rattle.room_rows.specs.Law.{AllAgree}
 use Rattle.room_inherit.specs.Spread.{ChangedAgree, with_lists}
 use Rattle.room_inherit.specs.SpreadAll.{IsTree}
 use Rattle.room_inherit.proofs.Kinship.{with_own}
-use Rattle.room_inherit.proofs.Members.{Each, one_if, count, count_length}
-use Rattle.room_inherit.proofs.Children.{ids_of, each_found, found_id, each_there, apart_rising}
+use Rattle.room_entry.proofs.Facts.Members.{one_if, count, count_length}
+use Rattle.room_inherit.proofs.Children.{ids_of, each_found, each_there, apart_rising}
 use Rattle.room_inherit.proofs.Renewing.{one_object}
-use Rattle.room_inherit.proofs.Frontier.{passes}
 use Rattle.room_inherit.proofs.Ends.{own_lists, own_unchanged, law_at_end, changed_agree, each_all}
 use Rattle.room_inherit.proofs.Outdated.{parent_found}
 use Rattle.room_inherit.proofs.Folders.{in_folder_is}
 use Rattle.room_inherit.proofs.Sweeping.{Sweep}
-
-same_some : (x y : Node) → Some x ≡ Some y → x ≡ y
-same_some x y e = cc
+use Rattle.room_rows.proofs.Lookups.{found_number, found_passes}
 
 -- what holds of each object holds of the one that is found
 each_find : (P : Node → Type 0) (test : Node → Bool) (nodes : List Node) (node : Node)
@@ -35,18 +33,8 @@ each_find P test (x ∷ xs) node all found = on (test x) found (λ f. each_find 
   where
     on : (t : Bool) → cond t (Some x) (find test xs) ≡ Some node
         → (find test xs ≡ Some node → P node) → P node
-    on true is rest = subst P (same_some x node is) all.0
+    on true is rest = subst P (same_Some x node is) all.0
     on false is rest = rest is
-
-find_passes : (test : Node → Bool) (nodes : List Node) (node : Node) → find test nodes ≡ Some node
-    → test node ≡ true
-find_passes test [] node found = absurd (let wrong : ⊥ = cc in wrong)
-find_passes test (x ∷ xs) node found = on (test x) refl found (λ f. find_passes test xs node f)
-  where
-    on : (t : Bool) → test x ≡ t → cond t (Some x) (find test xs) ≡ Some node
-        → (find test xs ≡ Some node → test node ≡ true) → test node ≡ true
-    on true passes is rest = ap test (sym (same_some x node is)) ∙ passes
-    on false fails is rest = rest is
 
 -- ---- one that passes, alone
 
@@ -57,7 +45,7 @@ count_has p id (x ∷ xs) n found is = on (x.id == id) found (λ f. count_has p 
   where
     on : (t : Bool) → cond t (Some x) (find_id id xs) ≡ Some n
         → (find_id id xs ≡ Some n → 1 ≤ count p xs) → 1 ≤ one_if (p x) + count p xs
-    on true here rest = let one : one_if (p x) ≡ 1 = ap one_if (ap p (same_some x n here) ∙ is) in
+    on true here rest = let one : one_if (p x) ≡ 1 = ap one_if (ap p (same_Some x n here) ∙ is) in
         omega (arith, one)
     on false here rest = let r = rest here in omega (arith, r)
 
@@ -70,11 +58,11 @@ only_one p (x ∷ xs) r n one found there is =
     on : (s : Bool) → p x ≡ s → one_if s + count p xs ≡ 1 → cond s (Some x) (find p xs) ≡ Some r
         → (t : Bool) → cond t (Some x) (find_id n.id xs) ≡ Some n
         → (count p xs ≡ 1 → find p xs ≡ Some r → find_id n.id xs ≡ Some n → n ≡ r) → n ≡ r
-    on true px c f true h rest = sym (same_some x n h) ∙ same_some x r f
+    on true px c f true h rest = sym (same_Some x n h) ∙ same_Some x r f
     on true px c f false h rest =
         absurd (let more = count_has p n.id xs n h is in let wrong : ⊥ = omega (arith, more, c) in
         wrong)
-    on false px c f true h rest = absurd (false≢true (sym px ∙ ap p (same_some x n h) ∙ is))
+    on false px c f true h rest = absurd (false≢true (sym px ∙ ap p (same_Some x n h) ∙ is))
     on false px c f false h rest = rest (omega (arith, c)) f h
 
 module _ (which : Which) (old : Content) (rises : is_rising (0 ∷ ids_of old.nodes) ≡ true)
@@ -86,7 +74,7 @@ module _ (which : Which) (old : Content) (rises : is_rising (0 ∷ ids_of old.no
       (λ n there. there)) root_is
 
   pub root_top : root.parent ≡ None
-  root_top = on root.parent (find_passes (λ n. is_none n.parent) old.nodes root root_is)
+  root_top = on root.parent (found_passes (λ n. is_none n.parent) old.nodes root root_is)
     where
       on : (o : Option ℕ) → is_none o ≡ true → o ≡ None
       on None is = refl
@@ -179,7 +167,7 @@ module _ (which : Which) (old : Content) (rises : is_rising (0 ∷ ids_of old.no
             → seen q ≡ true) → seen n ≡ true
         on None found r before = absurd (false≢true r)
         on (Some q) found r before =
-            let same : q.id ≡ p = found_id p old.nodes q found in
+            let same : q.id ≡ p = found_number p old.nodes q found in
             let there_q : node_at old q.id ≡ Some q = ap (node_at old) same ∙ found in
             let has : has_parent q.id n ≡ true = ap
             (λ x. option_map_or (λ parent. parent == q.id) x false) up

@@ -2,6 +2,8 @@
 use Rattle.std.proofs.Common.{◌≡◌, ℕ, ◌+◌, ◌≤◌, ◌==◌, Bool, true, false, cond, not, ◌&&◌, ◌||◌, List, [], ◌∷◌, ◌++◌, map, filter, length, Option, Some, None, refl, sym, ap, ◌∙◌, inl, inr, ◌⊎◌, arith}
 use Rattle.std.specs.Option.{option_map, option_map_or}
 use Rattle.std.proofs.lemmas.Bool.{cases_Bool, and_from, and_parts, and_left, or_cases, or_parts, or_from, or_left, or_right, false≢true, eq-eqb, eqb-true, false_from_ne_true}
+use Rattle.std.specs.List.{AllByRecursion as Each}
+use Rattle.std.proofs.Math.Bool.{or-false}
 use Rattle.room_entry.specs.Ace.{Ace}
 use Rattle.room_entry.specs.Same.{same_entries}
 use Rattle.room_entry.specs.Valid.{is_document}
@@ -16,12 +18,13 @@ use Rattle.room_inherit.specs.Spread.{with_lists, is_changed}
 use Rattle.room_inherit.specs.Turn.{is_linked_to, is_outdated, next_of, passed_to, renewed, renewals, brought_up, renewed_below, is_met_again, meets_again}
 use Rattle.room_inherit.specs.declared.descent.Reach.TheVariants.{All}
 use Rattle.room_inherit.proofs.Kinship.{same_kind, same_name, same_parent}
-use Rattle.room_inherit.proofs.Members.{Each, each_append, each_front, each_back, each_filter, each_weaker, filter_map, count, count_ends, count_length, count_map, count_agree, count_either}
+use Rattle.room_entry.proofs.Facts.Members.{each_append, each_front, each_back, each_filter, each_weaker, filter_map, count, count_ends, count_length, count_map, count_agree, count_either}
 use Rattle.room_inherit.proofs.Children.{has_id, Apart, ids_of, each_there, apart_rising, apart_filter, apart_map, each_child, apart_children, some_child, is_such_child, length_children, children_map}
 use Rattle.room_inherit.proofs.Renewing.{map_agree, one_object}
 use Rattle.room_inherit.proofs.Frontier.{set, set_folder, set_id, set_parent, find_set, links, passes}
 use Rattle.room_inherit.proofs.Outdated as step
-use Rattle.room_inherit.proofs.Outdated.{parent_is, parent_found, same_above, has_either, apart_join, apart_front, apart_last, has_last, or_false, base_of}
+use Rattle.room_inherit.proofs.Outdated.{parent_found, same_above, has_either, apart_join, apart_front, apart_last, has_last, base_of}
+use Rattle.room_rows.proofs.Frames.{parent_is}
 
 module _ (which : Which) (old : Content) (root : Node) where
   abbrev pub There : Node → Type 0
@@ -305,7 +308,7 @@ module _ (which : Which) (old : Content) (rises : is_rising (0 ∷ ids_of old.no
         | inr last ↦
             absurd
             (false≢true (sym other ∙ eq-eqb p.id w.id
-            (sym (eqb-true w.id p.id (sym (or_false (w.id == p.id)) ∙ last)))))
+            (sym (eqb-true w.id p.id (sym (or-false (w.id == p.id)) ∙ last)))))
       ]
   other_agrees n p there there' has is other (inr agrees) =
       let isnt : child n ≡ false = false_from_ne_true (child n)

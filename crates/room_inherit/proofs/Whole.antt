@@ -69,7 +69,7 @@ not_free rows ids i at are below free =
 
 -- ---- no row is bad
 
-any_at : (test : ℕ → Bool) (ids : List ℕ) (id : ℕ) → is_among ids id ≡ true → test id ≡ true
+pub any_at : (test : ℕ → Bool) (ids : List ℕ) (id : ℕ) → is_among ids id ≡ true → test id ≡ true
     → list_any test ids ≡ true
 any_at test [] id among passes = among
 any_at test (x ∷ xs) id among passes =
@@ -80,7 +80,7 @@ any_at test (x ∷ xs) id among passes =
           (any_at test xs id (ap (λ t. t || is_among xs id) (sym other) ∙ among) passes)
     ]
 
-none_found : (test : ℕ → Bool) (ids : List ℕ) → find test ids ≡ None → list_any test ids ≡ false
+pub none_found : (test : ℕ → Bool) (ids : List ℕ) → find test ids ≡ None → list_any test ids ≡ false
 none_found test [] none = refl
 none_found test (x ∷ xs) none = on (test x) (none_found test xs) none
   where
@@ -89,7 +89,7 @@ none_found test (x ∷ xs) none = on (test x) (none_found test xs) none
     on true rest none = absurd (let wrong : ⊥ = cc in wrong)
     on false rest none = rest none
 
-all_read : (rows : Rows) (unreadable : List ℕ) → rows.unreadable ≡ unreadable
+pub all_read : (rows : Rows) (unreadable : List ℕ) → rows.unreadable ≡ unreadable
     → first_bad_list rows ≡ None → unreadable ≡ []
 all_read rows [] are none = refl
 all_read rows (x ∷ xs) are none =

@@ -1,9 +1,10 @@
 -- The way to the folder of a path's last name, judged.
 use Rattle.std.proofs.Common.{◌≡◌, ℕ, ◌<◌, ◌+◌, Bool, true, false, cond, ◌&&◌, List, [], ◌∷◌, ◌++◌, length, take, Option, Some, None, refl, sym, ap, subst, ◌∙◌, arith}
-use Rattle.std.specs.Prelude.{is_none, ◌-◌}
+use Rattle.std.specs.Prelude.{is_none}
 use Rattle.std.specs.Option.{option_map, option_and_then}
 use Rattle.std.proofs.lemmas.List.{append-nil}
 use Rattle.std.proofs.Math.Seq.{take-length}
+use Rattle.std.proofs.Math.Bool.{and-false}
 use Rattle.room_rows.specs.declared.node.AuditRow.{AuditRow}
 use Rattle.room_rows.specs.declared.node.Node.{Node}
 use Rattle.room_rows.specs.Content.{child_of}
@@ -84,10 +85,6 @@ module _ (asker : Asker) (items : List Item) (at : List (List ℕ)) (why : Reaso
 
 -- ---- the whole way
 
-and_false : (t : Bool) → (t && false) ≡ false
-and_false true = refl
-and_false false = refl
-
 module _ (asker : Asker) (path : List (List ℕ)) (some : 0 < length path) where
   -- the way without its last check
   way_to_front : (old : Rows)
@@ -150,7 +147,7 @@ module _ (asker : Asker) (path : List (List ℕ)) (some : 0 < length path) where
     look_is =
         ap (λ o. where_found o (λ site. missing old.read true (last_name path) site ∷ [])) at_folder
         ∙ ap (λ t. Refusal ((found_site path from).path ++ last_name path ∷ []) NoSuch t ∷ [])
-        (and_false (is_none (child_of old.read node.id (last_name path))))
+        (and-false (is_none (child_of old.read node.id (last_name path))))
 
     -- a walk that came to the folder has the spot that is found there, barred or not
     pub spot_on : (new : Rows) (spot : Spot) → SpotsUnder asker path from mid spot new
@@ -216,7 +213,7 @@ module _ (asker : Asker) (path : List (List ℕ)) (some : 0 < length path) where
         ∙ ap (λ o. stem old.read path ++ where_found o
         (λ s. missing old.read true (last_name path) s ∷ [])) is
         ∙ ap (λ t. stem old.read path ++ Refusal (site.path ++ last_name path ∷ []) NoSuch t ∷ [])
-        (and_false (is_none (child_of old.read site.node.id (last_name path)))))
+        (and-false (is_none (child_of old.read site.node.id (last_name path)))))
         judged)
 
     -- where the last name may be absent, only the way to the folder and through it was judged

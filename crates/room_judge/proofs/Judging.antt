@@ -1,8 +1,7 @@
 -- Items that are judged as they come, one after the other.
-use Rattle.std.proofs.Common.{◌≡◌, ℕ, ℤ, Bool, true, false, cond, not, List, [], ◌∷◌, ◌++◌, Option, Some, None, refl, sym, ap, subst, ◌∙◌, append_assoc}
+use Rattle.std.proofs.Common.{◌≡◌, ℕ, ℤ, Bool, true, false, cond, List, [], ◌∷◌, ◌++◌, Option, Some, None, refl, sym, ap, subst, ◌∙◌, append_assoc}
 use Rattle.std.proofs.lemmas.List.{append-nil}
-use Rattle.std.specs.Prelude.{is_none, is_some}
-use Rattle.room_entry.specs.Rights.{delete, delete_child, write_data}
+use Rattle.std.specs.Prelude.{is_none}
 use Rattle.room_entry.specs.declared.parties.Caller.{Caller}
 use Rattle.room_rows.specs.declared.node.AuditRow.{AuditRow}
 use Rattle.room_rows.specs.Keep.{IsUnreadable, reading}
@@ -11,14 +10,9 @@ use Rattle.room_judge.specs.declared.asker.Asker.{Asker}
 use Rattle.room_machine.specs.declared.reply.Reply.{Reply}
 use Rattle.room_machine.specs.declared.reply.Reply.TheVariants.{Refused}
 use Rattle.room_machine.specs.declared.reply.Reason.{Reason}
-use Rattle.room_machine.specs.declared.reply.Reason.TheVariants.{WrongKind}
-use Rattle.room_entry.specs.Valid.{is_document}
-use Rattle.room_entry.specs.declared.object.ObjKind.{ObjKind}
-use Rattle.room_entry.specs.declared.object.ObjKind.TheVariants.{Document, Folder}
-use Rattle.room_machine.specs.Site.{Site}
-use Rattle.room_machine.specs.Plan.{Item, Check, Deletion, Refusal}
-use Rattle.room_machine.specs.Judge.{is_by_adding, failure, passes, or_else, first_failure, records_of, records_of_checks, checks_of, records_of_plan}
-use Rattle.room_judge.specs.Judged.{IsJudged, noted, of_kind, is_other}
+use Rattle.room_machine.specs.Plan.{Item, Refusal}
+use Rattle.room_machine.specs.Judge.{failure, passes, or_else, first_failure, records_of_checks, checks_of, records_of_plan}
+use Rattle.room_judge.specs.Judged.{IsJudged, noted}
 
 -- ---- records after records
 

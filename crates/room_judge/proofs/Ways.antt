@@ -1,5 +1,5 @@
 -- The way to an object, one step after the other.
-use Rattle.std.proofs.Common.{◌≡◌, ℕ, ◌<◌, ◌+◌, Bool, true, false, cond, not, ◌&&◌, List, [], ◌∷◌, ◌++◌, length, take, drop, get_or, Option, Some, None, refl, sym, ap, subst, ◌∙◌}
+use Rattle.std.proofs.Common.{◌≡◌, ℕ, ◌<◌, ◌+◌, false, not, ◌&&◌, List, [], ◌∷◌, ◌++◌, length, take, drop, get_or, Option, Some, None, refl, sym, ap, subst, ◌∙◌}
 use Rattle.std.specs.Prelude.{is_none}
 use Rattle.std.specs.Option.{option_map_or}
 use Rattle.std.proofs.lemmas.List.{append-nil, take_more, drop_more, get_or_read}
@@ -13,7 +13,6 @@ use Rattle.room_judge.specs.declared.arrival.Arrival.TheVariants.{At, Ended}
 use Rattle.room_judge.specs.declared.arrival.Found.{Found}
 use Rattle.room_judge.specs.declared.asker.Asker.{Asker}
 use Rattle.room_machine.specs.declared.reply.Reply.{Reply}
-use Rattle.room_machine.specs.declared.reply.Reply.TheVariants.{Refused}
 use Rattle.room_machine.specs.declared.reply.Reason.TheVariants.{NoSuch}
 use Rattle.room_machine.specs.Site.{Site, site_at}
 use Rattle.room_machine.specs.Plan.{Item, Refusal, way, where_found}
@@ -52,7 +51,7 @@ reached_blames asker path items arrival old now at reached h =
 -- the check that the next name is there
 -- ---- the whole way
 
-not_empty : (rows : Content) (path : List (List ℕ)) (node : Node) (names : List (List ℕ))
+pub not_empty : (rows : Content) (path : List (List ℕ)) (node : Node) (names : List (List ℕ))
     → is_empty (stored_from rows path node names) ≡ false
 not_empty rows path node [] = refl
 not_empty rows path node (name ∷ names) = refl

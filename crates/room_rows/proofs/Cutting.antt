@@ -8,9 +8,10 @@ use Rattle.std.proofs.lemmas.List.Splits.{slice_split-cons_yes, slice_split-cons
 use Rattle.std.specs.List.{onto_first}
 use Rattle.room_entry.specs.Utf8.{is_utf8}
 use Rattle.room_entry.specs.Pieces.{pieces, same_text}
-use Rattle.room_rows.specs.declared.fault.PathFault.TheVariants.{BadName, TooLong, NotUtf8}
+use Rattle.room_rows.specs.declared.fault.PathFault.TheVariants.{BadName, NotUtf8}
 use Rattle.room_rows.specs.Paths.{is_object_name, is_path, is_name_byte, names_in, object_names, path_of, path_text}
-use Rattle.room_rows.proofs.Utf8.{passes_as_utf8, fails_as_utf8}
+use Rattle.room_rows.proofs.Utf8.{fails_as_utf8}
+use Rattle.room_entry.proofs.Texts.{passes_as_utf8}
 
 -- ---- names by their bytes
 

@@ -1,14 +1,12 @@
 -- What a change of a content leaves, and what is found in it.
-use Rattle.std.proofs.Common.{◌≡◌, ℕ, ◌==◌, ◌&&◌, Bool, true, false, List, [], ◌∷◌, map, filter, Option, Some, None, refl, sym, ap, ◌∙◌}
+use Rattle.std.proofs.Common.{◌≡◌, ℕ, ◌==◌, ◌&&◌, Bool, true, false, List, [], ◌∷◌, map, Option, Some, None, refl, sym, ap, ◌∙◌}
 use Rattle.std.specs.Prelude.{IsTrue, is_none, not}
-use Rattle.std.specs.List.{All, AllByRecursion, Contains}
 use Rattle.std.specs.Option.{option_map_or}
 use Rattle.std.proofs.lemmas.Bool.{and_parts, eqb-true, eq-eqb, ne_eqb, false≢true, not_from_true, not_from_false}
-use Rattle.std.proofs.lemmas.List.Elements.{All-from_recursion}
 use Rattle.std.proofs.lemmas.Slice.Eq.{bytes_eq-Decides}
 use Rattle.room_entry.specs.Pieces.{same_text}
 use Rattle.room_rows.specs.declared.node.Node.{Node}
-use Rattle.room_rows.specs.Content.{Content, node_at, has_parent, root_of, child_of, children_of, with_node, without_node, is_rising}
+use Rattle.room_rows.specs.Content.{Content, node_at, has_parent, root_of, child_of, without_node, is_rising}
 use Rattle.room_rows.specs.Rows.{Rows, AreRows}
 use Rattle.room_rows.proofs.Lookups as lookups
 use Rattle.room_rows.proofs.Lookups.{Stands}
@@ -72,7 +70,7 @@ root_of-is_there content rises root found =
     stands_at content rises root
     (lookups.stands-found (λ (n : Node). is_none n.parent) content.nodes root found)
 
-no_parent : (parent : Option ℕ) → is_none parent ≡ true → parent ≡ None
+pub no_parent : (parent : Option ℕ) → is_none parent ≡ true → parent ≡ None
 no_parent None is = refl
 no_parent (Some id) is = absurd (false≢true is)
 
@@ -108,8 +106,6 @@ child_of-name content id name child found =
     (and_parts (has_parent id child) (same_text child.name name)
     (lookups.found_passes
     (λ (n : Node). has_parent id n && same_text n.name name) content.nodes child found)).1
-
--- ---- an object put
 
 -- ---- an object removed
 

@@ -4,21 +4,20 @@ use Rattle.std.specs.Prelude.{IsTrue, is_none}
 use Rattle.std.specs.List.{AllByRecursion}
 use Rattle.std.specs.Option.{option_map, option_and_then}
 use Rattle.std.proofs.lemmas.Bool.{and_parts, cases_Bool, cases_order, cond-true, cond-false, eqb-true, eq-eqb, ne_eqb, lt-ltb, ltb-true, le-ltb}
+use Rattle.std.proofs.lemmas.Option.{same_Some, none-some}
 use Rattle.room_entry.specs.Ace.{Ace}
 use Rattle.room_entry.specs.Pieces.{same_text}
 use Rattle.room_entry.specs.declared.object.Which.{Which}
 use Rattle.room_entry.specs.declared.object.Which.TheVariants.{Dacl, Sacl}
 use Rattle.room_entry.specs.declared.parties.Owners.{Owners}
-use Rattle.room_rows.specs.declared.node.AuditRow.{AuditRow}
 use Rattle.room_rows.specs.HeldList.{Held}
 use Rattle.room_rows.specs.declared.node.Node.{Node}
-use Rattle.room_rows.specs.Content.{Content, node_at, has_parent, root_of, child_of, children_of, parent_of, body_at, body_of, groups_of, put_body, with_node, with_body, with_each, with_records, is_rising, sorted_by_name}
+use Rattle.room_rows.specs.Content.{Content, node_at, has_parent, root_of, child_of, children_of, parent_of, body_at, body_of, put_body, with_node, with_body, with_each, is_rising, sorted_by_name}
 use Rattle.room_rows.specs.Held.{held_of, with_held}
-use Rattle.room_rows.specs.Keep.{with_inh, with_owners, with_place, reading}
+use Rattle.room_rows.specs.Keep.{with_inh, with_owners, reading}
 use Rattle.room_rows.specs.Rows.{Rows, AreRows, numbers_of, put_numbers}
 use Rattle.room_rows.proofs.Lookups as lookups
 use Rattle.room_rows.proofs.SamePlace as same_place
-use Rattle.room_rows.proofs.Lookups.{not_none, same_some}
 use Rattle.room_rows.proofs.SamePlace.{IsSamePlace, put_there, replaced}
 use Rattle.room_rows.proofs.Frames.{Rises, has_parent-of_place, is_child-of_place, node_at-number}
 
@@ -143,6 +142,15 @@ place-with_inh which entries node =
 pub place-with_owners : (owners : Owners) (node : Node) → IsSamePlace (with_owners owners node) node
 place-with_owners owners node = record { number = refl; parent = refl; name = refl }
 
+-- an object keeps its number with another list
+pub with_held-id : (which : Which) (held : Held) (node : Node) → (with_held which held node).id ≡ node.id
+with_held-id which held node = (place-with_held which held node).number
+
+-- it keeps it with other inherited entries
+pub with_inh-id : (which : Which) (entries : List Ace) (node : Node)
+    → (with_inh which entries node).id ≡ node.id
+with_inh-id which entries node = (place-with_inh which entries node).number
+
 -- ---- the lists of a changed object
 
 -- the list that was set is the object's list of that attribute
@@ -243,7 +251,7 @@ with_node-there content rises node there =
 
 body_above : (k id : ℕ) (bytes : List ℕ) (rows : List (ℕ × List ℕ))
     → is_rising (k ∷ map (λ row. row.0) rows) ≡ true → body_at rows id ≡ Some bytes → k < id
-body_above k id bytes [] rises found = absurd (not_none bytes found)
+body_above k id bytes [] rises found = absurd (none-some bytes found)
 body_above k id bytes (row ∷ rows) rises found =
     let parts = and_parts (nat_lt k row.0) (is_rising (row.0 ∷ map (λ r. r.0) rows)) rises in
     let up = ltb-true k row.0 parts.0 in
@@ -257,13 +265,13 @@ body_above k id bytes (row ∷ rows) rises found =
 bytes_there : (k id : ℕ) (bytes : List ℕ) (rows : List (ℕ × List ℕ))
     → is_rising (k ∷ map (λ row. row.0) rows) ≡ true → body_at rows id ≡ Some bytes
     → put_body id bytes rows ≡ rows
-bytes_there k id bytes [] rises found = absurd (not_none bytes found)
+bytes_there k id bytes [] rises found = absurd (none-some bytes found)
 bytes_there k id bytes (row ∷ rows) rises found =
     let parts = and_parts (nat_lt k row.0) (is_rising (row.0 ∷ map (λ r. r.0) rows)) rises in
     elim (cases_Bool (row.0 == id)) [
       | inl is ↦
           let e = eqb-true row.0 id is in
-          let same = same_some row.1 bytes (sym (body_yes row rows id is) ∙ found) in
+          let same = same_Some row.1 bytes (sym (body_yes row rows id is) ∙ found) in
           bytes_here id bytes row rows e
           ∙ ap (λ (r : ℕ × List ℕ). r ∷ rows) (λ i. (sym e i, sym same i))
       | inr isnt ↦

@@ -1,12 +1,13 @@
 -- Objects looked up in a list of them: what a change of the list leaves.
-use Rattle.std.proofs.Common.{◌≡◌, ℕ, suc, ◌<◌, ◌==◌, ◌⊎◌, Bool, true, false, List, [], ◌∷◌, map, filter, Some, None, nat_lt, refl, sym, ap, subst, ◌∙◌, arith, inl, inr}
-use Rattle.std.specs.Prelude.{is_none}
-use Rattle.std.specs.List.{find, AllByRecursion, Contains}
-use Rattle.std.specs.Option.{option_map_or}
-use Rattle.std.proofs.lemmas.Bool.{cases_Bool, cases_order, false≢true, and_parts, eqb-true, eq-eqb, ne_eqb, ltb-true, lt-ltb, le-ltb, cond-true, cond-false}
+use Rattle.std.proofs.Common.{◌≡◌, ℕ, suc, ◌<◌, ◌==◌, ◌⊎◌, Bool, true, false, List, [], ◌∷◌, map, filter, Some, None, nat_lt, refl, sym, ap, subst, ◌∙◌, arith, inl, inr, ◌+◌, ◌≤◌, cond, length}
+use Rattle.std.specs.List.{find, AllByRecursion}
+use Rattle.std.proofs.lemmas.Bool.{cases_Bool, cases_order, and_parts, eqb-true, eq-eqb, ne_eqb, ltb-true, lt-ltb, le-ltb, cond-true, cond-false}
+use Rattle.std.proofs.lemmas.Option.{same_Some, none-some}
 use Rattle.room_rows.specs.declared.node.Node.{Node}
-use Rattle.room_rows.specs.Content.{is_before, put_by_name, sorted_by_name, put_node, is_rising}
+use Rattle.room_rows.specs.Content.{is_before, put_by_name, sorted_by_name, put_node, is_rising, is_empty}
 use Rattle.room_rows.specs.Finding.{find_id}
+use Rattle.room_rows.specs.Rows.{put_number, put_numbers}
+use Rattle.room_entry.proofs.Facts.Members.{one_if, count}
 
 -- ---- the first that passes a test
 
@@ -20,20 +21,12 @@ pub find_no : {X : Type 0} (p : X → Bool) (x : X) (xs : List X) → p x ≡ fa
     → find p (x ∷ xs) ≡ find p xs
 find_no p x xs isnt = cond-false (p x) (Some x) (find p xs) isnt
 
--- a search can't have found both nothing and something
-pub not_none : {X : Type 0} (x : X) → None ≡ Some x → ⊥
-not_none x e = false≢true (sym (ap is_none e))
-
--- two things found by one search are the same
-pub same_some : {X : Type 0} (x y : X) → Some x ≡ Some y → x ≡ y
-same_some x y e = ap (λ o. option_map_or (λ n. n) o x) e
-
 -- what is found passes
 pub found_passes : {X : Type 0} (p : X → Bool) (xs : List X) (x : X) → find p xs ≡ Some x
     → p x ≡ true
-found_passes p [] x found = absurd (not_none x found)
+found_passes p [] x found = absurd (none-some x found)
 found_passes p (y ∷ ys) x found = elim (cases_Bool (p y)) [
-  | inl is ↦ subst (λ z. p z ≡ true) (same_some y x (sym (find_yes p y ys is) ∙ found)) is
+  | inl is ↦ subst (λ z. p z ≡ true) (same_Some y x (sym (find_yes p y ys is) ∙ found)) is
   | inr isnt ↦ found_passes p ys x (sym (find_no p y ys isnt) ∙ found)
 ]
 
@@ -41,7 +34,7 @@ found_passes p (y ∷ ys) x found = elim (cases_Bool (p y)) [
 pub none_found : {X : Type 0} (p : X → Bool) (x : X) (xs : List X) → find p (x ∷ xs) ≡ None
     → (p x ≡ false) × (find p xs ≡ None)
 none_found p x xs none = elim (cases_Bool (p x)) [
-  | inl is ↦ absurd (not_none x (sym none ∙ find_yes p x xs is))
+  | inl is ↦ absurd (none-some x (sym none ∙ find_yes p x xs is))
   | inr isnt ↦ (isnt, sym (find_no p x xs isnt) ∙ none)
 ]
 
@@ -58,10 +51,10 @@ keep_no q x xs isnt = cond-false (q x) (x ∷ filter q xs) (filter q xs) isnt
 -- what is found and kept is found among those that are kept
 pub find-kept : {X : Type 0} (p q : X → Bool) (xs : List X) (x : X) → find p xs ≡ Some x
     → q x ≡ true → find p (filter q xs) ≡ Some x
-find-kept p q [] x found kept = absurd (not_none x found)
+find-kept p q [] x found kept = absurd (none-some x found)
 find-kept p q (y ∷ ys) x found kept = elim (cases_Bool (p y)) [
   | inl is ↦
-      let it = same_some y x (sym (find_yes p y ys is) ∙ found) in
+      let it = same_Some y x (sym (find_yes p y ys is) ∙ found) in
       ap (find p) (keep_yes q y ys (ap q it ∙ kept)) ∙ find_yes p y (filter q ys) is
       ∙ ap (λ z. Some z) it
   | inr isnt ↦
@@ -163,6 +156,40 @@ each-sorted P [] each = tt
 each-sorted P (node ∷ nodes) each =
     each-put_by_name P node (sorted_by_name nodes) each.0 (each-sorted P nodes each.1)
 
+count_put : (p : Node → Bool) (node : Node) (nodes : List Node)
+    → count p (put_by_name node nodes) ≡ one_if (p node) + count p nodes
+count_put p node [] = refl
+count_put p node (other ∷ others) = on (is_before other.name node.name) (count_put p node others)
+  where
+    swapped : (a b c : ℕ) → a + (b + c) ≡ b + (a + c)
+    swapped a b c = omega arith
+
+    on : (t : Bool) → count p (put_by_name node others) ≡ one_if (p node) + count p others
+        → count p (cond t (other ∷ put_by_name node others) (node ∷ other ∷ others))
+        ≡ one_if (p node) + (one_if (p other) + count p others)
+    on true rest =
+        ap (λ n. one_if (p other) + n) rest
+        ∙ swapped (one_if (p other)) (one_if (p node)) (count p others)
+    on false rest = refl
+
+-- as many objects pass a test when they are sorted by name
+pub count_sorted : (p : Node → Bool) (nodes : List Node)
+    → count p (sorted_by_name nodes) ≡ count p nodes
+count_sorted p [] = refl
+count_sorted p (node ∷ nodes) =
+    count_put p node (sorted_by_name nodes)
+    ∙ ap (λ (n : ℕ). one_if (p node) + n) (count_sorted p nodes)
+
+-- where an object was put among others, there is one
+pub put_is_some : (node : Node) (nodes : List Node) → is_empty (put_by_name node nodes) ≡ false
+put_is_some node [] = refl
+put_is_some node (other ∷ others) = on (is_before other.name node.name)
+  where
+    on : (t : Bool)
+        → is_empty (cond t (other ∷ put_by_name node others) (node ∷ other ∷ others)) ≡ false
+    on true = refl
+    on false = refl
+
 -- ---- what stands in a list
 
 -- the object is a member of the list
@@ -173,9 +200,9 @@ Stands node (other ∷ others) = (other ≡ node) ⊎ Stands node others
 -- an object that a test finds in a list is in it
 pub stands-found : (p : Node → Bool) (nodes : List Node) (node : Node) → find p nodes ≡ Some node
     → Stands node nodes
-stands-found p [] node found = absurd (not_none node found)
+stands-found p [] node found = absurd (none-some node found)
 stands-found p (y ∷ ys) node found = elim (cases_Bool (p y)) [
-  | inl is ↦ inl (same_some y node (sym (find_yes p y ys is) ∙ found))
+  | inl is ↦ inl (same_Some y node (sym (find_yes p y ys is) ∙ found))
   | inr isnt ↦ inr (stands-found p ys node (sym (find_no p y ys isnt) ∙ found))
 ]
 
@@ -194,18 +221,34 @@ pub found_number : (id : ℕ) (nodes : List Node) (node : Node) → find_id id n
 found_number id nodes node found =
     eqb-true node.id id (found_passes (λ (n : Node). n.id == id) nodes node found)
 
+length_put : (id : ℕ) (ids : List ℕ) → length (put_number id ids) ≡ suc (length ids)
+length_put id [] = refl
+length_put id (other ∷ others) = on (nat_lt other id) (length_put id others)
+  where
+    on : (t : Bool) → length (put_number id others) ≡ suc (length others)
+        → length (cond t (other ∷ put_number id others) (id ∷ other ∷ others))
+        ≡ suc (suc (length others))
+    on true rest = ap suc rest
+    on false rest = refl
+
+-- numbers put among others leave no fewer
+pub length_numbers : (more ids : List ℕ) → length ids ≤ length (put_numbers more ids)
+length_numbers [] ids = omega arith
+length_numbers (id ∷ more) ids = let one = length_put id (put_numbers more ids) in let rest =
+    length_numbers more ids in omega (arith, one, rest)
+
 -- what is found stands above what comes before the list
 pub found_above : (k : ℕ) (nodes : List Node) (id : ℕ) (node : Node)
     → is_rising (k ∷ map (λ (n : Node). n.id) nodes) ≡ true → find_id id nodes ≡ Some node
     → k < node.id
-found_above k [] id node rises found = absurd (not_none node found)
+found_above k [] id node rises found = absurd (none-some node found)
 found_above k (x ∷ xs) id node rises found =
     let parts = and_parts (nat_lt k x.id) (is_rising (x.id ∷ map (λ (n : Node). n.id) xs)) rises in
     let up = ltb-true k x.id parts.0 in
     elim (cases_Bool (x.id == id)) [
       | inl is ↦
           subst (λ (n : Node). k < n.id)
-          (same_some x node (sym (find_yes (λ (n : Node). n.id == id) x xs is) ∙ found)) up
+          (same_Some x node (sym (find_yes (λ (n : Node). n.id == id) x xs is) ∙ found)) up
       | inr isnt ↦ let next =
           found_above x.id xs id node parts.1
           (sym (find_no (λ (n : Node). n.id == id) x xs isnt) ∙ found) in omega (arith, up, next)

@@ -11,7 +11,8 @@ use Rattle.room_entry.specs.Pieces.{pieces, same_text}
 use Rattle.room_rows.specs.Laws.{PathReadsBack}
 use Rattle.room_rows.specs.Paths.{is_object_name, is_name_byte, object_names, path_text}
 use Rattle.room_rows.proofs.Cutting.{good_names, joined, slash_first, within}
-use Rattle.room_rows.proofs.Utf8.{ascii_at, passes_as_utf8, text_from}
+use Rattle.room_rows.proofs.Utf8.{ascii_at, text_from}
+use Rattle.room_entry.proofs.Texts.{passes_as_utf8}
 
 -- ---- one name
 

@@ -1,13 +1,14 @@
 -- Objects that change, and keep their numbers, parents and names.
-use Rattle.std.proofs.Common.{◌≡◌, ℕ, ◌<◌, ◌≤◌, ◌==◌, Bool, true, List, [], ◌∷◌, map, filter, Some, nat_lt, refl, sym, ap, subst, ◌∙◌, arith, inl, inr}
+use Rattle.std.proofs.Common.{◌≡◌, ℕ, ◌<◌, ◌≤◌, ◌==◌, Bool, true, List, [], ◌∷◌, map, filter, Some, nat_lt, refl, sym, ap, ◌∙◌, arith, inl, inr}
 use Rattle.std.specs.Prelude.{if◌then◌else◌}
 use Rattle.std.specs.List.{find, AllByRecursion}
 use Rattle.std.specs.Option.{option_map}
 use Rattle.std.proofs.lemmas.Bool.{cases_Bool, and_parts, eqb-true, eq-eqb, ne_eqb, ltb-true, cond-true, cond-false}
+use Rattle.std.proofs.lemmas.Option.{same_Some, none-some}
 use Rattle.room_rows.specs.declared.node.Node.{Node}
 use Rattle.room_rows.specs.Content.{is_before, put_by_name, sorted_by_name, put_node, is_rising}
 use Rattle.room_rows.specs.Finding.{find_id}
-use Rattle.room_rows.proofs.Lookups.{each-sorted, find_no, find_yes, found_above, found_number, keep_no, keep_yes, name_behind, name_here, not_none, put_behind, put_same, same_some}
+use Rattle.room_rows.proofs.Lookups.{each-sorted, find_no, find_yes, found_above, found_number, keep_no, keep_yes, name_behind, name_here, put_behind, put_same}
 
 -- ---- an object put in the place of the one of its number
 
@@ -48,7 +49,7 @@ untouched k (x ∷ xs) new rises below =
 pub put-replaces : (k : ℕ) (nodes : List Node) (id : ℕ) (node new : Node)
     → is_rising (k ∷ map (λ (n : Node). n.id) nodes) ≡ true → find_id id nodes ≡ Some node
     → new.id ≡ id → put_node new nodes ≡ map (replaced new) nodes
-put-replaces k [] id node new rises found same = absurd (not_none node found)
+put-replaces k [] id node new rises found same = absurd (none-some node found)
 put-replaces k (x ∷ xs) id node new rises found same =
     let parts = and_parts (nat_lt k x.id) (is_rising (x.id ∷ map (λ (n : Node). n.id) xs)) rises in
     elim (cases_Bool (x.id == id)) [
@@ -73,12 +74,12 @@ put-replaces k (x ∷ xs) id node new rises found same =
 pub put_there : (k : ℕ) (nodes : List Node) (node : Node)
     → is_rising (k ∷ map (λ (n : Node). n.id) nodes) ≡ true → find_id node.id nodes ≡ Some node
     → put_node node nodes ≡ nodes
-put_there k [] node rises found = absurd (not_none node found)
+put_there k [] node rises found = absurd (none-some node found)
 put_there k (x ∷ xs) node rises found =
     let parts = and_parts (nat_lt k x.id) (is_rising (x.id ∷ map (λ (n : Node). n.id) xs)) rises in
     elim (cases_Bool (x.id == node.id)) [
       | inl is ↦
-          let here = same_some x node
+          let here = same_Some x node
           (sym (find_yes (λ (n : Node). n.id == node.id) x xs is) ∙ found) in
           put_same node x xs (eqb-true x.id node.id is) ∙ ap (λ (n : Node). n ∷ xs) (sym here)
       | inr isnt ↦

@@ -3,16 +3,10 @@ use Rattle.std.proofs.Common.{◌≡◌, ℕ, zero, suc, ◌<◌, ◌≤◌, ◌
 use Rattle.std.specs.List.{list_all}
 use Rattle.std.specs.Str.{IsUtf8, IsValidUpTo, is_utf8 as is_text}
 use Rattle.std.specs.Str.Lossy.{utf8_valid_len}
-use Rattle.std.proofs.lemmas.Bool.{cases_Bool, and_parts, or_right, or_from, ltb-true, eq-eqb, ne_eqb, false≢true, false_from_ne_true}
+use Rattle.std.proofs.lemmas.Bool.{cases_Bool, and_parts, or_from, ltb-true, ne_eqb, false≢true, false_from_ne_true}
 use Rattle.std.proofs.lemmas.List.{take_all}
-use Rattle.std.proofs.lemmas.Str.{IsUtf8-from_ascii, IsUtf8-from_is_utf8, IsUtf8-nil, is_utf8-from_IsUtf8, utf8_valid_len-IsUtf8, utf8_valid_len-IsValidUpTo}
+use Rattle.std.proofs.lemmas.Str.{IsUtf8-from_ascii, IsUtf8-from_is_utf8, IsUtf8-nil, is_utf8-from_IsUtf8, utf8_valid_len-IsValidUpTo}
 use Rattle.room_entry.specs.Utf8.{is_utf8}
-
--- bytes that are UTF-8 pass the test
-pub passes_as_utf8 : (bytes : List ℕ) → IsUtf8 bytes → is_utf8 bytes ≡ true
-passes_as_utf8 bytes h =
-    or_right (list_all (λ byte. nat_lt byte 128) bytes) (utf8_valid_len bytes == length bytes)
-    (eq-eqb _ _ (utf8_valid_len-IsUtf8 bytes h))
 
 -- where all bytes are below 128, the byte at any place is, and so is the 0 past the end
 pub ascii_at : (bytes : List ℕ) → list_all (λ byte. nat_lt byte 128) bytes ≡ true → (i : ℕ)

@@ -3,6 +3,7 @@ use Rattle.std.proofs.Common.{◌≡◌, ℕ, ◌<◌, ◌==◌, true, false, no
 use Rattle.std.specs.Prelude.{is_some}
 use Rattle.std.specs.Option.{option_map_or}
 use Rattle.std.proofs.lemmas.Bool.{cases_Bool, false≢true, eq-eqb, cond-true, cond-false}
+use Rattle.std.proofs.lemmas.Option.{same_Some}
 use Rattle.room_entry.specs.Valid.{is_document}
 use Rattle.room_entry.specs.declared.object.Which.{Which}
 use Rattle.room_entry.specs.declared.object.Which.TheVariants.{Dacl, Sacl}
@@ -20,9 +21,10 @@ use Rattle.room_rows.specs.Keep.{Changes, HasCause, node_of, reading, with_new, 
 use Rattle.room_tree.specs.Memory.{memory_rows}
 use Rattle.room_tree.specs.Objects.{StandsAsBefore, greatest}
 use Rattle.room_rows.specs.Rows.{AreRows}
-use Rattle.room_tree.proofs.Found.{same_object, found_id, found_put, found_above}
+use Rattle.room_tree.proofs.Found.{found_put, found_above}
 use Rattle.room_tree.proofs.Kept.{put_rows, body_rows, removed_rows}
 use Rattle.room_tree.proofs.Tying.{no_less}
+use Rattle.room_rows.proofs.Lookups.{found_number}
 
 -- ---- a call that memory ended
 
@@ -43,11 +45,7 @@ err_fault r before after damaged is =
 
 pub found_itself : (nodes : List Node) (id : ℕ) (node : Node) → find_id id nodes ≡ Some node
     → find_id node.id nodes ≡ Some node
-found_itself nodes id node found = ap (λ i. find_id i nodes) (found_id id nodes node found) ∙ found
-
-pub held_id : (which : Which) (held : Held) (node : Node) → (with_held which held node).id ≡ node.id
-held_id Dacl held node = refl
-held_id Sacl held node = refl
+found_itself nodes id node found = ap (λ i. find_id i nodes) (found_number id nodes node found) ∙ found
 
 pub stands_held : (which : Which) (held : Held) (nodes : List Node) (id : ℕ) (node new : Node)
     → find_id id nodes ≡ Some node → new ≡ with_held which held node → StandsAsBefore new nodes
@@ -107,7 +105,7 @@ pub changes : (nodes new_nodes : List Node) (bodies : List (ℕ × List ℕ))
 changes nodes new_nodes bodies members audits id change node new found is puts = λ other at.
     ap (λ (l : List Node). memory_rows l bodies members audits)
     (puts ∙ ap (λ (n : Node). put_node n nodes)
-    (is ∙ ap change (same_object node other (sym found ∙ at))))
+    (is ∙ ap change (same_Some node other (sym found ∙ at))))
 
 -- ---- a new object
 
@@ -212,6 +210,6 @@ filled_rows nodes bodies new_bodies members audits id bytes document fills old =
     by None is document = absurd (false≢true document)
     by (Some n) is document =
         let above = number_above nodes id n old.numbers is in
-        let same = found_id id nodes n is in
+        let same = found_number id nodes n is in
         body_rows nodes bodies members audits id bytes (omega (arith, above, same))
         (ap is_some is) old

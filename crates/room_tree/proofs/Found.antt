@@ -1,9 +1,9 @@
 -- Objects that are found, after changes too.
-use Rattle.std.proofs.Common.{◌≡◌, ℕ, ◌<◌, ◌≤◌, ◌==◌, ◌&&◌, Bool, true, false, not, List, [], ◌∷◌, map, filter, Option, Some, None, nat_lt, refl, sym, ap, subst, ◌∙◌, arith, inl, inr, if◌then◌else◌}
+use Rattle.std.proofs.Common.{◌≡◌, ℕ, ◌<◌, ◌≤◌, ◌==◌, ◌&&◌, Bool, true, false, not, List, [], ◌∷◌, map, filter, Some, None, nat_lt, refl, sym, ap, subst, ◌∙◌, arith, inl, inr, if◌then◌else◌}
 use Rattle.std.specs.Prelude.{is_none}
 use Rattle.std.specs.List.{find}
-use Rattle.std.specs.Option.{option_map_or}
 use Rattle.std.proofs.lemmas.Bool.{cases_Bool, cases_order, false≢true, and_parts, and_from, and_left, and_right, eqb-true, eqb-false, ne_eqb, eq-eqb, ltb-true, lt-ltb, le-ltb, cond-true, cond-false}
+use Rattle.std.proofs.lemmas.Option.{same_Some}
 use Rattle.room_rows.specs.declared.node.Node.{Node}
 use Rattle.room_rows.specs.Content.{put_node, is_rising}
 use Rattle.room_rows.specs.Finding.{find_id}
@@ -11,27 +11,12 @@ use Rattle.room_rows.specs.Finding.{find_id}
 abbrev ids_of : List Node → List ℕ
 ids_of nodes = map (λ (n : Node). n.id) nodes
 
-pub same_object : (x y : Node) → Some x ≡ Some y → x ≡ y
-same_object x y e = ap (λ (o : Option Node). option_map_or (λ (n : Node). n) o x) e
-
 found_first : (t : Node → Bool) (x : Node) (xs : List Node) → t x ≡ true → find t (x ∷ xs) ≡ Some x
 found_first t x xs is = rw is refl
 
 found_later : (t : Node → Bool) (x : Node) (xs : List Node) → t x ≡ false
     → find t (x ∷ xs) ≡ find t xs
 found_later t x xs isnt = rw isnt refl
-
--- an object that is found passes the test
-pub found_passes : (t : Node → Bool) (xs : List Node) (n : Node) → find t xs ≡ Some n → t n ≡ true
-found_passes t [] n found = absurd (false≢true (sym (ap is_none found)))
-found_passes t (x ∷ xs) n found = elim (cases_Bool (t x)) [
-  | inl is ↦
-      subst (λ (m : Node). t m ≡ true) (same_object x n (sym (found_first t x xs is) ∙ found)) is
-  | inr isnt ↦ found_passes t xs n (sym (found_later t x xs isnt) ∙ found)
-]
-
-pub found_id : (id : ℕ) (xs : List Node) (n : Node) → find_id id xs ≡ Some n → n.id ≡ id
-found_id id xs n found = eqb-true n.id id (found_passes (λ (m : Node). m.id == id) xs n found)
 
 -- ---- numbers that rise
 
@@ -44,7 +29,7 @@ found_above t k (x ∷ xs) n rises found =
     let up = ltb-true k x.id parts.0 in
     elim (cases_Bool (t x)) [
       | inl is ↦
-          subst (λ (m : Node). k < m.id) (same_object x n (sym (found_first t x xs is) ∙ found)) up
+          subst (λ (m : Node). k < m.id) (same_Some x n (sym (found_first t x xs is) ∙ found)) up
       | inr isnt ↦ let next =
           found_above t x.id xs n parts.1 (sym (found_later t x xs isnt) ∙ found) in
           omega (arith, up, next)
@@ -61,7 +46,7 @@ some_passes t id (x ∷ xs) n found is none = elim (cases_Bool (t x)) [
         absurd
         (false≢true
         (sym fails
-        ∙ ap t (same_object x n (sym (found_first (λ (m : Node). m.id == id) x xs same) ∙ found))
+        ∙ ap t (same_Some x n (sym (found_first (λ (m : Node). m.id == id) x xs same) ∙ found))
         ∙ is))
     | inr apart ↦
         some_passes t id xs n (sym (found_later (λ (m : Node). m.id == id) x xs apart) ∙ found) is
@@ -79,7 +64,7 @@ pub passing : (t : Node → Bool) (id : ℕ) (xs : List Node) (n : Node) → fin
 passing t id [] n found is = absurd (false≢true (sym (ap is_none found)))
 passing t id (x ∷ xs) n found is = elim (cases_Bool (x.id == id)) [
   | inl same ↦
-      let it = same_object x n (sym (found_first (λ (m : Node). m.id == id) x xs same) ∙ found) in
+      let it = same_Some x n (sym (found_first (λ (m : Node). m.id == id) x xs same) ∙ found) in
       found_first (both t id) x xs (and_from (x.id == id) (t x) same (ap t it ∙ is)) ∙ ap Some it
   | inr apart ↦ found_later (both t id) x xs (and_left (x.id == id) (t x) apart)
       ∙ passing t id xs n (sym (found_later (λ (m : Node). m.id == id) x xs apart) ∙ found) is
@@ -104,7 +89,7 @@ failing t id k (x ∷ xs) n rises found isnt =
     let parts = and_parts (nat_lt k x.id) (is_rising (x.id ∷ ids_of xs)) rises in
     elim (cases_Bool (x.id == id)) [
       | inl same ↦
-          let it = same_object x n
+          let it = same_Some x n
           (sym (found_first (λ (m : Node). m.id == id) x xs same) ∙ found) in
           let e = eqb-true x.id id same in
           found_later (both t id) x xs (and_right (x.id == id) (t x) (ap t it ∙ isnt))
@@ -219,7 +204,7 @@ put_rises k new (x ∷ xs) up rises =
       ]
     ]
 
-lower : (k l : ℕ) (ids : List ℕ) → k ≤ l → is_rising (l ∷ ids) ≡ true → is_rising (k ∷ ids) ≡ true
+pub lower : (k l : ℕ) (ids : List ℕ) → k ≤ l → is_rising (l ∷ ids) ≡ true → is_rising (k ∷ ids) ≡ true
 lower k l [] down rises = refl
 lower k l (i ∷ ids) down rises =
     let parts = and_parts (nat_lt l i) (is_rising (i ∷ ids)) rises in

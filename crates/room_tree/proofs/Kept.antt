@@ -1,5 +1,5 @@
 -- Rows of a keeper in memory that stay rows.
-use Rattle.std.proofs.Common.{◌≡◌, ℕ, ◌<◌, ◌≤◌, ◌==◌, ◌||◌, Bool, true, false, not, List, [], ◌∷◌, map, filter, Some, nat_lt, refl, sym, ap, subst, ◌∙◌, arith, inl, inr, if◌then◌else◌}
+use Rattle.std.proofs.Common.{◌≡◌, ℕ, ◌<◌, ◌==◌, ◌||◌, Bool, true, false, not, List, [], ◌∷◌, map, filter, Some, nat_lt, refl, sym, ap, subst, ◌∙◌, arith, inl, inr, if◌then◌else◌}
 use Rattle.std.specs.Prelude.{is_some}
 use Rattle.std.specs.BTreeMap.{insert_entry}
 use Rattle.std.specs.List.{list_all}
@@ -13,11 +13,11 @@ use Rattle.std.proofs.lemmas.Map.Keys.{sorted_head, sorted_tail}
 use Rattle.room_entry.specs.Pieces.{is_among}
 use Rattle.room_rows.specs.declared.node.Node.{Node}
 use Rattle.room_rows.specs.declared.node.AuditRow.{AuditRow}
-use Rattle.room_rows.specs.Content.{body_at, is_rising, put_body, put_node, set_of}
+use Rattle.room_rows.specs.Content.{body_at, is_rising, put_body, put_node}
 use Rattle.room_rows.specs.Finding.{find_id}
 use Rattle.room_tree.specs.Memory.{memory_rows}
 use Rattle.room_rows.specs.Rows.{AreRows}
-use Rattle.room_tree.proofs.Found.{put_rises, filter_rises}
+use Rattle.room_tree.proofs.Found.{put_rises, filter_rises, lower}
 use Rattle.room_tree.proofs.Numbered.{is_key, cmp_less, cmp_equal, cmp_greater, less_below}
 
 -- ---- bytes at numbers
@@ -111,13 +111,6 @@ body_rises k id bytes (e ∷ es) up rises =
             (and_from (nat_lt id e.0) (is_rising (e.0 ∷ keys es)) (lt-ltb id e.0 past) parts.1)
       ]
     ]
-
-lower : (k l : ℕ) (ids : List ℕ) → k ≤ l → is_rising (l ∷ ids) ≡ true → is_rising (k ∷ ids) ≡ true
-lower k l [] down rises = refl
-lower k l (i ∷ ids) down rises =
-    let parts = and_parts (nat_lt l i) (is_rising (i ∷ ids)) rises in
-    let up = ltb-true l i parts.0 in
-    and_from _ _ (lt-ltb k i (omega (arith, up, down))) parts.1
 
 bodies_left_rise : (t : ℕ × List ℕ → Bool) (k : ℕ) (es : List (ℕ × List ℕ))
     → is_rising (k ∷ map (λ (row : ℕ × List ℕ). row.0) es) ≡ true

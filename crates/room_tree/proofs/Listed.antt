@@ -4,7 +4,6 @@ use Rattle.std.specs.Prelude.{is_none}
 use Rattle.std.specs.List.{cons_option, AllByRecursion}
 use Rattle.std.specs.List.Sorted.{IsStrictlySortedBy}
 use Rattle.std.specs.Map.{keys_of}
-use Rattle.std.specs.Option.{option_map_or}
 use Rattle.std.specs.Ordering.{nat_cmp, ordering_then, ordering_reverse, is_lt, is_eq}
 use Rattle.std.specs.Cmp.Lexicographic.{slice_cmp}
 use Rattle.std.specs.String.{string_cmp}
@@ -13,41 +12,24 @@ use Rattle.std.specs.declared.cmp.Ordering.TheVariants.{Less}
 use Rattle.std.proofs.lemmas.Bool.{cases_Bool, false≢true, true≢false, and_parts, and_from, and_left, and_right, eqb-true, ne_eqb, eq-eqb, cond-true, cond-false, false_from_ne_true}
 use Rattle.std.proofs.lemmas.Cmp.{nat_list_cmp_total, tied_itself}
 use Rattle.std.proofs.lemmas.Map.Keys.{sorted_head, sorted_tail}
-use Rattle.std.proofs.lemmas.Slice.Eq.{bytes_eq-Decides}
 use Rattle.room_entry.specs.Pieces.{same_text}
 use Rattle.room_rows.specs.declared.node.Node.{Node}
 use Rattle.room_rows.specs.Content.{is_rising, has_parent, is_before, put_by_name, sorted_by_name}
 use Rattle.room_rows.specs.Finding.{find_id, find_named}
 use Rattle.room_tree.specs.Places.{is_standing, standing, standing_all, standing_under, is_place, id_at, places_under}
-use Rattle.room_tree.proofs.Found.{found_id, found_above, found_passes, none_above}
+use Rattle.room_tree.proofs.Found.{found_above, none_above}
 use Rattle.room_tree.proofs.Numbered.{cmp_equal}
-
-pub same_bytes : (a b : List ℕ) → same_text a b ≡ true → a ≡ b
-same_bytes a b = (bytes_eq-Decides a b).0
-
-pub same_itself : (a : List ℕ) → same_text a a ≡ true
-same_itself a = (bytes_eq-Decides a a).1 refl
+use Rattle.room_rows.proofs.Lookups.{found_number, found_passes}
+use Rattle.room_entry.proofs.Texts.{same_text-true}
+use Rattle.room_entry.proofs.Alike.{text_itself}
+use Rattle.room_rows.proofs.Frames.{parent_is}
 
 pub same_back : (a b : List ℕ) → same_text a b ≡ false → same_text b a ≡ false
 same_back a b apart =
     false_from_ne_true (same_text b a)
     (λ same. true≢false
-    (sym (subst (λ (x : List ℕ). same_text a x ≡ true) (sym (same_bytes b a same)) (same_itself a))
+    (sym (subst (λ (x : List ℕ). same_text a x ≡ true) (sym (same_text-true b a same)) (text_itself a))
     ∙ apart))
-
-parent_in : (o : Option ℕ) (parent : ℕ) → option_map_or (λ p. p == parent) o false ≡ true
-    → o ≡ Some parent
-parent_in None parent is = absurd (false≢true is)
-parent_in (Some p) parent is = ap Some (eqb-true p parent is)
-
-pub parent_is : (parent : ℕ) (node : Node) → has_parent parent node ≡ true
-    → node.parent ≡ Some parent
-parent_is parent node is = parent_in node.parent parent is
-
-pub parent_has : (parent : ℕ) (node : Node) → node.parent ≡ Some parent
-    → has_parent parent node ≡ true
-parent_has parent node is =
-    ap (λ o. option_map_or (λ p. p == parent) o false) is ∙ eq-eqb parent parent refl
 
 not_less_itself : (a : List ℕ) → slice_cmp nat_cmp a a ≡ Less → ⊥
 not_less_itself a less = true≢false (ap is_eq (sym (tied_itself nat_list_cmp_total a) ∙ less))
@@ -60,7 +42,7 @@ standing_name : (id parent : ℕ) (name : List ℕ) (nodes : List Node) (m : Nod
     → standing id parent name nodes ≡ Some m → m.name ≡ name
 standing_name id parent name nodes m found =
     let passes = found_passes (is_standing id parent name) nodes m found in
-    same_bytes m.name name (and_parts (has_parent parent m) _ (and_parts (m.id == id) _ passes).1).1
+    same_text-true m.name name (and_parts (has_parent parent m) _ (and_parts (m.id == id) _ passes).1).1
 
 abbrev pub place_cmp : {Y : Type 0} → ℕ × String Y → ℕ × String Y → Ordering
 place_cmp x y = ordering_then (nat_cmp x.0 y.0) (string_cmp x.1 y.1)
@@ -83,7 +65,7 @@ module _ {Y : Type 0} where
         λ parent has. listed n.id parent n (cond-true _ _ _ (eq-eqb n.id n.id refl)) has,
         all_listed places n.id ns parts.1 (λ id parent node found has.
             let up = found_above (λ (m : Node). m.id == id) n.id ns node parts.1 found in
-            let is = found_id id ns node found in
+            let is = found_number id ns node found in
             listed id parent node
             (cond-false _ _ _ (ne_eqb n.id id (λ e. absurd (omega (arith, up, is, e)))) ∙ found)
             has),
@@ -100,7 +82,7 @@ module _ {Y : Type 0} where
         | inl is ↦
             let parts = and_parts (has_parent parent n) (same_text n.name name) is in
             let listed : id_at parent name places ≡ Some n.id = subst
-            (λ (t : List ℕ). id_at parent t places ≡ Some n.id) (same_bytes n.name name parts.1)
+            (λ (t : List ℕ). id_at parent t places ≡ Some n.id) (same_text-true n.name name parts.1)
             (all.0 parent (parent_is parent n parts.0)) in
             absurd (false≢true (ap is_none (sym listed ∙ none)))
         | inr isnt ↦ cond-false _ _ _ isnt ∙ named_none places parent name ns all.1 none
@@ -116,7 +98,7 @@ module _ {Y : Type 0} where
         | inl is ↦
             let parts = and_parts (has_parent parent n) (same_text n.name name) is in
             let listed : id_at parent name places ≡ Some n.id = subst
-            (λ (t : List ℕ). id_at parent t places ≡ Some n.id) (same_bytes n.name name parts.1)
+            (λ (t : List ℕ). id_at parent t places ≡ Some n.id) (same_text-true n.name name parts.1)
             (all.0 parent (parent_is parent n parts.0)) in
             let same : n.id ≡ id = (let e : Some n.id ≡ Some id = sym listed ∙ at in cc) in
             cond-true _ _ _ (and_from (n.id == id) _ (eq-eqb n.id id same) is)
@@ -192,7 +174,7 @@ module _ {Y : Type 0} where
         let less = name_less at e.0 (is ∙ sym (eqb-true e.0.0 parent under)) later.0 in
         not_less_itself (string_bytes at.1)
         (subst (λ (t : List ℕ). slice_cmp nat_cmp (string_bytes at.1) t ≡ Less)
-        (sym (named ∙ same_bytes n.name (string_bytes e.0.1) same)) less)))),
+        (sym (named ∙ same_text-true n.name (string_bytes e.0.1) same)) less)))),
     behind parent n at es is named later.1,
   )
 
@@ -237,7 +219,7 @@ module _ {Y : Type 0} where
         | inl here ↦
             let parts = and_parts (e.0.0 == parent) (same_text (string_bytes e.0.1) name) here in
             subst (λ (t : List ℕ). slice_cmp nat_cmp (string_bytes at.1) t ≡ Less)
-            (same_bytes (string_bytes e.0.1) name parts.1)
+            (same_text-true (string_bytes e.0.1) name parts.1)
             (name_less at e.0 (is ∙ sym (eqb-true e.0.0 parent parts.0)) later.0)
         | inr isnt ↦
             later_name at parent name id es is later.1 (sym (cond-false _ _ _ isnt) ∙ found)
@@ -256,7 +238,7 @@ module _ {Y : Type 0} where
         | inl here ↦
             let parts = and_parts (e.0.0 == parent) (same_text (string_bytes e.0.1) n.name) here in
             let is : e.0.0 ≡ parent = eqb-true e.0.0 parent parts.0 in
-            let named : string_bytes e.0.1 ≡ n.name = same_bytes _ _ parts.1 in
+            let named : string_bytes e.0.1 ≡ n.name = same_text-true _ _ parts.1 in
             let its : e.1 ≡ n.id =
             (let f : Some e.1 ≡ Some n.id = sym (cond-true _ _ _ here) ∙ listed in cc) in
             let later = sorted_head place_cmp e.0 (keys_of es) sorted in
@@ -264,7 +246,7 @@ module _ {Y : Type 0} where
             (n.id == e.1) _
             (eq-eqb n.id e.1 (sym its))
             (and_from (has_parent parent n) _ has
-            (subst (λ (t : List ℕ). same_text n.name t ≡ true) (sym named) (same_itself n.name))) in
+            (subst (λ (t : List ℕ). same_text n.name t ≡ true) (sym named) (text_itself n.name))) in
             let gone : standing e.1 parent (string_bytes e.0.1) nodes ≡ None = none_above
             (λ (m : Node). has_parent parent m && same_text m.name (string_bytes e.0.1)) e.1 n.id
             nodes rises (omega (arith, its)) in

@@ -14,7 +14,7 @@ use Rattle.std.proofs.lemmas.List.{take-append-drop, drop_all, get_or_default}
 use Rattle.room_entry.specs.Pieces.{same_text}
 use Rattle.room_rows.specs.Content.{is_before, is_pair_before, put_pair, set_of}
 use Rattle.room_tree.specs.Pairs.{pair_cmp, is_same_pair}
-use Rattle.room_tree.proofs.Listed.{same_bytes}
+use Rattle.room_entry.proofs.Texts.{same_text-true}
 
 abbrev Pair : Type 0
 Pair = List ℕ × List ℕ
@@ -188,8 +188,8 @@ pub put_there : (p : Pair) (l : List Pair) (k : ℕ) → k < length l
 put_there p l k below puts stops same =
     let step : drop k l ≡ get_or l k p ∷ drop (suc k) l = drop-cons l k p below in
     let parts = and_parts (same_text (get_or l k p).0 p.0) (same_text (get_or l k p).1 p.1) same in
-    let is : get_or l k p ≡ p = (let a = same_bytes (get_or l k p).0 p.0 parts.0 in
-    let b = same_bytes (get_or l k p).1 p.1 parts.1 in λ i. (a i, b i)) in
+    let is : get_or l k p ≡ p = (let a = same_text-true (get_or l k p).0 p.0 parts.0 in
+    let b = same_text-true (get_or l k p).1 p.1 parts.1 in λ i. (a i, b i)) in
     let back : is_pair_before p (get_or l k p) ≡ false = ap (is_pair_before p) is ∙ itself p in
     let front : put_pair p (drop k l) ≡ drop k l =
     ap (put_pair p) step ∙ cond-false _ _ _ stops

@@ -15,7 +15,9 @@ use Rattle.std.proofs.lemmas.Map.Text.{is_eq-slice_cmp}
 use Rattle.room_entry.specs.Pieces.{same_text}
 use Rattle.room_tree.specs.Places.{text_place, is_place, id_at, places_under, Lists, KeepsOtherPlaces}
 use Rattle.room_tree.proofs.Numbered.{cmp_less, cmp_equal, cmp_greater}
-use Rattle.room_tree.proofs.Listed.{place_cmp, same_bytes}
+use Rattle.room_tree.proofs.Listed.{place_cmp}
+use Rattle.room_entry.proofs.Facts.Lists.{filter_weaker}
+use Rattle.room_entry.proofs.Texts.{same_text-true}
 
 lookup_same : {K X : Type 0} (t u : K → Bool) → ((k : K) → t k ≡ u k) → (es : List (K × X))
     → lookup t es ≡ lookup u es
@@ -27,23 +29,6 @@ lookup_same t u same (e ∷ es) =
 empty_first : (t : List ℕ) → is_le (slice_cmp nat_cmp [] t) ≡ true
 empty_first [] = refl
 empty_first (x ∷ xs) = refl
-
--- filtered twice, where the first test lets all pass that the second does
-filter_twice : {X : Type 0} (t u : X → Bool) → ((x : X) → t x ≡ true → u x ≡ true) → (xs : List X)
-    → filter t (filter u xs) ≡ filter t xs
-filter_twice t u lets [] = refl
-filter_twice t u lets (x ∷ xs) = elim (cases_Bool (t x)) [
-  | inl is ↦ ap (filter t) (cond-true _ (x ∷ filter u xs) _ (lets x is))
-      ∙ cond-true _ (x ∷ filter t (filter u xs)) _ is ∙ ap (λ l. x ∷ l) (filter_twice t u lets xs)
-      ∙ sym (cond-true _ _ _ is)
-  | inr isnt ↦ elim (cases_Bool (u x)) [
-    | inl kept ↦ ap (filter t) (cond-true _ (x ∷ filter u xs) _ kept)
-        ∙ cond-false _ _ (filter t (filter u xs)) isnt ∙ filter_twice t u lets xs
-        ∙ sym (cond-false _ _ _ isnt)
-    | inr dropped ↦ ap (filter t) (cond-false _ (x ∷ filter u xs) _ dropped)
-        ∙ filter_twice t u lets xs ∙ sym (cond-false _ _ _ isnt)
-  ]
-]
 
 module _ {Y : Type 0} where
   -- a place compares as equal to a key where both are the same
@@ -83,7 +68,7 @@ module _ {Y : Type 0} where
   equal_places place key is =
       let parts = and_parts (key.0 == place.0) _ (sym (is_place_key place key) ∙ is) in (
         eqb-true key.0 place.0 parts.0,
-        same_bytes (string_bytes key.1) (string_bytes place.1) parts.1,
+        same_text-true (string_bytes key.1) (string_bytes place.1) parts.1,
       )
 
   same_test : (p : ℕ) (n : List ℕ) (place key : ℕ × String Y)
@@ -102,8 +87,8 @@ module _ {Y : Type 0} where
       let a = and_parts (key.0 == p) _ is in
       let b = and_parts (place.0 == p) _ its in
       let number : key.0 ≡ place.0 = eqb-true key.0 p a.0 ∙ sym (eqb-true place.0 p b.0) in
-      let name : string_bytes key.1 ≡ n = same_bytes (string_bytes key.1) n a.1 in
-      let name' : string_bytes place.1 ≡ n = same_bytes (string_bytes place.1) n b.1 in
+      let name : string_bytes key.1 ≡ n = same_text-true (string_bytes key.1) n a.1 in
+      let name' : string_bytes place.1 ≡ n = same_text-true (string_bytes place.1) n b.1 in
       let same : is_place place.0 (string_bytes place.1) key ≡ true = and_from (key.0 == place.0) _
       (eq-eqb key.0 place.0 number)
       (subst (λ (t : List ℕ). same_text (string_bytes key.1) t ≡ true) (sym name') a.1) in
@@ -208,7 +193,7 @@ module _ {Y : Type 0} where
       (filter (λ e. range_contains (λ x y. ordering_then (nat_cmp x.0 y.0) (string_cmp x.1 y.1))
       (Included start) (Excluded end) e.0) es) ≡ places_under parent es
   between parent start end es from empty to =
-      filter_twice (λ (e : (ℕ × String Y) × ℕ). e.0.0 == parent) _ (λ e is.
+      filter_weaker (λ (e : (ℕ × String Y) × ℕ). e.0.0 == parent) _ (λ e is.
       let at : e.0.0 ≡ parent = eqb-true e.0.0 parent is in
       and_from _ _ (from_start start e.0 empty (omega (arith, at, from)))
       (ap (λ o. not (is_le (ordering_then o (string_cmp end.1 e.0.1))))
@@ -220,6 +205,6 @@ module _ {Y : Type 0} where
       (filter (λ e. range_contains (λ x y. ordering_then (nat_cmp x.0 y.0) (string_cmp x.1 y.1))
       (Included start) Unbounded e.0) es) ≡ places_under parent es
   from parent start es is empty =
-      filter_twice (λ (e : (ℕ × String Y) × ℕ). e.0.0 == parent) _ (λ e under.
+      filter_weaker (λ (e : (ℕ × String Y) × ℕ). e.0.0 == parent) _ (λ e under.
       let at : e.0.0 ≡ parent = eqb-true e.0.0 parent under in
       and_from _ _ (from_start start e.0 empty (omega (arith, at, is))) refl) es

@@ -7,8 +7,9 @@ use Rattle.std.specs.List.Sorted.{IsStrictlySortedBy}
 use Rattle.std.specs.Map.{lookup, remove_entry, keys_of, values_of}
 use Rattle.std.specs.Option.{IsSome, SomeIff, MatchOption, option_map, option_map_or, option_to_list}
 use Rattle.std.specs.Ordering.{nat_cmp, is_eq, is_lt}
-use Rattle.std.proofs.lemmas.Bool.{cases_Bool, cases_lt, false≢true, true≢false, and_parts, and_from, eqb-true, eqb-false, eq-eqb, lt-ltb, cond-true, cond-false, false_from_ne_true}
+use Rattle.std.proofs.lemmas.Bool.{cases_Bool, cases_lt, false≢true, true≢false, and_parts, and_from, eqb-true, eqb-false, eq-eqb, cond-true, cond-false, false_from_ne_true}
 use Rattle.std.proofs.lemmas.Map.Keys.{ge_from_not_lt}
+use Rattle.std.proofs.lemmas.Option.{same_Some}
 use Rattle.room_entry.specs.Pieces.{same_text}
 use Rattle.room_entry.specs.declared.object.ObjKind.{ObjKind}
 use Rattle.room_rows.specs.declared.node.Node.{Node}
@@ -16,9 +17,13 @@ use Rattle.room_rows.specs.Content.{put_node, is_rising, has_parent, sorted_by_n
 use Rattle.room_rows.specs.Finding.{find_id, find_named}
 use Rattle.room_tree.specs.Objects.{AreTied, StandsAsBefore, greatest, has_object, named_kind, place_of}
 use Rattle.room_tree.specs.Places.{text_place, standing, standing_under, is_same_place, id_at, places_under, Lists, KeepsOtherPlaces}
-use Rattle.room_tree.proofs.Found.{same_object, found_id, found_above, found_put, found_without, some_passes, put_rises, filter_rises, failing}
-use Rattle.room_tree.proofs.Listed.{same_bytes, same_itself, parent_has, all_listed, named_none, named_some, children_are, place_cmp}
+use Rattle.room_tree.proofs.Found.{found_above, found_put, found_without, some_passes, put_rises, filter_rises, failing}
+use Rattle.room_tree.proofs.Listed.{all_listed, named_none, named_some, children_are, place_cmp}
 use Rattle.room_tree.proofs.Numbered.{is_keyed, lookup_at, inserted, inserted_keyed, removed, removed_keyed}
+use Rattle.room_rows.proofs.Lookups.{found_number}
+use Rattle.room_entry.proofs.Texts.{same_text-true}
+use Rattle.room_entry.proofs.Alike.{text_itself}
+use Rattle.room_rows.proofs.Frames.{has_its_parent}
 
 -- what holds after a call, whether it was refused or not
 pub settled : {X E P Q : Type 0} (r : Result X E) → OnOk r P → OnErr r Q → (Q → P) → P
@@ -46,15 +51,15 @@ free_place parent name nodes free id p m found has =
     let parts = and_parts (parent == p) (same_text name m.name) is in
     let has' : m.parent ≡ Some parent = has ∙ ap Some (sym (eqb-true parent p parts.0)) in
     let named : same_text m.name name ≡ true = subst (λ (t : List ℕ). same_text m.name t ≡ true)
-    (sym (same_bytes name m.name parts.1)) (same_itself m.name) in
+    (sym (same_text-true name m.name parts.1)) (text_itself m.name) in
     some_passes (λ node. has_parent parent node && same_text node.name name) id nodes m found
-    (and_from (has_parent parent m) (same_text m.name name) (parent_has parent m has') named) free)
+    (and_from (has_parent parent m) (same_text m.name name) (has_its_parent parent m has') named) free)
 
 other_place : (p : ℕ) (n : List ℕ) (parent : ℕ) (name : List ℕ)
     → is_same_place p n parent name ≡ true → (parent ≡ p) × (name ≡ n)
 other_place p n parent name is =
     let parts = and_parts (parent == p) (same_text name n) is in
-    (eqb-true parent p parts.0, same_bytes name n parts.1)
+    (eqb-true parent p parts.0, same_text-true name n parts.1)
 
 one_parent : (node : Node) (parent p : ℕ) → node.parent ≡ Some parent → node.parent ≡ Some p
     → parent ≡ p
@@ -74,7 +79,7 @@ free_apart parent name nodes id before free is =
         let e = other_place parent name p n same in
         true≢false
         (sym (and_from (parent == p) (same_text name n) (eq-eqb parent p (sym e.0))
-        (subst (λ (t : List ℕ). same_text name t ≡ true) (sym e.1) (same_itself name))) ∙ apart))
+        (subst (λ (t : List ℕ). same_text name t ≡ true) (sym e.1) (text_itself name))) ∙ apart))
 
     at_parent : (x : Node) (o : Option ℕ) → find_id id nodes ≡ Some x → x.parent ≡ o
         → option_map_or (λ (at : ℕ × List ℕ). is_same_place parent name at.0 at.1)
@@ -252,7 +257,7 @@ module _ {Y : Type 0} where
             sym (found_put node id (values_of es)) ∙ ap (find_id id) (sym nodes) ∙ found in
             elim (cases_Bool (node.id == id)) [
               | inl here ↦
-                  let it : node ≡ m = same_object node m (sym (cond-true _ _ _ here) ∙ found') in
+                  let it : node ≡ m = same_Some node m (sym (cond-true _ _ _ here) ∙ found') in
                   subst (λ (x : Node). x.parent ≡ Some p → id_at p x.name new_places ≡ Some id) it
                   (λ h. own p h ∙ ap Some (eqb-true node.id id here)) has
               | inr isnt ↦ others id p m (sym (cond-false _ _ _ isnt) ∙ found') isnt has
@@ -289,7 +294,7 @@ module _ {Y : Type 0} where
   own_listed places new_places parent name id lists =
       lists parent name
       ∙ cond-true _ _ _ (and_from (parent == parent) (same_text name name)
-      (eq-eqb parent parent refl) (same_itself name))
+      (eq-eqb parent parent refl) (text_itself name))
 
   -- an object is added at a place where none stands
   pub tied_added : (es new_es : List (ℕ × Node)) (places new_places : List ((ℕ × String Y) × ℕ))
@@ -339,7 +344,7 @@ module _ {Y : Type 0} where
       by : (o : Option Node) → find_id id (values_of es) ≡ o → is_some o ≡ true → 0 < id
       by None is some = absurd (false≢true some)
       by (Some n) is some =
-          subst (λ (i : ℕ). 0 < i) (found_id id (values_of es) n is)
+          subst (λ (i : ℕ). 0 < i) (found_number id (values_of es) n is)
           (found_above (λ (m : Node). m.id == id) 0 (values_of es) n tied.rising is)
 
   -- an object takes the place of one that has its parent and name

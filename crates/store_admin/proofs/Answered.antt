@@ -1,12 +1,10 @@
 -- What is answered was asked of an open connection.
-use Rattle.std.proofs.Common.{◌≤◌, ℕ, List, Result, Ok, Err, Some, None, Option, IsTrue, IfOk, Vec, Global, arith}
+use Rattle.std.proofs.Common.{ℕ, List, Result, Ok, Err, Some, None, Option, IsTrue, IfOk, Vec, Global}
 use Rattle.sqlite.specs.Order.{Row}
-use Rattle.sqlite_trees.specs.View.{doubt}
 use Rattle.sqlite.specs.declared.error.Error.{Error}
 use Rattle.sqlite.specs.State.{State, HasCleanDisk, Shown, ShowsRows}
 use Rattle.sqlite_resolve.specs.declared.compiled.Compiled.{Compiled}
 use Rattle.sqlite_schema.specs.declared.command.Returning.{Returning}
-use Rattle.store_tables.specs.Shown.{Stays}
 use Rattle.store_admin.specs.Carries.{AnswersOpen}
 
 at_open : (sql : List ℕ) (c : Compiled) (full : Row) (old new : State) (rows : List Row)

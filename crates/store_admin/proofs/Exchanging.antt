@@ -1,5 +1,5 @@
 -- What is left of the rows of members once all are taken out, and once one is put in.
-use Rattle.std.proofs.Common.{◌≡◌, ◌||◌, ℕ, ℤ, List, [], ◌∷◌, map, filter, codes, Ok, None, IsTrue, inl, inr, refl, sym, ap, subst, ◌∙◌, true, false, Bool, not, cond, if◌then◌else◌, arith, IsPermutation}
+use Rattle.std.proofs.Common.{◌≡◌, ◌||◌, ℕ, ℤ, List, [], ◌∷◌, map, codes, Ok, None, IsTrue, inl, inr, refl, sym, ap, subst, ◌∙◌, true, false, Bool, not, cond, if◌then◌else◌, arith, IsPermutation}
 use Rattle.std.specs.List.{AllByRecursion, list_any}
 use Rattle.std.proofs.lemmas.List.Sorted.{list_any-IsPermutation}
 use Rattle.sqlite.specs.declared.types.Value.{Value}
@@ -41,6 +41,7 @@ use Rattle.store_tables.proofs.Rowids.{each_of, has_itself, of_each}
 use Rattle.store_tables.proofs.Texts.{query_of}
 use Rattle.store_tables.proofs.Updates.{cast_null}
 use Rattle.store_tables.proofs.Writes.{same_value, went}
+use Rattle.room_entry.proofs.Facts.Lists.{filter_all}
 
 abbrev members_table : Table
 members_table = record members { tree = 3 }
@@ -142,10 +143,6 @@ all_among table rows ints moved = each_of (λ r. is_among (ids_of rows) r ≡ tr
     ∙ any_has (λ q. has_rowid (id_in (rowid q)) r) table r there
     (at_itself r (of_each _ table ints r there)))
 
-all_kept : {X : Type 0} (l : List X) → filter (λ r. true) l ≡ l
-all_kept [] = refl
-all_kept (x ∷ l) = ap (λ m. x ∷ m) (all_kept l)
-
 abbrev empty_edit : Trees → List Row → Edit
 empty_edit db rows = edit_of db members_table (ids_of rows) Given 0 []
 
@@ -180,7 +177,7 @@ emptied old new count room h =
     let found = selected Null 3 [] (col 1 0 ∷ []) [] (overlay db []) [] asked.0
     (asked.1.answer Null) in
     let all = subst (λ l. IsPermutation (map (shows (col 1 0 ∷ []) []) l) asked.0)
-    (all_kept (db 3)) found in
+    (filter_all (db 3)) found in
     let applies = one_step room_schema Enforced db did.0 (empty_edit db asked.0)
     (none_off (taken_by db (empty_edit db asked.0))) did.1 in
     let now = ap (λ (p : Tally × Database). p.1) last in

@@ -1,5 +1,5 @@
 -- One part of the exchange of pairs after another.
-use Rattle.std.proofs.Common.{ℕ, List, [], Result, Ok, Err, ap, ◌∙◌, IsPermutation}
+use Rattle.std.proofs.Common.{ℕ, List, [], Result, Ok, Err, ap, IsPermutation}
 use Rattle.sqlite.specs.State.{State}
 use Rattle.room_rows.specs.declared.keep.KeepFault.{KeepFault}
 use Rattle.store_tables.specs.Meaning.{pairs_of}

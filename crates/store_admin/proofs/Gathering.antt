@@ -23,8 +23,9 @@ use Rattle.store_tables.proofs.Removed.{same_rows}
 use Rattle.store_tables.proofs.Rowids.{is_equal}
 use Rattle.store_admin.specs.Operating.{Exchanges, ExchangesMembers, HoldsPairs, are_pairs, stored_pair}
 use Rattle.store_admin.proofs.Members.{reads}
-use Rattle.store_admin.proofs.Sets.{has, has_first, has_set, is_at, or_swap, same_pair, same_sets}
+use Rattle.store_admin.proofs.Sets.{has, has_first, has_set, is_at, or_swap, same_sets}
 use Rattle.store_admin.proofs.Sets.{set_moved}
+use Rattle.store_tables.proofs.Grouped.{equal_pairs}
 
 has_cons : (x : Pair) (o : Option Pair) (l : List Pair)
     → has x (cons_option o l) ≡ reads x o || has x l
@@ -124,7 +125,7 @@ none_more pair done there =
     by x Greater is = other x Greater is refl
     by x Equal is =
         let also : has x done ≡ true =
-        subst (λ z. has z done ≡ true) (same_pair x pair is) there in
+        subst (λ z. has z done ≡ true) (equal_pairs x pair is) there in
         also ∙ sym (ap (λ b. b || (is_at x pair || false)) also)
 
 -- the last of some pairs is among them
@@ -173,7 +174,7 @@ again order at p q up low is before same =
     subst (λ n. has q.now (take n (all_of order)) ≡ true) next
     (subst (λ x. has x (take (suc k) (all_of order)) ≡ true) (at_place order k q before)
     (has_last (all_of order) k q.now low')) in
-    let alike : q.now ≡ p.now = same_pair p.now q.now (is_equal (pair_cmp q.now p.now) same) in
+    let alike : q.now ≡ p.now = equal_pairs p.now q.now (is_equal (pair_cmp q.now p.now) same) in
     none_more p.now (take at (all_of order))
     (subst (λ x. has x (take at (all_of order)) ≡ true) alike there)
     ∙ ap set_of (sym (so_far order at p low is))

@@ -1,15 +1,15 @@
 -- The rows of members in order of group and then of user, and the pairs that they are read as.
-use Rattle.std.proofs.Common.{◌≡◌, ℕ, List, [], ◌∷◌, map, filter, None, Some, Option, refl, sym, ap, subst, ◌∙◌, true, false, Bool, cond, not, ◌&&◌, ◌||◌, IsTrue, inl, inr, Ordering, Less, Equal, Greater, is_gt, is_eq, nat_cmp, true≢false, IsPermutation}
-use Rattle.std.specs.Prelude.{option_map, option_and_then, if◌then◌else◌}
+use Rattle.std.proofs.Common.{◌≡◌, ℕ, List, [], ◌∷◌, map, filter, None, Some, Option, refl, sym, ap, subst, ◌∙◌, true, false, Bool, cond, ◌&&◌, inl, inr, Ordering, Less, Equal, Greater, is_gt, is_eq, nat_cmp, true≢false, IsPermutation}
+use Rattle.std.specs.Prelude.{option_map, option_and_then}
 use Rattle.std.specs.Cmp.{IsTotalOrder}
 use Rattle.std.specs.Cmp.Lexicographic.{slice_cmp}
-use Rattle.std.specs.List.{AllByRecursion, filter_map, cons_option, list_any}
+use Rattle.std.specs.List.{AllByRecursion, filter_map, cons_option}
 use Rattle.std.specs.List.Sorted.{IsStrictlySortedBy}
 use Rattle.std.specs.Ordering.{ordering_reverse, ordering_then}
-use Rattle.std.proofs.lemmas.Bool.{and_from, and_parts, false≢true}
+use Rattle.std.proofs.lemmas.Bool.{and_from, and_parts, false≢true, not-true}
 use Rattle.std.proofs.lemmas.Cmp.{on_total, then_total}
 use Rattle.sqlite.specs.declared.types.Value.{Value}
-use Rattle.sqlite.specs.declared.types.Value.TheVariants.{Null, Int, Real, Text, Blob}
+use Rattle.sqlite.specs.declared.types.Value.TheVariants.{Null, Text}
 use Rattle.sqlite.specs.Effect.{Database}
 use Rattle.sqlite.specs.Ops.{binary, is_true}
 use Rattle.sqlite.specs.Order.{Row, column, value_cmp}
@@ -27,51 +27,27 @@ use Rattle.sqlite_schema.specs.declared.schema.Constraint.TheVariants.{NotNull}
 use Rattle.sqlite_schema.specs.declared.schema.Table.{Table}
 use Rattle.sqlite_schema.specs.Rules.{agree, differ, passes}
 use Rattle.sqlite_sql.proofs.QueryLemmas.{output_cmp_total}
-use Rattle.sqlite_sql.specs.Ops.{is_null, test}
+use Rattle.sqlite_sql.specs.Ops.{is_null}
 use Rattle.sqlite_sql.specs.declared.ops.BinaryOp.TheVariants.{Compare}
-use Rattle.sqlite_sql.specs.declared.ops.CompareOp.TheVariants.{Eq, Ne}
+use Rattle.sqlite_sql.specs.declared.ops.CompareOp.TheVariants.{Eq}
 use Rattle.sqlite_tied.specs.Compute.{everything}
 use Rattle.sqlite_trees.specs.Tree.{IsAscending}
-use Rattle.sqlite_trees.specs.View.{is_int}
 use Rattle.sqlite_value.specs.Keys.{first_key, plain}
 use Rattle.sqlite_value.specs.declared.keys.Collation.TheVariants.{Binary}
 use Rattle.sqlite_value.proofs.OrderLemmas.{then-Equal, value_cmp-Text, value_cmp_total}
-use Rattle.room_entry.specs.Utf8.{is_utf8}
-use Rattle.room_entry.specs.Names.{is_name}
-use Rattle.store_tables.specs.Meaning.{name_in, name_of_text, pair_in}
+use Rattle.store_tables.specs.Meaning.{name_in, pair_in}
 use Rattle.store_tables.specs.Paired.{Pair, pair_cmp}
 use Rattle.store_tables.specs.Shown.{IsRoom}
 use Rattle.store_tables.specs.Tables.{members, room_schema}
 use Rattle.store_tables.proofs.Answers.{each_way, passes as passes_tests, shows, way}
 use Rattle.store_tables.proofs.Ordered.{HasNoTies}
 use Rattle.store_tables.proofs.Rowids.{each_of, of_each}
-use Rattle.store_tables.proofs.Tests.{told}
 use Rattle.store_tables.proofs.Texts.{ascending_by, query_of}
 use Rattle.store_admin.specs.Operating.{by_pair}
+use Rattle.store_tables.proofs.Grouped.{name_text}
+use Rattle.store_tables.proofs.Apart.{any_none, equal_from, differ_from, int_is_some}
 
 -- ---- no two rows have one pair
-
-or_none : (b c : Bool) → (b || c) ≡ false → (b ≡ false) × (c ≡ false)
-or_none true c h = absurd (let e = h in cc)
-or_none false c h = (refl, h)
-
-any_none : {A : Type 0} (p : A → Bool) (xs : List A) (x : A) → list_any p xs ≡ false → Has xs x
-    → p x ≡ false
-any_none p [] x none there = absurd there
-any_none p (y ∷ ys) x none (inl e) = ap p e ∙ (or_none (p y) (list_any p ys) none).0
-any_none p (y ∷ ys) x none (inr later) =
-    any_none p ys x (or_none (p y) (list_any p ys) none).1 later
-
-equal_from : (a b : Value) → is_null a ≡ false → is_null b ≡ false → is_eq (value_cmp a b) ≡ true
-    → is_true (binary (Compare Eq Binary) a b) ≡ true
-unfolding binary
-equal_from a b some other same = rw (some, other) (told (is_eq (value_cmp a b)) ∙ same)
-
-differ_from : (a b : Value) → is_null a ≡ false → is_null b ≡ false → value_cmp a b ≡ Less
-    → differ a b ≡ true
-unfolding binary
-differ_from a b some other less =
-    rw (some, other) (told (test Ne (value_cmp a b)) ∙ ap (test Ne) less)
 
 agrees_by : (a b : Row) → is_true (binary (Compare Eq Binary) (column a 2) (column b 2)) ≡ true
     → is_true (binary (Compare Eq Binary) (column a 1) (column b 1)) ≡ true
@@ -79,24 +55,13 @@ agrees_by : (a b : Row) → is_true (binary (Compare Eq Binary) (column a 2) (co
 unfolding first_key
 agrees_by a b one two = and_from _ _ one (and_from _ true two refl)
 
-int_is_some : (v : Value) → IsTrue (is_int v) → is_null v ≡ false
-int_is_some (Int n) int = refl
-int_is_some Null int = absurd (let e = int in cc)
-int_is_some (Real x) int = absurd (let e = int in cc)
-int_is_some (Text t) int = absurd (let e = int in cc)
-int_is_some (Blob b) int = absurd (let e = int in cc)
-
-denied : (b : Bool) → not b ≡ true → b ≡ false
-denied true h = absurd (let e = h in cc)
-denied false h = refl
-
 abbrev members_table : Table
 members_table = record members { tree = 3 }
 
 written : (db : Trees) (r : Row) → passes NotNull room_schema db members_table r ≡ true
     → (is_null (column r 1) ≡ false) × (is_null (column r 2) ≡ false)
 unfolding everything
-written db r h = (denied _ (and_parts _ _ h).0, denied _ (and_parts _ _ (and_parts _ _ h).1).0)
+written db r h = (not-true _ (and_parts _ _ h).0, not-true _ (and_parts _ _ (and_parts _ _ h).1).0)
 
 members_listed : Has room_schema.tables members_table
 unfolding everything
@@ -249,22 +214,6 @@ rises_sorted (r ∷ rows) apart =
     (all_sorted (λ b. is_eq (by_pair r b) ≡ false) rows apart.0) (rises_sorted rows apart.1)
 
 -- ---- and so do the pairs that they are read as
-
-name_text : (v : Value) (t : List ℕ) → name_in v ≡ Some t → v ≡ Text t
-name_text (Text s) t is = by (is_utf8 s) is
-  where
-    named : (c : Bool) → (if c then Some s else None) ≡ Some t → Text s ≡ Text t
-    named true e = let same : s ≡ t = cc in ap Text same
-    named false e = absurd (let z = e in cc)
-
-    by : (b : Bool) → option_and_then name_of_text (if b then Some s else None) ≡ Some t
-        → Text s ≡ Text t
-    by true e = named (is_name s) e
-    by false e = absurd (let z = e in cc)
-name_text Null t is = absurd (let e = is in cc)
-name_text (Int z) t is = absurd (let e = is in cc)
-name_text (Real x) t is = absurd (let e = is in cc)
-name_text (Blob b) t is = absurd (let e = is in cc)
 
 parts : (g u : Option (List ℕ)) (p : Pair)
     → option_and_then (λ a. option_map (λ b. (a, b)) u) g ≡ Some p → (g ≡ Some p.0) × (u ≡ Some p.1)

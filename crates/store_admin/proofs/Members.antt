@@ -1,5 +1,5 @@
 -- What the query of all pairs shows, and what it is read as.
-use Rattle.std.proofs.Common.{◌≡◌, ℕ, List, [], ◌∷◌, map, filter, codes, None, Some, Option, refl, sym, ap, subst, ◌∙◌, true, false, Bool}
+use Rattle.std.proofs.Common.{◌≡◌, ℕ, List, [], ◌∷◌, map, codes, None, Some, Option, refl, sym, ap, subst, ◌∙◌, false, Bool}
 use Rattle.std.specs.Prelude.{◌||◌}
 use Rattle.std.specs.List.{cons_option, filter_map, list_any}
 use Rattle.std.specs.Option.{option_map_or}
@@ -29,6 +29,7 @@ use Rattle.store_tables.proofs.Ordered.{HasNoTies}
 use Rattle.store_admin.proofs.InOrder.{in_pairs, pair_total, pairs_apart, pairs_in_order}
 use Rattle.store_admin.proofs.Sets.{has, has_set, is_at, same_sets}
 use Rattle.store_tables.proofs.Texts.{ascending_by, query_of, selects}
+use Rattle.room_entry.proofs.Facts.Lists.{filter_all}
 
 abbrev pub members_text : List ℕ
 members_text = codes "SELECT grp, user FROM members ORDER BY grp, user"
@@ -55,16 +56,12 @@ pub bare_members : LacksReturning members_text
 unfolding first returning everything
 bare_members = λ schema base. refl
 
-all_kept : {X : Type 0} (l : List X) → filter (λ r. true) l ≡ l
-all_kept [] = refl
-all_kept (x ∷ l) = ap (λ m. x ∷ m) (all_kept l)
-
 pub shows_members : (old new : State) (rows : List Row) → IsRoom old.now
     → Shown members_text [] old new rows → ShowsMembers old.now.trees rows
 shows_members old new rows room h =
     let read = reads_as members_text [] old new room_schema room.schema
     (selects asked names) members_is.0 plain_members members_is.1 rows h in
-    let all = all_kept (old.now.trees 3) in
+    let all = filter_all (old.now.trees 3) in
     in_pairs columns (overlay old.now.trees []) [] rows (read.answer Null)
     (subst (HasNoTies by_pair) (sym all) (pairs_apart old.now room))
     ∙ ap (λ l. map shown_pair (sort_by by_pair l)) all

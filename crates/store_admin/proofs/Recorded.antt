@@ -1,5 +1,5 @@
 -- What the query of all records shows, and what it is read as.
-use Rattle.std.proofs.Common.{◌≡◌, ◌&&◌, ℕ, negsuc, List, [], ◌∷◌, map, filter, codes, Bool, Option}
+use Rattle.std.proofs.Common.{◌≡◌, ◌&&◌, ℕ, negsuc, List, [], ◌∷◌, map, codes, Bool, Option}
 use Rattle.std.proofs.Common.{Some, None, Vec, Global, refl, sym, ap, subst, ◌∙◌, true, false, Less}
 use Rattle.std.specs.Prelude.{MatchOption, is_some}
 use Rattle.std.specs.List.{cons_option, filter_map, list_all}
@@ -26,6 +26,7 @@ use Rattle.store_tables.proofs.Ordered.{as_stored}
 use Rattle.store_tables.proofs.Texts.{ascending_by, query_of, selects}
 use Rattle.store_admin.specs.Operating.{AreRecords, HasRecords, HasUnreadRecord, record_seen}
 use Rattle.store_admin.specs.Operating.{shown_record}
+use Rattle.room_entry.proofs.Facts.Lists.{filter_all}
 
 abbrev pub records_text : List ℕ
 records_text = codes "SELECT at, user, path, bits, granted, entry FROM audits ORDER BY seq"
@@ -53,10 +54,6 @@ pub bare_records : LacksReturning records_text
 unfolding first returning everything
 bare_records = λ schema base. refl
 
-all_kept : {X : Type 0} (l : List X) → filter (λ r. true) l ≡ l
-all_kept [] = refl
-all_kept (x ∷ l) = ap (λ m. x ∷ m) (all_kept l)
-
 pub shows_records : (old new : State) (rows : List Row) → IsRoom old.now
     → Shown records_text [] old new rows → HasRecords old.now.trees rows
 shows_records old new rows room h =
@@ -65,7 +62,7 @@ shows_records old new rows room h =
     let up = ascending-filter (λ a b. value_cmp (rowid a) (rowid b) ≡ Less) (passes [] [])
     (old.now.trees 7) room.audits.0 in
     as_stored 7 0 [] columns (lit (Int (negsuc 0))) (overlay old.now.trees []) [] rows
-    (read.answer Null) up ∙ ap (λ l. map shown_record l) (all_kept (old.now.trees 7))
+    (read.answer Null) up ∙ ap (λ l. map shown_record l) (filter_all (old.now.trees 7))
 
 -- ---- as records
 

@@ -1,35 +1,18 @@
 -- The set of pairs doesn't depend on the order in which they come.
-use Rattle.std.proofs.Common.{◌≡◌, ℕ, List, [], ◌∷◌, Bool, true, false, refl, sym, ap, subst, ◌∙◌, Ordering, Less, Equal, Greater, is_lt, is_eq, nat_cmp, IsPermutation, true≢false}
+use Rattle.std.proofs.Common.{◌≡◌, List, [], ◌∷◌, Bool, true, false, refl, sym, ap, subst, ◌∙◌, Ordering, Less, Equal, Greater, is_lt, is_eq, IsPermutation}
 use Rattle.std.specs.Prelude.{◌||◌}
 use Rattle.std.specs.List.{AllByRecursion, list_any}
 use Rattle.std.specs.List.Sorted.{IsStrictlySortedBy}
-use Rattle.std.specs.Ordering.{ordering_reverse, ordering_then}
-use Rattle.std.specs.Cmp.Lexicographic.{slice_cmp}
+use Rattle.std.specs.Ordering.{ordering_reverse}
 use Rattle.std.proofs.lemmas.Bool.{cond-true, cond-false, false≢true}
 use Rattle.std.proofs.lemmas.Cmp.{tied_itself}
 use Rattle.std.proofs.lemmas.List.Sorted.{list_any-IsPermutation}
-use Rattle.std.proofs.lemmas.Map.Text.{is_eq-slice_cmp}
-use Rattle.std.proofs.lemmas.Slice.Eq.{bytes_eq-Decides}
 use Rattle.room_rows.specs.Content.{put_pair, set_of}
 use Rattle.store_tables.specs.Paired.{Pair, all_past, before, before_is, not_back, pair_cmp, total}
 use Rattle.store_tables.specs.RoomRows.{set_sorted}
+use Rattle.store_tables.proofs.Grouped.{equal_pairs}
 
 -- ---- pairs that compare as equal are equal
-
-pub same_pair : (p o : Pair) → pair_cmp o p ≡ Equal → o ≡ p
-same_pair p o same =
-    let parts = both (slice_cmp nat_cmp o.0 p.0) (slice_cmp nat_cmp o.1 p.1) same in
-    let a : o.0 ≡ p.0 = same_list o.0 p.0 parts.0 in
-    let b : o.1 ≡ p.1 = same_list o.1 p.1 parts.1 in
-    λ i. (a i, b i)
-  where
-    both : (x y : Ordering) → ordering_then x y ≡ Equal → (x ≡ Equal) × (y ≡ Equal)
-    both Less y e = absurd (true≢false (sym (ap is_eq e)))
-    both Equal y e = (refl, e)
-    both Greater y e = absurd (true≢false (sym (ap is_eq e)))
-
-    same_list : (s t : List ℕ) → slice_cmp nat_cmp s t ≡ Equal → s ≡ t
-    same_list s t e = (bytes_eq-Decides s t).0 (sym (is_eq-slice_cmp s t) ∙ ap is_eq e)
 
 itself : (p : Pair) → pair_cmp p p ≡ Equal
 itself p = tied_itself total p
@@ -67,7 +50,7 @@ has_put x p (o ∷ os) = by (pair_cmp o p) refl (has_put x p os)
         ∙ cond-false _ (p ∷ o ∷ os) (o ∷ os)
         (before_is p o ∙ ap is_lt (total.antisymm p o ∙ ap ordering_reverse e)) in
         ap (has x) there ∙ or_twice (is_at x o) (has x os)
-        ∙ ap (λ q. is_at x q || has x (o ∷ os)) (same_pair p o e)
+        ∙ ap (λ q. is_at x q || has x (o ∷ os)) (equal_pairs p o e)
     by Greater e more =
         let up : pair_cmp p o ≡ Less = total.antisymm p o ∙ ap ordering_reverse e in
         ap (has x) (cond-false _ (o ∷ put_pair p os) _ (not_back p o up)
@@ -112,7 +95,7 @@ same_sets (p ∷ a) (q ∷ b) up down same = by (pair_cmp p q) refl (same_sets a
         (false≢true (sym (none_past q (p ∷ a) (less, all_past q p a less up.0)) ∙ same q
         ∙ has_first q b))
     by Equal e more =
-        let head : p ≡ q = same_pair q p e in
+        let head : p ≡ q = equal_pairs q p e in
         let past : AllByRecursion (λ y. pair_cmp p y ≡ Less) b = subst
         (λ z. AllByRecursion (λ y. pair_cmp z y ≡ Less) b) (sym head) down.0 in
         ap (λ z. z ∷ a) head ∙ ap (λ l. q ∷ l) (more (λ x. on x (pair_cmp p x) refl past))
@@ -121,12 +104,12 @@ same_sets (p ∷ a) (q ∷ b) up down same = by (pair_cmp p q) refl (same_sets a
             → AllByRecursion (λ y. pair_cmp p y ≡ Less) b → has x a ≡ has x b
         on x Less is past =
             or_cancel (is_at x p) (has x a) (has x b) (ap is_eq is)
-            (same x ∙ ap (λ z. is_at x z || has x b) (sym (same_pair q p e)))
+            (same x ∙ ap (λ z. is_at x z || has x b) (sym (equal_pairs q p e)))
         on x Greater is past =
             or_cancel (is_at x p) (has x a) (has x b) (ap is_eq is)
-            (same x ∙ ap (λ z. is_at x z || has x b) (sym (same_pair q p e)))
+            (same x ∙ ap (λ z. is_at x z || has x b) (sym (equal_pairs q p e)))
         on x Equal is past =
-            let at : p ≡ x = same_pair x p is in
+            let at : p ≡ x = equal_pairs x p is in
             subst (λ z. has z a ≡ has z b) at (none_past p a up.0 ∙ sym (none_past p b past))
 
 pub set_moved : (a b : List Pair) → IsPermutation a b → set_of a ≡ set_of b

@@ -1,15 +1,10 @@
 -- What reading the schema's number shows.
-use Rattle.std.proofs.Common.{◌≡◌, ◌≤◌, ℕ, ℤ, List, [], ◌∷◌, length, map, filter, Result, Ok, Err, Option, None, Some, IsTrue, inl, inr, ◌⊎◌, refl, sym, ap, subst, ◌∙◌, true, false, Bool, cond, if◌then◌else◌, arith, IsPermutation, Vec, Global, IfOk, IfErr, OnOk, ◌&&◌}
+use Rattle.std.proofs.Common.{◌≡◌, ◌≤◌, ℕ, ℤ, List, [], ◌∷◌, length, map, Result, Ok, Err, Option, None, Some, IsTrue, inl, inr, ◌⊎◌, refl, sym, ap, subst, ◌∙◌, true, false, Bool, if◌then◌else◌, arith, IsPermutation, Vec, Global, IfOk, IfErr}
 use Rattle.std.proofs.lemmas.List.Sorted.{length_permutation}
-use Rattle.sqlite.specs.declared.types.Value.{Value}
-use Rattle.sqlite.specs.declared.types.Value.TheVariants.{Null, Int, Real, Text, Blob}
-use Rattle.sqlite.specs.Order.{Row, column, value_cmp}
-use Rattle.sqlite.specs.Ops.{is_true, from_truth, binary}
-use Rattle.sqlite_sql.specs.declared.ops.BinaryOp.TheVariants.{Compare}
-use Rattle.sqlite_sql.specs.declared.ops.CompareOp.TheVariants.{Eq}
-use Rattle.sqlite_value.specs.declared.keys.Collation.TheVariants.{Binary}
-use Rattle.sqlite_value.proofs.OrderLemmas.{value_cmp-Null}
-use Rattle.std.specs.Ordering.{is_eq}
+use Rattle.sqlite.specs.declared.types.Value.TheVariants.{Null}
+use Rattle.sqlite.specs.Order.{Row, column}
+use Rattle.sqlite.specs.Ops.{is_true, from_truth}
+use Rattle.std.proofs.Math.Bool.{and-true}
 use Rattle.sqlite.specs.Program.{overlay}
 use Rattle.sqlite.specs.Effect.{Database, RefusesToRead}
 use Rattle.sqlite.specs.declared.error.Error.{Error}
@@ -28,7 +23,7 @@ use Rattle.sqlite.specs.State.{State, HasCleanDisk, Shown, ShowsRows, FailsToQue
 use Rattle.sqlite.proofs.Callers.{IsPlain, command_of, one_permutation, reads_as}
 use Rattle.store_tables.specs.Tables.{no_schema, room_schema}
 use Rattle.store_schema.specs.NewRoom.{is_version, meta_of, number_shown}
-use Rattle.store_schema.specs.Opening.{AsksVersion, CantBeAsked, Expects, IsCalled, IsFailure, IsRefusal, IsUnread, ReadsAs, Says, ShowsVersion, AnswersVersion, number_text}
+use Rattle.store_schema.specs.Opening.{AsksVersion, CantBeAsked, IsCalled, IsFailure, IsRefusal, IsUnread, ReadsAs, ShowsVersion, number_text}
 use Rattle.store_tables.specs.Within.{IsWithin}
 use Rattle.store_schema.specs.declared.fault.OpenFault.{OpenFault}
 use Rattle.store_schema.specs.declared.fault.OpenFault.TheVariants.{NotRooms, OldVersion, NewVersion, Db, Memory}
@@ -36,36 +31,17 @@ use Rattle.store_schema.proofs.Answers.{passes, selected}
 use Rattle.store_schema.proofs.Texts.{asked_bare, asked_is, asked_nowhere, asked_plain, asks_value, is_rooms}
 use Rattle.store_tables.proofs.Bare.{reads_by}
 use Rattle.store_tables.proofs.Within.{unchanged_within, undone_within, wrote_within}
+use Rattle.room_entry.proofs.Facts.Lists.{filter_same}
+use Rattle.store_tables.proofs.Tests.{equals_text}
 
 -- ---- the rows that are shown
-
-and_true : (b : Bool) → b && true ≡ b
-and_true true = refl
-and_true false = refl
 
 told : (b : Bool) → is_true (from_truth (Some b)) ≡ b
 told true = refl
 told false = refl
 
--- as SQL's =, of a value that is not NULL
-equals_text : (a : Value) (t : List ℕ)
-    → is_true (binary (Compare Eq Binary) a (Text t)) ≡ is_eq (value_cmp a (Text t))
-unfolding binary
-equals_text Null t = sym (ap is_eq (value_cmp-Null (Text t)))
-equals_text (Int m) t = told _
-equals_text (Real x) t = told _
-equals_text (Text s) t = told _
-equals_text (Blob b) t = told _
-
 pub passes_rooms : (r : Row) → passes (is_rooms ∷ []) [] r ≡ is_version r
-passes_rooms r = and_true _ ∙ equals_text (column r 1) _
-
-pub same_filter : {A : Type 0} (p q : A → Bool) → ((x : A) → p x ≡ q x) → (xs : List A)
-    → filter p xs ≡ filter q xs
-same_filter p q same [] = refl
-same_filter p q same (x ∷ xs) =
-    ap (λ b. cond b (x ∷ filter p xs) (filter p xs)) (same x)
-    ∙ ap (λ l. cond (q x) (x ∷ l) l) (same_filter p q same xs)
+passes_rooms r = and-true _ ∙ equals_text (column r 1) _
 
 -- a list that isn't of one row has no number, in whatever order
 not_one : (rows : List Row) → (length rows ≡ 1 → ⊥) → number_shown rows ≡ None
@@ -90,7 +66,7 @@ shown_number old new rows has h =
     (read.answer Null) in
     same_number _ rows perm
     ∙ ap (λ l. number_shown (map (λ r. column r 2 ∷ []) l))
-    (same_filter _ _ passes_rooms (old.now.trees 5))
+    (filter_same _ _ passes_rooms (old.now.trees 5))
 
 shown_same : (old new : State) (rows : List Row) → old.now.schema ≡ room_schema
     → Shown number_text [] old new rows → new.now ≡ old.now

@@ -10,8 +10,8 @@ use Rattle.sqlite.specs.State.{State, Writes, Executes}
 use Rattle.sqlite.proofs.Callers.{runs_as}
 use Rattle.store_tables.specs.Tables.{nodes, bodies, members, meta, audits, counters, no_schema, after_nodes, after_bodies, after_members, after_meta, room_schema}
 use Rattle.store_schema.specs.Making.{HasEmpty}
-use Rattle.store_schema.proofs.Steps.{went, same_value}
 use Rattle.store_schema.proofs.Texts.{IsCreate, nodes_text, bodies_text, members_text, meta_text, audits_text, nodes_is, bodies_is, members_is, meta_is, audits_is, counters_is, sequences}
+use Rattle.store_tables.proofs.Writes.{went, same_value}
 
 -- a table is made, empty, and no other changes
 record Creates (schema : Schema) (table : Table) (old new : Database) : Type 0 where

@@ -1,11 +1,8 @@
 -- What the first rows leave.
-use Rattle.std.proofs.Common.{◌≡◌, ◌≢◌, ℕ, ℤ, pos, List, [], ◌∷◌, codes, map, filter, Option, Ok, None, Some, IsTrue, refl, sym, ap, subst, ◌∙◌, true, false, Bool, arith}
-use Rattle.sqlite.specs.declared.types.Value.{Value}
+use Rattle.std.proofs.Common.{◌≡◌, ◌≢◌, ℕ, ℤ, pos, List, [], ◌∷◌, codes, map, filter, Option, Ok, None, Some, IsTrue, refl, sym, ap, subst, ◌∙◌, arith}
 use Rattle.sqlite.specs.declared.types.Value.TheVariants.{Null, Int, Text}
 use Rattle.sqlite.specs.Order.{Row, column, value_cmp}
-use Rattle.sqlite.specs.Cast.{cast, cast_row}
-use Rattle.sqlite.specs.Kind.TheVariants as kind
-use Rattle.sqlite.specs.Ops.{unary}
+use Rattle.sqlite.specs.Cast.{cast_row}
 use Rattle.sqlite.specs.Tree.{Trees, put_row}
 use Rattle.sqlite.specs.Command.TheVariants.{Insert}
 use Rattle.sqlite.specs.Source.TheVariants.{Values}
@@ -23,7 +20,6 @@ use Rattle.sqlite_rules.specs.Action.{works}
 use Rattle.sqlite_tied.specs.Compute.{everything}
 use Rattle.sqlite_trees.specs.View.{IsShaped}
 use Rattle.sqlite_trees.specs.declared.store.Shape.TheVariants as Shape
-use Rattle.std.proofs.Common.{cond}
 use Rattle.room_entry.specs.Names.{is_name}
 use Rattle.room_entry.specs.Utf8.{is_utf8}
 use Rattle.room_entry.specs.declared.parties.Owners.{Owners}
@@ -32,22 +28,10 @@ use Rattle.store_schema.specs.Making.{HasEmpty, IsBare}
 use Rattle.store_schema.specs.NewRoom.{IsNewRoom, is_version, number_shown}
 use Rattle.store_tables.specs.Printed.{ArePrinted}
 use Rattle.store_schema.proofs.Meant.{owner_line, room_read, root_printed, root_row}
-use Rattle.store_schema.proofs.Steps.{went, same_value}
 use Rattle.store_schema.proofs.Texts.{version_text, version_terms, version_is, version_plain, folder_text, folder_terms, folder_is, folder_plain}
-
--- ---- what a column makes of a value of its own type
-
-either : (b : Bool) (x : Value) → cond b x x ≡ x
-either true x = refl
-either false x = refl
-
-cast_null : cast kind.Integer Null ≡ Null
-unfolding unary
-cast_null = either _ Null
-
-pub cast_int : (n : ℤ) → cast kind.Integer (Int n) ≡ Int n
-unfolding unary
-cast_int n = either _ (Int n)
+use Rattle.store_tables.proofs.Inserts.{new_sets_off_nothing}
+use Rattle.store_tables.proofs.Updates.{cast_null, cast_int}
+use Rattle.store_tables.proofs.Writes.{went, same_value}
 
 -- ---- the schema's number
 
@@ -164,10 +148,6 @@ cast_root owner group = rw (cast_int (pos 1), cast_null) refl
 abbrev folder_edit : Trees → List Row → Edit
 folder_edit db rows = edit_of db nodes_table [] Chosen 0 rows
 
-root_alone : (r : Row) → works room_schema Enforced 0 0 [] (r ∷ []) ≡ []
-unfolding everything
-root_alone r = refl
-
 folder_put : (owner group : List ℕ) (old new : State) (count : ℕ) → old.now.schema ≡ room_schema
     → Executes folder_text (Text owner ∷ Text group ∷ Text owner_line ∷ []) old new (Ok count)
     → Puts 0 (root_row owner group) old.now new.now
@@ -194,7 +174,7 @@ folder_put owner group old new count has h =
     let news : (folder_edit db given.0).news ≡ root_row owner group ∷ [] =
     ap (λ l. (folder_edit db l).news) source
     ∙ ap (λ r. Rattle.sqlite.specs.Edit.numbered Chosen (db 0) (r ∷ [])) (cast_root owner group) in
-    let none = ap (works room_schema Enforced 0 0 []) news ∙ root_alone (root_row owner group) in
+    let none = ap (works room_schema Enforced 0 0 []) news ∙ new_sets_off_nothing (root_row owner group) in
     let applies = one_step room_schema Enforced db written.0
     (folder_edit db given.0) none written.1 in
     let at : new.now.trees ≡ written.0 = ap (λ (d : Database). d.trees) now ∙ trees in

@@ -1,13 +1,11 @@
 -- A transaction that makes a room is committed or rolled back.
-use Rattle.std.proofs.Common.{◌≡◌, ◌≤◌, [], Ok, Err, IsTrue, inl, inr, refl, sym, ap, subst, ◌∙◌, true, false, arith}
+use Rattle.std.proofs.Common.{◌≡◌, ◌≤◌, [], Ok, Err, IsTrue, sym, ap, subst, ◌∙◌, true, false, arith}
 use Rattle.sqlite_trees.specs.View.{doubt}
 use Rattle.sqlite.specs.declared.error.Error.{Error}
 use Rattle.sqlite.specs.State.{State, HasCleanDisk, Shows, IsRolledBack, KeepsCounts}
-use Rattle.sqlite.specs.Steps.{FailsToCommit}
 use Rattle.room_entry.specs.declared.parties.Owners.{Owners}
 use Rattle.store_tables.specs.Tables.{no_schema}
 use Rattle.store_schema.specs.declared.fault.CreateFault.{CreateFault}
-use Rattle.store_schema.specs.declared.fault.CreateFault.TheVariants.{Db}
 use Rattle.store_schema.specs.Making.{Founds, HasEmpty, Makes}
 use Rattle.store_tables.specs.Within.{IsWithin}
 use Rattle.store_schema.specs.NewRoom.{IsNewRoom}

@@ -1,5 +1,4 @@
 pub mod Texts
-pub mod Steps
 pub mod Creates
 pub mod Within
 pub mod Meant

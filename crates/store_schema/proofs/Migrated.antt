@@ -1,21 +1,16 @@
 -- A transaction that upgrades a room is committed or rolled back.
-use Rattle.std.proofs.Common.{◌≡◌, ◌≤◌, [], pos, Result, Ok, Err, IsErrAnd, IsTrue, inl, inr, sym, ap, subst, subst₂, ◌∙◌, true, false, arith}
+use Rattle.std.proofs.Common.{◌≡◌, ◌≤◌, [], pos, Result, Ok, Err, IsErrAnd, IsTrue, sym, ap, subst, subst₂, ◌∙◌, false, arith}
 use Rattle.sqlite_trees.specs.View.{doubt}
 use Rattle.sqlite.specs.Effect.{Database, IsDatabase}
-use Rattle.sqlite.specs.declared.error.Error.{Error}
 use Rattle.sqlite.specs.State.{State, HasCleanDisk, Shows, IsRolledBack, KeepsCounts}
-use Rattle.sqlite.specs.Steps.{FailsToCommit}
 use Rattle.store_tables.specs.Tables.{no_schema}
 use Rattle.store_tables.specs.Shown.{HasTables, IsRoom, room_of}
-use Rattle.store_schema.specs.Opening.{IsFailure, Says}
+use Rattle.store_schema.specs.Opening.{Says}
 use Rattle.store_schema.specs.Raising.{AnswersMigration, IsInside, IsNoRoom, RetainsOthers, UpgradesTables, Migrates}
 use Rattle.store_schema.specs.NewRoom.{meta_of}
 use Rattle.store_schema.specs.declared.fault.MigrateFault.{MigrateFault}
 use Rattle.store_schema.specs.declared.fault.MigrateFault.TheVariants.{Opening, Unsound}
-use Rattle.store_schema.specs.declared.fault.OpenFault.{OpenFault}
-use Rattle.store_schema.specs.declared.fault.OpenFault.TheVariants.{NotRooms, OldVersion, NewVersion, Db, Memory}
 use Rattle.store_schema.proofs.Founded.{Begins}
-use Rattle.store_schema.proofs.Moving.{by_failure, by_unknown}
 
 module _ (old begun mid end : State) (begins : Begins old begun)
     (sound : IsTrue old.is_open → IsDatabase old.now) (ended : end.in_transaction ≡ false)

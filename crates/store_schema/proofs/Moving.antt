@@ -1,16 +1,14 @@
 -- The steps of upgrading a room, one after the other.
-use Rattle.std.proofs.Common.{◌≡◌, ◌≤◌, ℕ, ℤ, pos, List, [], ◌∷◌, ◌++◌, map, filter, Option, Some, Result, Ok, Err, IfOk, OnOk, IsErrAnd, IsTrue, refl, sym, ap, subst, subst₂, ◌∙◌, arith}
+use Rattle.std.proofs.Common.{◌≡◌, ◌≤◌, ℕ, ℤ, pos, List, [], ◌∷◌, ◌++◌, map, filter, Option, Some, Result, Ok, IfOk, OnOk, IsErrAnd, IsTrue, refl, sym, ap, subst, subst₂, ◌∙◌, arith}
 use Rattle.std.proofs.lemmas.List.{append_assoc}
 use Rattle.sqlite_trees.specs.View.{IsShaped, doubt}
 use Rattle.sqlite_trees.specs.declared.store.Shape.TheVariants as Shape
 use Rattle.sqlite.specs.Order.{Row, column}
 use Rattle.sqlite.specs.Tree.{Trees}
 use Rattle.sqlite.specs.Effect.{Database}
-use Rattle.sqlite.specs.declared.error.Error.{Error}
 use Rattle.sqlite.specs.State.{State, HasCleanDisk}
 use Rattle.room_rows.specs.declared.keep.KeepFault.{KeepFault}
-use Rattle.room_rows.specs.declared.report.Report.TheVariants.{Fault, Sound}
-use Rattle.room_rows.specs.declared.report.Unsound as unsound
+use Rattle.room_rows.specs.declared.report.Report.TheVariants.{Sound}
 use Rattle.store_tables.specs.Meaning.{rows_of}
 use Rattle.store_tables.specs.Tables.{no_schema}
 use Rattle.store_tables.specs.RoomRows.{room_rows}
@@ -19,14 +17,11 @@ use Rattle.store_tables.specs.Trust.{IsTrusted}
 use Rattle.store_tables.proofs.Calls.{retains_same}
 use Rattle.store_tables.proofs.Printed.{keeps_on}
 use Rattle.store_schema.specs.NewRoom.{is_version, meta_of, number_shown}
-use Rattle.store_schema.specs.Opening.{AnswersVersion, Expects, IsFailure, Says, ShowsVersion}
-use Rattle.room_inherit.specs.Kept.{kept_report_of}
+use Rattle.store_schema.specs.Opening.{Expects, ShowsVersion}
 use Rattle.store_schema.specs.Raising.{AnswersMigration, AreRaised, IsInside, IsNoRoom, IsRaised, RetainsOthers, UpgradesTables, SpreadIsRaised, Stamps, other_rows}
 use Rattle.store_tables.specs.Within.{IsWithin, within_on}
 use Rattle.store_schema.specs.declared.fault.MigrateFault.{MigrateFault}
-use Rattle.store_schema.specs.declared.fault.MigrateFault.TheVariants.{Opening, Unsound}
 use Rattle.store_schema.specs.declared.fault.OpenFault.{OpenFault}
-use Rattle.store_schema.specs.declared.fault.OpenFault.TheVariants.{NotRooms, OldVersion, NewVersion, Db, Memory}
 
 -- the number that these rows of `meta` tell
 abbrev number_in_meta : List Row → Option ℤ
@@ -57,21 +52,6 @@ still_on a b c p still q more = λ now open' one two.
     let back = clean_before b c q.clean now in
     let open'' = q.was_open now open' in
     more now open' (subst IsRoom (sym (p.committed back open'')) one) (still back open'' one two)
-
-pub by_failure : (db : Database) (f : OpenFault) → IsFailure f → Says (pos 1) (meta_of db) (Err f)
-by_failure db NotRooms it = absurd it
-by_failure db (OldVersion n) it = absurd it
-by_failure db (NewVersion n) it = absurd it
-by_failure db Db it = tt
-by_failure db Memory it = tt
-
--- a failure tells no number
-pub by_unknown : (db : Database) (f : OpenFault) → IsFailure f → AnswersVersion (pos 1) db (Err f)
-by_unknown db NotRooms it = absurd it
-by_unknown db (OldVersion n) it = absurd it
-by_unknown db (NewVersion n) it = absurd it
-by_unknown db Db it = tt
-by_unknown db Memory it = tt
 
 module _ (begun : State) (inside : IsTrue begun.in_transaction) where
   module _ (asked : State) (expects : Expects (pos 1) begun asked (Ok tt)) where

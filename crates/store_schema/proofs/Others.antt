@@ -3,6 +3,7 @@ use Rattle.std.proofs.Common.{◌≡◌, ℕ, ℤ, pos, List, [], ◌∷◌, map
 use Rattle.std.specs.Ordering.{is_eq, match_ordering}
 use Rattle.std.specs.declared.cmp.Ordering.{Ordering}
 use Rattle.std.specs.declared.cmp.Ordering.TheVariants.{Less, Equal, Greater}
+use Rattle.std.proofs.lemmas.Bool.{not-true}
 use Rattle.sqlite.specs.declared.types.Value.{Value}
 use Rattle.sqlite.specs.declared.types.Value.TheVariants.{Null, Int, Real, Text, Blob}
 use Rattle.sqlite.specs.Cast.{cast, cast_row}
@@ -18,7 +19,7 @@ use Rattle.store_tables.specs.Tables.{meta}
 use Rattle.store_tables.proofs.Rowids.{at_most_one, has_itself}
 use Rattle.store_schema.specs.NewRoom.{is_version, number_shown}
 use Rattle.store_schema.specs.Raising.{other_rows}
-use Rattle.store_schema.proofs.FirstRows.{cast_int}
+use Rattle.store_tables.proofs.Updates.{cast_int}
 
 -- where a number is told, one row has it
 pub one_version : (rows : List Row) (n : ℤ)
@@ -72,10 +73,6 @@ module _ (is_other : Row → Bool) where
       (more x rows fails (λ r there. apart r (inr there)))
 
 -- ---- the row of the number
-
-not_true : (b : Bool) → not b ≡ true → b ≡ false
-not_true true e = absurd (let x = e in cc)
-not_true false e = refl
 
 alone : (r x : Row) → Has (r ∷ []) x → x ≡ r
 alone r x (inl e) = e
@@ -132,7 +129,7 @@ others_stay rows r id is shaped one =
     (cast_numbered id (column r 1) (key_same (column r 1) (codes "rooms") at.1))
     ∙ more (λ r. not (is_version r)) (numbered_row id (column r 1)) (without_rowid id rows)
     (ap not at.1)
-    (λ y there. not_true (has_rowid id y)
+    (λ y there. not-true (has_rowid id y)
     (has_filtered (λ r. not (has_rowid id r)) rows y there).1)
     ∙ fewer (λ r. not (is_version r)) id rows
     (λ y there p. ap (λ z. not (is_version z))

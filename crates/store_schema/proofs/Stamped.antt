@@ -36,16 +36,17 @@ use Rattle.store_tables.proofs.Printed.{keeps_same}
 use Rattle.store_schema.specs.NewRoom.{meta_of}
 use Rattle.store_schema.specs.Raising.{RetainsOthers, Stamps, other_rows}
 use Rattle.store_schema.proofs.Answers.{passes, selected, shows}
-use Rattle.store_schema.proofs.Asked.{passes_rooms, same_filter}
+use Rattle.store_schema.proofs.Asked.{passes_rooms}
 use Rattle.store_schema.proofs.Others.{int_of, one_version, others_stay}
 use Rattle.sqlite_rules.specs.Lists.{Has}
 use Rattle.sqlite_rules.proofs.ListLemmas.{has_filtered}
 use Rattle.store_tables.proofs.Rowids.{of_each}
 use Rattle.store_schema.specs.NewRoom.{is_version}
 use Rattle.store_tables.specs.Within.{IsWithin}
-use Rattle.store_schema.proofs.Steps.{went, same_value}
 use Rattle.store_schema.proofs.Texts.{is_rooms, query_of, stamp_is, stamp_plain, stamp_terms, stamp_text}
 use Rattle.store_schema.proofs.Within.{within_inside}
+use Rattle.room_entry.proofs.Facts.Lists.{filter_same}
+use Rattle.store_tables.proofs.Writes.{went, same_value}
 
 abbrev meta_table : Table
 meta_table = record meta { tree = 5 }
@@ -164,7 +165,7 @@ stamp_others old new count room n number h =
     let one = one_version (old.now.trees 5) n number in
     let shown : it.rows ≡ shows stamp_terms [] one.0 ∷ [] = one_permutation _ it.rows
     (subst (λ l. IsPermutation (map (shows stamp_terms []) l) it.rows)
-    (same_filter _ _ passes_rooms (old.now.trees 5) ∙ one.1) it.found) in
+    (filter_same _ _ passes_rooms (old.now.trees 5) ∙ one.1) it.found) in
     let there = (has_filtered is_version (old.now.trees 5) one.0
     (subst (λ l. Has l one.0) (sym one.1) (inl refl))).0 in
     record {

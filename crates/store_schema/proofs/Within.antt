@@ -1,12 +1,12 @@
 -- What a statement inside a transaction leaves.
-use Rattle.std.proofs.Common.{◌≡◌, ◌≤◌, ℕ, List, Result, Ok, Err, IsTrue, OnOk, inl, inr, refl, sym, subst, true, false, Bool, arith}
+use Rattle.std.proofs.Common.{◌≡◌, ◌≤◌, ℕ, List, Result, Ok, Err, IsTrue, OnOk, inl, inr, refl, sym, subst, true, false, Bool}
 use Rattle.sqlite.specs.Order.{Row}
 use Rattle.sqlite_trees.specs.View.{doubt}
 use Rattle.sqlite.specs.Effect.{Database}
 use Rattle.sqlite.specs.declared.error.Error.{Error}
 use Rattle.sqlite.specs.State.{State, HasCleanDisk, Executes, ExecutesInside}
 use Rattle.store_schema.specs.Making.{Makes}
-use Rattle.store_tables.specs.Within.{IsWithin, within_on}
+use Rattle.store_tables.specs.Within.{IsWithin}
 use Rattle.store_tables.proofs.Within.{unchanged_within, undone_within, wrote_within}
 
 module _ (old new : State) (clean : doubt old.is_clean ≤ doubt new.is_clean) where
@@ -54,5 +54,3 @@ module _ (old new : State) (clean : doubt old.is_clean ≤ doubt new.is_clean) w
             makes = λ now before. subst (λ q. OnOk q (After new.now)) (sym (ended is).0) tt;
             within = (ended is).1;
           }
-
--- ---- calls one after the other

@@ -1,6 +1,7 @@
 -- What the rows mean once some columns of an object's row are written.
 use Rattle.std.proofs.Common.{◌≡◌, ℕ, ℤ, pos, List, [], ◌∷◌, find, None, Some, Option, refl, sym, ap, subst, ◌∙◌}
 use Rattle.std.specs.Prelude.{option_and_then}
+use Rattle.std.proofs.lemmas.Option.{none-some}
 use Rattle.sqlite.specs.declared.types.Value.{Value}
 use Rattle.sqlite.specs.declared.types.Value.TheVariants.{Null, Int, Real, Text, Blob}
 use Rattle.sqlite.specs.Kind.TheVariants as kind
@@ -20,26 +21,25 @@ use Rattle.room_rows.specs.Content.{with_node}
 use Rattle.room_rows.specs.Held.{with_held}
 use Rattle.room_rows.specs.Keep.{reading, with_inh, with_owners, with_place}
 use Rattle.room_rows.proofs.Frames.{node_at-number}
-use Rattle.room_rows.proofs.Lookups.{not_none}
 use Rattle.store_tables.specs.Filed.{node_at_row}
 use Rattle.store_tables.specs.Meaning.{number_in, parent_in, kind_in, flags_in, text_in, name_of_text, name_in, entries_in, given, giving, held_in, owners_in, node_in, rows_of}
 use Rattle.store_tables.specs.Shown.{IsRoom, Recasts, holding, inheriting, lying, owning, shown_node, stored_node}
 use Rattle.store_tables.specs.Trust.{Alters}
-use Rattle.store_tables.proofs.Changing.{held_id, inh_id}
 use Rattle.store_tables.proofs.Recast.{recast}
 use Rattle.store_tables.proofs.Replaced.{replaced_rows}
 use Rattle.store_tables.proofs.Updates.{cast_int, cast_null}
+use Rattle.room_rows.proofs.InPlace.{with_inh-id, with_held-id}
 
 -- ---- what is read goes on
 
 given_some : {A B : Type 0} (o : Option A) (f : A → Option B) (b : B) → given o f ≡ Some b → (a : A)
     × (o ≡ Some a) × (f a ≡ Some b)
-given_some None f b e = absurd (not_none b e)
+given_some None f b e = absurd (none-some b e)
 given_some (Some a) f b e = (a, refl, e)
 
 giving_some : {A B : Type 0} (o : Option A) (f : A → B) (b : B) → giving o f ≡ Some b → (a : A)
     × (o ≡ Some a) × (f a ≡ b)
-giving_some None f b e = absurd (not_none b e)
+giving_some None f b e = absurd (none-some b e)
 giving_some (Some a) f b e = (a, refl, let e' = e in cc)
 
 -- ---- a value that is read has its column's type
@@ -53,40 +53,40 @@ IsText v = cast kind.Text v ≡ v
 parent_typed : (v : Value) (p : Option ℕ) → parent_in v ≡ Some p → IsInteger v
 parent_typed Null p e = cast_null
 parent_typed (Int n) p e = cast_int n
-parent_typed (Real x) p e = absurd (not_none p e)
-parent_typed (Text t) p e = absurd (not_none p e)
-parent_typed (Blob b) p e = absurd (not_none p e)
+parent_typed (Real x) p e = absurd (none-some p e)
+parent_typed (Text t) p e = absurd (none-some p e)
+parent_typed (Blob b) p e = absurd (none-some p e)
 
 kind_typed : (v : Value) (k : ObjKind) → kind_in v ≡ Some k → IsInteger v
-kind_typed Null k e = absurd (not_none k e)
+kind_typed Null k e = absurd (none-some k e)
 kind_typed (Int n) k e = cast_int n
-kind_typed (Real x) k e = absurd (not_none k e)
-kind_typed (Text t) k e = absurd (not_none k e)
-kind_typed (Blob b) k e = absurd (not_none k e)
+kind_typed (Real x) k e = absurd (none-some k e)
+kind_typed (Text t) k e = absurd (none-some k e)
+kind_typed (Blob b) k e = absurd (none-some k e)
 
 flags_typed : (v : Value) (f : ListFlags) → flags_in v ≡ Some f → IsInteger v
-flags_typed Null f e = absurd (not_none f e)
+flags_typed Null f e = absurd (none-some f e)
 flags_typed (Int n) f e = cast_int n
-flags_typed (Real x) f e = absurd (not_none f e)
-flags_typed (Text t) f e = absurd (not_none f e)
-flags_typed (Blob b) f e = absurd (not_none f e)
+flags_typed (Real x) f e = absurd (none-some f e)
+flags_typed (Text t) f e = absurd (none-some f e)
+flags_typed (Blob b) f e = absurd (none-some f e)
 
 text_typed : (v : Value) (t : List ℕ) → text_in v ≡ Some t → IsText v
-text_typed Null t e = absurd (not_none t e)
-text_typed (Int n) t e = absurd (not_none t e)
-text_typed (Real x) t e = absurd (not_none t e)
+text_typed Null t e = absurd (none-some t e)
+text_typed (Int n) t e = absurd (none-some t e)
+text_typed (Real x) t e = absurd (none-some t e)
 text_typed (Text s) t e = refl
-text_typed (Blob b) t e = absurd (not_none t e)
+text_typed (Blob b) t e = absurd (none-some t e)
 
 name_typed : (v : Value) (t : List ℕ) → name_in v ≡ Some t → IsText v
 name_typed v t e = let p = given_some (text_in v) name_of_text t e in text_typed v p.0 p.1
 
 entries_typed : (v : Value) (l : List Ace) → entries_in v ≡ Some l → IsText v
-entries_typed Null l e = absurd (not_none l e)
-entries_typed (Int n) l e = absurd (not_none l e)
-entries_typed (Real x) l e = absurd (not_none l e)
+entries_typed Null l e = absurd (none-some l e)
+entries_typed (Int n) l e = absurd (none-some l e)
+entries_typed (Real x) l e = absurd (none-some l e)
 entries_typed (Text s) l e = refl
-entries_typed (Blob b) l e = absurd (not_none l e)
+entries_typed (Blob b) l e = absurd (none-some l e)
 
 -- ---- a row that is read, value by value
 
@@ -320,7 +320,7 @@ module _ (db next : Database) (id : ℕ) (room : IsRoom db)
           → rows_of next ≡ reading (rows_of db) (with_node (rows_of db).read (change before))
       by None found =
           absurd
-          (not_none before (sym (ap (option_and_then (λ r. node_in (shown_node r))) found)
+          (none-some before (sym (ap (option_and_then (λ r. node_in (shown_node r))) found)
           ∙ sym (node_at_row db id room.nodes.0) ∙ there))
       by (Some r) found =
           let seen : node_in (shown_node r) ≡ Some before =
@@ -335,7 +335,7 @@ module _ (db next : Database) (id : ℕ) (room : IsRoom db)
       → Recasts (inheriting which text) (pos id) db.trees next.trees
       → Alters id (with_inh which entries) db next
   inherited_rows which text entries back =
-      altered (inheriting which text) (with_inh which entries) (inh_id which entries)
+      altered (inheriting which text) (with_inh which entries) (with_inh-id which entries)
       (λ r before n e. inherits_back id r before n e which text entries back)
 
   pub held_rows : (which : Which) (flags : ℤ) (own inh : List ℕ) (held : Held)
@@ -344,7 +344,7 @@ module _ (db next : Database) (id : ℕ) (room : IsRoom db)
       → Recasts (holding which flags own inh) (pos id) db.trees next.trees
       → Alters id (with_held which held) db next
   held_rows which flags own inh held p q t =
-      altered (holding which flags own inh) (with_held which held) (held_id which held)
+      altered (holding which flags own inh) (with_held which held) (with_held-id which held)
       (λ r before n e. holds_back id r before n e which flags own inh held p q t)
 
   pub owned_rows : (owner group : List ℕ) (owners : Owners)

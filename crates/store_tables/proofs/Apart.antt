@@ -1,7 +1,7 @@
 -- No two children have one name: what UNIQUE says of rows that agree in its first column.
-use Rattle.std.proofs.Common.{◌≡◌, ℕ, ℤ, subst, List, [], ◌∷◌, filter, IsTrue, inl, inr, refl, sym, ap, ◌∙◌, true, false, Bool, cond, not, ◌&&◌, ◌||◌, Less, is_eq}
+use Rattle.std.proofs.Common.{◌≡◌, ℕ, ℤ, subst, List, [], ◌∷◌, filter, IsTrue, inl, inr, refl, sym, ap, ◌∙◌, true, false, Bool, cond, ◌&&◌, Less, is_eq}
 use Rattle.std.specs.List.{AllByRecursion, list_any}
-use Rattle.std.proofs.lemmas.Bool.{and_parts, and_from, false≢true}
+use Rattle.std.proofs.lemmas.Bool.{and_parts, and_from, false≢true, not-true, or_parts}
 use Rattle.std.proofs.lemmas.Cmp.{alike_right}
 use Rattle.sqlite.specs.declared.types.Value.{Value}
 use Rattle.sqlite.specs.declared.types.Value.TheVariants.{Null, Int, Real, Text, Blob}
@@ -33,16 +33,12 @@ use Rattle.store_tables.proofs.Tests.{told}
 use Rattle.store_tables.proofs.Tops.{kept_from}
 use Rattle.store_tables.proofs.Writes.{nodes_table}
 
-or_none : (b c : Bool) → (b || c) ≡ false → (b ≡ false) × (c ≡ false)
-or_none true c h = absurd (let e = h in cc)
-or_none false c h = (refl, h)
-
-any_none : {A : Type 0} (p : A → Bool) (xs : List A) (x : A) → list_any p xs ≡ false → Has xs x
+pub any_none : {A : Type 0} (p : A → Bool) (xs : List A) (x : A) → list_any p xs ≡ false → Has xs x
     → p x ≡ false
 any_none p [] x none there = absurd there
-any_none p (y ∷ ys) x none (inl e) = ap p e ∙ (or_none (p y) (list_any p ys) none).0
+any_none p (y ∷ ys) x none (inl e) = ap p e ∙ (or_parts (p y) (list_any p ys) none).0
 any_none p (y ∷ ys) x none (inr later) =
-    any_none p ys x (or_none (p y) (list_any p ys) none).1 later
+    any_none p ys x (or_parts (p y) (list_any p ys) none).1 later
 
 pub kept_passes : {A : Type 0} (p : A → Bool) (xs : List A) (x : A) → Has (filter p xs) x
     → p x ≡ true
@@ -57,12 +53,12 @@ kept_passes p (y ∷ ys) x there = by (p y) refl there (kept_passes p ys x)
 
 -- ---- = and <> of values that are not NULL
 
-equal_from : (a b : Value) → is_null a ≡ false → is_null b ≡ false → is_eq (value_cmp a b) ≡ true
+pub equal_from : (a b : Value) → is_null a ≡ false → is_null b ≡ false → is_eq (value_cmp a b) ≡ true
     → is_true (binary (Compare Eq Binary) a b) ≡ true
 unfolding binary
 equal_from a b some other same = rw (some, other) (told (is_eq (value_cmp a b)) ∙ same)
 
-differ_from : (a b : Value) → is_null a ≡ false → is_null b ≡ false → value_cmp a b ≡ Less
+pub differ_from : (a b : Value) → is_null a ≡ false → is_null b ≡ false → value_cmp a b ≡ Less
     → differ a b ≡ true
 unfolding binary
 differ_from a b some other less =
@@ -75,7 +71,7 @@ agrees_by : (first second : ℕ) (a b : Row)
 unfolding first_key
 agrees_by first second a b one two = and_from _ _ one (and_from _ true two refl)
 
-int_is_some : (v : Value) → IsTrue (is_int v) → is_null v ≡ false
+pub int_is_some : (v : Value) → IsTrue (is_int v) → is_null v ≡ false
 int_is_some (Int n) int = refl
 int_is_some Null int = absurd (let e = int in cc)
 int_is_some (Real x) int = absurd (let e = int in cc)
@@ -146,14 +142,10 @@ like_int (Real x) n same = refl
 like_int (Text t) n same = refl
 like_int (Blob b) n same = refl
 
-denied : (b : Bool) → not b ≡ true → b ≡ false
-denied true h = absurd (let e = h in cc)
-denied false h = refl
-
 named : (db : Trees) (r : Row) → passes NotNull room_schema db nodes_table r ≡ true
     → is_null (column r 3) ≡ false
 unfolding everything
-named db r h = denied _ (and_parts _ _ h).0
+named db r h = not-true _ (and_parts _ _ h).0
 
 nodes_listed : Has room_schema.tables nodes_table
 unfolding everything
@@ -188,7 +180,7 @@ like_text (Blob b) t same = refl
 grouped : (db : Trees) (r : Row) → passes NotNull room_schema db members_table r ≡ true
     → is_null (column r 1) ≡ false
 unfolding everything
-grouped db r h = denied _ (and_parts _ _ h).0
+grouped db r h = not-true _ (and_parts _ _ h).0
 
 members_listed : Has room_schema.tables members_table
 unfolding everything

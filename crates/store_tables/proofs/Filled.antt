@@ -29,10 +29,11 @@ use Rattle.store_tables.proofs.Calls.{retains_by}
 use Rattle.store_tables.proofs.Printed.{keeps_same}
 use Rattle.store_tables.proofs.Executed.{WritesRoom}
 use Rattle.store_tables.proofs.Rowids.{alone_in, at_most_one, has_found, of_each, only_one, rowid_is}
-use Rattle.store_tables.proofs.Tests.{filter_same, passes_id}
+use Rattle.store_tables.proofs.Tests.{passes_id}
 use Rattle.store_tables.proofs.Texts.{fill_is, fill_terms, fill_text, matches_parameter, plain_fill, query_of}
 use Rattle.store_tables.proofs.Updates.{cast_int, cast_null}
 use Rattle.store_tables.proofs.Writes.{same_value, went}
+use Rattle.room_entry.proofs.Facts.Lists.{filter_same}
 
 pub cast_body : (id : ℤ) (bytes : List ℕ)
     → cast_row bodies_table (stored_body id bytes) ≡ stored_body id bytes

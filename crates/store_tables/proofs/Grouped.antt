@@ -34,7 +34,7 @@ use Rattle.store_tables.proofs.Rowids.{each_of}
 
 -- ---- to pass a test and to stand in order can change places
 
-equal_pairs : (p o : Pair) → pair_cmp o p ≡ Equal → o ≡ p
+pub equal_pairs : (p o : Pair) → pair_cmp o p ≡ Equal → o ≡ p
 equal_pairs p o same =
     let parts = both (slice_cmp nat_cmp o.0 p.0) (slice_cmp nat_cmp o.1 p.1) same in
     let a : o.0 ≡ p.0 = same_list o.0 p.0 parts.0 in
@@ -179,7 +179,7 @@ rises_sorted (r ∷ rows) apart =
 
 -- ---- what they are read as
 
-name_text : (v : Value) (t : List ℕ) → name_in v ≡ Some t → v ≡ Text t
+pub name_text : (v : Value) (t : List ℕ) → name_in v ≡ Some t → v ≡ Text t
 name_text (Text s) t is = by (is_utf8 s) is
   where
     named : (c : Bool) → (if c then Some s else None) ≡ Some t → Text s ≡ Text t

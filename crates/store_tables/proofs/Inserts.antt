@@ -47,7 +47,7 @@ fresh_alone rows r h = go (is_taken rows r) h
     go true e = absurd (let x = e in cc)
     go false e = refl
 
-new_sets_off_nothing : (r : Row) → works room_schema Enforced 0 0 [] (r ∷ []) ≡ []
+pub new_sets_off_nothing : (r : Row) → works room_schema Enforced 0 0 [] (r ∷ []) ≡ []
 unfolding everything
 new_sets_off_nothing r = refl
 

@@ -1,9 +1,10 @@
 -- What reading the names of children answers, and reading one of them.
-use Rattle.std.proofs.Common.{◌≡◌, ℕ, zero, suc, pos, negsuc, List, [], ◌∷◌, ◌++◌, map, filter, take, length, None, Some, Option, IsTrue, inl, inr, refl, sym, ap, subst, ◌∙◌, true, false, Bool, cond, not, append-nil, append_assoc, arith, is_lt, IsPermutation}
+use Rattle.std.proofs.Common.{◌≡◌, ℕ, zero, suc, pos, negsuc, List, [], ◌∷◌, ◌++◌, map, filter, take, length, None, Some, Option, IsTrue, inl, inr, refl, sym, ap, subst, ◌∙◌, true, not, append-nil, append_assoc, arith, is_lt, IsPermutation}
 use Rattle.std.specs.Prelude.{◌==◌, is_none, option_and_then, option_map, if◌then◌else◌}
 use Rattle.std.specs.List.{AllByRecursion, filter_map, cons_option}
 use Rattle.std.proofs.lemmas.Bool.{and_parts}
 use Rattle.std.proofs.lemmas.List.Sorted.{IsPermutation-sym}
+use Rattle.std.proofs.lemmas.Option.{none-some}
 use Rattle.sqlite.specs.declared.types.Value.{Value}
 use Rattle.sqlite.specs.declared.types.Value.TheVariants.{Null, Int, Real, Text, Blob}
 use Rattle.sqlite.specs.Effect.{Database}
@@ -15,10 +16,9 @@ use Rattle.sqlite_trees.specs.View.{is_int}
 use Rattle.sqlite_value.proofs.OrderLemmas.{value_cmp-Int}
 use Rattle.room_entry.specs.declared.object.ObjKind.{ObjKind}
 use Rattle.room_rows.specs.declared.node.Node.{Node}
-use Rattle.room_rows.specs.Content.{is_before, is_empty, put_by_name, sorted_by_name}
+use Rattle.room_rows.specs.Content.{is_empty, sorted_by_name}
 use Rattle.room_rows.specs.Keep.{AreNamedUnder, HasChildren, IsUnreadable}
 use Rattle.room_rows.specs.Rows.{Rows}
-use Rattle.room_rows.proofs.Lookups.{not_none}
 use Rattle.store_tables.specs.Filed.{node_parts}
 use Rattle.store_tables.specs.Meaning.{named_in, node_in, number_in, rows_of, text_in, unread_in}
 use Rattle.store_tables.specs.RoomRows.{number_in-low}
@@ -31,6 +31,7 @@ use Rattle.store_tables.proofs.Nodes.{Tells}
 use Rattle.store_tables.proofs.Rowids.{alone_in, each_of, of_each}
 use Rattle.store_tables.proofs.Tops.{children_read, kept_from}
 use Rattle.store_tables.proofs.Under.{IsSeen, by_name, seen_in_order, sorted_read, sorted_within, tells_by}
+use Rattle.room_rows.proofs.Lookups.{put_is_some}
 
 abbrev Named : Type 0
 Named = List ℕ × ObjKind
@@ -62,7 +63,7 @@ number_kept (Blob b) int high = absurd (let e = int in cc)
 read_if : (o : Option Node) (m : Option ℕ) (id : ℕ) → m ≡ Some id
     → (if is_none o then m else None) ≡ None → (n : Node) × (o ≡ Some n)
 read_if (Some n) m id is none = (n, refl)
-read_if None m id is none = absurd (not_none id (sym none ∙ is))
+read_if None m id is none = absurd (none-some id (sym none ∙ is))
 
 nothing_of : {X : Type 0} (f : Row → Option X) (rows : List Row) → filter_map f rows ≡ []
     → (r : Row) → Has rows r → f r ≡ None
@@ -93,14 +94,6 @@ module _ (db : Database) (room : IsRoom db) where
       (and_parts _ (is_numbered r) (kept_passes (is_child (pos parent)) (db.trees 0) r there)).1)
 
 -- ---- whether there is a child
-
-put_is_some : (n : Node) (l : List Node) → is_empty (put_by_name n l) ≡ false
-put_is_some n [] = refl
-put_is_some n (o ∷ os) = by (is_before o.name n.name)
-  where
-    by : (b : Bool) → is_empty (cond b (o ∷ put_by_name n os) (n ∷ o ∷ os)) ≡ false
-    by true = refl
-    by false = refl
 
 module _ (db : Database) (room : IsRoom db) (parent : ℕ) where
   abbrev kept : List Row
@@ -148,7 +141,7 @@ module _ (db : Database) (room : IsRoom db) (parent : ℕ) where
   -- what has no name or no kind is no object
   not_named : (r : Row) (o : Option Node) → see r ≡ o → named r ≡ None → see r ≡ None
   not_named r None is none = is
-  not_named r (Some n) is none = absurd (not_none (name_of n) (sym none ∙ named_of r n is))
+  not_named r (Some n) is none = absurd (none-some (name_of n) (sym none ∙ named_of r n is))
 
   names_read : (rows : List Row) → AllByRecursion IsSeen rows
       → filter_map named rows ≡ map name_of (filter_map see rows)

@@ -29,7 +29,7 @@ use Rattle.store_tables.specs.Filed.{number_is, node_parts, unread_at_row}
 use Rattle.store_tables.specs.RoomRows.{row_found}
 use Rattle.store_tables.specs.Seeing.{result_of_seen, seen_only, seen_as}
 use Rattle.std.specs.declared.cmp.Ordering.TheVariants.{Less, Equal, Greater}
-use Rattle.store_tables.proofs.Tests.{and_true}
+use Rattle.std.proofs.Math.Bool.{and-true}
 use Rattle.store_tables.proofs.Nodes.{Tells}
 use Rattle.store_tables.proofs.Rowids.{alone_in, has_found, only_one}
 
@@ -164,7 +164,7 @@ child_agrees parent name r n is =
     ∙ ap (λ b. is_eq (value_cmp (column r 2) (Int (pos parent))) && b)
     (sym (ap (λ b. is_eq (value_cmp (column r 3) (Text name)) && b)
     (ap (λ v. not (is_lt (value_cmp v (Int (pos 1))))) number.0 ∙ at_least_one n.id number.1)
-    ∙ and_true _))
+    ∙ and-true _))
 
 -- a row that is there and isn't read as an object is one that can't be read
 pub unread_row : (db : Database) → IsRoom db → (r : Row) (id : ℕ) → Has (db.trees 0) r

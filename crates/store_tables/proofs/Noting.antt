@@ -1,17 +1,15 @@
 -- What the rows mean once a record is put in.
-use Rattle.std.proofs.Common.{◌≡◌, ℕ, ℤ, pos, List, [], ◌∷◌, ◌++◌, Some, None, refl, ap, ◌∙◌, Bool, true, false, eq-eqb}
-use Rattle.std.specs.Prelude.{option_map, if◌then◌else◌, nat_eq}
+use Rattle.std.proofs.Common.{◌≡◌, ℕ, ℤ, pos, List, [], ◌∷◌, ◌++◌, Some, refl, ap, ◌∙◌, Bool, true, false}
+use Rattle.std.specs.Prelude.{option_map, if◌then◌else◌}
 use Rattle.std.specs.List.{cons_option, filter_map}
-use Rattle.std.proofs.lemmas.Bool.{cond-true}
 use Rattle.std.proofs.lemmas.List.Elements.{filter_map-append}
 use Rattle.sqlite.specs.declared.types.Value.TheVariants.{Int, Text}
 use Rattle.sqlite.specs.Effect.{Database}
-use Rattle.room_entry.specs.Bits.{bits_of, number_of}
 use Rattle.room_entry.specs.Names.{is_name}
 use Rattle.room_rows.specs.declared.node.AuditRow.{AuditRow}
 use Rattle.store_tables.specs.declared.columns.Record.{Record}
 use Rattle.store_tables.specs.Columns.{Recalls, record_values}
-use Rattle.store_tables.specs.Meaning.{audit_in, bodies_of, granted_in, mask_in, name_in, nodes_of, pairs_of, unread_of, user_in}
+use Rattle.store_tables.specs.Meaning.{audit_in, bodies_of, granted_in, name_in, nodes_of, pairs_of, unread_of, user_in}
 use Rattle.store_tables.specs.Shown.{AddsRecordRow, stored_record}
 use Rattle.store_tables.specs.Trust.{HasNoted}
 use Rattle.store_tables.proofs.Removed.{same_rows}

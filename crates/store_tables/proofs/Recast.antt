@@ -1,6 +1,7 @@
 -- What is left where some cells of a row are written by its number, and the others as they are.
 use Rattle.std.proofs.Common.{◌≡◌, ℕ, ℤ, List, [], ◌∷◌, length, map, filter, find, drop, Ok, None, Some, IsTrue, inl, inr, ◌⊎◌, refl, sym, ap, subst, ◌∙◌, not, if◌then◌else◌, unwrap_or, arith}
 use Rattle.std.specs.List.Sorted.{IsPermutation}
+use Rattle.std.proofs.lemmas.Option.{same_Some}
 use Rattle.sqlite.specs.declared.types.Value.TheVariants.{Null, Int}
 use Rattle.sqlite.specs.Order.{Row}
 use Rattle.sqlite.specs.Program.{overlay}
@@ -20,12 +21,11 @@ use Rattle.sqlite_schema.specs.declared.schema.Keys.TheVariants.{Enforced}
 use Rattle.sqlite_trees.specs.View.{IsShaped}
 use Rattle.sqlite_trees.specs.declared.store.Shape.TheVariants as Shape
 use Rattle.sqlite_trees.proofs.TreeLemmas.{IsShaped-filter, IsShaped-put_row}
-use Rattle.room_rows.proofs.Lookups.{same_some}
 use Rattle.store_tables.specs.Tables.{nodes, room_schema}
 use Rattle.store_tables.specs.Shown.{IsRoom, KeepsAll, Recasts, Replaces, stored_node}
 use Rattle.store_tables.proofs.Texts.{matches_parameter, updates_nodes}
 use Rattle.store_tables.proofs.Answers.{shows, selected}
-use Rattle.store_tables.proofs.Tests.{filter_same, passes_id}
+use Rattle.store_tables.proofs.Tests.{passes_id}
 use Rattle.store_tables.proofs.Writes.{went, same_value, nodes_table}
 use Rattle.store_tables.specs.Printed.{KeepsPrinted}
 use Rattle.store_tables.proofs.Printed.{WritesPrinted, keeps_over, keeps_same}
@@ -34,6 +34,7 @@ use Rattle.store_tables.proofs.Executed.{WritesRoom}
 use Rattle.store_tables.proofs.Rowids.{at_most_one, only_one, has_found, cells_of, alone_in, rowid_is, of_each}
 use Rattle.store_tables.proofs.Actions.{ends, sets_off_none}
 use Rattle.store_tables.proofs.Updates.{cast_int, cast_null, keeps_number, update_edit}
+use Rattle.room_entry.proofs.Facts.Lists.{filter_same}
 
 -- what the columns after the number make of cells
 abbrev pub recast : Row → Row
@@ -254,5 +255,5 @@ module _ (text : List ℕ) (terms : List Term)
         | inr put ↦
             λ r there. subst (λ (x : Row). Replaces id
             (recast (change x)) old.now.trees new.now.trees)
-            (same_some put.0 r (sym put.1 ∙ there)) put.2
+            (same_Some put.0 r (sym put.1 ∙ there)) put.2
       ]

@@ -3,6 +3,7 @@ use Rattle.std.proofs.Common.{◌≡◌, ℕ, pos, List, [], ◌∷◌, filter, 
 use Rattle.std.specs.Prelude.{option_and_then, is_none, is_some, if◌then◌else◌, ◌==◌, ◌||◌}
 use Rattle.std.specs.List.{filter_map, cons_option}
 use Rattle.std.proofs.lemmas.Bool.{cond-true, cond-false}
+use Rattle.std.proofs.lemmas.Option.{none-some}
 use Rattle.sqlite.specs.Order.{Row}
 use Rattle.sqlite.specs.Tree.{rowid, has_rowid, without_rowid, IsTable}
 use Rattle.sqlite.specs.Effect.{Database}
@@ -12,7 +13,6 @@ use Rattle.room_rows.specs.declared.node.Node.{Node}
 use Rattle.room_rows.specs.Content.{node_at, without_node}
 use Rattle.room_rows.specs.Rows.{Rows, is_unreadable}
 use Rattle.room_rows.specs.Keep.{CanRemove, reading}
-use Rattle.room_rows.proofs.Lookups.{not_none}
 use Rattle.store_tables.specs.Shown.{RemovesRow, IsRoom, shown_node}
 use Rattle.store_tables.specs.Meaning.{number_in, node_in, unread_in, body_in, audit_in, nodes_of, unread_of, bodies_of, pairs_of, rows_of}
 use Rattle.store_tables.specs.Keyed.{has_key}
@@ -67,13 +67,13 @@ readable db id n table there = by (find (has_rowid (pos id)) (db.trees 0)) refl
     seen : (o : Option Node) (m : Option ℕ) → o ≡ Some n
         → is_some (if is_none o then m else None) ≡ false
     seen (Some x) m e = refl
-    seen None m e = absurd (not_none n e)
+    seen None m e = absurd (none-some n e)
 
     by : (o : Option Row) → find (has_rowid (pos id)) (db.trees 0) ≡ o
         → is_unreadable (rows_of db) id ≡ false
     by None found =
         absurd
-        (not_none n (sym (ap (option_and_then (λ r. node_in (shown_node r))) found)
+        (none-some n (sym (ap (option_and_then (λ r. node_in (shown_node r))) found)
         ∙ sym (node_at_row db id table) ∙ there))
     by (Some r) found =
         unread_at_row db id table

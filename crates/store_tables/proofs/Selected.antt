@@ -16,8 +16,9 @@ use Rattle.store_tables.proofs.Answers.{passes}
 use Rattle.store_tables.proofs.Calls.{selects_rows}
 use Rattle.store_tables.proofs.Ordered.{HasNoTies, as_stored, cut, in_order}
 use Rattle.store_tables.proofs.Apart.{children_apart, members_apart}
-use Rattle.store_tables.proofs.Tests.{filter_same, passes_child, passes_child_named, passes_id, passes_numbered, passes_top, passes_user}
+use Rattle.store_tables.proofs.Tests.{passes_child, passes_child_named, passes_id, passes_numbered, passes_top, passes_user}
 use Rattle.store_tables.proofs.Texts.{all_columns, body_is, body_text, child_is, child_text, children_is, children_query, children_text, groups_is, groups_query, groups_text, ids_is, ids_query, ids_text, is_kept, matches_parameter, name_columns, name_query, names, names_are, names_text, node_is, node_text, plain_names, plain_some, plain_texts, root_is, root_query, root_text, selects, some_is, some_query, some_text, top_tests}
+use Rattle.room_entry.proofs.Facts.Lists.{filter_same}
 
 module _ (old new : State) (rows : List Row) (room : IsRoom old.now) where
   pub shows_node : (id : ℤ) → Shown node_text (Int id ∷ []) old new rows

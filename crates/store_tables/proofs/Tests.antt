@@ -1,8 +1,9 @@
 -- What the tests of WHERE mean.
-use Rattle.std.proofs.Common.{◌≡◌, ℕ, ℤ, pos, List, [], ◌∷◌, filter, Bool, true, false, not, ◌&&◌, cond, refl, sym, ap, subst, ◌∙◌, nat_cmp, Result, Ok, Err, IfOk}
+use Rattle.std.proofs.Common.{◌≡◌, ℕ, ℤ, pos, List, [], ◌∷◌, Bool, true, false, not, ◌&&◌, refl, sym, ap, subst, ◌∙◌, nat_cmp, Result, Ok, Err, IfOk}
 use Rattle.std.specs.declared.cmp.Ordering.{Ordering}
 use Rattle.std.specs.declared.cmp.Ordering.TheVariants.{Less, Equal, Greater}
 use Rattle.std.specs.Ordering.{is_eq, is_lt, is_ge}
+use Rattle.std.proofs.Math.Bool.{and-true}
 use Rattle.sqlite.specs.declared.types.Value.{Value}
 use Rattle.sqlite.specs.declared.types.Value.TheVariants.{Null, Int, Real, Text, Blob}
 use Rattle.sqlite.specs.Order.{Row, column, value_cmp}
@@ -15,19 +16,6 @@ use Rattle.sqlite_value.proofs.OrderLemmas.{value_cmp-Null}
 use Rattle.store_tables.specs.Shown.{is_numbered, is_child, is_child_named, is_top, is_user_row}
 use Rattle.store_tables.proofs.Texts.{matches_parameter, is_kept, top_tests}
 use Rattle.store_tables.proofs.Answers.{passes}
-
--- the end of a list of tests, `&& true`, adds nothing to the last one
-pub and_true : (b : Bool) → b && true ≡ b
-and_true true = refl
-and_true false = refl
-
--- two tests that agree on each row keep the same rows
-pub filter_same : {A : Type 0} (p q : A → Bool) → ((x : A) → p x ≡ q x) → (xs : List A)
-    → filter p xs ≡ filter q xs
-filter_same p q same [] = refl
-filter_same p q same (x ∷ xs) =
-    ap (λ b. cond b (x ∷ filter p xs) (filter p xs)) (same x)
-    ∙ ap (λ l. cond (q x) (x ∷ l) l) (filter_same p q same xs)
 
 -- from what is known of the value of a result, if it is Ok, to what follows from it
 pub if_ok : {A E : Type 0} (r : Result A E) (P Q : A → Type 0) → ((a : A) → P a → Q a) → IfOk r P
@@ -82,7 +70,7 @@ at_least_int (Blob b) n = told _ ∙ at_least_is _
 -- the test of queries and writes by number is met by the row with that rowid
 pub passes_id : (id : ℤ) (r : Row)
     → passes (matches_parameter 0 0 ∷ []) (Int id ∷ []) r ≡ has_rowid id r
-passes_id id r = and_true _ ∙ equals_int (rowid r) id
+passes_id id r = and-true _ ∙ equals_int (rowid r) id
 
 -- the tests of the queries on a folder's children are met by the numbered rows with that parent
 pub passes_child : (parent : ℤ) (r : Row)
@@ -91,7 +79,7 @@ passes_child parent r =
     ap (λ b. b && (is_true (binary (Compare Ge Binary) (rowid r) (Int (pos 1))) && true))
     (equals_int (column r 2) parent)
     ∙ ap (λ b. is_eq (value_cmp (column r 2) (Int parent)) && b)
-    (and_true _ ∙ at_least_int (rowid r) (pos 1))
+    (and-true _ ∙ at_least_int (rowid r) (pos 1))
 
 -- the tests by parent and name are met by the numbered rows with that parent and that name
 pub passes_child_named : (parent : ℤ) (name : List ℕ) (r : Row)
@@ -106,11 +94,11 @@ passes_child_named parent name r =
     (equals_text (column r 3) name)
     ∙ ap (λ b. is_eq (value_cmp (column r 2) (Int parent))
     && (is_eq (value_cmp (column r 3) (Text name)) && b))
-    (and_true _ ∙ at_least_int (rowid r) (pos 1))
+    (and-true _ ∙ at_least_int (rowid r) (pos 1))
 
 -- the one test of the query for all numbers is met by the rows numbered from 1 on
 pub passes_numbered : (r : Row) → passes (is_kept ∷ []) [] r ≡ is_numbered r
-passes_numbered r = and_true _ ∙ at_least_int (rowid r) (pos 1)
+passes_numbered r = and-true _ ∙ at_least_int (rowid r) (pos 1)
 
 -- the tests of the query for the root are met by the numbered rows that have no parent
 pub passes_top : (r : Row) → passes top_tests [] r ≡ is_top r
@@ -118,9 +106,9 @@ passes_top r =
     ap (λ b. b && (is_true (binary (Compare Ge Binary) (rowid r) (Int (pos 1))) && true))
     (is_null_is (column r 2))
     ∙ ap (λ b. is_eq (value_cmp (column r 2) Null) && b)
-    (and_true _ ∙ at_least_int (rowid r) (pos 1))
+    (and-true _ ∙ at_least_int (rowid r) (pos 1))
 
 -- the test of the query for groups is met by the rows of `members` with that user
 pub passes_user : (user : List ℕ) (r : Row)
     → passes (matches_parameter 2 0 ∷ []) (Text user ∷ []) r ≡ is_user_row user r
-passes_user user r = and_true _ ∙ equals_text (column r 2) user
+passes_user user r = and-true _ ∙ equals_text (column r 2) user

@@ -2,6 +2,7 @@
 use Rattle.std.proofs.Common.{◌≡◌, ℕ, pos, List, [], ◌∷◌, map, filter, take, None, Some, Option, inl, inr, refl, sym, ap, subst, ◌∙◌, true, false, Bool, cond, not, ◌&&◌, arith, is_eq, is_lt}
 use Rattle.std.specs.Prelude.{is_none, option_map}
 use Rattle.std.specs.List.{filter_map}
+use Rattle.std.proofs.Math.Bool.{and-true}
 use Rattle.sqlite.specs.declared.types.Value.{Value}
 use Rattle.sqlite.specs.declared.types.Value.TheVariants.{Null, Int, Real, Text, Blob}
 use Rattle.sqlite.specs.Order.{Row, column, value_cmp}
@@ -20,7 +21,6 @@ use Rattle.store_tables.specs.Statements.{HasTop}
 use Rattle.store_tables.proofs.Named.{at_least_one, filter_read, first_read, mapped, none_read, parent_agrees, unread_row}
 use Rattle.store_tables.proofs.Nodes.{Tells}
 use Rattle.store_tables.proofs.Rowids.{first_one, has_found}
-use Rattle.store_tables.proofs.Tests.{and_true}
 
 abbrev see : Row → Option Node
 see r = node_in (shown_node r)
@@ -45,7 +45,7 @@ no_parent (Blob b) p is = absurd (let e = is in cc)
 top_agrees : (r : Row) (n : Node) → see r ≡ Some n → is_none n.parent ≡ is_top r
 top_agrees r n is =
     no_parent (column r 2) n.parent (node_parts (shown_node r) n is).parent
-    ∙ sym (ap (λ b. is_eq (value_cmp (column r 2) Null) && b) (numbered r n is) ∙ and_true _)
+    ∙ sym (ap (λ b. is_eq (value_cmp (column r 2) Null) && b) (numbered r n is) ∙ and-true _)
 
 module _ (db : Database) (room : IsRoom db) where
   top_found : (r : Row) (more : List Row) → filter is_top (db.trees 0) ≡ r ∷ more
@@ -85,7 +85,7 @@ pub under_agrees : (parent : ℕ) (r : Row) (n : Node) → see r ≡ Some n
 under_agrees parent r n is =
     parent_agrees parent (column r 2) n.parent (node_parts (shown_node r) n is).parent
     ∙ sym (ap (λ b. is_eq (value_cmp (column r 2) (Int (pos parent))) && b) (numbered r n is)
-    ∙ and_true _)
+    ∙ and-true _)
 
 -- the children are what the rows of that parent are read as
 pub children_read : (db : Database) (parent : ℕ)

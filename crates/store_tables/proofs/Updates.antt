@@ -24,7 +24,7 @@ use Rattle.store_tables.proofs.Writes.{nodes_table}
 
 -- ---- what a column makes of a value of its own type
 
-either : (b : Bool) (x : Value) → cond b x x ≡ x
+pub either : (b : Bool) (x : Value) → cond b x x ≡ x
 either true x = refl
 either false x = refl
 

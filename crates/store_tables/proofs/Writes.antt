@@ -23,7 +23,8 @@ use Rattle.sqlite.proofs.Callers.{runs_as, statement_of}
 use Rattle.store_tables.specs.Tables.{nodes, room_schema}
 use Rattle.store_tables.proofs.Texts.{delete_text, delete_is, plain_texts, query_of, matches_parameter}
 use Rattle.store_tables.proofs.Answers.{shows, selected}
-use Rattle.store_tables.proofs.Tests.{filter_same, passes_id}
+use Rattle.store_tables.proofs.Tests.{passes_id}
+use Rattle.room_entry.proofs.Facts.Lists.{filter_same}
 
 -- a part that gave a value did not stop on the way
 pub went : {B E R : Type 0} {b : B} {Stops : E → Type 0}

@@ -8,6 +8,7 @@ use Rattle.std.specs.List.Sorted.{IsStrictlySortedBy}
 use Rattle.std.specs.Ordering.{is_eq}
 use Rattle.std.proofs.lemmas.Bool.{cases_Bool, and_parts, and_from, or_left, or_right, eqb-true}
 use Rattle.std.proofs.lemmas.Bool.{eq-eqb, cond-true, lt-ltb}
+use Rattle.std.proofs.lemmas.Option.{none-some}
 use Rattle.sqlite.specs.declared.types.Value.{Value}
 use Rattle.sqlite.specs.declared.types.Value.TheVariants.{Null, Int, Real, Text, Blob}
 use Rattle.sqlite.specs.Order.{Row, value_cmp}
@@ -29,7 +30,7 @@ use Rattle.room_entry.specs.Pieces.{is_among}
 use Rattle.room_rows.specs.declared.node.Node.{Node}
 use Rattle.room_rows.specs.Content.{node_at, set_of}
 use Rattle.room_rows.specs.Rows.{AreRows, numbers_of, put_number, put_numbers}
-use Rattle.room_rows.proofs.Lookups.{find_no, not_none}
+use Rattle.room_rows.proofs.Lookups.{find_no}
 use Rattle.store_tables.specs.Paired.{pair_cmp, put_sorted, sorted_set, empty_sorted}
 use Rattle.store_tables.specs.Tables.{bodies, room_schema}
 use Rattle.store_tables.specs.Shown.{IsRoom, shown_node}
@@ -149,7 +150,7 @@ among_second id (u ∷ us) ids there = among_other u id (put_numbers us ids)
 
 among_nodes : (id : ℕ) (nodes : List Node) (n : Node) → find (λ (m : Node). m.id == id) nodes ≡ Some
     n → is_among (map (λ (m : Node). m.id) nodes) id ≡ true
-among_nodes id [] n found = absurd (not_none n found)
+among_nodes id [] n found = absurd (none-some n found)
 among_nodes id (m ∷ nodes) n found = elim (cases_Bool (m.id == id)) [
   | inl here ↦ or_left (m.id == id) _ here
   | inr other ↦ or_right (m.id == id) _

@@ -99,7 +99,7 @@ module _ {S : Type 0} {rows : S → Rows} {failures writes : S → ℕ}
 
 -- ---- items after others at the target
 
-more_items : (first more : Site → List Item) (front : List Item) (o : Option Site)
+pub more_items : (first more : Site → List Item) (front : List Item) (o : Option Site)
     → front ++ where_found o (λ s. first s ++ more s) ≡ (front ++ where_found o first)
     ++ where_found o more
 more_items first more front None = sym (append-nil (front ++ []))

@@ -4,24 +4,17 @@ use Rattle.std.specs.List.{find, AllByRecursion}
 use Rattle.std.specs.Option.{option_map_or}
 use Rattle.std.proofs.lemmas.Bool.{cases_Bool, false≢true, true≢false, eqb-true}
 use Rattle.room_rows.specs.declared.node.Node.{Node}
-use Rattle.room_rows.specs.Content.{Content, body_at, children_of, has_parent, is_before, is_empty, put_by_name, sorted_by_name}
+use Rattle.room_rows.specs.Content.{Content, body_at, children_of, has_parent, is_empty, sorted_by_name}
 use Rattle.room_rows.specs.Finding.{find_id}
 use Rattle.room_rows.specs.Sound.{has_sound_lists}
+use Rattle.room_rows.proofs.Lookups.{put_is_some}
 
 -- ---- objects without children
-
-put_there : (x : Node) (xs : List Node) → is_empty (put_by_name x xs) ≡ false
-put_there x [] = refl
-put_there x (y ∷ ys) = on (is_before y.name x.name)
-  where
-    on : (t : Bool) → is_empty (cond t (y ∷ put_by_name x ys) (x ∷ y ∷ ys)) ≡ false
-    on true = refl
-    on false = refl
 
 none_sorted : (nodes : List Node) → sorted_by_name nodes ≡ [] → nodes ≡ []
 none_sorted [] none = refl
 none_sorted (x ∷ xs) none =
-    absurd (true≢false (ap is_empty (sym none) ∙ put_there x (sorted_by_name xs)))
+    absurd (true≢false (ap is_empty (sym none) ∙ put_is_some x (sorted_by_name xs)))
 
 none_chosen : (p : Node → Bool) (nodes : List Node) → filter p nodes ≡ []
     → AllByRecursion (λ n. p n ≡ false) nodes

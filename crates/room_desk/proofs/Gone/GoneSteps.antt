@@ -18,7 +18,7 @@ use Rattle.room_machine.specs.declared.reply.Reply.{Reply}
 use Rattle.room_machine.specs.declared.reply.Reply.TheVariants.{Done, Refused}
 use Rattle.room_machine.specs.declared.reply.Reason.TheVariants.{NotEmpty, Root}
 use Rattle.room_machine.specs.declared.request.Request.TheVariants.{Remove}
-use Rattle.room_machine.specs.Site.{Site, sites_along, site_at, parent_at, front}
+use Rattle.room_machine.specs.Site.{Site, sites_along, site_at, parent_at}
 use Rattle.room_machine.specs.Plan.{Item, Deletion, Refusal, plan_of, way, where_found}
 use Rattle.room_machine.specs.Judge.{records_of_plan}
 use Rattle.room_machine.specs.Effect.{with_site}
@@ -40,6 +40,7 @@ use Rattle.room_desk.proofs.Sound.Sites.{fill, sites_filled}
 use Rattle.room_desk.proofs.Sound.Filled.{fill_item, judged_filled, site_filled, target_there, way_filled}
 use Rattle.room_desk.proofs.Steps.Stepping.{changed_step, refused_step}
 use Rattle.room_desk.proofs.Steps.Serving.{along_there}
+use Rattle.room_desk.proofs.Made.FolderPlans.{parent_filled}
 
 pub no_names : (path names : List (List ℕ)) (t : Bool) → names ≡ path → t ≡ (length names == 0)
     → t ≡ true → path ≡ []
@@ -60,11 +61,6 @@ empty_kept content id =
     on : (nodes : List Node) → is_empty (map (kept_node content) nodes) ≡ is_empty nodes
     on [] = refl
     on (x ∷ xs) = refl
-
-parent_filled : (sites : List Site) (names : List (List ℕ))
-    → parent_at (map fill sites) names ≡ option_map fill (parent_at sites names)
-parent_filled sites [] = refl
-parent_filled sites (name ∷ names) = site_filled sites (front (name ∷ names))
 
 module _ (asker : Asker) (path : List (List ℕ)) where
   -- the items at a target in a folder

@@ -20,7 +20,7 @@ use Rattle.room_rows.proofs.Lookups.{each-kept, each-weaker, each_found, find-ke
 use Rattle.room_rows.specs.Law.{agrees_with}
 use Rattle.room_rows.specs.Sound.{AreSound, bad_root, first_failing, fits_kind, has_sound_lists, has_sound_name, has_sound_body, keeps_law, reaches, same_place}
 use Rattle.room_inherit.proofs.Enough.{enough_steps}
-use Rattle.room_inherit.proofs.Members.{none_filter}
+use Rattle.room_entry.proofs.Facts.Members.{none_filter}
 use Rattle.room_desk.proofs.Gone.Childless.{bad_at, body_kept, by_objects, chosen_kept, each_both, map_kept, of_objects, still_pass}
 use Rattle.room_desk.proofs.Sound.SoundParts.{SoundParts, map_same, sound_parts, parts_sound, none_unreadable}
 

@@ -19,6 +19,7 @@ use Rattle.room_rows.proofs.InPlace.{KeepsPlaces, keeps_places, place-with_held,
 use Rattle.room_rows.specs.Law.{AllAgree, agrees, agrees_with}
 use Rattle.room_rows.specs.Sound.{AreSound, bad_root, has_bad_list, has_sound_body, has_sound_lists, has_sound_name, is_sound_held, keeps_law, reaches}
 use Rattle.room_inherit.proofs.NoFault.{no_fault, sound}
+use Rattle.room_entry.proofs.Facts.Lists.{all_implied}
 
 -- ---- tests of lists that were changed
 
@@ -58,12 +59,6 @@ root_changed change numbers kinds (x ∷ []) =
     ap (λ t. cond t None (Some (change x).id)) (kinds x)
     ∙ ap (λ n. cond (is_folder x) None (Some n)) (numbers x)
 root_changed change numbers kinds (x ∷ y ∷ ys) = ap (λ n. Some n) (numbers y)
-
-pub all_implied : {X : Type 0} (p q : X → Bool) → ((x : X) → p x ≡ true → q x ≡ true)
-    → (xs : List X) → list_all p xs ≡ true → list_all q xs ≡ true
-all_implied p q each [] all = refl
-all_implied p q each (x ∷ xs) all = let parts = and_parts (p x) (list_all p xs) all in
-    and_from (q x) (list_all q xs) (each x parts.0) (all_implied p q each xs parts.1)
 
 all_both : {X : Type 0} (p q r : X → Bool) → ((x : X) → p x ≡ true → q x ≡ true → r x ≡ true)
     → (xs : List X) → list_all p xs ≡ true → list_all q xs ≡ true → list_all r xs ≡ true

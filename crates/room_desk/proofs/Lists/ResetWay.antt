@@ -21,6 +21,7 @@ use Rattle.room_entry.specs.declared.object.ObjKind.TheVariants.{Document, Folde
 use Rattle.room_rows.specs.Content.{node_at}
 use Rattle.room_rows.proofs.Frames.{Rises, child_of-is_there}
 use Rattle.room_desk.specs.Setting.{ended_at}
+use Rattle.room_judge.proofs.Ways.{not_empty}
 
 -- ---- the last of the chain
 
@@ -57,11 +58,6 @@ front_is front back n is =
     ap (λ k. take k (front ++ back))
     (let e : length (front ++ back) - n ≡ length front = omega (arith, length-append front back) in
     e) ∙ take-append_seam front back
-
-not_empty : (rows : Content) (p : List (List ℕ)) (node : Node) (names : List (List ℕ))
-    → is_empty (stored_from rows p node names) ≡ false
-not_empty rows p node [] = refl
-not_empty rows p node (name ∷ names) = refl
 
 module _ (rows : Content) (rises : Rises rows) (caller : Caller) (items : Site → List Item)
     (folders : (n child : Node) (name : List ℕ) → node_at rows n.id ≡ Some n

@@ -1,9 +1,9 @@
 -- Rows in which one object has another list, and lists below it are renewed.
-use Rattle.std.proofs.Common.{◌≡◌, ℕ, ◌==◌, ◌&&◌, ◌||◌, Bool, true, false, cond, not, List, [], ◌∷◌, map, length, Option, Some, None, refl, sym, ap, subst, ◌∙◌, inl, inr}
+use Rattle.std.proofs.Common.{◌≡◌, ℕ, ◌==◌, Bool, true, false, cond, List, length, Option, Some, None, refl, sym, ap, subst, ◌∙◌, inl, inr}
 use Rattle.std.specs.Prelude.{option_and_then}
-use Rattle.std.specs.List.{list_all}
 use Rattle.std.specs.Option.{option_map, option_map_or}
-use Rattle.std.proofs.lemmas.Bool.{and_parts, and_from, cases_Bool, cond-true, cond-false, eq-eqb, eqb-true, false≢true}
+use Rattle.std.proofs.lemmas.Bool.{and_parts, and_from, cases_Bool, cond-true, cond-false, eq-eqb, eqb-true}
+use Rattle.std.proofs.lemmas.Option.{same_Some}
 use Rattle.room_entry.specs.Ace.{Ace}
 use Rattle.room_entry.specs.declared.object.Which.{Which}
 use Rattle.room_entry.specs.declared.object.Which.TheVariants.{Dacl, Sacl}
@@ -13,18 +13,19 @@ use Rattle.room_rows.specs.Content.{Content, node_at, parent_of, has_parent, is_
 use Rattle.room_rows.specs.Finding.{find_id}
 use Rattle.room_rows.specs.Held.{held_of, with_held, is_linked}
 use Rattle.room_rows.specs.Keep.{with_inh}
-use Rattle.room_rows.specs.Rows.{Rows, is_unreadable, put_numbers}
+use Rattle.room_rows.specs.Rows.{Rows}
 use Rattle.room_rows.proofs.Frames.{Rises, node_at-number}
 use Rattle.room_rows.proofs.InPlace.{place-with_held, with_each-with_each, with_node-replaces}
-use Rattle.room_rows.proofs.Lookups.{each_found, same_some}
+use Rattle.room_rows.proofs.Lookups.{each_found}
 use Rattle.room_rows.proofs.SamePlace.{replaced}
 use Rattle.room_rows.specs.Law.{AllAgree}
-use Rattle.room_rows.specs.Sound.{AreSound, has_bad_list, has_sound_lists, is_sound_held, reaches}
+use Rattle.room_rows.specs.Sound.{AreSound, is_sound_held, reaches}
 use Rattle.room_inherit.specs.Spread.{with_lists}
 use Rattle.room_inherit.proofs.NoFault.{no_fault}
 use Rattle.room_desk.proofs.Lists.Relisted.{relist, relisted, found_relisted, held_relisted, kind_kept, number_kept, linked_relisted, folders_kept, reach_kept, one_list, relisted_sound}
-use Rattle.room_desk.proofs.Sound.SoundParts.{map_same, none_unreadable, sound_parts}
+use Rattle.room_desk.proofs.Sound.SoundParts.{map_same}
 use Rattle.room_desk.proofs.Lists.ValidDown.{are_inherited, are_own, all_found, held_parts, valid_down}
+use Rattle.room_desk.proofs.Made.SoundAdded.{lists_here}
 
 -- two functions that agree on the objects of a content change it alike
 pub each_same : (content : Content) → Rises content → (f g : Node → Node)
@@ -47,34 +48,6 @@ renewed_held Sacl held entries node = refl
 
 -- ---- sound rows have sound lists
 
-all_mapped : (p : ℕ → Bool) (nodes : List Node)
-    → list_all p (map (λ (n : Node). n.id) nodes) ≡ list_all (λ (n : Node). p n.id) nodes
-all_mapped p [] = refl
-all_mapped p (x ∷ xs) = ap (λ t. p x.id && t) (all_mapped p xs)
-
-pub lists_of : (old : Rows) → AreSound old → (n : Node) → node_at old.read n.id ≡ Some n
-    → has_sound_lists n ≡ true
-lists_of old sound n found =
-    let all : list_all (λ (m : Node). not (has_bad_list old m.id)) old.read.nodes ≡ true =
-    sym (all_mapped (λ id. not (has_bad_list old id)) old.read.nodes)
-    ∙ ap (λ l. list_all (λ id. not (has_bad_list old id))
-    (put_numbers l (map (λ (m : Node). m.id) old.read.nodes)))
-    (sym (none_unreadable old (sound_parts old sound)))
-    ∙ (no_fault old sound).lists in
-    passes (is_unreadable old n.id) (has_sound_lists n)
-    (ap
-    (λ o. not (is_unreadable old n.id || option_map_or
-    (λ node. not (has_sound_lists node)) o false)) (sym found)
-    ∙ all_found (λ (m : Node). not (has_bad_list old m.id)) old.read n.id n all found)
-  where
-    passes : (t u : Bool) → not (t || not u) ≡ true → u ≡ true
-    passes true u is = absurd (false≢true is)
-    passes false true is = refl
-    passes false false is = is
-
-pub same_node : (x y : Node) → Some x ≡ Some y → x ≡ y
-same_node x y e = same_some x y e
-
 module _ (which : Which) (rows : Content) (node : Node) (held : Held) where
   -- the list of each object once that one has this list
   abbrev pub base : Node → Held
@@ -93,7 +66,7 @@ module _ (which : Which) (rows : Content) (node : Node) (held : Held) where
   pub same_object : node_at rows node.id ≡ Some node → (n : Node) → node_at rows n.id ≡ Some n
       → (n.id == node.id) ≡ true → n ≡ node
   same_object there n found is =
-      same_node n node (sym found ∙ ap (node_at rows) (eqb-true n.id node.id is) ∙ there)
+      same_Some n node (sym found ∙ ap (node_at rows) (eqb-true n.id node.id is) ∙ there)
 
   -- whether the list of an object is linked then
   abbrev pub links : Node → Bool
@@ -213,7 +186,7 @@ module _ (which : Which) (rows : Content) (node : Node) (held : Held) where
                 on (Some n) before is = (
                   n,
                   ap (node_at rows) (node_at-number rows m.id n before) ∙ before,
-                  same_node m (relist which final n) (sym is),
+                  same_Some m (relist which final n) (sym is),
                 )
 
             module _ (unreadable : List ℕ)
@@ -228,7 +201,7 @@ module _ (which : Which) (rows : Content) (node : Node) (held : Held) where
                   and_parts (are_own which n.kind (held_of which n).own)
                   (are_inherited which n.kind (held_of which n).inh)
                   (sym (held_parts which n.kind (held_of which n))
-                  ∙ one_list which n (lists_of old sound n found))
+                  ∙ one_list which n (lists_here old sound n found))
 
               own_parts : (n : Node) → node_at rows n.id ≡ Some n
                   → are_own which n.kind (base n).own ≡ true

@@ -1,8 +1,7 @@
 -- A request that sets a list is a step.
-use Rattle.std.proofs.Common.{◌≡◌, ℕ, true, false, List, [], ◌∷◌, ◌++◌, map, Option, Some, None, refl, sym, ap, subst, ◌∙◌, append_assoc}
+use Rattle.std.proofs.Common.{◌≡◌, ℕ, true, false, List, [], ◌∷◌, ◌++◌, map, Option, Some, None, refl, sym, ap, subst, ◌∙◌}
 use Rattle.std.specs.Prelude.{option_and_then}
 use Rattle.std.specs.Option.{option_map, option_map_or}
-use Rattle.std.proofs.lemmas.List.{append-nil}
 use Rattle.room_entry.specs.Rights.{write_acl}
 use Rattle.room_ace.specs.Sent.{Sent}
 use Rattle.room_entry.specs.Valid.{first_bad_entry}
@@ -51,13 +50,7 @@ use Rattle.room_desk.proofs.Sound.Sites.{fill}
 use Rattle.room_desk.proofs.Sound.SoundParts.{sound_noted, sound_parts}
 use Rattle.room_desk.proofs.Steps.Stepping.{changed_step, refused_step}
 use Rattle.room_desk.proofs.Made.Uplink.{parent_paired, target_stands}
-
--- items after others at the target
-more_items : (first more : Site → List Item) (front : List Item) (o : Option Site)
-    → front ++ where_found o (λ s. first s ++ more s) ≡ (front ++ where_found o first)
-    ++ where_found o more
-more_items first more front None = sym (append-nil (front ++ []))
-more_items first more front (Some site) = sym (append_assoc front (first site) (more site))
+use Rattle.room_desk.proofs.Bytes.Appending.{more_items}
 
 module _ (path : List (List ℕ)) (which : Which) (sent : Sent) where
   -- the refusal of an entry that may not stand there

@@ -22,9 +22,9 @@ use Rattle.room_inherit.specs.Spread.{IsLinkedBelow, is_changed, is_linked_withi
 use Rattle.room_inherit.proofs.Rooted.{rooted_no_loop}
 use Rattle.room_desk.specs.Setting.{stored_held}
 use Rattle.room_desk.proofs.Lists.Relisted.{relist, relisted, held_relisted, kind_kept, parent_kept, parent_relisted}
-use Rattle.room_desk.proofs.Lists.SameHeld.{entries_itself}
 use Rattle.room_desk.proofs.Lists.SetHeld.{base, base_here, base_elsewhere, mid, mid_is, other_parent, same_object}
 use Rattle.room_desk.proofs.Lists.ValidDown.{all_found}
+use Rattle.room_entry.proofs.Alike.{entries_themselves}
 
 -- what isn't linked below isn't changed
 pub unlinked_unchanged : (which : Which) (content : Content) (id : ℕ) (lists : Node → List Ace)
@@ -95,7 +95,7 @@ module _ (which : Which) (rows : Content) (node : Node) (held : Held) (rises : R
           || same_entries (option_map_or (λ up. pass node.kind (full_of (held_of which up)))
           (cond t (Some above) None) (inherited_of sent.entries))
           (pass node.kind (full_of (held_of which above)))) ≡ true
-      on true = entries_itself (pass node.kind (full_of (held_of which above)))
+      on true = entries_themselves (pass node.kind (full_of (held_of which above)))
       on false = refl
 
   one_agrees : (n : Node) → node_at rows n.id ≡ Some n → (above : Node)

@@ -5,6 +5,7 @@ use Rattle.std.specs.List.{list_all}
 use Rattle.std.specs.Option.{option_map, option_map_or}
 use Rattle.std.proofs.lemmas.Bool.{and_from, and_parts, false≢true, le-leb, ltb-false}
 use Rattle.std.proofs.lemmas.List.{map-id}
+use Rattle.std.proofs.lemmas.Option.{same_Some}
 use Rattle.room_entry.specs.Ace.{Ace}
 use Rattle.room_ace.specs.Sent.{Sent, inherited_of, limit_fault, own_of}
 use Rattle.room_entry.specs.Valid.{entry_fault, first_bad_entry}
@@ -27,11 +28,12 @@ use Rattle.room_inherit.proofs.Kinship.{with_own}
 use Rattle.room_inherit.proofs.NoFault.{no_fault}
 use Rattle.room_desk.specs.Setting.{IsNewInh, IsSet, IsSetWell, Stores, fault_in, reason_of, held_with, stored_held}
 use Rattle.room_desk.specs.Carrying.{GoesDown}
-use Rattle.room_desk.proofs.Lists.Relisted.{all_implied, held_relisted, one_agrees, relist}
-use Rattle.room_desk.proofs.Lists.SetHeld.{base, base_here, each_same, ends, ends_is, final, links, mid, other_links, own_held, same_node, same_object, set_sound}
+use Rattle.room_desk.proofs.Lists.Relisted.{held_relisted, one_agrees, relist}
+use Rattle.room_desk.proofs.Lists.SetHeld.{base, base_here, each_same, ends, ends_is, final, links, mid, other_links, own_held, same_object, set_sound}
 use Rattle.room_desk.proofs.Lists.SetMeaning.{set_means}
 use Rattle.room_desk.proofs.Lists.SetSpread.{agree_all, agree_but, not_own_parent, unlinked_unchanged}
 use Rattle.room_desk.proofs.Lists.ValidDown.{all_found, are_inherited, are_own, linked_above}
+use Rattle.room_entry.proofs.Facts.Lists.{all_implied}
 
 -- ---- the sent entries
 
@@ -145,7 +147,7 @@ module _ (which : Which) (sent : Sent) (node : Node) (old : Rows) (are : AreRows
   child_law n found is linked =
       let above = linked_above which rows law_before (no_fault old sound).parents n found linked in
       above.2 ∙ ap (λ (m : Node). pass n.kind (full_of (held_of which m)))
-      (same_node above.0 node (sym above.1 ∙ is))
+      (same_Some above.0 node (sym above.1 ∙ is))
 
   linked_stored : links which rows node held node
       ≡ is_linked (stored_held which sent node.kind (parent_of rows node))

@@ -5,10 +5,10 @@ use Rattle.std.specs.List.{list_all, cons_option}
 use Rattle.std.specs.Option.{option_map, option_map_or}
 use Rattle.std.proofs.lemmas.Bool.{and_parts, and_from, cases_Bool, false≢true}
 use Rattle.room_entry.specs.Ace.{Ace}
-use Rattle.room_entry.specs.Valid.{entry_fault, is_document}
+use Rattle.room_entry.specs.Valid.{entry_fault}
 use Rattle.room_entry.specs.declared.flags.EntryFlags.{EntryFlags}
 use Rattle.room_entry.specs.declared.object.ObjKind.{ObjKind}
-use Rattle.room_entry.specs.declared.object.ObjKind.TheVariants.{Document, Folder}
+use Rattle.room_entry.specs.declared.object.ObjKind.TheVariants.{Folder}
 use Rattle.room_entry.specs.declared.object.Which.{Which}
 use Rattle.room_entry.proofs.Same.{entries_equal}
 use Rattle.room_rows.specs.HeldList.{Held}
@@ -18,10 +18,11 @@ use Rattle.room_rows.specs.Held.{held_of, full_of, is_linked}
 use Rattle.room_rows.proofs.Frames.{node_at-number}
 use Rattle.room_rows.specs.Law.{AllAgree, agrees, agrees_with}
 use Rattle.room_inherit.specs.Laws.{are_valid}
-use Rattle.room_rows.specs.Pass.{pass, passed_flags, ended, carried, waiting}
+use Rattle.room_rows.specs.Pass.{pass, passed_flags}
 use Rattle.room_rows.specs.Sound.{is_sound_held}
 use Rattle.room_inherit.proofs.Valid.{pass_is_valid}
-use Rattle.room_desk.proofs.Sound.SoundParts.{or_true}
+use Rattle.room_inherit.proofs.Raised.{folder_is, marked_flags}
+use Rattle.room_entry.proofs.Facts.Booleans.{implied}
 
 -- ---- own and inherited entries apart
 
@@ -66,27 +67,6 @@ held_parts which kind held =
 
 -- ---- what is passed has the flag
 
-marked_flags : (kind : ObjKind) (flags : EntryFlags)
-    → option_map_or (λ f. f.inherited) (passed_flags kind flags) true ≡ true
-marked_flags Document flags = on flags.file_inherit
-  where
-    on : (t : Bool) → option_map_or (λ (f : EntryFlags). f.inherited)
-        (cond t (Some (ended flags)) None) true ≡ true
-    on true = refl
-    on false = refl
-marked_flags Folder flags =
-    on (flags.directory_inherit && not flags.no_propagate_inherit)
-    (flags.directory_inherit && flags.no_propagate_inherit)
-    (flags.file_inherit && not flags.no_propagate_inherit)
-  where
-    on : (t u v : Bool) → option_map_or (λ (f : EntryFlags). f.inherited)
-        (cond t (Some (carried flags))
-        (cond u (Some (ended flags)) (cond v (Some (waiting flags)) None))) true ≡ true
-    on true u v = refl
-    on false true v = refl
-    on false false true = refl
-    on false false false = refl
-
 pub passed_marked : (kind : ObjKind) (entries : List Ace)
     → list_all (λ entry. entry.flags.inherited) (pass kind entries) ≡ true
 passed_marked kind [] = refl
@@ -129,10 +109,6 @@ all_found p content id node all found = at content.nodes all found
         on true is here rest = let same : x ≡ node = cc in ap p (sym same) ∙ here
         on false is here rest = rest is
 
-pub folder_is : (kind : ObjKind) → not (is_document kind) ≡ true → kind ≡ Folder
-folder_is Document is = absurd (false≢true is)
-folder_is Folder is = refl
-
 module _ (which : Which) (content : Content) (law : AllAgree content which)
     (folders : list_all (has_folder_above content) content.nodes ≡ true) where
   -- the parent of a linked object, whose list it takes
@@ -155,7 +131,7 @@ module _ (which : Which) (content : Content) (law : AllAgree content which)
             is,
             entries_equal (held_of which node).inh
                 (pass node.kind (full_of (held_of which above)))
-                (or_true (is_linked (held_of which node) (Some (held_of which above))) _ agree
+                (implied (is_linked (held_of which node) (Some (held_of which above))) _ agree
                 linked),
           )
 

@@ -1,16 +1,17 @@
 -- Rows to which an object is added whose number wasn't in use.
 use Rattle.std.proofs.Common.{◌≡◌, ℕ, zero, suc, ◌+◌, ◌==◌, Bool, true, false, cond, ◌||◌, List, [], ◌∷◌, ◌++◌, filter, length, Option, Some, None, nat_lt, refl, sym, ap, subst, ◌∙◌, arith, length-append}
 use Rattle.std.specs.Prelude.{is_none, option_and_then}
-use Rattle.std.specs.List.{list_all}
+use Rattle.std.specs.List.{list_all, AllByRecursion as Each}
 use Rattle.std.specs.Option.{option_map_or}
 use Rattle.std.proofs.lemmas.Bool.{false≢true}
 use Rattle.std.proofs.lemmas.List.Elements.{filter-append}
+use Rattle.std.proofs.lemmas.Option.{none-some}
 use Rattle.room_rows.specs.declared.node.Node.{Node}
 use Rattle.room_rows.specs.Content.{Content, node_at, parent_of, put_node, has_folder_above, is_folder, reaches_root}
 use Rattle.room_rows.specs.Finding.{find_id}
 use Rattle.room_rows.specs.Rows.{Rows, AreRows}
-use Rattle.room_rows.proofs.Lookups.{find-put_same, find-put_other, not_none}
-use Rattle.room_inherit.proofs.Members.{Each, each_append, each_front, each_back, all_each}
+use Rattle.room_rows.proofs.Lookups.{find-put_same, find-put_other}
+use Rattle.room_entry.proofs.Facts.Members.{each_append, each_front, each_back, all_each}
 use Rattle.room_inherit.proofs.Children.{each_there, apart_rising}
 
 -- ---- where it is put
@@ -88,7 +89,7 @@ module _ (old : Rows) (are : AreRows old) (new : Node) (bodies : List (ℕ × Li
   pub stays : (id : ℕ) (n : Node) → node_at old.read id ≡ Some n → node_at after id ≡ Some n
   stays id n found =
       find-put_other new old.read.nodes id
-      (λ same. absurd (not_none n (sym unused ∙ ap (node_at old.read) (sym same) ∙ found))) ∙ found
+      (λ same. absurd (none-some n (sym unused ∙ ap (node_at old.read) (sym same) ∙ found))) ∙ found
 
   pub comes : node_at after new.id ≡ Some new
   comes = find-put_same new old.read.nodes

@@ -4,6 +4,7 @@ use Rattle.std.specs.Prelude.{nat_le}
 use Rattle.std.specs.List.{list_all}
 use Rattle.std.specs.Option.{option_map}
 use Rattle.std.proofs.lemmas.Bool.{false≢true, and_parts, and_from, or_right, eqb-true}
+use Rattle.std.proofs.lemmas.Option.{none-some}
 use Rattle.room_entry.specs.Ace.{Ace}
 use Rattle.room_entry.specs.Pieces.{is_among}
 use Rattle.room_entry.specs.Valid.{is_document}
@@ -23,7 +24,6 @@ use Rattle.room_rows.specs.Meaning.{kept_held, kept_node, meaning}
 use Rattle.room_rows.specs.Paths.{is_object_name}
 use Rattle.room_rows.specs.Rows.{Rows, AreRows, numbers_of, put_numbers}
 use Rattle.room_rows.proofs.InPlace.{body_of-with_body, body_of-with_body-other}
-use Rattle.room_rows.proofs.Lookups.{not_none}
 use Rattle.room_inherit.specs.Laws.{are_valid}
 use Rattle.room_rows.specs.Pass.{pass}
 use Rattle.room_rows.specs.Sound.{AreSound, fits_kind, has_sound_lists, is_sound_held}
@@ -36,7 +36,8 @@ use Rattle.room_desk.specs.Made.{new_child, passed_held}
 use Rattle.room_machine.specs.Stored.{stored_site}
 use Rattle.room_desk.proofs.Made.SoundAdded.{above_new, above_old, lists_here, sound_added}
 use Rattle.room_desk.proofs.Sound.SoundParts.{sound_parts}
-use Rattle.room_desk.proofs.Lists.ValidDown.{folder_is, passed_marked}
+use Rattle.room_desk.proofs.Lists.ValidDown.{passed_marked}
+use Rattle.room_inherit.proofs.Raised.{folder_is}
 
 -- ---- its lists
 
@@ -188,7 +189,7 @@ module _ (old : Rows) (are : AreRows old) (were : AreSound old) (caller : Caller
       (or_right (not (is_linked new.sacl (Some folder.sacl))) _
       (entries_themselves (pass kind (full_of folder.sacl))))
       (λ n found. same_bytes kind id bytes old.read n.id
-      (λ same. absurd (not_none n (sym unused ∙ ap (node_at old.read) (sym same) ∙ found))))
+      (λ same. absurd (none-some n (sym unused ∙ ap (node_at old.read) (sym same) ∙ found))))
       (new_fits kind id bytes old.read (no_bytes_unused old are were id unused) few)
 
   -- the object as the rows mean it

@@ -1,11 +1,12 @@
 -- Rows stay sound where an object is added.
 use Rattle.std.proofs.Common.{◌≡◌, ℕ, suc, Bool, true, false, cond, not, ◌&&◌, ◌||◌, List, [], ◌∷◌, filter, length, Option, Some, None, nat_lt, refl, sym, ap, ◌∙◌, inl, inr, arith}
 use Rattle.std.specs.Prelude.{is_none}
-use Rattle.std.specs.List.{find, list_all, list_any}
+use Rattle.std.specs.List.{find, list_all, list_any, AllByRecursion as Each}
 use Rattle.std.specs.Option.{option_map_or}
 use Rattle.std.proofs.lemmas.Bool.{cases_Bool, false≢true, and_parts, and_from, or_right, eqb-true, le-ltb}
 use Rattle.std.proofs.lemmas.List.Folds.{list_all-map}
 use Rattle.std.proofs.lemmas.Slice.Eq.{bytes_eq-Decides}
+use Rattle.std.proofs.Math.Bool.{not-not}
 use Rattle.room_entry.specs.Pieces.{is_among, same_text}
 use Rattle.room_entry.specs.declared.object.Which.TheVariants.{Dacl, Sacl}
 use Rattle.room_rows.specs.declared.node.Node.{Node}
@@ -20,7 +21,7 @@ use Rattle.room_inherit.specs.Laws.{HasNoFault}
 use Rattle.room_rows.specs.Sound.{AreSound, bad_root, fits_kind, has_sound_body, has_sound_lists, has_sound_name, keeps_law, reaches, same_place}
 use Rattle.room_inherit.proofs.Children.{ids_of, each_found}
 use Rattle.room_inherit.proofs.Ends.{each_all}
-use Rattle.room_inherit.proofs.Members.{Each, each_fails, any_none}
+use Rattle.room_entry.proofs.Facts.Members.{each_fails, any_none}
 use Rattle.room_inherit.proofs.NoFault.{no_fault, sound}
 use Rattle.room_inherit.proofs.Whole.{none_unreadable}
 use Rattle.room_desk.proofs.Made.Added.{after, stays, comes, each_after, all_after, same_above, reaches_still, reaches_more, length_put, filter_put, each_put}
@@ -58,16 +59,12 @@ lists_of content unreadable none =
     ap (λ l. list_all (λ id. not (bad_at content l id)) (put_numbers l (ids_of content.nodes))) none
     ∙ list_all-map (λ id. not (bad_at content [] id)) (λ (n : Node). n.id) content.nodes
 
-not_not : (t : Bool) → not (not t) ≡ t
-not_not true = refl
-not_not false = refl
-
 -- where an object is found by its number, its lists are what counts
 bad_found : (content : Content) (node : Node) → node_at content node.id ≡ Some node
     → not (bad_at content [] node.id) ≡ has_sound_lists node
 bad_found content node found =
     ap (λ o. not (option_map_or (λ n. not (has_sound_lists n)) o false)) found
-    ∙ not_not (has_sound_lists node)
+    ∙ not-not (has_sound_lists node)
 
 -- the lists of an object of sound rows
 pub lists_here : (rows : Rows) → AreSound rows → (node : Node)

@@ -3,7 +3,8 @@ use Rattle.std.proofs.Common.{◌≡◌, ℕ, suc, ◌<◌, ◌==◌, Bool, true
 use Rattle.std.specs.Prelude.{is_some}
 use Rattle.std.specs.List.{list_any}
 use Rattle.std.specs.Option.{option_map, option_map_or, option_and_then}
-use Rattle.std.proofs.lemmas.Bool.{and_from, or_parts, false≢true}
+use Rattle.std.proofs.lemmas.Bool.{and_from, or_parts, false≢true, not-false}
+use Rattle.std.proofs.lemmas.Option.{same_Some}
 use Rattle.room_entry.specs.Rights.{execute}
 use Rattle.room_entry.specs.declared.parties.Caller.{Caller}
 use Rattle.room_rows.specs.declared.node.Node.{Node}
@@ -22,7 +23,6 @@ use Rattle.room_machine.specs.Plan.{Check, Deletion, Refusal, right_to_add}
 use Rattle.room_machine.specs.Stored.{stored_site, stored_from, stored_along}
 use Rattle.room_judge.specs.Judged.{noted}
 use Rattle.room_desk.specs.Moving.{CanGo, CanPlace, at_place, begins, free_place, goes_past}
-use Rattle.room_desk.proofs.Placed.Climbing.{same_some}
 use Rattle.room_desk.proofs.Moves.MovingPlan.{along_noted}
 use Rattle.room_desk.proofs.Moves.OnePath.{met_by_names}
 use Rattle.room_desk.proofs.Steps.Serving.{along_there, none_both}
@@ -34,10 +34,6 @@ use Rattle.room_judge.proofs.Spots.{below_of, folder_found, target_found}
 refused_not : (holds : Bool) (reply : Reply) → None ≡ cond holds (Some reply) None → holds ≡ false
 refused_not true reply is = absurd (let wrong : ⊥ = cc in wrong)
 refused_not false reply is = refl
-
-unnot : (b : Bool) → not b ≡ false → b ≡ true
-unnot true is = refl
-unnot false is = sym is
 
 none_there : {X : Type 0} (o : Option X) → is_some o ≡ false → o ≡ None
 none_there None is = refl
@@ -76,7 +72,7 @@ all_passed caller rows to is_below target from folder none =
     let sixth = none_both (failure caller (Refusal to Loop is_below)) None fifth.1 in
     record {
       folder_is =
-          unnot (is_folder folder.node)
+          not-false (is_folder folder.node)
           (refused_not (not (is_folder folder.node)) (Refused folder.path NotFolder) first.0);
       name_is_free =
           none_there (child_of rows folder.node.id (last_name to))
@@ -105,7 +101,7 @@ module _ (rows : Content) (rises : Rises rows) (t : ℕ) where
   past_from [] path node n site past there none is = (
     suc n,
     ap (λ (s : Site). goes_past (suc n) rows t (Some s.node.id))
-        (sym (same_some (stored_site path node) site is))
+        (sym (same_Some (stored_site path node) site is))
         ∙ one_up node n there (or_parts (node.id == t) false none).0 past,
   )
   past_from (name ∷ names) path node n site past there none is =
@@ -171,7 +167,7 @@ below_parent rows path from target some above is =
     on None found same = absurd (let wrong : ⊥ = cc in wrong)
     on (Some child) found same =
         ap (λ (s : Site). s.node.parent)
-        (sym (same_some (stored_site (from.path ++ last_name path ∷ []) child) target same))
+        (sym (same_Some (stored_site (from.path ++ last_name path ∷ []) child) target same))
         ∙ child_of-parent rows from.node.id (last_name path) child found
 
 -- ---- so it can be placed

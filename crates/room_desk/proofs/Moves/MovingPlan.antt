@@ -10,7 +10,7 @@ use Rattle.room_rows.specs.Content.{Content, child_of, is_empty, root_of, with_r
 use Rattle.room_rows.specs.Meaning.{kept_node, meaning}
 use Rattle.room_rows.specs.Rows.{Rows, AreRows}
 use Rattle.room_rows.proofs.InPlace.{child_of-with_each, keeps_places}
-use Rattle.room_inherit.proofs.Members.{any_map}
+use Rattle.room_entry.proofs.Facts.Members.{any_map}
 use Rattle.room_judge.specs.declared.asker.Asker.{Asker}
 use Rattle.room_machine.specs.declared.reply.Reply.{Reply}
 use Rattle.room_machine.specs.declared.reply.Reason.TheVariants.{Exists, Loop, Root}
@@ -25,6 +25,7 @@ use Rattle.room_desk.proofs.Moves.OnePath.{met_by_names}
 use Rattle.room_desk.proofs.Steps.Serving.{along_there}
 use Rattle.room_desk.proofs.Sound.Sites.{fill, sites_filled}
 use Rattle.room_desk.proofs.Sound.SoundParts.{SoundParts}
+use Rattle.room_desk.proofs.Made.FolderPlans.{parent_filled}
 
 -- ---- items over stored sites
 
@@ -131,11 +132,6 @@ way_noted old records to is_below target from =
     (along_noted old.read records (front to))
 
 -- ---- the plan
-
-parent_filled : (sites : List Site) (names : List (List ℕ))
-    → parent_at (map fill sites) names ≡ option_map fill (parent_at sites names)
-parent_filled sites [] = refl
-parent_filled sites (name ∷ names) = site_filled sites (front (name ∷ names))
 
 found_filled : (o : Option Site) (items others : Site → List Item)
     → ((site : Site) → o ≡ Some site → items (fill site) ≡ map fill_item (others site))

@@ -40,6 +40,7 @@ use Rattle.room_desk.proofs.Steps.Serving.{none_both}
 use Rattle.room_desk.proofs.Sound.Sites.{fill}
 use Rattle.room_desk.proofs.Sound.SoundParts.{root_there, sound_parts}
 use Rattle.room_desk.proofs.Steps.Stepping.{changed_step, refused_step}
+use Rattle.room_judge.proofs.Spots.{last_of}
 
 -- ---- at the root, and where the way ends
 
@@ -316,11 +317,6 @@ some_last to rest name is = subst (λ (p : List (List ℕ)). 0 < length p) (sym 
     on : (l : List (List ℕ)) → 0 < length (l ++ name ∷ [])
     on [] = omega arith
     on (first ∷ others) = omega arith
-
-last_of : (names : List (List ℕ)) (name : List ℕ) → last_name (names ++ name ∷ []) ≡ name
-last_of [] name = refl
-last_of (first ∷ []) name = refl
-last_of (first ∷ next ∷ names) name = last_of (next ∷ names) name
 
 pub name_is : (to rest : List (List ℕ)) (name text : List ℕ) → to ≡ rest ++ name ∷ [] → text ≡ name
     → text ≡ last_name to

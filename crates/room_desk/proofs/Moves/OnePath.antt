@@ -6,6 +6,7 @@ use Rattle.std.specs.Option.{option_map_or}
 use Rattle.std.proofs.lemmas.Bool.{and_from, and_parts, eq-eqb, eqb-true, false≢true, and_right, or_cases, or_left, or_right}
 use Rattle.std.proofs.lemmas.List.{append-nil, drop_more, get_or_read}
 use Rattle.std.proofs.Math.Seq.{drop-length}
+use Rattle.std.proofs.lemmas.Option.{same_Some}
 use Rattle.room_entry.specs.Pieces.{same_text}
 use Rattle.room_entry.proofs.Alike.{text_itself}
 use Rattle.room_entry.proofs.Texts.{same_text-true}
@@ -16,18 +17,13 @@ use Rattle.room_rows.specs.Sound.{names_up}
 use Rattle.room_machine.specs.Site.{Site, site_at}
 use Rattle.room_machine.specs.Stored.{stored_site, stored_from, stored_along}
 use Rattle.room_desk.specs.Moving.{begins}
-use Rattle.room_desk.proofs.Placed.Climbing.{same_some}
+use Rattle.room_entry.proofs.Facts.Booleans.{same_truth}
 
 begins_more : (names rest : List (List ℕ)) → begins names (names ++ rest) ≡ true
 begins_more [] rest = refl
 begins_more (name ∷ names) rest =
     and_from (same_text name name) (begins names (names ++ rest)) (text_itself name)
     (begins_more names rest)
-
-same_truth : (a b : Bool) → (a ≡ true → b ≡ true) → (b ≡ true → a ≡ true) → a ≡ b
-same_truth true b there back = sym (there refl)
-same_truth false true there back = back refl
-same_truth false false there back = refl
 
 -- ---- comparing name by name
 
@@ -122,7 +118,7 @@ module _ (rows : Content) (rises : Rises rows) where
     same_path : (node : Node) (path : List (List ℕ)) → node_at rows node.id ≡ Some node
         → IsUp node path → (node.id == target.id) ≡ true → at ≡ path
     same_path node path found up_node is =
-        let same : target ≡ node = same_some target node
+        let same : target ≡ node = same_Some target node
         (sym there ∙ ap (node_at rows) (sym (eqb-true node.id target.id is)) ∙ found) in
         one_path node at path (subst (λ (n : Node). IsUp n at) same up) up_node
 
@@ -181,7 +177,7 @@ module _ (rows : Content) (rises : Rises rows) where
       → site_at (stored_from rows path node names) names ≡ Some site
       → IsUp site.node (path ++ names)
   up_from [] path node site found up is =
-      subst (λ (s : Site). IsUp s.node (path ++ [])) (same_some (stored_site path node) site is)
+      subst (λ (s : Site). IsUp s.node (path ++ [])) (same_Some (stored_site path node) site is)
       (subst (IsUp node) (sym (append-nil path)) up)
   up_from (name ∷ names) path node site found up is =
       on (child_of rows node.id name)
@@ -222,11 +218,11 @@ module _ (rows : Content) (rises : Rises rows) where
   begun_from [] [] path node site is begun =
       or_left (node.id == site.node.id) false
       (eq-eqb node.id site.node.id
-      (ap (λ (s : Site). s.node.id) (same_some (stored_site path node) site is)))
+      (ap (λ (s : Site). s.node.id) (same_Some (stored_site path node) site is)))
   begun_from [] (other ∷ others) path node site is begun =
       or_left (node.id == site.node.id) _
       (eq-eqb node.id site.node.id
-      (ap (λ (s : Site). s.node.id) (same_some (stored_site path node) site is)))
+      (ap (λ (s : Site). s.node.id) (same_Some (stored_site path node) site is)))
   begun_from (name ∷ names) [] path node site is begun = absurd (false≢true begun)
   begun_from (name ∷ names) (other ∷ others) path node site is begun =
       let parts = and_parts (same_text name other) (begins names others) begun in

@@ -21,7 +21,7 @@ use Rattle.room_rows.proofs.Lookups.{each_found}
 use Rattle.room_rows.proofs.SamePlace.{replaced, replaced_here, replaced_elsewhere}
 use Rattle.room_rows.specs.Law.{agrees_with, agrees}
 use Rattle.room_rows.specs.Sound.{AreSound, bad_root, first_bad_list, first_failing, has_bad_list, has_sound_lists, has_sound_name, has_sound_body, keeps_law, reaches, same_place}
-use Rattle.room_inherit.proofs.Members.{any_map}
+use Rattle.room_entry.proofs.Facts.Members.{any_map}
 use Rattle.room_desk.proofs.Sound.SoundParts.{sound_parts, parts_sound, find_same, map_same}
 
 -- the object, with these owners where it has the number

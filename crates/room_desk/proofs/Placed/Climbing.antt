@@ -8,9 +8,6 @@ use Rattle.room_rows.specs.Content.{Content, node_at, reaches_root, with_each}
 use Rattle.room_rows.proofs.Frames.{node_at-number}
 use Rattle.room_desk.specs.Moving.{goes_past}
 
-pub same_some : {X : Type 0} (x y : X) → Some x ≡ Some y → x ≡ y
-same_some x y e = cc
-
 -- an object of this number, and the rest of the way
 pub step_up : (p : Node → Bool) (o : Option Node) → option_map_or p o false ≡ true → (node : Node)
     × (o ≡ Some node) × (p node ≡ true)

@@ -5,6 +5,7 @@ use Rattle.std.specs.Prelude.{option_and_then}
 use Rattle.std.specs.List.{list_all}
 use Rattle.std.specs.Option.{option_map}
 use Rattle.std.proofs.lemmas.List.Folds.{list_all-map}
+use Rattle.std.proofs.lemmas.Option.{same_Some}
 use Rattle.room_entry.specs.Ace.{Ace}
 use Rattle.room_entry.specs.declared.flags.ListFlags.{ListFlags}
 use Rattle.room_entry.specs.declared.object.Which.{Which}
@@ -17,8 +18,8 @@ use Rattle.room_rows.specs.Keep.{with_place}
 use Rattle.room_rows.proofs.Frames.{Rises, node_at-number}
 use Rattle.room_inherit.proofs.Children.{Apart, apart_rising, each_there, each_found}
 use Rattle.room_inherit.proofs.Ends.{each_all}
-use Rattle.room_inherit.proofs.Members.{all_each}
-use Rattle.room_desk.proofs.Placed.Climbing.{node_at-changed, same_some}
+use Rattle.room_entry.proofs.Facts.Members.{all_each}
+use Rattle.room_desk.proofs.Placed.Climbing.{node_at-changed}
 
 -- ---- the change of one object
 
@@ -82,7 +83,7 @@ module _ (content : Content) (rises : Rises content) where
       each_found (λ m. test m ≡ true) n.id content.nodes n (each_all test content.nodes all) there
 
   pub one_there : (a b : Node) → There a → There b → a.id ≡ b.id → a ≡ b
-  one_there a b first second same = same_some a b (sym first ∙ ap (node_at content) same ∙ second)
+  one_there a b first second same = same_Some a b (sym first ∙ ap (node_at content) same ∙ second)
 
   pub there_again : (id : ℕ) (n : Node) → node_at content id ≡ Some n → There n
   there_again id n found = ap (node_at content) (node_at-number content id n found) ∙ found
@@ -109,7 +110,7 @@ module _ (content : Content) (rises : Rises content) where
         on : (o : Option Node) → ((n : Node) → o ≡ Some n → There n) → option_map change o ≡ Some m
             → (n : Node) × There n × (m ≡ change n)
         on None known is = absurd (let wrong : ⊥ = cc in wrong)
-        on (Some n) known is = (n, known n refl, sym (same_some (change n) m is))
+        on (Some n) known is = (n, known n refl, sym (same_Some (change n) m is))
 
     pub change_there : (n : Node) → There n → node_at after (change n).id ≡ Some (change n)
     change_there n there =

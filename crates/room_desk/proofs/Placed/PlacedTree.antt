@@ -1,28 +1,25 @@
 -- The tree of rows stays sound where an object gets another place.
 use Rattle.std.proofs.Common.{◌≡◌, ℕ, ◌==◌, Bool, true, false, cond, not, ◌&&◌, ◌||◌, List, [], ◌∷◌, map, filter, length, Option, Some, None, refl, sym, ap, ◌∙◌, inl, inr, arith}
 use Rattle.std.specs.Prelude.{is_none, nat_lt}
-use Rattle.std.specs.List.{find, list_all, list_any}
+use Rattle.std.specs.List.{find, list_all, list_any, AllByRecursion as Each}
 use Rattle.std.specs.Option.{option_map, option_map_or}
 use Rattle.std.proofs.lemmas.Bool.{cases_Bool, and_parts, and_from, and_left, and_right, or_left, or_right, false≢true, eqb-true, eq-eqb, ltb-true, false_from_ne_true}
 use Rattle.std.proofs.lemmas.List.Folds.{list_all-map}
 use Rattle.room_entry.specs.Ace.{Ace}
 use Rattle.room_entry.specs.Pieces.{is_among, same_text}
 use Rattle.room_entry.specs.Valid.{is_document}
-use Rattle.room_entry.specs.declared.object.Which.{Which}
-use Rattle.room_entry.specs.declared.object.Which.TheVariants.{Dacl, Sacl}
 use Rattle.room_entry.proofs.Alike.{text_itself}
 use Rattle.room_entry.proofs.Texts.{same_text-true}
 use Rattle.room_rows.specs.declared.node.Node.{Node}
 use Rattle.room_rows.specs.Content.{Content, node_at, parent_of, has_parent, is_root, is_folder, has_folder_above, same_parent, reaches_root, body_of, with_each}
-use Rattle.room_rows.specs.Held.{held_of}
 use Rattle.room_rows.specs.Keep.{reading}
 use Rattle.room_rows.specs.Paths.{is_object_name}
 use Rattle.room_rows.specs.Rows.{Rows, AreRows, numbers_of, put_numbers}
 use Rattle.room_inherit.specs.Laws.{HasNoFault}
-use Rattle.room_rows.specs.Sound.{fits_kind, has_bad_list, has_sound_body, has_sound_lists, has_sound_name, is_sound_held, reaches, same_place}
+use Rattle.room_rows.specs.Sound.{fits_kind, has_bad_list, has_sound_body, has_sound_lists, has_sound_name, reaches, same_place}
 use Rattle.room_inherit.proofs.Children.{each_found, each_there}
 use Rattle.room_inherit.proofs.Enough.{enough_steps}
-use Rattle.room_inherit.proofs.Members.{Each, any_map, any_none, each_fails}
+use Rattle.room_entry.proofs.Facts.Members.{any_map, any_none, each_fails}
 use Rattle.room_inherit.proofs.NoFault.{no_fault}
 use Rattle.room_desk.specs.Moving.{CanPlace}
 use Rattle.room_desk.proofs.Placed.Climbing.{past_reaches, reaches_again}
@@ -74,13 +71,6 @@ no_bad_list rows none all =
     on None known = refl
     on (Some n) known = ap (λ b. not (not b)) (known n refl)
 
-pub held_sound : (which : Which) (n : Node) → has_sound_lists n ≡ true
-    → is_sound_held which n.kind (held_of which n) ≡ true
-held_sound Dacl n both =
-    (and_parts (is_sound_held Dacl n.kind n.dacl) (is_sound_held Sacl n.kind n.sacl) both).0
-held_sound Sacl n both =
-    (and_parts (is_sound_held Dacl n.kind n.dacl) (is_sound_held Sacl n.kind n.sacl) both).1
-
 -- ---- the same roots
 
 pub roots_same : (change : Node → Node) (nodes : List Node)
@@ -97,10 +87,6 @@ roots_same change (x ∷ xs) each =
     on true same rest =
         ap (λ n. n ∷ filter is_root (map change xs)) (same refl) ∙ ap (λ l. x ∷ l) rest
     on false same rest = rest
-
-pub root_none : (parent : Option ℕ) → is_none parent ≡ true → parent ≡ None
-root_none None is = refl
-root_none (Some id) is = absurd (false≢true is)
 
 -- ---- names
 

@@ -2,7 +2,8 @@
 use Rattle.std.proofs.Common.{◌≡◌, ℕ, zero, suc, ◌==◌, Bool, true, false, cond, not, ◌||◌, List, Option, Some, None, refl, sym, ap, subst, ◌∙◌, inl, inr}
 use Rattle.std.specs.Prelude.{option_and_then}
 use Rattle.std.specs.Option.{option_map, option_map_or}
-use Rattle.std.proofs.lemmas.Bool.{cases_Bool, and_parts, or_left, or_right, false≢true, eqb-true, eqb-false, false_from_ne_true}
+use Rattle.std.proofs.lemmas.Bool.{cases_Bool, and_parts, or_left, or_right, false≢true, eqb-true, eqb-false, false_from_ne_true, not-false}
+use Rattle.std.proofs.lemmas.Option.{same_Some}
 use Rattle.room_entry.specs.Ace.{Ace}
 use Rattle.room_entry.specs.Same.{same_entries}
 use Rattle.room_entry.specs.declared.object.Which.{Which}
@@ -15,23 +16,18 @@ use Rattle.room_rows.specs.Held.{held_of, full_of, is_linked}
 use Rattle.room_rows.specs.Keep.{Changes, reading, with_inh}
 use Rattle.room_rows.specs.Rows.{Rows}
 use Rattle.room_rows.proofs.Frames.{node_at-number}
-use Rattle.room_rows.proofs.InPlace.{held_of-with_inh, place-with_inh, with_node-replaces}
+use Rattle.room_rows.proofs.InPlace.{held_of-with_inh, place-with_inh, with_node-replaces, with_inh-id}
 use Rattle.room_rows.proofs.SamePlace.{replaced, replaced_here, replaced_elsewhere}
 use Rattle.room_rows.specs.Law.{agrees, agrees_with, AllAgreeBut}
 use Rattle.room_rows.specs.Pass.{pass}
 use Rattle.room_inherit.specs.Spread.{IsLinkedBelow, IsSpread, is_changed, is_linked_within}
 use Rattle.room_inherit.proofs.Children.{each_there}
 use Rattle.room_inherit.proofs.Ends.{own_lists, with_own_lists}
-use Rattle.room_inherit.proofs.Kinship.{same_id, same_parent, same_kind, with_last}
-use Rattle.room_inherit.proofs.Members.{all_each}
+use Rattle.room_inherit.proofs.Kinship.{same_parent, same_kind, with_last}
+use Rattle.room_entry.proofs.Facts.Members.{all_each}
 use Rattle.room_inherit.proofs.Renewing.{map_agree, map_map}
 use Rattle.room_desk.specs.Moving.{CanRenew, HasRenewedLists}
-use Rattle.room_desk.proofs.Placed.Climbing.{same_some}
 use Rattle.room_desk.proofs.Placed.PlacedParts.{all_after, apart, change_there, linked_above, linked_flags, parent_after}
-
-unnot : (b : Bool) → not b ≡ false → b ≡ true
-unnot true is = refl
-unnot false is = sym is
 
 module _ (which : Which) (target folder : Node) (old : Rows)
     (can : CanRenew which target folder old) where
@@ -50,7 +46,7 @@ module _ (which : Which) (target folder : Node) (old : Rows)
 
   is_there : (n : Node) → IsThere n → (n.id == target.id) ≡ true → n ≡ can.there
   is_there n found is =
-      same_some n can.there
+      same_Some n can.there
       (sym found ∙ ap (node_at content) (eqb-true n.id target.id is) ∙ can.there_is)
 
   other : (n : Node) → (n.id == target.id) ≡ false → n.id ≡ target.id → ⊥
@@ -142,7 +138,7 @@ module _ (which : Which) (target folder : Node) (old : Rows)
         on false = refl
 
     change_id : (n : Node) → (change n).id ≡ n.id
-    change_id n = of_both (λ (m : Node). m.id) n (same_id which entries n)
+    change_id n = of_both (λ (m : Node). m.id) n (with_inh-id which entries n)
 
     change_parent : (n : Node) → (change n).parent ≡ n.parent
     change_parent n = of_both (λ (m : Node). m.parent) n (same_parent which entries n)
@@ -158,11 +154,11 @@ module _ (which : Which) (target folder : Node) (old : Rows)
     given n found = elim (cases_Bool (n.id == target.id)) [
       | inl is ↦
           replaced_here (with_inh which entries can.there) n
-          (ap (λ (m : Node). m.id) (is_there n found is) ∙ sym (same_id which entries can.there))
+          (ap (λ (m : Node). m.id) (is_there n found is) ∙ sym (with_inh-id which entries can.there))
           ∙ ap (with_inh which entries) (sym (is_there n found is)) ∙ sym (change_here n is)
       | inr isnt ↦
           replaced_elsewhere (with_inh which entries can.there) n
-          (λ e. other n isnt (e ∙ same_id which entries can.there ∙ there_id))
+          (λ e. other n isnt (e ∙ with_inh-id which entries can.there ∙ there_id))
           ∙ sym (change_other n isnt)
     ]
 
@@ -276,7 +272,7 @@ module _ (which : Which) (target folder : Node) (old : Rows)
         → is_linked_in after which m ≡ false → l m ≡ (held_of which m).inh
     unlinked_kept l below m found unlinked =
         entries_equal (l m) (held_of which m).inh
-        (unnot (same_entries (l m) (held_of which m).inh)
+        (not-false (same_entries (l m) (held_of which m).inh)
         (false_from_ne_true (is_changed which l m)
         (λ changed. let way = below m found changed in on way.0 way.1)))
       where

@@ -15,19 +15,20 @@ use Rattle.room_rows.specs.Content.{Content, node_at, is_root, is_linked_in}
 use Rattle.room_rows.specs.Held.{held_of, is_linked}
 use Rattle.room_rows.specs.Keep.{with_place}
 use Rattle.room_rows.specs.Rows.{Rows}
-use Rattle.room_rows.proofs.Frames.{node_at-number}
+use Rattle.room_rows.proofs.Frames.{node_at-number, no_parent}
 use Rattle.room_rows.specs.Law.{agrees, AllAgree}
 use Rattle.room_rows.specs.Sound.{AreSound, bad_root, has_sound_lists, is_sound_held, keeps_law, reaches}
 use Rattle.room_inherit.proofs.Children.{each_found, each_there}
 use Rattle.room_inherit.proofs.Ends.{each_all}
-use Rattle.room_inherit.proofs.Members.{all_each, each_weaker}
+use Rattle.room_entry.proofs.Facts.Members.{all_each, each_weaker}
 use Rattle.room_inherit.proofs.NoFault.{sound}
 use Rattle.room_inherit.proofs.Renewing.{each_both}
 use Rattle.room_desk.specs.Moving.{CanPlace}
 use Rattle.room_desk.proofs.Placed.PlacedParts.{apart, base, lists, placed_held}
-use Rattle.room_desk.proofs.Placed.PlacedTree.{after, bodies_after, change, faultless, held_sound, is_target, kind, lists_there, names_after, new, no_bad_list, number, parents_after, reach_after, root_none, roots_same, same_root}
+use Rattle.room_desk.proofs.Placed.PlacedTree.{after, bodies_after, change, faultless, is_target, kind, lists_there, names_after, new, no_bad_list, number, parents_after, reach_after, roots_same, same_root}
 use Rattle.room_desk.proofs.Sound.SoundParts.{none_unreadable, sound_parts}
 use Rattle.room_desk.proofs.Lists.ValidDown.{are_inherited, are_own, held_parts, valid_down}
+use Rattle.room_desk.proofs.Lists.Relisted.{one_list}
 
 module _ (old : Rows) (target folder : Node) (name : List ℕ) (can : CanPlace target folder name old)
     (d s : Node → List Ace)
@@ -69,7 +70,7 @@ module _ (old : Rows) (target folder : Node) (name : List ℕ) (can : CanPlace t
   held_was : (which : Which) (n : Node) → node_at before n.id ≡ Some n
       → is_sound_held which n.kind (held_of which n) ≡ true
   held_was which n there =
-      held_sound which n (lists_there old readable can.are
+      one_list which n (lists_there old readable can.are
       (faultless old target folder name can d s) n there)
 
   -- ---- lists
@@ -151,7 +152,7 @@ module _ (old : Rows) (target folder : Node) (name : List ℕ) (can : CanPlace t
       let isnt : (n.id == target.id) ≡ false = false_from_ne_true (n.id == target.id)
       (λ is. false≢true (sym (ap is_none can.has_parent)
       ∙ ap is_root (sym (is_target old target folder name can d s n there is)) ∙ root)) in
-      let none : (moved n).parent ≡ None = root_none (moved n).parent
+      let none : (moved n).parent ≡ None = no_parent (moved n).parent
       (same_root old target folder name can d s n there ∙ root) in
       let unlinked : (which : Which) → is_linked_in now which (moved n) ≡ false = λ which. ap
       (λ p. is_linked (held_of which (moved n))

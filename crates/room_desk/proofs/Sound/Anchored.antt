@@ -4,6 +4,7 @@ use Rattle.std.proofs.Common.{◌≡◌, ℕ, zero, suc, ◌==◌, Bool, true, f
 use Rattle.std.specs.Prelude.{IsTrue}
 use Rattle.std.specs.Option.{option_map, option_map_or}
 use Rattle.std.proofs.lemmas.Bool.{and_parts, cases_Bool, eqb-false, eqb-true, false≢true}
+use Rattle.std.proofs.lemmas.Option.{same_Some}
 use Rattle.room_entry.specs.declared.object.Which.{Which}
 use Rattle.room_rows.specs.declared.node.Node.{Node}
 use Rattle.room_rows.specs.Content.{Content, is_rising, node_at, reaches_root, with_each, with_node}
@@ -16,7 +17,7 @@ use Rattle.room_inherit.specs.Spread.{IsSpread}
 use Rattle.room_inherit.proofs.Rooted.{rooted_no_loop}
 use Rattle.room_desk.specs.Carrying.{HasLoop, IsRooted}
 use Rattle.room_desk.specs.Moving.{KeepsRoot, goes_past}
-use Rattle.room_desk.proofs.Placed.Climbing.{node_at-changed, reaches-changed, same_some, step_up}
+use Rattle.room_desk.proofs.Placed.Climbing.{node_at-changed, reaches-changed, step_up}
 
 numbers_same : (change : Node → Node) → ((n : Node) → (change n).id ≡ n.id) → (nodes : List Node)
     → map (λ (n : Node). n.id) (map change nodes) ≡ map (λ (n : Node). n.id) nodes
@@ -93,7 +94,7 @@ module _ (content : Content) (rises : Rises content) (node new : Node)
         → (replaced new n).parent ≡ n.parent
     parent_kept id n found = elim (cases_Bool (id == node.id)) [
       | inl is ↦
-          let same : n ≡ node = same_some n node
+          let same : n ≡ node = same_Some n node
           (sym found ∙ ap (node_at content) (eqb-true id node.id is) ∙ there) in
           ap (λ (m : Node). (replaced new m).parent) same
           ∙ ap (λ (m : Node). m.parent) (replaced_here new node (sym number)) ∙ parent_same

@@ -2,6 +2,7 @@
 use Rattle.std.proofs.Common.{◌≡◌, ℕ, suc, true, false, List, [], ◌∷◌, ◌++◌, length, Option, Some, None, refl, sym, ap, subst, ◌∙◌, arith, inl, inr}
 use Rattle.std.specs.Prelude.{◌-◌, option_and_then, slice_get}
 use Rattle.std.specs.Option.{option_map_or}
+use Rattle.std.proofs.lemmas.Option.{same_Some}
 use Rattle.room_rows.specs.declared.node.Node.{Node}
 use Rattle.room_rows.specs.declared.node.Walk.{Walk}
 use Rattle.room_rows.specs.Content.{Content, child_of, node_at, parent_of, reaches_root, root_of}
@@ -12,7 +13,6 @@ use Rattle.room_rows.proofs.Frames.{Rises, child_of-is_there, child_of-parent, r
 use Rattle.room_machine.specs.Site.{Site, site_at}
 use Rattle.room_machine.specs.Stored.{stored_along, stored_from, stored_site}
 use Rattle.room_desk.specs.Carrying.{IsRooted}
-use Rattle.room_desk.proofs.Placed.Climbing.{same_some}
 use Rattle.room_desk.proofs.Lists.ResetWay.{same_front, same_last}
 
 -- the last of the objects, or else the one before them
@@ -55,7 +55,7 @@ module _ (rows : Content) (rises : Rises rows) where
   up_from : (names path : List (List ℕ)) (node : Node) (site : Site) → IsUp node
       → site_at (stored_from rows path node names) names ≡ Some site → IsUp site.node
   up_from [] path node site up is =
-      subst (λ (s : Site). IsUp s.node) (same_some (stored_site path node) site is) up
+      subst (λ (s : Site). IsUp s.node) (same_Some (stored_site path node) site is) up
   up_from (name ∷ names) path node site up is =
       on (child_of rows node.id name)
       (λ child known. up_from names (path ++ name ∷ []) child site

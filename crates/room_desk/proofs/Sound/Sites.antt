@@ -22,7 +22,9 @@ use Rattle.room_rows.specs.Law.{agrees_with, agrees}
 use Rattle.room_rows.specs.Sound.{keeps_law}
 use Rattle.room_machine.specs.Site.{Site, full_at, root_site, site_below, sites_below, sites_of, sites_along}
 use Rattle.room_machine.specs.Stored.{stored_site, stored_from, stored_along}
-use Rattle.room_desk.proofs.Sound.SoundParts.{SoundParts, or_true, passes_test}
+use Rattle.room_desk.proofs.Sound.SoundParts.{SoundParts, passes_test}
+use Rattle.room_inherit.proofs.Stored.{linked_kept}
+use Rattle.room_entry.proofs.Facts.Booleans.{implied}
 
 -- the object with the inherited entries of its lists
 abbrev pub fill : Site → Site
@@ -58,13 +60,6 @@ chain_of content node (name ∷ names) =
     on (Some child) rest = ap (λ chain. node ∷ chain) (rest child)
 
 -- ---- kept and stored entries
-
-linked_kept : (b c : Bool) (held above : Held)
-    → is_linked (kept_held b held) (Some (kept_held c above)) ≡ is_linked held (Some above)
-linked_kept true true held above = refl
-linked_kept true false held above = refl
-linked_kept false true held above = refl
-linked_kept false false held above = refl
 
 -- what an object inherits is what it stores
 inherits_stored : (b c : Bool) (held above : Held) (passed : List Ace)
@@ -119,7 +114,7 @@ module _ (rows : Rows) (are : AreRows rows) (parts : SoundParts rows) where
         → (held_of which child).inh ≡ pass child.kind (full_of (held_of which node))
     stored_as_passed which agree linked =
         entries_equal (held_of which child).inh (pass child.kind (full_of (held_of which node)))
-        (or_true (is_linked (held_of which child) (Some (held_of which node))) _
+        (implied (is_linked (held_of which child) (Some (held_of which node))) _
         (agrees_here which agree) linked)
 
     linked_here : (which : Which)

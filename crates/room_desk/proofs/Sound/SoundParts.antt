@@ -1,20 +1,21 @@
 -- Sound rows, test by test.
-use Rattle.std.proofs.Common.{◌≡◌, ℕ, zero, suc, ◌==◌, ◌||◌, Bool, true, false, cond, not, List, [], ◌∷◌, map, filter, length, Option, Some, None, nat_lt, refl, sym, ap, ◌∙◌, inl, inr}
+use Rattle.std.proofs.Common.{◌≡◌, ℕ, zero, suc, Bool, true, false, cond, not, List, [], ◌∷◌, map, filter, length, Option, Some, None, nat_lt, refl, sym, ap, ◌∙◌, inl, inr}
 use Rattle.std.specs.Prelude.{is_none}
-use Rattle.std.specs.List.{AllByRecursion, find, list_any}
+use Rattle.std.specs.List.{AllByRecursion, find}
 use Rattle.std.specs.Option.{option_map, option_map_or}
-use Rattle.std.proofs.lemmas.Bool.{cases_Bool, false≢true, eqb-true, eq-eqb, or_left, or_right}
+use Rattle.std.proofs.lemmas.Bool.{false≢true, eq-eqb, or_left, or_right}
 use Rattle.room_entry.specs.Pieces.{is_among}
 use Rattle.room_rows.specs.declared.node.AuditRow.{AuditRow}
 use Rattle.room_rows.specs.declared.node.Node.{Node}
 use Rattle.room_rows.specs.Content.{Content, node_at, is_root, has_folder_above, reaches_root, with_records}
 use Rattle.room_rows.specs.Keep.{HasNoRoot, IsUnreadable}
-use Rattle.room_rows.specs.Rows.{Rows, is_unreadable, numbers_of, put_number, put_numbers}
+use Rattle.room_rows.specs.Rows.{Rows, put_number}
 use Rattle.room_rows.specs.declared.report.Report.{Report}
 use Rattle.room_rows.specs.declared.report.Report.TheVariants.{Sound, Fault}
 use Rattle.room_rows.specs.declared.report.Unsound.TheVariants.{BadList, BadRoot, BadParent, Loop, BadName, BadBody, BrokenLaw}
-use Rattle.room_rows.specs.Sound.{AreSound, or_else, or_sound, numbered, true_path, fault_of, first_bad_list, has_bad_list, bad_root, first_failing, reaches, has_sound_name, has_sound_body, keeps_law}
+use Rattle.room_rows.specs.Sound.{AreSound, or_else, or_sound, numbered, true_path, fault_of, first_bad_list, bad_root, first_failing, reaches, has_sound_name, has_sound_body, keeps_law}
 use Rattle.room_judge.specs.Judged.{NotSound, noted}
+use Rattle.room_inherit.proofs.Whole.{all_read}
 
 -- No test finds a fault.
 pub record SoundParts (rows : Rows) : Type 0 where
@@ -158,10 +159,6 @@ module _ (rows : Rows) where
 
 -- ---- of use in what follows
 
-pub or_true : (t u : Bool) → (not t || u) ≡ true → t ≡ true → u ≡ true
-or_true true u either is = either
-or_true false u either is = absurd (false≢true is)
-
 pub map_same : (f g : Node → Node) (P : Node → Type 0) → ((n : Node) → P n → f n ≡ g n)
     → (nodes : List Node) → AllByRecursion P nodes → map f nodes ≡ map g nodes
 map_same f g P same [] each = refl
@@ -241,26 +238,6 @@ root_there (x ∷ xs) is = on (is_none x.parent) (root_there xs) is
 
 -- ---- each row can be read
 
-any_at : (test : ℕ → Bool) (ids : List ℕ) (id : ℕ) → is_among ids id ≡ true → test id ≡ true
-    → list_any test ids ≡ true
-any_at test [] id among passes = among
-any_at test (x ∷ xs) id among passes =
-    elim (cases_Bool (x == id)) [
-      | inl same ↦ or_left _ _ (ap test (eqb-true x id same) ∙ passes)
-      | inr other ↦
-          or_right _ _
-          (any_at test xs id (ap (λ t. t || is_among xs id) (sym other) ∙ among) passes)
-    ]
-
-none_found : (test : ℕ → Bool) (ids : List ℕ) → find test ids ≡ None → list_any test ids ≡ false
-none_found test [] none = refl
-none_found test (x ∷ xs) none = on (test x) (none_found test xs) none
-  where
-    on : (t : Bool) → (find test xs ≡ None → list_any test xs ≡ false)
-        → cond t (Some x) (find test xs) ≡ None → (t || list_any test xs) ≡ false
-    on true rest none = absurd (let wrong : ⊥ = cc in wrong)
-    on false rest none = rest none
-
 listed : (new : ℕ) (ids : List ℕ) → is_among (put_number new ids) new ≡ true
 listed new [] = or_left _ _ (eq-eqb new new refl)
 listed new (x ∷ xs) = on (nat_lt x new) (listed new xs)
@@ -269,20 +246,6 @@ listed new (x ∷ xs) = on (nat_lt x new) (listed new xs)
         → is_among (cond t (x ∷ put_number new xs) (new ∷ x ∷ xs)) new ≡ true
     on true rest = or_right _ _ rest
     on false rest = or_left _ _ (eq-eqb new new refl)
-
-all_read : (rows : Rows) (unreadable : List ℕ) → rows.unreadable ≡ unreadable
-    → first_bad_list rows ≡ None → unreadable ≡ []
-all_read rows [] are none = refl
-all_read rows (x ∷ xs) are none =
-    let itself : is_among rows.unreadable x ≡ true = ap (λ l. is_among l x) are
-    ∙ or_left _ _ (eq-eqb x x refl) in
-    let used : is_among (numbers_of rows) x ≡ true = ap
-    (λ l. is_among (put_numbers l (map (λ (node : Node). node.id) rows.read.nodes)) x) are
-    ∙ listed x (put_numbers xs (map (λ (node : Node). node.id) rows.read.nodes)) in
-    let bad : has_bad_list rows x ≡ true = or_left (is_unreadable rows x) _ itself in
-    absurd
-    (false≢true (sym (none_found (has_bad_list rows) (numbers_of rows) none)
-    ∙ any_at (has_bad_list rows) (numbers_of rows) x used bad))
 
 pub none_unreadable : (rows : Rows) → SoundParts rows → rows.unreadable ≡ []
 none_unreadable rows parts = all_read rows rows.unreadable refl parts.lists

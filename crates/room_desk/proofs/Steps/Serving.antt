@@ -17,8 +17,6 @@ use Rattle.room_rows.specs.Rows.{Rows, AreRows}
 use Rattle.room_rows.proofs.Frames.{Rises, root_of-is_there, child_of-is_there}
 use Rattle.room_rows.proofs.InPlace.{keeps_places, children_of-with_each}
 use Rattle.room_rows.specs.Sound.{AreSound}
-use Rattle.room_rows.specs.declared.node.AuditRow.{AuditRow}
-use Rattle.room_rows.specs.Content.{with_records}
 use Rattle.room_judge.specs.declared.arrival.Arrival.{Arrival}
 use Rattle.room_judge.specs.declared.arrival.Arrival.TheVariants.{At, Ended}
 use Rattle.room_judge.specs.declared.asker.Asker.{Asker}

@@ -1,7 +1,8 @@
 use Rattle.std.proofs.Common.{Err, refl}
 use Rattle.room_store.specs.declared.fault.StoreFault.TheVariants.{Memory}
-use Rattle.cli_act.proofs.Unrun.{still, unrun}
+use Rattle.cli_act.proofs.Unrun.{unrun}
 use Rattle.cli_act.proofs.opened.replace.Goals as goal
+use Rattle.room_store.proofs.Leading.{itself}
 
 pub returns-in-Err : goal.returns-in-Err
-returns-in-Err g c = record { result = Err Memory; ran = unrun _ _ _; leads = still _; told = refl }
+returns-in-Err g c = record { result = Err Memory; ran = unrun _ _ _; leads = itself _; told = refl }

@@ -1,5 +1,5 @@
-use Rattle.cli_outcome.proofs.KnownBytes.{Appends-none}
 use Rattle.cli_act.proofs.telling.tell.Goals as goal
+use Rattle.room_entry.proofs.Facts.KnownBytes.{Appends-none}
 
 pub returns-in-Failed : goal.returns-in-Failed
 returns-in-Failed g c =

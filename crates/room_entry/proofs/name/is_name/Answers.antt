@@ -9,7 +9,7 @@ returns-in-None c = c.is_local_part.ensures ∙ sym (name_alone _ c.in-None.ensu
 pub returns-then-is_local_part : goal.returns-then-is_local_part
 returns-then-is_local_part c =
     let whole =
-    name_with_domain c.args.bytes.now c.in-Some.local.now c.in-Some.rest.now c.in-Some.ensures
+    name_with_domain c.args.bytes.now c.in-Some.local.now c.in-Some.rest.now c.in-Some.ensures.0
     c.in-None-cut.ensures in
     c.is_domain_part.ensures
     ∙ sym (whole ∙ ap (λ b. b && is_part is_domain_byte c.in-Some.rest.now)
@@ -18,7 +18,7 @@ returns-then-is_local_part c =
 pub returns-else-is_local_part : goal.returns-else-is_local_part
 returns-else-is_local_part c =
     let whole =
-    name_with_domain c.args.bytes.now c.in-Some.local.now c.in-Some.rest.now c.in-Some.ensures
+    name_with_domain c.args.bytes.now c.in-Some.local.now c.in-Some.rest.now c.in-Some.ensures.0
     c.in-None-cut.ensures in
     c.if-is_local_part.false
     ∙ sym (whole ∙ ap (λ b. b && is_part is_domain_byte c.in-Some.rest.now)
@@ -27,4 +27,4 @@ returns-else-is_local_part c =
 pub returns-in-Some-cut : goal.returns-in-Some-cut
 returns-in-Some-cut c =
     sym (no_name c.args.bytes.now c.in-Some.local.now c.in-Some.rest.now _
-    c.in-Some-cut.field-0.1.now c.in-Some.ensures c.in-Some-cut.ensures)
+    c.in-Some-cut.field-0.1.now c.in-Some.ensures.0 c.in-Some-cut.ensures.0)

@@ -12,6 +12,8 @@ returns-in-Some c =
     let bytes = c.args.bytes.now in
     let i = c.in-Some.place in
     let n = length-drop (i + 1) bytes in
-    (cut_at c.args.separator.now bytes i c.in-Some.ensures).1
-    ∙ ap (λ (rest : List ℕ). take i bytes ∷ pieces c.args.separator.now rest)
-    (sym (take_all (length bytes - (i + 1)) (drop (i + 1) bytes) (omega arith)))
+    let cut = cut_at c.args.separator.now bytes i c.in-Some.ensures in
+    let rest = take_all (length bytes - (i + 1)) (drop (i + 1) bytes) (omega arith) in (
+      cut.1 ∙ ap (λ (behind : List ℕ). take i bytes ∷ pieces c.args.separator.now behind) (sym rest),
+      omega (arith, cut.0, ap length rest, n),
+    )

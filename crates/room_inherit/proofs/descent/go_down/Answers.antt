@@ -7,7 +7,7 @@ use Rattle.room_inherit.specs.Turn.{Visits}
 use Rattle.room_inherit.specs.declared.outcome.Spread.{Spread}
 use Rattle.room_inherit.specs.declared.outcome.SpreadFault.{SpreadFault}
 use Rattle.room_inherit.specs.declared.outcome.SpreadFault.TheVariants.{Keeper}
-use Rattle.room_inherit.proofs.Members.{no_length}
+use Rattle.room_entry.proofs.Facts.Members.{no_length}
 use Rattle.room_inherit.proofs.Calls.{handed_on}
 use Rattle.room_inherit.proofs.Turns.{Carried, first_turn_fails}
 use Rattle.room_inherit.proofs.Bounded.{soon_fails, soon_done, ids_fail, later_fails, later_done, never_too_many}

@@ -5,7 +5,7 @@ use Rattle.room_rows.specs.Counts.{capped_below}
 use Rattle.room_rows.specs.Keep.{capped}
 use Rattle.room_inherit.specs.Turns.{AreTurns, TakesTurns}
 use Rattle.room_inherit.specs.declared.outcome.SpreadFault.{SpreadFault}
-use Rattle.room_inherit.proofs.Members.{no_length}
+use Rattle.room_entry.proofs.Facts.Members.{no_length}
 use Rattle.room_inherit.proofs.Calls.{capped_add, handed_on}
 use Rattle.room_inherit.proofs.descent.take_turns.Goals as goal
 

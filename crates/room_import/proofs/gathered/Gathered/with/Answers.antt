@@ -1,5 +1,6 @@
 use Rattle.std.proofs.Common.{Global, String, sym, ◌∙◌}
-use Rattle.room_import.proofs.SeenFacts.{key_named, seen_more, seen_same, unfalse, untrue, with_new, with_old}
+use Rattle.std.proofs.lemmas.Bool.{not-false, not-true}
+use Rattle.room_import.proofs.SeenFacts.{key_named, seen_more, seen_same, with_new, with_old}
 use Rattle.room_import.proofs.gathered.Gathered.with.Goals as goal
 use Rattle.room_import.proofs.gathered.Gathered.with.Goals.{then-branch+in_ok-push, else-branch}
 
@@ -34,7 +35,7 @@ returns c =
       | then-branch+in_ok-push w ↦
           let isnt = rw bytes at
           (sym (c.self.invariant key)
-          ∙ untrue _ (sym c.in_ok-insert.ensures.added ∙ w.if-branch.true)) in
+          ∙ not-true _ (sym c.in_ok-insert.ensures.added ∙ w.if-branch.true)) in
           let more = with_new c.self.inside.pairs (c.args.group, c.args.user) isnt in
           let pushed = w.in_ok-push.ensures.ok in
           let pairs = w.pairs-is in
@@ -43,7 +44,7 @@ returns c =
       | else-branch w ↦
           let is = rw bytes at
           (sym (c.self.invariant key)
-          ∙ unfalse _ (sym c.in_ok-insert.ensures.added ∙ w.if-branch.false)) in
+          ∙ not-false _ (sym c.in_ok-insert.ensures.added ∙ w.if-branch.false)) in
           let same = with_old c.self.inside.pairs (c.args.group, c.args.user) is in
           let pairs = w.pairs-is in
           let view = c.self.view_is in

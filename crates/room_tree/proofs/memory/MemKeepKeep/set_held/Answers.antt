@@ -1,8 +1,9 @@
 use Rattle.std.proofs.Common.{◌≡◌, ◌∙◌, Some, sym, ap, refl, arith}
 use Rattle.room_rows.specs.Finding.{find_id}
 use Rattle.room_rows.specs.Held.{with_held}
-use Rattle.room_tree.proofs.Changed.{stands_held, held_id, keeps_rows, changes}
+use Rattle.room_tree.proofs.Changed.{stands_held, keeps_rows, changes}
 use Rattle.room_tree.proofs.memory.MemKeepKeep.set_held.Goals as goal
+use Rattle.room_rows.proofs.InPlace.{with_held-id}
 
 pub replace-requires : goal.replace-requires
 replace-requires c =
@@ -21,7 +22,7 @@ returns-clause-written c =
         omega arith,
         keeps_rows k.nodes c.replace.new.self k.bodies k.members k.notes c.args.id c.in-Some.node
             c.in_ok-held_changed.field-0 found
-            (ap (λ n. n.id) is ∙ held_id c.args.which c.args.held.now c.in-Some.node)
+            (ap (λ n. n.id) is ∙ with_held-id c.args.which c.args.held.now c.in-Some.node)
             c.replace.ensures,
       );
       written = c.count_one.ensures.capped;
