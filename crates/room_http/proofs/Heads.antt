@@ -19,7 +19,7 @@ use Rattle.room_http.specs.Message.{IsHead, BeginsWith, HasTooMany}
 use Rattle.room_http.specs.declared.cut.HeadScan.{HeadScan}
 use Rattle.room_http.specs.declared.refusal.Refusal.{Refusal}
 use Rattle.httparse.specs.Grammar.{HasNoRequest, NeverHasRequest, MayBecomeRequest}
-use Rattle.room_http.specs.Spans.{AreSpansOf, Scans, ScansWindow}
+use Rattle.room_http.specs.Spans.{AreSpansOf, MayGoOn, Scans, ScansWindow}
 
 -- a slice of the front is a slice of the whole
 pub slice_range-append : (p q : List ℕ) (a b : ℕ) → a ≤ b → b ≤ length p
@@ -136,9 +136,10 @@ scans-from-window buf w spans (HeadScan.Whole r) window at =
     (at.0, begins-from-window buf w at.0 r.len window at.1 at.3.len at.2, at.3)
 scans-from-window buf w spans HeadScan.Part window at =
     let len : length w ≡ min max_head (length buf) = ap length window ∙ length-take max_head buf in
-    let below : length buf < max_head = short-window max_head (length w) (length buf) len at.0 in
+    let below : length buf < max_head =
+    short-window max_head (length w) (length buf) len at.0 in
     let same : w ≡ buf = window ∙ take_all max_head buf (omega (arith, below)) in
-    (below, subst HasNoRequest same at.1, subst MayBecomeRequest same at.2)
+    subst MayGoOn same at
 scans-from-window buf w spans (HeadScan.Refused Refusal.BadHead) window at =
     subst NeverHasRequest window at
 scans-from-window buf w spans (HeadScan.Refused Refusal.TooManyFields) window at =

@@ -1,4 +1,5 @@
 pub mod Digits
+pub mod FieldLines
 pub mod FixedTexts
 pub mod Following
 pub mod Heads

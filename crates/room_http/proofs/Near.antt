@@ -3,15 +3,15 @@ use Rattle.std.proofs.Common.{◌≡◌, ℕ, ◌+◌, ◌<◌, ◌≤◌, ◌�
 use Rattle.std.proofs.lemmas.Bool.{cases_lt}
 use Rattle.std.proofs.lemmas.List.{append-nil, length-append, length-drop, take-append-le, take-append-drop}
 use Rattle.std.proofs.Math.Seq.{take-append_seam}
-use Rattle.httparse.specs.Grammar.{RequestHead, print_request, HasNoRequest, MayBecomeRequest}
+use Rattle.httparse.specs.Grammar.{RequestHead, print_request, HasNoRequest}
 use Rattle.httparse.specs.declared.spans.RequestSpans.{RequestSpans}
 use Rattle.httparse.specs.declared.spans.HeaderSpan.{HeaderSpan}
 use Rattle.room_http.specs.declared.ended.Cause.{Cause}
 use Rattle.room_http.specs.declared.next.NextMessage.{NextMessage}
 use Rattle.room_http.specs.Limits.{max_head, read_size}
 use Rattle.room_http.specs.Message.{print_message, BeginsWith, IsPart}
-use Rattle.room_http.specs.Serve.{IsNear}
-use Rattle.room_http.specs.Spans.{Came, Loses, SpansHead, StopsBody, StopsReading}
+use Rattle.room_http.specs.Serve.{IsNear, IsNearHead}
+use Rattle.room_http.specs.Spans.{Came, Loses, MayGoOn, SpansHead, StopsBody, StopsReading}
 use Rattle.room_http.specs.Turn.{WholeNext}
 use Rattle.room_http.proofs.KnownBytes.{Came-then}
 
@@ -77,11 +77,16 @@ near-rest buf after n e near =
 
 -- ---- where a read brings nothing
 
-pub none-or-part : (buf : List ℕ) → length buf < max_head → HasNoRequest buf → MayBecomeRequest buf
-    → (buf ≡ []) ⊎ IsPart buf
-none-or-part [] short none may = inl refl
-none-or-part (b ∷ rest) short none may =
-    inr (inl (record { some = omega arith; short = short; none = none; may = may }))
+pub none-or-part : (buf : List ℕ) → MayGoOn buf → (buf ≡ []) ⊎ IsPart buf
+none-or-part [] part = inl refl
+none-or-part (b ∷ rest) part =
+    inr (inl (record {
+      some = omega arith;
+      short = part.0;
+      none = part.1;
+      may = part.2;
+      few = part.3;
+    }))
 
 came-nothing : (u v w : Option (List ℕ)) (a b : List ℕ) → Came u v a b → Loses v w Cause.Read
     → Came u w a b

@@ -137,12 +137,13 @@ HeadIsRefused bytes refusal =
 abbrev pub IsRefusedHead : List ℕ → Refusal → Type 0
 IsRefusedHead bytes refusal = HasNoHead bytes refusal ⊎ HeadIsRefused bytes refusal
 
--- a head that has begun and may go on
+-- a head that has begun and may go on, and hasn't ended more fields than the limit
 pub record IsPartOfHead (bytes : List ℕ) : Type 0 where
   pub some : 0 < length bytes
   pub short : length bytes < max_head
   pub none : HasNoRequest bytes
   pub may : MayBecomeRequest bytes
+  pub few : ¬ (RequestExceeds max_fields bytes)
 
 -- a whole head, and less than its body
 abbrev pub IsPartOfBody : List ℕ → Type 0

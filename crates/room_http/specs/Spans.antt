@@ -7,12 +7,13 @@ use Rattle.httparse.specs.declared.spans.RequestSpans.{RequestSpans}
 use Rattle.httparse.specs.Grammar.{RequestHead, print_request, HasNoRequest, NeverHasRequest}
 use Rattle.httparse.specs.Grammar.{MayBecomeRequest}
 use Rattle.httparse.specs.Spans.{span_bytes, header_bytes, IsWithin, IsHeaderWithin, AreFieldsAt}
+use Rattle.httparse.specs.Spans.{RequestExceeds}
 use Rattle.http_message.specs.declared.head.Head.{Head}
 use Rattle.room_http.specs.declared.cut.HeadScan.{HeadScan}
 use Rattle.room_http.specs.declared.cut.HeadRead.{HeadRead}
 use Rattle.room_http.specs.declared.refusal.Refusal.{Refusal}
 use Rattle.room_http.specs.declared.ended.Cause.{Cause}
-use Rattle.room_http.specs.Limits.{max_head, read_size}
+use Rattle.room_http.specs.Limits.{max_head, max_fields, read_size}
 use Rattle.room_http.specs.Message.{field_of, IsHead, BeginsWith, HasNoHead, HasTooMany}
 use Rattle.room_http.specs.Serve.{BlamesBefore, IsNearHead}
 
@@ -42,18 +43,23 @@ abbrev pub SpansHead : List ℕ → List HeaderSpan → RequestSpans → Type 0
 SpansHead buf spans r =
     (h : RequestHead) × BeginsWith buf h (drop r.len buf) × AreSpansOf spans r h
 
+-- no head is there yet, and nothing refuses one that the bytes begin
+abbrev pub MayGoOn : List ℕ → Type 0
+MayGoOn buf =
+    (length buf < max_head) × HasNoRequest buf × MayBecomeRequest buf
+    × (¬ (RequestExceeds max_fields buf))
+
 -- what the search for a head found
 abbrev pub Scans : List ℕ → List HeaderSpan → HeadScan → Type 0
 Scans buf spans (HeadScan.Whole r) = SpansHead buf spans r
-Scans buf spans HeadScan.Part =
-    (length buf < max_head) × HasNoRequest buf × MayBecomeRequest buf
+Scans buf spans HeadScan.Part = MayGoOn buf
 Scans buf spans (HeadScan.Refused refusal) = HasNoHead buf refusal
 
 -- what it found in the bytes where a head may stand
 abbrev pub ScansWindow : List ℕ → List HeaderSpan → HeadScan → Type 0
 ScansWindow w spans (HeadScan.Whole r) =
     (h : RequestHead) × IsHead h × (w ≡ print_request h ++ drop r.len w) × AreSpansOf spans r h
-ScansWindow w spans HeadScan.Part = (length w < max_head) × HasNoRequest w × MayBecomeRequest w
+ScansWindow w spans HeadScan.Part = MayGoOn w
 ScansWindow w spans (HeadScan.Refused Refusal.BadHead) = NeverHasRequest w
 ScansWindow w spans (HeadScan.Refused Refusal.TooManyFields) =
     HasTooMany w ⊎ ((max_head ≤ length w) × HasNoRequest w × MayBecomeRequest w)
@@ -94,6 +100,5 @@ HeadNear buf (HeadRead.NotHead refusal) = IsNearHead buf
 -- what was found when the reading of a head ended
 abbrev pub HeadCame : List ℕ → List HeaderSpan → Option (List ℕ) → HeadRead → Type 0
 HeadCame buf spans left (HeadRead.Found r) = SpansHead buf spans r
-HeadCame buf spans left HeadRead.Ended =
-    IsAtEnd left × (length buf < max_head) × HasNoRequest buf × MayBecomeRequest buf
+HeadCame buf spans left HeadRead.Ended = IsAtEnd left × MayGoOn buf
 HeadCame buf spans left (HeadRead.NotHead refusal) = HasNoHead buf refusal

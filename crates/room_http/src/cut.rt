@@ -1,7 +1,12 @@
 //! The bytes of a reader, read until a head or a body is whole.
 ghost use Rattle.std.specs.Prelude.{◌≡◌, ◌+◌, ◌<◌, ◌≤◌, length, drop, true, false, Ok, IfErr};
-ghost use Rattle.std.specs.Prelude.{IfOk, OnOk, OnErr, max};
+ghost use Rattle.std.specs.Prelude.{IfOk, OnOk, OnErr, max, not, ◌==◌};
+ghost use Rattle.std.specs.List.{filter, position};
 ghost use Rattle.std.specs.Io.KnownBytes.{IsAtEnd};
+ghost use Rattle.httparse.specs.Ascii.{line_feed};
+ghost use Rattle.httparse.specs.Grammar.{HasNoRequest, MayBecomeRequest};
+ghost use Rattle.httparse.specs.Pieces.{is_newline};
+ghost use Rattle.httparse.specs.Spans.{RequestExceeds};
 ghost use Rattle.room_http.specs.Limits.{chunk_size, max_fields, max_head, read_size};
 ghost use Rattle.room_http.specs.Spans.{Came, HeadCame, HeadNear, Loses, Scans, ScansWindow};
 ghost use Rattle.room_http.specs.Spans.{StopsBody, StopsReading};
@@ -17,6 +22,8 @@ const READ_SIZE: usize = 16_384;
 pub(crate) const CHUNK_SIZE: usize = 65_536;
 
 const MAX_HEAD: usize = 16_384;
+
+const MAX_FIELDS: usize = 64;
 
 // Reads at most `room` bytes through the chunk, and appends them. Zero bytes come only at the end
 // of the input.
@@ -58,6 +65,39 @@ pub(crate) fn drop_front(buf: &mut Vec<u8>, count: usize)
     buf.truncate(rest);
 }
 
+fn is_newline(byte: u8) -> bool
+    ensures { result ≡ is_newline byte }
+{
+    byte == b'\r' || byte == b'\n'
+}
+
+// Where a head begins, after the empty lines in front of it.
+fn head_start(bytes: &[u8]) -> Option<usize>
+    ensures { result ≡ position (λ byte. not (is_newline byte)) bytes.now }
+{
+    bytes.iter().position(|byte| !is_newline(*byte))
+}
+
+// How many lines end in the bytes.
+fn ended_lines(bytes: &[u8]) -> usize
+    ensures { result ≡ length (filter (λ byte. byte == line_feed) bytes.now) }
+{
+    bytes.iter().filter(|byte| **byte == b'\n').count()
+}
+
+// Whether bytes that may become a head have more whole fields than the limit: the parser stops at
+// the first of them, but its contract doesn't say so.
+fn has_too_many(window: &[u8]) -> bool
+    ensures few { result ≡ false → ¬ (RequestExceeds max_fields window.now) }
+    ensures many { result ≡ true → HasNoRequest window.now → MayBecomeRequest window.now
+        → RequestExceeds max_fields window.now }
+{
+    match head_start(window) {
+        Some(start) => ended_lines(&window[start..]) > MAX_FIELDS + 1,
+        None => false,
+    }
+}
+
 // What the front of the bytes is: a whole head, a part of one, or no head.
 #[derive(Clone, Copy)]
 enum HeadScan {
@@ -74,7 +114,7 @@ fn scan_window(window: &[u8], spans: &mut [HeaderSpan]) -> HeadScan
 {
     match parse_request(window, spans) {
         Ok(Status::Complete(head)) => HeadScan::Whole(head),
-        Ok(Status::Partial) if window.len() < MAX_HEAD => HeadScan::Part,
+        Ok(Status::Partial) if window.len() < MAX_HEAD && !has_too_many(window) => HeadScan::Part,
         Ok(Status::Partial) => HeadScan::Refused(Refusal::TooManyFields),
         Err(Error::TooManyHeaders) => HeadScan::Refused(Refusal::TooManyFields),
         Err(_) => HeadScan::Refused(Refusal::BadHead),

@@ -1,4 +1,7 @@
-use Rattle.std.proofs.Common.{subst, sym, ap, ◌∙◌, List, ℕ, Ok}
+use Rattle.std.proofs.Common.{◌≡◌, ◌+◌, ◌≤◌, ◌++◌, subst, sym, ap, ◌∙◌, inr, List, ℕ, Ok, length, arith}
+use Rattle.std.proofs.lemmas.List.{length-append}
+use Rattle.room_http.specs.Limits.{read_size}
+use Rattle.room_http.proofs.KnownBytes.{Came-then}
 use Rattle.room_http.specs.Spans.{Scans, SpansHead}
 use Rattle.room_http.specs.declared.cut.HeadScan.{HeadScan}
 use Rattle.room_http.proofs.Near.{near-found, none-or-part, stops-reading}
@@ -18,7 +21,7 @@ returns-in-Ok-false-clause-head g c =
     let end = c.fill.ensures.end (c.in-Ok-false.is ∙ ap Ok c.in-Ok-false.field-0-test) in
     let same = c.as_slice.ensures.value ∙ sym {A = List ℕ} end.0 in
     let part = subst (λ (b : List ℕ). Scans b spans HeadScan.Part) same c.in-Part.ensures in
-    (end.1, part.0, part.1, part.2)
+    (end.1, part)
 
 pub returns-in-Err-clause-lost : goal.returns-in-Err-clause-lost
 returns-in-Err-clause-lost g c =
@@ -26,4 +29,25 @@ returns-in-Err-clause-lost g c =
     let part = subst (λ (b : List ℕ). Scans b c.scan_head.new.spans HeadScan.Part)
     c.as_slice.ensures.value c.in-Part.ensures in
     stops-reading _ _ _ _ buf _ c.reading.invariant.0 c.in-Err.ensures.lost
-    (none-or-part buf part.0 part.1 part.2)
+    (none-or-part buf part)
+
+pub returns-in-Ok-false-clause-came : goal.returns-in-Ok-false-clause-came
+returns-in-Ok-false-clause-came g c =
+    Came-then (g.R.Read.remaining c.args.r.now) (g.R.Read.remaining c.reading.r)
+    (g.R.Read.remaining c.fill.new.r) c.args.buf.now.items c.reading.buf.items
+    c.fill.new.buf.items c.reading.invariant.0 c.in-Ok-false.ensures.came
+
+pub reading-preserved : goal.reading-preserved
+reading-preserved g c =
+    let buf = c.reading.buf.items in
+    let came = c.in-Ok-true.ensures.came in
+    let part = subst (λ (b : List ℕ). Scans b c.scan_head.new.spans HeadScan.Part)
+    c.as_slice.ensures.value c.in-Part.ensures in
+    let sum : length c.fill.new.buf.items ≡ length buf + length came.0 =
+    ap length came.2 ∙ length-append buf came.0 in
+    let few : length came.0 ≤ read_size = omega (arith, sum, c.in-Ok-true.ensures.size) in (
+      Came-then (g.R.Read.remaining c.args.r.now) (g.R.Read.remaining c.reading.r)
+          (g.R.Read.remaining c.fill.new.r) c.args.buf.now.items buf c.fill.new.buf.items
+          c.reading.invariant.0 came,
+      inr (buf, came.0, came.2, part.1, part.0, few),
+    )
