@@ -11,9 +11,10 @@ export class Refusal extends Error {
   }
 }
 
-// A path is '/' alone, or a '/' before each name. In a target each name is percent-encoded.
+// A path is '/' alone, or a '/' before each name. In a target each name is percent-encoded. Targets
+// are relative, so a room is asked below the address at which its page is served.
 export function target(word, path) {
-  return `/${word}/${path.split('/').slice(1).map(encodeURIComponent).join('/')}`;
+  return `${word}/${path.split('/').slice(1).map(encodeURIComponent).join('/')}`;
 }
 
 export function namesOf(path) {
@@ -42,7 +43,7 @@ function jsonOrNull(text) {
 
 async function ask(method, word, path, body, query = '') {
   const asked = { method, word, path };
-  const where = word === 'me' ? '/me' : target(word, path) + query;
+  const where = word === 'me' ? 'me' : target(word, path) + query;
   let reply;
   try {
     reply = await fetch(where, { method, body, cache: 'no-store' });
