@@ -8,14 +8,15 @@ has() { command -v "$1" >/dev/null 2>&1; }
 # The settings are never executed: a line is a name, '=' and a value.
 read_settings() { # CONF
   local line number=0
-  FILE='' BACKUPS='' KEEP=30 MAIL='' UNIT=rooms PROGRAM=/usr/local/bin/rooms
+  FILE='' PORT='' TITLE='' BACKUPS='' KEEP=30 MAIL='' UNIT=${1##*/} PROGRAM=/usr/local/bin/rooms
+  UNIT=rooms@${UNIT%.conf}
   { [ -f "$1" ] && [ -r "$1" ]; } || refuse "no settings: $1 can't be read"
   while IFS= read -r line || [ -n "$line" ]; do
     number=$((number + 1))
     case $line in
       '' | '#'*) ;;
-      FILE=* | BACKUPS=* | KEEP=* | MAIL=* | UNIT=* | PROGRAM=*) printf -v "${line%%=*}" %s "${line#*=}" ;;
-      *) refuse "bad settings: $1, line $number has none of FILE= BACKUPS= KEEP= MAIL= UNIT= PROGRAM=" ;;
+      FILE=* | PORT=* | TITLE=* | BACKUPS=* | KEEP=* | MAIL=* | UNIT=* | PROGRAM=*) printf -v "${line%%=*}" %s "${line#*=}" ;;
+      *) refuse "bad settings: $1, line $number has none of FILE= PORT= TITLE= BACKUPS= KEEP= MAIL= UNIT= PROGRAM=" ;;
     esac
   done <"$1"
   check_settings "$1"
@@ -26,6 +27,7 @@ check_settings() { # CONF
   for name in FILE BACKUPS PROGRAM; do
     [[ ${!name} = /* ]] || refuse "bad settings: $name in $1 isn't an absolute path: '${!name}'"
   done
+  [[ $PORT =~ ^([1-9][0-9]{0,4})?$ ]] || refuse "bad settings: PORT in $1 isn't a port: '$PORT'"
   [[ $KEEP =~ ^(0|[1-9][0-9]{0,5})$ ]] || refuse "bad settings: KEEP in $1 isn't a number: '$KEEP'"
   [[ $UNIT =~ ^[A-Za-z0-9_][A-Za-z0-9:_.@-]*$ ]] || refuse "bad settings: UNIT in $1 isn't the name of a unit: '$UNIT'"
   [[ $MAIL != -* ]] || refuse "bad settings: MAIL in $1 isn't an address: '$MAIL'"

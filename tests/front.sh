@@ -8,13 +8,14 @@ has_six() {
   why=$( (exec 3<>/dev/tcp/::1/1) 2>&1) || [[ $why = *refused* ]]
 }
 
-# A file of contrib with the ports and the files of a case.
+# A file for nginx with the ports and the files of a case.
 for_here() { # FILE
   local six='/listen \[::\]/d'
   if has_six; then six="s/listen \[::\]:80;/listen [::1]:$front;/; s/listen \[::\]:443 /listen [::1]:$secure /"; fi
   sed -e "s/listen 80;/listen 127.0.0.1:$front;/" -e "s/listen 443 /listen 127.0.0.1:$secure /" \
-    -e "$six" -e "s/127.0.0.1:8780/127.0.0.1:$port/" -e "s|/etc/nginx/rooms.htpasswd|$PWD/passwords|" \
-    -e "s|/usr/local/share/rooms/page|$here/../contrib/page|" "$here/../contrib/$1"
+    -e "$six" -e "s/127.0.0.1:8780/127.0.0.1:$port/" \
+    -e "s|/etc/nginx/|$PWD/|" \
+    -e "s|/usr/local/share/rooms/page|$here/../contrib/page|" "$1"
 }
 
 # nginx's file, which includes a site as Debian's does.
@@ -25,13 +26,13 @@ write_front() { # SITE
   echo "http { log_format short '\$status \$request_method \$request_uri \$remote_user \$http_origin';"
   echo "access_log $PWD/access.log short; client_body_temp_path $PWD/t1; proxy_temp_path $PWD/t2;"
   echo "fastcgi_temp_path $PWD/t3; uwsgi_temp_path $PWD/t4; scgi_temp_path $PWD/t5;"
-  for_here "$1"
+  for_here "$here/../contrib/$1"
   echo 'include sites-enabled/*; }'
 }
 
 # Starts nginx with contrib's nginx.conf, or with nginx-tls.conf for 'tls', whose certificate and
 # key are ./rooms.pem and ./rooms.key. The ports $front and $secure are free if $port is. It asks
-# for the passwords of ./passwords, serves the page of contrib, and writes the status, method,
+# for the passwords of ./rooms.htpasswd, serves the page of contrib, and writes the status, method,
 # target, user and origin of each request into ./access.log.
 start_front() { # NAME [tls]
   local began=$SECONDS part
@@ -39,10 +40,12 @@ start_front() { # NAME [tls]
   secure=$((port + 2))
   base=http://127.0.0.1:$front
   chmod 755 "$work" .
-  chmod 644 passwords
-  mkdir -p snippets sites-enabled
+  chmod 644 rooms.htpasswd
+  mkdir -p snippets sites-enabled rooms.d
   rm -f nginx.pid
-  for part in http server; do for_here "nginx-$part.conf" >"snippets/rooms-$part.conf"; done
+  for part in http server host page proxy; do
+    for_here "$here/../contrib/nginx-$part.conf" >"snippets/rooms-$part.conf"
+  done
   echo "ssl_certificate $PWD/rooms.pem; ssl_certificate_key $PWD/rooms.key;" >snippets/rooms-tls.conf
   write_front "nginx${2:+-$2}.conf" >nginx.conf
   "$nginx" -p "$PWD" -c "$PWD/nginx.conf" >nginx.out 2>&1 &
@@ -61,7 +64,7 @@ page_block() { # HEADING N
     /^## / { on = $0 == heading }
     /^```/ { inside = $0 == "```sh"; if (on && inside) block++; next }
     on && inside && block == number' "$here/../docs/operating.md" |
-    sed -E "s#/(root|etc/ssl/private|etc/ssl|etc/nginx)/#$PWD/#g; s#rooms.htpasswd#passwords#"
+    sed -E "s#/(root|etc/ssl/private|etc/ssl|etc/nginx)/#$PWD/#g; s#^cd /etc/nginx\$#cd $PWD#"
 }
 
 # What curl is given to reach $base.

@@ -33,7 +33,7 @@ if [ -n "$(command -v htpasswd)" ]; then exec "$(command -v htpasswd)" "\$@"; fi
 echo "htpasswd \$*" >>"$PWD/asked"
 END
 stand_in systemctl <<END
-if [ "\$*" = 'start rooms-nightly' ]; then exec "$here/../contrib/rooms-nightly" "$PWD/conf"; fi
+if [ "\$*" = 'start rooms-nightly@office' ]; then exec "$here/../contrib/rooms-nightly" "$PWD/conf"; fi
 case \$1 in
   is-active) [ -e "$PWD/pid" ] && echo active || echo inactive ;;
   restart) "\$0" stop && "\$0" start ;;
@@ -182,7 +182,7 @@ answers 'what was there before' 'Dear Sir 200' alice GET /doc/letters/reply
 echo '# older' >>machine/usr/local/sbin/rooms-restore
 paste_in "$(blocks upgrading.md 'contrib/install' | sed -n 2p)"
 same 'the files of the version before' machine/usr/local/sbin/rooms-restore "$here/../contrib/rooms-restore"
-paste_in "$(blocks upgrading.md 'systemctl restart rooms' | tail -n 1)"
+paste_in "$(blocks upgrading.md "systemctl restart 'rooms" | tail -n 1)"
 prints_nothing() { if [ "$status" = 0 ] && [ ! -s "$work/out" ]; then pass; else fail "$1" "status $status"; fi; }
 prints_nothing 'its program runs'
 answers 'on the same room' 'Dear Sir 200' alice GET /doc/letters/reply

@@ -9,7 +9,7 @@ fi
 open_room F
 set_list F / dacl list:a "A:fd:root:$ALL" A:fd:alice:rwxa A:fd:bob:rx
 start_server F 1000 || return
-printf 'root:{PLAIN}r\nalice:{PLAIN}a\nbob:{PLAIN}b\n' >passwords
+printf 'root:{PLAIN}r\nalice:{PLAIN}a\nbob:{PLAIN}b\n' >rooms.htpasswd
 start_front 'behind nginx' || return
 
 ask 'no password' 401 - '' /doc/f
@@ -30,9 +30,9 @@ curl -s -u bob:b "http://127.0.0.1:$front/doc/big" >"$work/body"
 same 'it comes back' "$work/body" big
 printf x >>big
 ask 'one byte more' 413 - alice:a /doc/big -X PUT --data-binary @big -H 'Expect:'
-ask 'an upload in chunks' 204 '' alice:a /doc/f -X PUT --data-binary @passwords -H 'Transfer-Encoding: chunked'
+ask 'an upload in chunks' 204 '' alice:a /doc/f -X PUT --data-binary @rooms.htpasswd -H 'Transfer-Encoding: chunked'
 curl -s -u bob:b "http://127.0.0.1:$front/doc/f" >"$work/body"
-same 'which came in whole' "$work/body" passwords
+same 'which came in whole' "$work/body" rooms.htpasswd
 
 # What every answer says, and who may ask for changes: a browser sends passwords whichever site asks it to.
 policy="Content-Security-Policy: default-src 'none'; script-src 'self'; style-src 'self'; img-src 'self' blob:; connect-src 'self'; base-uri 'none'; form-action 'none'; frame-ancestors 'none'"
@@ -64,7 +64,7 @@ for field in 'Sec-Fetch-Site: cross-site' 'Sec-Fetch-Site: same-site' 'Sec-Fetch
   ask "GET, $field" 200 - alice:a /doc/f -H "$field"
 done
 for field in 'Sec-Fetch-Site: same-origin' 'Sec-Fetch-Site: none' "Origin: http://127.0.0.1:$front"; do
-  ask "PUT, $field" 204 - alice:a /doc/f -X PUT --data-binary @passwords -H "$field"
+  ask "PUT, $field" 204 - alice:a /doc/f -X PUT --data-binary @rooms.htpasswd -H "$field"
 done
 ask 'one of both is foreign' 403 - alice:a /doc/f -X PUT -H 'Sec-Fetch-Site: same-origin' -H 'Origin: http://elsewhere.example'
 
@@ -185,22 +185,98 @@ fi
 
 ask 'a document for later' 204 '' alice:a /doc/f -X PUT --data-binary kept
 
-# A second room's site, by the commands of operating.md. No room listens at its port.
-mkdir sites-available
-for_here nginx.conf >sites-available/rooms
-page_block "When one process isn't enough" 1 | sed -e "s#8780/8781#$port/1#" -e 's#cd .*#cd sites-available#' -e '/nginx -t/d' >second
-bash -eu second
-kill -HUP "$proxy"
-reach=(-H 'Host: invoices.example')
+# Further rooms, by rooms-add: invoices at a path, hr at a host. Users of one are no users of another.
+"$here/../contrib/install" --destdir "$PWD/machine" --program "$rooms" >installed 2>&1 </dev/null
+adds() { "$here/../contrib/rooms-add" --destdir "$PWD/machine" "$@" </dev/null >said 2>&1; }
+take_front() { rm -f rooms.d/*; for file in machine/etc/nginx/rooms.d/*; do for_here "$file" >"rooms.d/${file##*/}"; done; }
+# nginx takes its files: its workers of before are gone, and the command succeeds.
+reloaded() { # COMMAND ..
+  local began=$SECONDS before=() one
+  read -r -a before 2>/dev/null <"/proc/$proxy/task/$proxy/children"
+  kill -HUP "$proxy"
+  for one in ${before[@]+"${before[@]}"}; do wait_for "$one"; done
+  until "$@" || [ $((SECONDS - began)) -ge "$patience" ]; do sleep 0.1; done
+}
+answers() { [ "$(curl -s -o "$work/body" -w '%{http_code}' ${reach[@]+"${reach[@]}"} ${2:+-u "$2"} "$base$3")" = "$1" ]; }
+holds 'a room at a path' adds --port $((port + 5)) --title 'Invoices & <orders>' invoices
+holds 'a room at a host' adds --port $((port + 6)) --host hr.example hr
+take_front
+printf 'carol:{PLAIN}c\nbob:{PLAIN}x\n' >rooms-invoices.htpasswd
+printf 'dora:{PLAIN}d\n' >rooms-hr.htpasswd
+open_room G
+set_list G / dacl list:a "A:fd:carol:$ALL" A:fd:bob:rx
+: >second.out
+"$rooms" serve G --port $((port + 5)) --count 1000 </dev/null >second.out 2>&1 &
+second=$!
 began=$SECONDS
-second() { [ "$(curl -s -o "$work/body" -w '%{http_code}' "${reach[@]}" -u bob:b "$base/doc/f")" = 502 ]; }
-until second || [ $((SECONDS - began)) -ge "$patience" ]; do sleep 0.1; done
-ask 'the second room' 502 - bob:b /doc/f
-ask 'the second room, without a password' 401 - '' /doc/f
-reach=(-H 'Host: rooms.example')
-ask 'the first room beside it' 200 - bob:b /doc/f
+until [ -s second.out ] || [ $((SECONDS - began)) -ge "$patience" ]; do sleep 0.05; done
+reloaded answers 404 carol:c /invoices/doc/f
+ask 'carol makes a document in the room at a path' 201 '' carol:c /invoices/doc/f -X PUT --data-binary invoice
+ask 'bob of that room reads it' 200 invoice bob:x /invoices/doc/f
+ask 'bob of office does not' 401 - bob:b /invoices/doc/f
+ask 'nor bob of that room in office' 401 - bob:x /doc/f
+ask 'nor does alice' 401 - alice:a /invoices/doc/f
+ask 'nor carol in office' 401 - carol:c /doc/f
+ask 'nor who says to be root' 403 '{"at":"/f","bits":"w","entry":null,"text":null}' bob:x /invoices/doc/f -X PUT --data-binary x -H 'Room-User: root'
+ask 'nobody without a password' 401 - '' /invoices/doc/f
+ask 'office has its own document' 200 kept bob:b /doc/f
+ask 'escapes go on as they came' 201 '' carol:c /invoices/doc/%C3%A9%20b -X PUT --data-binary x
+ask 'and are one name' 200 '[{"kind":"document","name":"f"},{"kind":"document","name":"é b"}]' carol:c /invoices/folder/
+ask 'a slash that is escaped' 404 '{"at":"/g","why":"no-such"}' carol:c /invoices/doc/g%2Fh
+ask 'rights in a query' 200 '{"r":"allowed 2","w":"silent"}' bob:x '/invoices/can/f?rw'
+ask 'a route that the room judges' 404 '{"why":"no-route"}' bob:x /invoices/doc
+ask 'what is neither the page nor a route' 404 - bob:x /invoices/nope
+for target in //invoices/doc/f /x/../invoices/doc/f /%69nvoices/doc/f /doc/../invoices/doc/f; do
+  ask "another way to write it, $target" 400 - carol:c "$target" --path-as-is
+done
+ask 'a way out of it' 401 - carol:c /invoices/../doc/f --path-as-is
+ask 'a way that the room judges' 400 '{"why":"bad-target P1"}' carol:c /invoices/folder/../doc/f --path-as-is
+deep=
+for n in {1..15}; do
+  deep=$deep/$name
+  ask "a folder of that room at depth $n" 201 '' carol:c "/invoices/folder$deep" -X POST
+done
+ask 'a document of that room with the longest path' 201 '' carol:c "/invoices/doc$deep/$name" -X PUT --data-binary deep
+ask 'is read there' 200 deep bob:x "/invoices/doc$deep/$name"
+for target in /invoices/ /invoices/app.js /invoices/me /invoices/doc/f /invoices/folder/; do says_all bob:x "$target"; done
+answer bob:x /invoices/doc/f
+holds 'a document of a room at a path is a file' grep -qx $'Content-Disposition: attachment\r' "$work/head"
+for target in /invoices/folder/ /invoices/can/doc; do
+  answer bob:x "$target"
+  holds "$target is none" [ "$(grep -c Content-Disposition "$work/head")" = 0 ]
+done
+answer bob:x /invoices/me
+holds 'the page there is told who asks' grep -qx $'Room-User: bob\r' "$work/head"
+ask 'the page at a path' 200 - bob:x /invoices/
+same 'is the same page' "$work/body" "$here/../contrib/page/index.html"
+ask 'without a slash' 301 - '' /invoices
+for field in 'Sec-Fetch-Site: cross-site' 'Origin: http://elsewhere.example'; do
+  ask "PUT at a path, $field" 403 - carol:c /invoices/doc/f -X PUT --data-binary x -H "$field"
+done
+ask 'the start page, without a password' 200 - '' /rooms/
+same 'has the rooms' "$work/body" machine/etc/nginx/rooms.d/start.html
+holds 'by their titles' grep -qF '<a href="/invoices/">Invoices &amp; &lt;orders&gt;</a>' "$work/body"
+ask 'its style' 200 - '' /rooms/style.css
+ask 'the start page without a slash' 301 - '' /rooms
+ask 'the page itself still asks' 401 - '' /style.css
+reach=(-H 'Host: hr.example')
+ask 'the room at a host, of which no server runs' 502 - dora:d /doc/f
+ask 'carol is nobody there' 401 - carol:c /doc/f
+ask 'nor is alice' 401 - alice:a /doc/f
+ask 'there is no other room at that host' 404 - dora:d /invoices/doc/f
+reach=(-H 'Host: another.example')
+ask 'the site answers for all other names' 200 kept bob:b /doc/f
 reach=()
-rm sites-enabled/invoices
+
+# A room is taken away: nobody gets to it, and its file stays.
+holds 'it is taken away' adds --remove invoices
+take_front
+reloaded answers 404 alice:a /invoices/doc/f
+ask 'it is not there any more' 404 - alice:a /invoices/doc/f
+kill -9 "$second"
+wait "$second" 2>/dev/null
+gives 'its file is sound' 0 'sound\n' '' verify G
+rm -f rooms.d/*
 
 stop_server
 ask 'no server behind it' 502 - bob:b /doc/f
@@ -277,6 +353,21 @@ else
 fi
 curl -s -o "$work/body" "${reach[@]}" --tls-max 1.1 --ciphers 'ALL:@SECLEVEL=0' -u bob:b "$base/doc/tls"
 holds 'older versions of TLS are refused' [ $? = 35 ]
+
+# A room at a host has TLS with the site. (The certificate isn't for it, which rooms-add would refuse.)
+for_here machine/etc/nginx/rooms.d/hr.host-tls >rooms.d/hr.host-tls
+base=https://hr.example:$secure
+reach=(--resolve "hr.example:$secure:127.0.0.1" -k)
+reloaded answers 502 dora:d /doc/f
+ask 'the room at a host, with TLS' 502 - dora:d /doc/f
+ask 'alice is nobody there, with TLS' 401 - alice:a /doc/f
+base=http://hr.example:$front
+reach=(--resolve "hr.example:$front:127.0.0.1")
+ask 'and no password without TLS' 301 - '' /doc/f
+base=https://rooms.example:$secure
+reach=(--resolve "rooms.example:$secure:127.0.0.1" --cacert "$authority.pem")
+ask 'the first room beside it' 200 hello bob:b /doc/tls
+rm rooms.d/hr.host-tls
 
 # A renewal: the same key, and another certificate, which nginx takes when it reloads its files.
 serial() { openssl s_client -connect "127.0.0.1:$secure" -servername rooms.example </dev/null 2>/dev/null | openssl x509 -noout -serial; }

@@ -31,7 +31,7 @@ play() { # NAME SCRIPT ARGUMENT ..
   [ -n "$ended" ] || fail "$name" "it broke off: $(tail -c 600 play.err)"
 }
 
-printf 'alice:{PLAIN}a\nbob:{PLAIN}b\n' >passwords
+printf 'alice:{PLAIN}a\nbob:{PLAIN}b\n' >rooms.htpasswd
 
 # Another site. The room is the same before and after.
 open_room F
@@ -67,3 +67,19 @@ play 'the office' office.py "$PWD" "$front" "$PWD/access.log" "$server" "$proxy"
 stop_server
 stop_proxy
 gives 'sound after the office' 0 'sound\n' '' verify G
+
+# A room at a path, whose page is the same files. Its server listens before nginx's file is made.
+"$here/../contrib/install" --destdir "$PWD/machine" --program "$rooms" >installed 2>&1 </dev/null
+holds 'a room at a path' "$here/../contrib/rooms-add" --destdir "$PWD/machine" --title 'Invoices & <orders>' invoices >said 2>&1
+open_room H
+set_list H / dacl list:a "A:fd:carol:$ALL"
+start_server H 10000 || return
+printf 'carol:{PLAIN}c\n' >rooms-invoices.htpasswd
+for file in machine/etc/nginx/rooms.d/*; do
+  for_here "$file" | sed "s/127.0.0.1:[0-9]*\\\$room_target/127.0.0.1:$port\$room_target/" >"rooms.d/${file##*/}"
+done
+start_front 'a room at a path' || return
+play 'a room at a path' several.py "$PWD" "$front" ${PAGE_PICTURES:+"$PAGE_PICTURES"}
+stop_server
+stop_proxy
+gives 'sound after a room at a path' 0 'sound\n' '' verify H

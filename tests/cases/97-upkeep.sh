@@ -152,7 +152,7 @@ refused() { # NAME TEXT
   holds "$1: a message" [ -s "$stand/messages" ]
 }
 cp conf kept
-for line in 'KEEP=many' 'KEEP=-1' 'FILE=F' 'UNIT=a b' 'UNIT=-a' 'MAIL=-s' 'PROGRAM=/nowhere' 'FILE=/nowhere/F' 'rm -rf /' 'OTHER=x'; do
+for line in 'KEEP=many' 'KEEP=-1' 'PORT=many' 'PORT=0' 'FILE=F' 'UNIT=a b' 'UNIT=-a' 'MAIL=-s' 'PROGRAM=/nowhere' 'FILE=/nowhere/F' 'rm -rf /' 'OTHER=x'; do
   { cat kept; echo "$line"; } >conf
   night
   refused "settings with $line" "$([[ $line = *nowhere* ]] && echo 'no ' || echo 'bad settings: ')"

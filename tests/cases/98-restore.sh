@@ -116,6 +116,19 @@ restores good
 holds 'a restore where no room is' [ "$status" = 0 -a "$(owner)" = dave ]
 holds 'leaves the room alone' [ "$(cd office && echo *)" = 'F F-wal' ]
 
+# What an earlier version left of a restore that was cut off, in a folder for whichever room.
+old_office
+as_user mkdir office/restoring office/restoring/old office/restoring/new
+as_user mv office/F office/restoring/old/F
+restores --undo
+holds 'an earlier version was cut off' [ "$status" = 0 ]
+unchanged 'an earlier version was cut off'
+as_user mkdir office/restoring office/restoring/old
+as_user touch office/restoring/old/G
+restores good
+holds "another room's restore that was cut off" [ "$status" = 0 -a "$(owner)" = dave -a -e office/restoring/old/G ]
+rm -rf office/*
+
 # An interruption at each call: the room is the old or the new one, or there is none, and --undo or
 # the same command once more repairs that.
 for how in TERM KILL; do
@@ -141,19 +154,19 @@ for how in TERM KILL; do
     fi
     # A signal that can be caught leaves nothing to repair.
     if [ "$how" = TERM ]; then
-      holds "$name: nothing is left of it" [ ! -e office/restoring ]
+      holds "$name: nothing is left of it" [ ! -e office/restoring.F ]
       continue
     fi
     rm -rf office
     cp -Rp interrupted office
     restores --undo
-    holds "$name: undone" [ "$status" = 0 -a ! -e office/restoring ]
+    holds "$name: undone" [ "$status" = 0 -a ! -e office/restoring.F ]
     aside || unchanged "$name"
     rm -rf office
     mv interrupted office
     rm -rf office/before-restore.*
     restores good
-    holds "$name: once more" [ "$status" = 0 -a "$(owner)" = dave -a ! -e office/restoring ]
+    holds "$name: once more" [ "$status" = 0 -a "$(owner)" = dave -a ! -e office/restoring.F ]
     holds "$name: the old one is aside" aside
   done
   holds "$how: the calls came to an end" [ "$number" -gt 10 -a "$number" -lt 80 ]

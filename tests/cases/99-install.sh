@@ -9,12 +9,13 @@ installs --dry-run
 says 'what would be done' 0 'would: file /usr/local/bin/rooms'
 holds 'is not done' is_missing machine
 installs
-says 'an install' 0 'file /etc/systemd/system/rooms-nightly.timer'
+says 'an install' 0 'file /etc/systemd/system/rooms-nightly@.timer'
 for file in /usr/local/bin/rooms /usr/local/sbin/rooms-nightly /usr/local/sbin/rooms-restore /usr/local/lib/rooms/upkeep.sh \
-  /usr/local/sbin/rooms-get /usr/local/bin/rooms-import /usr/local/bin/rooms-export /usr/local/lib/rooms/transfer.sh \
+  /usr/local/sbin/rooms-get /usr/local/sbin/rooms-add /usr/local/bin/rooms-import /usr/local/bin/rooms-export /usr/local/lib/rooms/transfer.sh \
   /usr/local/share/man/man1/rooms.1 /usr/local/share/man/man8/rooms-get.8 /usr/share/bash-completion/completions/rooms \
-  /etc/rooms/rooms.conf /etc/systemd/system/rooms.service /usr/share/doc/rooms/docs/operating.md /etc/nginx/sites-enabled/rooms \
-  /etc/nginx/sites-available/rooms-tls /etc/nginx/snippets/rooms-http.conf /etc/nginx/snippets/rooms-server.conf; do
+  /etc/rooms/office.conf /etc/systemd/system/rooms@.service /usr/share/doc/rooms/docs/operating.md /etc/nginx/sites-enabled/rooms \
+  /etc/nginx/sites-available/rooms-tls /etc/nginx/snippets/rooms-http.conf /etc/nginx/snippets/rooms-server.conf /etc/nginx/snippets/rooms-host.conf \
+  /usr/local/lib/rooms/several.sh /usr/local/share/rooms/room/path /etc/nginx/rooms.d/start.html; do
   holds "$file is there" [ -s "machine$file" ]
 done
 holds 'nobody else reads the passwords' [ -n "$(find machine/etc/nginx/rooms.htpasswd -perm 600)" ]
@@ -26,22 +27,22 @@ installs
 says 'a second install' 0 'nothing to change'
 tree >after
 same 'changes nothing' after before
-echo '# mine' >>machine/etc/rooms/rooms.conf
+echo '# mine' >>machine/etc/rooms/office.conf
 echo '# mine' >>machine/usr/local/sbin/rooms-restore
 rm machine/etc/nginx/sites-enabled/rooms
 echo '# mine' >machine/etc/nginx/sites-enabled/rooms
 installs --dry-run
 says 'a changed file would be' 0 'would: new /usr/local/sbin/rooms-restore'
 installs
-says 'settings that were changed' 0 'kept /etc/rooms/rooms.conf, which differs'
+says 'settings that were changed' 0 'kept /etc/rooms/office.conf, which differs'
 says 'a site that was changed' 0 'kept /etc/nginx/sites-enabled/rooms'
 says 'a script that was changed' 0 'new /usr/local/sbin/rooms-restore, the old one is /usr/local/sbin/rooms-restore.old'
-holds 'settings stay' grep -q '^# mine' machine/etc/rooms/rooms.conf
+holds 'settings stay' grep -q '^# mine' machine/etc/rooms/office.conf
 holds 'the old script is beside' grep -q '^# mine' machine/usr/local/sbin/rooms-restore.old
 same 'the script is new' machine/usr/local/sbin/rooms-restore "$contrib/rooms-restore"
 installs --replace
-same 'settings are replaced if that is asked' machine/etc/rooms/rooms.conf "$contrib/rooms.conf"
-holds 'and stay beside' grep -q '^# mine' machine/etc/rooms/rooms.conf.old
+same 'settings are replaced if that is asked' machine/etc/rooms/office.conf machine/usr/local/share/rooms/office.conf
+holds 'and stay beside' grep -q '^# mine' machine/etc/rooms/office.conf.old
 installs --program "$PWD/nowhere"
 says 'no program' 2 'no program'
 installs --program /bin/true
@@ -59,6 +60,7 @@ status=$?
 says "a package's files without a folder" 2 'bad prefix'
 # The same script as a package has it.
 cp "$contrib/install" rooms-setup
+cp "$contrib/several.sh" "$contrib/single.sh" .
 for word in --replace '--destdir /x' '--program /x' '--prefix /usr' 'x'; do
   # shellcheck disable=SC2086
   ./rooms-setup $word </dev/null >"$work/out" 2>"$work/err"
@@ -232,13 +234,13 @@ fi
 # The units, as systemd reads them; with the programs that they name in their places.
 if has systemd-analyze; then
   mkdir units
-  for unit in rooms.service rooms-nightly.service rooms-nightly.timer; do
+  for unit in rooms@.service rooms-nightly@.service rooms-nightly@.timer; do
     sed "s|=/usr/local/|=$PWD/machine/usr/local/|" "$contrib/$unit" >"units/$unit"
   done
   # It reports what it doesn't know of all units that it meets. Only these three are of this
   # project.
-  systemd-analyze verify units/rooms.service units/rooms-nightly.service units/rooms-nightly.timer >"$work/out" 2>&1
-  grep -E '^(/.*/)?rooms[a-z-]*\.(service|timer)' "$work/out" >said
+  systemd-analyze verify units/rooms@.service units/rooms-nightly@.service units/rooms-nightly@.timer >"$work/out" 2>&1
+  grep -E '^(/.*/)?rooms[a-z-]*@[a-z_-]*\.(service|timer)' "$work/out" >said
   : >nothing
   same 'the units are understood' said nothing
 else

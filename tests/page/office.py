@@ -108,7 +108,7 @@ class Office(Documents, Dropping, Handling, Readers, Lists, Warned, Recommended)
     def new_password(self):
         bob = self.bob
         cancel_prompts(bob.debugger)
-        with open(f'{self.folder}/passwords', 'w', encoding='utf-8') as file:
+        with open(f'{self.folder}/rooms.htpasswd', 'w', encoding='utf-8') as file:
             file.write('alice:{PLAIN}a\nbob:{PLAIN}other\n')
         bob.press('Report 2.txt')
         bob.says('Your password isn’t accepted any more', 'sign in')

@@ -1,0 +1,154 @@
+# A machine of its own, a copy of the folder $machine that debootstrap has made: its processes, what
+# runs there, and stand-ins for what it lacks.
+
+# Gives it processes and a network of its own, without a way out. All of its processes end with the
+# first of them, which ends with the case.
+start_machine() {
+  local spawned turn
+  unshare --net --mount --pid --fork bash -c '
+    trap "exit 0" TERM
+    for turn in {1..3600}; do sleep 1 & wait $!; done' &
+  spawned=$!
+  first=
+  for turn in {1..100}; do
+    read -r first _ 2>/dev/null <"/proc/$spawned/task/$spawned/children"
+    [ -z "$first" ] || break
+    sleep 0.05
+  done
+  proxy=$first
+  nsenter -t "${first:-0}" -n ip link set lo up 2>said
+}
+inside() { # TEXT
+  nsenter -t "$first" -n -m -p chroot "$machine" /usr/bin/env -i HOME=/root LC_ALL=C.UTF-8 \
+    DEBIAN_FRONTEND=noninteractive \
+    PATH=/usr/local/sbin:/usr/local/bin:/usr/sbin:/usr/bin:/sbin:/bin \
+    timeout "$patience" bash -c "cd /root && $1" </dev/null >"$work/out" 2>"$work/err"
+  status=$?
+}
+does() { # NAME TEXT: with status 0
+  inside "$2"
+  if [ "$status" = 0 ]; then pass; return; fi
+  fail "$1" "status $status: $(tail -c 600 "$work/out" "$work/err")"
+}
+prints() { # NAME LINE ..: the last command wrote just this
+  local name=$1
+  shift
+  printf '%s\n' "$@" >wanted
+  same "$name" "$work/out" wanted
+}
+# The fenced block of a page that has a text in it; a package has a name.
+block() { # PAGE TEXT
+  awk -v text="$2" '
+    /^```/ { if (inside && found) printf "%s", kept; inside = !inside; found = 0; kept = ""; next }
+    inside { kept = kept $0 "\n"; if (index($0, text)) found = 1 }' "$top/$1" |
+    sed -e 's/^apt-get update && //' -e "s/rooms_VERSION/rooms_${3-$version}/"
+}
+
+# In place of systemd: it starts what the units name, with their settings, as their users.
+write_systemd() {
+  cat <<'END'
+#!/usr/bin/env bash
+unit() { # NAME: its file, which for an instance is that of the template
+  local name=$1
+  [[ $name != *@* ]] || name=${name%%@*}@
+  for folder in /etc/systemd/system /usr/lib/systemd/system /lib/systemd/system; do
+    if [ -e "$folder/$name.service" ]; then echo "$folder/$name.service"; return; fi
+  done
+}
+alive() { [ -s "/run/$1.pid" ] && kill -0 "$(cat "/run/$1.pid")" 2>/dev/null; } # NAME
+command_of() { # NAME: what the unit starts, with its instance and its settings
+  local line file
+  line=$(sed -n 's/^ExecStart=//p' "$(unit "$1")")
+  file=$(sed -n 's/^EnvironmentFile=//p' "$(unit "$1")")
+  line=${line//%i/${1#*@}}
+  file=${file//%i/${1#*@}}
+  for name in FILE PORT; do
+    [ -z "$file" ] || line=${line//"\${$name}"/$(sed -n "s/^$name=//p" "$file")}
+  done
+  echo "$line"
+}
+start() { # NAME
+  alive "$1" && return
+  [ -n "$(unit "$1")" ] || { echo "Unit $1.service not found." >&2; return 5; }
+  : >"/run/$1.line"
+  setpriv --reuid=rooms --regid=rooms --clear-groups $(command_of "$1") \
+    >"/run/$1.line" 2>"/run/$1.fault" </dev/null &
+  echo $! >"/run/$1.pid"
+  for turn in {1..500}; do [ ! -s "/run/$1.line" ] || return 0; alive "$1" || return 1; sleep 0.02; done
+  return 1
+}
+stop() { # NAME
+  ! alive "$1" || kill -9 "$(cat "/run/$1.pid")"
+  while alive "$1"; do sleep 0.02; done
+}
+all() { # NAME: it, or those that run
+  if [ "$1" = 'rooms@*' ]; then
+    for pid in /run/rooms@*.pid; do pid=${pid##*/}; ! alive "${pid%.pid}" || echo "${pid%.pid}"; done
+  else
+    echo "$1"
+  fi
+}
+verb=$1
+shift
+now=no
+units=()
+for word in "$@"; do
+  case $word in
+    --now) now=yes ;;
+    -*) ;;
+    *) units+=("${word%.service}") ;;
+  esac
+done
+[ "$verb" != --system ] || { verb=$1; units=("${units[@]:1}"); }
+case $verb in
+  daemon-reload | reset-failed) exit ;;
+  reload | try-reload-or-restart)
+    [ "${units[*]}" = nginx ] || { echo "no such unit: ${units[*]}" >&2; exit 1; }
+    [ -s /run/nginx.pid ] || exec nginx
+    before=$(cat "/proc/$(cat /run/nginx.pid)"/task/*/children)
+    nginx -s reload
+    for worker in $before; do while kill -0 "$worker" 2>/dev/null; do sleep 0.02; done; done
+    exit
+    ;;
+  enable | disable)
+    /usr/bin/systemctl --root=/ -q "$verb" $(printf '%s\n' "${units[@]}" | sed '/\./!s/$/.service/') || exit
+    [ "$now" = yes ] || exit 0
+    if [ "$verb" = enable ]; then verb=start; else verb=stop; fi
+    ;;
+esac
+for name in "${units[@]}"; do
+  case $verb:$name in
+    is-active:*.timer)
+      [ -L "/etc/systemd/system/timers.target.wants/$name" ] || { echo inactive; exit 3; }
+      # A timer whose file is gone.
+      [ -e "/etc/systemd/system/timers.target.wants/$name" ] || { echo failed; exit 3; }
+      echo active
+      ;;
+    is-active:*) if alive "$name"; then echo active; else echo inactive; exit 3; fi ;;
+    *:*.timer) ;;
+    start:rooms-nightly*) $(command_of "$name") || exit ;;
+    stop:rooms-nightly*) ;;
+    start:rooms | start:rooms@*) start "$name" || exit ;;
+    stop:rooms | stop:rooms@*) stop "$name" ;;
+    restart:rooms | restart:rooms@*)
+      for one in $(all "$name"); do stop "$one" && start "$one" || exit; done
+      ;;
+    *) echo "no such words: $verb $*" >&2; exit 1 ;;
+  esac
+done
+END
+}
+
+furnish_machine() {
+  write_systemd >"$machine/usr/local/bin/systemctl"
+  # A password that is asked for is typed twice.
+  printf '#!/bin/sh\nexec /usr/bin/htpasswd -bB "$2" "$3" typed\n' >"$machine/usr/local/bin/htpasswd"
+  printf '#!/bin/sh\nexit 101\n' >"$machine/usr/sbin/policy-rc.d"
+  # There is no /dev/pts, and no way out.
+  printf '%s\n' 'Dpkg::Use-Pty "0";' 'quiet "2";' 'APT::Sandbox::User "root";' \
+    'DPkg::Path "/usr/local/sbin:/usr/local/bin:/usr/sbin:/usr/bin:/sbin:/bin";' \
+    >"$machine/etc/apt/apt.conf.d/99rooms"
+  chmod 755 "$machine"/usr/local/bin/{systemctl,htpasswd} "$machine/usr/sbin/policy-rc.d"
+  mkdir -p "$machine/run/systemd/system" "$machine/root"
+  nsenter -t "$first" -m -p mount -t proc proc "$machine/proc"
+}
