@@ -1,5 +1,5 @@
 //! The header lines of an input: who asks, at which object, for what.
-ghost use Rattle.std.specs.Prelude.{◌≡◌, ℕ, ◌≤◌, [], ◌∷◌, Result, Ok, Err, length};
+ghost use Rattle.std.specs.Prelude.{◌≡◌, ℕ, ◌≤◌, [], ◌∷◌, Result, Ok, Err, length, MatchOption};
 ghost use Rattle.room_entry.specs.Bytes.{comma};
 ghost use Rattle.room_entry.specs.Gives.{Gives};
 ghost use Rattle.room_ace.specs.Lists.{lines_of};

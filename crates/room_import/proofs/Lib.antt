@@ -5,3 +5,4 @@ pub mod Utf8
 pub mod Taking
 pub mod Fields
 pub mod SeenFacts
+pub mod Firsts

@@ -10,7 +10,7 @@ mod rows;
 mod writing;
 
 pub use fault::{CsvFault, CsvWhy};
-pub use laws::groups_read_back;
+pub use laws::{first_fault, groups_read_back, pairs_of_rows};
 pub use pairs::Pairs;
 pub use reading::read_groups;
 pub use writing::{write_audits, write_groups};

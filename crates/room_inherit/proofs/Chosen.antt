@@ -1,7 +1,7 @@
 -- Documents below which nothing stands, left out of the objects that wait.
 use Rattle.std.proofs.Common.{◌≡◌, ℕ, ◌≤◌, ◌==◌, Bool, true, false, cond, not, ◌&&◌, ◌||◌, List, [], ◌∷◌, ◌++◌, map, filter, length, Option, Some, refl, sym, ap, subst, ◌∙◌, inl, inr, arith}
 use Rattle.std.specs.Prelude.{nat_lt}
-use Rattle.std.specs.List.{list_any}
+use Rattle.std.specs.List.{AllByRecursion, list_any}
 use Rattle.std.specs.Option.{option_map_or}
 use Rattle.std.proofs.lemmas.Bool.{cases_Bool, or_cases, or_from, or_left, or_parts, or_right, false≢true, eqb-true, ltb-true}
 use Rattle.room_entry.specs.Ace.{Ace}
@@ -16,7 +16,7 @@ use Rattle.room_inherit.specs.Spread.{with_lists}
 use Rattle.room_inherit.specs.Turn.{AreKnown, IsChildless, LeavesOut, TellsWaiting, brought_up, is_outdated, next_of, passed_to, put_nodes, renewed, waits_next}
 use Rattle.room_inherit.proofs.Kinship.{same_kind, same_parent}
 use Rattle.room_rows.proofs.InPlace.{with_inh-id}
-use Rattle.room_entry.proofs.Facts.Members.{Each, any_agree, any_filter, any_map, each_fails, each_filter}
+use Rattle.room_entry.proofs.Facts.Members.{any_agree, any_filter, any_map, each_fails, each_filter}
 use Rattle.room_inherit.proofs.Children.{Apart, any_sorted, each_found, has_id}
 use Rattle.room_inherit.proofs.Renewing.{known_other}
 use Rattle.room_inherit.proofs.Frontier.{Frontier, Waits, set, set_parent}
@@ -45,7 +45,7 @@ none_below id nodes none =
     and_true true = refl
     and_true false = refl
 
-    every : (xs : List Node) → Each (λ n. (has_parent id n && true) ≡ has_parent id n) xs
+    every : (xs : List Node) → AllByRecursion (λ n. (has_parent id n && true) ≡ has_parent id n) xs
     every [] = tt
     every (x ∷ xs) = (and_true (has_parent id x), every xs)
 
@@ -105,7 +105,7 @@ below_lists which f old id =
     any_map (has_parent id) (set which f) old.nodes
     ∙ any_agree (λ n. has_parent id (set which f n)) (has_parent id) old.nodes (every old.nodes)
   where
-    every : (xs : List Node) → Each (λ n. has_parent id (set which f n) ≡ has_parent id n) xs
+    every : (xs : List Node) → AllByRecursion (λ n. has_parent id (set which f n) ≡ has_parent id n) xs
     every [] = tt
     every (x ∷ xs) = (set_parent which f id x, every xs)
 
@@ -163,11 +163,11 @@ folders_chosen rows nodes next chosen =
     none_left (filter is_folder nodes) next
     (each_filter (λ n. is_folder n ≡ true) is_folder nodes (every nodes)) chosen
   where
-    every : (xs : List Node) → Each (λ n. is_folder n ≡ true → is_folder n ≡ true) xs
+    every : (xs : List Node) → AllByRecursion (λ n. is_folder n ≡ true → is_folder n ≡ true) xs
     every [] = tt
     every (x ∷ xs) = (λ is. is, every xs)
 
-    none_left : (xs next : List Node) → Each (λ n. is_folder n ≡ true) xs → LeavesOut rows xs next
+    none_left : (xs next : List Node) → AllByRecursion (λ n. is_folder n ≡ true) xs → LeavesOut rows xs next
         → next ≡ xs
     none_left [] next all none = none
     none_left (x ∷ xs) next all (rest, chosen, how) =
@@ -180,13 +180,13 @@ folders_chosen rows nodes next chosen =
 -- ---- the objects that wait
 
 each_chosen : (P : Node → Type 0) (rows : Content) (nodes next : List Node)
-    → LeavesOut rows nodes next → Each P nodes → Each P next
-each_chosen P rows [] next none all = subst (Each P) (sym none) tt
+    → LeavesOut rows nodes next → AllByRecursion P nodes → AllByRecursion P next
+each_chosen P rows [] next none all = subst (AllByRecursion P) (sym none) tt
 each_chosen P rows (x ∷ xs) next (rest, chosen, how) all =
     let few = each_chosen P rows xs rest chosen all.1 in
     elim how [
-      | inl kept ↦ subst (Each P) (sym kept) (all.0, few)
-      | inr left ↦ subst (Each P) (sym left.0) few
+      | inl kept ↦ subst (AllByRecursion P) (sym kept) (all.0, few)
+      | inr left ↦ subst (AllByRecursion P) (sym left.0) few
     ]
 
 unmet : (id : ℕ) (rows : Content) (nodes next : List Node) → LeavesOut rows nodes next

@@ -263,7 +263,7 @@ module _ (a b : List ℕ) where
         ∷ []
 
     move_alike : (to : List (List ℕ)) (target from : Site) → IsUnknown a b target
-        → IsUnknown a b from → AreAlike (move_items content to target from)
+        → IsUnknown a b from → AreAlike (move_items (sites_along content) content to target from)
     move_alike [] target from here above = (deletes target from here above, (refl, tt))
     move_alike (name ∷ more) target from here above =
         let path = front (name ∷ more) in
@@ -332,10 +332,10 @@ module _ (a b : List ℕ) where
         ))
     plans (Move path to) =
         to_target_alike path (λ target. Refusal path Root (is_empty path)
-        ∷ where_found (parent_at (sites_along content path) path) (move_items content to target))
+        ∷ where_found (parent_at (sites_along content path) path) (move_items (sites_along content) content to target))
         (λ site u. (
           refl,
-          where_alike (parent_at (sites_along content path) path) (move_items content to site)
+          where_alike (parent_at (sites_along content path) path) (move_items (sites_along content) content to site)
               (λ folder found. move_alike to site folder u (over path folder found)),
         ))
     plans (ReadList path which) =

@@ -1,5 +1,5 @@
 -- What reading the names of children answers, and reading one of them.
-use Rattle.std.proofs.Common.{◌≡◌, ℕ, zero, suc, pos, negsuc, List, [], ◌∷◌, ◌++◌, map, filter, take, length, None, Some, Option, IsTrue, inl, inr, refl, sym, ap, subst, ◌∙◌, true, not, append-nil, append_assoc, arith, is_lt, IsPermutation}
+use Rattle.std.proofs.Common.{◌≡◌, ℕ, zero, suc, pos, negsuc, List, [], ◌∷◌, ◌++◌, map, filter, take, length, None, Some, Option, IsTrue, inl, inr, refl, sym, ap, subst, ◌∙◌, true, not, append-nil, append_assoc, arith, is_lt, IsPermutation, false}
 use Rattle.std.specs.Prelude.{◌==◌, is_none, option_and_then, option_map, if◌then◌else◌}
 use Rattle.std.specs.List.{AllByRecursion, filter_map, cons_option}
 use Rattle.std.proofs.lemmas.Bool.{and_parts}
