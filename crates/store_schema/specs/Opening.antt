@@ -1,7 +1,7 @@
 -- What opening a room is.
 use Rattle.std.specs.Prelude.{◌≡◌, ◌⊎◌, ◌≤◌, ◌<ℤ◌, ℕ, ℤ, pos, List}
 use Rattle.std.specs.Prelude.{[], Option, Some, None, Result, Ok, Err}
-use Rattle.std.specs.Prelude.{MatchResult, IsErrAnd, OnOk, IsTrue, false, codes}
+use Rattle.std.specs.Prelude.{MatchResult, IsErrAnd, OnOk, IsTrue, false, codes, if◌then◌else◌}
 use Rattle.sqlite_trees.specs.View.{doubt}
 use Rattle.sqlite_resolve.specs.declared.error.CompileError.{CompileError}
 use Rattle.sqlite.specs.Effect.{Database, Reads}
@@ -13,6 +13,9 @@ use Rattle.sqlite_schema.specs.declared.command.Returning.{Returning}
 use Rattle.sqlite.specs.State.{State, HasCleanDisk}
 use Rattle.sqlite.specs.declared.error.Error.{Error}
 use Rattle.sqlite.specs.declared.error.Error.TheVariants.{SqlInputError}
+use Rattle.room_rows.specs.declared.keep.KeepFault.{KeepFault}
+use Rattle.room_rows.specs.declared.keep.KeepFault.TheVariants as keep
+use Rattle.store_tables.specs.Seeing.{wants_memory}
 use Rattle.store_tables.specs.Tables.{no_schema, room_schema}
 use Rattle.store_tables.specs.Within.{IsWithin}
 use Rattle.store_schema.specs.NewRoom.{meta_of, number_shown}
@@ -39,6 +42,21 @@ IsFailure (OldVersion n) = ⊥
 IsFailure (NewVersion n) = ⊥
 IsFailure Db = Unit {0}
 IsFailure Memory = Unit {0}
+
+-- the failure of a database that holds a room
+abbrev pub failure_as : Error → OpenFault
+failure_as why = if wants_memory why then Memory else Db
+
+-- the fault of a query that failed: its text may name what isn't there
+abbrev pub open_fault_of : Error → OpenFault
+open_fault_of (SqlInputError fault) = NotRooms
+open_fault_of why = failure_as why
+
+-- the failure of a keeper
+abbrev pub keeper_failure_as : KeepFault → OpenFault
+keeper_failure_as keep.Memory = Memory
+keeper_failure_as keep.Store = Db
+keeper_failure_as (keep.Damaged id) = Db
 
 -- There is no room, the database failed, or memory ran out.
 abbrev pub IsRefusal : OpenFault → Type 0

@@ -23,6 +23,9 @@ use Rattle.room_rows.specs.Meaning.{meaning}
 use Rattle.room_rows.specs.Rows.{AreRows, Rows}
 use Rattle.room_rows.specs.declared.keep.Keep.{Ghosts}
 use Rattle.room_rows.specs.declared.keep.KeepFault.{KeepFault}
+use Rattle.room_rows.specs.declared.keep.KeepFault.TheVariants.{Damaged}
+use Rattle.room_inherit.specs.declared.outcome.SpreadFault.{SpreadFault}
+use Rattle.room_inherit.specs.declared.outcome.SpreadFault.TheVariants as spread
 use Rattle.room_inherit.specs.Kept.{kept_report_of}
 use Rattle.room_rows.specs.Sound.{AreSound, AreSoundKept}
 use Rattle.room_inherit.specs.SpreadAll.{IsSpreadAll}
@@ -55,6 +58,11 @@ pub record Raises {S : Type 0} (k : Ghosts S) (old new : S)
   pub follows : k.Follows old new
   pub becomes : k.IsTrusted old new
       → IfOk result (λ report. IsRaised (k.rows old) report (k.rows new))
+
+-- the keeper's fault for lists that weren't all carried down
+abbrev pub spread_fault_as : SpreadFault → KeepFault
+spread_fault_as (spread.Keeper fault) = fault
+spread_fault_as spread.Loop = Damaged 0
 
 -- All lists are carried down.
 pub record CarriesAll {S : Type 0} (k : Ghosts S) (old new : S)

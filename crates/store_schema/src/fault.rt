@@ -1,7 +1,8 @@
 //! Why a room was not made, opened or upgraded.
 ghost use Rattle.std.specs.Prelude.{◌≡◌};
 ghost use Rattle.store_schema.specs.Making.{create_fault_of};
-ghost use Rattle.store_schema.specs.Opening.{IsCalled, IsFailure};
+ghost use Rattle.store_schema.specs.Opening.{IsCalled, IsFailure, failure_as, keeper_failure_as};
+ghost use Rattle.store_schema.specs.Opening.{open_fault_of};
 
 use room_inherit::Unsound;
 use room_rows::{KeepFault, Text};
@@ -57,7 +58,8 @@ pub enum MigrateFault {
 /// The fault for a query that failed. A text that isn't understood names a table or a column that
 /// isn't there.
 pub(crate) fn open_fault(error: &Error) -> OpenFault
-    ensures { IsCalled error.now result }
+    ensures called { IsCalled error.now result }
+    ensures fault { result ≡ open_fault_of error.now }
 {
     match error {
         Error::SqlInputError(_) => OpenFault::NotRooms,
@@ -68,7 +70,8 @@ pub(crate) fn open_fault(error: &Error) -> OpenFault
 
 /// The fault for a database that holds a room, and fails.
 pub(crate) fn failure_of(error: &Error) -> OpenFault
-    ensures { IsFailure result }
+    ensures failure { IsFailure result }
+    ensures fault { result ≡ failure_as error.now }
 {
     match error {
         Error::SqliteFailure(ErrorCode::OutOfMemory) => OpenFault::Memory,
@@ -78,7 +81,8 @@ pub(crate) fn failure_of(error: &Error) -> OpenFault
 
 /// The fault for a keeper that fails.
 pub(crate) fn keeper_failure(fault: KeepFault) -> OpenFault
-    ensures { IsFailure result }
+    ensures failure { IsFailure result }
+    ensures fault { result ≡ keeper_failure_as fault }
 {
     match fault {
         KeepFault::Memory => OpenFault::Memory,

@@ -4,7 +4,7 @@ ghost use Rattle.sqlite.specs.Held.{state};
 ghost use Rattle.store_tables.specs.Meaning.{rows_of};
 ghost use Rattle.store_tables.specs.Shown.{Stays};
 ghost use Rattle.store_tables.specs.Trust.{IsTrusted};
-ghost use Rattle.store_schema.specs.Raising.{CarriesAll, IsRaised, Raises};
+ghost use Rattle.store_schema.specs.Raising.{CarriesAll, IsRaised, Raises, spread_fault_as};
 
 use room_inherit::{Report, SpreadFault, spread_all, verify_kept};
 use room_rows::{Keep, KeepFault};
@@ -12,14 +12,23 @@ use sqlite::{Alter, Transaction};
 use std::alloc::Global;
 use store_tables::{Keeper, RecentLists};
 
+// The keeper's fault for lists that weren't all carried down. A loop is a row that can't be right.
+fn spread_fault(fault: SpreadFault) -> KeepFault
+    ensures { result ≡ spread_fault_as fault }
+{
+    match fault {
+        SpreadFault::Keeper(fault) => fault,
+        SpreadFault::Loop => KeepFault::Damaged { id: 0 },
+    }
+}
+
 // Carries all lists down.
 fn carry_all<K: Keep>(alloc: Global, keep: &mut K) -> Result<(), KeepFault>
     ensures carries { CarriesAll K.Keep keep.old keep.new result }
 {
     match spread_all(alloc, keep) {
         Ok(_) => Ok(()),
-        Err(SpreadFault::Keeper(fault)) => Err(fault),
-        Err(SpreadFault::Loop) => Err(KeepFault::Damaged { id: 0 }),
+        Err(fault) => Err(spread_fault(fault)),
     }
 }
 

@@ -15,4 +15,4 @@ pub returns-in-Err-clause-asks : goal.returns-in-Err-clause-asks
 returns-in-Err-clause-asks g c =
     asks_err (state g.S.Store c.args.tx.now.conn.now)
     (state g.S.Store c.query_all.new.self.conn.now) c.query_all.ensures.survives.clean
-    c.in-Err.error c.open_fault.result c.open_fault.ensures c.in-Err.ensures.err
+    c.in-Err.error c.open_fault.result c.open_fault.ensures.called c.in-Err.ensures.err
