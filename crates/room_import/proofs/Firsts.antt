@@ -12,7 +12,8 @@ use Rattle.room_import.specs.declared.fault.CsvFault.{CsvFault}
 use Rattle.room_import.specs.declared.fault.CsvWhy.TheVariants.{BadName, NotTwoFields, TooManyRows, NotUtf8}
 use Rattle.room_import.specs.Groups.{and_then, fault_at, pair_of, pair_of_row, pairs_after, same_pair, with_pair}
 use Rattle.room_import.specs.Exports.{FirstFault, PairsOfRows, are_once, has_pair, pair_row}
-use Rattle.room_import.proofs.SeenFacts.{same_text-sym, with_new, with_old}
+use Rattle.room_entry.proofs.Texts.{same_text-sym}
+use Rattle.room_import.proofs.SeenFacts.{with_new, with_old}
 
 abbrev Pair : Type 0
 Pair = List ℕ × List ℕ

@@ -8,3 +8,4 @@ pub mod Lookups
 pub mod SamePlace
 pub mod Frames
 pub mod InPlace
+pub mod Sets
