@@ -216,7 +216,7 @@ limit_front first rest none =
 
 -- ---- the entries
 
-with_entry_ok : (n : ℕ) (before : List Ace) (entry : Ace) (rest : List Ace)
+pub with_entry_ok : (n : ℕ) (before : List Ace) (entry : Ace) (rest : List Ace)
     → limit_fault ((before ++ entry ∷ []) ++ rest) ≡ None
     → with_entry n before (Ok entry) ≡ Ok (before ++ entry ∷ [])
 with_entry_ok n before entry rest none =

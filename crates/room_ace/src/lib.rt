@@ -14,7 +14,7 @@ mod sent;
 pub use entry_lines::{print_entries, read_entries};
 pub use entry_text::{print_entry, read_entry};
 pub use fault::{LineFault, Why};
-pub use laws::{list_reads_back, reads_back};
+pub use laws::{list_reads_back, reads_back, reads_what_is_spelled};
 pub use lines::{split_line, text_of};
 pub use list_text::{print_list, read_list};
 pub use room_entry::{

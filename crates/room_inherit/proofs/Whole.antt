@@ -12,14 +12,9 @@ use Rattle.room_rows.specs.Rows.{Rows, AreRows, is_unreadable, numbers_of, put_n
 use Rattle.room_inherit.specs.Reading.{IsBadAt, IsUnused}
 use Rattle.room_rows.specs.Sound.{first_bad_list, has_bad_list}
 use Rattle.room_inherit.proofs.Numbers.{ids_of, each_found}
+use Rattle.room_rows.proofs.Sets.{or_swap}
 
 -- ---- numbers in use
-
-or_swap : (a b c : Bool) → (a || (b || c)) ≡ (b || (a || c))
-or_swap true true c = refl
-or_swap true false c = refl
-or_swap false true c = refl
-or_swap false false c = refl
 
 or_group : (a b c : Bool) → (a || (b || c)) ≡ ((a || b) || c)
 or_group true b c = refl

@@ -33,7 +33,7 @@ use Rattle.room_machine.specs.Plan.{Check, Deletion, Item, Refusal, bad_list, mo
 use Rattle.room_machine.specs.Site.{Site, front, full_at, last_name, parent_at, root_site, site_at, site_below, sites_along, sites_below, sites_of}
 use Rattle.room_machine.specs.Step.{Step, caller_in}
 use Rattle.room_review.specs.Laws.{IsUnknownIn, StrangersGetTheSame, is_known_at, is_known_to, is_paired, is_user_named}
-use Rattle.room_review.proofs.Ways.{or_reply, reply_of}
+use Rattle.room_machine.proofs.Replies.{or_reply, reply_of}
 use Rattle.room_review.proofs.Strangers.{IsUnknown, alone, are_unknown, at_unknown, first_unknown, is_alone, is_not, others_unknown, rulings}
 
 found_passes : (p q : Node → Bool) (nodes : List Node) (node : Node) → list_all q nodes ≡ true

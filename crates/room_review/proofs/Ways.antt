@@ -25,28 +25,9 @@ use Rattle.room_machine.specs.Plan.{Check, Deletion, Item, Refusal, plan_of, way
 use Rattle.room_machine.specs.Judge.{entry_at, failure, first_failure, of_deletion, of_verdict, or_else}
 use Rattle.room_machine.specs.Effect.{effect, rulings}
 use Rattle.room_machine.specs.Step.{Step, answered, caller_in}
+use Rattle.room_machine.proofs.Replies.{or_reply, reply_of}
 use Rattle.room_review.specs.Rights.{grants, last_of, lets_through, may_remove, may_remove_at, reaches, reaches_at, rights, rights_at, sites_above}
 use Rattle.room_review.specs.Laws.{SaysCan, SaysRemove, allowed_in, is_denial, is_rulings, passed_rights}
-
--- ---- the reply of a step
-
-abbrev pub or_reply : Option Reply → Reply → Reply
-or_reply None reply = reply
-or_reply (Some failed) reply = failed
-
-answered_reply : (failed : Option Reply) (content : Content) (done : Reply × Content)
-    → (answered failed content done).0 ≡ or_reply failed done.0
-answered_reply None content done = refl
-answered_reply (Some reply) content done = refl
-
-pub reply_of : (content : Content) (user : Option (List ℕ)) (moment : ℤ) (request : Request)
-    (reply : Reply) (after : Content) → (s : Step content user moment request reply after)
-    → reply ≡ or_reply (first_failure (caller_in content user) (plan_of content request))
-    (effect content (caller_in content user) s.0 request).0
-reply_of content user moment request reply after s =
-    sym (ap (λ (d : Reply × Content). d.0) s.2)
-    ∙ answered_reply (first_failure (caller_in content user) (plan_of content request)) content
-    (effect content (caller_in content user) s.0 request)
 
 -- ---- a way
 
