@@ -1,7 +1,7 @@
 -- Calls of a keeper that write lists, one after the other.
-use Rattle.std.proofs.Common.{◌≡◌, ℕ, suc, ◌+◌, ◌<◌, ◌^◌, ◌-◌, ◌==◌, Bool, true, false, cond, not, List, [], ◌∷◌, ◌++◌, length, map, filter, drop, get_or, Some, Result, Ok, Err, IfOk, IfErr, refl, sym, ap, subst, ◌∙◌, inl, inr, arith, add-one, drop-cons}
+use Rattle.std.proofs.Common.{◌≡◌, ℕ, suc, ◌+◌, ◌<◌, ◌^◌, ◌-◌, Bool, true, false, cond, List, [], ◌∷◌, ◌++◌, length, map, filter, drop, get_or, Some, Result, Ok, Err, IfOk, IfErr, refl, sym, ap, subst, ◌∙◌, inl, inr, arith, add-one, drop-cons}
 use Rattle.std.specs.List.{list_any}
-use Rattle.std.proofs.lemmas.Bool.{cases_lt, eqb-true, not-false}
+use Rattle.std.proofs.lemmas.Bool.{cases_lt}
 use Rattle.std.proofs.lemmas.List.{append_assoc, append-nil, length-append}
 use Rattle.room_entry.specs.Ace.{Ace}
 use Rattle.room_entry.specs.Valid.{is_document}
@@ -13,7 +13,7 @@ use Rattle.room_rows.specs.Counts.{capped_below, capped_past}
 use Rattle.room_rows.specs.HeldList.{Held}
 use Rattle.room_rows.specs.declared.keep.KeepFault.{KeepFault}
 use Rattle.room_rows.specs.declared.keep.KeepFault.TheVariants.{Memory}
-use Rattle.room_rows.specs.Keep.{Changes, IsUnreadable, IsRead, IsWrite, AreChildrenOf, Leaves, capped, reading, with_inh, KeepLaws}
+use Rattle.room_rows.specs.Keep.{Changes, IsUnreadable, IsRead, IsWrite, AreChildrenOf, HasChildren, Leaves, capped, reading, with_inh, KeepLaws}
 use Rattle.room_rows.specs.Rows.{Rows, is_unreadable}
 use Rattle.room_rows.proofs.Steps.{later_cause}
 use Rattle.room_inherit.specs.declared.descent.Descent.{Descent}
@@ -25,7 +25,6 @@ use Rattle.room_inherit.specs.Turn.{AreKnown, IsChildless, LeavesOut, MeetsAgain
 use Rattle.room_inherit.proofs.Renewing.{known_other, known_renewals, turn_becomes}
 use Rattle.room_inherit.proofs.Chosen.{below_put, chosen_append, chosen_there, none_below, one_chosen}
 use Rattle.room_rows.proofs.InPlace.{held_of-with_inh, with_inh-id}
-use Rattle.room_entry.proofs.Facts.Members.{no_length}
 
 -- ---- counts with an end
 
@@ -382,24 +381,23 @@ module _ {S : Type 0} (k : Ghosts S) (a b : S) where
       IsRead k.rows k.failures k.writes k.Follows k.IsTrusted a b result IsUnreadable
       (λ rows waits. TellsWaiting rows.read reach which above child waits)
 
-  -- the children of a document were read
-  pub document_asked : (object : Node) (below : List Node) (empty : Bool)
-      → is_document object.kind ≡ true → empty ≡ (length below == 0)
-      → IsRead k.rows k.failures k.writes k.Follows k.IsTrusted a b (Ok below) IsUnreadable
-      (AreChildrenOf object.id) → MayHave object (Ok (not empty))
-  document_asked object below empty document is read = record {
+  -- it was asked whether a document has children
+  pub document_asked : (object : Node) (r : Result Bool KeepFault) → is_document object.kind ≡ true
+      → IsRead k.rows k.failures k.writes k.Follows k.IsTrusted a b r IsUnreadable
+      (HasChildren object.id) → MayHave object r
+  document_asked object r document read = record {
     follows = read.follows;
     unwritten = read.unwritten;
     same = read.same;
-    answers = λ t no. (
-      document,
-      none_below object.id (k.rows a).read.nodes
-          (sym (read.answers t)
-          ∙ no_length below (eqb-true (length below) 0 (sym is ∙ not-false empty no))),
-    );
+    answers = λ t. on r (read.answers t);
     unfailed = read.unfailed;
-    fault = tt;
+    fault = read.fault;
   }
+    where
+      on : (r : Result Bool KeepFault) → IfOk r (HasChildren object.id (k.rows a))
+          → IfOk r (λ may. may ≡ false → IsChildless (k.rows a).read object)
+      on (Ok may) h = λ no. (document, none_below object.id (k.rows a).read.nodes (h.0 no))
+      on (Err e) h = tt
 
   -- a child that would wait waits, unless nothing stands below it
   pub told_below : (reach : Reach) (which : Which) (above child : Node) (r : Result Bool KeepFault)

@@ -155,8 +155,7 @@ fn may_have_below<K: Keep>(keep: &mut K, object: &Node) -> Result<bool, KeepFaul
         (λ rows may. may ≡ false → IsChildless rows.read object.now) }
 {
     if object.is_document() {
-        let below = keep.children(object.id)?;
-        return Ok(!below.is_empty());
+        return keep.has_children(object.id);
     }
     Ok(true)
 }

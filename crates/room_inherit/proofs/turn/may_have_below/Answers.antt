@@ -5,8 +5,7 @@ use Rattle.room_inherit.proofs.turn.may_have_below.Goals as goal
 pub returns-then-is_document : goal.returns-then-is_document
 returns-then-is_document g c = record {
   asked =
-      document_asked g.K.Keep c.args.keep.now c.children.new.self c.args.object.now
-      c.in_ok-below.below c.is_empty.result
-      (sym c.is_document.ensures ∙ c.if-is_document.true) c.is_empty.ensures
-      c.in_ok-below.ensures.read;
+      document_asked g.K.Keep c.args.keep.now c.has_children.new.self c.args.object.now
+      c.has_children.result (sym c.is_document.ensures ∙ c.if-is_document.true)
+      c.has_children.ensures.read;
 }
