@@ -6,3 +6,4 @@ mod Opened
 mod Testing
 mod Shutting
 pub mod Closing
+mod Recalled

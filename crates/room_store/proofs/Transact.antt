@@ -22,7 +22,7 @@ use Rattle.store_admin.specs.Carries.{AnswersOpen, ByRows, CallsInside, OnRows, 
 use Rattle.room_store.specs.Turn.{Begins, Finishes, GivesUp, commit_fault, fault_as}
 
 -- a commit that fails is no damage
-never_damage : (why : Error) → commit_fault why ≡ Damaged → ⊥
+pub never_damage : (why : Error) → commit_fault why ≡ Damaged → ⊥
 never_damage why is =
     elim (cases_Bool (wants_memory why)) [
       | inl e ↦ (let known : Memory ≡ Damaged = rw e at is in absurd (cc))
@@ -35,21 +35,21 @@ damage_of keep.Memory is = absurd (let e = is in cc)
 damage_of keep.Store is = absurd (let e = is in cc)
 damage_of (keep.Damaged id) is = (id, refl)
 
-same_fault : {X : Type 0} {a b : StoreFault} → ◌≡◌ {A = Result X StoreFault} (Err a) (Err b) → a ≡ b
+pub same_fault : {X : Type 0} {a b : StoreFault} → ◌≡◌ {A = Result X StoreFault} (Err a) (Err b) → a ≡ b
 same_fault e = cc
 
 module _ (old begun mid end : State) (begins : Begins old begun) (stays : Stays begun mid)
     (ended : end.in_transaction ≡ false) (clean : doubt mid.is_clean ≤ doubt end.is_clean) where
-  clean_mid : HasCleanDisk end → HasCleanDisk mid
+  pub clean_mid : HasCleanDisk end → HasCleanDisk mid
   clean_mid h = omega arith
 
-  old_clean : HasCleanDisk end → HasCleanDisk old
+  pub old_clean : HasCleanDisk end → HasCleanDisk old
   old_clean h =
       let mid' : HasCleanDisk mid = clean_mid h in
       let begun' : HasCleanDisk begun = omega (arith, stays.within.clean, mid') in
       subst (λ b. doubt b ≡ 0) begins.same_clean begun'
 
-  old_open : HasCleanDisk end → IsTrue mid.is_open → IsTrue old.is_open
+  pub old_open : HasCleanDisk end → IsTrue mid.is_open → IsTrue old.is_open
   old_open now open' = sym begins.same_open ∙ stays.within.was_open (clean_mid now) open'
 
   -- whatever the tables are, nothing is committed before the end
@@ -59,12 +59,12 @@ module _ (old begun mid end : State) (begins : Begins old begun) (stays : Stays 
       ∙ sym (begins.settled (old_open now open'))
 
   -- what is known of the tables once the calls were made
-  record Made : Type 0 where
-    trusted : IsTrusted begun mid
-    room : IsRoom mid.now
-    retains : Retains old.now.trees mid.now.trees
+  pub record Made : Type 0 where
+    pub trusted : IsTrusted begun mid
+    pub room : IsRoom mid.now
+    pub retains : Retains old.now.trees mid.now.trees
 
-  made : HasCleanDisk end → IsTrue mid.is_open → HasTables old.now → Made
+  pub made : HasCleanDisk end → IsTrue mid.is_open → HasTables old.now → Made
   made now open' tables =
       let open'' : IsTrue old.is_open = old_open now open' in
       let room : IsRoom old.now = room_of tables (begins.sound open'') in
@@ -88,7 +88,7 @@ module _ (old begun mid end : State) (begins : Begins old begun) (stays : Stays 
         was_open = λ now open'. old_open now (was now open');
       }
 
-  undone_at : HasCleanDisk end → IsTrue end.is_open → IsRolledBack mid end → end.now ≡ old.now
+  pub undone_at : HasCleanDisk end → IsTrue end.is_open → IsRolledBack mid end → end.now ≡ old.now
   undone_at now open' back = (back.undone open').0 ∙ committed_mid now (back.was_open open')
 
   was_at : IsTrue end.is_open → (why : Error) → FailsToCommit mid end why → IsTrue mid.is_open

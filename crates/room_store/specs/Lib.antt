@@ -5,3 +5,4 @@ pub mod Turn
 pub mod Leads
 pub mod Opens
 pub mod Asks
+pub mod Remembers

@@ -1,50 +1,121 @@
 //! One request in one transaction.
-ghost use Rattle.std.specs.Prelude.{◌≡◌};
+ghost use Rattle.std.specs.Prelude.{◌≡◌, ◌≤◌, IfSome, IsOk, false, true};
 ghost use Rattle.std.specs.Option.{option_copied};
 ghost use Rattle.sqlite.specs.Held.{state};
+ghost use Rattle.sqlite.specs.State.{HasCleanDisk};
+ghost use Rattle.sqlite_trees.specs.View.{doubt};
 ghost use Rattle.room_judge.specs.Closed.{Performs};
+ghost use Rattle.room_remember.specs.Agrees.{Agrees};
 ghost use Rattle.room_store.specs.Ran.{HasDamage, Ran};
+ghost use Rattle.room_store.specs.Remembers.{EndsLook, IsKept, Remembers};
 ghost use Rattle.store_admin.specs.Carries.{ByRows, CallsInside, OnRows};
+ghost use Rattle.store_tables.specs.Meaning.{rows_of};
+ghost use Rattle.store_tables.specs.Shown.{Stays};
+ghost use Rattle.store_tables.specs.Trust.{IsTrusted};
 
 use crate::fault::StoreFault;
+use crate::look::give_up;
 use crate::turn::{begin, finish};
 use room_ace::Name;
 use room_desk::perform;
 use room_machine::{Reply, Request};
+use room_remember::{Memory, Remembering};
 use room_rows::KeepFault;
 use sqlite::{Alter, Connection, Transaction};
 use std::alloc::Global;
 use store_tables::{Keeper, RecentLists};
 
-// The request, by the keeper.
+// The request, by a keeper that remembers.
 fn perform_by<S: Alter>(
     alloc: Global,
-    keeper: &mut Keeper<'_, '_, S>,
+    keep: &mut Remembering<'_, Keeper<'_, '_, S>>,
     caller: Option<&Name>,
     at: i64,
     request: &Request,
 ) -> Result<Reply, KeepFault>
-    ensures same_reference { keeper.new.tx.ghost_name ≡ keeper.old.tx.ghost_name }
-    ensures same_lender { keeper.new.tx.now.conn.ghost_name ≡ keeper.old.tx.now.conn.ghost_name }
-    ensures carries { CallsInside (state S.Store keeper.old.tx.now.conn.now)
-        (state S.Store keeper.new.tx.now.conn.now) result (OnRows HasDamage)
+    ensures same_keeper { keep.new.keeper.ghost_name ≡ keep.old.keeper.ghost_name }
+    ensures same_memory { keep.new.memory.ghost_name ≡ keep.old.memory.ghost_name }
+    ensures same_reference { keep.new.keeper.now.tx.ghost_name
+        ≡ keep.old.keeper.now.tx.ghost_name }
+    ensures same_lender { keep.new.keeper.now.tx.now.conn.ghost_name
+        ≡ keep.old.keeper.now.tx.now.conn.ghost_name }
+    ensures stays { Stays (state S.Store keep.old.keeper.now.tx.now.conn.now)
+        (state S.Store keep.new.keeper.now.tx.now.conn.now) }
+    ensures carries { (IsTrusted (state S.Store keep.old.keeper.now.tx.now.conn.now)
+        (state S.Store keep.new.keeper.now.tx.now.conn.now) → Agrees keep.old.memory.now
+        (rows_of (state S.Store keep.old.keeper.now.tx.now.conn.now).now))
+        → CallsInside (state S.Store keep.old.keeper.now.tx.now.conn.now)
+        (state S.Store keep.new.keeper.now.tx.now.conn.now) result (OnRows HasDamage)
         (ByRows (Performs (option_copied caller.entry) at request.now)) }
+    ensures kept { keep.new.touched ≡ false
+        → IsKept (state S.Store keep.old.keeper.now.tx.now.conn.now)
+        (state S.Store keep.new.keeper.now.tx.now.conn.now) keep.old.memory.now
+        keep.new.memory.now }
 {
-    perform(alloc, keeper, caller, at, request)
+    perform(alloc, keep, caller, at, request)
 }
 
-// The request, by a keeper inside the transaction.
+// Whether nothing was written and nothing failed.
+fn has_read(touched: bool, done: &Result<Reply, KeepFault>) -> bool
+    ensures { result ≡ true → (touched ≡ false) × IsOk done.now }
+{
+    !touched && done.is_ok()
+}
+
+// The request, by the keeper and what is remembered of its rows, and whether it only read.
+fn perform_with<S: Alter>(
+    alloc: Global,
+    keeper: &mut Keeper<'_, '_, S>,
+    known: &mut Memory,
+    caller: Option<&Name>,
+    at: i64,
+    request: &Request,
+) -> (Result<Reply, KeepFault>, bool)
+    ensures same_reference { keeper.new.tx.ghost_name ≡ keeper.old.tx.ghost_name }
+    ensures same_lender { keeper.new.tx.now.conn.ghost_name ≡ keeper.old.tx.now.conn.ghost_name }
+    ensures stays { Stays (state S.Store keeper.old.tx.now.conn.now)
+        (state S.Store keeper.new.tx.now.conn.now) }
+    ensures carries { (IsTrusted (state S.Store keeper.old.tx.now.conn.now)
+        (state S.Store keeper.new.tx.now.conn.now)
+        → Agrees known.old (rows_of (state S.Store keeper.old.tx.now.conn.now).now))
+        → CallsInside (state S.Store keeper.old.tx.now.conn.now)
+        (state S.Store keeper.new.tx.now.conn.now) result.0 (OnRows HasDamage)
+        (ByRows (Performs (option_copied caller.entry) at request.now)) }
+    ensures kept { result.1 ≡ true → IsOk result.0
+        × IsKept (state S.Store keeper.old.tx.now.conn.now)
+        (state S.Store keeper.new.tx.now.conn.now) known.old known.new }
+{
+    let mut keep = Remembering {
+        alloc,
+        keeper,
+        memory: known,
+        touched: false,
+    };
+    let done = perform_by(alloc, &mut keep, caller, at, request);
+    let only_read = has_read(keep.touched, &done);
+    (done, only_read)
+}
+
+// The request, by a keeper inside the transaction, and whether it only read.
 fn perform_inside<S: Alter>(
     alloc: Global,
     tx: &mut Transaction<'_, S>,
     lists: &mut RecentLists,
+    known: &mut Memory,
     caller: Option<&Name>,
     at: i64,
     request: &Request,
-) -> Result<Reply, KeepFault>
+) -> (Result<Reply, KeepFault>, bool)
     ensures same_reference { tx.new.conn.ghost_name ≡ tx.old.conn.ghost_name }
-    ensures carries { CallsInside (state S.Store tx.old.conn.now) (state S.Store tx.new.conn.now)
-        result (OnRows HasDamage) (ByRows (Performs (option_copied caller.entry) at request.now)) }
+    ensures stays { Stays (state S.Store tx.old.conn.now) (state S.Store tx.new.conn.now) }
+    ensures carries { (IsTrusted (state S.Store tx.old.conn.now) (state S.Store tx.new.conn.now)
+        → Agrees known.old (rows_of (state S.Store tx.old.conn.now).now))
+        → CallsInside (state S.Store tx.old.conn.now) (state S.Store tx.new.conn.now)
+        result.0 (OnRows HasDamage)
+        (ByRows (Performs (option_copied caller.entry) at request.now)) }
+    ensures kept { result.1 ≡ true → IsOk result.0
+        × IsKept (state S.Store tx.old.conn.now) (state S.Store tx.new.conn.now)
+        known.old known.new }
 {
     let mut keeper = Keeper {
         alloc,
@@ -53,25 +124,59 @@ fn perform_inside<S: Alter>(
         failures: 0,
         writes: 0,
     };
-    perform_by(alloc, &mut keeper, caller, at, request)
+    perform_with(alloc, &mut keeper, known, caller, at, request)
 }
 
-/// Carries out one request in one transaction. Inside another one it returns `Db` at once.
+// After calls that only read, and were rolled back: a transaction without calls is committed, which
+// a connection that is shut refuses.
+fn end_look<S: Alter>(
+    conn: &mut Connection<S>,
+    looked: Result<Reply, StoreFault>,
+    kept: Memory,
+) -> (Result<Reply, StoreFault>, Option<Memory>)
+    requires { conn.old.in_transaction ≡ false }
+    ensures ended { conn.new.in_transaction ≡ false }
+    ensures clean { doubt (state S.Store conn.old).is_clean
+        ≤ doubt (state S.Store conn.new).is_clean }
+    ensures ends { HasCleanDisk (state S.Store conn.new)
+        → EndsLook (state S.Store conn.old) (state S.Store conn.new) looked result.0 }
+    ensures kept { IfSome result.1 (λ m. (m ≡ kept) × IsOk looked × IsOk result.0) }
+{
+    match looked {
+        Err(fault) => (Err(fault), None),
+        Ok(reply) => match finish(begin(conn), Ok(())) {
+            Err(fault) => (Err(fault), None),
+            Ok(()) => (Ok(reply), Some(kept)),
+        },
+    }
+}
+
+/// Carries out one request in one transaction, with what is remembered. Inside another one it
+/// returns `Db` at once.
 pub(crate) fn run_on<S: Alter>(
     alloc: Global,
     conn: &mut Connection<S>,
+    known: Memory,
     lists: &mut RecentLists,
     caller: Option<&Name>,
     at: i64,
     request: &Request,
-) -> Result<Reply, StoreFault>
-    ensures ran { Ran (state S.Store conn.old) (state S.Store conn.new) result HasDamage
+) -> (Result<Reply, StoreFault>, Option<Memory>)
+    requires { Remembers (state S.Store conn.old) known }
+    ensures ran { Ran (state S.Store conn.old) (state S.Store conn.new) result.0 HasDamage
         (Performs (option_copied caller.entry) at request.now) }
+    ensures remembers { IfSome result.1 (Remembers (state S.Store conn.new)) }
 {
     if !conn.is_autocommit() {
-        return Err(StoreFault::Db);
+        return (Err(StoreFault::Db), None);
     }
     let mut tx = begin(conn);
-    let done = perform_inside(alloc, &mut tx, lists, caller, at, request);
-    finish(tx, done)
+    let mut memory = known;
+    let (done, only_read) = perform_inside(alloc, &mut tx, lists, &mut memory, caller, at, request);
+    if only_read {
+        let looked = give_up(tx, done);
+        return end_look(conn, looked, memory);
+    }
+    memory.forget();
+    (finish(tx, done), Some(memory))
 }

@@ -24,10 +24,7 @@ ghost use Rattle.store_admin.specs.Operating.{
 };
 
 use crate::fault::StoreFault;
-use crate::operating::{audits_on, dump_on, members_on, replace_on};
-use crate::resetting::reset_on;
-use crate::running::run_on;
-use crate::verifying::verify_on;
+use crate::room::Room;
 use room_ace::{Name, SentList, Which};
 use room_inherit::Report;
 use room_inherit::laws::sound_is_no_fault;
@@ -40,7 +37,7 @@ use store_tables::RecentLists;
 /// A room in the tables of a connection. Each call that writes is one transaction; within a
 /// transaction of the connection's owner all calls answer `Db`.
 pub struct Store<S: Alter> {
-    pub(crate) conn: Connection<S>,
+    pub(crate) conn: Room<S>,
     // the lists that requests read recently
     lists: RecentLists,
     // how often the store has answered a fault as a desk
@@ -64,7 +61,7 @@ impl<S: Alter> Store<S> {
         ensures faults { result.faults ≡ 0 }
     {
         Store {
-            conn,
+            conn: Room::over(conn),
             lists: RecentLists::new(),
             faults: 0,
         }
@@ -91,7 +88,7 @@ impl<S: Alter> Store<S> {
             (state S.Store self.new.conn) }
         ensures faults { self.new.faults ≡ self.old.faults }
     {
-        run_on(alloc, &mut self.conn, &mut self.lists, caller, at, request)
+        self.conn.run(alloc, &mut self.lists, caller, at, request)
     }
 
     /// Sets one of an object's lists as the request does, but asks no rights and leaves no record.
@@ -110,7 +107,7 @@ impl<S: Alter> Store<S> {
             (Event.WasReset path.now which sent.now)) (state S.Store self.new.conn) }
         ensures faults { self.new.faults ≡ self.old.faults }
     {
-        reset_on(alloc, &mut self.conn, path, which, sent)
+        self.conn.reset(alloc, path, which, sent)
     }
 
     /// Whether the rows are sound, or the first fault of seven tests. Nothing changes. The error is
@@ -121,7 +118,7 @@ impl<S: Alter> Store<S> {
         ensures leads { Leads (state S.Store self.old.conn) [] (state S.Store self.new.conn) }
         ensures faults { self.new.faults ≡ self.old.faults }
     {
-        verify_on(alloc, &mut self.conn)
+        self.conn.verify(alloc)
     }
 
     /// Replaces the pairs of group and user by these, each once. It is the operator's step of the
@@ -140,7 +137,7 @@ impl<S: Alter> Store<S> {
         ensures faults { self.new.faults ≡ self.old.faults }
     {
         sound_is_no_fault();
-        replace_on(alloc, &mut self.conn, pairs)
+        self.conn.replace_members(alloc, pairs)
     }
 
     /// The pairs, in order of group and then of user, each once. A row whose group or user is no
@@ -151,7 +148,7 @@ impl<S: Alter> Store<S> {
         ensures leads { Leads (state S.Store self.old.conn) [] (state S.Store self.new.conn) }
         ensures faults { self.new.faults ≡ self.old.faults }
     {
-        members_on(alloc, &mut self.conn)
+        self.conn.members(alloc)
     }
 
     /// The records, in the order in which they were added. Nothing changes, and `Damaged` comes
@@ -162,7 +159,7 @@ impl<S: Alter> Store<S> {
         ensures leads { Leads (state S.Store self.old.conn) [] (state S.Store self.new.conn) }
         ensures faults { self.new.faults ≡ self.old.faults }
     {
-        audits_on(alloc, &mut self.conn)
+        self.conn.audits(alloc)
     }
 
     /// The room as text: the lines of all objects, the root first and after an object its children
@@ -175,7 +172,7 @@ impl<S: Alter> Store<S> {
         ensures leads { Leads (state S.Store self.old.conn) [] (state S.Store self.new.conn) }
         ensures faults { self.new.faults ≡ self.old.faults }
     {
-        dump_on(alloc, &mut self.conn)
+        self.conn.dump(alloc)
     }
 
     /// The connection, with the tables as they are.
@@ -187,6 +184,6 @@ impl<S: Alter> Store<S> {
             lists: _,
             faults: _,
         } = self;
-        conn
+        conn.into_conn()
     }
 }

@@ -4,30 +4,30 @@ use Rattle.room_store.proofs.desk.StoreDesk.is_shut.Goals as goal
 
 pub returns-in-Ok-clause-kept : goal.returns-in-Ok-clause-kept
 returns-in-Ok-clause-kept g c =
-    asked_keeps (state g.S.Store c.args.self.now.conn) (state g.S.Store c.test_shut.new.conn) _
-    c.test_shut.ensures
+    asked_keeps (state g.S.Store c.args.self.now.conn) (state g.S.Store c.is_shut.new.self) _
+    c.is_shut.ensures
 
 pub returns-in-Ok-clause-sound : goal.returns-in-Ok-clause-sound
 returns-in-Ok-clause-sound g c =
-    asked_sound (state g.S.Store c.args.self.now.conn) (state g.S.Store c.test_shut.new.conn) _
-    c.test_shut.ensures
+    asked_sound (state g.S.Store c.args.self.now.conn) (state g.S.Store c.is_shut.new.self) _
+    c.is_shut.ensures
 
 pub returns-in-Err-clause-kept : goal.returns-in-Err-clause-kept
 returns-in-Err-clause-kept g c =
-    asked_keeps (state g.S.Store c.args.self.now.conn) (state g.S.Store c.test_shut.new.conn) _
-    c.test_shut.ensures
+    asked_keeps (state g.S.Store c.args.self.now.conn) (state g.S.Store c.is_shut.new.self) _
+    c.is_shut.ensures
 
 pub returns-in-Err-clause-sound : goal.returns-in-Err-clause-sound
 returns-in-Err-clause-sound g c =
-    asked_sound (state g.S.Store c.args.self.now.conn) (state g.S.Store c.test_shut.new.conn) _
-    c.test_shut.ensures
+    asked_sound (state g.S.Store c.args.self.now.conn) (state g.S.Store c.is_shut.new.self) _
+    c.is_shut.ensures
 
 pub returns-in-Ok-clause-held : goal.returns-in-Ok-clause-held
 returns-in-Ok-clause-held g c =
-    asked_stored (state g.S.Store c.args.self.now.conn) (state g.S.Store c.test_shut.new.conn) _
-    c.test_shut.ensures
+    asked_stored (state g.S.Store c.args.self.now.conn) (state g.S.Store c.is_shut.new.self) _
+    c.is_shut.ensures
 
 pub returns-in-Err-clause-held : goal.returns-in-Err-clause-held
 returns-in-Err-clause-held g c =
-    asked_stored (state g.S.Store c.args.self.now.conn) (state g.S.Store c.test_shut.new.conn) _
-    c.test_shut.ensures
+    asked_stored (state g.S.Store c.args.self.now.conn) (state g.S.Store c.is_shut.new.self) _
+    c.is_shut.ensures

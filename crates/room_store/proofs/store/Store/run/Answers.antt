@@ -12,20 +12,20 @@ use Rattle.room_store.proofs.store.Store.run.Goals as goal
 pub returns-clause-closed : goal.returns-clause-closed
 returns-clause-closed g c =
     let old = state g.S.Store c.args.self.now.conn in
-    let new = state g.S.Store c.run_on.new.conn in
+    let new = state g.S.Store c.run.new.self in
     let user = option_copied c.args.caller in
     let asked = c.args.request.now in
-    let ran = subst (λ at. Ran old new c.run_on.result HasDamage (Performs user at asked))
-    (to_z-of_z w64 c.args.at c.ranges.at) c.run_on.ensures.ran in
-    closes user c.args.at asked old new c.run_on.result ran
+    let ran = subst (λ at. Ran old new c.run.result HasDamage (Performs user at asked))
+    (to_z-of_z w64 c.args.at c.ranges.at) c.run.ensures.ran in
+    closes user c.args.at asked old new c.run.result ran
 
 pub returns-clause-leads : goal.returns-clause-leads
 returns-clause-leads g c =
     let old = state g.S.Store c.args.self.now.conn in
-    let new = state g.S.Store c.run_on.new.conn in
+    let new = state g.S.Store c.run.new.self in
     let user = option_copied c.args.caller in
     let asked = c.args.request.now in
-    let ran = subst (λ at. Ran old new c.run_on.result HasDamage (Performs user at asked))
-    (to_z-of_z w64 c.args.at c.ranges.at) c.run_on.ensures.ran in
+    let ran = subst (λ at. Ran old new c.run.result HasDamage (Performs user at asked))
+    (to_z-of_z w64 c.args.at c.ranges.at) c.run.ensures.ran in
     leading old new HasDamage (Performs user c.args.at asked) (Asked user c.args.at asked)
-    (performed user c.args.at asked) c.run_on.result ran
+    (performed user c.args.at asked) c.run.result ran
