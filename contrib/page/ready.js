@@ -1,5 +1,5 @@
 // The ready-made lists of a folder, the first ones of 'Lists that offices ask for' in
-// docs/operating.md, in the same words. Who sends one manages the folder.
+// docs/lists.md, in the same words. Who sends one manages the folder.
 
 import { LETTERS } from './list.js';
 

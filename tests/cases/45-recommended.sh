@@ -5,7 +5,9 @@ if [ "$loopback" = no ]; then
   skip 'recommended lists' 'this machine has no loopback'
   return
 fi
-operating=$here/../docs/operating.md
+# The list at the root, and those of folders.
+operating=$PWD/operating.md
+cat "$here"/../docs/{operating,lists}.md >"$operating"
 
 # The members of groups. pat is the other user, to whom belongs what others have added; fred was a member of staff, and zoe is
 # in no group.
@@ -30,7 +32,7 @@ users='alice bob erin ella clara ivan bea carol zoe fred -'
 mkdir bin
 ln -s "$rooms" bin/rooms
 take_lists "$operating" lists >index
-holds 'the lists of operating.md' [ "$(cut -d' ' -f3 index | sort | uniq -c | tr -s ' \n' ' ')" = ' 8 dacl 2 sacl ' ]
+holds 'the lists of operating.md and lists.md' [ "$(cut -d' ' -f3 index | sort | uniq -c | tr -s ' \n' ' ')" = ' 8 dacl 2 sacl ' ]
 private=$(list_of /bob | grep -v bob)
 
 make_folders() {
@@ -170,7 +172,7 @@ for page in README.md docs/tour.md; do
   page_says "$page" 'taff see which names are at the top'
   page_says "$page" 'may read, add and change, and each of them may remove, rename and move away the documents that they added themselves.'
 done
-page_says docs/operating.md 'Staff read everything, add documents and folders, and change every document. Each of them may remove, rename and move away the documents that they added themselves.'
+page_says docs/lists.md 'Staff read everything, add documents and folders, and change every document. Each of them may remove, rename and move away the documents that they added themselves.'
 
 # Records: the page promises one for each denied read, and for each attempt to remove, rename or move something or to change a
 # list or an owner; in /contracts one more for whatever is denied.

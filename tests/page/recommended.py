@@ -1,4 +1,4 @@
-"""The play of the ready-made lists, which are those of docs/operating.md in the same words."""
+"""The play of the ready-made lists, which are those of docs/lists.md in the same words."""
 
 import re
 
@@ -6,9 +6,9 @@ import re
 class Recommended:
     def section(self, title):
         """The first paragraph below this heading, in one line, and the first list."""
-        with open(f'{self.docs}/operating.md', encoding='utf-8') as file:
-            _, found, rest = file.read().partition(f'\n### {title}\n')
-        assert found, f'docs/operating.md has no heading {title}'
+        with open(f'{self.docs}/lists.md', encoding='utf-8') as file:
+            _, found, rest = file.read().partition(f'\n## {title}\n')
+        assert found, f'docs/lists.md has no heading {title}'
         words = ' '.join(rest.strip().split('\n\n')[0].split('\n'))
         return words, re.search(r'<<END\n(.*?)END\n', rest, re.S)[1]
 
@@ -19,6 +19,7 @@ class Recommended:
         for index, name in enumerate(('staff', 'staff', 'staff', 'bob')):
             alice.open('#/office?dacl')
             alice.press('Ready-made lists')
+            alice.until(lambda: len(alice.all('dialog [name=ready]')) == 4, 'four lists')
             alice.all('dialog [name=ready]')[index].click()
             alice.write('dialog input[type=text]', name)
             title = alice.texts('dialog .choice .title')[index]
