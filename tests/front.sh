@@ -13,8 +13,8 @@ for_here() { # FILE
   local six='/listen \[::\]/d'
   if has_six; then six="s/listen \[::\]:80;/listen [::1]:$front;/; s/listen \[::\]:443 /listen [::1]:$secure /"; fi
   sed -e "s/listen 80;/listen 127.0.0.1:$front;/" -e "s/listen 443 /listen 127.0.0.1:$secure /" \
-    -e "$six" -e "s/127.0.0.1:8780/127.0.0.1:$port/" \
-    -e "s|/etc/nginx/|$PWD/|" \
+    -e "$six" -e "s/127.0.0.1:8780/127.0.0.1:$port/" -e "s/127.0.0.1:8779/127.0.0.1:$checker/" \
+    -e "s|/etc/nginx/|$PWD/|; s|/run/rooms-passwords|$PWD/remembered|" \
     -e "s|/usr/local/share/rooms/page|$here/../contrib/page|" "$1"
 }
 
@@ -27,23 +27,24 @@ write_front() { # SITE
   echo "access_log $PWD/access.log short; client_body_temp_path $PWD/t1; proxy_temp_path $PWD/t2;"
   echo "fastcgi_temp_path $PWD/t3; uwsgi_temp_path $PWD/t4; scgi_temp_path $PWD/t5;"
   for_here "$here/../contrib/$1"
-  echo 'include sites-enabled/*; }'
+  echo 'include conf.d/*.conf; include sites-enabled/*; }'
 }
 
 # Starts nginx with contrib's nginx.conf, or with nginx-tls.conf for 'tls', whose certificate and
-# key are ./rooms.pem and ./rooms.key. The ports $front and $secure are free if $port is. It asks
-# for the passwords of ./rooms.htpasswd, serves the page of contrib, and writes the status, method,
+# key are ./rooms.pem and ./rooms.key. The ports $front, $secure and $checker are free if $port is. It
+# asks for the passwords of ./rooms.htpasswd, serves the page of contrib, and writes the status, method,
 # target, user and origin of each request into ./access.log.
 start_front() { # NAME [tls]
   local began=$SECONDS part
   front=$((port + 1))
   secure=$((port + 2))
+  checker=$((port + 3))
   base=http://127.0.0.1:$front
   chmod 755 "$work" .
   chmod 644 rooms.htpasswd
-  mkdir -p snippets sites-enabled rooms.d
+  mkdir -p snippets sites-enabled conf.d rooms.d
   rm -f nginx.pid
-  for part in http server host page proxy; do
+  for part in http server host page proxy remember remembered; do
     for_here "$here/../contrib/nginx-$part.conf" >"snippets/rooms-$part.conf"
   done
   echo "ssl_certificate $PWD/rooms.pem; ssl_certificate_key $PWD/rooms.key;" >snippets/rooms-tls.conf

@@ -281,6 +281,15 @@ prints 'and no server runs' 401 inactive
 does 'the same room again' 'rooms-add --title "Invoices & more" invoices'
 holds 'with its users' grep -q '^kept /etc/nginx/rooms-invoices.htpasswd: its 1 users may sign in$' "$work/out"
 second 'it is back'
+does 'passwords that are remembered' "$(block docs/operating.md '^auth_basic ".*;#include')"
+replies 'office is so'
+second 'it is as before'
+does 'those of the other room' "$(block docs/operating.md 'rooms.d/invoices.path')"
+second 'it is so too'
+does 'where they are' 'stat -c "%U %a" /run/rooms-passwords'
+prints 'for one user' 'www-data 700'
+does 'not remembered any more' "$(block docs/operating.md '^include snippets/rooms-remembered')"
+second 'nothing else has changed'
 
 # An upgrade to the same form.
 echo '# mine' >>"$machine/etc/rooms/office.conf"
@@ -372,7 +381,7 @@ top=$PWD/files/usr/share/doc/rooms
 does 'the install by hand is taken away' "$(block docs/upgrading.md 'rm -f bin/rooms')"
 find "$machine/usr/local" "$machine/etc/systemd" -name 'rooms*' >found
 same 'nothing of it is left' found nothing
-for file in sites-available/rooms sites-available/rooms-tls snippets/rooms-{server,host,page}.conf; do
+for file in sites-available/rooms sites-available/rooms-tls snippets/rooms-{server,host,page,remember}.conf; do
   same "/etc/nginx/$file is the package's" "$machine/etc/nginx/$file" "files/etc/nginx/$file"
 done
 same 'and so are the settings' "$machine/etc/rooms/office.conf" files/usr/share/rooms/office.conf

@@ -268,6 +268,73 @@ reach=(-H 'Host: another.example')
 ask 'the site answers for all other names' 200 kept bob:b /doc/f
 reach=()
 
+# Passwords that are remembered, by the commands of operating.md.
+pasted() { page_block 'What passwords cost' "$1" | sed -e '/nginx -t/d' >pasted; bash -eu pasted; } # BLOCK
+cp snippets/rooms-server.conf server.before
+cp rooms.htpasswd all.htpasswd
+pasted 2
+reloaded eval 'answers 404 "" /password/rooms && [ -d remembered ]'
+ask 'the other room is as before' 200 invoice bob:x /invoices/doc/f
+ask 'bob of office is nobody there as before' 401 - bob:b /invoices/doc/f
+pasted 3
+holds 'nothing else asks for a password of office' [ "$(grep -c '^auth_basic' snippets/rooms-server.conf)" = 0 ]
+checked() {
+  curl -s -o "$work/body" -D "$work/head" "$base/invoices/doc/f"
+  grep -q 'realm="rooms-invoices"' "$work/head"
+}
+reloaded checked
+for turn in 1 2; do
+  ask "alice, remembered $turn" 200 kept alice:a /doc/f
+  ask "bob, remembered $turn" 200 kept bob:b /doc/f
+  ask "bob with the password of alice $turn" 401 - bob:a /doc/f
+  ask "alice with that of bob $turn" 401 - alice:b /doc/f
+  ask "no password $turn" 401 - '' /doc/f
+  ask "bob may not write $turn" 403 '{"at":"/f","bits":"w","entry":null,"text":null}' bob:b /doc/f -X PUT --data-binary x
+  ask "bob of the other room $turn" 200 invoice bob:x /invoices/doc/f
+  ask "is nobody in office $turn" 401 - bob:x /doc/f
+  ask "nor is bob of office there $turn" 401 - bob:b /invoices/doc/f
+  ask "nor alice $turn" 401 - alice:a /invoices/doc/f
+done
+answer bob:b /me
+holds 'the page is told who asks' grep -qx $'Room-User: bob\r' "$work/head"
+answer bob:x /doc/f
+holds 'a wrong password is asked for again' grep -qx $'WWW-Authenticate: Basic realm="rooms"\r' "$work/head"
+for file in rooms rooms-invoices none; do ask "nobody asks for /password/$file from outside" 404 - alice:a "/password/$file"; done
+word=$(printf 'alice:a' | base64)
+ask 'two names at once' 400 - '' /doc/f -H "Authorization: Basic $word" -H "Authorization: Basic $(printf 'root:r' | base64)"
+ask 'a change by another site' 403 - alice:a /doc/f -X PUT --data-binary x -H 'Origin: http://elsewhere.example'
+ask 'an upload with a remembered password' 201 '' alice:a /doc/remembered -X PUT --data-binary yes
+ask 'the start page asks for none' 200 - '' /rooms/
+# Where names and passwords are: in the folder that has to be in memory, and in no other.
+ask 'alice once more' 200 kept alice:a /doc/f
+grep -rlF -e "$word" . 2>/dev/null | grep -v '^\./remembered/' >found
+: >nothing
+same 'no password is kept elsewhere' found nothing
+holds 'it is where the page says' eval 'grep -rqF -e "$word" remembered'
+holds 'which only one user reads' [ -z "$(find remembered -perm /077)" ]
+holds 'and which is in memory as installed' grep -q '^proxy_cache_path /run/' "$here/../contrib/nginx-remember.conf"
+holds 'without a way over the disk' grep -q 'use_temp_path=off' "$here/../contrib/nginx-remember.conf"
+# Who is removed gets in for ten seconds more, and no longer.
+ask 'bob, before he is removed' 200 kept bob:b /doc/f
+sed -i '/^bob:/d' rooms.htpasswd
+began=$SECONDS
+until answers 401 bob:b /doc/f || [ $((SECONDS - began)) -ge "$patience" ]; do sleep 0.5; done
+holds 'bob is removed' answers 401 bob:b /doc/f
+holds 'within the ten seconds' [ $((SECONDS - began)) -le 15 ]
+began=$SECONDS
+until [ -z "$(ls remembered)" ] || [ $((SECONDS - began)) -ge "$patience" ]; do sleep 0.5; done
+holds 'and nothing is remembered any more' [ -z "$(ls remembered)" ]
+cp all.htpasswd rooms.htpasswd
+pasted 4
+same 'switched off, the file is as it was' snippets/rooms-server.conf server.before
+unchecked() { answers 401 '' /password/rooms; }
+reloaded unchecked
+ask 'bob once more' 200 kept bob:b /doc/f
+ask 'bob of the other room once more' 200 invoice bob:x /invoices/doc/f
+sed -i '/^bob:/d' rooms.htpasswd
+ask 'bob, removed at once' 401 - bob:b /doc/f
+cp all.htpasswd rooms.htpasswd
+
 # A room is taken away: nobody gets to it, and its file stays.
 holds 'it is taken away' adds --remove invoices
 take_front

@@ -79,7 +79,7 @@ for file in machine/etc/nginx/rooms.d/*; do
   for_here "$file" | sed "s/127.0.0.1:[0-9]*\\\$room_target/127.0.0.1:$port\$room_target/" >"rooms.d/${file##*/}"
 done
 start_front 'a room at a path' || return
-play 'a room at a path' several.py "$PWD" "$front" ${PAGE_PICTURES:+"$PAGE_PICTURES"}
+play 'a room at a path' several.py "$PWD" "$front"
 stop_server
 stop_proxy
 gives 'sound after a room at a path' 0 'sound\n' '' verify H

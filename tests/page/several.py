@@ -1,7 +1,7 @@
 #!/usr/bin/env python3
 """The page of a room at a path, beside that of office: the same files, and requests that go below the path.
 
-    several.py FOLDER FRONT-PORT [PICTURES]
+    several.py FOLDER FRONT-PORT
 
 carol may do all in the room invoices at /invoices/, and is nobody in office.
 """
@@ -16,8 +16,8 @@ LINKS = "return [...document.querySelectorAll('a')].map((one) => [one.innerText,
 
 
 class Several:
-    def __init__(self, folder, front, pictures=None):
-        self.folder, self.pictures = folder, pictures
+    def __init__(self, folder, front):
+        self.folder = folder
         self.site = f'http://127.0.0.1:{front}'
         self.base = f'{self.site}/invoices'
         self.carol = None
@@ -28,8 +28,6 @@ class Several:
         links = carol.script(LINKS)
         assert links == [['Invoices & <orders>', '/invoices/'], ['office', '/']], links
         assert carol.script("return getComputedStyle(document.querySelector('.sheet')).padding") != '0px'
-        if self.pictures:
-            carol.picture(f'{self.pictures}/start.png')
         carol.script("document.querySelector('a').click()")
         carol.settled()
         assert carol.driver.current_url == f'{self.base}/', carol.driver.current_url
