@@ -1,9 +1,9 @@
 mod Transact
 mod Turning
-mod Leading
+pub mod Leading
 mod Exchanged
 mod Opened
 mod Testing
 mod Shutting
-pub mod Closing
+mod Closing
 mod Recalled
