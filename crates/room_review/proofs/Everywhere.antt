@@ -1,9 +1,9 @@
 -- Names that a content doesn't know get the same reply to each request.
-use Rattle.std.proofs.Common.{ℕ, ℤ, zero, suc, ◌≡◌, ◌+◌, ◌==◌, ◌&&◌, ◌||◌, Bool, true, false, cond, not, List, [], ◌∷◌, ◌++◌, map, filter, length, Option, Some, None, refl, sym, ap, subst, ◌∙◌}
-use Rattle.std.specs.Prelude.{is_none, is_some, unwrap_or, IsTrue, if◌then◌else◌}
+use Rattle.std.proofs.Common.{ℕ, ◌≡◌, ◌+◌, ◌==◌, ◌&&◌, ◌||◌, Bool, true, false, cond, not, List, [], ◌∷◌, ◌++◌, map, length, Option, Some, None, refl, sym, ap, subst, ◌∙◌}
+use Rattle.std.specs.Prelude.{is_none, is_some, unwrap_or}
 use Rattle.std.specs.List.{cons_option, find, list_all, list_any}
 use Rattle.std.specs.Option.{option_map, option_map_or}
-use Rattle.std.proofs.lemmas.Bool.{false≢true, and_parts, and_from, or_parts}
+use Rattle.std.proofs.lemmas.Bool.{and_parts, or_parts}
 use Rattle.room_entry.specs.Ace.{Ace}
 use Rattle.room_entry.specs.Pieces.{same_text}
 use Rattle.room_entry.specs.Rights.{append_data, delete, delete_child, execute, read_acl, read_attributes, read_data, write_acl, write_data, write_owner}
@@ -31,7 +31,6 @@ use Rattle.room_machine.specs.Effect.{effect, new_node, put_bytes, rulings as ru
 use Rattle.room_machine.specs.Judge.{failure, first_failure, of_deletion, of_verdict, or_else}
 use Rattle.room_machine.specs.Plan.{Check, Deletion, Item, Refusal, bad_list, move_items, no_document, no_folder, not_over, plan_of, put_items, right_to_add, to_target, way, where_found}
 use Rattle.room_machine.specs.Site.{Site, front, full_at, last_name, parent_at, root_site, site_at, site_below, sites_along, sites_below, sites_of}
-use Rattle.room_machine.specs.Step.{Step, caller_in}
 use Rattle.room_review.specs.Laws.{IsUnknownIn, StrangersGetTheSame, is_known_at, is_known_to, is_paired, is_user_named}
 use Rattle.room_machine.proofs.Replies.{or_reply, reply_of}
 use Rattle.room_review.proofs.Strangers.{IsUnknown, alone, are_unknown, at_unknown, first_unknown, is_alone, is_not, others_unknown, rulings}

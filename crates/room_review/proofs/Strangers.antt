@@ -1,6 +1,6 @@
 -- Names that nothing on a way knows have the same rights at its end.
 use Rattle.std.proofs.Common.{ℕ, zero, suc, ◌≡◌, ◌+◌, ◌&&◌, Bool, true, false, cond, not, List, [], ◌∷◌, map, filter, length, take, Option, Some, None, refl, sym, ap, subst, ◌∙◌}
-use Rattle.std.specs.Prelude.{is_none, IsTrue, if◌then◌else◌}
+use Rattle.std.specs.Prelude.{is_none, if◌then◌else◌}
 use Rattle.std.specs.List.{list_all, list_any}
 use Rattle.std.specs.Option.{option_map_or}
 use Rattle.std.proofs.lemmas.Bool.{false≢true, and_parts, or_parts}
@@ -15,13 +15,13 @@ use Rattle.room_entry.specs.declared.object.Which.TheVariants.{Dacl}
 use Rattle.room_entry.specs.declared.parties.Caller.{Caller}
 use Rattle.room_entry.specs.declared.parties.Owners.{Owners}
 use Rattle.room_eval.specs.Deletion.{deletion_by}
-use Rattle.room_eval.specs.Verdict.{counts, is_allowed, ruled_by, ruling_from, ruling_of, verdict_by}
-use Rattle.room_rows.specs.Content.{Content, groups_of, is_folder}
+use Rattle.room_eval.specs.Verdict.{is_allowed, ruled_by, ruling_from, ruling_of, verdict_by}
+use Rattle.room_rows.specs.Content.{Content, is_folder}
 use Rattle.room_machine.specs.Site.{Site, full_at, site_at, sites_along}
 use Rattle.room_machine.specs.Judge.{of_deletion, passes}
 use Rattle.room_machine.specs.Plan.{Deletion}
 use Rattle.room_machine.specs.Step.{caller_in}
-use Rattle.room_review.specs.Rights.{grants, last_of, lets_through, may_remove, may_remove_at, reaches, rights, rights_at, sites_above}
+use Rattle.room_review.specs.Rights.{grants, last_of, may_remove, reaches, rights, sites_above}
 use Rattle.room_review.specs.Laws.{IsStranger, StrangersAlike, is_known_at, is_paired, is_user_named}
 
 pub is_not : (t : Bool) → not t ≡ true → t ≡ false
@@ -109,7 +109,8 @@ module _ (a b : List ℕ) where
       (list_all (λ site. not (is_known_at a site)) sites ≡ true)
       × (list_all (λ site. not (is_known_at b site)) sites ≡ true)
 
-  pub first_unknown : (site : Site) (sites : List Site) → are_unknown (site ∷ sites) → IsUnknown site
+  pub first_unknown : (site : Site) (sites : List Site) → are_unknown (site ∷ sites)
+      → IsUnknown site
   first_unknown site sites all = (
     is_not (is_known_at a site) (and_parts (not (is_known_at a site))
         (list_all (λ s. not (is_known_at a s)) sites) all.0).0,

@@ -1,7 +1,7 @@
 -- Ways that a caller comes along, and what the replies at their ends say.
-use Rattle.std.proofs.Common.{ℕ, zero, suc, ◌≡◌, ◌&&◌, Bool, true, false, cond, not, List, [], ◌∷◌, ◌++◌, map, filter, length, take, Option, Some, None, ℤ, refl, sym, ap, subst, ◌∙◌}
+use Rattle.std.proofs.Common.{ℕ, ◌≡◌, ◌&&◌, Bool, true, false, cond, not, List, [], ◌∷◌, ◌++◌, map, filter, length, take, Option, Some, None, ℤ, refl, sym, ap, subst, ◌∙◌}
 use Rattle.std.specs.Prelude.{is_none, IsTrue}
-use Rattle.std.specs.List.{flat_map, list_all}
+use Rattle.std.specs.List.{list_all}
 use Rattle.std.specs.Option.{option_map_or}
 use Rattle.std.proofs.lemmas.Bool.{false≢true, true≢false, and_parts}
 use Rattle.room_entry.specs.Bits.{all_bits}
@@ -13,7 +13,7 @@ use Rattle.room_eval.specs.declared.outcome.Verdict.TheVariants.{Granted}
 use Rattle.room_eval.specs.declared.deletion.DeleteVerdict.{DeleteVerdict}
 use Rattle.room_eval.specs.declared.deletion.DeleteVerdict.TheVariants.{Granted as MayDelete, AtTarget, AtParent}
 use Rattle.room_eval.specs.Deletion.{deletion}
-use Rattle.room_eval.specs.Verdict.{denial, is_allowed, is_denied_at, is_silent, least_denied, ruling_of}
+use Rattle.room_eval.specs.Verdict.{denial, is_denied_at, is_silent, least_denied, ruling_of}
 use Rattle.room_rows.specs.Content.{Content, children_of, is_empty, is_folder, without_node}
 use Rattle.room_machine.specs.declared.reply.Reply.{Reply}
 use Rattle.room_machine.specs.declared.reply.Reply.TheVariants.{Denied, Done, Refused, Rulings}
@@ -21,12 +21,12 @@ use Rattle.room_machine.specs.declared.reply.Reason.TheVariants.{NotFolder, NoSu
 use Rattle.room_machine.specs.declared.request.Request.{Request}
 use Rattle.room_machine.specs.declared.request.Request.TheVariants.{Can, Remove}
 use Rattle.room_machine.specs.Site.{Site, front, full_at, parent_at, site_at, sites_along}
-use Rattle.room_machine.specs.Plan.{Check, Deletion, Item, Refusal, plan_of, way, where_found}
+use Rattle.room_machine.specs.Plan.{Deletion, Item, Refusal, plan_of, way, where_found}
 use Rattle.room_machine.specs.Judge.{entry_at, failure, first_failure, of_deletion, of_verdict, or_else}
 use Rattle.room_machine.specs.Effect.{effect, rulings}
 use Rattle.room_machine.specs.Step.{Step, answered, caller_in}
 use Rattle.room_machine.proofs.Replies.{or_reply, reply_of}
-use Rattle.room_review.specs.Rights.{grants, last_of, lets_through, may_remove, may_remove_at, reaches, reaches_at, rights, rights_at, sites_above}
+use Rattle.room_review.specs.Rights.{grants, last_of, lets_through, may_remove, may_remove_at, reaches, rights, rights_at, sites_above}
 use Rattle.room_review.specs.Laws.{SaysCan, SaysRemove, allowed_in, is_denial, is_rulings, passed_rights}
 
 -- ---- a way
@@ -100,11 +100,13 @@ module _ (caller : Caller) where
       ∙ passes_way sites names target rest found parts.1
 
   -- the first failure of a way and what comes after it, from what is known of its first object
-  abbrev whole : Site → List Site → List ℕ → Option Reply → Bool → Bool → Bool → Option Reply
-  whole site sites name more folder granted empty =
+  abbrev whole : Site → List Site → List ℕ → List (List ℕ) → List Item → Bool → Bool → Bool
+      → Option Reply
+  whole site sites name names rest folder granted empty =
       or_else (cond (not folder) (Some (Refused site.path NotFolder)) None)
       (or_else (checked site granted)
-      (or_else (cond (empty && true) (Some (Refused (site.path ++ name ∷ []) NoSuch)) None) more))
+      (or_else (cond (empty && true) (Some (Refused (site.path ++ name ∷ []) NoSuch)) None)
+      (first_failure caller (way false sites names ++ rest))))
 
   -- a way that is closed is denied, or stops at what is no folder
   stops : (sites : List Site) (names : List (List ℕ)) (target : Site) (rest : List Item)
@@ -121,10 +123,12 @@ module _ (caller : Caller) where
           → (reaches caller (take (length names) sites) ≡ false
           → Stop (first_failure caller (way false sites names ++ rest))
           (list_all is_passable (take (length names) sites)))
-          → Stop (whole site sites name (first_failure caller (way false sites names ++ rest)) (is_folder site.node) (grants caller execute site) (is_empty sites))
+          → Stop (whole site sites name names rest (is_folder site.node)
+          (grants caller execute site) (is_empty sites))
           (is_folder site.node && list_all is_passable (take (length names) sites))
       on false g folder granted later =
-          subst (λ (t : Bool). Stop (whole site sites name (first_failure caller (way false sites names ++ rest)) t (grants caller execute site) (is_empty sites))
+          subst (λ (t : Bool). Stop (whole site sites name names rest t
+          (grants caller execute site) (is_empty sites))
           (t && list_all is_passable (take (length names) sites))) (sym folder)
           (record {
             reply = Refused site.path NotFolder;
@@ -135,9 +139,10 @@ module _ (caller : Caller) where
             denied = λ h. absurd (false≢true h);
           })
       on true false folder granted later =
-          subst (λ (t : Bool). Stop (whole site sites name (first_failure caller (way false sites names ++ rest)) t (grants caller execute site) (is_empty sites))
+          subst (λ (t : Bool). Stop (whole site sites name names rest t
+          (grants caller execute site) (is_empty sites))
           (t && list_all is_passable (take (length names) sites))) (sym folder)
-          (subst (λ (t : Bool). Stop (whole site sites name (first_failure caller (way false sites names ++ rest)) true t (is_empty sites))
+          (subst (λ (t : Bool). Stop (whole site sites name names rest true t (is_empty sites))
           (list_all is_passable (take (length names) sites))) (sym granted)
           (denied_stop site
           (or_else (cond (is_empty sites && true) (Some (Refused (site.path ++ name ∷ []) NoSuch))
@@ -148,11 +153,12 @@ module _ (caller : Caller) where
           let behind : reaches caller (take (length names) sites) ≡ false =
           sym (λ i. (folder i && granted i) && reaches caller (take (length names) sites)) ∙ closed
           in
-          subst (λ (t : Bool). Stop (whole site sites name (first_failure caller (way false sites names ++ rest)) t (grants caller execute site) (is_empty sites))
+          subst (λ (t : Bool). Stop (whole site sites name names rest t
+          (grants caller execute site) (is_empty sites))
           (t && list_all is_passable (take (length names) sites))) (sym folder)
-          (subst (λ (t : Bool). Stop (whole site sites name (first_failure caller (way false sites names ++ rest)) true t (is_empty sites))
+          (subst (λ (t : Bool). Stop (whole site sites name names rest true t (is_empty sites))
           (list_all is_passable (take (length names) sites))) (sym granted)
-          (subst (λ (t : Bool). Stop (whole site sites name (first_failure caller (way false sites names ++ rest)) true true t)
+          (subst (λ (t : Bool). Stop (whole site sites name names rest true true t)
           (list_all is_passable (take (length names) sites)))
           (sym (some_left sites names target found)) (later behind)))
 
@@ -340,7 +346,8 @@ module _ (content : Content) (user : Option (List ℕ)) where
       (effect content remover id (Remove path)).0
       → may_remove_at content user path ≡ passed_rights reply
   remove_says path target reply id found is =
-      remove_found content user path target found ∙ on (reaches remover (sites_above content path)) refl
+      remove_found content user path target found
+      ∙ on (reaches remover (sites_above content path)) refl
     where
       is_done : (effect content remover id (Remove path)).0 ≡ Done
       is_done = removes content (site_at (sites_along content path) path)
@@ -360,10 +367,12 @@ module _ (content : Content) (user : Option (List ℕ)) where
           let stop = stops remover (sites_along content path) path target
           (where_found (site_at (sites_along content path) path) (at_target path)) found closed in
           (λ i. closed i && option_map_or
-          (λ (above : Site). is_none (failure remover (Deletion target above))) (last_of (sites_above content path))
+          (λ (above : Site). is_none (failure remover (Deletion target above)))
+          (last_of (sites_above content path))
           false)
           ∙ sym stop.not_passed
-          ∙ ap passed_rights (sym (is ∙ ap (λ o. or_reply o (effect content remover id (Remove path)).0) stop.is))
+          ∙ ap passed_rights
+          (sym (is ∙ ap (λ o. or_reply o (effect content remover id (Remove path)).0) stop.is))
 
 pub says_remove : SaysRemove
 says_remove content user moment path target reply after found s =

@@ -1,8 +1,7 @@
 -- Laws of a review: what a row says is what the room would answer.
-use Rattle.std.specs.Prelude.{◌≡◌, ℕ, ℤ, ◌||◌, Bool, true, false, not, List, [], ◌∷◌, Option, Some}
+use Rattle.std.specs.Prelude.{◌≡◌, ℕ, ℤ, ◌||◌, Bool, true, false, not, List, [], Option, Some}
 use Rattle.std.specs.Prelude.{IsTrue, if◌then◌else◌}
 use Rattle.std.specs.List.{flat_map, list_all, list_any}
-use Rattle.room_entry.specs.Ace.{Ace}
 use Rattle.room_entry.specs.Bits.{all_bits}
 use Rattle.room_entry.specs.Pieces.{same_text}
 use Rattle.room_entry.specs.declared.entry.Who.{Who}
@@ -14,12 +13,10 @@ use Rattle.room_rows.specs.declared.node.Node.{Node}
 use Rattle.room_rows.specs.Content.{Content, is_folder}
 use Rattle.room_rows.specs.Held.{full_of}
 use Rattle.room_machine.specs.declared.reply.Reason.{Reason}
-use Rattle.room_machine.specs.declared.reply.Reason.TheVariants.{NoSuch, NotFolder, WrongKind}
-use Rattle.room_machine.specs.declared.reply.Reason.TheVariants.{Exists, NotEmpty, Root, Loop}
-use Rattle.room_machine.specs.declared.reply.Reason.TheVariants.{BadList, TooLarge}
+use Rattle.room_machine.specs.declared.reply.Reason.TheVariants.{NotEmpty}
 use Rattle.room_machine.specs.declared.reply.Reply.{Reply}
-use Rattle.room_machine.specs.declared.reply.Reply.TheVariants.{Bytes, Names, Lists, Attr, Rulings}
-use Rattle.room_machine.specs.declared.reply.Reply.TheVariants.{Made, Done, Denied, Refused}
+use Rattle.room_machine.specs.declared.reply.Reply.TheVariants.{Rulings}
+use Rattle.room_machine.specs.declared.reply.Reply.TheVariants.{Done, Denied, Refused}
 use Rattle.room_machine.specs.declared.request.Request.{Request}
 use Rattle.room_machine.specs.declared.request.Request.TheVariants.{Can, Remove}
 use Rattle.room_machine.specs.Site.{Site, full_at, site_at, sites_along}
