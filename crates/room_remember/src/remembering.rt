@@ -4,6 +4,7 @@ ghost use Rattle.room_rows.specs.Calls.{Reads};
 ghost use Rattle.room_rows.specs.Held.{with_held};
 ghost use Rattle.room_rows.specs.Keep.{
   AreGroupsOf,
+  AreNamedUnder,
   HasNoRoot,
   IsChildOf,
   IsNever,
@@ -66,7 +67,7 @@ impl<'a, K> Remembering<'a, K> {
         ensures { Learns IsRootOf self.old self.new done.now }
     {
         match done {
-            Ok(node) => self.memory.learn_root(node),
+            Ok(node) => self.memory.learn_root(self.alloc, node),
             Err(_) => self.forget(),
         }
     }
@@ -78,6 +79,16 @@ impl<'a, K> Remembering<'a, K> {
         match done {
             Ok(None) => {}
             Ok(Some(node)) => self.memory.learn_child(self.alloc, parent, name, node),
+            Err(_) => self.forget(),
+        }
+    }
+
+    // Remembers a listing that was read.
+    fn learn_listing(&mut self, parent: u64, done: &Result<Listing, KeepFault>)
+        ensures { Learns (AreNamedUnder parent) self.old self.new done.now }
+    {
+        match done {
+            Ok(names) => self.memory.learn_listing(self.alloc, parent, names),
             Err(_) => self.forget(),
         }
     }
@@ -155,9 +166,14 @@ impl<'a, K: Keep> Keep for Remembering<'a, K> {
     }
 
     fn listing(&mut self, parent: u64) -> Result<Listing, KeepFault> {
-        let done = self.keeper.listing(parent);
-        self.settle(&done);
-        done
+        match self.memory.listing(self.alloc, parent)? {
+            Some(names) => Ok(names),
+            None => {
+                let done = self.keeper.listing(parent);
+                self.learn_listing(parent, &done);
+                done
+            }
+        }
     }
 
     fn has_children(&mut self, parent: u64) -> Result<bool, KeepFault> {

@@ -1,22 +1,19 @@
 -- What is remembered from one transaction to the next.
-use Rattle.std.proofs.Common.{◌≡◌, ◌≤◌, Result, Ok, Err, Option, None, Some, IsTrue, IsOk, IfSome, Bool, false, refl, sym, ap, subst, ◌∙◌, arith}
-use Rattle.std.specs.Result.{is_err}
+use Rattle.std.proofs.Common.{◌≡◌, ◌≤◌, Result, Ok, Err, Option, None, Some, IsTrue, IsOk, IfSome, false, sym, ap, subst, ◌∙◌, arith}
 use Rattle.sqlite_trees.specs.View.{doubt}
-use Rattle.sqlite.specs.Effect.{Database}
 use Rattle.sqlite.specs.State.{State, HasCleanDisk, IsRolledBack}
 use Rattle.room_remember.specs.declared.memory.Memory.{Memory}
 use Rattle.room_remember.specs.Agrees.{Agrees}
 use Rattle.room_rows.specs.declared.keep.KeepFault.{KeepFault}
 use Rattle.room_rows.specs.Rows.{Rows}
 use Rattle.store_tables.specs.Meaning.{rows_of}
-use Rattle.store_tables.specs.Shown.{HasTables, Retains, Stays, tables_of}
+use Rattle.store_tables.specs.Shown.{HasTables, Stays, tables_of}
 use Rattle.store_tables.specs.Trust.{IsTrusted}
 use Rattle.store_tables.proofs.Calls.{retains_same}
 use Rattle.store_admin.specs.Carries.{ByRows, CallsInside, OnRows}
 use Rattle.room_store.specs.declared.fault.StoreFault.{StoreFault}
-use Rattle.room_store.specs.Premise.{StorePremise}
 use Rattle.room_store.specs.Ran.{LeavesOpen, Ran}
-use Rattle.room_store.specs.Remembers.{EndsLook, IsKept, IsLeft, Remembers, Settled}
+use Rattle.room_store.specs.Remembers.{EndsLook, IsKept, Remembers, Settled}
 use Rattle.room_store.specs.Turn.{Begins, GivesUp}
 use Rattle.room_store.proofs.Transact.{made, never_damage, old_clean, old_open, same_fault, undone_at}
 

@@ -1,0 +1,9 @@
+use Rattle.room_remember.specs.Agrees.{Agrees}
+use Rattle.room_remember.specs.declared.known.Known.TheVariants.{Child}
+use Rattle.room_remember.proofs.Recalling.{recalled}
+use Rattle.room_remember.proofs.memory.Memory.child.Goals as goal
+
+pub returns-in-Some : goal.returns-in-Some
+returns-in-Some c =
+    recalled c.child.result c.in-Some.known.now (Child c.args.parent c.args.name.now)
+    (Agrees c.args.self.now) c.in-Some.ensures c.child.ensures

@@ -1,0 +1,9 @@
+use Rattle.room_remember.specs.Agrees.{Agrees}
+use Rattle.room_remember.specs.declared.known.Known.TheVariants.{Grouped}
+use Rattle.room_remember.proofs.Recalling.{recalled}
+use Rattle.room_remember.proofs.memory.Memory.groups_of.Goals as goal
+
+pub returns-in-Some : goal.returns-in-Some
+returns-in-Some c =
+    recalled c.groups_of.result c.in-Some.known.now (Grouped c.args.user.now)
+    (Agrees c.args.self.now) c.in-Some.ensures c.groups_of.ensures

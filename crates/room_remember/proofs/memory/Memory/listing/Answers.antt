@@ -1,0 +1,9 @@
+use Rattle.room_remember.specs.Agrees.{Agrees}
+use Rattle.room_remember.specs.declared.known.Known.TheVariants.{Listed}
+use Rattle.room_remember.proofs.Recalling.{recalled}
+use Rattle.room_remember.proofs.memory.Memory.listing.Goals as goal
+
+pub returns-in-Some : goal.returns-in-Some
+returns-in-Some c =
+    recalled c.listing.result c.in-Some.known.now (Listed c.args.parent)
+    (Agrees c.args.self.now) c.in-Some.ensures c.listing.ensures

@@ -1,0 +1,9 @@
+use Rattle.room_remember.specs.Agrees.{Agrees}
+use Rattle.room_remember.specs.declared.known.Known.TheVariants.{Root}
+use Rattle.room_remember.proofs.Recalling.{recalled}
+use Rattle.room_remember.proofs.memory.Memory.root.Goals as goal
+
+pub returns-in-Some : goal.returns-in-Some
+returns-in-Some c =
+    recalled c.root.result c.in-Some.known.now (λ node. Root node)
+    (Agrees c.args.self.now) c.in-Some.ensures c.root.ensures
