@@ -1,5 +1,7 @@
 -- The set of groups that came before, as pairs are counted.
-use Rattle.std.proofs.Common.{ℕ, ◌≡◌, ◌+◌, ◌∷◌, ◌++◌, Bool, true, false, cond, length, List, [], String, string_bytes, string_cmp, refl, sym, ap, subst, ◌∙◌, ◌<◌, ◌≤◌, get_or, drop, drop-cons, add-one}
+use Rattle.std.proofs.Common.{ℕ, ◌≡◌, ◌+◌, ◌∷◌, ◌++◌, Bool, true, false, cond, length, List, []}
+use Rattle.std.proofs.Common.{String, string_bytes, string_cmp, refl, sym, ap, subst, ◌∙◌, ◌<◌, ◌≤◌}
+use Rattle.std.proofs.Common.{get_or, drop, drop-cons, add-one}
 use Rattle.std.specs.Prelude.{not, if◌then◌else◌}
 use Rattle.std.specs.Bool.{OnFalse}
 use Rattle.std.specs.List.{list_any}

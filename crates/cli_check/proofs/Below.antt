@@ -1,5 +1,6 @@
 -- A list text below other lines says what it says alone, its faults' lines counted from the top.
-use Rattle.std.proofs.Common.{ℕ, ◌≡◌, ◌≤◌, ◌+◌, Bool, true, not, List, [], ◌∷◌, ◌++◌, map, Option, Some, None, length, refl, ap, ◌∙◌, ◌⊎◌, inl, inr, arith}
+use Rattle.std.proofs.Common.{ℕ, ◌≡◌, ◌≤◌, ◌+◌, Bool, true, not, List, [], ◌∷◌, ◌++◌, map, Option}
+use Rattle.std.proofs.Common.{Some, None, length, refl, ap, ◌∙◌, ◌⊎◌, inl, inr, arith}
 use Rattle.std.specs.Prelude.{◌||◌, ◌==◌, nat_le, filter, Result, Ok, Err}
 use Rattle.std.specs.List.{enumerate_from, list_all}
 use Rattle.std.proofs.lemmas.Bool.{cases_Bool, leb-true, le-leb, and_parts, and_from}
@@ -9,7 +10,9 @@ use Rattle.room_entry.specs.Pieces.{pieces}
 use Rattle.room_entry.specs.Ace.{Ace}
 use Rattle.room_ace.specs.Sent.{Sent, limit_fault}
 use Rattle.room_ace.specs.Text.{entry_of}
-use Rattle.room_ace.specs.Lists.{lines_of, lines_of_pieces, is_blank, is_comment, numbered_lines, flags_of_list, with_entry, and_then, entries_after, sent_with, sent_of_lines, sent_of}
+use Rattle.room_ace.specs.Lists.{lines_of, lines_of_pieces, is_blank, is_comment, numbered_lines}
+use Rattle.room_ace.specs.Lists.{flags_of_list, with_entry, and_then, entries_after, sent_with}
+use Rattle.room_ace.specs.Lists.{sent_of_lines, sent_of}
 use Rattle.room_entry.specs.Utf8.{is_utf8}
 use Rattle.room_entry.specs.declared.flags.ListFlags.{ListFlags}
 use Rattle.room_entry.specs.declared.fault.TextFault.{TextFault}

@@ -1,5 +1,6 @@
 -- The first bytes of an input that show that it is too long have the task of all of it.
-use Rattle.std.proofs.Common.{ℕ, ◌≡◌, ◌+◌, ◌<◌, ◌≤◌, ◌∙◌, List, [], length, Option, Some, None, Result, Ok, Err, refl, sym, ap, subst, inl, inr, arith}
+use Rattle.std.proofs.Common.{ℕ, ◌≡◌, ◌+◌, ◌<◌, ◌≤◌, ◌∙◌, List, [], length, Option, Some, None}
+use Rattle.std.proofs.Common.{Result, Ok, Err, refl, sym, ap, subst, inl, inr, arith}
 use Rattle.std.specs.Prelude.{take, nat_lt, IfSome, IsSome, if◌then◌else◌}
 use Rattle.std.proofs.lemmas.List.{length-take-le, take_all}
 use Rattle.std.proofs.lemmas.Bool.{cases_Bool, cond-true, false≢true, lt-ltb, ltb-true, ltb-false}
@@ -12,7 +13,8 @@ use Rattle.room_import.specs.Groups.{groups_in}
 use Rattle.cli_outcome.specs.Ending.{IsOfStream}
 use Rattle.cli_outcome.specs.Reading.{IsInput}
 use Rattle.cli_outcome.specs.declared.fault.Fault.{Fault as StreamFault}
-use Rattle.cli_tasks.specs.Tasks.{goes_on, pairs_in, task_path, refused_by, reset_of, sent_in, task_of}
+use Rattle.cli_tasks.specs.Tasks.{goes_on, pairs_in, task_path, refused_by, reset_of, sent_in}
+use Rattle.cli_tasks.specs.Tasks.{task_of}
 use Rattle.cli_tasks.specs.declared.judging.Task.{Task}
 use Rattle.cli_tasks.specs.declared.judging.Task.TheVariants as task
 use Rattle.cli_tasks.specs.declared.refusal.TaskRefusal.{TaskRefusal}

@@ -1,5 +1,6 @@
 -- A store that is opened, and then serves.
-use Rattle.std.proofs.Common.{◌≡◌, ◌≤◌, ◌⊎◌, ℕ, ℤ, All, List, [], ◌++◌, length, map, Option, Result, Ok, Err, OnOk, inl, inr, subst, sym, refl, arith}
+use Rattle.std.proofs.Common.{◌≡◌, ◌≤◌, ◌⊎◌, ℕ, ℤ, All, List, [], ◌++◌, length, map, Option, Result}
+use Rattle.std.proofs.Common.{Ok, Err, OnOk, inl, inr, subst, sym, refl, arith}
 use Rattle.std.proofs.lemmas.List.{append-nil}
 use Rattle.std.proofs.lemmas.List.Elements.{All-nil}
 use Rattle.sqlite.specs.State.{State, HasCleanDisk}

@@ -1,12 +1,15 @@
 -- A line without fault names one of the ten subcommands.
-use Rattle.std.proofs.Common.{◌≡◌, ap, refl, true, false, Bool, List, [], ◌∷◌, Option, Some, None, cond, inl, inr, is_some}
+use Rattle.std.proofs.Common.{◌≡◌, ap, refl, true, false, Bool, List, [], ◌∷◌, Option, Some, None}
+use Rattle.std.proofs.Common.{cond, inl, inr, is_some}
 use Rattle.std.proofs.lemmas.Bool.{false≢true, true≢false}
 use Rattle.std.specs.Prelude.{IfSome, find, option_map}
 use Rattle.std.specs.Borrow.{Bor}
-use Rattle.clap.specs.Faults.{check_fault, defaults_fault, entered_fault, fault_of, level_fault, settle_fault, walk_fault}
+use Rattle.clap.specs.Faults.{check_fault, defaults_fault, entered_fault, fault_of, level_fault}
+use Rattle.clap.specs.Faults.{settle_fault, walk_fault}
 use Rattle.clap.specs.Kinds.{Kinds, or_else}
 use Rattle.clap.specs.Simple.{App, Shape, argument_words, built, entered, names_of, rows_at}
-use Rattle.clap.specs.Walk.{Held, Names, finished, nothing_held, settled, stop_after, walk, walk_from}
+use Rattle.clap.specs.Walk.{Held, Names, finished, nothing_held, settled, stop_after, walk}
+use Rattle.clap.specs.Walk.{walk_from}
 use Rattle.clap.specs.Words.{Row, Text, subcommand_of}
 use Rattle.cli_words.specs.Command.{HasName, IsName}
 use Rattle.cli_words.specs.Line.{command_line}

@@ -1,5 +1,6 @@
 -- A reply's text as what comes before its body, and the body.
-use Rattle.std.proofs.Common.{◌≡◌, ℕ, List, ◌++◌, Option, Bool, Result, Ok, Err, IfOk, refl, ap, ◌∙◌}
+use Rattle.std.proofs.Common.{◌≡◌, ℕ, List, ◌++◌, Option, Bool, Result, Ok, Err, IfOk, refl, ap}
+use Rattle.std.proofs.Common.{◌∙◌}
 use Rattle.http_message.specs.Form.{body_bytes, head_form, reply_form}
 
 pub head-and-body : (status : ℕ) (kind allow body : Option (List ℕ)) (close : Bool)

@@ -1,5 +1,6 @@
 -- Connections one after another, as what a desk did.
-use Rattle.std.proofs.Common.{◌≡◌, ℕ, ℤ, ◌+◌, ◌≤◌, All, List, [], ◌∷◌, ◌++◌, length, map, Option, subst, sym, ap, refl, ◌∙◌, arith, append_assoc}
+use Rattle.std.proofs.Common.{◌≡◌, ℕ, ℤ, ◌+◌, ◌≤◌, All, List, [], ◌∷◌, ◌++◌, length, map, Option}
+use Rattle.std.proofs.Common.{subst, sym, ap, refl, ◌∙◌, arith, append_assoc}
 use Rattle.std.proofs.lemmas.Grind.{flat_map-append}
 use Rattle.std.proofs.lemmas.List.{append-nil, length-append, map-append}
 use Rattle.std.proofs.lemmas.List.Elements.{All-append, All-nil, All-from_recursion, All-weaker}
@@ -7,7 +8,8 @@ use Rattle.room_machine.specs.declared.desk.Desk.{Ghosts}
 use Rattle.room_machine.specs.Run.{Event}
 use Rattle.room_http.specs.Serve.{Connects, IsNext, Next, next_exchange}
 use Rattle.room_http.specs.Stream.{Exchange, IsExchange, IsOpen, Runs}
-use Rattle.http_serve.specs.Visits.{Attends, IsServedVisit, Receives, ReceivesAll, Visit, moment_of, requests_of, visit_events}
+use Rattle.http_serve.specs.Visits.{Attends, IsServedVisit, Receives, ReceivesAll, Visit, moment_of}
+use Rattle.http_serve.specs.Visits.{requests_of, visit_events}
 use Rattle.room_machine.proofs.Meeting.{meet}
 use Rattle.room_http.proofs.Runs.{Runs-then}
 

@@ -1,5 +1,6 @@
 -- Connections one after another, up to one that leaves the desk shut.
-use Rattle.std.proofs.Common.{◌≡◌, ℕ, ℤ, ◌+◌, ◌<◌, Bool, true, false, List, [], length, Ok, Err, subst, sym, refl, inl, ◌∙◌, arith, add-one}
+use Rattle.std.proofs.Common.{◌≡◌, ℕ, ℤ, ◌+◌, ◌<◌, Bool, true, false, List, [], length, Ok, Err}
+use Rattle.std.proofs.Common.{subst, sym, refl, inl, ◌∙◌, arith, add-one}
 use Rattle.std.proofs.lemmas.List.{append-nil, length-append}
 use Rattle.std.proofs.lemmas.List.Elements.{All-nil}
 use Rattle.room_machine.specs.declared.desk.Desk.{Ghosts}

@@ -1,5 +1,6 @@
 -- Lines about connections, one after another.
-use Rattle.std.proofs.Common.{◌≡◌, ℕ, ℤ, ◌+◌, ◌≤◌, Bool, List, Option, ◌++◌, Result, Ok, Err, IsTrue, OnOk, sym, ap, ◌∙◌, subst, add-one}
+use Rattle.std.proofs.Common.{◌≡◌, ℕ, ℤ, ◌+◌, ◌≤◌, Bool, List, Option, ◌++◌, Result, Ok, Err}
+use Rattle.std.proofs.Common.{IsTrue, OnOk, sym, ap, ◌∙◌, subst, add-one}
 use Rattle.std.proofs.lemmas.Fmt.{contents_after_writes}
 use Rattle.std.specs.Fmt.{WritesInCalls}
 use Rattle.std.specs.Io.KnownBytes.{Appends}

@@ -1,8 +1,13 @@
 -- What is printed of a list is read back.
-use Rattle.std.proofs.Common.{ℕ, ◌≡◌, ◌+◌, ◌≤◌, Bool, true, false, not, ◌&&◌, ◌||◌, List, [], ◌∷◌, ◌++◌, map, length, is_some, Option, Some, None, Result, Ok, if◌then◌else◌, refl, sym, ap, ◌∙◌, subst, inl, inr, append_assoc, append-nil, length-append, codes, arith}
+use Rattle.std.proofs.Common.{ℕ, ◌≡◌, ◌+◌, ◌≤◌, Bool, true, false, not, ◌&&◌, ◌||◌, List, [], ◌∷◌}
+use Rattle.std.proofs.Common.{◌++◌, map, length, is_some, Option, Some, None, Result, Ok}
+use Rattle.std.proofs.Common.{if◌then◌else◌, refl, sym, ap, ◌∙◌, subst, inl, inr, append_assoc}
+use Rattle.std.proofs.Common.{append-nil, length-append, codes, arith}
 use Rattle.std.specs.Prelude.{filter, ◌==◌, nat_le, nat_lt}
 use Rattle.std.specs.List.{All, list_all, flat_map, enumerate_from, join_with_byte}
-use Rattle.std.proofs.lemmas.Bool.{cases_Bool, and_parts, and_from, eqb-true, false≢true, true≢false, not-true, not_from_false, cond-true, cond-false, or_cases, or_left, leb-true, le-leb, lt-ltb, ltb-false, le-ltb}
+use Rattle.std.proofs.lemmas.Bool.{cases_Bool, and_parts, and_from, eqb-true, false≢true}
+use Rattle.std.proofs.lemmas.Bool.{true≢false, not-true, not_from_false, cond-true, cond-false}
+use Rattle.std.proofs.lemmas.Bool.{or_cases, or_left, leb-true, le-leb, lt-ltb, ltb-false, le-ltb}
 use Rattle.std.proofs.lemmas.List.Elements.{All-head, All-tail, filter-append}
 use Rattle.std.proofs.lemmas.List.Splits.{join_with_byte-slice_split}
 use Rattle.room_entry.specs.Bits.{all_bits, has}
@@ -11,9 +16,13 @@ use Rattle.std.specs.Char.{is_ascii_alphanumeric}
 use Rattle.room_entry.specs.Names.{is_name, is_part, is_local_byte, is_domain_byte, are_name_parts}
 use Rattle.room_entry.specs.Ace.{Ace}
 use Rattle.room_ace.specs.Sent.{Sent, own_of, limit_fault}
-use Rattle.room_entry.specs.Letters.{kind_text, letter_if, flags_text, mask_letters, mask_text, letter_of}
+use Rattle.room_entry.specs.Letters.{kind_text, letter_if, flags_text, mask_letters, mask_text}
+use Rattle.room_entry.specs.Letters.{letter_of}
 use Rattle.room_ace.specs.Text.{who_text, entry_text, entry_of}
-use Rattle.room_ace.specs.Lists.{entry_lines, list_line, list_text, without_return, lines_of_pieces, lines_of, is_blank, is_comment, numbered_lines, flags_of_list, fault_at, with_entry, and_then, entries_after, sent_with, sent_of_lines}
+use Rattle.room_ace.specs.Lists.{entry_lines, list_line, list_text, without_return, lines_of_pieces}
+use Rattle.room_ace.specs.Lists.{lines_of, is_blank, is_comment, numbered_lines, flags_of_list}
+use Rattle.room_ace.specs.Lists.{fault_at, with_entry, and_then, entries_after, sent_with}
+use Rattle.room_ace.specs.Lists.{sent_of_lines}
 use Rattle.room_entry.specs.Utf8.{is_utf8}
 use Rattle.room_ace.specs.Column.{some_of, entry_in, entries_behind, entries_of}
 use Rattle.room_entry.specs.Laws.{has_name, IsEntry}
@@ -22,7 +31,8 @@ use Rattle.std.specs.Prelude.{option_and_then}
 use Rattle.room_entry.specs.declared.entry.EntryKind.{EntryKind}
 use Rattle.room_entry.specs.declared.entry.EntryKind.TheVariants.{Allow, Deny, Audit, Alarm}
 use Rattle.room_entry.specs.declared.entry.Who.{Who}
-use Rattle.room_entry.specs.declared.entry.Who.TheVariants.{Owner, Group, Everyone, Anonymous, Authenticated, User, Members}
+use Rattle.room_entry.specs.declared.entry.Who.TheVariants.{Owner, Group, Everyone, Anonymous}
+use Rattle.room_entry.specs.declared.entry.Who.TheVariants.{Authenticated, User, Members}
 use Rattle.room_entry.specs.declared.flags.ListFlags.{ListFlags}
 use Rattle.room_entry.specs.declared.fault.ListFault.{ListFault}
 use Rattle.room_entry.specs.declared.fault.ListFault.TheVariants.{TooManyEntries, TooManyOwn}

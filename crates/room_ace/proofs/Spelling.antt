@@ -1,5 +1,7 @@
 -- A text is read as a list exactly if it spells it.
-use Rattle.std.proofs.Common.{ℕ, ◌≡◌, ◌+◌, Bool, true, not, ◌||◌, List, [], ◌∷◌, ◌++◌, map, length, Option, Some, None, Result, Ok, Err, cond, refl, sym, ap, ◌∙◌, subst, inl, inr, append_assoc, append-nil}
+use Rattle.std.proofs.Common.{ℕ, ◌≡◌, ◌+◌, Bool, true, not, ◌||◌, List, [], ◌∷◌, ◌++◌, map, length}
+use Rattle.std.proofs.Common.{Option, Some, None, Result, Ok, Err, cond, refl, sym, ap, ◌∙◌, subst}
+use Rattle.std.proofs.Common.{inl, inr, append_assoc, append-nil}
 use Rattle.std.specs.Prelude.{filter}
 use Rattle.std.specs.List.{All, AllZip, enumerate_from}
 use Rattle.std.proofs.lemmas.Bool.{cases_Bool, cond-true, cond-false}
@@ -13,7 +15,9 @@ use Rattle.room_ace.specs.declared.fault.LineFault.{LineFault}
 use Rattle.room_ace.specs.declared.fault.Why.TheVariants.{Entry, List as Limit, NoListLine, NotUtf8}
 use Rattle.room_ace.specs.Sent.{Sent, limit_fault}
 use Rattle.room_ace.specs.Text.{entry_of}
-use Rattle.room_ace.specs.Lists.{and_then, entries_after, fault_at, flags_of_list, is_blank, is_comment, lines_of, numbered_lines, sent_of_lines, sent_with, with_entry}
+use Rattle.room_ace.specs.Lists.{and_then, entries_after, fault_at, flags_of_list, is_blank}
+use Rattle.room_ace.specs.Lists.{is_comment, lines_of, numbered_lines, sent_of_lines, sent_with}
+use Rattle.room_ace.specs.Lists.{with_entry}
 use Rattle.room_ace.specs.Laws.{ReadsWhatIsSpelled, Spells, saying}
 use Rattle.room_ace.proofs.ListsBack.{with_entry_ok}
 

@@ -1,24 +1,32 @@
 -- What waits after n turns, and the text that was added.
-use Rattle.std.proofs.Common.{◌≡◌, ℕ, ◌+◌, ◌<◌, ◌≤◌, ◌==◌, Bool, true, false, cond, not, List, [], ◌∷◌, ◌++◌, map, filter, reverse, length, Option, Some, None, nat_lt, refl, sym, ap, subst, ◌∙◌, inl, inr, arith, append_assoc}
+use Rattle.std.proofs.Common.{◌≡◌, ℕ, ◌+◌, ◌<◌, ◌≤◌, ◌==◌, Bool, true, false, cond, not, List, []}
+use Rattle.std.proofs.Common.{◌∷◌, ◌++◌, map, filter, reverse, length, Option, Some, None, nat_lt}
+use Rattle.std.proofs.Common.{refl, sym, ap, subst, ◌∙◌, inl, inr, arith, append_assoc}
 use Rattle.std.specs.Prelude.{is_none}
 use Rattle.std.specs.List.{flat_map, list_all, AllByRecursion as Each}
 use Rattle.std.specs.Option.{option_map_or}
-use Rattle.std.proofs.lemmas.Bool.{false≢true, and_from, and_parts, eqb-true, eq-eqb, ne_eqb, ltb-true}
+use Rattle.std.proofs.lemmas.Bool.{false≢true, and_from, and_parts, eqb-true, eq-eqb, ne_eqb}
+use Rattle.std.proofs.lemmas.Bool.{ltb-true}
 use Rattle.std.proofs.lemmas.List.{length-map}
 use Rattle.std.proofs.Math.Nat.{le_trans}
 use Rattle.room_rows.specs.declared.node.Node.{Node}
-use Rattle.room_rows.specs.Content.{Content, body_of, children_of, has_parent, is_rising, node_at, root_of}
+use Rattle.room_rows.specs.Content.{Content, body_of, children_of, has_parent, is_rising, node_at}
+use Rattle.room_rows.specs.Content.{root_of}
 use Rattle.room_rows.specs.Finding.{find_id}
 use Rattle.room_rows.specs.Rows.{AreRows, Rows, numbers_of}
 use Rattle.room_rows.specs.Keep.{IsDamaged}
 use Rattle.room_dump.specs.declared.dumping.Waiting.{Waiting}
-use Rattle.room_dump.specs.Dump.{all_of, has_bytes, itself, object_lines, objects_text, path_below, tree_of}
+use Rattle.room_dump.specs.Dump.{all_of, has_bytes, itself, object_lines, objects_text, path_below}
+use Rattle.room_dump.specs.Dump.{tree_of}
 use Rattle.room_dump.specs.Telling.{Begins, IsUntellable}
 use Rattle.room_dump.specs.Waiting.{waiting_below, waiting_children, waiting_root}
-use Rattle.room_dump.proofs.Counting.{count_all, count_append, count_found, count_parts, count_reverse, each_always, each_both, each_filter, each_found, each_last, each_reverse, none_counted}
+use Rattle.room_dump.proofs.Counting.{count_all, count_append, count_found, count_parts}
+use Rattle.room_dump.proofs.Counting.{count_reverse, each_always, each_both, each_filter}
+use Rattle.room_dump.proofs.Counting.{each_found, each_last, each_reverse, none_counted}
 use Rattle.room_dump.proofs.Depth.{HasAll, all_still, always, goes_on, is_number, others}
 use Rattle.room_dump.proofs.Waits.{texts, texts-below, texts-last}
-use Rattle.room_entry.proofs.Facts.Members.{each_append, each_front, each_map, each_weaker, one_if, count, count_map}
+use Rattle.room_entry.proofs.Facts.Members.{each_append, each_front, each_map, each_weaker, one_if}
+use Rattle.room_entry.proofs.Facts.Members.{count, count_map}
 use Rattle.room_entry.proofs.Facts.Lists.{filter_weaker}
 use Rattle.room_rows.proofs.Lookups.{each-sorted, count_sorted, length_numbers}
 

@@ -1,5 +1,6 @@
 -- Equal entries are the same, and a turn of a comparison.
-use Rattle.std.proofs.Common.{ℕ, ◌≡◌, suc, Bool, true, false, ◌&&◌, List, [], ◌∷◌, length, refl, sym, ap, ◌∙◌}
+use Rattle.std.proofs.Common.{ℕ, ◌≡◌, suc, Bool, true, false, ◌&&◌, List, [], ◌∷◌, length, refl}
+use Rattle.std.proofs.Common.{sym, ap, ◌∙◌}
 use Rattle.std.proofs.lemmas.Bool.{and_from}
 use Rattle.std.specs.Cmp.Lexicographic.{same_text as text_equal, bytes_decides}
 use Rattle.room_entry.specs.Pieces.{same_text}

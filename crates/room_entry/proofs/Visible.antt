@@ -1,10 +1,12 @@
 -- A name is of visible ASCII bytes, and so it is a text.
-use Rattle.std.proofs.Common.{ℕ, ◌≡◌, ◌≤◌, Bool, true, false, ◌&&◌, ◌||◌, List, [], ◌∷◌, refl, subst, inl, inr, codes, arith}
+use Rattle.std.proofs.Common.{ℕ, ◌≡◌, ◌≤◌, Bool, true, false, ◌&&◌, ◌||◌, List, [], ◌∷◌, refl}
+use Rattle.std.proofs.Common.{subst, inl, inr, codes, arith}
 use Rattle.std.specs.Prelude.{nat_le, nat_lt}
 use Rattle.std.specs.List.{list_all, join_with_byte}
 use Rattle.std.specs.Char.{is_ascii_alphanumeric}
 use Rattle.std.specs.Str.{IsAscii}
-use Rattle.std.proofs.lemmas.Bool.{and_parts, and_from, both_ways, false≢true, false_from_ne_true, or_cases, or_left, leb-true, le-leb, lt-ltb, ltb-true}
+use Rattle.std.proofs.lemmas.Bool.{and_parts, and_from, both_ways, false≢true, false_from_ne_true}
+use Rattle.std.proofs.lemmas.Bool.{or_cases, or_left, leb-true, le-leb, lt-ltb, ltb-true}
 use Rattle.std.proofs.lemmas.List.Splits.{join_with_byte-slice_split}
 use Rattle.std.proofs.lemmas.Str.Ascii.{IsAscii-nil, IsAscii-cons}
 use Rattle.room_entry.specs.Pieces.{pieces, is_among}

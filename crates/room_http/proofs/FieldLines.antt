@@ -1,11 +1,17 @@
 -- How many lines of a head have ended, and whether these are the lines of too many fields.
-use Rattle.std.proofs.Common.{◌≡◌, ℕ, zero, suc, ◌+◌, ◌<◌, ◌≤◌, ◌⊎◌, Bool, true, false, cond, List, [], ◌∷◌, ◌++◌, length, take, drop, Option, Some, None, refl, inl, inr, sym, ap, subst, ◌∙◌, arith, append_assoc, append-nil}
+use Rattle.std.proofs.Common.{◌≡◌, ℕ, zero, suc, ◌+◌, ◌<◌, ◌≤◌, ◌⊎◌, Bool, true, false, cond, List}
+use Rattle.std.proofs.Common.{[], ◌∷◌, ◌++◌, length, take, drop, Option, Some, None, refl, inl, inr}
+use Rattle.std.proofs.Common.{sym, ap, subst, ◌∙◌, arith, append_assoc, append-nil}
 use Rattle.std.specs.Prelude.{◌==◌, not}
 use Rattle.std.specs.List.{flat_map, filter, AllByRecursion, position, position_or_len}
 use Rattle.std.proofs.lemmas.Bool.{cases_Bool, cond-true, cond-false, eqb-true, ne_eqb, both_ways}
 use Rattle.std.proofs.lemmas.List.{length-append, length-take-le, drop_all}
-use Rattle.std.proofs.lemmas.List.Elements.{All-head, All-tail, All-take, filter-append, recursion_from_All}
-use Rattle.httparse.specs.Grammar.{is_token_byte, is_uri_byte, is_value_byte, AllPass, LineEnd, crlf, lf, print_end, print_blank, print_version, Field, print_field, IsField, print_section, RequestHead, IsRequestHead, print_request, ReadsRequest, HasNoRequest, MayBecomeRequest}
+use Rattle.std.proofs.lemmas.List.Elements.{All-head, All-tail, All-take, filter-append}
+use Rattle.std.proofs.lemmas.List.Elements.{recursion_from_All}
+use Rattle.httparse.specs.Grammar.{is_token_byte, is_uri_byte, is_value_byte, AllPass, LineEnd}
+use Rattle.httparse.specs.Grammar.{crlf, lf, print_end, print_blank, print_version, Field}
+use Rattle.httparse.specs.Grammar.{print_field, IsField, print_section, RequestHead, IsRequestHead}
+use Rattle.httparse.specs.Grammar.{print_request, ReadsRequest, HasNoRequest, MayBecomeRequest}
 use Rattle.httparse.specs.Pieces.{is_newline, Stops}
 use Rattle.httparse.specs.Spans.{RequestExceeds}
 use Rattle.room_entry.proofs.Cuts.{place_of, none_of}

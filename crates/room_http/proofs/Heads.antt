@@ -1,7 +1,9 @@
 -- A head found in a window of the bytes is a head of the bytes.
-use Rattle.std.proofs.Common.{◌≡◌, ℕ, ◌-◌, ◌<◌, ◌≤◌, List, [], ◌∷◌, ◌++◌, length, take, drop, map, refl, inl, inr, sym, ap, subst, ◌∙◌, arith, min, append_assoc}
+use Rattle.std.proofs.Common.{◌≡◌, ℕ, ◌-◌, ◌<◌, ◌≤◌, List, [], ◌∷◌, ◌++◌, length, take, drop, map}
+use Rattle.std.proofs.Common.{refl, inl, inr, sym, ap, subst, ◌∙◌, arith, min, append_assoc}
 use Rattle.std.specs.List.{All, AllByRecursion, slice_range}
-use Rattle.std.proofs.lemmas.List.{take-append-le, drop-append-le, take-append-drop, length-drop, length-take, take_min, take_all, length-map}
+use Rattle.std.proofs.lemmas.List.{take-append-le, drop-append-le, take-append-drop, length-drop}
+use Rattle.std.proofs.lemmas.List.{length-take, take_min, take_all, length-map}
 use Rattle.std.proofs.lemmas.List.Elements.{recursion_from_All}
 use Rattle.std.proofs.Math.Seq.{drop-append_seam}
 use Rattle.std.proofs.Common.{Result, Ok}
@@ -12,7 +14,8 @@ use Rattle.httparse.specs.declared.spans.Span.{Span}
 use Rattle.httparse.specs.declared.spans.HeaderSpan.{HeaderSpan}
 use Rattle.httparse.specs.declared.spans.RequestSpans.{RequestSpans}
 use Rattle.httparse.specs.Grammar.{RequestHead, print_request}
-use Rattle.httparse.specs.Spans.{span_bytes, header_bytes, name_and_value, IsWithin, IsHeaderWithin, IsRequestWithin, IsRequestAt}
+use Rattle.httparse.specs.Spans.{span_bytes, header_bytes, name_and_value, IsWithin, IsHeaderWithin}
+use Rattle.httparse.specs.Spans.{IsRequestWithin, IsRequestAt}
 use Rattle.room_http.specs.Limits.{max_head, max_fields}
 use Rattle.std.proofs.Math.Nat.{min_comm, le_trans}
 use Rattle.room_http.specs.Message.{IsHead, BeginsWith, HasTooMany}

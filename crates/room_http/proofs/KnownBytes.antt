@@ -1,5 +1,7 @@
 -- Known bytes that are read or written one text after another.
-use Rattle.std.proofs.Common.{Bool, true, false, Result, Ok, Err, OnOk, OnErr, IfErr, ◌≡◌, ℕ, ◌+◌, ◌-◌, ◌<◌, arith, List, [], ◌++◌, length, take, drop, subst, Option, Some, None, sym, ap, refl, ◌∙◌, append_assoc}
+use Rattle.std.proofs.Common.{Bool, true, false, Result, Ok, Err, OnOk, OnErr, IfErr, ◌≡◌, ℕ, ◌+◌}
+use Rattle.std.proofs.Common.{◌-◌, ◌<◌, arith, List, [], ◌++◌, length, take, drop, subst, Option}
+use Rattle.std.proofs.Common.{Some, None, sym, ap, refl, ◌∙◌, append_assoc}
 use Rattle.std.proofs.lemmas.List.{append-nil, take-append-drop, length-append, length-drop}
 use Rattle.std.specs.Io.KnownBytes.{Appends, Consumes, Keeps}
 use Rattle.room_http.specs.declared.ended.Cause.{Cause}

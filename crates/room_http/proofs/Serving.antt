@@ -1,5 +1,6 @@
 -- A connection turn by turn.
-use Rattle.std.proofs.Common.{◌≡◌, ℕ, ℤ, ◌+◌, ◌<◌, true, false, length, List, [], ◌∷◌, ◌++◌, refl, sym, ap, subst, ◌∙◌, append_assoc, arith}
+use Rattle.std.proofs.Common.{◌≡◌, ℕ, ℤ, ◌+◌, ◌<◌, true, false, length, List, [], ◌∷◌, ◌++◌, refl}
+use Rattle.std.proofs.Common.{sym, ap, subst, ◌∙◌, append_assoc, arith}
 use Rattle.std.proofs.lemmas.List.{append-nil, length-append}
 use Rattle.std.proofs.lemmas.List.Elements.{All-append, All-nil, All-from_recursion}
 use Rattle.std.proofs.lemmas.Grind.{flat_map-append}
@@ -11,8 +12,10 @@ use Rattle.room_http.specs.declared.ended.ServeFault.{ServeFault}
 use Rattle.room_http.specs.declared.server.Halt.{Halt}
 use Rattle.room_http.specs.Limits.{max_messages}
 use Rattle.room_http.specs.Message.{print_message}
-use Rattle.room_http.specs.Stream.{Exchange, IsOpen, exchange_text, bytes_of, texts_of, last_text, Last, last_exchange, RunsExchanges, EndsStream}
-use Rattle.room_http.specs.Serve.{Seen, Blames, FaultsRose, Serves, Stops, Connects, Next, next_text, next_exchange, IsNext, NextRose, NearLast, NearNext}
+use Rattle.room_http.specs.Stream.{Exchange, IsOpen, exchange_text, bytes_of, texts_of, last_text}
+use Rattle.room_http.specs.Stream.{Last, last_exchange, RunsExchanges, EndsStream}
+use Rattle.room_http.specs.Serve.{Seen, Blames, FaultsRose, Serves, Stops, Connects, Next}
+use Rattle.room_http.specs.Serve.{next_text, next_exchange, IsNext, NextRose, NearLast, NearNext}
 use Rattle.room_http.specs.Turn.{Along, TurnsOpen, TurnsLast, TurnsStop}
 use Rattle.room_http.proofs.KnownBytes.{Consumes-then, Consumes-none}
 use Rattle.room_entry.proofs.Facts.KnownBytes.{Appends-then, Appends-none}

@@ -1,5 +1,7 @@
 -- How one message was answered.
-use Rattle.std.proofs.Common.{◌≡◌, ℕ, ℤ, ◌+◌, ◌-◌, ◌^◌, ◌<◌, ◌≤◌, ◌⊎◌, Bool, true, false, List, [], min, refl, inl, inr, sym, ap, subst, ◌∙◌, arith, Option, Some, None, Result, Ok, Err}
+use Rattle.std.proofs.Common.{◌≡◌, ℕ, ℤ, ◌+◌, ◌-◌, ◌^◌, ◌<◌, ◌≤◌, ◌⊎◌, Bool, true, false, List, []}
+use Rattle.std.proofs.Common.{min, refl, inl, inr, sym, ap, subst, ◌∙◌, arith, Option, Some, None}
+use Rattle.std.proofs.Common.{Result, Ok, Err}
 use Rattle.std.specs.Io.KnownBytes.{Appends}
 use Rattle.std.proofs.lemmas.Bool.{cases_lt}
 use Rattle.room_machine.specs.declared.reply.Reply.{Reply}
@@ -7,7 +9,8 @@ use Rattle.http_message.specs.declared.fault.HttpFault.{HttpFault}
 use Rattle.http_message.specs.Asked as message
 use Rattle.http_message.specs.Reply.{reply_text, fault_text}
 use Rattle.room_http.specs.Message.{Asked}
-use Rattle.room_http.specs.Answer.{Stepped, ActedIf, AnswersMessage, Delivers, JoinsText, KeepsContent, Responds, SendsRefusal, TellsReply, Rose}
+use Rattle.room_http.specs.Answer.{Stepped, ActedIf, AnswersMessage, Delivers, JoinsText}
+use Rattle.room_http.specs.Answer.{KeepsContent, Responds, SendsRefusal, TellsReply, Rose}
 use Rattle.room_http.specs.declared.told.Answer.{Answer}
 use Rattle.room_http.specs.declared.told.Response.{Response}
 use Rattle.room_http.specs.declared.told.Lost.{Lost}

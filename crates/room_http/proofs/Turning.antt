@@ -1,5 +1,7 @@
 -- One turn of the server.
-use Rattle.std.proofs.Common.{◌≡◌, ℕ, ℤ, ◌+◌, ◌<◌, ◌||◌, ◌==◌, Bool, true, false, List, [], ◌∷◌, ◌++◌, length, drop, refl, sym, ap, subst, ◌∙◌, arith, Option, Some, None, Result, Ok, Err, IfOk, IfErr}
+use Rattle.std.proofs.Common.{◌≡◌, ℕ, ℤ, ◌+◌, ◌<◌, ◌||◌, ◌==◌, Bool, true, false, List, [], ◌∷◌}
+use Rattle.std.proofs.Common.{◌++◌, length, drop, refl, sym, ap, subst, ◌∙◌, arith, Option, Some}
+use Rattle.std.proofs.Common.{None, Result, Ok, Err, IfOk, IfErr}
 use Rattle.std.proofs.Common.{◌≢◌}
 use Rattle.std.proofs.lemmas.Bool.{eq-eqb, true≢false}
 use Rattle.std.proofs.lemmas.List.{append-nil}
@@ -18,7 +20,8 @@ use Rattle.room_http.specs.declared.ended.Ended.{Ended}
 use Rattle.room_http.specs.declared.server.Halt.{Halt}
 use Rattle.room_http.specs.declared.ended.Cause.{Cause}
 use Rattle.room_http.specs.Limits.{max_messages, read_size}
-use Rattle.room_http.specs.Message.{Message, print_message, IsRefusedHead, IsPart, asked, closes, head_of}
+use Rattle.room_http.specs.Message.{Message, print_message, IsRefusedHead, IsPart, asked, closes}
+use Rattle.room_http.specs.Message.{head_of}
 use Rattle.room_http.specs.Text.{store_text, refusal_reply}
 use Rattle.room_http.specs.Stream.{Last, answer_text, events_at, Runs, RunsExchanges, says_close}
 use Rattle.room_http.specs.Spans.{Came}

@@ -1,6 +1,7 @@
 -- What a reader took, by the clauses of `csv`.
 use Rattle.std.proofs.Common.{ℕ, ◌≡◌, Bor, true, false, List, Option, Some, ◌∙◌}
-use Rattle.csv.specs.Reading.{ReadRecord, Ready, TookRecord, default_config, is_flexible, pending_of}
+use Rattle.csv.specs.Reading.{ReadRecord, Ready, TookRecord, default_config, is_flexible}
+use Rattle.csv.specs.Reading.{pending_of}
 use Rattle.csv.specs.Records.{AllText}
 use Rattle.csv.specs.declared.reader.Trim.TheVariants as trim
 use Rattle.room_import.specs.declared.rows.NextRow.TheVariants.{End, NotText, Text}

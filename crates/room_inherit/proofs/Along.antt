@@ -1,5 +1,6 @@
 -- Along a path the full lists are those that are stored.
-use Rattle.std.proofs.Common.{◌≡◌, ◌==◌, ℕ, Bool, true, false, cond, List, [], ◌∷◌, ◌++◌, map, length, Option, Some, None, refl, sym, ap, ◌∙◌}
+use Rattle.std.proofs.Common.{◌≡◌, ◌==◌, ℕ, Bool, true, false, cond, List, [], ◌∷◌, ◌++◌, map}
+use Rattle.std.proofs.Common.{length, Option, Some, None, refl, sym, ap, ◌∙◌}
 use Rattle.std.specs.Prelude.{option_and_then}
 use Rattle.std.specs.Option.{option_map_or}
 use Rattle.room_entry.specs.Ace.{Ace}
@@ -9,7 +10,8 @@ use Rattle.room_rows.specs.declared.node.Node.{Node}
 use Rattle.room_rows.specs.Held.{held_of, full_of, is_linked}
 use Rattle.room_rows.specs.Content.{Content, node_at, parent_of, child_of, root_of}
 use Rattle.room_rows.specs.Walk.{behind, walk_from}
-use Rattle.room_rows.proofs.Frames.{Rises, rows-rise, root_of-is_there, child_of-is_there, child_of-parent}
+use Rattle.room_rows.proofs.Frames.{Rises, rows-rise, root_of-is_there, child_of-is_there}
+use Rattle.room_rows.proofs.Frames.{child_of-parent}
 use Rattle.room_rows.specs.Full.{fulls, fulls_below, full_below}
 use Rattle.room_rows.specs.Law.{AllAgree, agrees, agrees_with}
 use Rattle.room_inherit.specs.Laws.{StoredAlongPath}

@@ -1,5 +1,7 @@
 -- One list carried down after the other.
-use Rattle.std.proofs.Common.{◌≡◌, ℕ, ◌+◌, Bool, true, false, cond, ◌||◌, List, [], ◌∷◌, map, Option, Some, None, Ok, Err, refl, sym, ap, subst, ◌∙◌, inl, inr, arith}
+use Rattle.std.proofs.Common.{◌≡◌, ℕ, ◌+◌, Bool, true, false, cond, ◌||◌, List, [], ◌∷◌, map}
+use Rattle.std.proofs.Common.{Option, Some, None, Ok, Err, refl, sym, ap, subst, ◌∙◌, inl, inr}
+use Rattle.std.proofs.Common.{arith}
 use Rattle.std.specs.Prelude.{is_none, option_and_then}
 use Rattle.std.specs.List.{list_all, find}
 use Rattle.std.specs.Option.{option_map, option_map_or}
@@ -18,7 +20,8 @@ use Rattle.room_rows.proofs.SamePlace.{IsSamePlace}
 use Rattle.room_rows.proofs.Steps.{later_cause}
 use Rattle.room_rows.specs.Law.{AllAgree, agrees, agrees_with}
 use Rattle.room_rows.specs.Sound.{reaches}
-use Rattle.room_inherit.specs.Spread.{ChangedAgree, HasSpreadCause, is_changed, stores_as_before, with_lists}
+use Rattle.room_inherit.specs.Spread.{ChangedAgree, HasSpreadCause, is_changed, stores_as_before}
+use Rattle.room_inherit.specs.Spread.{with_lists}
 use Rattle.room_inherit.specs.SpreadAll.{IsSpreadAll, IsSwept, IsTree, SpreadsAll, Sweeps}
 use Rattle.room_inherit.specs.declared.outcome.Spread.{Spread}
 use Rattle.room_inherit.specs.declared.outcome.SpreadFault.{SpreadFault}

@@ -1,5 +1,8 @@
 -- Calls of a keeper that write lists, one after the other.
-use Rattle.std.proofs.Common.{◌≡◌, ℕ, suc, ◌+◌, ◌<◌, ◌^◌, ◌-◌, Bool, true, false, cond, List, [], ◌∷◌, ◌++◌, length, map, filter, drop, get_or, Some, Result, Ok, Err, IfOk, IfErr, refl, sym, ap, subst, ◌∙◌, inl, inr, arith, add-one, drop-cons}
+use Rattle.std.proofs.Common.{◌≡◌, ℕ, suc, ◌+◌, ◌<◌, ◌^◌, ◌-◌, Bool, true, false, cond, List, []}
+use Rattle.std.proofs.Common.{◌∷◌, ◌++◌, length, map, filter, drop, get_or, Some, Result, Ok, Err}
+use Rattle.std.proofs.Common.{IfOk, IfErr, refl, sym, ap, subst, ◌∙◌, inl, inr, arith, add-one}
+use Rattle.std.proofs.Common.{drop-cons}
 use Rattle.std.specs.List.{list_any}
 use Rattle.std.proofs.lemmas.Bool.{cases_lt}
 use Rattle.std.proofs.lemmas.List.{append_assoc, append-nil, length-append}
@@ -13,7 +16,8 @@ use Rattle.room_rows.specs.Counts.{capped_below, capped_past}
 use Rattle.room_rows.specs.HeldList.{Held}
 use Rattle.room_rows.specs.declared.keep.KeepFault.{KeepFault}
 use Rattle.room_rows.specs.declared.keep.KeepFault.TheVariants.{Memory}
-use Rattle.room_rows.specs.Keep.{Changes, IsUnreadable, IsRead, IsWrite, AreChildrenOf, HasChildren, Leaves, capped, reading, with_inh, KeepLaws}
+use Rattle.room_rows.specs.Keep.{Changes, IsUnreadable, IsRead, IsWrite, AreChildrenOf, HasChildren}
+use Rattle.room_rows.specs.Keep.{Leaves, capped, reading, with_inh, KeepLaws}
 use Rattle.room_rows.specs.Rows.{Rows, is_unreadable}
 use Rattle.room_rows.proofs.Steps.{later_cause}
 use Rattle.room_inherit.specs.declared.descent.Descent.{Descent}
@@ -21,9 +25,13 @@ use Rattle.room_inherit.specs.declared.descent.Reach.{Reach}
 use Rattle.room_inherit.specs.declared.outcome.SpreadFault.{SpreadFault}
 use Rattle.room_inherit.specs.declared.outcome.SpreadFault.TheVariants.{Keeper, Loop}
 use Rattle.room_inherit.specs.Spread.{HasSpreadCause}
-use Rattle.room_inherit.specs.Turn.{AreKnown, IsChildless, LeavesOut, MeetsAgain, IsVisit, IsRenewal, Renews, RenewsAll, TellsWaiting, Visits, with_nodes, brought_up, is_outdated, one_if, passed_to, renewed, renewals, next_of, meets_again, waits_next}
+use Rattle.room_inherit.specs.Turn.{AreKnown, IsChildless, LeavesOut, MeetsAgain, IsVisit}
+use Rattle.room_inherit.specs.Turn.{IsRenewal, Renews, RenewsAll, TellsWaiting, Visits, with_nodes}
+use Rattle.room_inherit.specs.Turn.{brought_up, is_outdated, one_if, passed_to, renewed, renewals}
+use Rattle.room_inherit.specs.Turn.{next_of, meets_again, waits_next}
 use Rattle.room_inherit.proofs.Renewing.{known_other, known_renewals, turn_becomes}
-use Rattle.room_inherit.proofs.Chosen.{below_put, chosen_append, chosen_there, none_below, one_chosen}
+use Rattle.room_inherit.proofs.Chosen.{below_put, chosen_append, chosen_there, none_below}
+use Rattle.room_inherit.proofs.Chosen.{one_chosen}
 use Rattle.room_rows.proofs.InPlace.{held_of-with_inh, with_inh-id}
 
 -- ---- counts with an end

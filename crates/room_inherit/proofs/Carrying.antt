@@ -1,5 +1,6 @@
 -- A change carried down, turn after turn.
-use Rattle.std.proofs.Common.{◌≡◌, ℕ, suc, ◌+◌, ◌≤◌, false, List, [], ◌∷◌, ◌++◌, length, Some, None, Result, Ok, Err, IfOk, IfErr, sym, ap, subst, ◌∙◌, arith}
+use Rattle.std.proofs.Common.{◌≡◌, ℕ, suc, ◌+◌, ◌≤◌, false, List, [], ◌∷◌, ◌++◌, length, Some, None}
+use Rattle.std.proofs.Common.{Result, Ok, Err, IfOk, IfErr, sym, ap, subst, ◌∙◌, arith}
 use Rattle.std.proofs.lemmas.Bool.{false≢true, false_from_ne_true, eq-eqb}
 use Rattle.std.proofs.lemmas.List.{length-append}
 use Rattle.room_entry.specs.Ace.{Ace}
@@ -8,12 +9,14 @@ use Rattle.room_rows.specs.declared.keep.Keep.{Ghosts}
 use Rattle.room_rows.specs.declared.node.Node.{Node}
 use Rattle.room_rows.specs.Content.{Content, node_at, children_of}
 use Rattle.room_rows.specs.Counts.{capped_below}
-use Rattle.room_rows.specs.Keep.{IsUnreadable, IsUnreadableAt, IsNodeAt, IsRead, capped, reading, KeepLaws}
+use Rattle.room_rows.specs.Keep.{IsUnreadable, IsUnreadableAt, IsNodeAt, IsRead, capped, reading}
+use Rattle.room_rows.specs.Keep.{KeepLaws}
 use Rattle.room_rows.specs.Law.{AllAgree}
 use Rattle.room_rows.specs.Rows.{Rows, AreRows, numbers_of, is_unreadable}
 use Rattle.room_rows.proofs.InPlace.{numbers_of-reading}
 use Rattle.room_rows.proofs.Steps.{later_cause}
-use Rattle.room_inherit.specs.Spread.{ChangedAgree, HasSpreadCause, IsSpread, IsOwnAncestor, Holds, Spreads, SpreadsIf, with_lists, is_changed}
+use Rattle.room_inherit.specs.Spread.{ChangedAgree, HasSpreadCause, IsSpread, IsOwnAncestor, Holds}
+use Rattle.room_inherit.specs.Spread.{Spreads, SpreadsIf, with_lists, is_changed}
 use Rattle.room_inherit.specs.Turn.{IsVisit, LeavesOut, MeetsAgain, next_of}
 use Rattle.room_inherit.specs.declared.descent.Descent.{Descent}
 use Rattle.room_inherit.specs.declared.descent.Reach.{Reach}
@@ -23,9 +26,12 @@ use Rattle.room_inherit.specs.declared.outcome.SpreadFault.{SpreadFault}
 use Rattle.room_inherit.specs.declared.outcome.SpreadFault.TheVariants.{Keeper, Loop}
 use Rattle.room_entry.proofs.Facts.Members.{count, count-is}
 use Rattle.room_inherit.proofs.Frontier.{Frontier, ids_set}
-use Rattle.room_inherit.proofs.Chosen.{all_chosen, below_lists, chosen_append, chosen_length, chosen_there, frontier_chosen}
+use Rattle.room_inherit.proofs.Chosen.{all_chosen, below_lists, chosen_append, chosen_length}
+use Rattle.room_inherit.proofs.Chosen.{chosen_there, frontier_chosen}
 use Rattle.room_inherit.proofs.OneTurn.{after, rows_after, frontier_after, as_many, count_after}
-use Rattle.room_inherit.proofs.Ends.{own_lists, with_own_lists, own_unchanged, count_own, frontier_first, law_without, law_at_end, changed_agree, loop_found, count_less, as_many_numbers}
+use Rattle.room_inherit.proofs.Ends.{own_lists, with_own_lists, own_unchanged, count_own}
+use Rattle.room_inherit.proofs.Ends.{frontier_first, law_without, law_at_end, changed_agree}
+use Rattle.room_inherit.proofs.Ends.{loop_found, count_less, as_many_numbers}
 use Rattle.room_inherit.proofs.Turns.{Progress}
 use Rattle.room_rows.proofs.Lookups.{found_number}
 

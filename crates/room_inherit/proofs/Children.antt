@@ -1,13 +1,20 @@
 -- Objects of rows by their numbers, and the children of one.
-use Rattle.std.proofs.Common.{◌≡◌, ℕ, suc, ◌<◌, ◌==◌, Bool, true, false, cond, ◌&&◌, ◌||◌, List, [], ◌∷◌, map, filter, length, Some, refl, sym, ap, subst, ◌∙◌, inl, inr, arith}
+use Rattle.std.proofs.Common.{◌≡◌, ℕ, suc, ◌<◌, ◌==◌, Bool, true, false, cond, ◌&&◌, ◌||◌, List, []}
+use Rattle.std.proofs.Common.{◌∷◌, map, filter, length, Some, refl, sym, ap, subst, ◌∙◌, inl, inr}
+use Rattle.std.proofs.Common.{arith}
 use Rattle.std.specs.Prelude.{nat_lt}
 use Rattle.std.specs.List.{list_any, AllByRecursion as Each}
-use Rattle.std.proofs.lemmas.Bool.{cases_Bool, and_parts, or_parts, or_from, or_left, or_right, false≢true, eq-eqb, eqb-true, ne_eqb, ltb-true, false_from_ne_true}
+use Rattle.std.proofs.lemmas.Bool.{cases_Bool, and_parts, or_parts, or_from, or_left, or_right}
+use Rattle.std.proofs.lemmas.Bool.{false≢true, eq-eqb, eqb-true, ne_eqb, ltb-true}
+use Rattle.std.proofs.lemmas.Bool.{false_from_ne_true}
 use Rattle.std.proofs.lemmas.Option.{same_Some}
 use Rattle.room_rows.specs.declared.node.Node.{Node}
-use Rattle.room_rows.specs.Content.{Content, node_at, has_parent, children_of, put_by_name, sorted_by_name, is_before, is_rising, with_each}
+use Rattle.room_rows.specs.Content.{Content, node_at, has_parent, children_of, put_by_name}
+use Rattle.room_rows.specs.Content.{sorted_by_name, is_before, is_rising, with_each}
 use Rattle.room_rows.specs.Finding.{find_id}
-use Rattle.room_entry.proofs.Facts.Members.{each_weaker, each_filter, each_unfiltered, any_filter, any_agree, any_none, each_fails, none_of_both, none_filter, count, count_filter, count_length}
+use Rattle.room_entry.proofs.Facts.Members.{each_weaker, each_filter, each_unfiltered, any_filter}
+use Rattle.room_entry.proofs.Facts.Members.{any_agree, any_none, each_fails, none_of_both}
+use Rattle.room_entry.proofs.Facts.Members.{none_filter, count, count_filter, count_length}
 use Rattle.room_rows.proofs.Lookups.{each-sorted, count_sorted}
 
 -- ---- by number

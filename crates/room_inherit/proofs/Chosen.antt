@@ -1,19 +1,24 @@
 -- Documents below which nothing stands, left out of the objects that wait.
-use Rattle.std.proofs.Common.{◌≡◌, ℕ, ◌≤◌, ◌==◌, Bool, true, false, cond, not, ◌&&◌, ◌||◌, List, [], ◌∷◌, ◌++◌, map, filter, length, Option, Some, refl, sym, ap, subst, ◌∙◌, inl, inr, arith}
+use Rattle.std.proofs.Common.{◌≡◌, ℕ, ◌≤◌, ◌==◌, Bool, true, false, cond, not, ◌&&◌, ◌||◌, List, []}
+use Rattle.std.proofs.Common.{◌∷◌, ◌++◌, map, filter, length, Option, Some, refl, sym, ap, subst}
+use Rattle.std.proofs.Common.{◌∙◌, inl, inr, arith}
 use Rattle.std.specs.Prelude.{nat_lt}
 use Rattle.std.specs.List.{AllByRecursion, list_any}
 use Rattle.std.specs.Option.{option_map_or}
-use Rattle.std.proofs.lemmas.Bool.{cases_Bool, or_cases, or_from, or_left, or_parts, or_right, false≢true, eqb-true, ltb-true}
+use Rattle.std.proofs.lemmas.Bool.{cases_Bool, or_cases, or_from, or_left, or_parts, or_right}
+use Rattle.std.proofs.lemmas.Bool.{false≢true, eqb-true, ltb-true}
 use Rattle.room_entry.specs.Ace.{Ace}
 use Rattle.room_entry.specs.Valid.{is_document}
 use Rattle.room_entry.specs.declared.object.Which.{Which}
 use Rattle.room_rows.specs.declared.node.Node.{Node}
-use Rattle.room_rows.specs.Content.{Content, has_parent, is_folder, put_node, sorted_by_name, with_node}
+use Rattle.room_rows.specs.Content.{Content, has_parent, is_folder, put_node, sorted_by_name}
+use Rattle.room_rows.specs.Content.{with_node}
 use Rattle.room_rows.specs.Finding.{find_id}
 use Rattle.room_rows.specs.Held.{held_of}
 use Rattle.room_inherit.specs.declared.descent.Descent.{Descent}
 use Rattle.room_inherit.specs.Spread.{with_lists}
-use Rattle.room_inherit.specs.Turn.{AreKnown, IsChildless, LeavesOut, TellsWaiting, brought_up, is_outdated, next_of, passed_to, put_nodes, renewed, waits_next}
+use Rattle.room_inherit.specs.Turn.{AreKnown, IsChildless, LeavesOut, TellsWaiting, brought_up}
+use Rattle.room_inherit.specs.Turn.{is_outdated, next_of, passed_to, put_nodes, renewed, waits_next}
 use Rattle.room_inherit.proofs.Kinship.{same_kind, same_parent}
 use Rattle.room_rows.proofs.InPlace.{with_inh-id}
 use Rattle.room_entry.proofs.Facts.Members.{any_agree, any_filter, any_map, each_fails, each_filter}

@@ -1,9 +1,12 @@
 -- Where carrying a change down begins, and where it ends.
-use Rattle.std.proofs.Common.{◌≡◌, ℕ, zero, suc, ◌+◌, ◌≤◌, ◌==◌, Bool, true, false, cond, not, ◌||◌, List, [], ◌∷◌, ◌++◌, map, length, Option, Some, None, refl, sym, ap, ◌∙◌, inl, inr, arith}
+use Rattle.std.proofs.Common.{◌≡◌, ℕ, zero, suc, ◌+◌, ◌≤◌, ◌==◌, Bool, true, false, cond, not, ◌||◌}
+use Rattle.std.proofs.Common.{List, [], ◌∷◌, ◌++◌, map, length, Option, Some, None, refl, sym, ap}
+use Rattle.std.proofs.Common.{◌∙◌, inl, inr, arith}
 use Rattle.std.specs.Prelude.{option_and_then}
 use Rattle.std.specs.List.{list_all, AllByRecursion as Each}
 use Rattle.std.specs.Option.{option_map, option_map_or}
-use Rattle.std.proofs.lemmas.Bool.{cases_Bool, and_parts, or_cases, or_left, or_right, not-false, false≢true, eq-eqb, eqb-true}
+use Rattle.std.proofs.lemmas.Bool.{cases_Bool, and_parts, or_cases, or_left, or_right, not-false}
+use Rattle.std.proofs.lemmas.Bool.{false≢true, eq-eqb, eqb-true}
 use Rattle.std.proofs.lemmas.List.{length-map, map-id}
 use Rattle.room_entry.specs.Ace.{Ace}
 use Rattle.room_entry.specs.Same.{same_entries}
@@ -11,20 +14,25 @@ use Rattle.room_entry.specs.declared.object.Which.{Which}
 use Rattle.room_entry.proofs.Same.{entries_equal}
 use Rattle.room_entry.proofs.Alike.{equal_entries, entries_themselves}
 use Rattle.room_rows.specs.declared.node.Node.{Node}
-use Rattle.room_rows.specs.Content.{Content, node_at, parent_of, has_parent, children_of, is_linked_in, is_rising}
+use Rattle.room_rows.specs.Content.{Content, node_at, parent_of, has_parent, children_of}
+use Rattle.room_rows.specs.Content.{is_linked_in, is_rising}
 use Rattle.room_rows.specs.Finding.{find_id}
 use Rattle.room_rows.specs.Held.{held_of, full_of, is_linked}
 use Rattle.room_rows.specs.HeldList.{Held}
 use Rattle.room_rows.specs.Rows.{Rows, numbers_of}
 use Rattle.room_rows.specs.Pass.{pass}
 use Rattle.room_rows.specs.Law.{AllAgree, AllAgreeBut, agrees, agrees_with}
-use Rattle.room_inherit.specs.Spread.{ChangedAgree, stores_as_before, with_lists, is_changed, is_linked_within, is_within, IsOwnAncestor}
+use Rattle.room_inherit.specs.Spread.{ChangedAgree, stores_as_before, with_lists, is_changed}
+use Rattle.room_inherit.specs.Spread.{is_linked_within, is_within, IsOwnAncestor}
 use Rattle.room_inherit.specs.Turn.{is_linked_to, is_met_again, meets_again}
 use Rattle.room_inherit.proofs.Kinship.{same_parent, same_kind, with_own}
-use Rattle.room_entry.proofs.Facts.Members.{each_back, each_map, each_weaker, all_each, one_if, count, count_ends}
-use Rattle.room_inherit.proofs.Children.{ids_of, each_found, each_there, apart_rising, apart_map, some_child}
+use Rattle.room_entry.proofs.Facts.Members.{each_back, each_map, each_weaker, all_each, one_if}
+use Rattle.room_entry.proofs.Facts.Members.{count, count_ends}
+use Rattle.room_inherit.proofs.Children.{ids_of, each_found, each_there, apart_rising, apart_map}
+use Rattle.room_inherit.proofs.Children.{some_child}
 use Rattle.room_inherit.proofs.Renewing.{map_agree, one_object}
-use Rattle.room_inherit.proofs.Frontier.{set, set_id, set_parent, set_held, find_set, links, passes, There, Waits, Came, AgreesOrWaits, Frontier}
+use Rattle.room_inherit.proofs.Frontier.{set, set_id, set_parent, set_held, find_set, links, passes}
+use Rattle.room_inherit.proofs.Frontier.{There, Waits, Came, AgreesOrWaits, Frontier}
 use Rattle.room_inherit.proofs.Outdated.{same_above, parent_found, base_of}
 use Rattle.room_rows.proofs.Lookups.{found_number, length_numbers}
 use Rattle.room_rows.proofs.Frames.{parent_is}

@@ -1,9 +1,12 @@
 -- What sound rows mean is a content.
-use Rattle.std.proofs.Common.{◌≡◌, ℕ, ◌+◌, ◌<◌, ◌≤◌, ◌==◌, Bool, true, false, cond, not, ◌&&◌, ◌||◌, List, [], ◌∷◌, map, filter, length, Option, Some, None, refl, sym, ap, ◌∙◌, inl, inr, arith}
+use Rattle.std.proofs.Common.{◌≡◌, ℕ, ◌+◌, ◌<◌, ◌≤◌, ◌==◌, Bool, true, false, cond, not, ◌&&◌, ◌||◌}
+use Rattle.std.proofs.Common.{List, [], ◌∷◌, map, filter, length, Option, Some, None, refl, sym, ap}
+use Rattle.std.proofs.Common.{◌∙◌, inl, inr, arith}
 use Rattle.std.specs.Prelude.{is_none, is_some, nat_lt, nat_le}
 use Rattle.std.specs.List.{find, list_all, list_any, AllByRecursion as Each}
 use Rattle.std.specs.Option.{option_map, option_map_or}
-use Rattle.std.proofs.lemmas.Bool.{cases_Bool, and_parts, and_from, or_from, false≢true, eqb-true, eq-eqb, ne_eqb, ltb-true, lt-ltb, false_from_ne_true}
+use Rattle.std.proofs.lemmas.Bool.{cases_Bool, and_parts, and_from, or_from, false≢true, eqb-true}
+use Rattle.std.proofs.lemmas.Bool.{eq-eqb, ne_eqb, ltb-true, lt-ltb, false_from_ne_true}
 use Rattle.std.proofs.lemmas.List.{length-map}
 use Rattle.room_entry.specs.Pieces.{is_among, same_text}
 use Rattle.room_entry.specs.Valid.{is_document}
@@ -11,7 +14,9 @@ use Rattle.room_entry.specs.declared.object.Which.{Which}
 use Rattle.room_entry.specs.declared.object.Which.TheVariants.{Dacl, Sacl}
 use Rattle.room_rows.specs.HeldList.{Held}
 use Rattle.room_rows.specs.declared.node.Node.{Node}
-use Rattle.room_rows.specs.Content.{Content, are_names_apart, body_at, body_of, has_folder_above, is_empty, is_folder, is_linked_in, is_rising, is_root, keeps_none_linked, parent_of, root_of, same_parent}
+use Rattle.room_rows.specs.Content.{Content, are_names_apart, body_at, body_of, has_folder_above}
+use Rattle.room_rows.specs.Content.{is_empty, is_folder, is_linked_in, is_rising, is_root}
+use Rattle.room_rows.specs.Content.{keeps_none_linked, parent_of, root_of, same_parent}
 use Rattle.room_rows.specs.Finding.{find_id}
 use Rattle.room_rows.specs.Held.{held_of, is_linked}
 use Rattle.room_rows.specs.Meaning.{kept_held, kept_node, meaning}
@@ -22,7 +27,8 @@ use Rattle.room_rows.proofs.SamePlace.{IsSamePlace, filter-changed}
 use Rattle.room_inherit.specs.Laws.{HasNoFault, SoundIsContent}
 use Rattle.room_rows.specs.Sound.{bad_root, has_sound_body, has_sound_name, reaches, same_place}
 use Rattle.room_inherit.proofs.Children.{apart_rising, each_above, each_found, each_there, ids_of}
-use Rattle.room_entry.proofs.Facts.Members.{any_map, any_none, count, count_length, each_fails, one_if}
+use Rattle.room_entry.proofs.Facts.Members.{any_map, any_none, count, count_length, each_fails}
+use Rattle.room_entry.proofs.Facts.Members.{one_if}
 use Rattle.room_inherit.proofs.NoFault.{no_fault, none_bad, root_alone}
 use Rattle.room_inherit.proofs.Stored.{all_found, linked_kept}
 use Rattle.room_inherit.proofs.Unmoved as unmoved

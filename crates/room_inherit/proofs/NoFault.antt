@@ -1,5 +1,6 @@
 -- Sound rows have no fault.
-use Rattle.std.proofs.Common.{◌≡◌, ℕ, Bool, true, false, cond, not, ap, ◌&&◌, List, [], ◌∷◌, filter, length, Option, Some, None, refl, sym, ◌∙◌}
+use Rattle.std.proofs.Common.{◌≡◌, ℕ, Bool, true, false, cond, not, ap, ◌&&◌, List, [], ◌∷◌, filter}
+use Rattle.std.proofs.Common.{length, Option, Some, None, refl, sym, ◌∙◌}
 use Rattle.std.specs.List.{find, list_all}
 use Rattle.std.specs.Option.{option_map}
 use Rattle.std.proofs.Math.Bool.{not-not}
@@ -8,10 +9,14 @@ use Rattle.room_rows.specs.Content.{has_folder_above, is_root}
 use Rattle.room_rows.specs.Rows.{Rows, numbers_of}
 use Rattle.room_rows.specs.declared.report.Report.{Report}
 use Rattle.room_rows.specs.declared.report.Report.TheVariants.{Sound, Fault}
-use Rattle.room_rows.specs.declared.report.Unsound.TheVariants.{Loop, BadList, BrokenLaw, BadRoot, BadParent, BadName, BadBody}
+use Rattle.room_rows.specs.declared.report.Unsound.TheVariants.{Loop, BadList, BrokenLaw, BadRoot}
+use Rattle.room_rows.specs.declared.report.Unsound.TheVariants.{BadParent, BadName, BadBody}
 use Rattle.room_inherit.specs.Kept.{kept_report_of, stores_kept_alone}
 use Rattle.room_inherit.specs.Laws.{CheckedIsTree, HasNoFault, KeptIsNoFault, SoundIsNoFault}
-use Rattle.room_rows.specs.Sound.{AreSound, AreSoundKept, bad_root, fault_of, first_bad_list, first_failing, first_fault, has_bad_list, has_sound_body, has_sound_name, keeps_law, numbered, or_else, or_sound, reaches, true_path}
+use Rattle.room_rows.specs.Sound.{AreSound, AreSoundKept, bad_root, fault_of, first_bad_list}
+use Rattle.room_rows.specs.Sound.{first_failing, first_fault, has_bad_list, has_sound_body}
+use Rattle.room_rows.specs.Sound.{has_sound_name, keeps_law, numbered, or_else, or_sound, reaches}
+use Rattle.room_rows.specs.Sound.{true_path}
 
 -- ---- a test that finds nothing, passed by all
 

@@ -1,7 +1,11 @@
 -- One object taken from those that wait, and its children renewed.
-use Rattle.std.proofs.Common.{◌≡◌, ℕ, zero, suc, ◌+◌, ◌==◌, Bool, true, false, cond, not, ◌&&◌, ◌||◌, List, [], ◌∷◌, ◌++◌, map, filter, length, Some, refl, sym, ap, ◌∙◌, inl, inr, ◌⊎◌}
+use Rattle.std.proofs.Common.{◌≡◌, ℕ, zero, suc, ◌+◌, ◌==◌, Bool, true, false, cond, not, ◌&&◌}
+use Rattle.std.proofs.Common.{◌||◌, List, [], ◌∷◌, ◌++◌, map, filter, length, Some, refl, sym, ap}
+use Rattle.std.proofs.Common.{◌∙◌, inl, inr, ◌⊎◌}
 use Rattle.std.specs.Option.{option_map, option_map_or}
-use Rattle.std.proofs.lemmas.Bool.{cases_Bool, and_from, and_left, cond-true, or_cases, or_parts, or_from, or_left, or_right, false≢true, eq-eqb, eqb-true, false_from_ne_true}
+use Rattle.std.proofs.lemmas.Bool.{cases_Bool, and_from, and_left, cond-true, or_cases, or_parts}
+use Rattle.std.proofs.lemmas.Bool.{or_from, or_left, or_right, false≢true, eq-eqb, eqb-true}
+use Rattle.std.proofs.lemmas.Bool.{false_from_ne_true}
 use Rattle.std.proofs.lemmas.List.{length-map}
 use Rattle.std.specs.List.{AllByRecursion as Each}
 use Rattle.std.proofs.Math.Bool.{or-false}
@@ -9,19 +13,27 @@ use Rattle.room_entry.specs.Ace.{Ace}
 use Rattle.room_entry.specs.Same.{same_entries}
 use Rattle.room_entry.specs.declared.object.Which.{Which}
 use Rattle.room_rows.specs.declared.node.Node.{Node}
-use Rattle.room_rows.specs.Content.{Content, node_at, parent_of, has_parent, children_of, is_linked_in, is_rising, with_each}
+use Rattle.room_rows.specs.Content.{Content, node_at, parent_of, has_parent, children_of}
+use Rattle.room_rows.specs.Content.{is_linked_in, is_rising, with_each}
 use Rattle.room_rows.specs.Finding.{find_id}
 use Rattle.room_rows.specs.Held.{held_of, is_linked}
 use Rattle.room_rows.specs.Keep.{with_inh}
 use Rattle.room_rows.specs.Pass.{pass}
 use Rattle.room_inherit.specs.Spread.{with_lists, is_changed, is_linked_within, IsLinkedBelow}
-use Rattle.room_inherit.specs.Turn.{brought_up, is_linked_to, is_outdated, next_of, passed_to, renewed, renewals, renewed_below, is_met_again, meets_again, waits_next}
+use Rattle.room_inherit.specs.Turn.{brought_up, is_linked_to, is_outdated, next_of, passed_to}
+use Rattle.room_inherit.specs.Turn.{renewed, renewals, renewed_below, is_met_again, meets_again}
+use Rattle.room_inherit.specs.Turn.{waits_next}
 use Rattle.room_inherit.specs.declared.descent.Reach.TheVariants.{Renewed}
-use Rattle.room_entry.proofs.Facts.Members.{each_append, each_front, each_back, each_weaker, each_map, each_filter, count}
-use Rattle.room_inherit.proofs.Children.{has_id, Apart, ids_of, apart_rising, apart_filter, apart_map, has_id_map, each_child, apart_children, is_such_child, no_child}
+use Rattle.room_entry.proofs.Facts.Members.{each_append, each_front, each_back, each_weaker}
+use Rattle.room_entry.proofs.Facts.Members.{each_map, each_filter, count}
+use Rattle.room_inherit.proofs.Children.{has_id, Apart, ids_of, apart_rising, apart_filter}
+use Rattle.room_inherit.proofs.Children.{apart_map, has_id_map, each_child, apart_children}
+use Rattle.room_inherit.proofs.Children.{is_such_child, no_child}
 use Rattle.room_inherit.proofs.Outdated as step
-use Rattle.room_inherit.proofs.Outdated.{parent_found, same_above, has_either, apart_join, apart_front, apart_last, has_last, base_of}
-use Rattle.room_inherit.proofs.Frontier.{set, set_id, set_parent, find_set, links, passes, is_reached, There, Waits, Came, Frontier}
+use Rattle.room_inherit.proofs.Outdated.{parent_found, same_above, has_either, apart_join}
+use Rattle.room_inherit.proofs.Outdated.{apart_front, apart_last, has_last, base_of}
+use Rattle.room_inherit.proofs.Frontier.{set, set_id, set_parent, find_set, links, passes}
+use Rattle.room_inherit.proofs.Frontier.{is_reached, There, Waits, Came, Frontier}
 use Rattle.room_rows.proofs.InPlace.{with_inh-id}
 
 module _ (which : Which) (start : ℕ) (old : Content)

@@ -1,9 +1,13 @@
 -- The children of an object that store something else than they inherit, and all lists once these
 -- are renewed.
-use Rattle.std.proofs.Common.{◌≡◌, ℕ, ◌+◌, ◌==◌, Bool, true, false, cond, not, ◌&&◌, ◌||◌, List, [], ◌∷◌, ◌++◌, filter, length, Option, Some, None, refl, sym, ap, ◌∙◌, inl, inr}
+use Rattle.std.proofs.Common.{◌≡◌, ℕ, ◌+◌, ◌==◌, Bool, true, false, cond, not, ◌&&◌, ◌||◌, List, []}
+use Rattle.std.proofs.Common.{◌∷◌, ◌++◌, filter, length, Option, Some, None, refl, sym, ap, ◌∙◌}
+use Rattle.std.proofs.Common.{inl, inr}
 use Rattle.std.specs.Prelude.{option_and_then}
 use Rattle.std.specs.Option.{option_map}
-use Rattle.std.proofs.lemmas.Bool.{cases_Bool, and_parts, or_parts, or_from, or_left, or_right, not-true, not-false, not_from_false, false≢true, eq-eqb, ne_eqb, cond-true, cond-false, false_from_ne_true}
+use Rattle.std.proofs.lemmas.Bool.{cases_Bool, and_parts, or_parts, or_from, or_left, or_right}
+use Rattle.std.proofs.lemmas.Bool.{not-true, not-false, not_from_false, false≢true, eq-eqb, ne_eqb}
+use Rattle.std.proofs.lemmas.Bool.{cond-true, cond-false, false_from_ne_true}
 use Rattle.std.proofs.lemmas.List.Folds.{list_any-append}
 use Rattle.std.proofs.lemmas.List.{length-map}
 use Rattle.std.specs.List.{AllByRecursion as Each}
@@ -23,7 +27,8 @@ use Rattle.room_rows.specs.Pass.{pass}
 use Rattle.room_inherit.specs.Spread.{with_lists, is_changed}
 use Rattle.room_inherit.specs.Turn.{is_linked_to, is_outdated, renewed, renewals, renewed_below}
 use Rattle.room_inherit.proofs.Kinship.{same_kind, with_last}
-use Rattle.room_entry.proofs.Facts.Members.{count, count_length, count_map, count_agree, count_either}
+use Rattle.room_entry.proofs.Facts.Members.{count, count_length, count_map, count_agree}
+use Rattle.room_entry.proofs.Facts.Members.{count_either}
 use Rattle.room_inherit.proofs.Children.{has_id, Apart, each_there, apart_map, count_children}
 use Rattle.room_inherit.proofs.Renewing.{map_agree, map_map, one_object}
 use Rattle.room_inherit.proofs.Frontier.{set, set_id, set_parent, set_held, links, passes}

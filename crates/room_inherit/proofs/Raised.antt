@@ -1,9 +1,12 @@
 -- Rows of which all lists were carried down are sound, and mean what they meant.
-use Rattle.std.proofs.Common.{◌≡◌, ℕ, zero, suc, ◌==◌, Bool, true, false, cond, not, ◌&&◌, ◌||◌, List, [], ◌∷◌, map, filter, length, Option, Some, None, refl, sym, ap, subst, ◌∙◌, inl, inr}
+use Rattle.std.proofs.Common.{◌≡◌, ℕ, zero, suc, ◌==◌, Bool, true, false, cond, not, ◌&&◌, ◌||◌}
+use Rattle.std.proofs.Common.{List, [], ◌∷◌, map, filter, length, Option, Some, None, refl, sym, ap}
+use Rattle.std.proofs.Common.{subst, ◌∙◌, inl, inr}
 use Rattle.std.specs.Prelude.{is_none, nat_le, nat_lt, option_and_then}
 use Rattle.std.specs.List.{cons_option, list_all}
 use Rattle.std.specs.Option.{option_map, option_map_or}
-use Rattle.std.proofs.lemmas.Bool.{and_parts, and_from, cases_Bool, false≢true, false_from_ne_true, or_from, or_parts, not-false, not-true}
+use Rattle.std.proofs.lemmas.Bool.{and_parts, and_from, cases_Bool, false≢true, false_from_ne_true}
+use Rattle.std.proofs.lemmas.Bool.{or_from, or_parts, not-false, not-true}
 use Rattle.std.proofs.lemmas.List.Folds.{list_all-append}
 use Rattle.room_entry.specs.Ace.{Ace}
 use Rattle.room_entry.specs.Valid.{entry_fault, is_document}
@@ -15,7 +18,8 @@ use Rattle.room_entry.specs.declared.object.Which.TheVariants.{Dacl, Sacl}
 use Rattle.room_entry.proofs.Same.{entries_equal}
 use Rattle.room_rows.specs.HeldList.{Held}
 use Rattle.room_rows.specs.declared.node.Node.{Node}
-use Rattle.room_rows.specs.Content.{Content, has_folder_above, is_folder, is_linked_in, is_root, node_at, parent_of, reaches_root}
+use Rattle.room_rows.specs.Content.{Content, has_folder_above, is_folder, is_linked_in, is_root}
+use Rattle.room_rows.specs.Content.{node_at, parent_of, reaches_root}
 use Rattle.room_rows.specs.Held.{held_of, full_of, is_linked}
 use Rattle.room_rows.specs.Keep.{reading, with_inh}
 use Rattle.room_rows.specs.Meaning.{kept_held, kept_node, meaning}
@@ -26,7 +30,9 @@ use Rattle.room_rows.proofs.SamePlace.{IsSamePlace, filter-changed}
 use Rattle.room_rows.specs.Law.{AllAgree, agrees, agrees_with}
 use Rattle.room_inherit.specs.Laws.{are_valid, RaisedIsSound, RaisedMeansTheSame}
 use Rattle.room_rows.specs.Pass.{pass, passed_flags, ended, carried, waiting}
-use Rattle.room_rows.specs.Sound.{AreSound, bad_root, first_fault, has_bad_list, has_sound_body, has_sound_lists, has_sound_name, is_sound_held, reaches, same_place}
+use Rattle.room_rows.specs.Sound.{AreSound, bad_root, first_fault, has_bad_list, has_sound_body}
+use Rattle.room_rows.specs.Sound.{has_sound_lists, has_sound_name, is_sound_held, reaches}
+use Rattle.room_rows.specs.Sound.{same_place}
 use Rattle.room_inherit.specs.Spread.{is_changed}
 use Rattle.room_inherit.specs.SpreadAll.{IsSpreadAll, with_both}
 use Rattle.room_inherit.proofs.Children.{apart_rising, each_there}

@@ -1,7 +1,9 @@
 -- Objects put into the rows, and the children of an object renewed there.
-use Rattle.std.proofs.Common.{◌≡◌, ℕ, ◌<◌, ◌==◌, Bool, true, false, cond, ◌||◌, List, [], ◌∷◌, map, filter, Some, refl, sym, ap, ◌∙◌, inl, inr, arith}
+use Rattle.std.proofs.Common.{◌≡◌, ℕ, ◌<◌, ◌==◌, Bool, true, false, cond, ◌||◌, List, [], ◌∷◌, map}
+use Rattle.std.proofs.Common.{filter, Some, refl, sym, ap, ◌∙◌, inl, inr, arith}
 use Rattle.std.specs.Prelude.{nat_lt}
-use Rattle.std.proofs.lemmas.Bool.{cases_Bool, and_parts, false≢true, eq-eqb, eqb-true, ne_eqb, lt-ltb, le-ltb, cond-true, cond-false, or_left}
+use Rattle.std.proofs.lemmas.Bool.{cases_Bool, and_parts, false≢true, eq-eqb, eqb-true, ne_eqb}
+use Rattle.std.proofs.lemmas.Bool.{lt-ltb, le-ltb, cond-true, cond-false, or_left}
 use Rattle.std.proofs.lemmas.List.{map-id}
 use Rattle.std.specs.List.{AllByRecursion as Each}
 use Rattle.std.proofs.lemmas.Option.{same_Some}
@@ -11,9 +13,12 @@ use Rattle.room_rows.specs.declared.node.Node.{Node}
 use Rattle.room_rows.specs.Content.{Content, node_at, children_of, put_node, with_node, is_rising}
 use Rattle.room_rows.specs.Finding.{find_id}
 use Rattle.room_rows.specs.Keep.{with_inh}
-use Rattle.room_inherit.specs.Turn.{is_outdated, passed_to, renewed, renewals, renewed_below, put_nodes, AreKnown}
+use Rattle.room_inherit.specs.Turn.{is_outdated, passed_to, renewed, renewals, renewed_below}
+use Rattle.room_inherit.specs.Turn.{put_nodes, AreKnown}
 use Rattle.room_entry.proofs.Facts.Members.{each_weaker, each_filter, each_fails}
-use Rattle.room_inherit.proofs.Children.{has_id, Apart, ids_of, each_found, each_there, each_above, apart_rising, apart_filter, has_id_map, each_child, apart_children, is_such_child, found_first, found_later}
+use Rattle.room_inherit.proofs.Children.{has_id, Apart, ids_of, each_found, each_there, each_above}
+use Rattle.room_inherit.proofs.Children.{apart_rising, apart_filter, has_id_map, each_child}
+use Rattle.room_inherit.proofs.Children.{apart_children, is_such_child, found_first, found_later}
 use Rattle.room_rows.proofs.InPlace.{held_of-with_inh, with_inh-id}
 
 -- two facts of each member, taken together, are one fact of each

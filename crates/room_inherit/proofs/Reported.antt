@@ -1,19 +1,24 @@
 -- What is reported, by the tests that found something.
-use Rattle.std.proofs.Common.{◌≡◌, ℕ, zero, suc, false, not, List, [], ◌∷◌, ◌++◌, filter, length, Option, Some, None, refl, sym, ap, ◌∙◌}
+use Rattle.std.proofs.Common.{◌≡◌, ℕ, zero, suc, false, not, List, [], ◌∷◌, ◌++◌, filter, length}
+use Rattle.std.proofs.Common.{Option, Some, None, refl, sym, ap, ◌∙◌}
 use Rattle.std.specs.List.{find}
 use Rattle.std.specs.Option.{option_map, option_map_or}
 use Rattle.room_rows.specs.declared.node.Node.{Node}
-use Rattle.room_rows.specs.Content.{Content, has_folder_above, is_root, node_at, parent_of, reaches_root}
+use Rattle.room_rows.specs.Content.{Content, has_folder_above, is_root, node_at, parent_of}
+use Rattle.room_rows.specs.Content.{reaches_root}
 use Rattle.room_rows.specs.Paths.{path_text}
 use Rattle.room_rows.specs.Rows.{Rows}
 use Rattle.room_rows.specs.declared.report.Report.{Report}
 use Rattle.room_rows.specs.declared.report.Report.TheVariants.{Sound, Fault}
-use Rattle.room_rows.specs.declared.report.Unsound.TheVariants.{Loop, BadList, BrokenLaw, BadRoot, BadParent, BadName, BadBody}
+use Rattle.room_rows.specs.declared.report.Unsound.TheVariants.{Loop, BadList, BrokenLaw, BadRoot}
+use Rattle.room_rows.specs.declared.report.Unsound.TheVariants.{BadParent, BadName, BadBody}
 use Rattle.room_inherit.specs.declared.verifying.Holding.{Holding}
 use Rattle.room_inherit.specs.declared.verifying.Holding.TheVariants.{Finished, Kept}
 use Rattle.room_inherit.specs.Kept.{is_lawful, report_by}
 use Rattle.room_inherit.specs.Objects.{only}
-use Rattle.room_rows.specs.Sound.{bad_root, fault_of, first_bad_list, first_failing, has_sound_body, has_sound_name, names_up, numbered, or_else, or_sound, tree_fault, true_path}
+use Rattle.room_rows.specs.Sound.{bad_root, fault_of, first_bad_list, first_failing, has_sound_body}
+use Rattle.room_rows.specs.Sound.{has_sound_name, names_up, numbered, or_else, or_sound, tree_fault}
+use Rattle.room_rows.specs.Sound.{true_path}
 
 -- ---- the objects alone decide
 

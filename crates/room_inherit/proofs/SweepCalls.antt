@@ -1,5 +1,6 @@
 -- The tree gone through, turn after turn.
-use Rattle.std.proofs.Common.{◌≡◌, ℕ, ◌+◌, ◌≤◌, Bool, List, [], ◌∷◌, ◌++◌, length, Some, None, Result, Ok, Err, IfOk, IfErr, refl, sym, ap, subst, ◌∙◌, inl, arith}
+use Rattle.std.proofs.Common.{◌≡◌, ℕ, ◌+◌, ◌≤◌, Bool, List, [], ◌∷◌, ◌++◌, length, Some, None}
+use Rattle.std.proofs.Common.{Result, Ok, Err, IfOk, IfErr, refl, sym, ap, subst, ◌∙◌, inl, arith}
 use Rattle.std.proofs.lemmas.Bool.{false≢true, eq-eqb}
 use Rattle.std.proofs.lemmas.List.{length-append}
 use Rattle.room_entry.specs.Ace.{Ace}
@@ -8,7 +9,8 @@ use Rattle.room_rows.specs.declared.keep.Keep.{Ghosts}
 use Rattle.room_rows.specs.declared.keep.KeepFault.{KeepFault}
 use Rattle.room_rows.specs.declared.node.Node.{Node}
 use Rattle.room_rows.specs.Content.{children_of, root_of}
-use Rattle.room_rows.specs.Keep.{HasNoRoot, IsUnreadable, IsRead, IsRootOf, capped, reading, KeepLaws}
+use Rattle.room_rows.specs.Keep.{HasNoRoot, IsUnreadable, IsRead, IsRootOf, capped, reading}
+use Rattle.room_rows.specs.Keep.{KeepLaws}
 use Rattle.room_rows.specs.Rows.{Rows, AreRows, numbers_of, is_unreadable}
 use Rattle.room_rows.proofs.InPlace.{numbers_of-reading}
 use Rattle.room_rows.proofs.Steps.{later_cause}
@@ -25,8 +27,10 @@ use Rattle.room_inherit.specs.declared.outcome.SpreadFault.{SpreadFault}
 use Rattle.room_inherit.specs.declared.outcome.SpreadFault.TheVariants.{Keeper, Loop}
 use Rattle.room_entry.proofs.Facts.Members.{count, count-is, count_ends}
 use Rattle.room_inherit.proofs.Frontier.{ids_set}
-use Rattle.room_inherit.proofs.Sweeping.{Sweep, after, seen_after, kids, kids_are, rows_after, sweep_after, count_seen, count_after, not_met_again}
-use Rattle.room_inherit.proofs.SweepEnds.{root_there, root_top, seen_first, sweep_first, count_has, changed_swept, law_swept}
+use Rattle.room_inherit.proofs.Sweeping.{Sweep, after, seen_after, kids, kids_are, rows_after}
+use Rattle.room_inherit.proofs.Sweeping.{sweep_after, count_seen, count_after, not_met_again}
+use Rattle.room_inherit.proofs.SweepEnds.{root_there, root_top, seen_first, sweep_first, count_has}
+use Rattle.room_inherit.proofs.SweepEnds.{changed_swept, law_swept}
 use Rattle.room_inherit.proofs.Ends.{own_lists, with_own_lists, count_own, as_many_numbers}
 use Rattle.room_inherit.proofs.Turns.{Progress}
 

@@ -1,5 +1,7 @@
 -- Where going through the tree begins, and where it ends.
-use Rattle.std.proofs.Common.{◌≡◌, ℕ, zero, suc, ◌+◌, ◌≤◌, ◌==◌, Bool, true, false, cond, List, [], ◌∷◌, length, Option, Some, None, refl, sym, ap, subst, ◌∙◌, inl, inr, arith}
+use Rattle.std.proofs.Common.{◌≡◌, ℕ, zero, suc, ◌+◌, ◌≤◌, ◌==◌, Bool, true, false, cond, List, []}
+use Rattle.std.proofs.Common.{◌∷◌, length, Option, Some, None, refl, sym, ap, subst, ◌∙◌, inl, inr}
+use Rattle.std.proofs.Common.{arith}
 use Rattle.std.specs.Prelude.{is_none, option_and_then}
 use Rattle.std.specs.List.{find, AllByRecursion as Each}
 use Rattle.std.specs.Option.{option_map, option_map_or}
@@ -8,7 +10,8 @@ use Rattle.std.proofs.lemmas.Option.{same_Some}
 use Rattle.room_entry.specs.Ace.{Ace}
 use Rattle.room_entry.specs.declared.object.Which.{Which}
 use Rattle.room_rows.specs.declared.node.Node.{Node}
-use Rattle.room_rows.specs.Content.{Content, node_at, root_of, has_folder_above, has_parent, is_folder, is_linked_in, is_rising, reaches_root}
+use Rattle.room_rows.specs.Content.{Content, node_at, root_of, has_folder_above, has_parent}
+use Rattle.room_rows.specs.Content.{is_folder, is_linked_in, is_rising, reaches_root}
 use Rattle.room_rows.specs.Held.{held_of, is_linked}
 use Rattle.room_rows.specs.HeldList.{Held}
 use Rattle.room_rows.specs.Finding.{find_id}

@@ -1,7 +1,11 @@
 -- The tree gone through from the root down.
-use Rattle.std.proofs.Common.{◌≡◌, ℕ, ◌+◌, ◌≤◌, ◌==◌, Bool, true, false, cond, not, ◌&&◌, ◌||◌, List, [], ◌∷◌, ◌++◌, map, filter, length, Option, Some, None, refl, sym, ap, ◌∙◌, inl, inr, ◌⊎◌, arith}
+use Rattle.std.proofs.Common.{◌≡◌, ℕ, ◌+◌, ◌≤◌, ◌==◌, Bool, true, false, cond, not, ◌&&◌, ◌||◌}
+use Rattle.std.proofs.Common.{List, [], ◌∷◌, ◌++◌, map, filter, length, Option, Some, None, refl}
+use Rattle.std.proofs.Common.{sym, ap, ◌∙◌, inl, inr, ◌⊎◌, arith}
 use Rattle.std.specs.Option.{option_map, option_map_or}
-use Rattle.std.proofs.lemmas.Bool.{cases_Bool, and_from, and_parts, and_left, or_cases, or_parts, or_from, or_left, or_right, false≢true, eq-eqb, eqb-true, false_from_ne_true}
+use Rattle.std.proofs.lemmas.Bool.{cases_Bool, and_from, and_parts, and_left, or_cases, or_parts}
+use Rattle.std.proofs.lemmas.Bool.{or_from, or_left, or_right, false≢true, eq-eqb, eqb-true}
+use Rattle.std.proofs.lemmas.Bool.{false_from_ne_true}
 use Rattle.std.specs.List.{AllByRecursion as Each}
 use Rattle.std.proofs.Math.Bool.{or-false}
 use Rattle.room_entry.specs.Ace.{Ace}
@@ -9,21 +13,29 @@ use Rattle.room_entry.specs.Same.{same_entries}
 use Rattle.room_entry.specs.Valid.{is_document}
 use Rattle.room_entry.specs.declared.object.Which.{Which}
 use Rattle.room_rows.specs.declared.node.Node.{Node}
-use Rattle.room_rows.specs.Content.{Content, node_at, parent_of, has_parent, children_of, is_folder, is_linked_in, is_rising, with_each}
+use Rattle.room_rows.specs.Content.{Content, node_at, parent_of, has_parent, children_of, is_folder}
+use Rattle.room_rows.specs.Content.{is_linked_in, is_rising, with_each}
 use Rattle.room_rows.specs.Finding.{find_id}
 use Rattle.room_rows.specs.Held.{held_of, is_linked}
 use Rattle.room_rows.specs.Keep.{with_inh}
 use Rattle.room_rows.specs.Pass.{pass}
 use Rattle.room_inherit.specs.Spread.{with_lists, is_changed}
-use Rattle.room_inherit.specs.Turn.{is_linked_to, is_outdated, next_of, passed_to, renewed, renewals, brought_up, renewed_below, is_met_again, meets_again}
+use Rattle.room_inherit.specs.Turn.{is_linked_to, is_outdated, next_of, passed_to, renewed}
+use Rattle.room_inherit.specs.Turn.{renewals, brought_up, renewed_below, is_met_again, meets_again}
 use Rattle.room_inherit.specs.declared.descent.Reach.TheVariants.{All}
 use Rattle.room_inherit.proofs.Kinship.{same_kind, same_name, same_parent}
-use Rattle.room_entry.proofs.Facts.Members.{each_append, each_front, each_back, each_filter, each_weaker, filter_map, count, count_ends, count_length, count_map, count_agree, count_either}
-use Rattle.room_inherit.proofs.Children.{has_id, Apart, ids_of, each_there, apart_rising, apart_filter, apart_map, each_child, apart_children, some_child, is_such_child, length_children, children_map}
+use Rattle.room_entry.proofs.Facts.Members.{each_append, each_front, each_back, each_filter}
+use Rattle.room_entry.proofs.Facts.Members.{each_weaker, filter_map, count, count_ends}
+use Rattle.room_entry.proofs.Facts.Members.{count_length, count_map, count_agree, count_either}
+use Rattle.room_inherit.proofs.Children.{has_id, Apart, ids_of, each_there, apart_rising}
+use Rattle.room_inherit.proofs.Children.{apart_filter, apart_map, each_child, apart_children}
+use Rattle.room_inherit.proofs.Children.{some_child, is_such_child, length_children, children_map}
 use Rattle.room_inherit.proofs.Renewing.{map_agree, one_object}
-use Rattle.room_inherit.proofs.Frontier.{set, set_folder, set_id, set_parent, find_set, links, passes}
+use Rattle.room_inherit.proofs.Frontier.{set, set_folder, set_id, set_parent, find_set, links}
+use Rattle.room_inherit.proofs.Frontier.{passes}
 use Rattle.room_inherit.proofs.Outdated as step
-use Rattle.room_inherit.proofs.Outdated.{parent_found, same_above, has_either, apart_join, apart_front, apart_last, has_last, base_of}
+use Rattle.room_inherit.proofs.Outdated.{parent_found, same_above, has_either, apart_join}
+use Rattle.room_inherit.proofs.Outdated.{apart_front, apart_last, has_last, base_of}
 use Rattle.room_rows.proofs.Frames.{parent_is}
 
 module _ (which : Which) (old : Content) (root : Node) where

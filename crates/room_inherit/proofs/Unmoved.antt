@@ -1,13 +1,16 @@
 -- Objects that are changed, but stay in their places and of their kinds.
-use Rattle.std.proofs.Common.{◌≡◌, ℕ, zero, suc, Bool, true, false, not, ◌&&◌, ◌||◌, List, [], ◌∷◌, map, length, Option, Some, None, refl, ap, ◌∙◌}
+use Rattle.std.proofs.Common.{◌≡◌, ℕ, zero, suc, Bool, true, false, not, ◌&&◌, ◌||◌, List, [], ◌∷◌}
+use Rattle.std.proofs.Common.{map, length, Option, Some, None, refl, ap, ◌∙◌}
 use Rattle.std.specs.Prelude.{is_none, option_and_then}
 use Rattle.std.specs.List.{list_all}
 use Rattle.std.specs.Option.{option_map, option_map_or}
 use Rattle.std.proofs.lemmas.List.{length-map}
 use Rattle.room_entry.specs.Valid.{is_document}
 use Rattle.room_rows.specs.declared.node.Node.{Node}
-use Rattle.room_rows.specs.Content.{Content, has_folder_above, is_folder, is_root, node_at, parent_of, reaches_root, with_each}
-use Rattle.room_rows.proofs.InPlace.{KeepsPlaces, keeps_places, node_at-with_each, parent_of-with_each}
+use Rattle.room_rows.specs.Content.{Content, has_folder_above, is_folder, is_root, node_at}
+use Rattle.room_rows.specs.Content.{parent_of, reaches_root, with_each}
+use Rattle.room_rows.proofs.InPlace.{KeepsPlaces, keeps_places, node_at-with_each}
+use Rattle.room_rows.proofs.InPlace.{parent_of-with_each}
 use Rattle.room_rows.proofs.SamePlace.{IsSamePlace}
 use Rattle.room_rows.specs.Sound.{reaches}
 

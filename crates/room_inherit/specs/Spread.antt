@@ -65,8 +65,8 @@ ChangedAgree which old new =
     IsTrue (list_all (λ node. stores_as_before old which node || agrees new which node) new.nodes)
 
 -- The rows are as they were but for inherited entries of this attribute at objects that are linked
--- below this one. This many of them are different now, and agree with their parents. If the law held
--- but for the object's children, it holds.
+-- below this one. This many of them are different now, and agree with their parents. If the law
+-- held but for the object's children, it holds.
 pub record IsSpread (which : Which) (id : ℕ) (old new : Rows) (changed : ℕ) : Type 0 where
   pub lists : Node → List Ace
   pub becomes : new ≡ reading old (with_lists which lists old.read)

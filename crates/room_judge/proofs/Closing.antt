@@ -1,5 +1,6 @@
 -- Requests that were judged by the stored lists.
-use Rattle.std.proofs.Common.{◌≡◌, ℕ, Bool, true, false, List, [], ◌∷◌, Option, Some, None, refl, sym, ap, subst, ◌∙◌, inl, inr}
+use Rattle.std.proofs.Common.{◌≡◌, ℕ, Bool, true, false, List, [], ◌∷◌, Option, Some, None, refl}
+use Rattle.std.proofs.Common.{sym, ap, subst, ◌∙◌, inl, inr}
 use Rattle.std.specs.Prelude.{IsTrue, is_some, ◌||◌, if◌then◌else◌}
 use Rattle.room_entry.specs.declared.parties.Caller.{Caller}
 use Rattle.room_eval.specs.declared.outcome.Verdict.{Verdict}
@@ -19,7 +20,7 @@ use Rattle.room_machine.specs.Judge.{failure, first_failure, of_deletion, of_ver
 use Rattle.room_judge.specs.declared.asker.Asker.{Asker}
 use Rattle.room_judge.specs.Judged.{IsJudged}
 use Rattle.room_machine.specs.Stored.{stored_plan}
-use Rattle.room_machine.specs.Closed.{IsShown, asks_only, failure_told}
+use Rattle.room_machine.specs.Closed.{IsShown, only_reads, failure_told}
 use Rattle.room_judge.specs.Closed.{IsClosed}
 
 -- a reply that is told as a failure
@@ -109,13 +110,13 @@ module _ (asker : Asker) (request : Request) (old : Rows) (reply : Reply) where
 
   -- none fails, and what is changed then leaves the records as they are
   pub closed_done : (mid new : Rows)
-      → IsJudged asker (stored_plan old.read request) old None mid → asks_only request ≡ false
+      → IsJudged asker (stored_plan old.read request) old None mid → only_reads request ≡ false
       → failure_told reply ≡ None → new.read.audits ≡ mid.read.audits
       → IsShown old asker.caller request reply → IsClosed asker request old reply new
   closed_done mid new judged writes none same shown = record {
     judged = inl (sym judged.answers ∙ sym none);
     records = same ∙ ap (λ (r : Rows). r.read.audits) judged.notes;
-    unchanged = λ changes. absurd (never (asks_only request) (failure_told reply) writes none changes);
+    unchanged = λ changes. absurd (never (only_reads request) (failure_told reply) writes none changes);
     shown = λ _. shown;
   }
     where

@@ -1,5 +1,6 @@
 -- The way to the folder of a path's last name, judged.
-use Rattle.std.proofs.Common.{◌≡◌, ℕ, ◌<◌, ◌+◌, Bool, true, false, cond, ◌&&◌, List, [], ◌∷◌, ◌++◌, length, take, Option, Some, None, refl, sym, ap, subst, ◌∙◌, arith}
+use Rattle.std.proofs.Common.{◌≡◌, ℕ, ◌<◌, ◌+◌, Bool, true, false, cond, ◌&&◌, List, [], ◌∷◌, ◌++◌}
+use Rattle.std.proofs.Common.{length, take, Option, Some, None, refl, sym, ap, subst, ◌∙◌, arith}
 use Rattle.std.specs.Prelude.{is_none}
 use Rattle.std.specs.Option.{option_map, option_and_then}
 use Rattle.std.proofs.lemmas.List.{append-nil}
@@ -27,10 +28,14 @@ use Rattle.room_machine.specs.Judge.{first_failure, or_else, records_of_plan}
 use Rattle.room_machine.specs.Stored.{stored_site, stored_along, to_stored}
 use Rattle.room_judge.specs.Stored.{found_site}
 use Rattle.room_judge.specs.Judged.{IsJudged, IsReached, name_after, noted, through}
-use Rattle.room_judge.specs.Spot.{IsSpotIn, IsSpotted, IsPaired, SpotsAfter, SpotsUnder, pair_at_spot, pair_with}
-use Rattle.room_judge.proofs.Judging.{failure_of_parts, records_of_parts, fails_first, passes_first, refuses, passes_on, judged_none}
+use Rattle.room_judge.specs.Spot.{IsSpotIn, IsSpotted, IsPaired, SpotsAfter, SpotsUnder}
+use Rattle.room_judge.specs.Spot.{pair_at_spot, pair_with}
+use Rattle.room_judge.proofs.Judging.{failure_of_parts, records_of_parts, fails_first, passes_first}
+use Rattle.room_judge.proofs.Judging.{refuses, passes_on, judged_none}
 use Rattle.room_judge.proofs.Ways.{plain_way}
-use Rattle.room_judge.proofs.Spots.{below_of, missing, last_look, stem, way_along, folder_along, folder_found, target_found, folder_path, path_parts, take_front, name_is_last}
+use Rattle.room_judge.proofs.Spots.{below_of, missing, last_look, stem, way_along, folder_along}
+use Rattle.room_judge.proofs.Spots.{folder_found, target_found, folder_path, path_parts, take_front}
+use Rattle.room_judge.proofs.Spots.{name_is_last}
 
 -- ---- the folder of the last name
 

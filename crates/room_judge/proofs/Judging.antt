@@ -1,5 +1,6 @@
 -- Items that are judged as they come, one after the other.
-use Rattle.std.proofs.Common.{◌≡◌, ℕ, ℤ, Bool, true, false, cond, List, [], ◌∷◌, ◌++◌, Option, Some, None, refl, sym, ap, subst, ◌∙◌, append_assoc}
+use Rattle.std.proofs.Common.{◌≡◌, ℕ, ℤ, Bool, true, false, cond, List, [], ◌∷◌, ◌++◌, Option, Some}
+use Rattle.std.proofs.Common.{None, refl, sym, ap, subst, ◌∙◌, append_assoc}
 use Rattle.std.proofs.lemmas.List.{append-nil}
 use Rattle.std.specs.Prelude.{is_none}
 use Rattle.room_entry.specs.declared.parties.Caller.{Caller}
@@ -11,7 +12,8 @@ use Rattle.room_machine.specs.declared.reply.Reply.{Reply}
 use Rattle.room_machine.specs.declared.reply.Reply.TheVariants.{Refused}
 use Rattle.room_machine.specs.declared.reply.Reason.{Reason}
 use Rattle.room_machine.specs.Plan.{Item, Refusal}
-use Rattle.room_machine.specs.Judge.{failure, passes, or_else, first_failure, records_of_checks, checks_of, records_of_plan}
+use Rattle.room_machine.specs.Judge.{failure, passes, or_else, first_failure, records_of_checks}
+use Rattle.room_machine.specs.Judge.{checks_of, records_of_plan}
 use Rattle.room_judge.specs.Judged.{IsJudged, noted}
 
 -- ---- records after records

@@ -1,5 +1,6 @@
 -- A walk, step after step, and from the root.
-use Rattle.std.proofs.Common.{◌≡◌, ℕ, ◌<◌, ◌≤◌, ◌+◌, List, [], ◌∷◌, ◌++◌, length, take, Some, refl, sym, ap, subst, ◌∙◌, arith}
+use Rattle.std.proofs.Common.{◌≡◌, ℕ, ◌<◌, ◌≤◌, ◌+◌, List, [], ◌∷◌, ◌++◌, length, take, Some, refl}
+use Rattle.std.proofs.Common.{sym, ap, subst, ◌∙◌, arith}
 use Rattle.std.specs.Prelude.{is_none}
 use Rattle.std.proofs.lemmas.List.{take-take, get_or-take, length-take-le}
 use Rattle.room_rows.specs.declared.node.Node.{Node}
@@ -13,8 +14,10 @@ use Rattle.room_judge.specs.declared.asker.Asker.{Asker}
 use Rattle.room_machine.specs.declared.reply.Reason.TheVariants.{NoSuch}
 use Rattle.room_machine.specs.Plan.{Item, Refusal}
 use Rattle.room_machine.specs.Stored.{stored_site}
-use Rattle.room_judge.specs.Judged.{FromRoot, IsJudged, IsStepDown, IsReached, IfAt, StepsOn, ending_reply, name_after, through}
-use Rattle.room_judge.proofs.Ways.{IsOnWay, reached_blames, way_begins, way_blames, way_done, way_ends, way_goes_on}
+use Rattle.room_judge.specs.Judged.{FromRoot, IsJudged, IsStepDown, IsReached, IfAt, StepsOn}
+use Rattle.room_judge.specs.Judged.{ending_reply, name_after, through}
+use Rattle.room_judge.proofs.Ways.{IsOnWay, reached_blames, way_begins, way_blames, way_done}
+use Rattle.room_judge.proofs.Ways.{way_ends, way_goes_on}
 
 -- ---- a walk, step after step
 

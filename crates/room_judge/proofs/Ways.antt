@@ -1,5 +1,6 @@
 -- The way to an object, one step after the other.
-use Rattle.std.proofs.Common.{◌≡◌, ℕ, ◌<◌, ◌+◌, false, not, ◌&&◌, List, [], ◌∷◌, ◌++◌, length, take, drop, get_or, Option, Some, None, refl, sym, ap, subst, ◌∙◌}
+use Rattle.std.proofs.Common.{◌≡◌, ℕ, ◌<◌, ◌+◌, false, not, ◌&&◌, List, [], ◌∷◌, ◌++◌, length, take}
+use Rattle.std.proofs.Common.{drop, get_or, Option, Some, None, refl, sym, ap, subst, ◌∙◌}
 use Rattle.std.specs.Prelude.{is_none}
 use Rattle.std.specs.Option.{option_map_or}
 use Rattle.std.proofs.lemmas.List.{append-nil, take_more, drop_more, get_or_read}
@@ -18,8 +19,11 @@ use Rattle.room_machine.specs.Site.{Site, site_at}
 use Rattle.room_machine.specs.Plan.{Item, Refusal, way, where_found}
 use Rattle.room_machine.specs.Stored.{stored_site, stored_from, stored_along, to_stored}
 use Rattle.room_judge.specs.Stored.{found_site}
-use Rattle.room_judge.specs.Judged.{IsJudged, IsStepDown, IsReached, FindsNext, GoesOn, IfAt, ending_reply, name_after, through, arrival_of}
-use Rattle.room_judge.proofs.Judging.{SoFar, fails_first, passes_first, judged_none, refuses, passes_on, so_far_none, so_far_as, so_far_on, so_far_fails, so_far_last}
+use Rattle.room_judge.specs.Judged.{IsJudged, IsStepDown, IsReached, FindsNext, GoesOn, IfAt}
+use Rattle.room_judge.specs.Judged.{ending_reply, name_after, through, arrival_of}
+use Rattle.room_judge.proofs.Judging.{SoFar, fails_first, passes_first, judged_none, refuses}
+use Rattle.room_judge.proofs.Judging.{passes_on, so_far_none, so_far_as, so_far_on, so_far_fails}
+use Rattle.room_judge.proofs.Judging.{so_far_last}
 
 -- ---- one step
 

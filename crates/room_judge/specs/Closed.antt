@@ -17,8 +17,8 @@ abbrev pub IsServed : Asker → Request → Rows → Reply → Rows → Type 0
 IsServed asker request old reply new =
     CarriesOut asker request old reply new × IsClosed asker request old reply new
 
--- What `perform` promises: from sound rows a step of the room machine, and from any rows a judgement
--- by the lists as they are stored.
+-- What `perform` promises: from sound rows a step of the room machine, and from any rows a
+-- judgement by the lists as they are stored.
 pub record Performs (user : Option (List ℕ)) (moment : ℤ) (request : Request) (old : Rows)
     (reply : Reply) (new : Rows) : Type 0 where
   pub step : AreSound old → IsStepOfRows user moment request old reply new

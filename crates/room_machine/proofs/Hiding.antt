@@ -1,5 +1,7 @@
 -- What a denial on the way to an object hides.
-use Rattle.std.proofs.Common.{ℕ, zero, suc, ◌+◌, ◌≡◌, ◌⊎◌, inl, inr, Bool, true, false, cond, not, ◌&&◌, List, [], ◌∷◌, ◌++◌, length, length-append, take, Option, Some, None, refl, sym, ap, subst, ◌∙◌, add-one, zero-add, arith}
+use Rattle.std.proofs.Common.{ℕ, zero, suc, ◌+◌, ◌≡◌, ◌⊎◌, inl, inr, Bool, true, false, cond, not}
+use Rattle.std.proofs.Common.{◌&&◌, List, [], ◌∷◌, ◌++◌, length, length-append, take, Option, Some}
+use Rattle.std.proofs.Common.{None, refl, sym, ap, subst, ◌∙◌, add-one, zero-add, arith}
 use Rattle.std.specs.Option.{option_map_or}
 use Rattle.room_entry.specs.Ace.{Ace}
 use Rattle.room_entry.specs.Rights.{execute}
@@ -13,12 +15,17 @@ use Rattle.room_rows.specs.Content.{Content, child_of, is_empty, is_folder, root
 use Rattle.room_rows.specs.Rows.{Rows}
 use Rattle.room_rows.specs.Walk.{walk_of}
 use Rattle.room_machine.specs.declared.request.Request.{Request}
-use Rattle.room_machine.specs.declared.request.Request.TheVariants.{Read, List as ListFolder, Put, Append, MakeFolder, Remove, Move, ReadList, SetList, ReadAttr, SetOwners, Can}
+use Rattle.room_machine.specs.declared.request.Request.TheVariants.{Read, List as ListFolder, Put}
+use Rattle.room_machine.specs.declared.request.Request.TheVariants.{Append, MakeFolder, Remove}
+use Rattle.room_machine.specs.declared.request.Request.TheVariants.{Move, ReadList, SetList}
+use Rattle.room_machine.specs.declared.request.Request.TheVariants.{ReadAttr, SetOwners, Can}
 use Rattle.room_machine.specs.declared.reply.Reply.{Reply}
-use Rattle.room_machine.specs.declared.reply.Reply.TheVariants.{Bytes, Names, Lists, Attr, Rulings, Made, Done, Denied, Refused}
+use Rattle.room_machine.specs.declared.reply.Reply.TheVariants.{Bytes, Names, Lists, Attr, Rulings}
+use Rattle.room_machine.specs.declared.reply.Reply.TheVariants.{Made, Done, Denied, Refused}
 use Rattle.room_machine.specs.declared.reply.Reason.{Reason}
 use Rattle.room_machine.specs.declared.reply.Reason.TheVariants.{NotFolder, NoSuch}
-use Rattle.room_machine.specs.Site.{Site, sites_of, sites_below, site_below, root_site, sites_along, full_at}
+use Rattle.room_machine.specs.Site.{Site, sites_of, sites_below, site_below, root_site, sites_along}
+use Rattle.room_machine.specs.Site.{full_at}
 use Rattle.room_machine.specs.Plan.{Along, Item, Check, Refusal, way, plan_by}
 use Rattle.room_machine.specs.Stored.{stored_along, stored_from, stored_site}
 use Rattle.room_machine.specs.Closed.{TellsFailure, failure_told}

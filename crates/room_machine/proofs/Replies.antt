@@ -1,5 +1,6 @@
 -- What a reply depends on.
-use Rattle.std.proofs.Common.{ℕ, ◌≡◌, false, List, [], ◌∷◌, ◌++◌, map, Option, Some, None, ℤ, refl, sym, ap, ◌∙◌, IsTrue}
+use Rattle.std.proofs.Common.{ℕ, ◌≡◌, false, List, [], ◌∷◌, ◌++◌, map, Option, Some, None, ℤ, refl}
+use Rattle.std.proofs.Common.{sym, ap, ◌∙◌, IsTrue}
 use Rattle.std.specs.Prelude.{IfSome, unwrap_or}
 use Rattle.std.specs.Option.{option_map_or}
 use Rattle.std.proofs.lemmas.Bool.{false≢true}
@@ -10,7 +11,10 @@ use Rattle.room_rows.specs.declared.node.Node.{Node}
 use Rattle.room_rows.specs.Content.{Content, groups_for, body_of, children_of}
 use Rattle.room_rows.specs.Walk.{walk_of}
 use Rattle.room_machine.specs.declared.request.Request.{Request}
-use Rattle.room_machine.specs.declared.request.Request.TheVariants.{Read, List as ListFolder, Put, Append, MakeFolder, Remove, Move, ReadList, SetList, ReadAttr, SetOwners, Can}
+use Rattle.room_machine.specs.declared.request.Request.TheVariants.{Read, List as ListFolder, Put}
+use Rattle.room_machine.specs.declared.request.Request.TheVariants.{Append, MakeFolder, Remove}
+use Rattle.room_machine.specs.declared.request.Request.TheVariants.{Move, ReadList, SetList}
+use Rattle.room_machine.specs.declared.request.Request.TheVariants.{ReadAttr, SetOwners, Can}
 use Rattle.room_machine.specs.declared.reply.Reply.{Reply}
 use Rattle.room_machine.specs.declared.reply.Reply.TheVariants.{Bytes, Names, Rulings, Done}
 use Rattle.room_machine.specs.Site.{Site, sites_of, sites_along, site_at, full_at}
@@ -18,7 +22,8 @@ use Rattle.room_machine.specs.Plan.{Item, way, where_found, to_target, plan_of}
 use Rattle.room_machine.specs.Judge.{first_failure}
 use Rattle.room_machine.specs.Effect.{effect, with_site}
 use Rattle.room_machine.specs.Step.{Step, caller_in, answered}
-use Rattle.room_machine.specs.Laws.{first_path, only_reads, same_target, ReadsOnly}
+use Rattle.room_machine.specs.Closed.{only_reads}
+use Rattle.room_machine.specs.Laws.{first_path, same_target, ReadsOnly}
 
 -- ---- the reply of a step
 

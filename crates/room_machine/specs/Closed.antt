@@ -36,8 +36,8 @@ failure_told Done = None
 failure_told (Denied path bits place entry) = Some (Denied path bits place entry)
 failure_told (Refused path why) = Some (Refused path why)
 
--- Where rows can't be read, more may be refused than the plan says: an object isn't removed if such a
--- row may be its child.
+-- Where rows can't be read, more may be refused than the plan says: an object isn't removed if such
+-- a row may be its child.
 pub record RefusesMore (rows : Rows) (reply : Reply) (failure : Option Reply) : Type 0 where
   pub path : List (List ℕ)
   pub refused : reply ≡ Refused path NotEmpty
@@ -50,27 +50,27 @@ TellsFailure rows reply failure =
     (failure ≡ failure_told reply) ⊎ RefusesMore rows reply failure
 
 -- the requests that change nothing but records
-abbrev pub asks_only : Request → Bool
-asks_only (Read path) = true
-asks_only (ListFolder path) = true
-asks_only (ReadList path which) = true
-asks_only (ReadAttr path) = true
-asks_only (Can path mask) = true
-asks_only (Put path bytes) = false
-asks_only (Append path bytes) = false
-asks_only (MakeFolder path) = false
-asks_only (Remove path) = false
-asks_only (Move path to) = false
-asks_only (SetList path which sent) = false
-asks_only (SetOwners path owners) = false
+abbrev pub only_reads : Request → Bool
+only_reads (Read path) = true
+only_reads (ListFolder path) = true
+only_reads (ReadList path which) = true
+only_reads (ReadAttr path) = true
+only_reads (Can path mask) = true
+only_reads (Put path bytes) = false
+only_reads (Append path bytes) = false
+only_reads (MakeFolder path) = false
+only_reads (Remove path) = false
+only_reads (Move path to) = false
+only_reads (SetList path which sent) = false
+only_reads (SetOwners path owners) = false
 
 -- the object that the walk along the path finds, with its stored lists
 abbrev pub AtStored : Content → List (List ℕ) → (Site → Type 0) → Type 0
 AtStored rows path P =
     (target : Site) × (site_at (stored_along rows path) path ≡ Some target) × P target
 
--- What is shown is what the object at the path has. Names are told of the rows where all of them can
--- be read.
+-- What is shown is what the object at the path has. Names are told of the rows where all of them
+-- can be read.
 abbrev pub IsShown : Rows → Caller → Request → Reply → Type 0
 IsShown rows caller (Read path) reply = AtStored rows.read path (λ target.
     (bytes : List ℕ) × (reply ≡ Bytes bytes) × (body_of rows.read target.node.id ≡ Some bytes))
@@ -105,7 +105,7 @@ pub record IsClosedFor (caller : Caller) (moment : ℤ) (request : Request) (old
   pub judged : TellsFailure old reply (first_failure caller (stored_plan old.read request))
   pub records : new.read.audits
       ≡ old.read.audits ++ stored_records caller moment old.read request
-  pub unchanged : IsTrue (asks_only request || is_some (failure_told reply))
+  pub unchanged : IsTrue (only_reads request || is_some (failure_told reply))
       → new ≡ reading old
       (with_records old.read (stored_records caller moment old.read request))
   pub shown : failure_told reply ≡ None → IsShown old caller request reply

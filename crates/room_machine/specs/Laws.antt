@@ -1,5 +1,5 @@
 -- Laws of the room machine on what a reply depends on.
-use Rattle.std.specs.Prelude.{◌≡◌, ℕ, ℤ, ◌+◌, Bool, true, false, List, length, take, Option, Some}
+use Rattle.std.specs.Prelude.{◌≡◌, ℕ, ℤ, ◌+◌, Bool, List, length, take, Option, Some}
 use Rattle.std.specs.Prelude.{IfSome, IsTrue}
 use Rattle.room_rows.specs.Content.{Content, groups_for, body_of, children_of}
 use Rattle.room_rows.specs.Walk.{walk_of}
@@ -15,7 +15,7 @@ use Rattle.room_entry.specs.Ace.{Ace}
 use Rattle.room_rows.specs.Rows.{Rows}
 use Rattle.room_machine.specs.Site.{Site, sites_along, site_at}
 use Rattle.room_machine.specs.Stored.{stored_along}
-use Rattle.room_machine.specs.Closed.{FailsClosed}
+use Rattle.room_machine.specs.Closed.{FailsClosed, only_reads}
 use Rattle.room_machine.specs.Plan.{way}
 use Rattle.room_machine.specs.Judge.{first_failure}
 use Rattle.room_machine.specs.Step.{Step, IsFree, caller_in}
@@ -34,20 +34,6 @@ first_path (SetList path which sent) = path
 first_path (ReadAttr path) = path
 first_path (SetOwners path owners) = path
 first_path (Can path mask) = path
-
-abbrev pub only_reads : Request → Bool
-only_reads (Read path) = true
-only_reads (ListFolder path) = true
-only_reads (Put path bytes) = false
-only_reads (Append path bytes) = false
-only_reads (MakeFolder path) = false
-only_reads (Remove path) = false
-only_reads (Move path to) = false
-only_reads (ReadList path which) = true
-only_reads (SetList path which sent) = false
-only_reads (ReadAttr path) = true
-only_reads (SetOwners path owners) = false
-only_reads (Can path mask) = true
 
 -- the object at the path has the same bytes and children in both
 abbrev pub same_target : Content → Content → List (List ℕ) → Type 0

@@ -1,5 +1,7 @@
 -- Names that nothing on a way knows have the same rights at its end.
-use Rattle.std.proofs.Common.{ℕ, zero, suc, ◌≡◌, ◌+◌, ◌&&◌, Bool, true, false, cond, not, List, [], ◌∷◌, map, filter, length, take, Option, Some, None, refl, sym, ap, subst, ◌∙◌}
+use Rattle.std.proofs.Common.{ℕ, zero, suc, ◌≡◌, ◌+◌, ◌&&◌, Bool, true, false, cond, not, List, []}
+use Rattle.std.proofs.Common.{◌∷◌, map, filter, length, take, Option, Some, None, refl, sym, ap}
+use Rattle.std.proofs.Common.{subst, ◌∙◌}
 use Rattle.std.specs.Prelude.{is_none, if◌then◌else◌}
 use Rattle.std.specs.List.{list_all, list_any}
 use Rattle.std.specs.Option.{option_map_or}
@@ -10,7 +12,8 @@ use Rattle.room_entry.specs.Matching.{is_in_force, is_named}
 use Rattle.room_entry.specs.Pieces.{same_text}
 use Rattle.room_entry.specs.Rights.{delete, delete_child, execute, write_data}
 use Rattle.room_entry.specs.declared.entry.Who.{Who}
-use Rattle.room_entry.specs.declared.entry.Who.TheVariants.{Owner, Group, Everyone, Anonymous, Authenticated, User, Members}
+use Rattle.room_entry.specs.declared.entry.Who.TheVariants.{Owner, Group, Everyone, Anonymous}
+use Rattle.room_entry.specs.declared.entry.Who.TheVariants.{Authenticated, User, Members}
 use Rattle.room_entry.specs.declared.object.Which.TheVariants.{Dacl}
 use Rattle.room_entry.specs.declared.parties.Caller.{Caller}
 use Rattle.room_entry.specs.declared.parties.Owners.{Owners}
@@ -22,7 +25,8 @@ use Rattle.room_machine.specs.Judge.{of_deletion, passes}
 use Rattle.room_machine.specs.Plan.{Deletion}
 use Rattle.room_machine.specs.Step.{caller_in}
 use Rattle.room_review.specs.Rights.{grants, last_of, may_remove, reaches, rights, sites_above}
-use Rattle.room_review.specs.Laws.{IsStranger, StrangersAlike, is_known_at, is_paired, is_user_named}
+use Rattle.room_review.specs.Laws.{IsStranger, StrangersAlike, is_known_at, is_paired}
+use Rattle.room_review.specs.Laws.{is_user_named}
 
 pub is_not : (t : Bool) → not t ≡ true → t ≡ false
 is_not true wrong = absurd (false≢true wrong)

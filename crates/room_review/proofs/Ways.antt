@@ -1,5 +1,7 @@
 -- Ways that a caller comes along, and what the replies at their ends say.
-use Rattle.std.proofs.Common.{ℕ, ◌≡◌, ◌&&◌, Bool, true, false, cond, not, List, [], ◌∷◌, ◌++◌, map, filter, length, take, Option, Some, None, ℤ, refl, sym, ap, subst, ◌∙◌}
+use Rattle.std.proofs.Common.{ℕ, ◌≡◌, ◌&&◌, Bool, true, false, cond, not, List, [], ◌∷◌, ◌++◌, map}
+use Rattle.std.proofs.Common.{filter, length, take, Option, Some, None, ℤ, refl, sym, ap, subst}
+use Rattle.std.proofs.Common.{◌∙◌}
 use Rattle.std.specs.Prelude.{is_none, IsTrue}
 use Rattle.std.specs.List.{list_all}
 use Rattle.std.specs.Option.{option_map_or}
@@ -11,7 +13,8 @@ use Rattle.room_entry.specs.declared.parties.Caller.{Caller}
 use Rattle.room_eval.specs.declared.outcome.Ruling.{Ruling}
 use Rattle.room_eval.specs.declared.outcome.Verdict.TheVariants.{Granted}
 use Rattle.room_eval.specs.declared.deletion.DeleteVerdict.{DeleteVerdict}
-use Rattle.room_eval.specs.declared.deletion.DeleteVerdict.TheVariants.{Granted as MayDelete, AtTarget, AtParent}
+use Rattle.room_eval.specs.declared.deletion.DeleteVerdict.TheVariants.{Granted as MayDelete}
+use Rattle.room_eval.specs.declared.deletion.DeleteVerdict.TheVariants.{AtTarget, AtParent}
 use Rattle.room_eval.specs.Deletion.{deletion}
 use Rattle.room_eval.specs.Verdict.{denial, is_denied_at, is_silent, least_denied, ruling_of}
 use Rattle.room_rows.specs.Content.{Content, children_of, is_empty, is_folder, without_node}
@@ -22,12 +25,15 @@ use Rattle.room_machine.specs.declared.request.Request.{Request}
 use Rattle.room_machine.specs.declared.request.Request.TheVariants.{Can, Remove}
 use Rattle.room_machine.specs.Site.{Site, front, full_at, parent_at, site_at, sites_along}
 use Rattle.room_machine.specs.Plan.{Deletion, Item, Refusal, plan_of, way, where_found}
-use Rattle.room_machine.specs.Judge.{entry_at, failure, first_failure, of_deletion, of_verdict, or_else}
+use Rattle.room_machine.specs.Judge.{entry_at, failure, first_failure, of_deletion, of_verdict}
+use Rattle.room_machine.specs.Judge.{or_else}
 use Rattle.room_machine.specs.Effect.{effect, rulings}
 use Rattle.room_machine.specs.Step.{Step, answered, caller_in}
 use Rattle.room_machine.proofs.Replies.{or_reply, reply_of}
-use Rattle.room_review.specs.Rights.{grants, last_of, lets_through, may_remove, may_remove_at, reaches, rights, rights_at, sites_above}
-use Rattle.room_review.specs.Laws.{SaysCan, SaysRemove, allowed_in, is_denial, is_rulings, passed_rights}
+use Rattle.room_review.specs.Rights.{grants, last_of, lets_through, may_remove, may_remove_at}
+use Rattle.room_review.specs.Rights.{reaches, rights, rights_at, sites_above}
+use Rattle.room_review.specs.Laws.{SaysCan, SaysRemove, allowed_in, is_denial, is_rulings}
+use Rattle.room_review.specs.Laws.{passed_rights}
 
 -- ---- a way
 

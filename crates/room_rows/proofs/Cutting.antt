@@ -1,15 +1,21 @@
 -- Texts cut into names, and paths.
-use Rattle.std.proofs.Common.{◌≡◌, ◌≢◌, ℕ, zero, suc, ◌<◌, ◌≤◌, ◌==◌, true, false, List, [], ◌∷◌, ◌++◌, length, take, Ok, Err, codes, refl, sym, ap, ◌∙◌, arith, inl, inr, nat_le, length-append}
+use Rattle.std.proofs.Common.{◌≡◌, ◌≢◌, ℕ, zero, suc, ◌<◌, ◌≤◌, ◌==◌, true, false, List, [], ◌∷◌}
+use Rattle.std.proofs.Common.{◌++◌, length, take, Ok, Err, codes, refl, sym, ap, ◌∙◌, arith, inl}
+use Rattle.std.proofs.Common.{inr, nat_le, length-append}
 use Rattle.std.specs.Prelude.{IsTrue, if◌then◌else◌}
 use Rattle.std.specs.List.{list_all, flat_map}
 use Rattle.std.specs.Str.{IsUtf8, IsValidUpTo}
-use Rattle.std.proofs.lemmas.Bool.{cases_Bool, and_parts, and_from, and_left, and_right, not_from_false, le-ltb, lt-ltb, leb-true, le-leb, eqb-true, ne_eqb, cond-true, cond-false}
-use Rattle.std.proofs.lemmas.List.Splits.{slice_split-cons_yes, slice_split-cons_no, length-slice_split}
+use Rattle.std.proofs.lemmas.Bool.{cases_Bool, and_parts, and_from, and_left, and_right}
+use Rattle.std.proofs.lemmas.Bool.{not_from_false, le-ltb, lt-ltb, leb-true, le-leb, eqb-true}
+use Rattle.std.proofs.lemmas.Bool.{ne_eqb, cond-true, cond-false}
+use Rattle.std.proofs.lemmas.List.Splits.{slice_split-cons_yes, slice_split-cons_no}
+use Rattle.std.proofs.lemmas.List.Splits.{length-slice_split}
 use Rattle.std.specs.List.{onto_first}
 use Rattle.room_entry.specs.Utf8.{is_utf8}
 use Rattle.room_entry.specs.Pieces.{pieces, same_text}
 use Rattle.room_rows.specs.declared.fault.PathFault.TheVariants.{BadName, NotUtf8}
-use Rattle.room_rows.specs.Paths.{is_object_name, is_path, is_name_byte, names_in, object_names, path_of, path_text}
+use Rattle.room_rows.specs.Paths.{is_object_name, is_path, is_name_byte, names_in, object_names}
+use Rattle.room_rows.specs.Paths.{path_of, path_text}
 use Rattle.room_rows.proofs.Utf8.{fails_as_utf8}
 use Rattle.room_entry.proofs.Texts.{passes_as_utf8}
 

@@ -1,9 +1,12 @@
 -- What a change leaves of objects that stay in their places.
-use Rattle.std.proofs.Common.{◌≡◌, ℕ, ◌<◌, ◌==◌, nat_lt, ◌&&◌, true, false, List, [], ◌∷◌, map, filter, Option, Some, None, refl, sym, ap, subst, ◌∙◌, inl, inr, arith}
+use Rattle.std.proofs.Common.{◌≡◌, ℕ, ◌<◌, ◌==◌, nat_lt, ◌&&◌, true, false, List, [], ◌∷◌, map}
+use Rattle.std.proofs.Common.{filter, Option, Some, None, refl, sym, ap, subst, ◌∙◌, inl, inr}
+use Rattle.std.proofs.Common.{arith}
 use Rattle.std.specs.Prelude.{IsTrue, is_none}
 use Rattle.std.specs.List.{AllByRecursion}
 use Rattle.std.specs.Option.{option_map, option_and_then}
-use Rattle.std.proofs.lemmas.Bool.{and_parts, cases_Bool, cases_order, cond-true, cond-false, eqb-true, eq-eqb, ne_eqb, lt-ltb, ltb-true, le-ltb}
+use Rattle.std.proofs.lemmas.Bool.{and_parts, cases_Bool, cases_order, cond-true, cond-false}
+use Rattle.std.proofs.lemmas.Bool.{eqb-true, eq-eqb, ne_eqb, lt-ltb, ltb-true, le-ltb}
 use Rattle.std.proofs.lemmas.Option.{same_Some, none-some}
 use Rattle.room_entry.specs.Ace.{Ace}
 use Rattle.room_entry.specs.Pieces.{same_text}
@@ -12,7 +15,9 @@ use Rattle.room_entry.specs.declared.object.Which.TheVariants.{Dacl, Sacl}
 use Rattle.room_entry.specs.declared.parties.Owners.{Owners}
 use Rattle.room_rows.specs.HeldList.{Held}
 use Rattle.room_rows.specs.declared.node.Node.{Node}
-use Rattle.room_rows.specs.Content.{Content, node_at, has_parent, root_of, child_of, children_of, parent_of, body_at, body_of, put_body, with_node, with_body, with_each, is_rising, sorted_by_name}
+use Rattle.room_rows.specs.Content.{Content, node_at, has_parent, root_of, child_of, children_of}
+use Rattle.room_rows.specs.Content.{parent_of, body_at, body_of, put_body, with_node, with_body}
+use Rattle.room_rows.specs.Content.{with_each, is_rising, sorted_by_name}
 use Rattle.room_rows.specs.Held.{held_of, with_held}
 use Rattle.room_rows.specs.Keep.{with_inh, with_owners, reading}
 use Rattle.room_rows.specs.Rows.{Rows, AreRows, numbers_of, put_numbers}

@@ -1,5 +1,6 @@
 -- The text of a path is read as that path.
-use Rattle.std.proofs.Common.{◌≡◌, ℕ, ◌<◌, ◌==◌, ◌&&◌, true, false, not, List, [], ◌∷◌, ◌++◌, length, codes, refl, ap, ◌∙◌, arith, nat_lt, nat_le, length-append}
+use Rattle.std.proofs.Common.{◌≡◌, ℕ, ◌<◌, ◌==◌, ◌&&◌, true, false, not, List, [], ◌∷◌, ◌++◌}
+use Rattle.std.proofs.Common.{length, codes, refl, ap, ◌∙◌, arith, nat_lt, nat_le, length-append}
 use Rattle.std.specs.List.{list_all, onto_first}
 use Rattle.std.specs.Str.{IsUtf8}
 use Rattle.std.proofs.lemmas.Bool.{and_parts, ltb-true, leb-true, not-true, cond-true}

@@ -1,5 +1,6 @@
 -- Worked rows: what the definitions say at written examples.
-use Rattle.std.proofs.Common.{ℕ, ◌≡◌, List, [], ◌∷◌, Option, Some, None, Ok, Err, refl, true, false, codes, replicate}
+use Rattle.std.proofs.Common.{ℕ, ◌≡◌, List, [], ◌∷◌, Option, Some, None, Ok, Err, refl, true, false}
+use Rattle.std.proofs.Common.{codes, replicate}
 use Rattle.room_entry.specs.declared.object.ObjKind.{ObjKind}
 use Rattle.room_entry.specs.declared.object.ObjKind.TheVariants.{Document, Folder}
 use Rattle.room_rows.specs.HeldList.{Held}

@@ -90,8 +90,8 @@ AreNamedUnder parent rows names =
     rows.unreadable ≡ []
     → names ≡ map (λ node. (node.name, node.kind)) (children_of rows.read parent)
 
--- Whether there are children. Where a row can't be read, it may be a child, so the answer may be yes
--- though no object that is read is one.
+-- Whether there are children. Where a row can't be read, it may be a child, so the answer may be
+-- yes though no object that is read is one.
 abbrev pub HasChildren : ℕ → Rows → Bool → Type 0
 HasChildren parent rows answer = (answer ≡ false → children_of rows.read parent ≡ [])
     × (rows.unreadable ≡ [] → answer ≡ not (is_empty (children_of rows.read parent)))

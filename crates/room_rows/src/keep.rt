@@ -132,8 +132,9 @@ pub trait Keep {
         ensures read { IsRead rows failures writes Follows IsTrusted self.old self.new result
             IsUnreadable (AreNamedUnder parent) };
 
-    /// Whether there are children. The answer is promised where all rows can be read. The error is
-    /// `Damaged` for a row that can't be read.
+    /// Whether there are children. A 'no' is true of any rows. A 'yes' is promised where all rows
+    /// can be read: else such a row may be the child. The error is `Damaged` for a row that can't
+    /// be read.
     fn has_children(&mut self, parent: u64) -> Result<bool, KeepFault>
         ensures read { IsRead rows failures writes Follows IsTrusted self.old self.new result
             IsUnreadable (HasChildren parent) };

@@ -1,5 +1,6 @@
 -- What is remembered from one transaction to the next.
-use Rattle.std.proofs.Common.{◌≡◌, ◌≤◌, Result, Ok, Err, Option, None, Some, IsTrue, IsOk, IfSome, false, sym, ap, subst, ◌∙◌, arith}
+use Rattle.std.proofs.Common.{◌≡◌, ◌≤◌, Result, Ok, Err, Option, None, Some, IsTrue, IsOk, IfSome}
+use Rattle.std.proofs.Common.{false, sym, ap, subst, ◌∙◌, arith}
 use Rattle.sqlite_trees.specs.View.{doubt}
 use Rattle.sqlite.specs.State.{State, HasCleanDisk, IsRolledBack}
 use Rattle.room_remember.specs.declared.memory.Memory.{Memory}
@@ -15,7 +16,8 @@ use Rattle.room_store.specs.declared.fault.StoreFault.{StoreFault}
 use Rattle.room_store.specs.Ran.{LeavesOpen, Ran}
 use Rattle.room_store.specs.Remembers.{EndsLook, IsKept, Remembers, Settled}
 use Rattle.room_store.specs.Turn.{Begins, GivesUp}
-use Rattle.room_store.proofs.Transact.{made, never_damage, old_clean, old_open, same_fault, undone_at}
+use Rattle.room_store.proofs.Transact.{made, never_damage, old_clean, old_open, same_fault}
+use Rattle.room_store.proofs.Transact.{undone_at}
 
 -- a call that leaves the database leaves what is remembered of it
 pub still : (old new : State) (known : Option Memory) → LeavesOpen old new

@@ -1,5 +1,6 @@
 -- Calls in a transaction that is committed or rolled back.
-use Rattle.std.proofs.Common.{◌≡◌, ◌≤◌, ℕ, Result, Ok, Err, IsTrue, IfOk, OnOk, inl, inr, refl, sym, ap, subst, subst₂, ◌∙◌, false, arith}
+use Rattle.std.proofs.Common.{◌≡◌, ◌≤◌, ℕ, Result, Ok, Err, IsTrue, IfOk, OnOk, inl, inr, refl, sym}
+use Rattle.std.proofs.Common.{ap, subst, subst₂, ◌∙◌, false, arith}
 use Rattle.sqlite_trees.specs.View.{doubt}
 use Rattle.sqlite.specs.Effect.{Database}
 use Rattle.sqlite.specs.declared.error.Error.{Error}

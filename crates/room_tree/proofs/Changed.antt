@@ -1,5 +1,7 @@
 -- What a keeper in memory holds after a call.
-use Rattle.std.proofs.Common.{◌≡◌, ℕ, ◌<◌, ◌==◌, true, false, not, List, ◌∷◌, map, filter, Option, Some, None, Result, Err, IfOk, IfErr, refl, sym, ap, subst, ◌∙◌, arith, inl, inr, if◌then◌else◌}
+use Rattle.std.proofs.Common.{◌≡◌, ℕ, ◌<◌, ◌==◌, true, false, not, List, ◌∷◌, map, filter, Option}
+use Rattle.std.proofs.Common.{Some, None, Result, Err, IfOk, IfErr, refl, sym, ap, subst, ◌∙◌}
+use Rattle.std.proofs.Common.{arith, inl, inr, if◌then◌else◌}
 use Rattle.std.specs.Prelude.{is_some}
 use Rattle.std.specs.Option.{option_map_or}
 use Rattle.std.proofs.lemmas.Bool.{cases_Bool, false≢true, eq-eqb, cond-true, cond-false}
@@ -17,7 +19,8 @@ use Rattle.room_rows.specs.declared.node.Node.{Node}
 use Rattle.room_rows.specs.Content.{put_body, put_node, is_rising, without_node}
 use Rattle.room_rows.specs.Finding.{find_id}
 use Rattle.room_rows.specs.Held.{with_held}
-use Rattle.room_rows.specs.Keep.{Changes, HasCause, node_of, reading, with_new, with_owners, writes_after}
+use Rattle.room_rows.specs.Keep.{Changes, HasCause, node_of, reading, with_new, with_owners}
+use Rattle.room_rows.specs.Keep.{writes_after}
 use Rattle.room_tree.specs.Memory.{memory_rows}
 use Rattle.room_tree.specs.Objects.{StandsAsBefore, greatest}
 use Rattle.room_rows.specs.Rows.{AreRows}

@@ -1,5 +1,7 @@
 -- Rows of a keeper in memory that stay rows.
-use Rattle.std.proofs.Common.{◌≡◌, ℕ, ◌<◌, ◌==◌, ◌||◌, Bool, true, false, not, List, [], ◌∷◌, map, filter, Some, nat_lt, refl, sym, ap, subst, ◌∙◌, arith, inl, inr, if◌then◌else◌}
+use Rattle.std.proofs.Common.{◌≡◌, ℕ, ◌<◌, ◌==◌, ◌||◌, Bool, true, false, not, List, [], ◌∷◌, map}
+use Rattle.std.proofs.Common.{filter, Some, nat_lt, refl, sym, ap, subst, ◌∙◌, arith, inl, inr}
+use Rattle.std.proofs.Common.{if◌then◌else◌}
 use Rattle.std.specs.Prelude.{is_some}
 use Rattle.std.specs.BTreeMap.{insert_entry}
 use Rattle.std.specs.List.{list_all}
@@ -8,7 +10,9 @@ use Rattle.std.specs.List.{AllByRecursion}
 use Rattle.std.specs.Map.{lookup, remove_entry, keys_of}
 use Rattle.std.specs.Ordering.{nat_cmp, is_eq, match_ordering}
 use Rattle.std.specs.declared.cmp.Ordering.TheVariants.{Less}
-use Rattle.std.proofs.lemmas.Bool.{cases_Bool, cases_order, false≢true, not-true, and_parts, and_from, or_cases, or_left, or_right, eqb-true, eqb-false, ne_eqb, eq-eqb, ltb-true, lt-ltb, le-ltb, cond-true, cond-false}
+use Rattle.std.proofs.lemmas.Bool.{cases_Bool, cases_order, false≢true, not-true, and_parts}
+use Rattle.std.proofs.lemmas.Bool.{and_from, or_cases, or_left, or_right, eqb-true, eqb-false}
+use Rattle.std.proofs.lemmas.Bool.{ne_eqb, eq-eqb, ltb-true, lt-ltb, le-ltb, cond-true, cond-false}
 use Rattle.std.proofs.lemmas.Map.Keys.{sorted_head, sorted_tail}
 use Rattle.room_entry.specs.Pieces.{is_among}
 use Rattle.room_rows.specs.declared.node.Node.{Node}

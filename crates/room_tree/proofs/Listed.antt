@@ -1,5 +1,7 @@
 -- Objects and the places where they are listed.
-use Rattle.std.proofs.Common.{◌≡◌, ℕ, ◌==◌, ◌&&◌, true, false, List, [], ◌∷◌, map, filter, Option, Some, None, nat_lt, refl, sym, ap, subst, ◌∙◌, arith, inl, inr, String, string_bytes}
+use Rattle.std.proofs.Common.{◌≡◌, ℕ, ◌==◌, ◌&&◌, true, false, List, [], ◌∷◌, map, filter, Option}
+use Rattle.std.proofs.Common.{Some, None, nat_lt, refl, sym, ap, subst, ◌∙◌, arith, inl, inr}
+use Rattle.std.proofs.Common.{String, string_bytes}
 use Rattle.std.specs.Prelude.{is_none}
 use Rattle.std.specs.List.{cons_option, AllByRecursion}
 use Rattle.std.specs.List.Sorted.{IsStrictlySortedBy}
@@ -9,14 +11,17 @@ use Rattle.std.specs.Cmp.Lexicographic.{slice_cmp}
 use Rattle.std.specs.String.{string_cmp}
 use Rattle.std.specs.declared.cmp.Ordering.{Ordering}
 use Rattle.std.specs.declared.cmp.Ordering.TheVariants.{Less}
-use Rattle.std.proofs.lemmas.Bool.{cases_Bool, false≢true, true≢false, and_parts, and_from, and_left, and_right, eqb-true, ne_eqb, eq-eqb, cond-true, cond-false, false_from_ne_true}
+use Rattle.std.proofs.lemmas.Bool.{cases_Bool, false≢true, true≢false, and_parts, and_from}
+use Rattle.std.proofs.lemmas.Bool.{and_left, and_right, eqb-true, ne_eqb, eq-eqb, cond-true}
+use Rattle.std.proofs.lemmas.Bool.{cond-false, false_from_ne_true}
 use Rattle.std.proofs.lemmas.Cmp.{nat_list_cmp_total, tied_itself}
 use Rattle.std.proofs.lemmas.Map.Keys.{sorted_head, sorted_tail}
 use Rattle.room_entry.specs.Pieces.{same_text}
 use Rattle.room_rows.specs.declared.node.Node.{Node}
 use Rattle.room_rows.specs.Content.{is_rising, has_parent, is_before, put_by_name, sorted_by_name}
 use Rattle.room_rows.specs.Finding.{find_id, find_named}
-use Rattle.room_tree.specs.Places.{is_standing, standing, standing_all, standing_under, is_place, id_at, places_under}
+use Rattle.room_tree.specs.Places.{is_standing, standing, standing_all, standing_under, is_place}
+use Rattle.room_tree.specs.Places.{id_at, places_under}
 use Rattle.room_tree.proofs.Found.{found_above, none_above}
 use Rattle.room_tree.proofs.Numbered.{cmp_equal}
 use Rattle.room_rows.proofs.Lookups.{found_number, found_passes}

@@ -1,5 +1,7 @@
 -- Places listed, removed and looked up.
-use Rattle.std.proofs.Common.{◌≡◌, ℕ, ◌≤◌, ◌==◌, ◌&&◌, ◌+◌, Bool, true, false, not, List, [], ◌∷◌, filter, Some, refl, sym, ap, subst, ◌∙◌, arith, inl, inr, if◌then◌else◌, String, string_bytes}
+use Rattle.std.proofs.Common.{◌≡◌, ℕ, ◌≤◌, ◌==◌, ◌&&◌, ◌+◌, Bool, true, false, not, List, [], ◌∷◌}
+use Rattle.std.proofs.Common.{filter, Some, refl, sym, ap, subst, ◌∙◌, arith, inl, inr}
+use Rattle.std.proofs.Common.{if◌then◌else◌, String, string_bytes}
 use Rattle.std.specs.BTreeMap.{insert_entry}
 use Rattle.std.specs.BTreeMap.Range.{range_contains}
 use Rattle.std.specs.Map.{lookup, remove_entry}
@@ -9,11 +11,14 @@ use Rattle.std.specs.String.{string_cmp}
 use Rattle.std.specs.declared.cmp.Ordering.{Ordering}
 use Rattle.std.specs.declared.cmp.Ordering.TheVariants.{Less, Equal, Greater}
 use Rattle.std.specs.declared.ops.Bound.TheVariants.{Included, Excluded, Unbounded}
-use Rattle.std.proofs.lemmas.Bool.{cases_Bool, cases_order, false≢true, and_parts, and_from, and_left, eqb-true, ne_eqb, eq-eqb, cond-true, cond-false, false_from_ne_true}
+use Rattle.std.proofs.lemmas.Bool.{cases_Bool, cases_order, false≢true, and_parts, and_from}
+use Rattle.std.proofs.lemmas.Bool.{and_left, eqb-true, ne_eqb, eq-eqb, cond-true, cond-false}
+use Rattle.std.proofs.lemmas.Bool.{false_from_ne_true}
 use Rattle.std.proofs.lemmas.Cmp.{nat_list_eq_equiv}
 use Rattle.std.proofs.lemmas.Map.Text.{is_eq-slice_cmp}
 use Rattle.room_entry.specs.Pieces.{same_text}
-use Rattle.room_tree.specs.Places.{text_place, is_place, id_at, places_under, Lists, KeepsOtherPlaces}
+use Rattle.room_tree.specs.Places.{text_place, is_place, id_at, places_under, Lists}
+use Rattle.room_tree.specs.Places.{KeepsOtherPlaces}
 use Rattle.room_tree.proofs.Numbered.{cmp_less, cmp_equal, cmp_greater}
 use Rattle.room_tree.proofs.Listed.{place_cmp}
 use Rattle.room_entry.proofs.Facts.Lists.{filter_weaker}

@@ -1,5 +1,6 @@
 -- What is answered was asked of an open connection.
-use Rattle.std.proofs.Common.{ℕ, List, Result, Ok, Err, Some, None, Option, IsTrue, IfOk, Vec, Global}
+use Rattle.std.proofs.Common.{ℕ, List, Result, Ok, Err, Some, None, Option, IsTrue, IfOk, Vec}
+use Rattle.std.proofs.Common.{Global}
 use Rattle.sqlite.specs.Order.{Row}
 use Rattle.sqlite.specs.declared.error.Error.{Error}
 use Rattle.sqlite.specs.State.{State, HasCleanDisk, Shown, ShowsRows}

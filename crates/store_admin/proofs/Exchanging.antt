@@ -1,5 +1,7 @@
 -- What is left of the rows of members once all are taken out, and once one is put in.
-use Rattle.std.proofs.Common.{◌≡◌, ◌||◌, ℕ, ℤ, List, [], ◌∷◌, map, codes, Ok, None, IsTrue, inl, inr, refl, sym, ap, subst, ◌∙◌, true, false, Bool, not, cond, if◌then◌else◌, arith, IsPermutation}
+use Rattle.std.proofs.Common.{◌≡◌, ◌||◌, ℕ, ℤ, List, [], ◌∷◌, map, codes, Ok, None, IsTrue, inl}
+use Rattle.std.proofs.Common.{inr, refl, sym, ap, subst, ◌∙◌, true, false, Bool, not, cond}
+use Rattle.std.proofs.Common.{if◌then◌else◌, arith, IsPermutation}
 use Rattle.std.specs.List.{AllByRecursion, list_any}
 use Rattle.std.proofs.lemmas.List.Sorted.{list_any-IsPermutation}
 use Rattle.sqlite.specs.declared.types.Value.{Value}
@@ -7,7 +9,8 @@ use Rattle.sqlite.specs.declared.types.Value.TheVariants.{Null, Int, Real, Text,
 use Rattle.sqlite.specs.Cast.{cast_row}
 use Rattle.sqlite.specs.Command.TheVariants.{Insert, Delete}
 use Rattle.sqlite.specs.Does.{Tally, Does}
-use Rattle.sqlite.specs.Edit.{Edit, are_fresh, edit_of, is_taken, next_rowid, numbered, put_all, taken_by, without_all}
+use Rattle.sqlite.specs.Edit.{Edit, are_fresh, edit_of, is_taken, next_rowid, numbered, put_all}
+use Rattle.sqlite.specs.Edit.{taken_by, without_all}
 use Rattle.sqlite.specs.Effect.{Database, IsDatabase}
 use Rattle.sqlite.specs.Listing.{understood}
 use Rattle.sqlite.specs.Order.{Row}

@@ -1,5 +1,6 @@
 -- What one more pair makes of the pairs that are there.
-use Rattle.std.proofs.Common.{◌≡◌, ◌||◌, ◌&&◌, is_some, ◌<◌, ◌+◌, ◌-◌, ℕ, ℤ, suc, List, [], ◌∷◌, ◌++◌, get_or, length}
+use Rattle.std.proofs.Common.{◌≡◌, ◌||◌, ◌&&◌, is_some, ◌<◌, ◌+◌, ◌-◌, ℕ, ℤ, suc, List, [], ◌∷◌}
+use Rattle.std.proofs.Common.{◌++◌, get_or, length}
 use Rattle.std.proofs.Common.{take, map, Bor, arith}
 use Rattle.std.proofs.Common.{Some, None, Option, refl, sym, ap, subst, ◌∙◌, true, false, Bool}
 use Rattle.std.proofs.Common.{Ordering, Less, Equal, Greater, is_eq, IsPermutation}
@@ -21,7 +22,8 @@ use Rattle.store_tables.specs.Paired.{Pair, pair_cmp}
 use Rattle.store_tables.specs.RoomRows.{set_sorted}
 use Rattle.store_tables.proofs.Removed.{same_rows}
 use Rattle.store_tables.proofs.Rowids.{is_equal}
-use Rattle.store_admin.specs.Operating.{Exchanges, ExchangesMembers, HoldsPairs, are_pairs, stored_pair}
+use Rattle.store_admin.specs.Operating.{Exchanges, ExchangesMembers, HoldsPairs, are_pairs}
+use Rattle.store_admin.specs.Operating.{stored_pair}
 use Rattle.store_admin.proofs.Members.{reads}
 use Rattle.store_admin.proofs.Sets.{has, has_first, has_set, is_at, or_swap, same_sets}
 use Rattle.store_admin.proofs.Sets.{set_moved}

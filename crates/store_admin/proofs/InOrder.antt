@@ -1,5 +1,7 @@
 -- The rows of members in order of group and then of user, and the pairs that they are read as.
-use Rattle.std.proofs.Common.{◌≡◌, ℕ, List, [], ◌∷◌, map, filter, None, Some, Option, refl, sym, ap, subst, ◌∙◌, true, false, Bool, cond, ◌&&◌, inl, inr, Ordering, Less, Equal, Greater, is_gt, is_eq, nat_cmp, true≢false, IsPermutation}
+use Rattle.std.proofs.Common.{◌≡◌, ℕ, List, [], ◌∷◌, map, filter, None, Some, Option, refl, sym, ap}
+use Rattle.std.proofs.Common.{subst, ◌∙◌, true, false, Bool, cond, ◌&&◌, inl, inr, Ordering, Less}
+use Rattle.std.proofs.Common.{Equal, Greater, is_gt, is_eq, nat_cmp, true≢false, IsPermutation}
 use Rattle.std.specs.Prelude.{option_map, option_and_then}
 use Rattle.std.specs.Cmp.{IsTotalOrder}
 use Rattle.std.specs.Cmp.Lexicographic.{slice_cmp}

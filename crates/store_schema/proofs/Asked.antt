@@ -1,5 +1,8 @@
 -- What reading the schema's number shows.
-use Rattle.std.proofs.Common.{◌≡◌, ◌≤◌, ℕ, ℤ, List, [], ◌∷◌, length, map, Result, Ok, Err, Option, None, Some, IsTrue, inl, inr, ◌⊎◌, refl, sym, ap, subst, ◌∙◌, true, false, Bool, if◌then◌else◌, arith, IsPermutation, Vec, Global, IfOk, IfErr}
+use Rattle.std.proofs.Common.{◌≡◌, ◌≤◌, ℕ, ℤ, List, [], ◌∷◌, length, map, Result, Ok, Err, Option}
+use Rattle.std.proofs.Common.{None, Some, IsTrue, inl, inr, ◌⊎◌, refl, sym, ap, subst, ◌∙◌, true}
+use Rattle.std.proofs.Common.{false, Bool, if◌then◌else◌, arith, IsPermutation, Vec, Global, IfOk}
+use Rattle.std.proofs.Common.{IfErr}
 use Rattle.std.proofs.lemmas.List.Sorted.{length_permutation}
 use Rattle.sqlite.specs.declared.types.Value.TheVariants.{Null}
 use Rattle.sqlite.specs.Order.{Row, column}
@@ -12,23 +15,28 @@ use Rattle.sqlite.specs.declared.error.Error.TheVariants.{SqlInputError}
 use Rattle.sqlite_resolve.specs.declared.compiled.Compiled.{Compiled}
 use Rattle.sqlite_resolve.specs.declared.error.CompileError.{CompileError}
 use Rattle.sqlite_trees.specs.declared.error.StoreError.{StoreError}
-use Rattle.sqlite_trees.specs.declared.error.StoreError.TheVariants.{OutOfMemory, Io, Corrupt, Full, Broken, Unstorable}
+use Rattle.sqlite_trees.specs.declared.error.StoreError.TheVariants.{OutOfMemory, Io, Corrupt, Full}
+use Rattle.sqlite_trees.specs.declared.error.StoreError.TheVariants.{Broken, Unstorable}
 use Rattle.sqlite.specs.Command.{Command}
 use Rattle.sqlite.specs.Command.TheVariants.{Rows, Select}
 use Rattle.sqlite_schema.specs.declared.command.Returning.{Returning}
 use Rattle.sqlite_trees.specs.View.{doubt}
 use Rattle.sqlite.specs.Clock.{timed}
 use Rattle.sqlite.specs.Listing.{understood}
-use Rattle.sqlite.specs.State.{State, HasCleanDisk, Shown, ShowsRows, FailsToQuery, FailsToShow, IsNotRun, IsTooLate, store_error}
+use Rattle.sqlite.specs.State.{State, HasCleanDisk, Shown, ShowsRows, FailsToQuery, FailsToShow}
+use Rattle.sqlite.specs.State.{IsNotRun, IsTooLate, store_error}
 use Rattle.sqlite.proofs.Callers.{IsPlain, command_of, one_permutation, reads_as}
 use Rattle.store_tables.specs.Tables.{no_schema, room_schema}
 use Rattle.store_schema.specs.NewRoom.{is_version, meta_of, number_shown}
-use Rattle.store_schema.specs.Opening.{AsksVersion, CantBeAsked, IsCalled, IsFailure, IsRefusal, IsUnread, ReadsAs, ShowsVersion, number_text}
+use Rattle.store_schema.specs.Opening.{AsksVersion, CantBeAsked, IsCalled, IsFailure, IsRefusal}
+use Rattle.store_schema.specs.Opening.{IsUnread, ReadsAs, ShowsVersion, number_text}
 use Rattle.store_tables.specs.Within.{IsWithin}
 use Rattle.store_schema.specs.declared.fault.OpenFault.{OpenFault}
-use Rattle.store_schema.specs.declared.fault.OpenFault.TheVariants.{NotRooms, OldVersion, NewVersion, Db, Memory}
+use Rattle.store_schema.specs.declared.fault.OpenFault.TheVariants.{NotRooms, OldVersion}
+use Rattle.store_schema.specs.declared.fault.OpenFault.TheVariants.{NewVersion, Db, Memory}
 use Rattle.store_schema.proofs.Answers.{passes, selected}
-use Rattle.store_schema.proofs.Texts.{asked_bare, asked_is, asked_nowhere, asked_plain, asks_value, is_rooms}
+use Rattle.store_schema.proofs.Texts.{asked_bare, asked_is, asked_nowhere, asked_plain, asks_value}
+use Rattle.store_schema.proofs.Texts.{is_rooms}
 use Rattle.store_tables.proofs.Bare.{reads_by}
 use Rattle.store_tables.proofs.Within.{unchanged_within, undone_within, wrote_within}
 use Rattle.room_entry.proofs.Facts.Lists.{filter_same}

@@ -8,9 +8,13 @@ use Rattle.sqlite.specs.Does.{Tally, lacks_sequence}
 use Rattle.sqlite.specs.Effect.{Database}
 use Rattle.sqlite.specs.State.{State, Writes, Executes}
 use Rattle.sqlite.proofs.Callers.{runs_as}
-use Rattle.store_tables.specs.Tables.{nodes, bodies, members, meta, audits, counters, no_schema, after_nodes, after_bodies, after_members, after_meta, room_schema}
+use Rattle.store_tables.specs.Tables.{nodes, bodies, members, meta, audits, counters, no_schema}
+use Rattle.store_tables.specs.Tables.{after_nodes, after_bodies, after_members, after_meta}
+use Rattle.store_tables.specs.Tables.{room_schema}
 use Rattle.store_schema.specs.Making.{HasEmpty}
-use Rattle.store_schema.proofs.Texts.{IsCreate, nodes_text, bodies_text, members_text, meta_text, audits_text, nodes_is, bodies_is, members_is, meta_is, audits_is, counters_is, sequences}
+use Rattle.store_schema.proofs.Texts.{IsCreate, nodes_text, bodies_text, members_text, meta_text}
+use Rattle.store_schema.proofs.Texts.{audits_text, nodes_is, bodies_is, members_is, meta_is}
+use Rattle.store_schema.proofs.Texts.{audits_is, counters_is, sequences}
 use Rattle.store_tables.proofs.Writes.{went, same_value}
 
 -- a table is made, empty, and no other changes

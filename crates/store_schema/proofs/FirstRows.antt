@@ -1,5 +1,6 @@
 -- What the first rows leave.
-use Rattle.std.proofs.Common.{◌≡◌, ◌≢◌, ℕ, ℤ, pos, List, [], ◌∷◌, codes, map, filter, Option, Ok, None, Some, IsTrue, refl, sym, ap, subst, ◌∙◌, arith}
+use Rattle.std.proofs.Common.{◌≡◌, ◌≢◌, ℕ, ℤ, pos, List, [], ◌∷◌, codes, map, filter, Option, Ok}
+use Rattle.std.proofs.Common.{None, Some, IsTrue, refl, sym, ap, subst, ◌∙◌, arith}
 use Rattle.sqlite.specs.declared.types.Value.TheVariants.{Null, Int, Text}
 use Rattle.sqlite.specs.Order.{Row, column, value_cmp}
 use Rattle.sqlite.specs.Cast.{cast_row}
@@ -28,7 +29,8 @@ use Rattle.store_schema.specs.Making.{HasEmpty, IsBare}
 use Rattle.store_schema.specs.NewRoom.{IsNewRoom, is_version, number_shown}
 use Rattle.store_tables.specs.Printed.{ArePrinted}
 use Rattle.store_schema.proofs.Meant.{owner_line, room_read, root_printed, root_row}
-use Rattle.store_schema.proofs.Texts.{version_text, version_terms, version_is, version_plain, folder_text, folder_terms, folder_is, folder_plain}
+use Rattle.store_schema.proofs.Texts.{version_text, version_terms, version_is, version_plain}
+use Rattle.store_schema.proofs.Texts.{folder_text, folder_terms, folder_is, folder_plain}
 use Rattle.store_tables.proofs.Inserts.{new_sets_off_nothing}
 use Rattle.store_tables.proofs.Updates.{cast_null, cast_int}
 use Rattle.store_tables.proofs.Writes.{went, same_value}

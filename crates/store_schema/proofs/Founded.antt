@@ -1,5 +1,6 @@
 -- A transaction that makes a room is committed or rolled back.
-use Rattle.std.proofs.Common.{◌≡◌, ◌≤◌, [], Ok, Err, IsTrue, sym, ap, subst, ◌∙◌, true, false, arith}
+use Rattle.std.proofs.Common.{◌≡◌, ◌≤◌, [], Ok, Err, IsTrue, sym, ap, subst, ◌∙◌, true, false}
+use Rattle.std.proofs.Common.{arith}
 use Rattle.sqlite_trees.specs.View.{doubt}
 use Rattle.sqlite.specs.declared.error.Error.{Error}
 use Rattle.sqlite.specs.State.{State, HasCleanDisk, Shows, IsRolledBack, KeepsCounts}

@@ -1,6 +1,8 @@
 -- What the row of a new root is read as.
-use Rattle.std.proofs.Common.{◌≡◌, ℕ, pos, List, [], ◌∷◌, ◌++◌, codes, Some, None, inl, inr, refl, sym, ap, subst, ◌∙◌, true}
-use Rattle.std.specs.Prelude.{IsTrue, false, Option, option_map, option_and_then, is_none, if◌then◌else◌}
+use Rattle.std.proofs.Common.{◌≡◌, ℕ, pos, List, [], ◌∷◌, ◌++◌, codes, Some, None, inl, inr, refl}
+use Rattle.std.proofs.Common.{sym, ap, subst, ◌∙◌, true}
+use Rattle.std.specs.Prelude.{IsTrue, false, Option, option_map, option_and_then, is_none}
+use Rattle.std.specs.Prelude.{if◌then◌else◌}
 use Rattle.std.specs.List.{filter_map, cons_option}
 use Rattle.room_entry.specs.Ace.{Ace}
 use Rattle.room_entry.specs.declared.object.ObjKind.TheVariants.{Folder}
@@ -17,7 +19,8 @@ use Rattle.room_entry.specs.declared.parties.Owners.{Owners}
 use Rattle.sqlite.specs.declared.types.Value.TheVariants.{Null, Int, Text}
 use Rattle.sqlite.specs.Order.{Row, column}
 use Rattle.sqlite_rules.specs.Lists.{Has}
-use Rattle.store_tables.specs.Meaning.{audit_in, bodies_of, name_in, name_of_text, node_in, nodes_of, pairs_of, rows_of, unread_of}
+use Rattle.store_tables.specs.Meaning.{audit_in, bodies_of, name_in, name_of_text, node_in}
+use Rattle.store_tables.specs.Meaning.{nodes_of, pairs_of, rows_of, unread_of}
 use Rattle.store_tables.specs.Shown.{shown_node}
 use Rattle.store_tables.specs.Printed.{ArePrinted, HoldsPrinted, IsPrinted}
 use Rattle.store_tables.proofs.Printed.{by_cell}

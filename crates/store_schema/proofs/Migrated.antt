@@ -1,12 +1,14 @@
 -- A transaction that upgrades a room is committed or rolled back.
-use Rattle.std.proofs.Common.{◌≡◌, ◌≤◌, [], pos, Result, Ok, Err, IsErrAnd, IsTrue, sym, ap, subst, subst₂, ◌∙◌, false, arith}
+use Rattle.std.proofs.Common.{◌≡◌, ◌≤◌, [], pos, Result, Ok, Err, IsErrAnd, IsTrue, sym, ap, subst}
+use Rattle.std.proofs.Common.{subst₂, ◌∙◌, false, arith}
 use Rattle.sqlite_trees.specs.View.{doubt}
 use Rattle.sqlite.specs.Effect.{Database, IsDatabase}
 use Rattle.sqlite.specs.State.{State, HasCleanDisk, Shows, IsRolledBack, KeepsCounts}
 use Rattle.store_tables.specs.Tables.{no_schema}
 use Rattle.store_tables.specs.Shown.{HasTables, IsRoom, room_of}
 use Rattle.store_schema.specs.Opening.{Says}
-use Rattle.store_schema.specs.Raising.{AnswersMigration, IsInside, IsNoRoom, RetainsOthers, UpgradesTables, Migrates}
+use Rattle.store_schema.specs.Raising.{AnswersMigration, IsInside, IsNoRoom, RetainsOthers}
+use Rattle.store_schema.specs.Raising.{UpgradesTables, Migrates}
 use Rattle.store_schema.specs.NewRoom.{meta_of}
 use Rattle.store_schema.specs.declared.fault.MigrateFault.{MigrateFault}
 use Rattle.store_schema.specs.declared.fault.MigrateFault.TheVariants.{Opening, Unsound}

@@ -1,5 +1,7 @@
 -- The steps of upgrading a room, one after the other.
-use Rattle.std.proofs.Common.{◌≡◌, ◌≤◌, ℕ, ℤ, pos, List, [], ◌∷◌, ◌++◌, map, filter, Option, Some, Result, Ok, IfOk, OnOk, IsErrAnd, IsTrue, refl, sym, ap, subst, subst₂, ◌∙◌, arith}
+use Rattle.std.proofs.Common.{◌≡◌, ◌≤◌, ℕ, ℤ, pos, List, [], ◌∷◌, ◌++◌, map, filter, Option, Some}
+use Rattle.std.proofs.Common.{Result, Ok, IfOk, OnOk, IsErrAnd, IsTrue, refl, sym, ap, subst}
+use Rattle.std.proofs.Common.{subst₂, ◌∙◌, arith}
 use Rattle.std.proofs.lemmas.List.{append_assoc}
 use Rattle.sqlite_trees.specs.View.{IsShaped, doubt}
 use Rattle.sqlite_trees.specs.declared.store.Shape.TheVariants as Shape
@@ -18,7 +20,9 @@ use Rattle.store_tables.proofs.Calls.{retains_same}
 use Rattle.store_tables.proofs.Printed.{keeps_on}
 use Rattle.store_schema.specs.NewRoom.{is_version, meta_of, number_shown}
 use Rattle.store_schema.specs.Opening.{Expects, ShowsVersion}
-use Rattle.store_schema.specs.Raising.{AnswersMigration, AreRaised, IsInside, IsNoRoom, IsRaised, RetainsOthers, UpgradesTables, SpreadIsRaised, Stamps, other_rows}
+use Rattle.store_schema.specs.Raising.{AnswersMigration, AreRaised, IsInside, IsNoRoom, IsRaised}
+use Rattle.store_schema.specs.Raising.{RetainsOthers, UpgradesTables, SpreadIsRaised, Stamps}
+use Rattle.store_schema.specs.Raising.{other_rows}
 use Rattle.store_tables.specs.Within.{IsWithin, within_on}
 use Rattle.store_schema.specs.declared.fault.MigrateFault.{MigrateFault}
 use Rattle.store_schema.specs.declared.fault.OpenFault.{OpenFault}

@@ -1,5 +1,6 @@
 -- The rows of `meta` but that of the schema's number, where that is written anew.
-use Rattle.std.proofs.Common.{◌≡◌, ℕ, ℤ, pos, List, [], ◌∷◌, map, filter, Bool, true, false, not, cond, IsTrue, Some, inl, inr, ◌⊎◌, refl, sym, ap, subst, ◌∙◌, codes}
+use Rattle.std.proofs.Common.{◌≡◌, ℕ, ℤ, pos, List, [], ◌∷◌, map, filter, Bool, true, false, not}
+use Rattle.std.proofs.Common.{cond, IsTrue, Some, inl, inr, ◌⊎◌, refl, sym, ap, subst, ◌∙◌, codes}
 use Rattle.std.specs.Ordering.{is_eq, match_ordering}
 use Rattle.std.specs.declared.cmp.Ordering.{Ordering}
 use Rattle.std.specs.declared.cmp.Ordering.TheVariants.{Less, Equal, Greater}

@@ -1,5 +1,7 @@
 -- What writing the schema's number anew leaves.
-use Rattle.std.proofs.Common.{◌≡◌, ◌≢◌, ◌≤◌, ℕ, ℤ, pos, suc, List, [], ◌∷◌, length, map, filter, inl, inr, Result, Some, Ok, Err, None, IsTrue, OnOk, refl, sym, ap, subst, ◌∙◌, true, false, Bool, arith}
+use Rattle.std.proofs.Common.{◌≡◌, ◌≢◌, ◌≤◌, ℕ, ℤ, pos, suc, List, [], ◌∷◌, length, map, filter}
+use Rattle.std.proofs.Common.{inl, inr, Result, Some, Ok, Err, None, IsTrue, OnOk, refl, sym, ap}
+use Rattle.std.proofs.Common.{subst, ◌∙◌, true, false, Bool, arith}
 use Rattle.std.specs.Prelude.{◌==◌}
 use Rattle.std.specs.List.{AllByRecursion, filter_map}
 use Rattle.std.proofs.lemmas.Bool.{cases_Bool, eqb-true}
@@ -43,7 +45,8 @@ use Rattle.sqlite_rules.proofs.ListLemmas.{has_filtered}
 use Rattle.store_tables.proofs.Rowids.{of_each}
 use Rattle.store_schema.specs.NewRoom.{is_version}
 use Rattle.store_tables.specs.Within.{IsWithin}
-use Rattle.store_schema.proofs.Texts.{is_rooms, query_of, stamp_is, stamp_plain, stamp_terms, stamp_text}
+use Rattle.store_schema.proofs.Texts.{is_rooms, query_of, stamp_is, stamp_plain, stamp_terms}
+use Rattle.store_schema.proofs.Texts.{stamp_text}
 use Rattle.store_schema.proofs.Within.{within_inside}
 use Rattle.room_entry.proofs.Facts.Lists.{filter_same}
 use Rattle.store_tables.proofs.Writes.{went, same_value}

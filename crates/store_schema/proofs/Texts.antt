@@ -1,5 +1,6 @@
 -- The texts that make the tables, and what they are understood as.
-use Rattle.std.proofs.Common.{◌≡◌, ℕ, List, [], ◌∷◌, codes, Ok, Err, None, pos, negsuc, refl, false, true}
+use Rattle.std.proofs.Common.{◌≡◌, ℕ, List, [], ◌∷◌, codes, Ok, Err, None, pos, negsuc, refl, false}
+use Rattle.std.proofs.Common.{true}
 use Rattle.sqlite.specs.Command.{Command}
 use Rattle.sqlite.specs.Command.TheVariants.{CreateTable, Insert, Select, Update}
 use Rattle.sqlite.specs.Query.{Query, inner, end}
@@ -19,7 +20,9 @@ use Rattle.sqlite_resolve.specs.Compile.{first, returning}
 use Rattle.sqlite.specs.Schema.{Schema}
 use Rattle.sqlite.specs.Table.{Table}
 use Rattle.sqlite.proofs.Callers.{IsPlain, command_of, statement_of}
-use Rattle.store_tables.specs.Tables.{nodes, bodies, members, meta, audits, counters, no_schema, after_nodes, after_bodies, after_members, after_meta, after_audits, room_schema}
+use Rattle.store_tables.specs.Tables.{nodes, bodies, members, meta, audits, counters, no_schema}
+use Rattle.store_tables.specs.Tables.{after_nodes, after_bodies, after_members, after_meta}
+use Rattle.store_tables.specs.Tables.{after_audits, room_schema}
 use Rattle.store_tables.proofs.Bare.{LacksReturning}
 use Rattle.store_schema.specs.Opening.{number_text}
 

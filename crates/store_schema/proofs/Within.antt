@@ -1,5 +1,6 @@
 -- What a statement inside a transaction leaves.
-use Rattle.std.proofs.Common.{◌≡◌, ◌≤◌, ℕ, List, Result, Ok, Err, IsTrue, OnOk, inl, inr, refl, sym, subst, true, false, Bool}
+use Rattle.std.proofs.Common.{◌≡◌, ◌≤◌, ℕ, List, Result, Ok, Err, IsTrue, OnOk, inl, inr, refl, sym}
+use Rattle.std.proofs.Common.{subst, true, false, Bool}
 use Rattle.sqlite.specs.Order.{Row}
 use Rattle.sqlite_trees.specs.View.{doubt}
 use Rattle.sqlite.specs.Effect.{Database}

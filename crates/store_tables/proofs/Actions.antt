@@ -1,5 +1,7 @@
 -- What the deletion of an object sets off: no child may be left, and its bytes go.
-use Rattle.std.proofs.Common.{◌≡◌, ℕ, zero, suc, ℤ, List, [], ◌∷◌, length, map, filter, Result, Ok, Err, Some, IsTrue, inl, inr, ◌⊎◌, refl, sym, ap, subst, ◌∙◌, true, false, Bool}
+use Rattle.std.proofs.Common.{◌≡◌, ℕ, zero, suc, ℤ, List, [], ◌∷◌, length, map, filter, Result, Ok}
+use Rattle.std.proofs.Common.{Err, Some, IsTrue, inl, inr, ◌⊎◌, refl, sym, ap, subst, ◌∙◌, true}
+use Rattle.std.proofs.Common.{false, Bool}
 use Rattle.sqlite.specs.declared.types.Value.TheVariants.{Int}
 use Rattle.sqlite.specs.Order.{Row}
 use Rattle.sqlite.specs.Tree.{Trees, rowid, has_rowid, without_rowid}
@@ -12,7 +14,8 @@ use Rattle.sqlite_value.specs.Order.{value_cmp}
 use Rattle.std.specs.Ordering.{is_eq}
 use Rattle.std.proofs.Common.{codes}
 use Rattle.sqlite_rules.specs.declared.action.Deed.TheVariants.{Refuse, Delete}
-use Rattle.sqlite_rules.specs.Action.{Work, works, is_child_of, action_edit, AreChildren, Leads, ActsOn, Acts}
+use Rattle.sqlite_rules.specs.Action.{Work, works, is_child_of, action_edit, AreChildren, Leads}
+use Rattle.sqlite_rules.specs.Action.{ActsOn, Acts}
 use Rattle.std.specs.List.{list_any}
 use Rattle.sqlite_tied.specs.Compute.{everything}
 use Rattle.sqlite_sql.specs.Ops.{binary}
@@ -34,7 +37,9 @@ use Rattle.sqlite.specs.Term.{col}
 use Rattle.sqlite.proofs.Callers.{one_permutation}
 use Rattle.std.specs.List.Sorted.{IsPermutation}
 use Rattle.std.proofs.Common.{drop}
-use Rattle.store_tables.proofs.Rowids.{at_most_one, only_one, has_found, cells_of, alone_in, has_itself, same_int, rowid_is, none_taken, each_of, of_each, pop_one, pop_two}
+use Rattle.store_tables.proofs.Rowids.{at_most_one, only_one, has_found, cells_of, alone_in}
+use Rattle.store_tables.proofs.Rowids.{has_itself, same_int, rowid_is, none_taken, each_of, of_each}
+use Rattle.store_tables.proofs.Rowids.{pop_one, pop_two}
 use Rattle.sqlite_rules.specs.InPlace.{Rise}
 use Rattle.sqlite.specs.Edit.{without_all}
 use Rattle.std.specs.Cmp.{int_cmp_is}

@@ -1,5 +1,6 @@
 -- What the rows mean once an object is put in, and once its bytes are.
-use Rattle.std.proofs.Common.{◌≡◌, ◌<◌, ℕ, ℤ, pos, List, [], ◌∷◌, map, None, Some, refl, sym, ap, subst, ◌∙◌, true, false, Bool}
+use Rattle.std.proofs.Common.{◌≡◌, ◌<◌, ℕ, ℤ, pos, List, [], ◌∷◌, map, None, Some, refl, sym, ap}
+use Rattle.std.proofs.Common.{subst, ◌∙◌, true, false, Bool}
 use Rattle.std.specs.Prelude.{is_none, is_some, option_and_then, if◌then◌else◌}
 use Rattle.std.specs.List.{filter_map}
 use Rattle.sqlite.specs.declared.types.Value.TheVariants.{Int}
@@ -15,8 +16,10 @@ use Rattle.room_rows.specs.Rows.{Rows}
 use Rattle.store_tables.specs.declared.columns.Columns.{Columns}
 use Rattle.store_tables.specs.Columns.{ReadsAsNode, values_of}
 use Rattle.store_tables.specs.Filed.{body_rowid, node_at_row, node_keyed, unread_at_row}
-use Rattle.store_tables.specs.Meaning.{audit_in, bodies_of, body_in, node_in, nodes_of, number_in, pairs_of, rows_of, unread_in, unread_of}
-use Rattle.store_tables.specs.Shown.{AddsRow, Bodies, GetsBytes, IsRoom, shown_node, stored_body, stored_node}
+use Rattle.store_tables.specs.Meaning.{audit_in, bodies_of, body_in, node_in, nodes_of, number_in}
+use Rattle.store_tables.specs.Meaning.{pairs_of, rows_of, unread_in, unread_of}
+use Rattle.store_tables.specs.Shown.{AddsRow, Bodies, GetsBytes, IsRoom, shown_node, stored_body}
+use Rattle.store_tables.specs.Shown.{stored_node}
 use Rattle.store_tables.proofs.Chosen.{none_taken}
 use Rattle.store_tables.proofs.Filling.{body_put, number, stored_bytes}
 use Rattle.store_tables.proofs.Put.{put_seen, unseen}

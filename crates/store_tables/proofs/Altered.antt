@@ -1,5 +1,6 @@
 -- What the rows mean once some columns of an object's row are written.
-use Rattle.std.proofs.Common.{◌≡◌, ℕ, ℤ, pos, List, [], ◌∷◌, find, None, Some, Option, refl, sym, ap, subst, ◌∙◌}
+use Rattle.std.proofs.Common.{◌≡◌, ℕ, ℤ, pos, List, [], ◌∷◌, find, None, Some, Option, refl, sym}
+use Rattle.std.proofs.Common.{ap, subst, ◌∙◌}
 use Rattle.std.specs.Prelude.{option_and_then}
 use Rattle.std.proofs.lemmas.Option.{none-some}
 use Rattle.sqlite.specs.declared.types.Value.{Value}
@@ -22,8 +23,11 @@ use Rattle.room_rows.specs.Held.{with_held}
 use Rattle.room_rows.specs.Keep.{reading, with_inh, with_owners, with_place}
 use Rattle.room_rows.proofs.Frames.{node_at-number}
 use Rattle.store_tables.specs.Filed.{node_at_row}
-use Rattle.store_tables.specs.Meaning.{number_in, parent_in, kind_in, flags_in, text_in, name_of_text, name_in, entries_in, given, giving, held_in, owners_in, node_in, rows_of}
-use Rattle.store_tables.specs.Shown.{IsRoom, Recasts, holding, inheriting, lying, owning, shown_node, stored_node}
+use Rattle.store_tables.specs.Meaning.{number_in, parent_in, kind_in, flags_in, text_in}
+use Rattle.store_tables.specs.Meaning.{name_of_text, name_in, entries_in, given, giving, held_in}
+use Rattle.store_tables.specs.Meaning.{owners_in, node_in, rows_of}
+use Rattle.store_tables.specs.Shown.{IsRoom, Recasts, holding, inheriting, lying, owning}
+use Rattle.store_tables.specs.Shown.{shown_node, stored_node}
 use Rattle.store_tables.specs.Trust.{Alters}
 use Rattle.store_tables.proofs.Recast.{recast}
 use Rattle.store_tables.proofs.Replaced.{replaced_rows}

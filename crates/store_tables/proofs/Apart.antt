@@ -1,5 +1,6 @@
 -- No two children have one name: what UNIQUE says of rows that agree in its first column.
-use Rattle.std.proofs.Common.{◌≡◌, ℕ, ℤ, subst, List, [], ◌∷◌, filter, IsTrue, inl, inr, refl, sym, ap, ◌∙◌, true, false, Bool, cond, ◌&&◌, Less, is_eq}
+use Rattle.std.proofs.Common.{◌≡◌, ℕ, ℤ, subst, List, [], ◌∷◌, filter, IsTrue, inl, inr, refl, sym}
+use Rattle.std.proofs.Common.{ap, ◌∙◌, true, false, Bool, cond, ◌&&◌, Less, is_eq}
 use Rattle.std.specs.List.{AllByRecursion, list_any}
 use Rattle.std.proofs.lemmas.Bool.{and_parts, and_from, false≢true, not-true, or_parts}
 use Rattle.std.proofs.lemmas.Cmp.{alike_right}

@@ -1,9 +1,11 @@
 -- What a statement inside a transaction answers and leaves.
-use Rattle.std.proofs.Common.{◌≡◌, ℕ, ◌≤◌, List, Result, Ok, Err, IsTrue, ◌⊎◌, false, IfOk, IfErr, Vec, Global}
+use Rattle.std.proofs.Common.{◌≡◌, ℕ, ◌≤◌, List, Result, Ok, Err, IsTrue, ◌⊎◌, false, IfOk, IfErr}
+use Rattle.std.proofs.Common.{Vec, Global}
 use Rattle.sqlite.specs.Order.{Row}
 use Rattle.sqlite.specs.Tree.{Trees}
 use Rattle.sqlite.specs.declared.error.Error.{Error}
-use Rattle.sqlite.specs.State.{State, HasCleanDisk, Shown, FailsToQuery, IsTooLate, Executes, ExecutesInside}
+use Rattle.sqlite.specs.State.{State, HasCleanDisk, Shown, FailsToQuery, IsTooLate, Executes}
+use Rattle.sqlite.specs.State.{ExecutesInside}
 use Rattle.sqlite_trees.specs.View.{doubt}
 use Rattle.store_tables.specs.Shown.{IsRoom, Stays}
 use Rattle.store_tables.specs.Statements.{QueriesSql, ExecutesSql}

@@ -1,5 +1,6 @@
 -- A text without RETURNING writes nothing where it shows rows, whatever the tables are.
-use Rattle.std.proofs.Common.{◌≡◌, ℕ, List, Bool, true, false, Option, None, Ok, Err, IfOk, refl, ap, ◌∙◌, if◌then◌else◌}
+use Rattle.std.proofs.Common.{◌≡◌, ℕ, List, Bool, true, false, Option, None, Ok, Err, IfOk, refl}
+use Rattle.std.proofs.Common.{ap, ◌∙◌, if◌then◌else◌}
 use Rattle.sqlite.specs.Order.{Row}
 use Rattle.sqlite.specs.Listing.{understood, reads_listing, if_select, is_select, listing_schema}
 use Rattle.sqlite.specs.State.{State, IsUnchanged, Shown, ShowsRows}

@@ -1,5 +1,7 @@
 -- What reading the bytes of a number answers.
-use Rattle.std.proofs.Common.{◌≡◌, ◌<◌, ℕ, pos, List, [], ◌∷◌, map, filter, find, Some, inl, inr, ◌⊎◌, refl, sym, ap, subst, ◌∙◌, true, false, Bool, cond, option_map, IsPermutation}
+use Rattle.std.proofs.Common.{◌≡◌, ◌<◌, ℕ, pos, List, [], ◌∷◌, map, filter, find, Some, inl, inr}
+use Rattle.std.proofs.Common.{◌⊎◌, refl, sym, ap, subst, ◌∙◌, true, false, Bool, cond, option_map}
+use Rattle.std.proofs.Common.{IsPermutation}
 use Rattle.std.specs.Prelude.{◌==◌, option_and_then, if◌then◌else◌}
 use Rattle.sqlite.specs.declared.types.Value.{Value}
 use Rattle.sqlite.specs.declared.types.Value.TheVariants.{Null, Int, Real, Text, Blob}
@@ -17,7 +19,8 @@ use Rattle.store_tables.specs.Seeing.{result_of_seen, bytes_as, bytes_seen}
 use Rattle.store_tables.specs.Shown.{IsRoom}
 use Rattle.store_tables.specs.Statements.{HasBytes, shown_bytes}
 use Rattle.store_tables.proofs.Nodes.{Tells, none_passes}
-use Rattle.store_tables.proofs.Rowids.{alone_in, at_most_one, has_found, of_each, only_one, rowid_is}
+use Rattle.store_tables.proofs.Rowids.{alone_in, at_most_one, has_found, of_each, only_one}
+use Rattle.store_tables.proofs.Rowids.{rowid_is}
 
 abbrev Blobbed : Type 0
 Blobbed = ℕ × List ℕ

@@ -1,5 +1,7 @@
 -- What a read or a failure leaves of a connection.
-use Rattle.std.proofs.Common.{◌≡◌, ℕ, ◌≤◌, List, [], ◌++◌, Result, Ok, Err, None, Some, Option, inl, inr, ◌⊎◌, map, filter, refl, sym, ap, subst, ◌∙◌, false, IfOk, OnOk, Vec, Global}
+use Rattle.std.proofs.Common.{◌≡◌, ℕ, ◌≤◌, List, [], ◌++◌, Result, Ok, Err, None, Some, Option, inl}
+use Rattle.std.proofs.Common.{inr, ◌⊎◌, map, filter, refl, sym, ap, subst, ◌∙◌, false, IfOk, OnOk}
+use Rattle.std.proofs.Common.{Vec, Global}
 use Rattle.std.proofs.lemmas.List.{append-nil, append_assoc}
 use Rattle.std.specs.List.Sorted.{IsPermutation}
 use Rattle.sqlite.specs.declared.types.Value.TheVariants.{Null}
@@ -12,7 +14,8 @@ use Rattle.sqlite.specs.Term.{Term}
 use Rattle.sqlite_value.specs.declared.keys.Key.{Key}
 use Rattle.sqlite.specs.declared.error.Error.{Error}
 use Rattle.sqlite.specs.Listing.{understood, reads_listing}
-use Rattle.sqlite.specs.State.{State, HasCleanDisk, IsUnchanged, IsRolledBack, Shown, FailsToQuery, IsNotRun, FailsToShow}
+use Rattle.sqlite.specs.State.{State, HasCleanDisk, IsUnchanged, IsRolledBack, Shown, FailsToQuery}
+use Rattle.sqlite.specs.State.{IsNotRun, FailsToShow}
 use Rattle.sqlite_resolve.specs.declared.compiled.Compiled.{Compiled}
 use Rattle.sqlite_schema.specs.declared.command.Returning.{Returning}
 use Rattle.sqlite.proofs.Callers.{IsPlain, command_of, reads_as}

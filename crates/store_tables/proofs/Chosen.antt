@@ -1,5 +1,6 @@
 -- The number that a new row gets.
-use Rattle.std.proofs.Common.{◌≡◌, ℕ, pos, List, [], ◌∷◌, find, None, Some, refl, true, false, Bool, cond}
+use Rattle.std.proofs.Common.{◌≡◌, ℕ, pos, List, [], ◌∷◌, find, None, Some, refl, true, false, Bool}
+use Rattle.std.proofs.Common.{cond}
 use Rattle.std.specs.Prelude.{◌||◌}
 use Rattle.std.specs.List.{AllByRecursion}
 use Rattle.sqlite.specs.declared.types.Value.TheVariants.{Int}

@@ -1,5 +1,7 @@
 -- What bytes that are written by their number leave.
-use Rattle.std.proofs.Common.{◌≡◌, ℕ, ℤ, List, [], ◌∷◌, length, map, filter, Ok, None, IsTrue, inl, inr, ◌⊎◌, refl, sym, ap, subst, ◌∙◌, not, if◌then◌else◌, unwrap_or, arith, IsPermutation}
+use Rattle.std.proofs.Common.{◌≡◌, ℕ, ℤ, List, [], ◌∷◌, length, map, filter, Ok, None, IsTrue, inl}
+use Rattle.std.proofs.Common.{inr, ◌⊎◌, refl, sym, ap, subst, ◌∙◌, not, if◌then◌else◌, unwrap_or}
+use Rattle.std.proofs.Common.{arith, IsPermutation}
 use Rattle.sqlite.specs.declared.types.Value.TheVariants.{Null, Int, Blob}
 use Rattle.sqlite.specs.Order.{Row}
 use Rattle.sqlite.specs.Cast.{cast_row}
@@ -28,9 +30,11 @@ use Rattle.store_tables.proofs.Answers.{selected, shows}
 use Rattle.store_tables.proofs.Calls.{retains_by}
 use Rattle.store_tables.proofs.Printed.{keeps_same}
 use Rattle.store_tables.proofs.Executed.{WritesRoom}
-use Rattle.store_tables.proofs.Rowids.{alone_in, at_most_one, has_found, of_each, only_one, rowid_is}
+use Rattle.store_tables.proofs.Rowids.{alone_in, at_most_one, has_found, of_each, only_one}
+use Rattle.store_tables.proofs.Rowids.{rowid_is}
 use Rattle.store_tables.proofs.Tests.{passes_id}
-use Rattle.store_tables.proofs.Texts.{fill_is, fill_terms, fill_text, matches_parameter, plain_fill, query_of}
+use Rattle.store_tables.proofs.Texts.{fill_is, fill_terms, fill_text, matches_parameter, plain_fill}
+use Rattle.store_tables.proofs.Texts.{query_of}
 use Rattle.store_tables.proofs.Updates.{cast_int, cast_null}
 use Rattle.store_tables.proofs.Writes.{same_value, went}
 use Rattle.room_entry.proofs.Facts.Lists.{filter_same}

@@ -10,7 +10,8 @@ use Rattle.sqlite_trees.proofs.TreeLemmas.{IsShaped-filter}
 use Rattle.room_rows.specs.Content.{put_body, with_body}
 use Rattle.room_rows.specs.Keep.{reading}
 use Rattle.store_tables.specs.Filed.{bodies_rise, body_rowid}
-use Rattle.store_tables.specs.Meaning.{audit_in, bodies_of, body_in, body_row, nodes_of, pairs_of, rows_of, unread_of}
+use Rattle.store_tables.specs.Meaning.{audit_in, bodies_of, body_in, body_row, nodes_of, pairs_of}
+use Rattle.store_tables.specs.Meaning.{rows_of, unread_of}
 use Rattle.store_tables.specs.RoomRows.{number_in-low}
 use Rattle.store_tables.specs.Shown.{Fills, IsRoom, stored_body}
 use Rattle.store_tables.proofs.Put.{others, put_again, put_by, put_seen}

@@ -1,5 +1,7 @@
 -- The groups of a user are what the rows of that user, in order of group, are read as.
-use Rattle.std.proofs.Common.{◌≡◌, ℕ, List, [], ◌∷◌, map, filter, None, Some, Option, refl, sym, ap, ◌∙◌, true, false, Bool, cond, IsTrue, arith, Ordering, Less, Equal, Greater, is_gt, is_lt, is_eq, nat_cmp, true≢false}
+use Rattle.std.proofs.Common.{◌≡◌, ℕ, List, [], ◌∷◌, map, filter, None, Some, Option, refl, sym, ap}
+use Rattle.std.proofs.Common.{◌∙◌, true, false, Bool, cond, IsTrue, arith, Ordering, Less, Equal}
+use Rattle.std.proofs.Common.{Greater, is_gt, is_lt, is_eq, nat_cmp, true≢false}
 use Rattle.std.specs.Prelude.{option_map, option_and_then, if◌then◌else◌}
 use Rattle.std.specs.List.{AllByRecursion, filter_map, cons_option}
 use Rattle.std.specs.List.Sorted.{IsStrictlySortedBy}
@@ -15,14 +17,16 @@ use Rattle.sqlite.specs.Effect.{Database}
 use Rattle.sqlite.specs.Order.{Row, column, value_cmp}
 use Rattle.sqlite_keyed.specs.Lists.{insert_sorted, sort_by}
 use Rattle.sqlite_trees.specs.Tree.{IsAscending}
-use Rattle.sqlite_value.proofs.OrderLemmas.{value_cmp-Null, value_cmp-Text, value_cmp-apart, value_cmp_total}
+use Rattle.sqlite_value.proofs.OrderLemmas.{value_cmp-Null, value_cmp-Text, value_cmp-apart}
+use Rattle.sqlite_value.proofs.OrderLemmas.{value_cmp_total}
 use Rattle.room_entry.specs.Utf8.{is_utf8}
 use Rattle.room_entry.specs.Names.{is_name}
 use Rattle.room_entry.specs.Pieces.{same_text}
 use Rattle.room_rows.specs.Content.{put_pair, set_of}
 use Rattle.room_rows.specs.Keep.{AreGroupsOf}
 use Rattle.store_tables.specs.Meaning.{name_in, name_of_text, pair_in, rows_of}
-use Rattle.store_tables.specs.Paired.{Pair, all_filter, all_past, before, before_is, pair_cmp, put_first, total}
+use Rattle.store_tables.specs.Paired.{Pair, all_filter, all_past, before, before_is, pair_cmp}
+use Rattle.store_tables.specs.Paired.{put_first, total}
 use Rattle.store_tables.specs.RoomRows.{set_sorted}
 use Rattle.store_tables.specs.Seeing.{names_seen}
 use Rattle.store_tables.specs.Shown.{is_user_row}

@@ -1,5 +1,6 @@
 -- What a new row leaves.
-use Rattle.std.proofs.Common.{◌≡◌, ◌&&◌, ℕ, List, [], ◌∷◌, Ok, None, IsTrue, inl, refl, sym, ap, subst, ◌∙◌, true, false, Bool, not, if◌then◌else◌, unwrap_or, arith}
+use Rattle.std.proofs.Common.{◌≡◌, ◌&&◌, ℕ, List, [], ◌∷◌, Ok, None, IsTrue, inl, refl, sym, ap}
+use Rattle.std.proofs.Common.{subst, ◌∙◌, true, false, Bool, not, if◌then◌else◌, unwrap_or, arith}
 use Rattle.sqlite.specs.declared.types.Value.TheVariants.{Null}
 use Rattle.sqlite.specs.Order.{Row}
 use Rattle.sqlite.specs.Cast.{cast_row}

@@ -1,12 +1,15 @@
 -- What a call inside a `Transaction` leaves.
-use Rattle.std.proofs.Common.{◌≡◌, ℕ, ◌≤◌, List, Result, Ok, Err, IsTrue, inl, inr, ◌⊎◌, refl, sym, subst, true, false, Bool, IfOk, IfErr, Vec, Global}
+use Rattle.std.proofs.Common.{◌≡◌, ℕ, ◌≤◌, List, Result, Ok, Err, IsTrue, inl, inr, ◌⊎◌, refl, sym}
+use Rattle.std.proofs.Common.{subst, true, false, Bool, IfOk, IfErr, Vec, Global}
 use Rattle.sqlite.specs.Order.{Row}
 use Rattle.sqlite_trees.specs.View.{doubt}
 use Rattle.sqlite.specs.Effect.{Database}
 use Rattle.sqlite.specs.declared.error.Error.{Error}
-use Rattle.sqlite.specs.State.{State, HasCleanDisk, Shown, FailsToQuery, IsTooLate, Executes, ExecutesInside}
+use Rattle.sqlite.specs.State.{State, HasCleanDisk, Shown, FailsToQuery, IsTooLate, Executes}
+use Rattle.sqlite.specs.State.{ExecutesInside}
 use Rattle.store_tables.specs.Shown.{IsRoom, Retains, Stays}
-use Rattle.store_tables.proofs.Calls.{failed_query, left_stays, retains_on, stays_by, unchanged_stays}
+use Rattle.store_tables.proofs.Calls.{failed_query, left_stays, retains_on, stays_by}
+use Rattle.store_tables.proofs.Calls.{unchanged_stays}
 use Rattle.store_tables.proofs.Executed.{WritesRoom}
 use Rattle.store_tables.proofs.Bare.{IsReading, shown_same}
 use Rattle.store_tables.proofs.Within.{wrote_within}

@@ -1,5 +1,8 @@
 -- What reading the names of children answers, and reading one of them.
-use Rattle.std.proofs.Common.{◌≡◌, ℕ, zero, suc, pos, negsuc, List, [], ◌∷◌, ◌++◌, map, filter, take, length, None, Some, Option, IsTrue, inl, inr, refl, sym, ap, subst, ◌∙◌, true, not, append-nil, append_assoc, arith, is_lt, IsPermutation, false}
+use Rattle.std.proofs.Common.{◌≡◌, ℕ, zero, suc, pos, negsuc, List, [], ◌∷◌, ◌++◌, map, filter}
+use Rattle.std.proofs.Common.{take, length, None, Some, Option, IsTrue, inl, inr, refl, sym, ap}
+use Rattle.std.proofs.Common.{subst, ◌∙◌, true, not, append-nil, append_assoc, arith, is_lt}
+use Rattle.std.proofs.Common.{IsPermutation, false}
 use Rattle.std.specs.Prelude.{◌==◌, is_none, option_and_then, option_map, if◌then◌else◌}
 use Rattle.std.specs.List.{AllByRecursion, filter_map, cons_option}
 use Rattle.std.proofs.lemmas.Bool.{and_parts}
@@ -30,7 +33,8 @@ use Rattle.store_tables.proofs.Named.{no_map, unread_row}
 use Rattle.store_tables.proofs.Nodes.{Tells}
 use Rattle.store_tables.proofs.Rowids.{alone_in, each_of, of_each}
 use Rattle.store_tables.proofs.Tops.{children_read, kept_from}
-use Rattle.store_tables.proofs.Under.{IsSeen, by_name, seen_in_order, sorted_read, sorted_within, tells_by}
+use Rattle.store_tables.proofs.Under.{IsSeen, by_name, seen_in_order, sorted_read, sorted_within}
+use Rattle.store_tables.proofs.Under.{tells_by}
 use Rattle.room_rows.proofs.Lookups.{put_is_some}
 
 abbrev Named : Type 0

@@ -1,6 +1,9 @@
 -- What reading the rows of one parent and one name answers.
-use Rattle.std.proofs.Common.{◌≡◌, ◌<◌, ℕ, ℤ, pos, List, [], ◌∷◌, map, filter, find, None, Some, Option, Result, refl, sym, ap, subst, ◌∙◌, true, false, Bool, cond, not, ◌&&◌, arith}
-use Rattle.std.specs.Prelude.{option_and_then, option_map, is_none, is_some, if◌then◌else◌, ◌==◌, nat_lt}
+use Rattle.std.proofs.Common.{◌≡◌, ◌<◌, ℕ, ℤ, pos, List, [], ◌∷◌, map, filter, find, None, Some}
+use Rattle.std.proofs.Common.{Option, Result, refl, sym, ap, subst, ◌∙◌, true, false, Bool, cond}
+use Rattle.std.proofs.Common.{not, ◌&&◌, arith}
+use Rattle.std.specs.Prelude.{option_and_then, option_map, is_none, is_some, if◌then◌else◌, ◌==◌}
+use Rattle.std.specs.Prelude.{nat_lt}
 use Rattle.std.specs.List.{filter_map, cons_option}
 use Rattle.std.specs.List.Sorted.{IsPermutation}
 use Rattle.std.specs.Option.{option_map_or}

@@ -1,6 +1,9 @@
 -- What reading a row by its number answers.
-use Rattle.std.proofs.Common.{◌≡◌, ◌<◌, ℕ, pos, List, [], ◌∷◌, map, filter, find, None, Some, Option, Result, Ok, Err, inl, inr, ◌⊎◌, refl, sym, ap, subst, ◌∙◌, true, false, Bool, cond}
-use Rattle.std.specs.Prelude.{option_and_then, option_map, is_none, is_some, if◌then◌else◌, IfOk, IfErr}
+use Rattle.std.proofs.Common.{◌≡◌, ◌<◌, ℕ, pos, List, [], ◌∷◌, map, filter, find, None, Some}
+use Rattle.std.proofs.Common.{Option, Result, Ok, Err, inl, inr, ◌⊎◌, refl, sym, ap, subst, ◌∙◌}
+use Rattle.std.proofs.Common.{true, false, Bool, cond}
+use Rattle.std.specs.Prelude.{option_and_then, option_map, is_none, is_some, if◌then◌else◌, IfOk}
+use Rattle.std.specs.Prelude.{IfErr}
 use Rattle.std.specs.List.Sorted.{IsPermutation}
 use Rattle.sqlite.specs.declared.types.Value.TheVariants.{Int}
 use Rattle.sqlite.specs.Order.{Row}
@@ -17,7 +20,8 @@ use Rattle.store_tables.specs.Meaning.{number_in, node_in, unread_in, rows_of}
 use Rattle.store_tables.specs.Filed.{node_at_row, unread_at_row}
 use Rattle.store_tables.specs.RoomRows.{number_in-low}
 use Rattle.store_tables.specs.Seeing.{result_of_seen, seen_only, seen_as, counted_by}
-use Rattle.store_tables.proofs.Rowids.{alone_in, at_most_one, only_one, has_found, rowid_is, of_each}
+use Rattle.store_tables.proofs.Rowids.{alone_in, at_most_one, only_one, has_found, rowid_is}
+use Rattle.store_tables.proofs.Rowids.{of_each}
 
 -- an answer, or a row that is blamed
 abbrev pub Tells : {X : Type 0} → (Rows → ℕ → Type 0) → (Rows → X → Type 0) → Rows

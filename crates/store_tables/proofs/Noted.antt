@@ -1,5 +1,7 @@
 -- What a new record leaves.
-use Rattle.std.proofs.Common.{◌≡◌, ◌+ℤ◌, ◌<ℤ◌, ℕ, ℤ, pos, List, [], ◌∷◌, ◌++◌, fold, Ok, None, Some, Option, IsTrue, refl, sym, ap, subst, ◌∙◌, true, false, Bool, if◌then◌else◌, arith, Less}
+use Rattle.std.proofs.Common.{◌≡◌, ◌+ℤ◌, ◌<ℤ◌, ℕ, ℤ, pos, List, [], ◌∷◌, ◌++◌, fold, Ok, None, Some}
+use Rattle.std.proofs.Common.{Option, IsTrue, refl, sym, ap, subst, ◌∙◌, true, false, Bool}
+use Rattle.std.proofs.Common.{if◌then◌else◌, arith, Less}
 use Rattle.std.proofs.lemmas.Bool.Decides.{nat_tests}
 use Rattle.std.proofs.lemmas.Int.{ints}
 use Rattle.std.specs.Bool.{MatchBool}
@@ -14,7 +16,8 @@ use Rattle.sqlite.specs.Effect.{Database, IsDatabase}
 use Rattle.sqlite.specs.Listing.{understood}
 use Rattle.sqlite.specs.Order.{Row, value_cmp}
 use Rattle.sqlite.specs.Rowids.TheVariants.{Above}
-use Rattle.sqlite.specs.Rows.{Counts, CountsIn, Edited, Gives, Task, Written, count_of, counting, sequence}
+use Rattle.sqlite.specs.Rows.{Counts, CountsIn, Edited, Gives, Task, Written, count_of, counting}
+use Rattle.sqlite.specs.Rows.{sequence}
 use Rattle.sqlite.specs.Source.TheVariants.{Values}
 use Rattle.sqlite.specs.State.{State, mode_of, Executes, Shows}
 use Rattle.sqlite.specs.Term.{Term, col, lit}

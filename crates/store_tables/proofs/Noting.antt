@@ -1,5 +1,6 @@
 -- What the rows mean once a record is put in.
-use Rattle.std.proofs.Common.{◌≡◌, ℕ, ℤ, pos, List, [], ◌∷◌, ◌++◌, Some, refl, ap, ◌∙◌, Bool, true, false}
+use Rattle.std.proofs.Common.{◌≡◌, ℕ, ℤ, pos, List, [], ◌∷◌, ◌++◌, Some, refl, ap, ◌∙◌, Bool, true}
+use Rattle.std.proofs.Common.{false}
 use Rattle.std.specs.Prelude.{option_map, if◌then◌else◌}
 use Rattle.std.specs.List.{cons_option, filter_map}
 use Rattle.std.proofs.lemmas.List.Elements.{filter_map-append}
@@ -9,7 +10,8 @@ use Rattle.room_entry.specs.Names.{is_name}
 use Rattle.room_rows.specs.declared.node.AuditRow.{AuditRow}
 use Rattle.store_tables.specs.declared.columns.Record.{Record}
 use Rattle.store_tables.specs.Columns.{Recalls, record_values}
-use Rattle.store_tables.specs.Meaning.{audit_in, bodies_of, granted_in, name_in, nodes_of, pairs_of, unread_of, user_in}
+use Rattle.store_tables.specs.Meaning.{audit_in, bodies_of, granted_in, name_in, nodes_of, pairs_of}
+use Rattle.store_tables.specs.Meaning.{unread_of, user_in}
 use Rattle.store_tables.specs.Shown.{AddsRecordRow, stored_record}
 use Rattle.store_tables.specs.Trust.{HasNoted}
 use Rattle.store_tables.proofs.Removed.{same_rows}

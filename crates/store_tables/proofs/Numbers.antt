@@ -1,5 +1,6 @@
 -- All numbers in use are those of the rows, in their order.
-use Rattle.std.proofs.Common.{◌≡◌, ◌<◌, ℕ, pos, List, [], ◌∷◌, map, filter, None, Some, Option, refl, sym, ap, ◌∙◌, true, false, Bool, cond, not, arith, Less, is_lt}
+use Rattle.std.proofs.Common.{◌≡◌, ◌<◌, ℕ, pos, List, [], ◌∷◌, map, filter, None, Some, Option}
+use Rattle.std.proofs.Common.{refl, sym, ap, ◌∙◌, true, false, Bool, cond, not, arith, Less, is_lt}
 use Rattle.std.specs.Prelude.{is_none, if◌then◌else◌}
 use Rattle.std.specs.List.{AllByRecursion, filter_map, cons_option}
 use Rattle.std.proofs.lemmas.Bool.{cond-true, cond-false, lt-ltb, le-ltb}

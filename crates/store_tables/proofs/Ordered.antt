@@ -1,5 +1,6 @@
 -- The rows of a query over one table, in the order of one column or cut off after the first.
-use Rattle.std.proofs.Common.{◌≡◌, ℕ, List, [], ◌∷◌, map, filter, false, refl, ap, subst, ◌∙◌, Ordering, Less, is_gt, is_eq, IsPermutation}
+use Rattle.std.proofs.Common.{◌≡◌, ℕ, List, [], ◌∷◌, map, filter, false, refl, ap, subst, ◌∙◌}
+use Rattle.std.proofs.Common.{Ordering, Less, is_gt, is_eq, IsPermutation}
 use Rattle.std.specs.List.{AllByRecursion}
 use Rattle.std.proofs.lemmas.Bool.{cond-false}
 use Rattle.std.proofs.lemmas.List.Sorted.{IsPermutation-map}

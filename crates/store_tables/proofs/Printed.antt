@@ -1,5 +1,6 @@
 -- What a change of `nodes` leaves of the list columns: what they held, or printed entries.
-use Rattle.std.proofs.Common.{◌≡◌, ℕ, ℤ, ◌+◌, List, [], ◌∷◌, codes, drop, find, Bool, true, false, not, Some, inl, inr, ◌⊎◌, refl, sym, subst, ◌∙◌, if◌then◌else◌}
+use Rattle.std.proofs.Common.{◌≡◌, ℕ, ℤ, ◌+◌, List, [], ◌∷◌, codes, drop, find, Bool, true, false}
+use Rattle.std.proofs.Common.{not, Some, inl, inr, ◌⊎◌, refl, sym, subst, ◌∙◌, if◌then◌else◌}
 use Rattle.std.specs.Prelude.{◌==◌}
 use Rattle.std.proofs.lemmas.Bool.{and_parts}
 use Rattle.std.proofs.lemmas.Grind.{get_or_after_one}
@@ -23,7 +24,8 @@ use Rattle.std.specs.declared.cmp.Ordering.{Ordering}
 use Rattle.std.specs.declared.cmp.Ordering.TheVariants.{Less, Equal, Greater}
 use Rattle.room_entry.specs.declared.object.Which.{Which}
 use Rattle.room_entry.specs.declared.object.Which.TheVariants.{Dacl, Sacl}
-use Rattle.store_tables.specs.Printed.{ArePrinted, HeldBefore, HoldsPrinted, IsCanonical, KeepsPrinted, list_cells}
+use Rattle.store_tables.specs.Printed.{ArePrinted, HeldBefore, HoldsPrinted, IsCanonical}
+use Rattle.store_tables.specs.Printed.{KeepsPrinted, list_cells}
 use Rattle.store_tables.specs.Shown.{IsRoom, holding, inheriting, lying, owning, stored_node}
 use Rattle.store_tables.specs.Tables.{column_of, nodes, room_schema}
 use Rattle.store_tables.proofs.Rowids.{of_each, rowid_is}

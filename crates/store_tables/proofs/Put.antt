@@ -1,11 +1,13 @@
 -- Rows that are read as things with numbers: one is put in, or in the place of another.
-use Rattle.std.proofs.Common.{◌≡◌, ◌<◌, ◌≤◌, ℕ, pos, List, [], ◌∷◌, map, filter, None, Some, Option, refl, sym, ap, ◌∙◌, true, false, Bool, cond, not, inl, inr, arith}
+use Rattle.std.proofs.Common.{◌≡◌, ◌<◌, ◌≤◌, ℕ, pos, List, [], ◌∷◌, map, filter, None, Some, Option}
+use Rattle.std.proofs.Common.{refl, sym, ap, ◌∙◌, true, false, Bool, cond, not, inl, inr, arith}
 use Rattle.std.specs.Prelude.{if◌then◌else◌, ◌==◌, nat_lt}
 use Rattle.std.specs.List.{filter_map, cons_option, AllByRecursion}
 use Rattle.std.specs.Ordering.{is_eq, match_ordering, ordering_reverse}
 use Rattle.std.specs.declared.cmp.Ordering.{Ordering}
 use Rattle.std.specs.declared.cmp.Ordering.TheVariants.{Less, Equal, Greater}
-use Rattle.std.proofs.lemmas.Bool.{cases_order, false≢true, cond-true, cond-false, eq-eqb, ne_eqb, lt-ltb, le-ltb, ltb-true, and_parts}
+use Rattle.std.proofs.lemmas.Bool.{cases_order, false≢true, cond-true, cond-false, eq-eqb, ne_eqb}
+use Rattle.std.proofs.lemmas.Bool.{lt-ltb, le-ltb, ltb-true, and_parts}
 use Rattle.sqlite.specs.declared.types.Value.TheVariants.{Int}
 use Rattle.sqlite.specs.Order.{Row, value_cmp}
 use Rattle.sqlite.specs.Tree.{rowid, has_rowid, without_rowid, put_row, IsTable}

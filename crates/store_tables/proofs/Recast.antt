@@ -1,5 +1,7 @@
 -- What is left where some cells of a row are written by its number, and the others as they are.
-use Rattle.std.proofs.Common.{◌≡◌, ℕ, ℤ, List, [], ◌∷◌, length, map, filter, find, drop, Ok, None, Some, IsTrue, inl, inr, ◌⊎◌, refl, sym, ap, subst, ◌∙◌, not, if◌then◌else◌, unwrap_or, arith}
+use Rattle.std.proofs.Common.{◌≡◌, ℕ, ℤ, List, [], ◌∷◌, length, map, filter, find, drop, Ok, None}
+use Rattle.std.proofs.Common.{Some, IsTrue, inl, inr, ◌⊎◌, refl, sym, ap, subst, ◌∙◌, not}
+use Rattle.std.proofs.Common.{if◌then◌else◌, unwrap_or, arith}
 use Rattle.std.specs.List.Sorted.{IsPermutation}
 use Rattle.std.proofs.lemmas.Option.{same_Some}
 use Rattle.sqlite.specs.declared.types.Value.TheVariants.{Null, Int}
@@ -31,7 +33,8 @@ use Rattle.store_tables.specs.Printed.{KeepsPrinted}
 use Rattle.store_tables.proofs.Printed.{WritesPrinted, keeps_over, keeps_same}
 use Rattle.store_tables.proofs.Calls.{retains_by}
 use Rattle.store_tables.proofs.Executed.{WritesRoom}
-use Rattle.store_tables.proofs.Rowids.{at_most_one, only_one, has_found, cells_of, alone_in, rowid_is, of_each}
+use Rattle.store_tables.proofs.Rowids.{at_most_one, only_one, has_found, cells_of, alone_in}
+use Rattle.store_tables.proofs.Rowids.{rowid_is, of_each}
 use Rattle.store_tables.proofs.Actions.{ends, sets_off_none}
 use Rattle.store_tables.proofs.Updates.{cast_int, cast_null, keeps_number, update_edit}
 use Rattle.room_entry.proofs.Facts.Lists.{filter_same}

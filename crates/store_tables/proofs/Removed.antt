@@ -1,5 +1,6 @@
 -- What the rows mean once an object is taken out.
-use Rattle.std.proofs.Common.{◌≡◌, ℕ, pos, List, [], ◌∷◌, filter, find, None, Some, Option, refl, sym, ap, ◌∙◌, true, false, Bool, cond, not}
+use Rattle.std.proofs.Common.{◌≡◌, ℕ, pos, List, [], ◌∷◌, filter, find, None, Some, Option, refl}
+use Rattle.std.proofs.Common.{sym, ap, ◌∙◌, true, false, Bool, cond, not}
 use Rattle.std.specs.Prelude.{option_and_then, is_none, is_some, if◌then◌else◌, ◌==◌, ◌||◌}
 use Rattle.std.specs.List.{filter_map, cons_option}
 use Rattle.std.proofs.lemmas.Bool.{cond-true, cond-false}
@@ -14,9 +15,11 @@ use Rattle.room_rows.specs.Content.{node_at, without_node}
 use Rattle.room_rows.specs.Rows.{Rows, is_unreadable}
 use Rattle.room_rows.specs.Keep.{CanRemove, reading}
 use Rattle.store_tables.specs.Shown.{RemovesRow, IsRoom, shown_node}
-use Rattle.store_tables.specs.Meaning.{number_in, node_in, unread_in, body_in, audit_in, nodes_of, unread_of, bodies_of, pairs_of, rows_of}
+use Rattle.store_tables.specs.Meaning.{number_in, node_in, unread_in, body_in, audit_in, nodes_of}
+use Rattle.store_tables.specs.Meaning.{unread_of, bodies_of, pairs_of, rows_of}
 use Rattle.store_tables.specs.Keyed.{has_key}
-use Rattle.store_tables.specs.Filed.{node_keyed, unread_keyed, body_rowid, node_at_row, unread_at_row}
+use Rattle.store_tables.specs.Filed.{node_keyed, unread_keyed, body_rowid, node_at_row}
+use Rattle.store_tables.specs.Filed.{unread_at_row}
 
 -- ---- rows that stay, and what they are read as
 

@@ -1,5 +1,6 @@
 -- What the rows mean once the row of an object is written anew.
-use Rattle.std.proofs.Common.{◌≡◌, ℕ, pos, List, [], ◌∷◌, filter, None, Some, Option, refl, sym, ap, subst, ◌∙◌, not}
+use Rattle.std.proofs.Common.{◌≡◌, ℕ, pos, List, [], ◌∷◌, filter, None, Some, Option, refl, sym, ap}
+use Rattle.std.proofs.Common.{subst, ◌∙◌, not}
 use Rattle.std.specs.Prelude.{is_none, if◌then◌else◌, ◌==◌, nat_lt}
 use Rattle.std.specs.List.{filter_map, AllByRecursion}
 use Rattle.sqlite.specs.Order.{Row}
@@ -11,7 +12,8 @@ use Rattle.room_rows.specs.Keep.{reading}
 use Rattle.sqlite_trees.specs.declared.store.Shape.TheVariants as Shape
 use Rattle.sqlite_trees.proofs.TreeLemmas.{IsShaped-filter}
 use Rattle.store_tables.specs.Shown.{Replaces, IsRoom, shown_node, stored_node}
-use Rattle.store_tables.specs.Meaning.{number_in, node_in, unread_in, audit_in, nodes_of, unread_of, bodies_of, pairs_of, rows_of}
+use Rattle.store_tables.specs.Meaning.{number_in, node_in, unread_in, audit_in, nodes_of, unread_of}
+use Rattle.store_tables.specs.Meaning.{bodies_of, pairs_of, rows_of}
 use Rattle.store_tables.proofs.Put.{IsOther, others, put_again, put_by, put_seen, unseen}
 use Rattle.store_tables.specs.Filed.{node_keyed, unread_keyed, nodes_rise}
 use Rattle.store_tables.proofs.Removed.{read_without, none_missed, readable, same_rows}

@@ -1,5 +1,6 @@
 -- Rows by their rowids.
-use Rattle.std.proofs.Common.{◌≡◌, ℤ, List, [], ◌∷◌, ◌++◌, filter, Some, IsTrue, inl, inr, ◌⊎◌, refl, sym, ap, subst, ◌∙◌, true, false, Bool, cond, find, arith}
+use Rattle.std.proofs.Common.{◌≡◌, ℤ, List, [], ◌∷◌, ◌++◌, filter, Some, IsTrue, inl, inr, ◌⊎◌}
+use Rattle.std.proofs.Common.{refl, sym, ap, subst, ◌∙◌, true, false, Bool, cond, find, arith}
 use Rattle.std.specs.Ordering.{is_eq, is_lt}
 use Rattle.std.specs.List.{AllByRecursion}
 use Rattle.sqlite.specs.declared.types.Value.{Value}

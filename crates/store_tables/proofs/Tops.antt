@@ -1,5 +1,7 @@
 -- What reading the root, or one child, answers.
-use Rattle.std.proofs.Common.{◌≡◌, ℕ, pos, List, [], ◌∷◌, map, filter, take, None, Some, Option, inl, inr, refl, sym, ap, subst, ◌∙◌, true, false, Bool, cond, not, ◌&&◌, arith, is_eq, is_lt}
+use Rattle.std.proofs.Common.{◌≡◌, ℕ, pos, List, [], ◌∷◌, map, filter, take, None, Some, Option}
+use Rattle.std.proofs.Common.{inl, inr, refl, sym, ap, subst, ◌∙◌, true, false, Bool, cond, not}
+use Rattle.std.proofs.Common.{◌&&◌, arith, is_eq, is_lt}
 use Rattle.std.specs.Prelude.{is_none, option_map}
 use Rattle.std.specs.List.{filter_map}
 use Rattle.std.proofs.Math.Bool.{and-true}
@@ -18,7 +20,8 @@ use Rattle.store_tables.specs.Meaning.{node_in, number_in, parent_in, rows_of}
 use Rattle.store_tables.specs.Seeing.{seen_as, seen_only, top_of}
 use Rattle.store_tables.specs.Shown.{IsRoom, is_child, is_numbered, is_top, shown_node}
 use Rattle.store_tables.specs.Statements.{HasTop}
-use Rattle.store_tables.proofs.Named.{at_least_one, filter_read, first_read, mapped, none_read, parent_agrees, unread_row}
+use Rattle.store_tables.proofs.Named.{at_least_one, filter_read, first_read, mapped, none_read}
+use Rattle.store_tables.proofs.Named.{parent_agrees, unread_row}
 use Rattle.store_tables.proofs.Nodes.{Tells}
 use Rattle.store_tables.proofs.Rowids.{first_one, has_found}
 

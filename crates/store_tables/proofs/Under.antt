@@ -1,5 +1,8 @@
 -- What the rows of one parent, in order of name, are read as.
-use Rattle.std.proofs.Common.{◌≡◌, ℕ, pos, List, [], ◌∷◌, ◌++◌, map, filter, None, Some, Option, Result, Ok, Err, refl, sym, ap, subst, ◌∙◌, true, false, Bool, cond, append-nil, append_assoc, Ordering, Less, Equal, Greater, is_gt, is_lt, inl, inr, nat_cmp}
+use Rattle.std.proofs.Common.{◌≡◌, ℕ, pos, List, [], ◌∷◌, ◌++◌, map, filter, None, Some, Option}
+use Rattle.std.proofs.Common.{Result, Ok, Err, refl, sym, ap, subst, ◌∙◌, true, false, Bool, cond}
+use Rattle.std.proofs.Common.{append-nil, append_assoc, Ordering, Less, Equal, Greater, is_gt}
+use Rattle.std.proofs.Common.{is_lt, inl, inr, nat_cmp}
 use Rattle.std.specs.List.{AllByRecursion, filter_map, cons_option}
 use Rattle.std.specs.Ordering.{ordering_reverse}
 use Rattle.std.specs.Cmp.Lexicographic.{slice_cmp}

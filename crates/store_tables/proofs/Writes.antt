@@ -1,5 +1,6 @@
 -- What a write leaves, before its edit is followed.
-use Rattle.std.proofs.Common.{◌≡◌, ℕ, ℤ, List, [], ◌∷◌, length, map, filter, Result, Ok, Err, None, inl, inr, ◌⊎◌, ap, subst, ◌∙◌}
+use Rattle.std.proofs.Common.{◌≡◌, ℕ, ℤ, List, [], ◌∷◌, length, map, filter, Result, Ok, Err, None}
+use Rattle.std.proofs.Common.{inl, inr, ◌⊎◌, ap, subst, ◌∙◌}
 use Rattle.std.specs.List.Sorted.{IsPermutation}
 use Rattle.sqlite.specs.declared.types.Value.TheVariants.{Null, Int}
 use Rattle.std.proofs.Common.{unwrap_or, if◌then◌else◌}
@@ -21,7 +22,8 @@ use Rattle.sqlite.specs.Listing.{understood}
 use Rattle.sqlite.specs.State.{State, mode_of, Executes, Shows}
 use Rattle.sqlite.proofs.Callers.{runs_as, statement_of}
 use Rattle.store_tables.specs.Tables.{nodes, room_schema}
-use Rattle.store_tables.proofs.Texts.{delete_text, delete_is, plain_texts, query_of, matches_parameter}
+use Rattle.store_tables.proofs.Texts.{delete_text, delete_is, plain_texts, query_of}
+use Rattle.store_tables.proofs.Texts.{matches_parameter}
 use Rattle.store_tables.proofs.Answers.{shows, selected}
 use Rattle.store_tables.proofs.Tests.{passes_id}
 use Rattle.room_entry.proofs.Facts.Lists.{filter_same}

@@ -1,10 +1,12 @@
 -- Objects without children, and lists of objects without one of them.
-use Rattle.std.proofs.Common.{◌≡◌, ℕ, ◌==◌, Bool, true, false, cond, not, List, [], ◌∷◌, map, filter, Some, None, refl, sym, ap, ◌∙◌, inl, inr}
+use Rattle.std.proofs.Common.{◌≡◌, ℕ, ◌==◌, Bool, true, false, cond, not, List, [], ◌∷◌, map}
+use Rattle.std.proofs.Common.{filter, Some, None, refl, sym, ap, ◌∙◌, inl, inr}
 use Rattle.std.specs.List.{find, AllByRecursion}
 use Rattle.std.specs.Option.{option_map_or}
 use Rattle.std.proofs.lemmas.Bool.{cases_Bool, false≢true, true≢false, eqb-true}
 use Rattle.room_rows.specs.declared.node.Node.{Node}
-use Rattle.room_rows.specs.Content.{Content, body_at, children_of, has_parent, is_empty, sorted_by_name}
+use Rattle.room_rows.specs.Content.{Content, body_at, children_of, has_parent, is_empty}
+use Rattle.room_rows.specs.Content.{sorted_by_name}
 use Rattle.room_rows.specs.Finding.{find_id}
 use Rattle.room_rows.specs.Sound.{has_sound_lists}
 use Rattle.room_rows.proofs.Lookups.{put_is_some}

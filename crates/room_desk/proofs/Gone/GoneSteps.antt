@@ -1,11 +1,14 @@
 -- A request that removes an object is a step.
-use Rattle.std.proofs.Common.{◌≡◌, ℕ, ◌==◌, Bool, true, false, not, List, [], ◌∷◌, ◌++◌, map, length, take, Option, Some, None, refl, sym, ap, subst, ◌∙◌, inl, inr, arith}
+use Rattle.std.proofs.Common.{◌≡◌, ℕ, ◌==◌, Bool, true, false, not, List, [], ◌∷◌, ◌++◌, map}
+use Rattle.std.proofs.Common.{length, take, Option, Some, None, refl, sym, ap, subst, ◌∙◌, inl, inr}
+use Rattle.std.proofs.Common.{arith}
 use Rattle.std.proofs.Math.Seq.{take-length}
 use Rattle.std.proofs.lemmas.Bool.{eqb-true, false≢true}
 use Rattle.std.specs.Option.{option_map, option_map_or}
 use Rattle.std.proofs.lemmas.List.{map-append}
 use Rattle.room_rows.specs.declared.node.Node.{Node}
-use Rattle.room_rows.specs.Content.{Content, children_of, is_empty, node_at, root_of, with_records, without_node}
+use Rattle.room_rows.specs.Content.{Content, children_of, is_empty, node_at, root_of, with_records}
+use Rattle.room_rows.specs.Content.{without_node}
 use Rattle.room_rows.specs.Keep.{CanRemove, HasChildren, Removes, reading}
 use Rattle.room_rows.specs.Meaning.{kept_node, meaning}
 use Rattle.room_rows.specs.Rows.{Rows, AreRows}
@@ -37,7 +40,8 @@ use Rattle.room_desk.proofs.Gone.Childless.{childless}
 use Rattle.room_desk.proofs.Made.Pairs.{parent_along}
 use Rattle.room_desk.proofs.Made.ServedItems.{judged_refused}
 use Rattle.room_desk.proofs.Sound.Sites.{fill, sites_filled}
-use Rattle.room_desk.proofs.Sound.Filled.{fill_item, judged_filled, site_filled, target_there, way_filled}
+use Rattle.room_desk.proofs.Sound.Filled.{fill_item, judged_filled, site_filled, target_there}
+use Rattle.room_desk.proofs.Sound.Filled.{way_filled}
 use Rattle.room_desk.proofs.Steps.Stepping.{changed_step, refused_step}
 use Rattle.room_desk.proofs.Steps.Serving.{along_there}
 use Rattle.room_desk.proofs.Made.FolderPlans.{parent_filled}

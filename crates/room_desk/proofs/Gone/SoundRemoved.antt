@@ -1,5 +1,7 @@
 -- Rows stay sound where an object without children is removed, and what they mean changes likewise.
-use Rattle.std.proofs.Common.{◌≡◌, ℕ, zero, suc, ◌==◌, Bool, true, false, not, ◌&&◌, ◌||◌, List, [], map, filter, length, Option, Some, None, nat_lt, refl, sym, ap, ◌∙◌, inl, inr}
+use Rattle.std.proofs.Common.{◌≡◌, ℕ, zero, suc, ◌==◌, Bool, true, false, not, ◌&&◌, ◌||◌, List, []}
+use Rattle.std.proofs.Common.{map, filter, length, Option, Some, None, nat_lt, refl, sym, ap, ◌∙◌}
+use Rattle.std.proofs.Common.{inl, inr}
 use Rattle.std.specs.Prelude.{is_none, option_and_then}
 use Rattle.std.specs.List.{find, list_any, AllByRecursion}
 use Rattle.std.specs.Option.{option_map, option_map_or}
@@ -10,19 +12,25 @@ use Rattle.room_entry.specs.declared.object.Which.TheVariants.{Dacl, Sacl}
 use Rattle.room_rows.specs.declared.node.Node.{Node}
 use Rattle.room_rows.specs.Held.{held_of, is_linked}
 use Rattle.room_rows.specs.Paths.{is_object_name}
-use Rattle.room_rows.specs.Content.{Content, has_parent, is_folder, is_linked_in, is_root, has_folder_above, node_at, parent_of, reaches_root, without_node}
+use Rattle.room_rows.specs.Content.{Content, has_parent, is_folder, is_linked_in, is_root}
+use Rattle.room_rows.specs.Content.{has_folder_above, node_at, parent_of, reaches_root}
+use Rattle.room_rows.specs.Content.{without_node}
 use Rattle.room_rows.specs.Finding.{find_id}
 use Rattle.room_rows.specs.Keep.{reading}
 use Rattle.room_rows.specs.Meaning.{kept_held, kept_node, meaning}
 use Rattle.room_rows.specs.Rows.{Rows, put_numbers}
 use Rattle.room_rows.proofs.Frames.{Rises, node_at-without_node-other, has_its_parent}
-use Rattle.room_rows.proofs.Lookups.{each-kept, each-weaker, each_found, find-kept, find-kept_none, stands-each, stands-found}
+use Rattle.room_rows.proofs.Lookups.{each-kept, each-weaker, each_found, find-kept, find-kept_none}
+use Rattle.room_rows.proofs.Lookups.{stands-each, stands-found}
 use Rattle.room_rows.specs.Law.{agrees_with}
-use Rattle.room_rows.specs.Sound.{AreSound, bad_root, first_failing, fits_kind, has_sound_lists, has_sound_name, has_sound_body, keeps_law, reaches, same_place}
+use Rattle.room_rows.specs.Sound.{AreSound, bad_root, first_failing, fits_kind, has_sound_lists}
+use Rattle.room_rows.specs.Sound.{has_sound_name, has_sound_body, keeps_law, reaches, same_place}
 use Rattle.room_inherit.proofs.Enough.{enough_steps}
 use Rattle.room_entry.proofs.Facts.Members.{none_filter}
-use Rattle.room_desk.proofs.Gone.Childless.{bad_at, body_kept, by_objects, chosen_kept, each_both, map_kept, of_objects, still_pass}
-use Rattle.room_desk.proofs.Sound.SoundParts.{SoundParts, map_same, sound_parts, parts_sound, none_unreadable}
+use Rattle.room_desk.proofs.Gone.Childless.{bad_at, body_kept, by_objects, chosen_kept, each_both}
+use Rattle.room_desk.proofs.Gone.Childless.{map_kept, of_objects, still_pass}
+use Rattle.room_desk.proofs.Sound.SoundParts.{SoundParts, map_same, sound_parts, parts_sound}
+use Rattle.room_desk.proofs.Sound.SoundParts.{none_unreadable}
 
 -- ---- the content without the object
 

@@ -10,7 +10,8 @@ use Rattle.room_inherit.specs.Spread.{HasSpreadCause, Holds, IsCarried, IsOwnAnc
 use Rattle.room_inherit.specs.declared.outcome.Spread.{Spread}
 use Rattle.room_inherit.specs.declared.outcome.SpreadFault.{SpreadFault}
 use Rattle.room_inherit.specs.declared.outcome.SpreadFault.TheVariants.{Keeper, Loop}
-use Rattle.room_desk.specs.Carrying.{HasLoop, HasLoopFrom, IsCarriedDown, IsCarriedFrom, keeper_fault}
+use Rattle.room_desk.specs.Carrying.{HasLoop, HasLoopFrom, IsCarriedDown, IsCarriedFrom}
+use Rattle.room_desk.specs.Carrying.{keeper_fault}
 use Rattle.room_judge.specs.Judged.{IsDone}
 use Rattle.room_judge.proofs.Calls.{as_well}
 

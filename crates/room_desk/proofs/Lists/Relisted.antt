@@ -1,5 +1,6 @@
 -- Rows in which the objects have other lists of one attribute, and else are as they were.
-use Rattle.std.proofs.Common.{◌≡◌, ℕ, zero, suc, ◌&&◌, ◌||◌, Bool, true, false, cond, not, List, [], ◌∷◌, map, filter, length, Option, Some, None, refl, ap, ◌∙◌}
+use Rattle.std.proofs.Common.{◌≡◌, ℕ, zero, suc, ◌&&◌, ◌||◌, Bool, true, false, cond, not, List, []}
+use Rattle.std.proofs.Common.{◌∷◌, map, filter, length, Option, Some, None, refl, ap, ◌∙◌}
 use Rattle.std.specs.Prelude.{is_none, nat_lt}
 use Rattle.std.specs.List.{list_all, list_any}
 use Rattle.std.specs.Option.{option_map, option_map_or}
@@ -9,15 +10,18 @@ use Rattle.room_entry.specs.declared.object.Which.{Which}
 use Rattle.room_entry.specs.declared.object.Which.TheVariants.{Dacl, Sacl}
 use Rattle.room_rows.specs.HeldList.{Held}
 use Rattle.room_rows.specs.declared.node.Node.{Node}
-use Rattle.room_rows.specs.Content.{Content, node_at, parent_of, is_root, is_folder, has_folder_above, reaches_root, is_linked_in, with_each}
+use Rattle.room_rows.specs.Content.{Content, node_at, parent_of, is_root, is_folder}
+use Rattle.room_rows.specs.Content.{has_folder_above, reaches_root, is_linked_in, with_each}
 use Rattle.room_rows.specs.Held.{held_of, with_held, is_linked}
 use Rattle.room_rows.specs.Keep.{reading}
 use Rattle.room_rows.specs.Meaning.{kept_held, kept_node}
 use Rattle.room_rows.specs.Rows.{Rows, is_unreadable, numbers_of}
 use Rattle.room_rows.proofs.Frames.{node_at-number}
-use Rattle.room_rows.proofs.InPlace.{KeepsPlaces, keeps_places, place-with_held, node_at-with_each, parent_of-with_each, numbers_of-reading, numbers-with_each}
+use Rattle.room_rows.proofs.InPlace.{KeepsPlaces, keeps_places, place-with_held, node_at-with_each}
+use Rattle.room_rows.proofs.InPlace.{parent_of-with_each, numbers_of-reading, numbers-with_each}
 use Rattle.room_rows.specs.Law.{AllAgree, agrees, agrees_with}
-use Rattle.room_rows.specs.Sound.{AreSound, bad_root, has_bad_list, has_sound_body, has_sound_lists, has_sound_name, is_sound_held, keeps_law, reaches}
+use Rattle.room_rows.specs.Sound.{AreSound, bad_root, has_bad_list, has_sound_body, has_sound_lists}
+use Rattle.room_rows.specs.Sound.{has_sound_name, is_sound_held, keeps_law, reaches}
 use Rattle.room_inherit.proofs.NoFault.{no_fault, sound}
 use Rattle.room_entry.proofs.Facts.Lists.{all_implied}
 

@@ -1,5 +1,6 @@
 -- What a request that sets a list makes of what the rows mean.
-use Rattle.std.proofs.Common.{◌≡◌, ℕ, ◌&&◌, Bool, true, false, cond, not, List, [], ◌∷◌, Option, Some, None, refl, sym, ap, ◌∙◌}
+use Rattle.std.proofs.Common.{◌≡◌, ℕ, ◌&&◌, Bool, true, false, cond, not, List, [], ◌∷◌, Option}
+use Rattle.std.proofs.Common.{Some, None, refl, sym, ap, ◌∙◌}
 use Rattle.std.specs.Option.{option_map}
 use Rattle.room_ace.specs.Sent.{Sent, inherited_of, own_of}
 use Rattle.room_entry.specs.declared.object.Which.{Which}
@@ -7,7 +8,8 @@ use Rattle.room_entry.specs.declared.object.Which.TheVariants.{Dacl, Sacl}
 use Rattle.room_entry.specs.declared.parties.Caller.{Caller}
 use Rattle.room_rows.specs.HeldList.{Held}
 use Rattle.room_rows.specs.declared.node.Node.{Node}
-use Rattle.room_rows.specs.Content.{Content, has_parent, is_linked_in, parent_of, with_each, with_node}
+use Rattle.room_rows.specs.Content.{Content, has_parent, is_linked_in, parent_of, with_each}
+use Rattle.room_rows.specs.Content.{with_node}
 use Rattle.room_rows.specs.Held.{held_of, with_held}
 use Rattle.room_rows.specs.Meaning.{kept_held, kept_node, meaning}
 use Rattle.room_rows.specs.Rows.{Rows, AreRows}

@@ -1,15 +1,18 @@
 -- Rows in which one object has another list, and lists below it are renewed.
-use Rattle.std.proofs.Common.{◌≡◌, ℕ, ◌==◌, Bool, true, false, cond, List, length, Option, Some, None, refl, sym, ap, subst, ◌∙◌, inl, inr}
+use Rattle.std.proofs.Common.{◌≡◌, ℕ, ◌==◌, Bool, true, false, cond, List, length, Option, Some}
+use Rattle.std.proofs.Common.{None, refl, sym, ap, subst, ◌∙◌, inl, inr}
 use Rattle.std.specs.Prelude.{option_and_then}
 use Rattle.std.specs.Option.{option_map, option_map_or}
-use Rattle.std.proofs.lemmas.Bool.{and_parts, and_from, cases_Bool, cond-true, cond-false, eq-eqb, eqb-true}
+use Rattle.std.proofs.lemmas.Bool.{and_parts, and_from, cases_Bool, cond-true, cond-false, eq-eqb}
+use Rattle.std.proofs.lemmas.Bool.{eqb-true}
 use Rattle.std.proofs.lemmas.Option.{same_Some}
 use Rattle.room_entry.specs.Ace.{Ace}
 use Rattle.room_entry.specs.declared.object.Which.{Which}
 use Rattle.room_entry.specs.declared.object.Which.TheVariants.{Dacl, Sacl}
 use Rattle.room_rows.specs.HeldList.{Held}
 use Rattle.room_rows.specs.declared.node.Node.{Node}
-use Rattle.room_rows.specs.Content.{Content, node_at, parent_of, has_parent, is_linked_in, with_each, with_node}
+use Rattle.room_rows.specs.Content.{Content, node_at, parent_of, has_parent, is_linked_in}
+use Rattle.room_rows.specs.Content.{with_each, with_node}
 use Rattle.room_rows.specs.Finding.{find_id}
 use Rattle.room_rows.specs.Held.{held_of, with_held, is_linked}
 use Rattle.room_rows.specs.Keep.{with_inh}
@@ -22,9 +25,12 @@ use Rattle.room_rows.specs.Law.{AllAgree}
 use Rattle.room_rows.specs.Sound.{AreSound, is_sound_held, reaches}
 use Rattle.room_inherit.specs.Spread.{with_lists}
 use Rattle.room_inherit.proofs.NoFault.{no_fault}
-use Rattle.room_desk.proofs.Lists.Relisted.{relist, relisted, found_relisted, held_relisted, kind_kept, number_kept, linked_relisted, folders_kept, reach_kept, one_list, relisted_sound}
+use Rattle.room_desk.proofs.Lists.Relisted.{relist, relisted, found_relisted, held_relisted}
+use Rattle.room_desk.proofs.Lists.Relisted.{kind_kept, number_kept, linked_relisted, folders_kept}
+use Rattle.room_desk.proofs.Lists.Relisted.{reach_kept, one_list, relisted_sound}
 use Rattle.room_desk.proofs.Sound.SoundParts.{map_same}
-use Rattle.room_desk.proofs.Lists.ValidDown.{are_inherited, are_own, all_found, held_parts, valid_down}
+use Rattle.room_desk.proofs.Lists.ValidDown.{are_inherited, are_own, all_found, held_parts}
+use Rattle.room_desk.proofs.Lists.ValidDown.{valid_down}
 use Rattle.room_desk.proofs.Made.SoundAdded.{lists_here}
 
 -- two functions that agree on the objects of a content change it alike

@@ -1,6 +1,7 @@
 -- What rows mean once a list is set and carried down is what setting that list makes of what they
 -- meant.
-use Rattle.std.proofs.Common.{◌≡◌, ◌==◌, ◌&&◌, Bool, true, false, cond, not, List, [], ◌++◌, Option, Some, None, refl, sym, ap, ◌∙◌, inl, inr}
+use Rattle.std.proofs.Common.{◌≡◌, ◌==◌, ◌&&◌, Bool, true, false, cond, not, List, [], ◌++◌, Option}
+use Rattle.std.proofs.Common.{Some, None, refl, sym, ap, ◌∙◌, inl, inr}
 use Rattle.std.specs.Prelude.{option_and_then}
 use Rattle.std.specs.Option.{option_map, option_map_or}
 use Rattle.std.proofs.lemmas.Bool.{cases_Bool, cond-true, cond-false}
@@ -11,18 +12,22 @@ use Rattle.room_entry.specs.declared.object.Which.{Which}
 use Rattle.room_entry.specs.declared.object.Which.TheVariants.{Dacl, Sacl}
 use Rattle.room_rows.specs.HeldList.{Held}
 use Rattle.room_rows.specs.declared.node.Node.{Node}
-use Rattle.room_rows.specs.Content.{Content, node_at, parent_of, has_parent, is_linked_in, with_each, with_node}
+use Rattle.room_rows.specs.Content.{Content, node_at, parent_of, has_parent, is_linked_in}
+use Rattle.room_rows.specs.Content.{with_each, with_node}
 use Rattle.room_rows.specs.Held.{held_of, full_of, with_held, is_linked}
 use Rattle.room_rows.specs.Meaning.{kept_held, kept_node, meaning}
 use Rattle.room_rows.proofs.Frames.{Rises, node_at-number, parent_is}
-use Rattle.room_rows.proofs.InPlace.{keeps_places, node_at-with_each, place-with_held, rises-with_each, with_each-with_each, with_node-replaces}
+use Rattle.room_rows.proofs.InPlace.{keeps_places, node_at-with_each, place-with_held}
+use Rattle.room_rows.proofs.InPlace.{rises-with_each, with_each-with_each, with_node-replaces}
 use Rattle.room_rows.proofs.SamePlace.{IsSamePlace, replaced}
 use Rattle.room_rows.specs.Pass.{pass}
 use Rattle.room_machine.specs.Effect.{kept_by_child, sent_held, set_list}
 use Rattle.room_desk.specs.Setting.{kept_site, stored_held}
 use Rattle.room_machine.specs.Site.{full_at}
 use Rattle.room_desk.proofs.Lists.Relisted.{relist, kept_relisted}
-use Rattle.room_desk.proofs.Lists.SetHeld.{base, base_here, base_elsewhere, each_same, ends, final, links, linked_finally, mid, other_links, own_held, same_object, unlinked_kept}
+use Rattle.room_desk.proofs.Lists.SetHeld.{base, base_here, base_elsewhere, each_same, ends, final}
+use Rattle.room_desk.proofs.Lists.SetHeld.{links, linked_finally, mid, other_links, own_held}
+use Rattle.room_desk.proofs.Lists.SetHeld.{same_object, unlinked_kept}
 
 -- ---- one list
 

@@ -1,5 +1,6 @@
 -- A request that sets a list is a step.
-use Rattle.std.proofs.Common.{◌≡◌, ℕ, true, false, List, [], ◌∷◌, ◌++◌, map, Option, Some, None, refl, sym, ap, subst, ◌∙◌}
+use Rattle.std.proofs.Common.{◌≡◌, ℕ, true, false, List, [], ◌∷◌, ◌++◌, map, Option, Some, None}
+use Rattle.std.proofs.Common.{refl, sym, ap, subst, ◌∙◌}
 use Rattle.std.specs.Prelude.{option_and_then}
 use Rattle.std.specs.Option.{option_map, option_map_or}
 use Rattle.room_entry.specs.Rights.{write_acl}
@@ -38,7 +39,8 @@ use Rattle.room_desk.specs.Carrying.{IsRooted, IsUnreadableIfHeld}
 use Rattle.room_desk.proofs.Sound.Blamed.{noted_unread}
 use Rattle.room_desk.proofs.Moves.MovingPlan.{along_noted}
 use Rattle.room_desk.proofs.Sound.RootedWays.{rooted_along}
-use Rattle.room_desk.specs.Setting.{Beneath, IsFoundUnder, IsSetOrRefused, IsSetWell, SetUnless, kept_site, reason_of}
+use Rattle.room_desk.specs.Setting.{Beneath, IsFoundUnder, IsSetOrRefused, IsSetWell, SetUnless}
+use Rattle.room_desk.specs.Setting.{kept_site, reason_of}
 use Rattle.room_machine.specs.Site.{Site, site_at}
 use Rattle.room_machine.specs.Stored.{stored_along, stored_plan, to_stored}
 use Rattle.room_judge.specs.Stored.{found_site}

@@ -1,5 +1,6 @@
 -- The operator's reset of a list is its step.
-use Rattle.std.proofs.Common.{◌≡◌, ◌||◌, ℕ, zero, suc, true, false, cond, List, [], ◌∷◌, ◌++◌, filter, length, map, Option, Some, None, refl, sym, ap, subst, ◌∙◌}
+use Rattle.std.proofs.Common.{◌≡◌, ◌||◌, ℕ, zero, suc, true, false, cond, List, [], ◌∷◌, ◌++◌}
+use Rattle.std.proofs.Common.{filter, length, map, Option, Some, None, refl, sym, ap, subst, ◌∙◌}
 use Rattle.std.specs.Prelude.{◌-◌, is_none, option_and_then, slice_get}
 use Rattle.std.specs.Option.{option_map_or}
 use Rattle.room_ace.specs.Sent.{Sent}
@@ -9,7 +10,8 @@ use Rattle.room_entry.specs.declared.object.Which.{Which}
 use Rattle.room_entry.specs.declared.parties.Caller.{Caller}
 use Rattle.room_rows.specs.declared.node.Node.{Node}
 use Rattle.room_rows.specs.declared.node.Walk.{Walk}
-use Rattle.room_rows.specs.Content.{Content, child_of, has_folder_above, is_folder, node_at, parent_of}
+use Rattle.room_rows.specs.Content.{Content, child_of, has_folder_above, is_folder, node_at}
+use Rattle.room_rows.specs.Content.{parent_of}
 use Rattle.room_rows.specs.Keep.{IsDamaged}
 use Rattle.room_rows.specs.Meaning.{meaning}
 use Rattle.room_rows.specs.Rows.{Rows, AreRows}
@@ -23,7 +25,8 @@ use Rattle.room_machine.specs.declared.request.Request.TheVariants.{SetList}
 use Rattle.room_machine.specs.Effect.{effect}
 use Rattle.room_machine.specs.Judge.{first_failure, or_else}
 use Rattle.room_judge.specs.Judged.{Resets}
-use Rattle.room_machine.specs.Plan.{Item, Check, Deletion, Refusal, bad_list, plan_of, way, where_found}
+use Rattle.room_machine.specs.Plan.{Item, Check, Deletion, Refusal, bad_list, plan_of, way}
+use Rattle.room_machine.specs.Plan.{where_found}
 use Rattle.room_desk.specs.Carrying.{IsRooted, IsUnreadableIfHeld}
 use Rattle.room_desk.proofs.Sound.Blamed.{unread_damaged}
 use Rattle.room_desk.proofs.Sound.RootedWays.{above_end, rooted_last, stands_last}

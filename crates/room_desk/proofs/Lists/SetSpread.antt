@@ -1,8 +1,11 @@
 -- What carrying a list down leaves, once the list of one object is set.
-use Rattle.std.proofs.Common.{◌≡◌, ℕ, zero, suc, ◌==◌, ◌&&◌, ◌||◌, Bool, true, false, cond, not, List, [], ◌∷◌, map, Option, Some, None, refl, sym, ap, subst, ◌∙◌, inl, inr}
+use Rattle.std.proofs.Common.{◌≡◌, ℕ, zero, suc, ◌==◌, ◌&&◌, ◌||◌, Bool, true, false, cond, not}
+use Rattle.std.proofs.Common.{List, [], ◌∷◌, map, Option, Some, None, refl, sym, ap, subst, ◌∙◌}
+use Rattle.std.proofs.Common.{inl, inr}
 use Rattle.std.specs.List.{AllByRecursion, list_all}
 use Rattle.std.specs.Option.{option_map, option_map_or}
-use Rattle.std.proofs.lemmas.Bool.{and_parts, and_from, cases_Bool, cond-true, false≢true, or_left, or_right}
+use Rattle.std.proofs.lemmas.Bool.{and_parts, and_from, cases_Bool, cond-true, false≢true, or_left}
+use Rattle.std.proofs.lemmas.Bool.{or_right}
 use Rattle.room_entry.specs.Ace.{Ace}
 use Rattle.room_entry.specs.Same.{same_entries}
 use Rattle.room_ace.specs.Sent.{Sent, inherited_of}
@@ -11,7 +14,8 @@ use Rattle.room_entry.specs.declared.object.Which.{Which}
 use Rattle.room_entry.proofs.Same.{entries_equal}
 use Rattle.room_rows.specs.HeldList.{Held}
 use Rattle.room_rows.specs.declared.node.Node.{Node}
-use Rattle.room_rows.specs.Content.{Content, node_at, parent_of, has_parent, is_linked_in, reaches_root}
+use Rattle.room_rows.specs.Content.{Content, node_at, parent_of, has_parent, is_linked_in}
+use Rattle.room_rows.specs.Content.{reaches_root}
 use Rattle.room_rows.specs.Finding.{find_id}
 use Rattle.room_rows.specs.Held.{held_of, full_of, is_linked}
 use Rattle.room_rows.proofs.Frames.{Rises}
@@ -21,8 +25,10 @@ use Rattle.room_rows.specs.Pass.{pass}
 use Rattle.room_inherit.specs.Spread.{IsLinkedBelow, is_changed, is_linked_within, is_within}
 use Rattle.room_inherit.proofs.Rooted.{rooted_no_loop}
 use Rattle.room_desk.specs.Setting.{stored_held}
-use Rattle.room_desk.proofs.Lists.Relisted.{relist, relisted, held_relisted, kind_kept, parent_kept, parent_relisted}
-use Rattle.room_desk.proofs.Lists.SetHeld.{base, base_here, base_elsewhere, mid, mid_is, other_parent, same_object}
+use Rattle.room_desk.proofs.Lists.Relisted.{relist, relisted, held_relisted, kind_kept, parent_kept}
+use Rattle.room_desk.proofs.Lists.Relisted.{parent_relisted}
+use Rattle.room_desk.proofs.Lists.SetHeld.{base, base_here, base_elsewhere, mid, mid_is}
+use Rattle.room_desk.proofs.Lists.SetHeld.{other_parent, same_object}
 use Rattle.room_desk.proofs.Lists.ValidDown.{all_found}
 use Rattle.room_entry.proofs.Alike.{entries_themselves}
 

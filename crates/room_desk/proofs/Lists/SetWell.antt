@@ -1,5 +1,7 @@
 -- Where a list is set and carried down, what the rows mean changes likewise, and they stay sound.
-use Rattle.std.proofs.Common.{◌≡◌, ℕ, ◌+◌, ◌==◌, ◌&&◌, Bool, true, false, cond, not, List, [], ◌∷◌, filter, length, Option, Some, None, refl, sym, ap, subst, ◌∙◌, inl, inr}
+use Rattle.std.proofs.Common.{◌≡◌, ℕ, ◌+◌, ◌==◌, ◌&&◌, Bool, true, false, cond, not, List, [], ◌∷◌}
+use Rattle.std.proofs.Common.{filter, length, Option, Some, None, refl, sym, ap, subst, ◌∙◌, inl}
+use Rattle.std.proofs.Common.{inr}
 use Rattle.std.specs.Prelude.{is_none, nat_le, nat_lt}
 use Rattle.std.specs.List.{list_all}
 use Rattle.std.specs.Option.{option_map, option_map_or}
@@ -15,7 +17,8 @@ use Rattle.room_entry.specs.declared.object.ObjKind.{ObjKind}
 use Rattle.room_entry.specs.declared.object.Which.{Which}
 use Rattle.room_rows.specs.HeldList.{Held}
 use Rattle.room_rows.specs.declared.node.Node.{Node}
-use Rattle.room_rows.specs.Content.{Content, node_at, parent_of, has_parent, is_linked_in, with_each}
+use Rattle.room_rows.specs.Content.{Content, node_at, parent_of, has_parent, is_linked_in}
+use Rattle.room_rows.specs.Content.{with_each}
 use Rattle.room_rows.specs.Held.{held_of, full_of, is_linked}
 use Rattle.room_rows.specs.Keep.{reading}
 use Rattle.room_rows.specs.Rows.{Rows, AreRows}
@@ -26,12 +29,15 @@ use Rattle.room_rows.specs.Sound.{AreSound, keeps_law, reaches}
 use Rattle.room_inherit.specs.Spread.{IsSpread, with_lists}
 use Rattle.room_inherit.proofs.Kinship.{with_own}
 use Rattle.room_inherit.proofs.NoFault.{no_fault}
-use Rattle.room_desk.specs.Setting.{IsNewInh, IsSet, IsSetWell, Stores, fault_in, reason_of, held_with, stored_held}
+use Rattle.room_desk.specs.Setting.{IsNewInh, IsSet, IsSetWell, Stores, fault_in, reason_of}
+use Rattle.room_desk.specs.Setting.{held_with, stored_held}
 use Rattle.room_desk.specs.Carrying.{GoesDown}
 use Rattle.room_desk.proofs.Lists.Relisted.{held_relisted, one_agrees, relist}
-use Rattle.room_desk.proofs.Lists.SetHeld.{base, base_here, each_same, ends, ends_is, final, links, mid, other_links, own_held, same_object, set_sound}
+use Rattle.room_desk.proofs.Lists.SetHeld.{base, base_here, each_same, ends, ends_is, final, links}
+use Rattle.room_desk.proofs.Lists.SetHeld.{mid, other_links, own_held, same_object, set_sound}
 use Rattle.room_desk.proofs.Lists.SetMeaning.{set_means}
-use Rattle.room_desk.proofs.Lists.SetSpread.{agree_all, agree_but, not_own_parent, unlinked_unchanged}
+use Rattle.room_desk.proofs.Lists.SetSpread.{agree_all, agree_but, not_own_parent}
+use Rattle.room_desk.proofs.Lists.SetSpread.{unlinked_unchanged}
 use Rattle.room_desk.proofs.Lists.ValidDown.{all_found, are_inherited, are_own, linked_above}
 use Rattle.room_entry.proofs.Facts.Lists.{all_implied}
 

@@ -1,5 +1,6 @@
 -- The calls that set a list.
-use Rattle.std.proofs.Common.{◌≡◌, ℕ, Bool, true, false, List, Option, Result, Ok, Err, IfOk, refl, sym, ap, subst, ◌∙◌}
+use Rattle.std.proofs.Common.{◌≡◌, ℕ, Bool, true, false, List, Option, Result, Ok, Err, IfOk, refl}
+use Rattle.std.proofs.Common.{sym, ap, subst, ◌∙◌}
 use Rattle.std.specs.Result.{IsErrAnd}
 use Rattle.room_entry.specs.Ace.{Ace}
 use Rattle.room_ace.specs.Sent.{Sent}
@@ -15,8 +16,10 @@ use Rattle.room_rows.specs.Rows.{Rows, AreRows}
 use Rattle.room_rows.proofs.InPlace.{place-with_held}
 use Rattle.room_rows.proofs.Lookups.{find-put_same}
 use Rattle.room_inherit.specs.Spread.{Holds}
-use Rattle.room_desk.specs.Carrying.{GoesDown, HasLoop, HasLoopFrom, IsCarriedDown, IsCarriedFrom, IsUnreadableIfHeld}
-use Rattle.room_desk.specs.Setting.{Beneath, IsNewInh, IsSet, IsWrittenDown, Stores, list_of, marked, passing, held_with, stored_inh}
+use Rattle.room_desk.specs.Carrying.{GoesDown, HasLoop, HasLoopFrom, IsCarriedDown, IsCarriedFrom}
+use Rattle.room_desk.specs.Carrying.{IsUnreadableIfHeld}
+use Rattle.room_desk.specs.Setting.{Beneath, IsNewInh, IsSet, IsWrittenDown, Stores, list_of}
+use Rattle.room_desk.specs.Setting.{marked, passing, held_with, stored_inh}
 use Rattle.room_desk.proofs.Sound.Anchored.{changed_unread}
 use Rattle.room_desk.proofs.Lists.SetWell.{well_stored}
 

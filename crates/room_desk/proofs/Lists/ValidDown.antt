@@ -1,5 +1,7 @@
 -- What is passed down from valid lists is valid, as far down as the law holds.
-use Rattle.std.proofs.Common.{◌≡◌, ℕ, zero, suc, ◌==◌, ◌&&◌, ◌||◌, Bool, true, false, cond, not, List, [], ◌∷◌, ◌++◌, length, Option, Some, None, refl, sym, ap, ◌∙◌, inl, inr}
+use Rattle.std.proofs.Common.{◌≡◌, ℕ, zero, suc, ◌==◌, ◌&&◌, ◌||◌, Bool, true, false, cond, not}
+use Rattle.std.proofs.Common.{List, [], ◌∷◌, ◌++◌, length, Option, Some, None, refl, sym, ap, ◌∙◌}
+use Rattle.std.proofs.Common.{inl, inr}
 use Rattle.std.specs.Prelude.{is_none, nat_le, option_and_then}
 use Rattle.std.specs.List.{list_all, cons_option}
 use Rattle.std.specs.Option.{option_map, option_map_or}
@@ -13,7 +15,8 @@ use Rattle.room_entry.specs.declared.object.Which.{Which}
 use Rattle.room_entry.proofs.Same.{entries_equal}
 use Rattle.room_rows.specs.HeldList.{Held}
 use Rattle.room_rows.specs.declared.node.Node.{Node}
-use Rattle.room_rows.specs.Content.{Content, node_at, parent_of, is_folder, has_folder_above, reaches_root, is_linked_in}
+use Rattle.room_rows.specs.Content.{Content, node_at, parent_of, is_folder, has_folder_above}
+use Rattle.room_rows.specs.Content.{reaches_root, is_linked_in}
 use Rattle.room_rows.specs.Held.{held_of, full_of, is_linked}
 use Rattle.room_rows.proofs.Frames.{node_at-number}
 use Rattle.room_rows.specs.Law.{AllAgree, agrees, agrees_with}

@@ -1,5 +1,7 @@
 -- Rows to which an object is added whose number wasn't in use.
-use Rattle.std.proofs.Common.{◌≡◌, ℕ, zero, suc, ◌+◌, ◌==◌, Bool, true, false, cond, ◌||◌, List, [], ◌∷◌, ◌++◌, filter, length, Option, Some, None, nat_lt, refl, sym, ap, subst, ◌∙◌, arith, length-append}
+use Rattle.std.proofs.Common.{◌≡◌, ℕ, zero, suc, ◌+◌, ◌==◌, Bool, true, false, cond, ◌||◌, List, []}
+use Rattle.std.proofs.Common.{◌∷◌, ◌++◌, filter, length, Option, Some, None, nat_lt, refl, sym, ap}
+use Rattle.std.proofs.Common.{subst, ◌∙◌, arith, length-append}
 use Rattle.std.specs.Prelude.{is_none, option_and_then}
 use Rattle.std.specs.List.{list_all, AllByRecursion as Each}
 use Rattle.std.specs.Option.{option_map_or}
@@ -7,7 +9,8 @@ use Rattle.std.proofs.lemmas.Bool.{false≢true}
 use Rattle.std.proofs.lemmas.List.Elements.{filter-append}
 use Rattle.std.proofs.lemmas.Option.{none-some}
 use Rattle.room_rows.specs.declared.node.Node.{Node}
-use Rattle.room_rows.specs.Content.{Content, node_at, parent_of, put_node, has_folder_above, is_folder, reaches_root}
+use Rattle.room_rows.specs.Content.{Content, node_at, parent_of, put_node, has_folder_above}
+use Rattle.room_rows.specs.Content.{is_folder, reaches_root}
 use Rattle.room_rows.specs.Finding.{find_id}
 use Rattle.room_rows.specs.Rows.{Rows, AreRows}
 use Rattle.room_rows.proofs.Lookups.{find-put_same, find-put_other}

@@ -1,5 +1,6 @@
 -- A request that makes a folder is a step.
-use Rattle.std.proofs.Common.{◌≡◌, ℕ, ◌<◌, Bool, true, cond, List, [], ◌∷◌, length, take, Option, Some, None, refl, sym, ap, subst, ◌∙◌}
+use Rattle.std.proofs.Common.{◌≡◌, ℕ, ◌<◌, Bool, true, cond, List, [], ◌∷◌, length, take, Option}
+use Rattle.std.proofs.Common.{Some, None, refl, sym, ap, subst, ◌∙◌}
 use Rattle.std.specs.Prelude.{is_none, is_some}
 use Rattle.std.specs.Option.{option_map}
 use Rattle.std.proofs.lemmas.Bool.{false≢true}
@@ -31,7 +32,8 @@ use Rattle.room_judge.proofs.Judging.{fails_first, passes_first, refuses}
 use Rattle.room_desk.proofs.Steps.Serving.{none_both}
 use Rattle.room_desk.proofs.Sound.SoundParts.{sound_parts}
 use Rattle.room_desk.proofs.Made.FolderFound.{IsFoundFolder, found_folder}
-use Rattle.room_desk.proofs.Made.FolderPlans.{folder_at, folder_judged, folder_plan, making, planned_parent}
+use Rattle.room_desk.proofs.Made.FolderPlans.{folder_at, folder_judged, folder_plan, making}
+use Rattle.room_desk.proofs.Made.FolderPlans.{planned_parent}
 use Rattle.room_desk.proofs.Made.NewStep.{made_audits, made_new}
 use Rattle.room_desk.proofs.Made.PutMade.{is_none_none}
 use Rattle.room_desk.proofs.Made.ServedItems.{judged_refused}

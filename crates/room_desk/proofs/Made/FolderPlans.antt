@@ -1,6 +1,7 @@
 -- Plans that ask for the folder of a path's last name, over stored sites and over sites computed
 -- from the root.
-use Rattle.std.proofs.Common.{◌≡◌, ℕ, ◌<◌, Bool, true, List, [], ◌∷◌, ◌++◌, map, length, Option, Some, None, refl, sym, ap, subst, ◌∙◌, arith}
+use Rattle.std.proofs.Common.{◌≡◌, ℕ, ◌<◌, Bool, true, List, [], ◌∷◌, ◌++◌, map, length, Option}
+use Rattle.std.proofs.Common.{Some, None, refl, sym, ap, subst, ◌∙◌, arith}
 use Rattle.std.specs.Prelude.{is_some}
 use Rattle.std.specs.Option.{option_map}
 use Rattle.std.proofs.lemmas.List.{map-append}
@@ -13,7 +14,8 @@ use Rattle.room_machine.specs.declared.reply.Reply.{Reply}
 use Rattle.room_machine.specs.declared.reply.Reason.TheVariants.{Exists}
 use Rattle.room_machine.specs.declared.request.Request.TheVariants.{Put, MakeFolder}
 use Rattle.room_machine.specs.Site.{Site, sites_along, site_at, parent_at, front}
-use Rattle.room_machine.specs.Plan.{Along, Item, Check, Refusal, plan_by, plan_of, put_items, way, where_found}
+use Rattle.room_machine.specs.Plan.{Along, Item, Check, Refusal, plan_by, plan_of, put_items, way}
+use Rattle.room_machine.specs.Plan.{where_found}
 use Rattle.room_machine.specs.Stored.{stored_along}
 use Rattle.room_judge.specs.Judged.{IsJudged}
 use Rattle.room_desk.proofs.Sound.SoundParts.{SoundParts}

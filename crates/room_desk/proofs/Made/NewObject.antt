@@ -1,5 +1,6 @@
 -- What a new object stores is sound, and what the rows mean that it is added to.
-use Rattle.std.proofs.Common.{◌≡◌, ℕ, ◌==◌, Bool, true, false, cond, not, ◌&&◌, ◌||◌, List, [], ◌∷◌, map, length, Option, Some, None, nat_lt, refl, sym, ap, ◌∙◌}
+use Rattle.std.proofs.Common.{◌≡◌, ℕ, ◌==◌, Bool, true, false, cond, not, ◌&&◌, ◌||◌, List, [], ◌∷◌}
+use Rattle.std.proofs.Common.{map, length, Option, Some, None, nat_lt, refl, sym, ap, ◌∙◌}
 use Rattle.std.specs.Prelude.{nat_le}
 use Rattle.std.specs.List.{list_all}
 use Rattle.std.specs.Option.{option_map}
@@ -17,7 +18,8 @@ use Rattle.room_entry.proofs.Alike.{entries_themselves}
 use Rattle.room_rows.specs.HeldList.{Held}
 use Rattle.room_rows.specs.declared.node.Node.{Node}
 use Rattle.room_rows.specs.Held.{held_of, full_of, is_linked}
-use Rattle.room_rows.specs.Content.{Content, node_at, child_of, is_folder, put_node, put_body, body_at}
+use Rattle.room_rows.specs.Content.{Content, node_at, child_of, is_folder, put_node, put_body}
+use Rattle.room_rows.specs.Content.{body_at}
 use Rattle.room_rows.specs.Finding.{find_id}
 use Rattle.room_rows.specs.Keep.{node_of, reading}
 use Rattle.room_rows.specs.Meaning.{kept_held, kept_node, meaning}

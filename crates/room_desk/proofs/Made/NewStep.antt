@@ -1,5 +1,6 @@
 -- What becomes of the rows where an object is made.
-use Rattle.std.proofs.Common.{◌≡◌, ℕ, Bool, true, false, cond, List, length, Option, Some, None, refl, sym, ap, subst, ◌∙◌}
+use Rattle.std.proofs.Common.{◌≡◌, ℕ, Bool, true, false, cond, List, length, Option, Some, None}
+use Rattle.std.proofs.Common.{refl, sym, ap, subst, ◌∙◌}
 use Rattle.std.specs.Prelude.{is_none, nat_le}
 use Rattle.std.specs.Option.{option_map}
 use Rattle.room_entry.specs.Valid.{is_document}
@@ -9,7 +10,8 @@ use Rattle.room_entry.specs.declared.parties.Caller.{Caller}
 use Rattle.room_rows.specs.declared.node.AuditRow.{AuditRow}
 use Rattle.room_rows.specs.declared.node.NewNode.{NewNode}
 use Rattle.room_rows.specs.declared.node.Node.{Node}
-use Rattle.room_rows.specs.Content.{Content, node_at, child_of, is_folder, put_node, with_body, with_node, with_records}
+use Rattle.room_rows.specs.Content.{Content, node_at, child_of, is_folder, put_node, with_body}
+use Rattle.room_rows.specs.Content.{with_node, with_records}
 use Rattle.room_rows.specs.Keep.{CanAdd, IsAdded, node_of, reading, with_new}
 use Rattle.room_rows.specs.Meaning.{kept_node, meaning}
 use Rattle.room_rows.specs.Paths.{is_object_name}

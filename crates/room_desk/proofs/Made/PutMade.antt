@@ -1,5 +1,6 @@
 -- A request that puts a document is a step.
-use Rattle.std.proofs.Common.{◌≡◌, ℕ, Bool, true, false, cond, List, [], ◌∷◌, ◌++◌, length, take, Option, Some, None, nat_lt, refl, sym, ap, subst, ◌∙◌, inl, inr}
+use Rattle.std.proofs.Common.{◌≡◌, ℕ, Bool, true, false, cond, List, [], ◌∷◌, ◌++◌, length, take}
+use Rattle.std.proofs.Common.{Option, Some, None, nat_lt, refl, sym, ap, subst, ◌∙◌, inl, inr}
 use Rattle.std.specs.Prelude.{is_none, nat_le}
 use Rattle.std.proofs.lemmas.Bool.{false≢true, ltb-false, le-leb}
 use Rattle.std.proofs.Math.Seq.{take-length}
@@ -21,7 +22,8 @@ use Rattle.room_machine.specs.declared.reply.Reply.TheVariants.{Done, Made, Refu
 use Rattle.room_machine.specs.declared.reply.Reason.TheVariants.{TooLarge}
 use Rattle.room_machine.specs.declared.request.Request.TheVariants.{Put}
 use Rattle.room_machine.specs.Site.{Site, last_name, parent_at, site_at, sites_along}
-use Rattle.room_machine.specs.Plan.{Item, Check, no_folder, not_over, plan_of, put_items, way, where_found}
+use Rattle.room_machine.specs.Plan.{Item, Check, no_folder, not_over, plan_of, put_items, way}
+use Rattle.room_machine.specs.Plan.{where_found}
 use Rattle.room_machine.specs.Effect.{new_node, put_bytes}
 use Rattle.room_machine.specs.Judge.{failure, first_failure, records_of_plan}
 use Rattle.room_judge.specs.Closed.{IsClosed, IsServed}

@@ -1,16 +1,21 @@
 -- Rows stay sound where an object is added.
-use Rattle.std.proofs.Common.{◌≡◌, ℕ, suc, Bool, true, false, cond, not, ◌&&◌, ◌||◌, List, [], ◌∷◌, filter, length, Option, Some, None, nat_lt, refl, sym, ap, ◌∙◌, inl, inr, arith}
+use Rattle.std.proofs.Common.{◌≡◌, ℕ, suc, Bool, true, false, cond, not, ◌&&◌, ◌||◌, List, [], ◌∷◌}
+use Rattle.std.proofs.Common.{filter, length, Option, Some, None, nat_lt, refl, sym, ap, ◌∙◌, inl}
+use Rattle.std.proofs.Common.{inr, arith}
 use Rattle.std.specs.Prelude.{is_none}
 use Rattle.std.specs.List.{find, list_all, list_any, AllByRecursion as Each}
 use Rattle.std.specs.Option.{option_map_or}
-use Rattle.std.proofs.lemmas.Bool.{cases_Bool, false≢true, and_parts, and_from, or_right, eqb-true, le-ltb}
+use Rattle.std.proofs.lemmas.Bool.{cases_Bool, false≢true, and_parts, and_from, or_right, eqb-true}
+use Rattle.std.proofs.lemmas.Bool.{le-ltb}
 use Rattle.std.proofs.lemmas.List.Folds.{list_all-map}
 use Rattle.std.proofs.lemmas.Slice.Eq.{bytes_eq-Decides}
 use Rattle.std.proofs.Math.Bool.{not-not}
 use Rattle.room_entry.specs.Pieces.{is_among, same_text}
 use Rattle.room_entry.specs.declared.object.Which.TheVariants.{Dacl, Sacl}
 use Rattle.room_rows.specs.declared.node.Node.{Node}
-use Rattle.room_rows.specs.Content.{Content, node_at, child_of, parent_of, has_parent, has_folder_above, is_folder, is_root, same_parent, put_node, reaches_root, body_at}
+use Rattle.room_rows.specs.Content.{Content, node_at, child_of, parent_of, has_parent}
+use Rattle.room_rows.specs.Content.{has_folder_above, is_folder, is_root, same_parent, put_node}
+use Rattle.room_rows.specs.Content.{reaches_root, body_at}
 use Rattle.room_rows.specs.Finding.{find_id}
 use Rattle.room_rows.specs.Keep.{reading}
 use Rattle.room_rows.specs.Paths.{is_object_name}
@@ -18,13 +23,16 @@ use Rattle.room_rows.specs.Rows.{Rows, AreRows, put_numbers}
 use Rattle.room_rows.proofs.Frames.{has_its_parent}
 use Rattle.room_rows.specs.Law.{agrees_with}
 use Rattle.room_inherit.specs.Laws.{HasNoFault}
-use Rattle.room_rows.specs.Sound.{AreSound, bad_root, fits_kind, has_sound_body, has_sound_lists, has_sound_name, keeps_law, reaches, same_place}
+use Rattle.room_rows.specs.Sound.{AreSound, bad_root, fits_kind, has_sound_body, has_sound_lists}
+use Rattle.room_rows.specs.Sound.{has_sound_name, keeps_law, reaches, same_place}
 use Rattle.room_inherit.proofs.Children.{ids_of, each_found}
 use Rattle.room_inherit.proofs.Ends.{each_all}
 use Rattle.room_entry.proofs.Facts.Members.{each_fails, any_none}
 use Rattle.room_inherit.proofs.NoFault.{no_fault, sound}
 use Rattle.room_inherit.proofs.Whole.{none_unreadable}
-use Rattle.room_desk.proofs.Made.Added.{after, stays, comes, each_after, all_after, same_above, reaches_still, reaches_more, length_put, filter_put, each_put}
+use Rattle.room_desk.proofs.Made.Added.{after, stays, comes, each_after, all_after, same_above}
+use Rattle.room_desk.proofs.Made.Added.{reaches_still, reaches_more, length_put, filter_put}
+use Rattle.room_desk.proofs.Made.Added.{each_put}
 use Rattle.room_desk.proofs.Sound.SoundParts.{sound_parts}
 
 -- each object that is found passes a test that all pass

@@ -4,7 +4,8 @@ use Rattle.std.specs.Prelude.{option_and_then}
 use Rattle.std.specs.Option.{option_map, option_map_or}
 use Rattle.room_rows.specs.declared.node.Node.{Node}
 use Rattle.room_rows.specs.Content.{Content, child_of, node_at, parent_of, root_of}
-use Rattle.room_rows.proofs.Frames.{Rises, child_of-is_there, child_of-parent, root_of-is_there, root_of-parent}
+use Rattle.room_rows.proofs.Frames.{Rises, child_of-is_there, child_of-parent, root_of-is_there}
+use Rattle.room_rows.proofs.Frames.{root_of-parent}
 use Rattle.room_machine.specs.Site.{Site, front, parent_at, site_at}
 use Rattle.room_machine.specs.Stored.{stored_along, stored_from, stored_site}
 

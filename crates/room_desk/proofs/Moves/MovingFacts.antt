@@ -1,5 +1,6 @@
 -- What is known of a new folder once all that is judged there has passed.
-use Rattle.std.proofs.Common.{◌≡◌, ℕ, suc, ◌<◌, ◌==◌, Bool, true, false, cond, not, List, [], ◌∷◌, ◌++◌, length, Option, Some, None, refl, sym, ap, ◌∙◌}
+use Rattle.std.proofs.Common.{◌≡◌, ℕ, suc, ◌<◌, ◌==◌, Bool, true, false, cond, not, List, [], ◌∷◌}
+use Rattle.std.proofs.Common.{◌++◌, length, Option, Some, None, refl, sym, ap, ◌∙◌}
 use Rattle.std.specs.Prelude.{is_some}
 use Rattle.std.specs.List.{list_any}
 use Rattle.std.specs.Option.{option_map, option_map_or, option_and_then}
@@ -12,7 +13,8 @@ use Rattle.room_rows.specs.declared.node.AuditRow.{AuditRow}
 use Rattle.room_rows.specs.Content.{Content, child_of, is_folder, node_at, root_of}
 use Rattle.room_rows.specs.Paths.{is_object_name}
 use Rattle.room_rows.specs.Rows.{Rows, AreRows}
-use Rattle.room_rows.proofs.Frames.{Rises, child_of-is_there, child_of-parent, root_of-is_there, root_of-parent}
+use Rattle.room_rows.proofs.Frames.{Rises, child_of-is_there, child_of-parent, root_of-is_there}
+use Rattle.room_rows.proofs.Frames.{root_of-parent}
 use Rattle.room_rows.specs.Sound.{AreSound}
 use Rattle.room_machine.specs.declared.reply.Reply.{Reply}
 use Rattle.room_machine.specs.declared.reply.Reply.TheVariants.{Refused}

@@ -1,5 +1,6 @@
 -- The plan of a move, with the lists as rows store them.
-use Rattle.std.proofs.Common.{◌≡◌, ℕ, ◌==◌, Bool, true, false, List, [], ◌∷◌, ◌++◌, map, Option, Some, None, refl, sym, ap, subst, ◌∙◌}
+use Rattle.std.proofs.Common.{◌≡◌, ℕ, ◌==◌, Bool, true, false, List, [], ◌∷◌, ◌++◌, map, Option}
+use Rattle.std.proofs.Common.{Some, None, refl, sym, ap, subst, ◌∙◌}
 use Rattle.std.specs.Prelude.{is_some}
 use Rattle.std.specs.List.{list_any}
 use Rattle.std.specs.Option.{option_map, option_map_or}
@@ -16,8 +17,10 @@ use Rattle.room_machine.specs.declared.reply.Reply.{Reply}
 use Rattle.room_machine.specs.declared.reply.Reason.TheVariants.{Exists, Loop, Root}
 use Rattle.room_machine.specs.declared.request.Request.TheVariants.{Move}
 use Rattle.room_machine.specs.Site.{Site, site_at, sites_along, parent_at, front, last_name}
-use Rattle.room_machine.specs.Plan.{Item, Deletion, Refusal, plan_of, move_items, way, where_found, to_target}
-use Rattle.room_machine.specs.Stored.{stored_site, stored_from, stored_along, to_stored, stored_plan}
+use Rattle.room_machine.specs.Plan.{Item, Deletion, Refusal, plan_of, move_items, way, where_found}
+use Rattle.room_machine.specs.Plan.{to_target}
+use Rattle.room_machine.specs.Stored.{stored_site, stored_from, stored_along, to_stored}
+use Rattle.room_machine.specs.Stored.{stored_plan}
 use Rattle.room_judge.specs.Judged.{IsJudged, noted, through}
 use Rattle.room_desk.specs.Moving.{at_place, begins, leaving}
 use Rattle.room_desk.proofs.Sound.Filled.{fill_item, judged_filled, site_filled, way_filled}

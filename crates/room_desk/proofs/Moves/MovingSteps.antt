@@ -1,5 +1,6 @@
 -- A move is a step.
-use Rattle.std.proofs.Common.{◌≡◌, ℕ, ◌<◌, ◌==◌, Bool, true, false, List, [], ◌∷◌, ◌++◌, length, take, Option, Some, None, refl, sym, ap, subst, ◌∙◌, arith}
+use Rattle.std.proofs.Common.{◌≡◌, ℕ, ◌<◌, ◌==◌, Bool, true, false, List, [], ◌∷◌, ◌++◌, length}
+use Rattle.std.proofs.Common.{take, Option, Some, None, refl, sym, ap, subst, ◌∙◌, arith}
 use Rattle.std.specs.Option.{option_map_or}
 use Rattle.std.proofs.lemmas.Bool.{eqb-true}
 use Rattle.std.proofs.Math.Seq.{take-length}
@@ -32,9 +33,11 @@ use Rattle.room_judge.proofs.Closing.{closed_done, closed_failed}
 use Rattle.room_judge.specs.Judged.{CarriesOut, FromRoot, IsJudged, IsReached, noted}
 use Rattle.room_desk.specs.Moving.{CanGo, CanPlace, FailsToPlace, IsPlaced, at_place, begins}
 use Rattle.room_desk.proofs.Sound.Filled.{IsTarget, target_there}
-use Rattle.room_judge.proofs.Judging.{failure_of_parts, fails_first, passes_first, passes_on, refuses}
+use Rattle.room_judge.proofs.Judging.{failure_of_parts, fails_first, passes_first, passes_on}
+use Rattle.room_judge.proofs.Judging.{refuses}
 use Rattle.room_desk.proofs.Moves.MovingFacts.{IsFree, all_passed, goable, placeable}
-use Rattle.room_desk.proofs.Moves.MovingPlan.{along_noted, at_found, move_judged, move_stored, stored_items, stored_move, way_noted}
+use Rattle.room_desk.proofs.Moves.MovingPlan.{along_noted, at_found, move_judged, move_stored}
+use Rattle.room_desk.proofs.Moves.MovingPlan.{stored_items, stored_move, way_noted}
 use Rattle.room_desk.proofs.Sound.Blamed.{noted_unread}
 use Rattle.room_desk.proofs.Steps.Serving.{none_both}
 use Rattle.room_desk.proofs.Sound.Sites.{fill}

@@ -1,9 +1,12 @@
 -- An object stands at one path, so names alone say what a way meets.
-use Rattle.std.proofs.Common.{◌≡◌, ℕ, zero, suc, ◌+◌, ◌==◌, Bool, true, false, ◌&&◌, List, [], ◌∷◌, ◌++◌, ◌<◌, ◌≤◌, length, get_or, drop, Option, Some, None, refl, sym, ap, subst, ◌∙◌, inl, inr, append_assoc, arith}
+use Rattle.std.proofs.Common.{◌≡◌, ℕ, zero, suc, ◌+◌, ◌==◌, Bool, true, false, ◌&&◌, List, [], ◌∷◌}
+use Rattle.std.proofs.Common.{◌++◌, ◌<◌, ◌≤◌, length, get_or, drop, Option, Some, None, refl, sym}
+use Rattle.std.proofs.Common.{ap, subst, ◌∙◌, inl, inr, append_assoc, arith}
 use Rattle.std.specs.Prelude.{option_and_then}
 use Rattle.std.specs.List.{list_any}
 use Rattle.std.specs.Option.{option_map_or}
-use Rattle.std.proofs.lemmas.Bool.{and_from, and_parts, eq-eqb, eqb-true, false≢true, and_right, or_cases, or_left, or_right}
+use Rattle.std.proofs.lemmas.Bool.{and_from, and_parts, eq-eqb, eqb-true, false≢true, and_right}
+use Rattle.std.proofs.lemmas.Bool.{or_cases, or_left, or_right}
 use Rattle.std.proofs.lemmas.List.{append-nil, drop_more, get_or_read}
 use Rattle.std.proofs.Math.Seq.{drop-length}
 use Rattle.std.proofs.lemmas.Option.{same_Some}
@@ -12,7 +15,8 @@ use Rattle.room_entry.proofs.Alike.{text_itself}
 use Rattle.room_entry.proofs.Texts.{same_text-true}
 use Rattle.room_rows.specs.declared.node.Node.{Node}
 use Rattle.room_rows.specs.Content.{Content, child_of, node_at, root_of}
-use Rattle.room_rows.proofs.Frames.{Rises, child_of-is_there, child_of-name, child_of-parent, root_of-is_there, root_of-parent}
+use Rattle.room_rows.proofs.Frames.{Rises, child_of-is_there, child_of-name, child_of-parent}
+use Rattle.room_rows.proofs.Frames.{root_of-is_there, root_of-parent}
 use Rattle.room_rows.specs.Sound.{names_up}
 use Rattle.room_machine.specs.Site.{Site, site_at}
 use Rattle.room_machine.specs.Stored.{stored_site, stored_from, stored_along}

@@ -1,5 +1,6 @@
 -- A request that gives an object other owners is a step.
-use Rattle.std.proofs.Common.{◌≡◌, ℕ, ◌⊎◌, ◌&&◌, true, List, [], ◌∷◌, Some, None, refl, sym, ap, subst, ◌∙◌, inl, inr}
+use Rattle.std.proofs.Common.{◌≡◌, ℕ, ◌⊎◌, ◌&&◌, true, List, [], ◌∷◌, Some, None, refl, sym, ap}
+use Rattle.std.proofs.Common.{subst, ◌∙◌, inl, inr}
 use Rattle.std.proofs.lemmas.Bool.{and_from, and_parts}
 use Rattle.std.proofs.lemmas.Slice.Eq.{bytes_eq-Decides}
 use Rattle.std.specs.Option.{option_map}
@@ -12,7 +13,8 @@ use Rattle.room_rows.specs.Keep.{Changes, reading, with_owners}
 use Rattle.room_rows.specs.Meaning.{kept_node, meaning}
 use Rattle.room_rows.specs.Rows.{Rows, AreRows}
 use Rattle.room_rows.proofs.Frames.{Rises}
-use Rattle.room_rows.proofs.InPlace.{keeps_places, node_at-with_each, rises-with_each, with_node-there}
+use Rattle.room_rows.proofs.InPlace.{keeps_places, node_at-with_each, rises-with_each}
+use Rattle.room_rows.proofs.InPlace.{with_node-there}
 use Rattle.room_rows.specs.Sound.{AreSound}
 use Rattle.room_judge.specs.declared.arrival.Arrival.TheVariants.{At}
 use Rattle.room_judge.specs.declared.asker.Asker.{Asker}

@@ -1,5 +1,7 @@
 -- Rows stay sound where an object gets other owners, and what they mean changes likewise.
-use Rattle.std.proofs.Common.{◌≡◌, ℕ, zero, suc, ◌==◌, Bool, true, false, cond, not, ◌&&◌, ◌||◌, List, [], ◌∷◌, map, filter, length, Option, Some, None, nat_lt, refl, sym, ap, ◌∙◌, inl, inr}
+use Rattle.std.proofs.Common.{◌≡◌, ℕ, zero, suc, ◌==◌, Bool, true, false, cond, not, ◌&&◌, ◌||◌}
+use Rattle.std.proofs.Common.{List, [], ◌∷◌, map, filter, length, Option, Some, None, nat_lt, refl}
+use Rattle.std.proofs.Common.{sym, ap, ◌∙◌, inl, inr}
 use Rattle.std.specs.Prelude.{if◌then◌else◌}
 use Rattle.std.specs.List.{find}
 use Rattle.std.specs.Option.{option_map, option_map_or}
@@ -10,17 +12,22 @@ use Rattle.room_entry.specs.declared.parties.Owners.{Owners}
 use Rattle.room_rows.specs.declared.node.Node.{Node}
 use Rattle.room_rows.specs.Held.{held_of, is_linked}
 use Rattle.room_rows.specs.Paths.{is_object_name}
-use Rattle.room_rows.specs.Content.{Content, node_at, parent_of, is_root, is_folder, is_linked_in, has_folder_above, reaches_root, with_each, with_node}
+use Rattle.room_rows.specs.Content.{Content, node_at, parent_of, is_root, is_folder, is_linked_in}
+use Rattle.room_rows.specs.Content.{has_folder_above, reaches_root, with_each, with_node}
 use Rattle.room_rows.specs.Finding.{find_id}
 use Rattle.room_rows.specs.Keep.{reading, with_owners}
 use Rattle.room_rows.specs.Meaning.{kept_held, kept_node, meaning}
 use Rattle.room_rows.specs.Rows.{Rows, is_unreadable, numbers_of}
 use Rattle.room_rows.proofs.Frames.{Rises, node_at-number}
-use Rattle.room_rows.proofs.InPlace.{KeepsPlaces, keeps_places, node_at-with_each, parent_of-with_each, numbers-with_each, numbers_of-reading, with_node-replaces, place-with_owners}
+use Rattle.room_rows.proofs.InPlace.{KeepsPlaces, keeps_places, node_at-with_each}
+use Rattle.room_rows.proofs.InPlace.{parent_of-with_each, numbers-with_each, numbers_of-reading}
+use Rattle.room_rows.proofs.InPlace.{with_node-replaces, place-with_owners}
 use Rattle.room_rows.proofs.Lookups.{each_found}
 use Rattle.room_rows.proofs.SamePlace.{replaced, replaced_here, replaced_elsewhere}
 use Rattle.room_rows.specs.Law.{agrees_with, agrees}
-use Rattle.room_rows.specs.Sound.{AreSound, bad_root, first_bad_list, first_failing, has_bad_list, has_sound_lists, has_sound_name, has_sound_body, keeps_law, reaches, same_place}
+use Rattle.room_rows.specs.Sound.{AreSound, bad_root, first_bad_list, first_failing, has_bad_list}
+use Rattle.room_rows.specs.Sound.{has_sound_lists, has_sound_name, has_sound_body, keeps_law}
+use Rattle.room_rows.specs.Sound.{reaches, same_place}
 use Rattle.room_entry.proofs.Facts.Members.{any_map}
 use Rattle.room_desk.proofs.Sound.SoundParts.{sound_parts, parts_sound, find_same, map_same}
 

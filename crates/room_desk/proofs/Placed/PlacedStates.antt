@@ -1,9 +1,11 @@
 -- The rows while an object gets another place: placed, and then with one attribute after the other
 -- handed down.
-use Rattle.std.proofs.Common.{◌≡◌, ℕ, zero, suc, ◌==◌, true, false, cond, not, ◌||◌, List, ◌∷◌, map, Option, Some, None, refl, sym, ap, subst, ◌∙◌, inl, inr}
+use Rattle.std.proofs.Common.{◌≡◌, ℕ, zero, suc, ◌==◌, true, false, cond, not, ◌||◌, List, ◌∷◌, map}
+use Rattle.std.proofs.Common.{Option, Some, None, refl, sym, ap, subst, ◌∙◌, inl, inr}
 use Rattle.std.specs.Option.{option_map, option_map_or}
 use Rattle.std.specs.Prelude.{IsTrue}
-use Rattle.std.proofs.lemmas.Bool.{cases_Bool, and_parts, false≢true, eqb-true, eqb-false, eq-eqb, false_from_ne_true}
+use Rattle.std.proofs.lemmas.Bool.{cases_Bool, and_parts, false≢true, eqb-true, eqb-false, eq-eqb}
+use Rattle.std.proofs.lemmas.Bool.{false_from_ne_true}
 use Rattle.room_entry.specs.Ace.{Ace}
 use Rattle.room_entry.specs.declared.object.Which.{Which}
 use Rattle.room_entry.specs.declared.object.Which.TheVariants.{Dacl, Sacl}
@@ -27,8 +29,11 @@ use Rattle.room_desk.specs.Moving.{CanPlace, CanRenew, IsPlaced, HasRenewedLists
 use Rattle.room_desk.proofs.Placed.Climbing.{past_reaches}
 use Rattle.room_desk.proofs.Placed.PlacedLinks.{linked_any}
 use Rattle.room_desk.proofs.Placed.PlacedMeaning.{means_placed}
-use Rattle.room_desk.proofs.Placed.PlacedParts.{apart as all_apart, base, change_there, lists, placed_held}
-use Rattle.room_desk.proofs.Placed.PlacedTree.{above_elsewhere, above_here, change, elsewhere, faultless, here, is_target, kind, new, number, passes_new, passes_old}
+use Rattle.room_desk.proofs.Placed.PlacedParts.{apart as all_apart, base, change_there, lists}
+use Rattle.room_desk.proofs.Placed.PlacedParts.{placed_held}
+use Rattle.room_desk.proofs.Placed.PlacedTree.{above_elsewhere, above_here, change, elsewhere}
+use Rattle.room_desk.proofs.Placed.PlacedTree.{faultless, here, is_target, kind, new, number}
+use Rattle.room_desk.proofs.Placed.PlacedTree.{passes_new, passes_old}
 use Rattle.room_desk.proofs.Sound.SoundParts.{none_unreadable, sound_parts}
 use Rattle.room_desk.proofs.Placed.SoundPlaced.{sound_placed}
 

@@ -1,9 +1,13 @@
 -- The tree of rows stays sound where an object gets another place.
-use Rattle.std.proofs.Common.{◌≡◌, ℕ, ◌==◌, Bool, true, false, cond, not, ◌&&◌, ◌||◌, List, [], ◌∷◌, map, filter, length, Option, Some, None, refl, sym, ap, ◌∙◌, inl, inr, arith}
+use Rattle.std.proofs.Common.{◌≡◌, ℕ, ◌==◌, Bool, true, false, cond, not, ◌&&◌, ◌||◌, List, [], ◌∷◌}
+use Rattle.std.proofs.Common.{map, filter, length, Option, Some, None, refl, sym, ap, ◌∙◌, inl, inr}
+use Rattle.std.proofs.Common.{arith}
 use Rattle.std.specs.Prelude.{is_none, nat_lt}
 use Rattle.std.specs.List.{find, list_all, list_any, AllByRecursion as Each}
 use Rattle.std.specs.Option.{option_map, option_map_or}
-use Rattle.std.proofs.lemmas.Bool.{cases_Bool, and_parts, and_from, and_left, and_right, or_left, or_right, false≢true, eqb-true, eq-eqb, ltb-true, false_from_ne_true}
+use Rattle.std.proofs.lemmas.Bool.{cases_Bool, and_parts, and_from, and_left, and_right, or_left}
+use Rattle.std.proofs.lemmas.Bool.{or_right, false≢true, eqb-true, eq-eqb, ltb-true}
+use Rattle.std.proofs.lemmas.Bool.{false_from_ne_true}
 use Rattle.std.proofs.lemmas.List.Folds.{list_all-map}
 use Rattle.room_entry.specs.Ace.{Ace}
 use Rattle.room_entry.specs.Pieces.{is_among, same_text}
@@ -11,19 +15,24 @@ use Rattle.room_entry.specs.Valid.{is_document}
 use Rattle.room_entry.proofs.Alike.{text_itself}
 use Rattle.room_entry.proofs.Texts.{same_text-true}
 use Rattle.room_rows.specs.declared.node.Node.{Node}
-use Rattle.room_rows.specs.Content.{Content, node_at, parent_of, has_parent, is_root, is_folder, has_folder_above, same_parent, reaches_root, body_of, with_each}
+use Rattle.room_rows.specs.Content.{Content, node_at, parent_of, has_parent, is_root, is_folder}
+use Rattle.room_rows.specs.Content.{has_folder_above, same_parent, reaches_root, body_of, with_each}
 use Rattle.room_rows.specs.Keep.{reading}
 use Rattle.room_rows.specs.Paths.{is_object_name}
 use Rattle.room_rows.specs.Rows.{Rows, AreRows, numbers_of, put_numbers}
 use Rattle.room_inherit.specs.Laws.{HasNoFault}
-use Rattle.room_rows.specs.Sound.{fits_kind, has_bad_list, has_sound_body, has_sound_lists, has_sound_name, reaches, same_place}
+use Rattle.room_rows.specs.Sound.{fits_kind, has_bad_list, has_sound_body, has_sound_lists}
+use Rattle.room_rows.specs.Sound.{has_sound_name, reaches, same_place}
 use Rattle.room_inherit.proofs.Children.{each_found, each_there}
 use Rattle.room_inherit.proofs.Enough.{enough_steps}
 use Rattle.room_entry.proofs.Facts.Members.{any_map, any_none, each_fails}
 use Rattle.room_inherit.proofs.NoFault.{no_fault}
 use Rattle.room_desk.specs.Moving.{CanPlace}
 use Rattle.room_desk.proofs.Placed.Climbing.{past_reaches, reaches_again}
-use Rattle.room_desk.proofs.Placed.PlacedParts.{all_after, apart, named_elsewhere, named_here, one_there, parent_after, parent_found, passes, placed, placed_elsewhere, placed_here, placed_kind, placed_number}
+use Rattle.room_desk.proofs.Placed.PlacedParts.{all_after, apart, named_elsewhere, named_here}
+use Rattle.room_desk.proofs.Placed.PlacedParts.{one_there, parent_after, parent_found, passes}
+use Rattle.room_desk.proofs.Placed.PlacedParts.{placed, placed_elsewhere, placed_here, placed_kind}
+use Rattle.room_desk.proofs.Placed.PlacedParts.{placed_number}
 
 -- ---- rows whose numbers are all readable
 

@@ -12,9 +12,12 @@ use Rattle.room_rows.proofs.InPlace.{place-with_inh}
 use Rattle.room_rows.specs.Pass.{pass}
 use Rattle.room_machine.specs.declared.reply.Reply.TheVariants.{Done}
 use Rattle.room_desk.specs.Carrying.{HasLoop, IsCarriedDown, IsRooted}
-use Rattle.room_desk.specs.Moving.{CanGo, CanPlace, CanRenew, FailsToPlace, FailsToRenew, HasRenewedLists, KeepsRoot, PlacesAt, Renews, TakesPassed}
-use Rattle.room_desk.proofs.Sound.Anchored.{changed_unread, here_after, past_up, rises_after, rooted_changed, rooted_spread}
-use Rattle.room_desk.proofs.Placed.PlacedStates.{can_renew, can_renew_sacl, first_state, is_placed, mid_is, own_dacl, own_sacl, state}
+use Rattle.room_desk.specs.Moving.{CanGo, CanPlace, CanRenew, FailsToPlace, FailsToRenew}
+use Rattle.room_desk.specs.Moving.{HasRenewedLists, KeepsRoot, PlacesAt, Renews, TakesPassed}
+use Rattle.room_desk.proofs.Sound.Anchored.{changed_unread, here_after, past_up, rises_after}
+use Rattle.room_desk.proofs.Sound.Anchored.{rooted_changed, rooted_spread}
+use Rattle.room_desk.proofs.Placed.PlacedStates.{can_renew, can_renew_sacl, first_state, is_placed}
+use Rattle.room_desk.proofs.Placed.PlacedStates.{mid_is, own_dacl, own_sacl, state}
 use Rattle.room_desk.proofs.Placed.Relinked.{not_linked, renewed, stored_already}
 
 -- ---- one list

@@ -1,8 +1,10 @@
 -- One attribute of an object at its new place: it takes what the folder passes, and hands it down.
-use Rattle.std.proofs.Common.{◌≡◌, ℕ, zero, suc, ◌==◌, Bool, true, false, cond, not, ◌||◌, List, Option, Some, None, refl, sym, ap, subst, ◌∙◌, inl, inr}
+use Rattle.std.proofs.Common.{◌≡◌, ℕ, zero, suc, ◌==◌, Bool, true, false, cond, not, ◌||◌, List}
+use Rattle.std.proofs.Common.{Option, Some, None, refl, sym, ap, subst, ◌∙◌, inl, inr}
 use Rattle.std.specs.Prelude.{option_and_then}
 use Rattle.std.specs.Option.{option_map, option_map_or}
-use Rattle.std.proofs.lemmas.Bool.{cases_Bool, and_parts, or_left, or_right, false≢true, eqb-true, eqb-false, false_from_ne_true, not-false}
+use Rattle.std.proofs.lemmas.Bool.{cases_Bool, and_parts, or_left, or_right, false≢true, eqb-true}
+use Rattle.std.proofs.lemmas.Bool.{eqb-false, false_from_ne_true, not-false}
 use Rattle.std.proofs.lemmas.Option.{same_Some}
 use Rattle.room_entry.specs.Ace.{Ace}
 use Rattle.room_entry.specs.Same.{same_entries}
@@ -11,12 +13,14 @@ use Rattle.room_entry.proofs.Alike.{equal_entries}
 use Rattle.room_entry.proofs.Same.{entries_equal}
 use Rattle.room_rows.specs.HeldList.{Held}
 use Rattle.room_rows.specs.declared.node.Node.{Node}
-use Rattle.room_rows.specs.Content.{Content, node_at, parent_of, has_parent, is_linked_in, with_each}
+use Rattle.room_rows.specs.Content.{Content, node_at, parent_of, has_parent, is_linked_in}
+use Rattle.room_rows.specs.Content.{with_each}
 use Rattle.room_rows.specs.Held.{held_of, full_of, is_linked}
 use Rattle.room_rows.specs.Keep.{Changes, reading, with_inh}
 use Rattle.room_rows.specs.Rows.{Rows}
 use Rattle.room_rows.proofs.Frames.{node_at-number}
-use Rattle.room_rows.proofs.InPlace.{held_of-with_inh, place-with_inh, with_node-replaces, with_inh-id}
+use Rattle.room_rows.proofs.InPlace.{held_of-with_inh, place-with_inh, with_node-replaces}
+use Rattle.room_rows.proofs.InPlace.{with_inh-id}
 use Rattle.room_rows.proofs.SamePlace.{replaced, replaced_here, replaced_elsewhere}
 use Rattle.room_rows.specs.Law.{agrees, agrees_with, AllAgreeBut}
 use Rattle.room_rows.specs.Pass.{pass}
@@ -27,7 +31,8 @@ use Rattle.room_inherit.proofs.Kinship.{same_parent, same_kind, with_last}
 use Rattle.room_entry.proofs.Facts.Members.{all_each}
 use Rattle.room_inherit.proofs.Renewing.{map_agree, map_map}
 use Rattle.room_desk.specs.Moving.{CanRenew, HasRenewedLists}
-use Rattle.room_desk.proofs.Placed.PlacedParts.{all_after, apart, change_there, linked_above, linked_flags, parent_after}
+use Rattle.room_desk.proofs.Placed.PlacedParts.{all_after, apart, change_there, linked_above}
+use Rattle.room_desk.proofs.Placed.PlacedParts.{linked_flags, parent_after}
 
 module _ (which : Which) (target folder : Node) (old : Rows)
     (can : CanRenew which target folder old) where

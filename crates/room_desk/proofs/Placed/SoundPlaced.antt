@@ -1,6 +1,7 @@
 -- Rows stay sound where an object gets another place, if the law holds again and lists that aren't
 -- linked are as before.
-use Rattle.std.proofs.Common.{◌≡◌, ℕ, ◌==◌, Bool, true, false, cond, List, [], filter, length, Some, None, sym, ap, ◌∙◌}
+use Rattle.std.proofs.Common.{◌≡◌, ℕ, ◌==◌, Bool, true, false, cond, List, [], filter, length, Some}
+use Rattle.std.proofs.Common.{None, sym, ap, ◌∙◌}
 use Rattle.std.specs.Prelude.{is_none, option_and_then}
 use Rattle.std.specs.List.{list_all}
 use Rattle.std.specs.Option.{option_map}
@@ -17,7 +18,8 @@ use Rattle.room_rows.specs.Keep.{with_place}
 use Rattle.room_rows.specs.Rows.{Rows}
 use Rattle.room_rows.proofs.Frames.{node_at-number, no_parent}
 use Rattle.room_rows.specs.Law.{agrees, AllAgree}
-use Rattle.room_rows.specs.Sound.{AreSound, bad_root, has_sound_lists, is_sound_held, keeps_law, reaches}
+use Rattle.room_rows.specs.Sound.{AreSound, bad_root, has_sound_lists, is_sound_held, keeps_law}
+use Rattle.room_rows.specs.Sound.{reaches}
 use Rattle.room_inherit.proofs.Children.{each_found, each_there}
 use Rattle.room_inherit.proofs.Ends.{each_all}
 use Rattle.room_entry.proofs.Facts.Members.{all_each, each_weaker}
@@ -25,7 +27,10 @@ use Rattle.room_inherit.proofs.NoFault.{sound}
 use Rattle.room_inherit.proofs.Renewing.{each_both}
 use Rattle.room_desk.specs.Moving.{CanPlace}
 use Rattle.room_desk.proofs.Placed.PlacedParts.{apart, base, lists, placed_held}
-use Rattle.room_desk.proofs.Placed.PlacedTree.{after, bodies_after, change, faultless, is_target, kind, lists_there, names_after, new, no_bad_list, number, parents_after, reach_after, roots_same, same_root}
+use Rattle.room_desk.proofs.Placed.PlacedTree.{after, bodies_after, change, faultless, is_target}
+use Rattle.room_desk.proofs.Placed.PlacedTree.{kind, lists_there, names_after, new, no_bad_list}
+use Rattle.room_desk.proofs.Placed.PlacedTree.{number, parents_after, reach_after, roots_same}
+use Rattle.room_desk.proofs.Placed.PlacedTree.{same_root}
 use Rattle.room_desk.proofs.Sound.SoundParts.{none_unreadable, sound_parts}
 use Rattle.room_desk.proofs.Lists.ValidDown.{are_inherited, are_own, held_parts, valid_down}
 use Rattle.room_desk.proofs.Lists.Relisted.{one_list}

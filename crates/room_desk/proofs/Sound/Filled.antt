@@ -1,5 +1,6 @@
 -- Items judged at objects with their stored lists are those of the plan.
-use Rattle.std.proofs.Common.{◌≡◌, ℕ, ℤ, Bool, false, cond, not, ◌&&◌, List, [], ◌∷◌, ◌++◌, map, Option, Some, None, refl, sym, ap, subst, ◌∙◌}
+use Rattle.std.proofs.Common.{◌≡◌, ℕ, ℤ, Bool, false, cond, not, ◌&&◌, List, [], ◌∷◌, ◌++◌, map}
+use Rattle.std.proofs.Common.{Option, Some, None, refl, sym, ap, subst, ◌∙◌}
 use Rattle.std.specs.Prelude.{is_none}
 use Rattle.std.specs.Option.{option_map}
 use Rattle.std.proofs.lemmas.List.{map-append}
@@ -13,7 +14,8 @@ use Rattle.room_machine.specs.declared.reply.Reply.{Reply}
 use Rattle.room_machine.specs.declared.reply.Reason.TheVariants.{NotFolder, NoSuch}
 use Rattle.room_machine.specs.Site.{Site, sites_along, site_at}
 use Rattle.room_machine.specs.Plan.{Item, Check, Deletion, Refusal, way, where_found, to_target}
-use Rattle.room_machine.specs.Judge.{failure, passes, or_else, first_failure, checks_of, records_of_checks, records_of_plan}
+use Rattle.room_machine.specs.Judge.{failure, passes, or_else, first_failure, checks_of}
+use Rattle.room_machine.specs.Judge.{records_of_checks, records_of_plan}
 use Rattle.room_machine.specs.Stored.{stored_along, to_stored}
 use Rattle.room_judge.specs.Judged.{IsJudged, noted}
 use Rattle.room_desk.proofs.Sound.SoundParts.{SoundParts}

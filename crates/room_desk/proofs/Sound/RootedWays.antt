@@ -1,5 +1,6 @@
 -- What a walk finds is rooted, whatever else the rows say.
-use Rattle.std.proofs.Common.{◌≡◌, ℕ, suc, true, false, List, [], ◌∷◌, ◌++◌, length, Option, Some, None, refl, sym, ap, subst, ◌∙◌, arith, inl, inr}
+use Rattle.std.proofs.Common.{◌≡◌, ℕ, suc, true, false, List, [], ◌∷◌, ◌++◌, length, Option, Some}
+use Rattle.std.proofs.Common.{None, refl, sym, ap, subst, ◌∙◌, arith, inl, inr}
 use Rattle.std.specs.Prelude.{◌-◌, option_and_then, slice_get}
 use Rattle.std.specs.Option.{option_map_or}
 use Rattle.std.proofs.lemmas.Option.{same_Some}
@@ -9,7 +10,8 @@ use Rattle.room_rows.specs.Content.{Content, child_of, node_at, parent_of, reach
 use Rattle.room_rows.specs.Keep.{IsDamaged}
 use Rattle.room_rows.specs.Rows.{Rows}
 use Rattle.room_rows.specs.Walk.{behind, walk_from, walk_of}
-use Rattle.room_rows.proofs.Frames.{Rises, child_of-is_there, child_of-parent, root_of-is_there, root_of-parent}
+use Rattle.room_rows.proofs.Frames.{Rises, child_of-is_there, child_of-parent, root_of-is_there}
+use Rattle.room_rows.proofs.Frames.{root_of-parent}
 use Rattle.room_machine.specs.Site.{Site, site_at}
 use Rattle.room_machine.specs.Stored.{stored_along, stored_from, stored_site}
 use Rattle.room_desk.specs.Carrying.{IsRooted}

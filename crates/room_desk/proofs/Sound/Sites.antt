@@ -1,5 +1,6 @@
 -- On sound rows, the objects that a walk finds have the lists that are stored.
-use Rattle.std.proofs.Common.{◌≡◌, ℕ, Bool, true, false, cond, ◌&&◌, List, [], ◌∷◌, ◌++◌, map, Option, Some, None, refl, sym, ap, ◌∙◌}
+use Rattle.std.proofs.Common.{◌≡◌, ℕ, Bool, true, false, cond, ◌&&◌, List, [], ◌∷◌, ◌++◌, map}
+use Rattle.std.proofs.Common.{Option, Some, None, refl, sym, ap, ◌∙◌}
 use Rattle.std.specs.Prelude.{option_and_then, length}
 use Rattle.std.specs.Option.{option_map, option_map_or}
 use Rattle.std.proofs.lemmas.Bool.{and_parts}
@@ -11,16 +12,20 @@ use Rattle.room_rows.specs.HeldList.{Held}
 use Rattle.room_rows.specs.declared.node.Node.{Node}
 use Rattle.room_rows.specs.Held.{held_of, full_of, is_linked}
 use Rattle.room_entry.specs.Pieces.{same_text}
-use Rattle.room_rows.specs.Content.{Content, has_parent, node_at, root_of, child_of, parent_of, is_linked_in}
+use Rattle.room_rows.specs.Content.{Content, has_parent, node_at, root_of, child_of, parent_of}
+use Rattle.room_rows.specs.Content.{is_linked_in}
 use Rattle.room_rows.specs.Meaning.{kept_held, kept_node, meaning}
 use Rattle.room_rows.specs.Rows.{Rows, AreRows}
 use Rattle.room_rows.specs.Walk.{walk_from, behind}
-use Rattle.room_rows.proofs.Frames.{Rises, root_of-is_there, root_of-parent, child_of-is_there, child_of-parent, child_of-name}
-use Rattle.room_rows.proofs.InPlace.{KeepsPlaces, keeps_places, root_of-with_each, child_of-with_each}
+use Rattle.room_rows.proofs.Frames.{Rises, root_of-is_there, root_of-parent, child_of-is_there}
+use Rattle.room_rows.proofs.Frames.{child_of-parent, child_of-name}
+use Rattle.room_rows.proofs.InPlace.{KeepsPlaces, keeps_places, root_of-with_each}
+use Rattle.room_rows.proofs.InPlace.{child_of-with_each}
 use Rattle.room_rows.specs.Pass.{pass}
 use Rattle.room_rows.specs.Law.{agrees_with, agrees}
 use Rattle.room_rows.specs.Sound.{keeps_law}
-use Rattle.room_machine.specs.Site.{Site, full_at, root_site, site_below, sites_below, sites_of, sites_along}
+use Rattle.room_machine.specs.Site.{Site, full_at, root_site, site_below, sites_below, sites_of}
+use Rattle.room_machine.specs.Site.{sites_along}
 use Rattle.room_machine.specs.Stored.{stored_site, stored_from, stored_along}
 use Rattle.room_desk.proofs.Sound.SoundParts.{SoundParts, passes_test}
 use Rattle.room_inherit.proofs.Stored.{linked_kept}

@@ -1,5 +1,7 @@
 -- Sound rows, test by test.
-use Rattle.std.proofs.Common.{◌≡◌, ℕ, zero, suc, Bool, true, false, cond, not, List, [], ◌∷◌, map, filter, length, Option, Some, None, nat_lt, refl, sym, ap, ◌∙◌, inl, inr}
+use Rattle.std.proofs.Common.{◌≡◌, ℕ, zero, suc, Bool, true, false, cond, not, List, [], ◌∷◌, map}
+use Rattle.std.proofs.Common.{filter, length, Option, Some, None, nat_lt, refl, sym, ap, ◌∙◌, inl}
+use Rattle.std.proofs.Common.{inr}
 use Rattle.std.specs.Prelude.{is_none}
 use Rattle.std.specs.List.{AllByRecursion, find}
 use Rattle.std.specs.Option.{option_map, option_map_or}
@@ -7,13 +9,17 @@ use Rattle.std.proofs.lemmas.Bool.{false≢true, eq-eqb, or_left, or_right}
 use Rattle.room_entry.specs.Pieces.{is_among}
 use Rattle.room_rows.specs.declared.node.AuditRow.{AuditRow}
 use Rattle.room_rows.specs.declared.node.Node.{Node}
-use Rattle.room_rows.specs.Content.{Content, node_at, is_root, has_folder_above, reaches_root, with_records}
+use Rattle.room_rows.specs.Content.{Content, node_at, is_root, has_folder_above, reaches_root}
+use Rattle.room_rows.specs.Content.{with_records}
 use Rattle.room_rows.specs.Keep.{HasNoRoot, IsUnreadable}
 use Rattle.room_rows.specs.Rows.{Rows, put_number}
 use Rattle.room_rows.specs.declared.report.Report.{Report}
 use Rattle.room_rows.specs.declared.report.Report.TheVariants.{Sound, Fault}
-use Rattle.room_rows.specs.declared.report.Unsound.TheVariants.{BadList, BadRoot, BadParent, Loop, BadName, BadBody, BrokenLaw}
-use Rattle.room_rows.specs.Sound.{AreSound, or_else, or_sound, numbered, true_path, fault_of, first_bad_list, bad_root, first_failing, reaches, has_sound_name, has_sound_body, keeps_law}
+use Rattle.room_rows.specs.declared.report.Unsound.TheVariants.{BadList, BadRoot, BadParent, Loop}
+use Rattle.room_rows.specs.declared.report.Unsound.TheVariants.{BadName, BadBody, BrokenLaw}
+use Rattle.room_rows.specs.Sound.{AreSound, or_else, or_sound, numbered, true_path, fault_of}
+use Rattle.room_rows.specs.Sound.{first_bad_list, bad_root, first_failing, reaches, has_sound_name}
+use Rattle.room_rows.specs.Sound.{has_sound_body, keeps_law}
 use Rattle.room_judge.specs.Judged.{NotSound, noted}
 use Rattle.room_inherit.proofs.Whole.{all_read}
 

@@ -1,5 +1,6 @@
 -- The rulings of the bits of a mask, one after the other.
-use Rattle.std.proofs.Common.{◌≡◌, ℕ, zero, suc, ◌+◌, ◌<◌, List, [], ◌∷◌, ◌++◌, map, length, get_or, drop, refl, sym, ap, ◌∙◌, arith, add-one, drop-cons, append_assoc}
+use Rattle.std.proofs.Common.{◌≡◌, ℕ, zero, suc, ◌+◌, ◌<◌, List, [], ◌∷◌, ◌++◌, map, length, get_or}
+use Rattle.std.proofs.Common.{drop, refl, sym, ap, ◌∙◌, arith, add-one, drop-cons, append_assoc}
 
 length_kept : (mask : List ℕ) → length (map (λ (bit : ℕ). bit ∷ []) mask) ≡ length mask
 length_kept [] = refl

@@ -1,5 +1,6 @@
 -- The replies of requests that change nothing but records.
-use Rattle.std.proofs.Common.{◌≡◌, ℕ, Bool, true, false, cond, not, List, [], ◌∷◌, ◌++◌, map, Option, Some, None, refl, sym, ap, subst, ◌∙◌, inl, inr}
+use Rattle.std.proofs.Common.{◌≡◌, ℕ, Bool, true, false, cond, not, List, [], ◌∷◌, ◌++◌, map}
+use Rattle.std.proofs.Common.{Option, Some, None, refl, sym, ap, subst, ◌∙◌, inl, inr}
 use Rattle.std.specs.Prelude.{unwrap_or}
 use Rattle.std.specs.Option.{option_map_or}
 use Rattle.room_entry.specs.Rights.{read_data, read_acl, read_attributes}
@@ -21,11 +22,14 @@ use Rattle.room_judge.specs.declared.arrival.Arrival.{Arrival}
 use Rattle.room_judge.specs.declared.arrival.Arrival.TheVariants.{At, Ended}
 use Rattle.room_judge.specs.declared.asker.Asker.{Asker}
 use Rattle.room_machine.specs.declared.reply.Reply.{Reply}
-use Rattle.room_machine.specs.declared.reply.Reply.TheVariants.{Bytes, Names, Lists, Attr, Rulings, Done}
+use Rattle.room_machine.specs.declared.reply.Reply.TheVariants.{Bytes, Names, Lists, Attr, Rulings}
+use Rattle.room_machine.specs.declared.reply.Reply.TheVariants.{Done}
 use Rattle.room_machine.specs.declared.request.Request.{Request}
-use Rattle.room_machine.specs.declared.request.Request.TheVariants.{Read, List as ListFolder, ReadList, ReadAttr, Can}
+use Rattle.room_machine.specs.declared.request.Request.TheVariants.{Read, List as ListFolder}
+use Rattle.room_machine.specs.declared.request.Request.TheVariants.{ReadList, ReadAttr, Can}
 use Rattle.room_machine.specs.Site.{Site, full_at, sites_along, site_at}
-use Rattle.room_machine.specs.Plan.{Along, Item, Check, plan_by, plan_of, target_by, where_found, no_folder, way}
+use Rattle.room_machine.specs.Plan.{Along, Item, Check, plan_by, plan_of, target_by, where_found}
+use Rattle.room_machine.specs.Plan.{no_folder, way}
 use Rattle.room_machine.specs.Judge.{failure, first_failure, or_else}
 use Rattle.room_machine.specs.Effect.{effect, with_site}
 use Rattle.room_machine.specs.Closed.{IsShown, failure_told}

@@ -10,14 +10,21 @@ use Rattle.room_entry.specs.declared.object.ObjKind.TheVariants.{Document, Folde
 use Rattle.room_rows.specs.HeldList.{Held}
 use Rattle.room_rows.specs.declared.node.Node.{Node}
 use Rattle.room_rows.specs.Content.{Content}
-use Rattle.room_machine.specs.declared.request.Request.TheVariants.{Read, Put, Append, MakeFolder, Remove, Move, ReadList, SetList, ReadAttr, SetOwners, Can}
-use Rattle.room_machine.specs.declared.reply.Reply.TheVariants.{Bytes, Lists, Rulings, Made, Done, Denied, Refused}
-use Rattle.room_machine.specs.declared.reply.Reason.TheVariants.{NoSuch, NotFolder, WrongKind, Exists, NotEmpty, Root, Loop, BadList}
+use Rattle.room_machine.specs.declared.request.Request.TheVariants.{Read, Put, Append, MakeFolder}
+use Rattle.room_machine.specs.declared.request.Request.TheVariants.{Remove, Move, ReadList, SetList}
+use Rattle.room_machine.specs.declared.request.Request.TheVariants.{ReadAttr, SetOwners, Can}
+use Rattle.room_machine.specs.declared.reply.Reply.TheVariants.{Bytes, Lists, Rulings, Made, Done}
+use Rattle.room_machine.specs.declared.reply.Reply.TheVariants.{Denied, Refused}
+use Rattle.room_machine.specs.declared.reply.Reason.TheVariants.{NoSuch, NotFolder, WrongKind}
+use Rattle.room_machine.specs.declared.reply.Reason.TheVariants.{Exists, NotEmpty, Root, Loop}
+use Rattle.room_machine.specs.declared.reply.Reason.TheVariants.{BadList}
 use Rattle.room_ace.specs.Sent.{Sent}
 use Rattle.room_entry.specs.declared.fault.ListFault.TheVariants.{InheritOnlyAlone}
 use Rattle.room_eval.specs.declared.outcome.Ruling.TheVariants.{Allowed, Denied as DeniedAt, Silent}
 use Rattle.room_machine.specs.Step.{step, reset}
-use Rattle.room_machine.proofs.Worked.Worlds.{none, fd, entry, inherited, root, alice, by_root, everything, root_may_all, held, plain, object, root_folder, world}
+use Rattle.room_machine.proofs.Worked.Worlds.{none, fd, entry, inherited, root, alice, by_root}
+use Rattle.room_machine.proofs.Worked.Worlds.{everything, root_may_all, held, plain, object}
+use Rattle.room_machine.proofs.Worked.Worlds.{root_folder, world}
 
 abbrev q : List (List ℕ)
 q = codes "q" ∷ []

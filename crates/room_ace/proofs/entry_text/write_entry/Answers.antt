@@ -1,4 +1,5 @@
-use Rattle.std.proofs.Common.{List, ℕ, [], ◌∷◌, ◌++◌, ◌≡◌, ◌∙◌, ap, append_assoc, arith, string_bytes}
+use Rattle.std.proofs.Common.{List, ℕ, [], ◌∷◌, ◌++◌, ◌≡◌, ◌∙◌, ap, append_assoc, arith}
+use Rattle.std.proofs.Common.{string_bytes}
 use Rattle.room_entry.specs.Letters.{flags_text, kind_text, mask_text}
 use Rattle.room_ace.specs.Text.{who_text}
 use Rattle.room_ace.proofs.entry_text.write_entry.Goals as goal

@@ -11,7 +11,8 @@ use Rattle.room_judge.specs.Judged.{IsJudged}
 use Rattle.room_judge.specs.Stored.{found_site}
 use Rattle.room_judge.proofs.Calls.{done, finish, none_done, tail, then}
 use Rattle.room_judge.proofs.Halts.{faults, halts_first}
-use Rattle.room_desk.proofs.Moves.MovingSteps.{moves, name_is, never_unread, never_unplaced, place_ended, root_refused, some_last}
+use Rattle.room_desk.proofs.Moves.MovingSteps.{moves, name_is, never_unread, never_unplaced}
+use Rattle.room_desk.proofs.Moves.MovingSteps.{place_ended, root_refused, some_last}
 use Rattle.room_desk.proofs.moving.move_found.Goals as goal
 
 pub returns-in-None-clause-done : goal.returns-in-None-clause-done

@@ -11,7 +11,8 @@ use Rattle.room_judge.specs.declared.asker.Asker.{Asker}
 use Rattle.room_judge.proofs.Calls.{done, none_done, of_read, tail_known, then}
 use Rattle.room_judge.proofs.Halts.{faults, halts, refused_as}
 use Rattle.room_desk.specs.Moving.{FailsToMove, MovesOn}
-use Rattle.room_desk.proofs.Moves.MovingSteps.{empty_path, root_after, root_stays, rooted_pair, way_halted}
+use Rattle.room_desk.proofs.Moves.MovingSteps.{empty_path, root_after, root_stays, rooted_pair}
+use Rattle.room_desk.proofs.Moves.MovingSteps.{way_halted}
 use Rattle.room_desk.proofs.Sound.Blamed.{rootless_damaged, unread_damaged}
 use Rattle.room_desk.proofs.moving.move_object.Goals as goal
 

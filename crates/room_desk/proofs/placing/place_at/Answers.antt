@@ -1,6 +1,7 @@
 use Rattle.room_judge.proofs.Calls.{none_done, then, finish, fails, done, of_write}
 use Rattle.room_machine.specs.declared.reply.Reply.TheVariants.{Done}
-use Rattle.room_desk.proofs.Placed.PlacingCalls.{first_done, first_fails, second_done, second_fails, unplaced}
+use Rattle.room_desk.proofs.Placed.PlacingCalls.{first_done, first_fails, second_done, second_fails}
+use Rattle.room_desk.proofs.Placed.PlacingCalls.{unplaced}
 use Rattle.room_desk.proofs.placing.place_at.Goals as goal
 
 pub returns-in_err-set_place-clause-done : goal.returns-in_err-set_place-clause-done

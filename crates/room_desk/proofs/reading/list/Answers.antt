@@ -5,7 +5,8 @@ use Rattle.room_judge.specs.declared.arrival.Arrival.TheVariants.{At, Ended}
 use Rattle.room_judge.proofs.Calls.{done, finish, of_read, then_known}
 use Rattle.room_judge.proofs.Halts.{faults, halts_first}
 use Rattle.room_desk.proofs.Sound.Blamed.{rootless_damaged}
-use Rattle.room_desk.proofs.Steps.Serving.{FolderAt, names_answered, not_served, reached_as, reached_damaged}
+use Rattle.room_desk.proofs.Steps.Serving.{FolderAt, names_answered, not_served, reached_as}
+use Rattle.room_desk.proofs.Steps.Serving.{reached_damaged}
 use Rattle.room_desk.proofs.reading.list.Goals as goal
 
 pub returns-in_err-node-clause-done : goal.returns-in_err-node-clause-done

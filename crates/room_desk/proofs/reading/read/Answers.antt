@@ -4,7 +4,8 @@ use Rattle.room_machine.specs.declared.request.Request.TheVariants.{Read}
 use Rattle.room_judge.specs.declared.arrival.Arrival.TheVariants.{At, Ended}
 use Rattle.room_judge.proofs.Calls.{done, finish, of_read, then_known}
 use Rattle.room_desk.proofs.Sound.Blamed.{rootless_damaged}
-use Rattle.room_desk.proofs.Steps.Serving.{DocumentAt, bytes_answered, no_bytes, not_served, reached_as}
+use Rattle.room_desk.proofs.Steps.Serving.{DocumentAt, bytes_answered, no_bytes, not_served}
+use Rattle.room_desk.proofs.Steps.Serving.{reached_as}
 use Rattle.room_judge.proofs.Halts.{faults, halts_first}
 use Rattle.room_desk.proofs.reading.read.Goals as goal
 

@@ -1,7 +1,8 @@
 use Rattle.std.proofs.Common.{rules, ◌≡◌, ◌∙◌}
 use Rattle.room_desk.proofs.Lists.SentEntries.{takes_next, leaves_next}
 use Rattle.room_desk.proofs.setting.sent_entries.Goals as goal
-use Rattle.room_desk.proofs.setting.sent_entries.Goals.{then-flags-inherited+in_ok-clone+in_ok-push, else-flags-inherited}
+use Rattle.room_desk.proofs.setting.sent_entries.Goals.{then-flags-inherited+in_ok-clone+in_ok-push}
+use Rattle.room_desk.proofs.setting.sent_entries.Goals.{else-flags-inherited}
 
 pub sent-preserved : goal.sent-preserved
 sent-preserved c =

@@ -1,7 +1,8 @@
 use Rattle.std.proofs.Common.{sym, ap}
 use Rattle.room_entry.specs.declared.flags.ListFlags.{ListFlags}
 use Rattle.room_judge.proofs.Calls.{none_done, finish, fails, tail, done, of_write}
-use Rattle.room_desk.proofs.Lists.SettingCalls.{carried_fails, unread_before, written_down, written_still}
+use Rattle.room_desk.proofs.Lists.SettingCalls.{carried_fails, unread_before, written_down}
+use Rattle.room_desk.proofs.Lists.SettingCalls.{written_still}
 use Rattle.room_desk.proofs.setting.write_list.Goals as goal
 
 pub returns-in_err-set_held : goal.returns-in_err-set_held

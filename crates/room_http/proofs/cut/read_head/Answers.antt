@@ -1,4 +1,5 @@
-use Rattle.std.proofs.Common.{◌≡◌, ◌+◌, ◌≤◌, ◌++◌, subst, sym, ap, ◌∙◌, inr, List, ℕ, Ok, length, arith}
+use Rattle.std.proofs.Common.{◌≡◌, ◌+◌, ◌≤◌, ◌++◌, subst, sym, ap, ◌∙◌, inr, List, ℕ, Ok, length}
+use Rattle.std.proofs.Common.{arith}
 use Rattle.std.proofs.lemmas.List.{length-append}
 use Rattle.room_http.specs.Limits.{read_size}
 use Rattle.room_http.proofs.KnownBytes.{Came-then}

@@ -4,7 +4,8 @@ use mir.Val.{to_z, of_z}
 use Rattle.room_http.specs.Serve.{Seen}
 use Rattle.room_http.specs.Turn.{Turns, Along}
 use Rattle.room_http.proofs.Telling.{at-value}
-use Rattle.room_http.proofs.Serving.{Along-begin, Along-then, Serves-from, Stops-from, served-connects}
+use Rattle.room_http.proofs.Serving.{Along-begin, Along-then, Serves-from, Stops-from}
+use Rattle.room_http.proofs.Serving.{served-connects}
 use Rattle.room_http.proofs.server.serve.Goals as goal
 
 pub returns-in-Some-clause-serves : goal.returns-in-Some-clause-serves

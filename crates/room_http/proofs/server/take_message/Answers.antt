@@ -7,7 +7,8 @@ use Rattle.room_http.specs.Message.{Asked, asked}
 use Rattle.room_http.specs.Serve.{Seen}
 use Rattle.room_http.specs.Tell.{SendsReply}
 use Rattle.room_http.proofs.Telling.{at-value}
-use Rattle.room_http.proofs.Turning.{asks-the-same, closes-the-same, take-answered, take-failed, take-stop}
+use Rattle.room_http.proofs.Turning.{asks-the-same, closes-the-same, take-answered, take-failed}
+use Rattle.room_http.proofs.Turning.{take-stop}
 use Rattle.room_http.proofs.server.take_message.Goals as goal
 
 pub returns-in-Failed-clause-turn : goal.returns-in-Failed-clause-turn

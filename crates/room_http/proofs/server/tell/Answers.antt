@@ -4,7 +4,8 @@ use Rattle.http_message.specs.Asked.{request_of}
 use Rattle.room_http.specs.Answer.{Responds}
 use Rattle.room_http.specs.Serve.{Seen}
 use Rattle.room_http.specs.Tell.{Begun}
-use Rattle.room_http.proofs.Telling.{at-value, refused-tells, replied-tells, begun-lost, within-write, within-fault, Appends-is}
+use Rattle.room_http.proofs.Telling.{at-value, refused-tells, replied-tells, begun-lost}
+use Rattle.room_http.proofs.Telling.{within-write, within-fault, Appends-is}
 use Rattle.room_http.proofs.server.tell.Goals as goal
 
 pub returns-in-Ok-Refused-clause-tells : goal.returns-in-Ok-Refused-clause-tells

@@ -1,4 +1,5 @@
-use Rattle.std.proofs.Common.{◌≡◌, true, ◌+◌, ◌<◌, ◌^◌, length, List, [], Result, Ok, Err, sym, ap, subst, ◌∙◌, arith}
+use Rattle.std.proofs.Common.{◌≡◌, true, ◌+◌, ◌<◌, ◌^◌, length, List, [], Result, Ok, Err, sym, ap}
+use Rattle.std.proofs.Common.{subst, ◌∙◌, arith}
 use Rattle.std.specs.Prelude.{nat_lt}
 use Rattle.std.proofs.lemmas.Bool.{eqb-true, eqb-false, false≢true, ltb-true}
 use Rattle.room_rows.specs.declared.node.Node.{Node}
@@ -10,7 +11,8 @@ use Rattle.room_inherit.specs.declared.outcome.SpreadFault.TheVariants.{Keeper}
 use Rattle.room_entry.proofs.Facts.Members.{no_length}
 use Rattle.room_inherit.proofs.Calls.{handed_on}
 use Rattle.room_inherit.proofs.Turns.{Carried, first_turn_fails}
-use Rattle.room_inherit.proofs.Bounded.{soon_fails, soon_done, ids_fail, later_fails, later_done, never_too_many}
+use Rattle.room_inherit.proofs.Bounded.{soon_fails, soon_done, ids_fail, later_fails, later_done}
+use Rattle.room_inherit.proofs.Bounded.{never_too_many}
 use Rattle.room_inherit.proofs.Carrying.{carrying}
 use Rattle.room_inherit.proofs.SweepCalls.{sweeping}
 use Rattle.room_inherit.proofs.descent.go_down.Goals.{then-is_empty, else-is_empty}

@@ -2,7 +2,8 @@ use Rattle.std.proofs.Common.{Bool, Result, Ok, Err, sym, subst, ◌∙◌}
 use Rattle.room_inherit.specs.Turn.{Renews}
 use Rattle.room_inherit.specs.declared.outcome.SpreadFault.{SpreadFault}
 use Rattle.room_inherit.specs.declared.outcome.SpreadFault.TheVariants.{Keeper}
-use Rattle.room_inherit.proofs.Calls.{asking_fails, child_renewed, child_stays, handed_on, write_fails}
+use Rattle.room_inherit.proofs.Calls.{asking_fails, child_renewed, child_stays, handed_on}
+use Rattle.room_inherit.proofs.Calls.{write_fails}
 use Rattle.room_inherit.proofs.turn.renew.Goals as goal
 
 pub returns-in_err-waits : goal.returns-in_err-waits

@@ -6,7 +6,8 @@ use Rattle.std.proofs.Math.Seq.{drop-length}
 use Rattle.room_rows.specs.declared.node.Node.{Node}
 use Rattle.room_inherit.specs.declared.outcome.SpreadFault.{SpreadFault}
 use Rattle.room_inherit.specs.Turn.{RenewsAll}
-use Rattle.room_inherit.proofs.Calls.{Renewing, rest_of, handed_on, renewing_begins, renewing_on, renewing_fails, renewing_ends}
+use Rattle.room_inherit.proofs.Calls.{Renewing, rest_of, handed_on, renewing_begins, renewing_on}
+use Rattle.room_inherit.proofs.Calls.{renewing_fails, renewing_ends}
 use Rattle.room_inherit.proofs.turn.renew_all.Goals as goal
 
 pub children-init : goal.children-init

@@ -4,7 +4,8 @@ use Rattle.room_rows.specs.declared.node.Node.{Node}
 use Rattle.room_inherit.specs.Turn.{RenewsAll, brought_up, one_if}
 use Rattle.room_inherit.specs.declared.outcome.SpreadFault.{SpreadFault}
 use Rattle.room_inherit.proofs.Calls.{handed_on, one_fails, one_renewed}
-use Rattle.room_inherit.proofs.turn.renew_next.Goals.{then-waits+in_ok-wait_next, else-waits, then-renews, else-renews}
+use Rattle.room_inherit.proofs.turn.renew_next.Goals.{then-waits+in_ok-wait_next, else-waits}
+use Rattle.room_inherit.proofs.turn.renew_next.Goals.{then-renews, else-renews}
 use Rattle.room_inherit.proofs.turn.renew_next.Goals as goal
 
 pub returns-in_err-waits-clause-renewed : goal.returns-in_err-waits-clause-renewed

@@ -8,7 +8,8 @@ use Rattle.room_rows.specs.Sound.{has_sound_name}
 use Rattle.room_inherit.proofs.Given.{key_order, holds, one_more, name_test}
 use Rattle.room_inherit.proofs.Looking.{fails_here, passes_here}
 use Rattle.room_inherit.proofs.objects.Objects.first_bad_name.Goals as goal
-use Rattle.room_inherit.proofs.objects.Objects.first_bad_name.Goals.{then-not-is_object_name-via-then-not-is_object_name, then-not-is_object_name-via-else-not-is_object_name+in_ok-insert+then-not-branch}
+use Rattle.room_inherit.proofs.objects.Objects.first_bad_name.Goals.{then-not-is_object_name-via-then-not-is_object_name}
+use Rattle.room_inherit.proofs.objects.Objects.first_bad_name.Goals.{then-not-is_object_name-via-else-not-is_object_name+in_ok-insert+then-not-branch}
 
 pub returns-then-not-is_object_name : goal.returns-then-not-is_object_name
 returns-then-not-is_object_name c =

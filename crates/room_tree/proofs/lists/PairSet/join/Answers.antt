@@ -1,10 +1,13 @@
-use Rattle.std.proofs.Common.{◌≡◌, ◌<◌, ◌++◌, ◌∙◌, ℕ, List, false, true, sym, ap, subst, arith, take, drop, length, get_or}
+use Rattle.std.proofs.Common.{◌≡◌, ◌<◌, ◌++◌, ◌∙◌, ℕ, List, false, true, sym, ap, subst, arith}
+use Rattle.std.proofs.Common.{take, drop, length, get_or}
 use Rattle.std.specs.List.{insert}
 use Rattle.std.specs.List.Sorted.{IsStrictlySortedBy}
 use Rattle.room_rows.specs.Content.{is_pair_before, put_pair, set_of}
 use Rattle.room_tree.specs.Pairs.{pair_cmp, is_same_pair}
-use Rattle.room_tree.proofs.Paired.{put_in_place, put_there, put_last, put_sorted, sorted_set, joined, item_is}
-use Rattle.room_tree.proofs.lists.PairSet.join.Goals.{else-place-len-via-then-place-len+else-is_same, else-place-len-via-else-place-len}
+use Rattle.room_tree.proofs.Paired.{put_in_place, put_there, put_last, put_sorted, sorted_set}
+use Rattle.room_tree.proofs.Paired.{joined, item_is}
+use Rattle.room_tree.proofs.lists.PairSet.join.Goals.{else-place-len-via-then-place-len+else-is_same}
+use Rattle.room_tree.proofs.lists.PairSet.join.Goals.{else-place-len-via-else-place-len}
 use Rattle.room_tree.proofs.lists.PairSet.join.Goals as goal
 
 pub returns-then-is_same-clause-ok : goal.returns-then-is_same-clause-ok

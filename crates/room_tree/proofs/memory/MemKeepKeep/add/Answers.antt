@@ -5,7 +5,8 @@ use Rattle.room_rows.specs.Content.{put_body, put_node}
 use Rattle.room_rows.specs.Finding.{find_id}
 use Rattle.room_rows.specs.Keep.{node_of}
 use Rattle.room_tree.specs.Objects.{greatest}
-use Rattle.room_tree.proofs.Changed.{added, added_rows, node_rows, none_past, err_writes, err_becomes, err_fault}
+use Rattle.room_tree.proofs.Changed.{added, added_rows, node_rows, none_past, err_writes}
+use Rattle.room_tree.proofs.Changed.{err_becomes, err_fault}
 use Rattle.room_rows.proofs.Steps.{handed_on}
 use Rattle.room_tree.proofs.memory.MemKeepKeep.add.Goals as goal
 

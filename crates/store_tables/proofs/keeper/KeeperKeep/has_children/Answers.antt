@@ -1,4 +1,5 @@
-use Rattle.std.proofs.Common.{◌≡◌, length, not, refl, sym, ap, subst, ◌∙◌, pos, arith, to_z, of_z, w64}
+use Rattle.std.proofs.Common.{◌≡◌, length, not, refl, sym, ap, subst, ◌∙◌, pos, arith, to_z, of_z}
+use Rattle.std.proofs.Common.{w64}
 use Rattle.std.proofs.Math.Facts.{to_z-of_z}
 use Rattle.std.specs.Prelude.{◌==◌}
 use Rattle.sqlite.specs.Held.{state}

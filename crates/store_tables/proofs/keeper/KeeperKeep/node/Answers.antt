@@ -9,7 +9,8 @@ use Rattle.room_rows.specs.Keep.{IsNodeAt, IsUnreadableAt}
 use Rattle.store_tables.specs.Meaning.{rows_of}
 use Rattle.store_tables.specs.Seeing.{result_of_seen, seen_only}
 use Rattle.store_tables.specs.Trust.{IsTrusted}
-use Rattle.store_tables.proofs.Nodes.{Tells, if_seen, tells_node, told_answers, told_cause, told_unfailed}
+use Rattle.store_tables.proofs.Nodes.{Tells, if_seen, tells_node, told_answers, told_cause}
+use Rattle.store_tables.proofs.Nodes.{told_unfailed}
 use Rattle.store_tables.proofs.keeper.KeeperKeep.node.Goals as goal
 
 pub returns : goal.returns
