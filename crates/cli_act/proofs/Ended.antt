@@ -4,8 +4,8 @@ use Rattle.sqlite.specs.Held.{Held}
 use Rattle.sqlite.specs.State.{State}
 use Rattle.cli_act.specs.Doing.{DoesTask, Works, WorksOnRoom}
 use Rattle.cli_act.specs.declared.outcome.Outcome.{Outcome}
-use Rattle.cli_tasks.specs.declared.judging.Task.{Task}
-use Rattle.cli_tasks.specs.declared.judging.Task.TheVariants as task
+use Rattle.cli_words.specs.declared.judging.Task.{Task}
+use Rattle.cli_words.specs.declared.judging.Task.TheVariants as task
 
 work_ended : (work : Task) (old new : State) (outcome : Outcome) → Works work old outcome new
     → old.in_transaction ≡ false → new.in_transaction ≡ false

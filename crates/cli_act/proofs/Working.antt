@@ -3,8 +3,8 @@ use Rattle.sqlite.specs.Held.{Held}
 use Rattle.sqlite.specs.State.{State}
 use Rattle.cli_act.specs.Doing.{DoesTask, IsWork, WorksOnRoom}
 use Rattle.cli_act.specs.declared.outcome.Outcome.{Outcome}
-use Rattle.cli_tasks.specs.declared.judging.Task.{Task}
-use Rattle.cli_tasks.specs.declared.judging.Task.TheVariants as task
+use Rattle.cli_words.specs.declared.judging.Task.{Task}
+use Rattle.cli_words.specs.declared.judging.Task.TheVariants as task
 
 module _ {S : Type 0} (shown : Held S → State) where
   pub does_work : (work : Task) (old new : Held S) (outcome : Outcome) → IsWork work

@@ -5,7 +5,7 @@ use Rattle.sqlite.specs.State.{State}
 use Rattle.cli_act.specs.Doing.{DoesTask}
 use Rattle.cli_act.specs.Telling.{PrintsOutcome}
 use Rattle.cli_act.specs.declared.outcome.Outcome.{Outcome}
-use Rattle.cli_tasks.specs.declared.judging.Task.{Task}
+use Rattle.cli_words.specs.declared.judging.Task.{Task}
 
 -- The outcome of the task is what is printed.
 pub record Acts {S : Type 0} (shown : Held S → State) (work : Task) (old new : Held S)

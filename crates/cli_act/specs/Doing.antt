@@ -36,8 +36,8 @@ use Rattle.cli_outcome.specs.declared.fault.Fault.TheVariants.{Database, Memory}
 use Rattle.cli_act.specs.declared.outcome.TaskAnswer.TheVariants as answer
 use Rattle.cli_act.specs.declared.outcome.Outcome.{Outcome}
 use Rattle.cli_act.specs.declared.outcome.Outcome.TheVariants.{Answer, Bytes, Failed}
-use Rattle.cli_tasks.specs.declared.judging.Task.{Task}
-use Rattle.cli_tasks.specs.declared.judging.Task.TheVariants as task
+use Rattle.cli_words.specs.declared.judging.Task.{Task}
+use Rattle.cli_words.specs.declared.judging.Task.TheVariants as task
 use Rattle.cli_act.specs.Counting.{distinct_groups}
 
 -- ---- what comes of an answer

@@ -5,7 +5,7 @@ ghost use Rattle.cli_act.specs.Acting.{Acts};
 
 use crate::doing::do_task;
 use crate::telling::tell;
-use cli_tasks::Task;
+use cli_words::Task;
 use sqlite::{Alter, Connection};
 use std::alloc::Global;
 use std::io::Write;

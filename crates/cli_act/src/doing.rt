@@ -7,7 +7,7 @@ ghost use Rattle.cli_act.specs.Doing.{RaisesRoom, after_create, after_migrate};
 use crate::opened::work;
 use crate::outcome::{Outcome, TaskAnswer};
 use cli_outcome::Fault;
-use cli_tasks::Task;
+use cli_words::Task;
 use room_ace::Owners;
 use room_store::Store;
 use sqlite::{Alter, Connection};

@@ -21,7 +21,7 @@ ghost use Rattle.room_import.specs.Exports.{groups_text, records_text};
 use crate::counting::count_groups;
 use crate::outcome::{Outcome, TaskAnswer};
 use cli_outcome::Fault;
-use cli_tasks::Task;
+use cli_words::Task;
 use room_ace::{Name, SentList, Which};
 use room_import::{write_audits, write_groups};
 use room_inherit::Report;

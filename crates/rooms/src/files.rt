@@ -2,8 +2,8 @@
 ghost use Rattle.std.specs.Prelude.{◌≡◌, IfOk, false};
 
 use crate::look::test_unopened;
-use cli_console::Stop;
 use cli_outcome::Fault;
+use cli_words::Stop;
 use sqlite::Connection;
 use sqlite_std_file::{FileFrom, Start};
 use sqlite_store::FileStore;

@@ -2,8 +2,8 @@
 //! isn't a room is left as it was.
 ghost use Rattle.std.specs.Prelude.{◌≡◌, false};
 
-use cli_console::Stop;
 use cli_outcome::Fault;
+use cli_words::Stop;
 use room_store::Store;
 use sqlite::{Connection, Options};
 use sqlite_disk::{Disk, Files, Memory};

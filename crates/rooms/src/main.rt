@@ -30,8 +30,8 @@
 //!
 //! 1. The words are read, by `cli_words`.
 //! 2. The list on standard input or the CSV file is read, up to one byte more than it may have, by
-//!    `cli_console`.
-//! 3. Owner and group, the path and what was read are validated, by `cli_tasks`. Where something is
+//!    `cli_words` too.
+//! 3. Owner and group, the path and what was read are validated, by `cli_words`. Where something is
 //!    refused up to here, no file of a room is opened or made.
 //! 4. The file is opened, or made by `init`: `files`. One that cannot be opened is a fault, and an
 //!    empty one is no room.
@@ -52,8 +52,7 @@ mod look;
 mod work;
 
 use cli_check::tell_check;
-use cli_console::{Stop, tell_stop};
-use cli_words::{Command, read_command};
+use cli_words::{Command, Stop, read_command, tell_stop};
 use sqlite_std_file::{Start, Unknown};
 use std::env;
 use std::io::ErrorKind;

@@ -1,13 +1,11 @@
 //! The subcommands that need the file of a room.
 ghost use Rattle.std.specs.Prelude.{◌≡◌, ℕ, List, IsSome, false};
-ghost use Rattle.cli_tasks.specs.Tasks.{task_of};
+ghost use Rattle.cli_words.specs.Tasks.{task_of};
 
 use crate::files::{FileConnection, close, connect, make_file, open, take_away};
 use cli_act::act;
-use cli_console::{Stop, read_task};
 use cli_serve::{NetPorts, host};
-use cli_tasks::Task;
-use cli_words::{Command, Input};
+use cli_words::{Command, Input, Stop, Task, read_task};
 use http_serve::Seconds;
 use sqlite_std_file::Start;
 use std::{fs, io};

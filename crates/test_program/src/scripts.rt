@@ -1,7 +1,6 @@
 //! Subcommands one after another on a database in memory.
 use cli_act::act;
-use cli_tasks::{Task, TaskRefusal, judge};
-use cli_words::Command;
+use cli_words::{Command, Task, TaskRefusal, judge};
 use room_ace::{Failure, Which};
 use sqlite::{Connection, MemStore};
 use std::alloc::Global;

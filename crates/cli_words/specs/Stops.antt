@@ -9,10 +9,10 @@ use Rattle.cli_outcome.specs.Ending.{fault_line, fault_of_kind}
 use Rattle.cli_outcome.specs.declared.fault.Fault.TheVariants as fault
 use Rattle.cli_outcome.specs.Written.{PrintsText, WritesSome}
 use Rattle.cli_outcome.specs.declared.status.Status.TheVariants as status
-use Rattle.cli_console.specs.declared.stop.Stop.{Stop}
-use Rattle.cli_console.specs.declared.stop.Stop.TheVariants as stop
-use Rattle.cli_tasks.specs.Tasks.{refusal_text}
-use Rattle.cli_tasks.specs.declared.refusal.TaskRefusal.{TaskRefusal}
+use Rattle.cli_words.specs.declared.stop.Stop.{Stop}
+use Rattle.cli_words.specs.declared.stop.Stop.TheVariants as stop
+use Rattle.cli_words.specs.Tasks.{refusal_text}
+use Rattle.cli_words.specs.declared.refusal.TaskRefusal.{TaskRefusal}
 use Rattle.cli_words.specs.declared.command.CliFault.{CliFault}
 
 -- ---- why it ends

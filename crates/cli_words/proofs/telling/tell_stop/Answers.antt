@@ -1,4 +1,4 @@
-use Rattle.cli_console.proofs.telling.tell_stop.Goals as goal
+use Rattle.cli_words.proofs.telling.tell_stop.Goals as goal
 
 pub returns-in-Exists : goal.returns-in-Exists
 returns-in-Exists g c = rw c.in-Exists.is c.tell_text.ensures

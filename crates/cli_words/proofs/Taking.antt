@@ -13,19 +13,19 @@ use Rattle.room_import.specs.Groups.{groups_in}
 use Rattle.cli_outcome.specs.Ending.{IsOfStream}
 use Rattle.cli_outcome.specs.Reading.{IsInput}
 use Rattle.cli_outcome.specs.declared.fault.Fault.{Fault as StreamFault}
-use Rattle.cli_tasks.specs.Tasks.{goes_on, pairs_in, task_path, refused_by, reset_of, sent_in}
-use Rattle.cli_tasks.specs.Tasks.{task_of}
-use Rattle.cli_tasks.specs.declared.judging.Task.{Task}
-use Rattle.cli_tasks.specs.declared.judging.Task.TheVariants as task
-use Rattle.cli_tasks.specs.declared.refusal.TaskRefusal.{TaskRefusal}
-use Rattle.cli_tasks.specs.declared.refusal.TaskRefusal.TheVariants as refusal
+use Rattle.cli_words.specs.Tasks.{goes_on, pairs_in, task_path, refused_by, reset_of, sent_in}
+use Rattle.cli_words.specs.Tasks.{task_of}
+use Rattle.cli_words.specs.declared.judging.Task.{Task}
+use Rattle.cli_words.specs.declared.judging.Task.TheVariants as task
+use Rattle.cli_words.specs.declared.refusal.TaskRefusal.{TaskRefusal}
+use Rattle.cli_words.specs.declared.refusal.TaskRefusal.TheVariants as refusal
 use Rattle.cli_words.specs.Asked.{input_of}
 use Rattle.cli_words.specs.declared.command.Command.{Command}
 use Rattle.cli_words.specs.declared.command.Command.TheVariants as command
-use Rattle.cli_console.specs.Reads.{IsTask, ReadsTask, most_of}
-use Rattle.cli_console.specs.Stops.{stop_of_refusal}
-use Rattle.cli_console.specs.declared.stop.Stop.{Stop}
-use Rattle.cli_console.specs.declared.stop.Stop.TheVariants as stop
+use Rattle.cli_words.specs.Reads.{IsTask, ReadsTask, most_of}
+use Rattle.cli_words.specs.Stops.{stop_of_refusal}
+use Rattle.cli_words.specs.declared.stop.Stop.{Stop}
+use Rattle.cli_words.specs.declared.stop.Stop.TheVariants as stop
 
 -- a test of the length, and then of the bytes
 limited : {A : Type 0} (most : ℕ) (long : A) (read : List ℕ → A) (input : List ℕ)

@@ -1,12 +1,12 @@
 //! Validates a subcommand's words and input.
 ghost use Rattle.std.specs.Prelude.{IfSome, IsSome};
 ghost use Rattle.room_entry.specs.Gives.{Gives};
-ghost use Rattle.cli_tasks.specs.Tasks.{task_name, init_task, pairs_in, task_path, reset_of};
-ghost use Rattle.cli_tasks.specs.Tasks.{sent_in};
-ghost use Rattle.cli_tasks.specs.Tasks.{task_of};
+ghost use Rattle.cli_words.specs.Tasks.{task_name, init_task, pairs_in, task_path, reset_of};
+ghost use Rattle.cli_words.specs.Tasks.{sent_in};
+ghost use Rattle.cli_words.specs.Tasks.{task_of};
 
+use crate::command::Command;
 use crate::refusal::TaskRefusal;
-use cli_words::Command;
 use room_ace::{Failure, MOST_BYTES, Name, Owners, SentList, Which, read_list, read_name};
 use room_import::{Pairs, read_groups};
 use room_rows::{Path, read_path};

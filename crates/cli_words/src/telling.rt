@@ -3,12 +3,12 @@ ghost use Rattle.std.specs.Prelude.{◌≡◌, ◌++◌, ◌∷◌, [], IfOk, st
 ghost use Rattle.room_entry.specs.Bytes.{line_feed};
 ghost use Rattle.cli_outcome.specs.Written.{PrintsText, WritesSome};
 ghost use Rattle.cli_outcome.specs.declared.status.Status.TheVariants.{Refused};
-ghost use Rattle.cli_tasks.specs.Tasks.{refusal_text};
-ghost use Rattle.cli_console.specs.Stops.{TellsStop};
+ghost use Rattle.cli_words.specs.Tasks.{refusal_text};
+ghost use Rattle.cli_words.specs.Stops.{TellsStop};
 
+use crate::refusal::TaskRefusal;
 use crate::stop::Stop;
 use cli_outcome::{Fault, Status, tell_fault, tell_if_possible, tell_text};
-use cli_tasks::TaskRefusal;
 use std::alloc::{AllocError, Global};
 use std::io::Write;
 

@@ -2,12 +2,12 @@
 ghost use Rattle.std.specs.Prelude.{◌≡◌};
 ghost use Rattle.std.specs.IoError.{error_kind};
 ghost use Rattle.cli_outcome.specs.declared.fault.Fault.TheVariants.{Memory};
-ghost use Rattle.cli_console.specs.declared.stop.Stop.TheVariants.{Failed};
-ghost use Rattle.cli_console.specs.Stops.{stop_of_kind, stop_of_refusal, stop_of_words};
+ghost use Rattle.cli_words.specs.declared.stop.Stop.TheVariants.{Failed};
+ghost use Rattle.cli_words.specs.Stops.{stop_of_kind, stop_of_refusal, stop_of_words};
 
+use crate::command::CliFault;
+use crate::refusal::TaskRefusal;
 use cli_outcome::Fault;
-use cli_tasks::TaskRefusal;
-use cli_words::CliFault;
 use room_ace::Failure;
 use std::alloc::AllocError;
 use std::io;

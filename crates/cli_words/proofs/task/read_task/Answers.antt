@@ -1,6 +1,6 @@
 use Rattle.std.proofs.Common.{subst}
-use Rattle.cli_console.proofs.Taking.{unread, whole}
-use Rattle.cli_console.proofs.reading.read_task.Goals as goal
+use Rattle.cli_words.proofs.Taking.{unread, whole}
+use Rattle.cli_words.proofs.task.read_task.Goals as goal
 
 pub returns-in-Ok : goal.returns-in-Ok
 returns-in-Ok g c =

@@ -1,5 +1,5 @@
 //! Why words or an input are refused.
-ghost use Rattle.cli_tasks.specs.Tasks.{refusal_text};
+ghost use Rattle.cli_words.specs.Tasks.{refusal_text};
 
 use room_ace::{LineFault, TextFault};
 use room_import::CsvFault;

@@ -2,14 +2,14 @@
 use Rattle.std.specs.Prelude.{◌≡◌, ℕ, List, Option, Some, Result, Ok, Err}
 use Rattle.cli_outcome.specs.Ending.{IsOfStream}
 use Rattle.cli_outcome.specs.Reading.{IsInput}
-use Rattle.cli_tasks.specs.Tasks.{task_of}
-use Rattle.cli_tasks.specs.declared.judging.Task.{Task}
-use Rattle.cli_tasks.specs.declared.refusal.TaskRefusal.{TaskRefusal}
+use Rattle.cli_words.specs.Tasks.{task_of}
+use Rattle.cli_words.specs.declared.judging.Task.{Task}
+use Rattle.cli_words.specs.declared.refusal.TaskRefusal.{TaskRefusal}
 use Rattle.cli_words.specs.declared.command.Command.{Command}
 use Rattle.cli_words.specs.declared.command.Input.{Input}
 use Rattle.cli_words.specs.declared.command.Input.TheVariants as input
-use Rattle.cli_console.specs.declared.stop.Stop.{Stop}
-use Rattle.cli_console.specs.declared.stop.Stop.TheVariants as stop
+use Rattle.cli_words.specs.declared.stop.Stop.{Stop}
+use Rattle.cli_words.specs.declared.stop.Stop.TheVariants as stop
 
 -- One byte more than a list or a group file may have.
 abbrev pub most_of : Input → ℕ

@@ -1,13 +1,13 @@
 //! The task of a command and of what is read for it.
 ghost use Rattle.std.specs.Prelude.{◌≡◌, ℕ, List, IsSome};
-ghost use Rattle.cli_tasks.specs.Tasks.{task_of};
+ghost use Rattle.cli_words.specs.Tasks.{task_of};
 ghost use Rattle.cli_words.specs.Asked.{input_of};
-ghost use Rattle.cli_console.specs.Reads.{IsTask, ReadsTask, most_of};
+ghost use Rattle.cli_words.specs.Reads.{IsTask, ReadsTask, most_of};
 
+use crate::command::{Command, Input};
+use crate::judging::{MOST_GROUP_BYTES, Task, judge};
 use crate::stop::Stop;
 use cli_outcome::{Fault, read_front};
-use cli_tasks::{MOST_GROUP_BYTES, Task, judge};
-use cli_words::{Command, Input};
 use room_ace::MOST_BYTES;
 use std::alloc::Global;
 use std::io::Read;

@@ -1,7 +1,7 @@
 use Rattle.std.proofs.Common.{refl, inl, inr}
 use Rattle.cli_outcome.proofs.KnownBytes.{writes_none}
 use Rattle.cli_outcome.specs.declared.fault.Fault.TheVariants as fault
-use Rattle.cli_console.proofs.telling.tell_refusal.Goals as goal
+use Rattle.cli_words.proofs.telling.tell_refusal.Goals as goal
 
 -- Where memory for the line runs out, nothing of it is written.
 pub returns-in-Err : goal.returns-in-Err

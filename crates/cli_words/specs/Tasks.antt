@@ -11,10 +11,10 @@ use Rattle.room_import.specs.Faults.{csv_fault_text}
 use Rattle.room_import.specs.Groups.{groups_in}
 use Rattle.room_rows.specs.Faults.{path_fault_text}
 use Rattle.room_rows.specs.Paths.{path_of}
-use Rattle.cli_tasks.specs.declared.judging.Task.{Task}
-use Rattle.cli_tasks.specs.declared.judging.Task.TheVariants as task
-use Rattle.cli_tasks.specs.declared.refusal.TaskRefusal.{TaskRefusal}
-use Rattle.cli_tasks.specs.declared.refusal.TaskRefusal.TheVariants as refusal
+use Rattle.cli_words.specs.declared.judging.Task.{Task}
+use Rattle.cli_words.specs.declared.judging.Task.TheVariants as task
+use Rattle.cli_words.specs.declared.refusal.TaskRefusal.{TaskRefusal}
+use Rattle.cli_words.specs.declared.refusal.TaskRefusal.TheVariants as refusal
 use Rattle.cli_words.specs.declared.command.Command.{Command}
 use Rattle.cli_words.specs.declared.command.Command.TheVariants as command
 
