@@ -1,2 +1,5 @@
-pub mod Serving
+pub mod Receiving
+pub mod Told
+mod Staying
+pub mod Hosted
 pub mod Texts

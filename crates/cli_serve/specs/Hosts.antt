@@ -13,9 +13,9 @@ use Rattle.store_schema.specs.declared.fault.OpenFault.{OpenFault}
 use Rattle.room_store.specs.Kept.{IsShut}
 use Rattle.room_store.specs.Leads.{Leads}
 use Rattle.room_store.specs.Opens.{Opens}
-use Rattle.http_serve.specs.Lines.{TellsFaults, listening_line}
-use Rattle.http_serve.specs.Visits.{IsEnd, IsServedVisit, Visit, moment_of, requests_of}
-use Rattle.http_serve.specs.declared.fault.ServingFault.{ServingFault}
+use Rattle.cli_serve.specs.Lines.{TellsFaults, listening_line}
+use Rattle.cli_serve.specs.Visits.{IsEnd, IsServedVisit, Visit, moment_of, requests_of}
+use Rattle.cli_serve.specs.declared.fault.ServingFault.{ServingFault}
 use Rattle.cli_serve.specs.Places.{AsksFor, Place, local_place}
 
 -- the line that is printed where the database holds no room of this version

@@ -1,2 +1,6 @@
+pub mod Accepting
+pub mod Lines
+pub mod Staying
+pub mod Visits
 pub mod Hosts
 pub mod Places

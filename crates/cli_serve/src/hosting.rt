@@ -2,15 +2,17 @@
 ghost use Rattle.std.specs.Prelude.{◌≡◌, ◌⊎◌, List, [], ◌∷◌, OnOk, false};
 ghost use Rattle.sqlite.specs.Held.{state};
 ghost use Rattle.room_store.specs.Leads.{Leads};
-ghost use Rattle.http_serve.specs.Lines.{TellsFaults};
-ghost use Rattle.http_serve.specs.Staying.{Rests, Served};
-ghost use Rattle.http_serve.specs.Visits.{Visit, requests_of};
+ghost use Rattle.cli_serve.specs.Lines.{TellsFaults};
+ghost use Rattle.cli_serve.specs.Staying.{Rests, Served};
+ghost use Rattle.cli_serve.specs.Visits.{Visit, requests_of};
 ghost use Rattle.cli_serve.specs.Hosts.{Hosts, IsServed, TellsPort};
 ghost use Rattle.cli_serve.specs.Places.{AsksFor, local_place};
 
+use crate::fault::ServingFault;
+use crate::moment::Moments;
 use crate::ports::Ports;
+use crate::serving::serve_on;
 use crate::telling::{tell_end, tell_opening};
-use http_serve::{Moments, ServingFault, serve_on};
 use room_machine::Desk;
 use room_store::Store;
 use sqlite::{Alter, Connection};

@@ -1,9 +1,18 @@
-//! The subcommand `serve` on an open database.
+//! The subcommand `serve` on an open database: connections of a listener, one after another. They
+//! are served over any desk.
 #![tactic(auto)]
 
+mod accepting;
+mod fault;
 mod hosting;
+mod lines;
+mod moment;
 mod ports;
+mod serving;
 mod telling;
 
+pub use fault::ServingFault;
 pub use hosting::host;
+pub use moment::{Moments, Seconds};
 pub use ports::{NetPorts, Ports};
+pub use serving::serve_on;

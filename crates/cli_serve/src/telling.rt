@@ -3,8 +3,8 @@ ghost use Rattle.std.specs.Prelude.{◌≡◌};
 ghost use Rattle.cli_serve.specs.Hosts.{PrintsRefusal, TellsEnd, TurnsDown, end_status};
 ghost use Rattle.cli_serve.specs.Hosts.{serving_fault, why_not_opened};
 
+use crate::fault::ServingFault;
 use cli_outcome::{Fault, NoRoom, Status, tell_fault, tell_text};
-use http_serve::ServingFault;
 use std::alloc::Global;
 use std::io::Write;
 use store_schema::OpenFault;

@@ -4,9 +4,8 @@ ghost use Rattle.cli_words.specs.Tasks.{task_of};
 
 use crate::files::{FileConnection, close, connect, make_file, open, take_away};
 use cli_act::act;
-use cli_serve::{NetPorts, host};
+use cli_serve::{NetPorts, Seconds, host};
 use cli_words::{Command, Input, Stop, Task, read_task};
-use http_serve::Seconds;
 use sqlite_std_file::Start;
 use std::{fs, io};
 

@@ -1,7 +1,6 @@
 //! The subcommand `serve` on a database in memory.
 use crate::meeting::{DONE, Full, MADE, PUT, gets, listens, same_bytes, sends};
-use cli_serve::{NetPorts, host};
-use http_serve::Seconds;
+use cli_serve::{NetPorts, Seconds, host};
 use room_ace::{Owners, read_name};
 use room_store::Store;
 use sqlite::{Connection, MemStore};

@@ -4,7 +4,7 @@ ghost use Rattle.std.specs.Prelude.{⊤};
 use crate::meeting::{
     DONE, Full, MADE, PUT, connects, gets, grows_impatient, listens, sends, serves, serves_untold,
 };
-use http_serve::{Moments, Seconds, ServingFault, serve_on};
+use cli_serve::{Moments, Seconds, ServingFault, serve_on};
 use room_memory::MemDesk;
 use std::io::Write;
 use std::test::Fail;

@@ -1,5 +1,5 @@
 //! Clients that have sent everything before a connection is accepted, and writers that fail.
-use http_serve::{Moments, ServingFault, serve_on};
+use cli_serve::{Moments, ServingFault, serve_on};
 use room_machine::Desk;
 use std::alloc::Global;
 use std::io;

@@ -1,7 +1,7 @@
 use Rattle.std.proofs.Common.{[], inl, inr}
 use Rattle.sqlite.specs.Held.{state}
-use Rattle.http_serve.specs.Visits.{requests_of}
-use Rattle.cli_serve.proofs.Serving.{after, asks_none}
+use Rattle.cli_serve.specs.Visits.{requests_of}
+use Rattle.cli_serve.proofs.Hosted.{after, asks_none}
 use Rattle.cli_serve.proofs.hosting.host.Goals as goal
 
 pub returns-in-Ok-clause-leads : goal.returns-in-Ok-clause-leads

@@ -2,7 +2,7 @@ use Rattle.std.proofs.Common.{◌⊎◌, [], inl, inr, subst, sym}
 use Rattle.sqlite.specs.Held.{Held, state}
 use Rattle.room_store.specs.Leads.{Leads}
 use Rattle.cli_serve.specs.Hosts.{IsServed, TellsPort}
-use Rattle.cli_serve.proofs.Serving.{left_shut, rested, served}
+use Rattle.cli_serve.proofs.Hosted.{left_shut, rested, served}
 use Rattle.cli_serve.proofs.hosting.host_store.Goals as goal
 
 pub returns-clause-served : goal.returns-clause-served

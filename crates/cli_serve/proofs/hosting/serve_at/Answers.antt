@@ -1,5 +1,5 @@
 use Rattle.std.proofs.Common.{inl, refl}
-use Rattle.cli_serve.proofs.Serving.{rests, rests_or, unserved, untold}
+use Rattle.cli_serve.proofs.Hosted.{rests, rests_or, unserved, untold}
 use Rattle.cli_serve.proofs.hosting.serve_at.Goals as goal
 
 pub returns-in-Ok-clause-first : goal.returns-in-Ok-clause-first

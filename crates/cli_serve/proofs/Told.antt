@@ -5,10 +5,10 @@ use Rattle.std.proofs.lemmas.Fmt.{contents_after_writes}
 use Rattle.std.specs.Fmt.{WritesInCalls}
 use Rattle.std.specs.Io.KnownBytes.{Appends}
 use Rattle.cli_outcome.specs.Written.{WritesSome}
-use Rattle.http_serve.specs.Lines.{MayTell, TellsEach, TellsFaults, Writing}
-use Rattle.http_serve.specs.Staying.{Lasts}
-use Rattle.http_serve.specs.Visits.{ReceivesAll}
-use Rattle.http_serve.specs.declared.fault.ServingFault.{ServingFault}
+use Rattle.cli_serve.specs.Lines.{MayTell, TellsEach, TellsFaults, Writing}
+use Rattle.cli_serve.specs.Staying.{Lasts}
+use Rattle.cli_serve.specs.Visits.{ReceivesAll}
+use Rattle.cli_serve.specs.declared.fault.ServingFault.{ServingFault}
 use Rattle.room_machine.specs.declared.desk.Desk.{Ghosts}
 
 -- a text was written piece by piece at the end of another

@@ -1,7 +1,7 @@
 use Rattle.std.proofs.Common.{inr, refl}
-use Rattle.http_serve.specs.declared.fault.ServingFault.{ServingFault}
-use Rattle.http_serve.proofs.Staying.{unserved}
-use Rattle.http_serve.proofs.serving.serve_on.Goals as goal
+use Rattle.cli_serve.specs.declared.fault.ServingFault.{ServingFault}
+use Rattle.cli_serve.proofs.Staying.{unserved}
+use Rattle.cli_serve.proofs.serving.serve_on.Goals as goal
 
 pub returns-in_default-clause-received : goal.returns-in_default-clause-received
 returns-in_default-clause-received g c =

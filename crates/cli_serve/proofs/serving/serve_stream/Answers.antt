@@ -1,7 +1,7 @@
 use Rattle.std.proofs.Common.{w64}
 use Rattle.std.proofs.lemmas.Int.{to_z-of_z}
-use Rattle.http_serve.proofs.Receiving.{attends}
-use Rattle.http_serve.proofs.serving.serve_stream.Goals as goal
+use Rattle.cli_serve.proofs.Receiving.{attends}
+use Rattle.cli_serve.proofs.serving.serve_stream.Goals as goal
 
 pub returns-in-Ok : goal.returns-in-Ok
 returns-in-Ok g c =

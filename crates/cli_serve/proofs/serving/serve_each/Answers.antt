@@ -1,12 +1,12 @@
 use Rattle.std.proofs.Common.{◌≡◌, ◌≤◌, ◌+◌, arith, refl, sym, ◌∙◌}
 use Rattle.std.specs.Io.KnownBytes.{Appends}
 use Rattle.cli_outcome.specs.Written.{WritesSome}
-use Rattle.http_serve.specs.declared.fault.ServingFault.{ServingFault}
-use Rattle.http_serve.proofs.Receiving.{all_others, none}
-use Rattle.http_serve.proofs.Staying.{all_served, left_shut, missing, stays_on, untold}
-use Rattle.http_serve.proofs.Told.{told_all, told_next, told_some}
-use Rattle.http_serve.proofs.serving.serve_each.Goals as goal
-use Rattle.http_serve.proofs.serving.serve_each.Goals.{then-told, else-told}
+use Rattle.cli_serve.specs.declared.fault.ServingFault.{ServingFault}
+use Rattle.cli_serve.proofs.Receiving.{all_others, none}
+use Rattle.cli_serve.proofs.Staying.{all_served, left_shut, missing, stays_on, untold}
+use Rattle.cli_serve.proofs.Told.{told_all, told_next, told_some}
+use Rattle.cli_serve.proofs.serving.serve_each.Goals as goal
+use Rattle.cli_serve.proofs.serving.serve_each.Goals.{then-told, else-told}
 
 pub returns-in-Err-clause-received : goal.returns-in-Err-clause-received
 returns-in-Err-clause-received g c =

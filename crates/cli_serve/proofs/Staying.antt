@@ -6,10 +6,10 @@ use Rattle.std.proofs.lemmas.List.Elements.{All-nil}
 use Rattle.room_machine.specs.declared.desk.Desk.{Ghosts}
 use Rattle.room_machine.specs.Desk.{Agrees}
 use Rattle.room_rows.specs.Content.{Content}
-use Rattle.http_serve.specs.Staying.{Lasts, Outlasts, Passes, Rests, Served, TellsShut}
-use Rattle.http_serve.specs.Visits.{IsEnd, IsServedVisit, Receives, ReceivesAll}
-use Rattle.http_serve.specs.declared.fault.ServingFault.{ServingFault}
-use Rattle.http_serve.proofs.Receiving.{fewer, nobody, others}
+use Rattle.cli_serve.specs.Staying.{Lasts, Outlasts, Passes, Rests, Served, TellsShut}
+use Rattle.cli_serve.specs.Visits.{IsEnd, IsServedVisit, Receives, ReceivesAll}
+use Rattle.cli_serve.specs.declared.fault.ServingFault.{ServingFault}
+use Rattle.cli_serve.proofs.Receiving.{fewer, nobody, others}
 
 module _ {D : Type 0} (d : Ghosts D) where
   -- the desk was asked, and no connection came

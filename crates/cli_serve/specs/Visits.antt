@@ -6,7 +6,7 @@ use Rattle.room_machine.specs.declared.desk.Desk.{Ghosts}
 use Rattle.room_machine.specs.Run.{Event}
 use Rattle.room_http.specs.Limits.{max_messages}
 use Rattle.room_http.specs.Stream.{Exchange, IsExchange, event_at, Runs}
-use Rattle.http_serve.specs.declared.fault.ServingFault.{ServingFault}
+use Rattle.cli_serve.specs.declared.fault.ServingFault.{ServingFault}
 
 -- a connection as the desk sees it: its moment, and its messages with their replies
 pub record Visit : Type 0 where

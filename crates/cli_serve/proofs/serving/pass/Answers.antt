@@ -1,6 +1,6 @@
-use Rattle.http_serve.proofs.Receiving.{all_others}
-use Rattle.http_serve.proofs.Staying.{asked}
-use Rattle.http_serve.proofs.serving.pass.Goals as goal
+use Rattle.cli_serve.proofs.Receiving.{all_others}
+use Rattle.cli_serve.proofs.Staying.{asked}
+use Rattle.cli_serve.proofs.serving.pass.Goals as goal
 
 pub returns-in-Ok-clause-received : goal.returns-in-Ok-clause-received
 returns-in-Ok-clause-received g c =

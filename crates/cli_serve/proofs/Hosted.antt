@@ -10,10 +10,10 @@ use Rattle.room_machine.specs.Run.{Event, Run}
 use Rattle.room_http.specs.Stream.{Runs}
 use Rattle.room_store.specs.Kept.{IsShut, IsSound, Keeps}
 use Rattle.room_store.specs.Leads.{Leads}
-use Rattle.http_serve.specs.Lines.{TellsFaults}
-use Rattle.http_serve.specs.Staying.{Outlasts, Rests, Served}
-use Rattle.http_serve.specs.Visits.{IsEnd, IsServedVisit, Visit, moment_of, requests_of}
-use Rattle.http_serve.specs.declared.fault.ServingFault.{ServingFault}
+use Rattle.cli_serve.specs.Lines.{TellsFaults}
+use Rattle.cli_serve.specs.Staying.{Outlasts, Rests, Served}
+use Rattle.cli_serve.specs.Visits.{IsEnd, IsServedVisit, Visit, moment_of, requests_of}
+use Rattle.cli_serve.specs.declared.fault.ServingFault.{ServingFault}
 use Rattle.cli_serve.specs.Hosts.{IsServed, LeavesShut, TellsEnd, TellsPort, end_status}
 use Rattle.cli_serve.specs.Places.{AsksFor, Place}
 

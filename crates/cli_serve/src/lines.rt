@@ -2,7 +2,7 @@
 ghost use Rattle.std.specs.Prelude.{◌≡◌, ◌++◌, IfSome, IsTrue, OnOk};
 ghost use Rattle.std.specs.Io.KnownBytes.{Appends};
 ghost use Rattle.cli_outcome.specs.Written.{WritesSome};
-ghost use Rattle.http_serve.specs.Lines.{connection_line, listening_line};
+ghost use Rattle.cli_serve.specs.Lines.{connection_line, listening_line};
 
 use arrayvec::ArrayString;
 use cli_outcome::send_text;

@@ -1,6 +1,6 @@
 use Rattle.std.proofs.Common.{inr}
-use Rattle.http_serve.proofs.Staying.{rests, tells}
-use Rattle.http_serve.proofs.serving.says_shut.Goals as goal
+use Rattle.cli_serve.proofs.Staying.{rests, tells}
+use Rattle.cli_serve.proofs.serving.says_shut.Goals as goal
 
 pub returns-in-Ok-clause-rests : goal.returns-in-Ok-clause-rests
 returns-in-Ok-clause-rests g c =

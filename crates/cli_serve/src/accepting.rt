@@ -1,6 +1,6 @@
 //! The next connection of a listener.
 ghost use Rattle.std.specs.Prelude.{◌≡◌, IfErr};
-ghost use Rattle.http_serve.specs.Accepting.{concerns_one};
+ghost use Rattle.cli_serve.specs.Accepting.{concerns_one};
 
 use crate::fault::ServingFault;
 use std::io::ErrorKind;

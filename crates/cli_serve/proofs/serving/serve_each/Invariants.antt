@@ -1,5 +1,5 @@
-use Rattle.http_serve.proofs.Told.{IsServing}
-use Rattle.http_serve.proofs.serving.serve_each.Given as goal
+use Rattle.cli_serve.proofs.Told.{IsServing}
+use Rattle.cli_serve.proofs.serving.serve_each.Given as goal
 
 abbrev pub invariant-connections : goal.invariant-connections
 invariant-connections g l =

@@ -4,7 +4,7 @@ use Rattle.std.specs.Prelude.{Result, Ok, Err}
 use Rattle.std.specs.Io.KnownBytes.{Appends}
 use Rattle.cli_outcome.specs.Written.{WritesSome}
 use Rattle.room_http.specs.declared.ended.Cause.{Cause}
-use Rattle.http_serve.specs.declared.fault.ServingFault.{ServingFault}
+use Rattle.cli_serve.specs.declared.fault.ServingFault.{ServingFault}
 
 -- the port on which connections are accepted
 abbrev pub listening_line : ℕ → List ℕ

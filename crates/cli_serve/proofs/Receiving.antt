@@ -8,8 +8,8 @@ use Rattle.room_machine.specs.declared.desk.Desk.{Ghosts}
 use Rattle.room_machine.specs.Run.{Event}
 use Rattle.room_http.specs.Serve.{Connects, IsNext, Next, next_exchange}
 use Rattle.room_http.specs.Stream.{Exchange, IsExchange, IsOpen, Runs}
-use Rattle.http_serve.specs.Visits.{Attends, IsServedVisit, Receives, ReceivesAll, Visit, moment_of}
-use Rattle.http_serve.specs.Visits.{requests_of, visit_events}
+use Rattle.cli_serve.specs.Visits.{Attends, IsServedVisit, Receives, ReceivesAll, Visit, moment_of}
+use Rattle.cli_serve.specs.Visits.{requests_of, visit_events}
 use Rattle.room_machine.proofs.Meeting.{meet}
 use Rattle.room_http.proofs.Runs.{Runs-then}
 

@@ -1,8 +1,8 @@
 use Rattle.std.proofs.Common.{subst, rules, w64, ℤ, SFits}
 use Rattle.std.proofs.lemmas.Int.{to_z-of_z}
-use Rattle.http_serve.specs.Visits.{Attends}
-use Rattle.http_serve.proofs.Receiving.{exactly_one, lost}
-use Rattle.http_serve.proofs.serving.serve_next.Goals as goal
+use Rattle.cli_serve.specs.Visits.{Attends}
+use Rattle.cli_serve.proofs.Receiving.{exactly_one, lost}
+use Rattle.cli_serve.proofs.serving.serve_next.Goals as goal
 
 pub returns-in-Ok-Some-clause-received : goal.returns-in-Ok-Some-clause-received
 returns-in-Ok-Some-clause-received g c =

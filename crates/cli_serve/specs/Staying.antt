@@ -4,8 +4,8 @@ use Rattle.std.specs.Prelude.{Result, Err}
 use Rattle.room_machine.specs.declared.desk.Desk.{Ghosts}
 use Rattle.room_rows.specs.Keep.{one_more}
 use Rattle.room_http.specs.Stream.{Runs}
-use Rattle.http_serve.specs.Visits.{Attends, IsEnd, Receives}
-use Rattle.http_serve.specs.declared.fault.ServingFault.{ServingFault}
+use Rattle.cli_serve.specs.Visits.{Attends, IsEnd, Receives}
+use Rattle.cli_serve.specs.declared.fault.ServingFault.{ServingFault}
 
 -- nothing was done at a desk
 pub record Rests {D : Type 0} (d : Ghosts D) (old new : D) : Type 0 where

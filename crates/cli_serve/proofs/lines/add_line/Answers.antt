@@ -1,7 +1,7 @@
 use Rattle.std.proofs.Common.{ap, sym}
-use Rattle.http_serve.specs.Lines.{connection_line}
-use Rattle.http_serve.proofs.Told.{appended}
-use Rattle.http_serve.proofs.telling.add_line.Goals as goal
+use Rattle.cli_serve.specs.Lines.{connection_line}
+use Rattle.cli_serve.proofs.Told.{appended}
+use Rattle.cli_serve.proofs.lines.add_line.Goals as goal
 
 pub returns-in-Read : goal.returns-in-Read
 returns-in-Read c =

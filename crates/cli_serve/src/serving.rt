@@ -2,14 +2,14 @@
 ghost use Rattle.std.specs.Prelude.{◌≡◌, ◌⊎◌, ◌+◌, ℤ, IfErr, IfOk, IsTrue, OnOk};
 ghost use Rattle.std.specs.Io.KnownBytes.{Appends};
 ghost use Rattle.cli_outcome.specs.Written.{WritesSome};
-ghost use Rattle.http_serve.specs.Lines.{MayTell, TellsFaults, listening_line};
-ghost use Rattle.http_serve.specs.Staying.{Passes, Rests, Served, TellsShut};
-ghost use Rattle.http_serve.specs.Visits.{Attends, Receives, ReceivesAll};
+ghost use Rattle.cli_serve.specs.Lines.{MayTell, TellsFaults, listening_line};
+ghost use Rattle.cli_serve.specs.Staying.{Passes, Rests, Served, TellsShut};
+ghost use Rattle.cli_serve.specs.Visits.{Attends, Receives, ReceivesAll};
 
 use crate::accepting::accepted;
 use crate::fault::ServingFault;
+use crate::lines::{tell_fault, tell_port};
 use crate::moment::Moments;
-use crate::telling::{tell_fault, tell_port};
 use http_message::Routes;
 use room_http::{Cause, serve};
 use room_machine::Desk;

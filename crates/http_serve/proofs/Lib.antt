@@ -1,3 +1,0 @@
-pub mod Receiving
-pub mod Told
-mod Staying

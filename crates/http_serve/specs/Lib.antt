@@ -1,4 +1,0 @@
-pub mod Accepting
-pub mod Lines
-pub mod Staying
-pub mod Visits
