@@ -3,6 +3,12 @@
 #![tactic(auto)]
 
 #[cfg(test)]
+mod bad_rows;
+#[cfg(test)]
+mod calls;
+#[cfg(test)]
+mod desks;
+#[cfg(test)]
 mod dumps;
 #[cfg(test)]
 mod keepers;
@@ -10,5 +16,9 @@ mod keepers;
 mod passing;
 #[cfg(test)]
 mod paths;
+#[cfg(test)]
+mod records;
+#[cfg(test)]
+mod rooms;
 #[cfg(test)]
 mod walks;
