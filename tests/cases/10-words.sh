@@ -35,5 +35,5 @@ for name in check init serve groups groups-out audit dump reset verify migrate; 
   holds "help of $name (standard output)" [ ! -s "$work/out" ]
   holds "help of $name (usage)" grep -q "^Usage: $(basename "$rooms") $name" "$work/err"
 done
-gives 'version' 2 '' 'rooms 0.1.0\n' --version
+gives 'version' 2 '' 'rooms 1.0.0\n' --version
 gives 'an argument that is no text' 2 '' 'error: an argument is not UTF-8\n' dump $'F\xff'

@@ -9,7 +9,7 @@ use clap::{Arg, Command, value_parser};
 use std::alloc::{AllocError, Global};
 
 // What `rooms --version` prints.
-const VERSION: &str = "0.1.0";
+const VERSION: &str = "1.0.0";
 
 // Which of an object's two lists.
 static ATTRIBUTES: [&str; 2] = ["dacl", "sacl"];
