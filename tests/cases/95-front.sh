@@ -149,18 +149,24 @@ done
 wait "${many[@]}"
 for n in {1..30}; do ask "one of many" 200 "$n" bob:b "/doc/many$n"; done
 
-# The longest path: 16 names of 255 bytes, each byte escaped as three. One byte more is the room's to
-# refuse.
+# Names of 255 bytes, each byte escaped as three; 16 of them are the longest path.
 printf -v name '%127s' ''
 name=${name// /%C3%A9}%78
-path=
-for n in {1..15}; do
+# At ROOM, the path before a route, WHO makes a document with the longest path, which READER reads.
+# One byte more is the room's to refuse.
+makes_deepest() { # ROOM WHO READER
+  local n
+  path=
+  for n in {1..15}; do
+    path=$path/$name
+    ask "a folder of ${1:-the root} at depth $n" 201 '' "$2" "$1/folder$path" -X POST
+  done
   path=$path/$name
-  ask "a folder at depth $n" 201 '' alice:a "/folder$path" -X POST
-done
-ask 'a document with the longest path' 201 '' alice:a "/doc$path/$name" -X PUT --data-binary deep
-ask 'is read' 200 deep bob:b "/doc$path/$name"
-ask 'a longer path' 400 '{"why":"bad-target P2"}' bob:b "/doc$path/$name%78"
+  ask "a document of ${1:-the root} with the longest path" 201 '' "$2" "$1/doc$path" -X PUT --data-binary deep
+  ask 'is read' 200 deep "$3" "$1/doc$path"
+  ask 'a longer path' 400 '{"why":"bad-target P2"}' "$3" "$1/doc$path%78"
+}
+makes_deepest '' alice:a bob:b
 
 # A program's user, by the commands of operating.md.
 if has htpasswd && has openssl; then
@@ -231,13 +237,7 @@ for target in //invoices/doc/f /x/../invoices/doc/f /%69nvoices/doc/f /doc/../in
 done
 ask 'a way out of it' 401 - carol:c /invoices/../doc/f --path-as-is
 ask 'a way that the room judges' 400 '{"why":"bad-target P1"}' carol:c /invoices/folder/../doc/f --path-as-is
-deep=
-for n in {1..15}; do
-  deep=$deep/$name
-  ask "a folder of that room at depth $n" 201 '' carol:c "/invoices/folder$deep" -X POST
-done
-ask 'a document of that room with the longest path' 201 '' carol:c "/invoices/doc$deep/$name" -X PUT --data-binary deep
-ask 'is read there' 200 deep bob:x "/invoices/doc$deep/$name"
+makes_deepest /invoices carol:c bob:x
 for target in /invoices/ /invoices/app.js /invoices/me /invoices/doc/f /invoices/folder/; do says_all bob:x "$target"; done
 answer bob:x /invoices/doc/f
 holds 'a document of a room at a path is a file' grep -qx $'Content-Disposition: attachment\r' "$work/head"
@@ -400,7 +400,7 @@ ask 'what was sent to port 80 is not there' 200 kept bob:b /doc/f
 ask 'alice makes a document with TLS' 201 '' alice:a /doc/tls -X PUT --data-binary hello
 ask 'bob reads it with TLS' 200 hello bob:b /doc/tls
 ask 'bob is not root with TLS' 403 '{"at":"/tls","bits":"w","entry":null,"text":null}' bob:b /doc/tls -X PUT --data-binary x -H 'Room-User: root'
-ask 'the longest path with TLS' 200 deep bob:b "/doc$path/$name"
+ask 'the longest path with TLS' 200 deep bob:b "/doc$path"
 ask 'the page with TLS' 200 - bob:b /
 for field in 'Sec-Fetch-Site: cross-site' "Origin: http://rooms.example:$secure" 'Origin: https://elsewhere.example'; do
   ask "PUT with TLS, $field" 403 - alice:a /doc/tls -X PUT --data-binary x -H "$field"
