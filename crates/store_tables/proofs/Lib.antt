@@ -25,6 +25,7 @@ pub mod Numbers
 pub mod Blobs
 pub mod Nodes
 pub mod Named
+pub mod Whole
 pub mod Removed
 pub mod Put
 pub mod Replaced

@@ -17,3 +17,4 @@ pub mod Within
 pub mod Trust
 pub mod Seeing
 pub mod Columns
+pub mod Whole

@@ -4,6 +4,9 @@ ghost use Rattle.sqlite.specs.Held.{state};
 ghost use Rattle.room_rows.specs.Counts.{capped_ends, capped_rises};
 ghost use Rattle.std.specs.Prelude.{◌≡◌, ◌≤◌, pos};
 ghost use Rattle.room_rows.specs.Held.{with_held};
+ghost use Rattle.room_rows.specs.Calls.{Reads};
+ghost use Rattle.room_rows.specs.Keep.{AreChildrenOf, AreNamedUnder, HasChildren, HasNoRoot};
+ghost use Rattle.room_rows.specs.Keep.{IsChildOf, IsRootOf, IsUnreadable};
 ghost use Rattle.room_rows.specs.Keep.{capped, with_inh, with_owners, with_place, writes_after};
 ghost use Rattle.store_tables.specs.Meaning.{rows_of};
 ghost use Rattle.store_tables.specs.Columns.{IsInserted};
@@ -13,6 +16,7 @@ ghost use Rattle.store_tables.specs.Trust.{Alters, HasNoted, IsTrusted, Puts};
 ghost use Rattle.store_tables.specs.Trust.{stays_itself};
 ghost use Rattle.store_tables.specs.Trust.{stays_on, trusted_first, trusted_last};
 ghost use Rattle.store_tables.specs.RoomRows.{room_rows};
+ghost use Rattle.store_tables.specs.Whole.{Sees, SeesEach, SeesNamed, SeesSome, SeesTop};
 
 use crate::columns::{columns_of, held_columns, name_is_kept, record_of, text_is_kept};
 use crate::fault::{blamed, wrote_one};
@@ -252,7 +256,12 @@ impl<'a, 'conn, S: Alter> Keep for Keeper<'a, 'conn, S> {
       are = λ a b t. room_rows _ t.now;
     } };
 
-    fn root(&mut self) -> Result<Node, KeepFault> {
+    fn root(&mut self) -> Result<Node, KeepFault>
+        ensures read { Reads ⟦<Keeper<'a, 'conn, S> as Keep>⟧ self.old self.new result
+            HasNoRoot IsRootOf }
+        ensures whole { Sees (state S.Store self.old.tx.now.conn.now)
+            (state S.Store self.new.tx.now.conn.now) result SeesTop }
+    {
         let rows = match select_top(self.tx) {
             Ok(rows) => rows,
             Err(error) => return Err(blamed(error, &mut self.failures)),
@@ -282,7 +291,12 @@ impl<'a, 'conn, S: Alter> Keep for Keeper<'a, 'conn, S> {
         answer(seen, &mut self.failures)
     }
 
-    fn child(&mut self, parent: u64, name: &str) -> Result<Option<Node>, KeepFault> {
+    fn child(&mut self, parent: u64, name: &str) -> Result<Option<Node>, KeepFault>
+        ensures read { Reads ⟦<Keeper<'a, 'conn, S> as Keep>⟧ self.old self.new result
+            IsUnreadable (IsChildOf parent name.now) }
+        ensures whole { Sees (state S.Store self.old.tx.now.conn.now)
+            (state S.Store self.new.tx.now.conn.now) result (SeesNamed parent name.now) }
+    {
         let Some(at) = rowid_of(parent) else {
             return Err(failed(&mut self.failures));
         };
@@ -294,7 +308,12 @@ impl<'a, 'conn, S: Alter> Keep for Keeper<'a, 'conn, S> {
         answer(seen, &mut self.failures)
     }
 
-    fn children(&mut self, parent: u64) -> Result<Nodes, KeepFault> {
+    fn children(&mut self, parent: u64) -> Result<Nodes, KeepFault>
+        ensures read { Reads ⟦<Keeper<'a, 'conn, S> as Keep>⟧ self.old self.new result
+            IsUnreadable (AreChildrenOf parent) }
+        ensures whole { Sees (state S.Store self.old.tx.now.conn.now)
+            (state S.Store self.new.tx.now.conn.now) result (SeesEach parent) }
+    {
         let Some(at) = rowid_of(parent) else {
             return Err(failed(&mut self.failures));
         };
@@ -306,7 +325,12 @@ impl<'a, 'conn, S: Alter> Keep for Keeper<'a, 'conn, S> {
         answer(seen, &mut self.failures)
     }
 
-    fn listing(&mut self, parent: u64) -> Result<Listing, KeepFault> {
+    fn listing(&mut self, parent: u64) -> Result<Listing, KeepFault>
+        ensures read { Reads ⟦<Keeper<'a, 'conn, S> as Keep>⟧ self.old self.new result
+            IsUnreadable (AreNamedUnder parent) }
+        ensures whole { Sees (state S.Store self.old.tx.now.conn.now)
+            (state S.Store self.new.tx.now.conn.now) result (SeesEach parent) }
+    {
         let Some(at) = rowid_of(parent) else {
             return Err(failed(&mut self.failures));
         };
@@ -318,7 +342,12 @@ impl<'a, 'conn, S: Alter> Keep for Keeper<'a, 'conn, S> {
         answer(seen, &mut self.failures)
     }
 
-    fn has_children(&mut self, parent: u64) -> Result<bool, KeepFault> {
+    fn has_children(&mut self, parent: u64) -> Result<bool, KeepFault>
+        ensures read { Reads ⟦<Keeper<'a, 'conn, S> as Keep>⟧ self.old self.new result
+            IsUnreadable (HasChildren parent) }
+        ensures whole { Sees (state S.Store self.old.tx.now.conn.now)
+            (state S.Store self.new.tx.now.conn.now) result (SeesSome parent) }
+    {
         let Some(at) = rowid_of(parent) else {
             return Err(failed(&mut self.failures));
         };

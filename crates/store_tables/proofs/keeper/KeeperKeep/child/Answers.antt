@@ -1,4 +1,4 @@
-use Rattle.std.proofs.Common.{◌≡◌, refl, sym, ap, subst, ◌∙◌, pos}
+use Rattle.std.proofs.Common.{◌≡◌, IfOk, refl, sym, ap, subst, ◌∙◌, pos}
 use Rattle.std.proofs.Common.{to_z, of_z, w64, map, filter}
 use Rattle.std.proofs.Math.Facts.{to_z-of_z}
 use Rattle.std.specs.List.Sorted.{IsPermutation}
@@ -10,6 +10,8 @@ use Rattle.store_tables.specs.Seeing.{result_of_seen, seen_only}
 use Rattle.store_tables.specs.Trust.{IsTrusted}
 use Rattle.store_tables.proofs.Named.{tells_child}
 use Rattle.store_tables.proofs.Nodes.{Tells, if_seen, told_answers, told_cause, told_unfailed}
+use Rattle.store_tables.specs.Whole.{SeesNamed}
+use Rattle.store_tables.proofs.Whole.{sees_named}
 use Rattle.store_tables.proofs.keeper.KeeperKeep.child.Goals as goal
 
 pub returns : goal.returns
@@ -52,4 +54,10 @@ returns g c =
             told_cause IsUnreadable (IsChildOf parent name)
             (rows_of old.now) c.answer.result _ _ c.answer.ensures.counted told;
       };
+      whole = λ trust. subst (λ r. IfOk r (SeesNamed parent name old.now))
+          (sym (c.answer.ensures.answer ∙ ap result_of_seen seen))
+          (sees_named old.now parent name c.in-Ok.rows.items
+          (subst
+          (λ z. IsPermutation (map shown_node (filter (is_child_named z name) (old.now.trees 0)))
+          c.in-Ok.rows.items) at (c.in-Ok.ensures.asks.rows trust.clean trust.now)));
     }

@@ -7,6 +7,8 @@ use Rattle.room_rows.specs.Keep.{HasChildren}
 use Rattle.store_tables.specs.Meaning.{rows_of}
 use Rattle.store_tables.specs.Statements.{HasSome}
 use Rattle.store_tables.proofs.Listed.{tells_some}
+use Rattle.store_tables.specs.Whole.{SeesSome}
+use Rattle.store_tables.proofs.Whole.{sees_some}
 use Rattle.store_tables.proofs.keeper.KeeperKeep.has_children.Goals as goal
 
 pub returns-in-Ok : goal.returns-in-Ok
@@ -28,4 +30,9 @@ returns-in-Ok g c =
         unfailed = refl;
         fault = tt;
       };
+      whole = λ trust. subst (λ b. SeesSome c.args.parent old.now (not b))
+          (sym (c.is_empty.ensures ∙ ap (λ l. length l == 0) c.as_slice.ensures.value))
+          (sees_some old.now c.args.parent c.in-Ok.rows.items
+          (subst (λ z. HasSome z old.now.trees c.in-Ok.rows.items) at
+          (c.in-Ok.ensures.asks.rows trust.clean trust.now)));
     }

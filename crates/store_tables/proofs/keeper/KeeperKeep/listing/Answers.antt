@@ -1,4 +1,4 @@
-use Rattle.std.proofs.Common.{◌≡◌, refl, sym, ap, subst, ◌∙◌, pos, [], to_z, of_z, w64}
+use Rattle.std.proofs.Common.{◌≡◌, IfOk, refl, sym, ap, subst, ◌∙◌, pos, [], to_z, of_z, w64}
 use Rattle.std.proofs.Math.Facts.{to_z-of_z}
 use Rattle.sqlite.specs.Held.{state}
 use Rattle.room_rows.specs.Keep.{IsUnreadable, AreNamedUnder}
@@ -8,6 +8,8 @@ use Rattle.store_tables.specs.Statements.{HasNames}
 use Rattle.store_tables.specs.Trust.{IsTrusted}
 use Rattle.store_tables.proofs.Listed.{tells_names}
 use Rattle.store_tables.proofs.Nodes.{Tells, if_seen, told_answers, told_cause, told_unfailed}
+use Rattle.store_tables.specs.Whole.{SeesEach}
+use Rattle.store_tables.proofs.Whole.{sees_names}
 use Rattle.store_tables.proofs.keeper.KeeperKeep.listing.Goals as goal
 
 pub returns : goal.returns
@@ -46,4 +48,9 @@ returns g c =
             told_cause IsUnreadable (AreNamedUnder c.args.parent)
             (rows_of old.now) c.answer.result _ _ c.answer.ensures.counted told;
       };
+      whole = λ trust. subst (λ r. IfOk r (SeesEach c.args.parent old.now))
+          (sym (c.answer.ensures.answer ∙ ap result_of_seen seen))
+          (sees_names old.now c.args.parent c.in-Ok.rows.items
+          (subst (λ z. HasNames z old.now.trees c.in-Ok.rows.items) at
+          (c.in-Ok.ensures.asks.rows trust.clean trust.now)));
     }

@@ -1,4 +1,4 @@
-use Rattle.std.proofs.Common.{◌≡◌, refl, sym, ap, subst, ◌∙◌}
+use Rattle.std.proofs.Common.{◌≡◌, IfOk, refl, sym, ap, subst, ◌∙◌}
 use Rattle.sqlite.specs.Held.{state}
 use Rattle.room_rows.specs.Keep.{HasNoRoot, IsRootOf}
 use Rattle.store_tables.specs.Meaning.{rows_of}
@@ -6,6 +6,8 @@ use Rattle.store_tables.specs.Seeing.{top_of, seen_only}
 use Rattle.store_tables.specs.Trust.{IsTrusted}
 use Rattle.store_tables.proofs.Tops.{tells_top}
 use Rattle.store_tables.proofs.Nodes.{Tells, if_seen, told_answers, told_cause, told_unfailed}
+use Rattle.store_tables.specs.Whole.{SeesTop}
+use Rattle.store_tables.proofs.Whole.{sees_top}
 use Rattle.store_tables.proofs.keeper.KeeperKeep.root.Goals as goal
 
 pub returns : goal.returns
@@ -40,4 +42,7 @@ returns g c =
             told_cause HasNoRoot IsRootOf
             (rows_of old.now) c.answer_top.result _ _ c.answer_top.ensures.counted told;
       };
+      whole = λ trust. subst (λ r. IfOk r (SeesTop old.now))
+          (sym (c.answer_top.ensures.answer ∙ ap top_of seen))
+          (sees_top old.now c.in-Ok.rows.items (c.in-Ok.ensures.asks.rows trust.clean trust.now));
     }
