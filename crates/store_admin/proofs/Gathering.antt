@@ -1,14 +1,15 @@
 -- What one more pair makes of the pairs that are there.
 use Rattle.std.proofs.Common.{◌≡◌, ◌||◌, ◌&&◌, is_some, ◌<◌, ◌+◌, ◌-◌, ℕ, ℤ, suc, List, [], ◌∷◌}
-use Rattle.std.proofs.Common.{◌++◌, get_or, length}
+use Rattle.std.proofs.Common.{◌++◌, ◌↔◌, get_or, length}
 use Rattle.std.proofs.Common.{take, map, Bor, arith}
 use Rattle.std.proofs.Common.{Some, None, Option, refl, sym, ap, subst, ◌∙◌, true, false, Bool}
 use Rattle.std.proofs.Common.{Ordering, Less, Equal, Greater, is_eq, IsPermutation}
 use Rattle.std.specs.List.{cons_option, filter_map}
 use Rattle.std.specs.Ordering.{match_ordering}
-use Rattle.std.proofs.Math.ListN.{get_or-map}
 use Rattle.std.proofs.Math.Seq.{take-suc}
 use Rattle.std.proofs.lemmas.Bool.{or_right}
+use Rattle.std.proofs.lemmas.Cmp.{tied_itself}
+use Rattle.std.proofs.lemmas.List.{get_or-map}
 use Rattle.std.proofs.lemmas.List.Folds.{list_any-append}
 use Rattle.sqlite.specs.declared.types.Value.TheVariants.{Text}
 use Rattle.sqlite.specs.Effect.{Database}
@@ -18,12 +19,12 @@ use Rattle.sqlite.specs.Edit.{is_taken}
 use Rattle.room_rows.specs.Content.{set_of}
 use Rattle.store_tables.specs.Meaning.{audit_in, bodies_of, nodes_of, pair_in, pairs_of}
 use Rattle.store_tables.specs.Meaning.{name_in, unread_of}
-use Rattle.store_tables.specs.Paired.{Pair, pair_cmp}
+use Rattle.store_tables.specs.Paired.{Pair, pair_cmp, total}
 use Rattle.store_tables.specs.RoomRows.{set_sorted}
 use Rattle.store_tables.proofs.Removed.{same_rows}
 use Rattle.store_tables.proofs.Rowids.{is_equal}
-use Rattle.store_admin.specs.Operating.{Exchanges, ExchangesMembers, HoldsPairs, are_pairs}
-use Rattle.store_admin.specs.Operating.{stored_pair}
+use Rattle.store_admin.specs.Operating.{Exchanges, ExchangesMembers, HoldsPairs, IsAgain}
+use Rattle.store_admin.specs.Operating.{are_pairs, stored_pair}
 use Rattle.store_admin.proofs.Members.{reads}
 use Rattle.store_admin.proofs.Sets.{has, has_first, has_set, is_at, or_swap, same_sets}
 use Rattle.store_admin.proofs.Sets.{set_moved}
@@ -143,10 +144,10 @@ has_last pairs k d low =
 abbrev all_of : List (Bor Pair) → List Pair
 all_of order = map (λ p. p.now) order
 
-at_place : (order : List (Bor Pair)) (at : ℕ) (p : Bor Pair) → p ≡ get_or order at p
-    → get_or (all_of order) at p.now ≡ p.now
-at_place order at p is =
-    get_or-map (λ (p : Bor Pair). p.now) order at p ∙ ap (λ (p : Bor Pair). p.now) (sym is)
+pub at_now : (order : List (Bor Pair)) (at : ℕ) (p : Bor Pair) (d : Pair) → at < length order
+    → p ≡ get_or order at p → get_or (all_of order) at d ≡ p.now
+at_now order at p d low is =
+    get_or-map (λ (p : Bor Pair). p.now) order at p d low ∙ ap (λ (p : Bor Pair). p.now) (sym is)
 
 all_length : (order : List (Bor Pair)) → length (all_of order) ≡ length order
 all_length [] = refl
@@ -160,26 +161,44 @@ so_far order at p low is =
     let more : at + 1 ≡ suc at = omega arith in
     let low' = subst (λ n. at < n) (sym (all_length order)) low in
     ap (λ n. take n (all_of order)) more ∙ take-suc (all_of order) at p.now low'
-    ∙ ap (λ x. take at (all_of order) ++ x ∷ []) (at_place order at p is)
+    ∙ ap (λ x. take at (all_of order) ++ x ∷ []) (at_now order at p p.now low is)
 
 -- the same pair stands right before
-pub again : (order : List (Bor Pair)) (at : ℕ) (p q : Bor Pair) → 0 < at → at < length order
+pub is_again_by : (order : List (Bor Pair)) (at : ℕ) (p q : Bor Pair) → 0 < at → at < length order
     → p ≡ get_or order at p → q ≡ get_or order (at - 1) q
-    → is_eq (pair_cmp q.now p.now) ≡ true
+    → (is_eq (pair_cmp q.now p.now) ≡ true) ↔ IsAgain (all_of order) at
+is_again_by order at p q up low is before = (
+  λ same. (
+    at - 1,
+    omega (arith, up),
+    λ d. at_now order at p d low is
+        ∙ sym (equal_pairs p.now q.now (is_equal (pair_cmp q.now p.now) same))
+        ∙ sym (at_now order (at - 1) q d (omega (arith, low)) before),
+  ),
+  λ again'.
+      let k : again'.0 ≡ at - 1 = omega (arith, again'.1) in
+      let both : q.now ≡ p.now =
+      sym (at_now order (at - 1) q p.now (omega (arith, low)) before)
+      ∙ ap (λ n. get_or (all_of order) n p.now) (sym k) ∙ sym (again'.2 p.now)
+      ∙ at_now order at p p.now low is in
+      ap (λ x. is_eq (pair_cmp x p.now)) both ∙ ap is_eq (tied_itself total p.now),
+)
+
+-- so it is there already
+pub again : (order : List (Bor Pair)) (at : ℕ) → at < length order → IsAgain (all_of order) at
     → set_of (take at (all_of order)) ≡ set_of (take (at + 1) (all_of order))
-again order at p q up low is before same =
-    let k = at - 1 in
-    let next : suc k ≡ at = omega (arith, up) in
-    let low' : k < length (all_of order) =
-    subst (λ n. k < n) (sym (all_length order)) (omega (arith, up, low)) in
-    let there : has q.now (take at (all_of order)) ≡ true =
-    subst (λ n. has q.now (take n (all_of order)) ≡ true) next
-    (subst (λ x. has x (take (suc k) (all_of order)) ≡ true) (at_place order k q before)
-    (has_last (all_of order) k q.now low')) in
-    let alike : q.now ≡ p.now = equal_pairs p.now q.now (is_equal (pair_cmp q.now p.now) same) in
-    none_more p.now (take at (all_of order))
-    (subst (λ x. has x (take at (all_of order)) ≡ true) alike there)
-    ∙ ap set_of (sym (so_far order at p low is))
+again order at low (k, next, same) =
+    let pairs = all_of order in
+    let none : Pair = ([], []) in
+    let low' : at < length pairs = subst (λ n. at < n) (sym (all_length order)) low in
+    let behind : suc k ≡ at = omega (arith, next) in
+    let more : at + 1 ≡ suc at = omega arith in
+    let there : has (get_or pairs at none) (take at pairs) ≡ true =
+    subst (λ n. has (get_or pairs at none) (take n pairs) ≡ true) behind
+    (subst (λ x. has x (take (suc k) pairs) ≡ true) (sym (same none))
+    (has_last pairs k none (omega (arith, next, low')))) in
+    none_more (get_or pairs at none) (take at pairs) there
+    ∙ ap set_of (sym (ap (λ n. take n pairs) more ∙ take-suc pairs at none low'))
 
 -- a row of a pair of names is read as the pair
 pub read_pair : (id : ℤ) (group user : List ℕ) → name_in (Text group) ≡ Some group

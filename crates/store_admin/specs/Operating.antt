@@ -1,6 +1,6 @@
 -- What an operator learns of all pairs and all records, and how the pairs are exchanged.
 use Rattle.std.specs.Prelude.{◌≡◌, ℕ, ℤ, Bool, List, [], ◌∷◌, map, Option, true}
-use Rattle.std.specs.Prelude.{false, is_some, option_and_then, option_map}
+use Rattle.std.specs.Prelude.{false, is_some, option_and_then, option_map, ◌+◌, slice_index_or}
 use Rattle.std.specs.List.{filter_map, list_all}
 use Rattle.std.specs.Ordering.{ordering_then}
 use Rattle.std.specs.declared.cmp.Ordering.{Ordering}
@@ -112,6 +112,12 @@ pub record HoldsPairs (pairs : List (List ℕ × List ℕ)) (db next : Trees) : 
   pub audits : next tree.audits ≡ db tree.audits
   -- where each row was a pair, each still is
   pub only : are_pairs (db tree.members) ≡ true → are_pairs (next tree.members) ≡ true
+
+-- the pair at this place stands right before it too
+abbrev pub IsAgain : List (List ℕ × List ℕ) → ℕ → Type 0
+IsAgain pairs at = (k : ℕ) × (at ≡ k + 1)
+    × ((other : List ℕ × List ℕ)
+    → slice_index_or pairs at other ≡ slice_index_or pairs k other)
 
 -- From the set of some pairs to that of others.
 abbrev pub Gathers : List (List ℕ × List ℕ) → List (List ℕ × List ℕ)

@@ -1,6 +1,7 @@
 //! How the pairs are exchanged.
-ghost use Rattle.std.specs.Prelude.{◌≡◌, ◌+◌, ◌<◌, [], Some, IfOk, length, map, take};
-ghost use Rattle.std.specs.List.Sorted.{IsPermutation};
+ghost use Rattle.std.specs.Prelude.{◌≡◌, ◌+◌, ◌<◌, ◌↔◌, [], Ok, Some, IfOk, IsTrue, length, map};
+ghost use Rattle.std.specs.Prelude.{take};
+ghost use Rattle.std.specs.List.Sorted.{IsPermutation, IsSorted};
 ghost use Rattle.std.specs.Ordering.{is_eq};
 ghost use Rattle.sqlite.specs.Held.{state};
 ghost use Rattle.sqlite.specs.declared.types.Value.TheVariants.{Text as SqlText};
@@ -8,7 +9,7 @@ ghost use Rattle.store_tables.specs.Meaning.{name_in};
 ghost use Rattle.store_tables.specs.Paired.{pair_cmp};
 ghost use Rattle.store_tables.specs.Statements.{OfAny, ExecutesSql};
 ghost use Rattle.store_admin.specs.Carries.{CallsInside, NoTables};
-ghost use Rattle.store_admin.specs.Operating.{ExchangesMembers, Gathers, Joins};
+ghost use Rattle.store_admin.specs.Operating.{ExchangesMembers, Gathers, IsAgain, Joins};
 
 use crate::operating::{compare, delete_members, insert_member};
 use room_ace::{Name, names_are_text};
@@ -22,7 +23,10 @@ fn in_order<'a>(
     alloc: Global,
     pairs: &'a [(Name, Name)],
 ) -> Result<Vec<&'a (Name, Name)>, AllocError>
-    ensures { IfOk result (λ order. IsPermutation pairs.now (map (λ pair. pair.now) order.items)) }
+    ensures same { IfOk result
+        (λ order. IsPermutation pairs.now (map (λ pair. pair.now) order.items)) }
+    ensures sorted { IfOk result
+        (λ order. IsSorted pair_cmp (map (λ pair. pair.now) order.items)) }
 {
     let mut order = Vec::new(alloc);
     for pair in pairs {
@@ -58,6 +62,17 @@ fn is_same(pair: &(Name, Name), other: &(Name, Name)) -> bool
     compare(pair, other).is_eq()
 }
 
+// Whether the pair at this place stands right before it too.
+fn is_again(order: &[&(Name, Name)], at: usize) -> bool
+    requires { at < length order.now }
+    ensures { IsTrue result ↔ IsAgain (map (λ pair. pair.now) order.now) at }
+{
+    if at == 0 {
+        return false;
+    }
+    is_same(order[at - 1], order[at])
+}
+
 // Puts in the pair at this place, unless it is the one before.
 fn insert_at<S: Alter>(
     tx: &mut Transaction<'_, S>,
@@ -69,11 +84,13 @@ fn insert_at<S: Alter>(
     ensures carries { CallsInside (state S.Store tx.old.conn.now) (state S.Store tx.new.conn.now)
         result NoTables (Gathers (take at (map (λ pair. pair.now) order.now))
         (take (at + 1) (map (λ pair. pair.now) order.now))) }
+    ensures again { IsAgain (map (λ pair. pair.now) order.now) at
+        → (result ≡ Ok tt) × (tx.new.conn.now ≡ tx.old.conn.now) }
 {
-    let pair = order[at];
-    if at > 0 && is_same(order[at - 1], pair) {
+    if is_again(order, at) {
         return Ok(());
     }
+    let pair = order[at];
     is_read_back(pair);
     match insert_pair(tx, pair) {
         Ok(_) => Ok(()),

@@ -7,25 +7,21 @@ use Rattle.store_admin.specs.Operating.{are_pairs, stored_pair}
 use Rattle.store_admin.proofs.Gathering.{again, one_more, pairs_put, read_pair, so_far}
 use Rattle.store_admin.proofs.putting.insert_at.Goals as goal
 
-pub returns-then-is_same-clause-carries : goal.returns-then-is_same-clause-carries
-returns-then-is_same-clause-carries g c =
-    let p = c.index-order-at.result in
-    let q = c.index-order-at-then-at-gt0.result in
-    let same = sym c.is_same.ensures ∙ c.if-is_same.true in
-    record {
-      stays = stays_itself (state g.S.Store c.args.tx.now.conn.now);
-      becomes = λ trust held. record {
-        nodes = refl;
-        bodies = refl;
-        members =
-            held ∙ again c.args.order.now c.args.at p q c.if-at-gt0.true c.requires
-            c.index-order-at.is c.index-order-at-then-at-gt0.is same;
-        meta = refl;
-        audits = refl;
-        only = λ all. all;
-      };
-      blames = λ trust id is. absurd (let e = is in cc);
-    }
+pub returns-then-is_again-clause-carries : goal.returns-then-is_again-clause-carries
+returns-then-is_again-clause-carries g c = record {
+  stays = stays_itself (state g.S.Store c.args.tx.now.conn.now);
+  becomes = λ trust held. record {
+    nodes = refl;
+    bodies = refl;
+    members =
+        held
+        ∙ again c.args.order.now c.args.at c.requires (c.is_again.ensures.0 c.if-is_again.true);
+    meta = refl;
+    audits = refl;
+    only = λ all. all;
+  };
+  blames = λ trust id is. absurd (let e = is in cc);
+}
 
 pub returns-in-Ok-clause-carries : goal.returns-in-Ok-clause-carries
 returns-in-Ok-clause-carries g c =
@@ -54,3 +50,11 @@ returns-in-Ok-clause-carries g c =
           };
       blames = λ trust id is. absurd (let e = is in cc);
     }
+
+pub returns-in-Ok-clause-again : goal.returns-in-Ok-clause-again
+returns-in-Ok-clause-again g c =
+    λ stands. absurd (let is = c.is_again.ensures.1 stands in cc)
+
+pub returns-in-Err-clause-again : goal.returns-in-Err-clause-again
+returns-in-Err-clause-again g c =
+    λ stands. absurd (let is = c.is_again.ensures.1 stands in cc)

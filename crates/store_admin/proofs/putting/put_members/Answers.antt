@@ -7,7 +7,7 @@ pub returns-clause-carries : goal.returns-clause-carries
 returns-clause-carries g c =
     let pairs = c.args.pairs.now in
     let moved = subst (λ l. IsPermutation pairs (map (λ p. p.now) l))
-    (sym c.as_slice.ensures.value) c.in_ok-order.ensures in
+    (sym c.as_slice.ensures.value) c.in_ok-order.ensures.same in
     exchanged pairs _ (state g.S.Store c.args.tx.now.conn.now)
     (state g.S.Store c.delete_members.new.tx.conn.now)
     (state g.S.Store c.insert_each.new.tx.conn.now) _ c.insert_each.result moved
