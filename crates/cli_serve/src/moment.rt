@@ -1,5 +1,6 @@
 //! The moment of a connection.
-ghost use Rattle.std.specs.Prelude.{ℤ, List, [], ◌∷◌, ◌++◌, pos, ◌≤ℤ◌, ⊤};
+ghost use Rattle.std.specs.Prelude.{◌≡◌, ℤ, List, [], ◌∷◌, ◌++◌, pos, ◌≤ℤ◌, ⊤, min, ◌/◌, ◌^◌, ◌-◌};
+ghost use Rattle.std.specs.Time.{system_time_nanos};
 
 use std::time::{Clock, SystemTime, UNIX_EPOCH};
 
@@ -46,8 +47,9 @@ fn moment<C: Clock>(clock: &C) -> i64
     }
 }
 
+// The whole seconds up to this moment, as far as the type goes.
 fn seconds_at(now: SystemTime) -> i64
-    ensures { pos 0 ≤ℤ result }
+    ensures { result ≡ pos (min (system_time_nanos now / 1_000_000_000) (2 ^ 63 - 1)) }
 {
     match now.duration_since(UNIX_EPOCH) {
         Ok(since) => i64::try_from(since.as_secs()).unwrap_or(i64::MAX),
