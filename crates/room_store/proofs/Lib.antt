@@ -1,4 +1,5 @@
 mod Transact
+mod Failing
 mod Turning
 pub mod Leading
 mod Exchanged

@@ -6,3 +6,4 @@ pub mod Leads
 pub mod Opens
 pub mod Asks
 pub mod Remembers
+pub mod Failing

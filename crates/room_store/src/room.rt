@@ -6,6 +6,7 @@ ghost use Rattle.room_inherit.specs.Reading.{IsReport};
 ghost use Rattle.room_judge.specs.Closed.{Performs};
 ghost use Rattle.room_judge.specs.Judged.{Resets};
 ghost use Rattle.room_store.specs.Asks.{Asks};
+ghost use Rattle.room_store.specs.Failing.{FailsByDb};
 ghost use Rattle.room_store.specs.Premise.{StorePremise};
 ghost use Rattle.room_store.specs.Ran.{HasDamage, Looked, Ran};
 ghost use Rattle.store_admin.specs.Carries.{NoTables};
@@ -128,6 +129,7 @@ impl<S: Alter> Room<S> {
     pub(crate) fn members(&mut self, alloc: Global) -> Result<Vec<(Name, Name)>, StoreFault>
         ensures looked { Looked (state S.Store self.old) (state S.Store self.new) result
             NoTables (λ db pairs. AreMembers db pairs.items) }
+        ensures fails { FailsByDb (state S.Store self.old) (state S.Store self.new) result }
     {
         self.memory = None;
         members_on(alloc, &mut self.conn)
@@ -136,6 +138,7 @@ impl<S: Alter> Room<S> {
     pub(crate) fn audits(&mut self, alloc: Global) -> Result<Vec<AuditRow>, StoreFault>
         ensures looked { Looked (state S.Store self.old) (state S.Store self.new) result
             HasUnreadRecord (λ db records. AreRecords db records.items) }
+        ensures fails { FailsByDb (state S.Store self.old) (state S.Store self.new) result }
     {
         self.memory = None;
         audits_on(alloc, &mut self.conn)

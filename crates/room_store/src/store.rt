@@ -8,6 +8,7 @@ ghost use Rattle.room_judge.specs.Closed.{Performs};
 ghost use Rattle.room_judge.specs.Judged.{Resets};
 ghost use Rattle.room_machine.specs.Desk.{Closes};
 ghost use Rattle.room_machine.specs.Run.{Event};
+ghost use Rattle.room_store.specs.Failing.{FailsByDb};
 ghost use Rattle.room_store.specs.Kept.{Stores};
 ghost use Rattle.room_store.specs.Leads.{Leads, event_of};
 ghost use Rattle.room_store.specs.Premise.{StorePremise};
@@ -141,21 +142,26 @@ impl<S: Alter> Store<S> {
     }
 
     /// The pairs, in order of group and then of user, each once. A row whose group or user is no
-    /// name is left out. Nothing changes, and `Damaged` never comes.
+    /// name is left out. Nothing changes, and `Damaged` never comes. The error is `Db` only where
+    /// the database failed.
     pub fn members(&mut self, alloc: Global) -> Result<Vec<(Name, Name)>, StoreFault>
         ensures looked { Looked (state S.Store self.old.conn) (state S.Store self.new.conn) result
             NoTables (λ db pairs. AreMembers db pairs.items) }
+        ensures fails { FailsByDb (state S.Store self.old.conn) (state S.Store self.new.conn)
+            result }
         ensures leads { Leads (state S.Store self.old.conn) [] (state S.Store self.new.conn) }
         ensures faults { self.new.faults ≡ self.old.faults }
     {
         self.conn.members(alloc)
     }
 
-    /// The records, in the order in which they were added. Nothing changes, and `Damaged` comes
-    /// exactly where a row of records can't be read.
+    /// The records, in the order in which they were added. Nothing changes. Where a row of records
+    /// can't be read, the error is `Damaged`, unless memory runs out or the database fails.
     pub fn audits(&mut self, alloc: Global) -> Result<Vec<AuditRow>, StoreFault>
         ensures looked { Looked (state S.Store self.old.conn) (state S.Store self.new.conn) result
             HasUnreadRecord (λ db records. AreRecords db records.items) }
+        ensures fails { FailsByDb (state S.Store self.old.conn) (state S.Store self.new.conn)
+            result }
         ensures leads { Leads (state S.Store self.old.conn) [] (state S.Store self.new.conn) }
         ensures faults { self.new.faults ≡ self.old.faults }
     {

@@ -1,4 +1,5 @@
 pub mod Answered
+pub mod Failing
 pub mod Sets
 pub mod InOrder
 pub mod Members

@@ -1,6 +1,7 @@
 -- What the query of all pairs shows, and what it is read as.
 use Rattle.std.proofs.Common.{◌≡◌, ℕ, List, [], ◌∷◌, map, codes, None, Some, Option, refl, sym, ap}
-use Rattle.std.proofs.Common.{subst, ◌∙◌, false, Bool}
+use Rattle.std.proofs.Common.{subst, ◌∙◌, true, false, Bool, ◌⊎◌, inl, inr, lit≤, Result, IfErr}
+use Rattle.std.proofs.Common.{IsSome, Vec, Global}
 use Rattle.std.specs.Prelude.{◌||◌}
 use Rattle.std.specs.List.{cons_option, filter_map, list_any}
 use Rattle.std.specs.Option.{option_map_or}
@@ -8,11 +9,13 @@ use Rattle.std.specs.List.Sorted.{IsStrictlySortedBy}
 use Rattle.std.proofs.lemmas.List.Sorted.{IsPermutation-map, IsPermutation-sym}
 use Rattle.std.proofs.lemmas.List.Sorted.{list_any-IsPermutation}
 use Rattle.sqlite.specs.declared.types.Value.TheVariants.{Null}
+use Rattle.sqlite.specs.declared.error.Error.{Error}
+use Rattle.sqlite.specs.Effect.{Database, RefusesToRead}
 use Rattle.sqlite.specs.Order.{Row}
 use Rattle.sqlite.specs.Listing.{understood, reads_listing}
 use Rattle.sqlite.specs.Program.{overlay}
 use Rattle.sqlite.specs.Query.{Query}
-use Rattle.sqlite.specs.State.{State, Shown}
+use Rattle.sqlite.specs.State.{State, FailsToQuery, HasCleanDisk, IsTooLate, Shown}
 use Rattle.sqlite.specs.Term.{Term, col}
 use Rattle.sqlite.proofs.Callers.{IsPlain, command_of, reads_as}
 use Rattle.sqlite_resolve.specs.Compile.{first, returning}
@@ -22,12 +25,14 @@ use Rattle.sqlite_keyed.proofs.SortLemmas.{IsPermutation-sort_by}
 use Rattle.sqlite_tied.specs.Compute.{everything}
 use Rattle.room_rows.specs.Content.{set_of}
 use Rattle.store_tables.specs.Meaning.{pair_in}
+use Rattle.store_admin.specs.Failing.{FailsSql}
 use Rattle.store_admin.specs.Operating.{ShowsMembers, by_pair, pair_seen, pairs_seen, shown_pair}
 use Rattle.store_tables.specs.Paired.{Pair, pair_cmp}
 use Rattle.store_tables.specs.RoomRows.{set_sorted}
 use Rattle.store_tables.specs.Shown.{IsRoom}
 use Rattle.store_tables.specs.Tables.{room_schema}
 use Rattle.store_tables.proofs.Ordered.{HasNoTies}
+use Rattle.store_admin.proofs.Failing.{IsAsked, fails_sql}
 use Rattle.store_admin.proofs.InOrder.{in_pairs, pair_total, pairs_apart, pairs_in_order}
 use Rattle.store_admin.proofs.Sets.{has, has_set, is_at, same_sets}
 use Rattle.store_tables.proofs.Texts.{ascending_by, query_of, selects}
@@ -57,6 +62,29 @@ plain_members = (refl, refl)
 pub bare_members : LacksReturning members_text
 unfolding first returning everything
 bare_members = λ schema base. refl
+
+asked_members : IsAsked members_text 0 (understood room_schema members_text)
+unfolding understood everything
+asked_members = (lit≤ tt, refl, refl, refl)
+
+refused_members : (limit : Option ℕ) (db : Database) (e : Error)
+    → RefusesToRead limit
+    (selects (query_of 3 [] columns (ascending_by 1 ∷ ascending_by 2 ∷ [])) names)
+    (record db { schema = room_schema }) [] e
+    → IsSome limit
+unfolding everything
+refused_members limit db e (inl (told, untyped)) =
+    absurd (let x : true ≡ false = untyped in cc)
+refused_members limit db e (inr (inl (told, inl grouped))) = absurd grouped
+refused_members limit db e (inr (inl (told, inr folded))) = absurd folded.4
+refused_members limit db e (inr (inr (told, limited))) = limited
+
+pub fails_members : (old new : State) (r : Result (Vec Row Global) Error)
+    → (HasCleanDisk new → IfErr r (λ e. FailsToQuery members_text [] old new e
+    ⊎ IsTooLate members_text [] old new e)) → FailsSql old new r
+fails_members old new r err =
+    fails_sql members_text [] (selects asked names) asked_members members_is.0 members_is.1
+    refused_members old new r err
 
 pub shows_members : (old new : State) (rows : List Row) → IsRoom old.now
     → Shown members_text [] old new rows → ShowsMembers old.now.trees rows

@@ -1,15 +1,17 @@
 -- What the query of all records shows, and what it is read as.
 use Rattle.std.proofs.Common.{◌≡◌, ◌&&◌, ℕ, negsuc, List, [], ◌∷◌, map, codes, Bool, Option}
 use Rattle.std.proofs.Common.{Some, None, Vec, Global, refl, sym, ap, subst, ◌∙◌, true, false, Less}
+use Rattle.std.proofs.Common.{◌⊎◌, inl, inr, lit≤, Result, IfErr, IsSome}
 use Rattle.std.specs.Prelude.{MatchOption, is_some}
 use Rattle.std.specs.List.{cons_option, filter_map, list_all}
 use Rattle.sqlite.specs.declared.types.Value.TheVariants.{Null, Int}
-use Rattle.sqlite.specs.Effect.{Database}
+use Rattle.sqlite.specs.declared.error.Error.{Error}
+use Rattle.sqlite.specs.Effect.{Database, RefusesToRead}
 use Rattle.sqlite.specs.Listing.{understood, reads_listing}
 use Rattle.sqlite.specs.Order.{Row, value_cmp}
 use Rattle.sqlite.specs.Program.{overlay}
 use Rattle.sqlite.specs.Query.{Query}
-use Rattle.sqlite.specs.State.{State, Shown}
+use Rattle.sqlite.specs.State.{State, FailsToQuery, HasCleanDisk, IsTooLate, Shown}
 use Rattle.sqlite.specs.Term.{Term, col, lit}
 use Rattle.sqlite.specs.Tree.{rowid}
 use Rattle.sqlite.proofs.Callers.{IsPlain, command_of, reads_as}
@@ -24,8 +26,10 @@ use Rattle.store_tables.specs.Tables.{room_schema}
 use Rattle.store_tables.proofs.Answers.{passes}
 use Rattle.store_tables.proofs.Ordered.{as_stored}
 use Rattle.store_tables.proofs.Texts.{ascending_by, query_of, selects}
+use Rattle.store_admin.specs.Failing.{FailsSql}
 use Rattle.store_admin.specs.Operating.{AreRecords, HasRecords, HasUnreadRecord, record_seen}
 use Rattle.store_admin.specs.Operating.{shown_record}
+use Rattle.store_admin.proofs.Failing.{IsAsked, fails_sql}
 use Rattle.room_entry.proofs.Facts.Lists.{filter_all}
 
 abbrev pub records_text : List ℕ
@@ -53,6 +57,27 @@ plain_records = (refl, refl)
 pub bare_records : LacksReturning records_text
 unfolding first returning everything
 bare_records = λ schema base. refl
+
+asked_records : IsAsked records_text 0 (understood room_schema records_text)
+unfolding understood everything
+asked_records = (lit≤ tt, refl, refl, refl)
+
+refused_records : (limit : Option ℕ) (db : Database) (e : Error)
+    → RefusesToRead limit (selects asked names) (record db { schema = room_schema }) [] e
+    → IsSome limit
+unfolding everything
+refused_records limit db e (inl (told, untyped)) =
+    absurd (let x : true ≡ false = untyped in cc)
+refused_records limit db e (inr (inl (told, inl grouped))) = absurd grouped
+refused_records limit db e (inr (inl (told, inr folded))) = absurd folded.4
+refused_records limit db e (inr (inr (told, limited))) = limited
+
+pub fails_records : (old new : State) (r : Result (Vec Row Global) Error)
+    → (HasCleanDisk new → IfErr r (λ e. FailsToQuery records_text [] old new e
+    ⊎ IsTooLate records_text [] old new e)) → FailsSql old new r
+fails_records old new r err =
+    fails_sql records_text [] (selects asked names) asked_records records_are.0 records_are.1
+    refused_records old new r err
 
 pub shows_records : (old new : State) (rows : List Row) → IsRoom old.now
     → Shown records_text [] old new rows → HasRecords old.now.trees rows

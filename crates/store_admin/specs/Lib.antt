@@ -1,3 +1,4 @@
 pub mod Carries
 pub mod Operating
 pub mod Dump
+pub mod Failing

@@ -4,6 +4,7 @@ ghost use Rattle.sqlite.specs.Held.{state};
 ghost use Rattle.store_tables.specs.Paired.{pair_cmp};
 ghost use Rattle.store_tables.specs.Statements.{QueriesSql, OfAny, ExecutesSql};
 ghost use Rattle.store_admin.specs.Carries.{AnswersOpen, CallsInside, NoTables, Reading};
+ghost use Rattle.store_admin.specs.Failing.{FailsInside, FailsSql};
 ghost use Rattle.store_admin.specs.Operating.{
   AreMembers,
   Exchanges,
@@ -26,6 +27,8 @@ fn select_members<S: Alter>(tx: &mut Transaction<'_, S>) -> Result<Vec<Row>, Err
     ensures asks { QueriesSql ShowsMembers
         (state S.Store tx.old.conn.now) (state S.Store tx.new.conn.now) result }
     ensures opens { AnswersOpen (state S.Store tx.old.conn.now) (state S.Store tx.new.conn.now)
+        result }
+    ensures fails { FailsSql (state S.Store tx.old.conn.now) (state S.Store tx.new.conn.now)
         result }
 {
     tx.query_all(
@@ -98,7 +101,7 @@ pub(crate) fn compare(pair: &(Name, Name), other: &(Name, Name)) -> Ordering
 }
 
 /// The pairs of group and user, in order of group and then of user, each once. A row whose group or
-/// user is no name is left out.
+/// user is no name is left out. The error is `Store` only where the database failed.
 pub fn all_members<S: Alter>(
     alloc: Global,
     tx: &mut Transaction<'_, S>,
@@ -107,6 +110,8 @@ pub fn all_members<S: Alter>(
     ensures carries { CallsInside (state S.Store tx.old.conn.now) (state S.Store tx.new.conn.now)
         result NoTables (Reading (λ db pairs. AreMembers db pairs.items)) }
     ensures opens { AnswersOpen (state S.Store tx.old.conn.now) (state S.Store tx.new.conn.now)
+        result }
+    ensures fails { FailsInside (state S.Store tx.old.conn.now) (state S.Store tx.new.conn.now)
         result }
 {
     let rows = match select_members(tx) {

@@ -8,6 +8,7 @@ ghost use Rattle.store_tables.specs.Meaning.{granted_in, mask_in, moment_in, pat
 ghost use Rattle.store_tables.specs.Meaning.{user_in};
 ghost use Rattle.store_tables.specs.Statements.{QueriesSql};
 ghost use Rattle.store_admin.specs.Carries.{AnswersOpen, CallsInside, Reading};
+ghost use Rattle.store_admin.specs.Failing.{FailsInside, FailsSql};
 ghost use Rattle.store_admin.specs.Operating.{
   AreRecords,
   HasRecords,
@@ -28,6 +29,8 @@ fn select_records<S: Alter>(tx: &mut Transaction<'_, S>) -> Result<Vec<Row>, Err
     ensures asks { QueriesSql HasRecords
         (state S.Store tx.old.conn.now) (state S.Store tx.new.conn.now) result }
     ensures opens { AnswersOpen (state S.Store tx.old.conn.now) (state S.Store tx.new.conn.now)
+        result }
+    ensures fails { FailsSql (state S.Store tx.old.conn.now) (state S.Store tx.new.conn.now)
         result }
 {
     tx.query_all(
@@ -166,7 +169,7 @@ fn see_records(alloc: Global, rows: &[Row]) -> Result<Option<Vec<AuditRow>>, All
 }
 
 /// The records, in the order in which they were added. The error is `Damaged` where one can't be
-/// read.
+/// read, and `Store` only where the database failed.
 pub fn all_records<S: Alter>(
     alloc: Global,
     tx: &mut Transaction<'_, S>,
@@ -175,6 +178,8 @@ pub fn all_records<S: Alter>(
     ensures carries { CallsInside (state S.Store tx.old.conn.now) (state S.Store tx.new.conn.now)
         result HasUnreadRecord (Reading (λ db records. AreRecords db records.items)) }
     ensures opens { AnswersOpen (state S.Store tx.old.conn.now) (state S.Store tx.new.conn.now)
+        result }
+    ensures fails { FailsInside (state S.Store tx.old.conn.now) (state S.Store tx.new.conn.now)
         result }
 {
     let rows = match select_records(tx) {

@@ -1,6 +1,7 @@
 use Rattle.std.proofs.Common.{◌≡◌, ap, ◌∙◌}
 use Rattle.sqlite.specs.Held.{state}
 use Rattle.store_admin.specs.Operating.{pairs_seen}
+use Rattle.store_admin.proofs.Failing.{fails_inside}
 use Rattle.store_admin.proofs.InOrder.{pairs_apart}
 use Rattle.store_admin.proofs.Members.{tells_members}
 use Rattle.store_admin.proofs.operating.all_members.Goals as goal
@@ -19,3 +20,10 @@ returns-clause-carries g c =
           (asks.rows trust.clean trust.now);
       blames = λ trust id is. absurd (let e = is in cc);
     }
+
+pub returns-in-Err-clause-fails : goal.returns-in-Err-clause-fails
+returns-in-Err-clause-fails g c =
+    let old = state g.S.Store c.args.tx.now.conn.now in
+    let new = state g.S.Store c.select_members.new.tx.conn.now in
+    λ trust is. fails_inside old new c.in-Err.error c.fault_for.result c.fault_for.ensures.fault
+    c.in-Err.ensures.fails trust (let e = is in cc)

@@ -3,7 +3,7 @@ use Rattle.sqlite.specs.Held.{state}
 use Rattle.store_tables.proofs.Asked.{asks}
 use Rattle.store_tables.proofs.Bare.{reads_by}
 use Rattle.store_admin.proofs.Answered.{answered}
-use Rattle.store_admin.proofs.Members.{bare_members, members_text, shows_members}
+use Rattle.store_admin.proofs.Members.{bare_members, fails_members, members_text, shows_members}
 use Rattle.store_admin.proofs.operating.select_members.Goals as goal
 
 pub returns-clause-asks : goal.returns-clause-asks
@@ -18,3 +18,8 @@ pub returns-clause-opens : goal.returns-clause-opens
 returns-clause-opens g c =
     answered members_text [] (state g.S.Store c.args.tx.now.conn.now)
     (state g.S.Store c.query_all.new.self.conn.now) c.query_all.result c.query_all.ensures.ok
+
+pub returns-clause-fails : goal.returns-clause-fails
+returns-clause-fails g c =
+    fails_members (state g.S.Store c.args.tx.now.conn.now)
+    (state g.S.Store c.query_all.new.self.conn.now) c.query_all.result c.query_all.ensures.err

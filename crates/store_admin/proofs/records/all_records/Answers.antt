@@ -1,4 +1,5 @@
 use Rattle.sqlite.specs.Held.{state}
+use Rattle.store_admin.proofs.Failing.{fails_inside}
 use Rattle.store_admin.proofs.Recorded.{tells_records, tells_unread}
 use Rattle.store_admin.proofs.records.all_records.Goals as goal
 
@@ -27,3 +28,10 @@ returns-clause-carries g c =
           (asks.rows trust.clean trust.now) c.in_ok-records.field-0 c.in-None.is
           c.in_ok-records.ensures;
     }
+
+pub returns-in-Err-clause-fails : goal.returns-in-Err-clause-fails
+returns-in-Err-clause-fails g c =
+    let old = state g.S.Store c.args.tx.now.conn.now in
+    let new = state g.S.Store c.select_records.new.tx.conn.now in
+    λ trust is. fails_inside old new c.in-Err.error c.fault_for.result c.fault_for.ensures.fault
+    c.in-Err.ensures.fails trust (let e = is in cc)

@@ -3,7 +3,7 @@ use Rattle.sqlite.specs.Held.{state}
 use Rattle.store_tables.proofs.Asked.{asks}
 use Rattle.store_tables.proofs.Bare.{reads_by}
 use Rattle.store_admin.proofs.Answered.{answered}
-use Rattle.store_admin.proofs.Recorded.{bare_records, records_text, shows_records}
+use Rattle.store_admin.proofs.Recorded.{bare_records, fails_records, records_text, shows_records}
 use Rattle.store_admin.proofs.records.select_records.Goals as goal
 
 pub returns-clause-asks : goal.returns-clause-asks
@@ -18,3 +18,8 @@ pub returns-clause-opens : goal.returns-clause-opens
 returns-clause-opens g c =
     answered records_text [] (state g.S.Store c.args.tx.now.conn.now)
     (state g.S.Store c.query_all.new.self.conn.now) c.query_all.result c.query_all.ensures.ok
+
+pub returns-clause-fails : goal.returns-clause-fails
+returns-clause-fails g c =
+    fails_records (state g.S.Store c.args.tx.now.conn.now)
+    (state g.S.Store c.query_all.new.self.conn.now) c.query_all.result c.query_all.ensures.err

@@ -1,0 +1,53 @@
+-- Why calls that are rolled back are answered by `Db`.
+use Rattle.std.proofs.Common.{◌≡◌, ◌≤◌, Result, Ok, Err, IsSome, inl, inr, refl, sym}
+use Rattle.std.proofs.Common.{ap, subst, ◌∙◌, false, arith}
+use Rattle.sqlite_trees.specs.View.{doubt}
+use Rattle.sqlite.specs.State.{State, HasCleanDisk}
+use Rattle.room_rows.specs.declared.keep.KeepFault.{KeepFault}
+use Rattle.room_rows.specs.declared.keep.KeepFault.TheVariants as keep
+use Rattle.store_tables.specs.Shown.{Stays}
+use Rattle.store_admin.specs.Failing.{FailsInside, HasFailed}
+use Rattle.room_store.specs.declared.fault.StoreFault.{StoreFault}
+use Rattle.room_store.specs.declared.fault.StoreFault.TheVariants.{Db}
+use Rattle.room_store.specs.Failing.{FailsByDb}
+use Rattle.room_store.specs.Turn.{Begins, GivesUp, fault_as}
+use Rattle.room_store.proofs.Transact.{made, same_fault}
+
+store_of : (why : KeepFault) → fault_as why ≡ Db → why ≡ keep.Store
+store_of keep.Memory is = absurd (let e = is in cc)
+store_of keep.Store is = refl
+store_of (keep.Damaged id) is = absurd (let e = is in cc)
+
+-- the counts of a transaction around calls: it begins with those of the connection
+pub record Counts (old begun mid end : State) : Type 0 where
+  pub faults : begun.faults ≡ old.faults
+  pub limit : begun.step_limit ≡ old.step_limit
+  pub rise : mid.faults ≤ end.faults
+
+around : (old begun mid end : State) → Counts old begun mid end → HasFailed begun mid
+    → HasFailed old end
+around old begun mid end counts (inl (inl rose)) =
+    inl (inl (omega (arith, counts.faults, counts.rise, rose)))
+around old begun mid end counts (inl (inr full)) =
+    inl (inr (omega (arith, counts.faults, full)))
+around old begun mid end counts (inr limited) = inr (subst IsSome counts.limit limited)
+
+pub fails_by : {X : Type 0} (old begun mid end : State) (done : Result X KeepFault)
+    (result : Result X StoreFault)
+    → Begins old begun → Stays begun mid → end.in_transaction ≡ false
+    → doubt mid.is_clean ≤ doubt end.is_clean → Counts old begun mid end
+    → FailsInside begun mid done → (HasCleanDisk end → GivesUp mid end done result)
+    → FailsByDb old end result
+fails_by old begun mid end (Ok x) (Ok y) begins stays ended clean counts fails ends =
+    λ premise is_open is. absurd (let e = is in cc)
+fails_by old begun mid end (Ok x) (Err fault) begins stays ended clean counts fails ends =
+    λ premise is_open is. absurd (ends premise.disk)
+fails_by old begun mid end (Err why) (Ok y) begins stays ended clean counts fails ends =
+    λ premise is_open is. absurd (let e = is in cc)
+fails_by old begun mid end (Err why) (Err fault) begins stays ended clean counts fails ends =
+    λ premise is_open is.
+    let gave = ends premise.disk in
+    let store = store_of why (sym gave.0 ∙ same_fault is) in
+    let m = made old begun mid end begins stays ended clean premise.disk
+    (gave.1.was_open is_open) premise.tables in
+    inr (around old begun mid end counts (fails m.trusted (ap Err store)))

@@ -1,0 +1,134 @@
+-- Why a query of a room's tables has no answer.
+use Rattle.std.proofs.Common.{◌≡◌, ◌≤◌, ◌+◌, ◌-◌, ◌^◌, ◌⊎◌, ℕ, List, [], length, min, Result}
+use Rattle.std.proofs.Common.{Ok, Err, None, Some, Option, IsTrue, IsSome, IfErr, inl, inr, true}
+use Rattle.std.proofs.Common.{false, Bool, sym, ap, subst, ◌∙◌, arith, append-nil}
+use Rattle.std.specs.Prelude.{nat_lt, if◌then◌else◌}
+use Rattle.std.proofs.lemmas.Bool.{cases_Bool, ltb-false, ltb-true}
+use Rattle.sqlite.specs.Clock.{timed}
+use Rattle.sqlite.specs.Effect.{Database, RefusesToRead}
+use Rattle.sqlite.specs.Listing.{understood, reads_listing, IsSourceOf}
+use Rattle.sqlite.specs.Order.{Row}
+use Rattle.sqlite.specs.State.{State, HasCleanDisk, FailsToQuery, FailsToShow, HasCause}
+use Rattle.sqlite.specs.State.{IsNoStatement, IsNotRun, IsTooLate, store_error}
+use Rattle.sqlite.specs.declared.error.Error.{Error}
+use Rattle.sqlite.proofs.Callers.{command_of}
+use Rattle.sqlite_resolve.specs.declared.compiled.Compiled.{Compiled}
+use Rattle.sqlite_resolve.specs.declared.error.CompileError.{CompileError}
+use Rattle.sqlite_schema.specs.declared.command.Command.{Command}
+use Rattle.sqlite_schema.specs.declared.command.Returning.{Returning}
+use Rattle.sqlite_trees.specs.declared.error.StoreError.{StoreError}
+use Rattle.sqlite_trees.specs.declared.error.StoreError.TheVariants.{OutOfMemory, Io, Corrupt, Full}
+use Rattle.sqlite_trees.specs.declared.error.StoreError.TheVariants.{Broken, Unstorable}
+use Rattle.room_rows.specs.declared.keep.KeepFault.{KeepFault}
+use Rattle.room_rows.specs.declared.keep.KeepFault.TheVariants.{Memory, Store}
+use Rattle.store_tables.specs.Seeing.{fault_for, wants_memory}
+use Rattle.store_tables.specs.Shown.{IsRoom}
+use Rattle.store_tables.specs.Tables.{room_schema}
+use Rattle.store_tables.specs.Trust.{IsTrusted}
+use Rattle.store_admin.specs.Failing.{FailsSql, HasFailed, HasRisen}
+
+-- the text is one statement with so many parameters, which shows no rows that it writes
+abbrev pub IsAsked : List ℕ → ℕ → Result Compiled CompileError → Type 0
+IsAsked sql count (Ok c) =
+    (length sql ≤ c.tail) × (length c.names ≡ count) × (c.formats ≡ []) × (c.returning ≡ None)
+IsAsked sql count (Err e) = ⊥
+
+rises : (before after : ℕ) → min (before + 1) (2 ^ 64 - 1) ≤ after → HasRisen before after
+rises before after more =
+    elim (cases_Bool (nat_lt before (2 ^ 64 - 1))) [
+      | inl low ↦ inl (omega (arith, ltb-true before (2 ^ 64 - 1) low, more))
+      | inr high ↦ inr (ltb-false before (2 ^ 64 - 1) high)
+    ]
+
+-- why the database has no answer, but for memory
+abbrev pub Why : State → State → Error → Type 0
+Why old new e = (wants_memory e ≡ true) ⊎ HasFailed old new
+
+by_cause : (old new : State) (e : Error) (cause : StoreError) → e ≡ store_error cause
+    → HasCause old new ⊥ cause → IsTrue old.is_open → Why old new e
+by_cause old new e OutOfMemory is has was = inl (ap wants_memory is)
+by_cause old new e Io is has was = inr (inl (rises old.faults new.faults has))
+by_cause old new e Corrupt is has was = inr (inl (rises old.faults new.faults has))
+by_cause old new e Full is has was = inr (inl (rises old.faults new.faults has))
+by_cause old new e Broken is has was = absurd (let shut : true ≡ false = sym was ∙ has in cc)
+by_cause old new e Unstorable is has was = absurd has
+
+never_some : (r : Option Returning) → r ≡ None → IsSome r → ⊥
+never_some None is some = absurd (let e : false ≡ true = some in cc)
+never_some (Some what) is some = absurd (let e = is in cc)
+
+module _ (sql : List ℕ) (params : Row) (command : Command)
+    (asked : IsAsked sql (length params) (understood room_schema sql))
+    (is : command_of (understood room_schema sql) ≡ command)
+    (unlisted : reads_listing room_schema sql ≡ false)
+    (refuses : (limit : Option ℕ) (db : Database) (e : Error)
+    → RefusesToRead limit command (record db { schema = room_schema }) params e
+    → IsSome limit) where
+  module _ (old new : State) (has : old.now.schema ≡ room_schema) (is_open : IsTrue new.is_open)
+      (e : Error) where
+    asked_as : (r : Result Compiled CompileError) → understood old.now.schema sql ≡ r
+        → IsAsked sql (length params) r
+    asked_as r known =
+        subst (IsAsked sql (length params)) (ap (λ s. understood s sql) (sym has) ∙ known) asked
+
+    is_statement : IsNoStatement old sql params e → ⊥
+    is_statement (inl (fault, known, told)) = asked_as (Err fault) known
+    is_statement (inr (c, known, inl (longer, told))) = longer (asked_as (Ok c) known).0
+    is_statement (inr (c, known, inr (inl (differ, told)))) =
+        differ (sym (asked_as (Ok c) known).1)
+    is_statement (inr (c, known, inr (inr (some, told)))) = some (asked_as (Ok c) known).2
+
+    not_run : IsNotRun old new sql params e → Why old new e
+    unfolding IsNotRun
+    not_run (inl (none, same)) = absurd (is_statement none)
+    not_run (inr fails) =
+        by_cause old new e fails.0 fails.1 fails.2 (fails.3.was_open is_open)
+
+    shows : (c : Compiled) (full : Row) (r : Option Returning)
+        → understood old.now.schema sql ≡ Ok c → full ≡ params → r ≡ None
+        → FailsToShow old new sql c full e r → Why old new e
+    shows c full (Some what) known all none h = absurd (let x = none in cc)
+    shows c full None known all none (db, source, refused, same) =
+        let now : db ≡ old.now = subst (λ b. IsSourceOf b old.now db)
+        (ap (λ s. reads_listing s sql) has ∙ unlisted) source in
+        let which : c.command ≡ command =
+        ap command_of (sym known ∙ ap (λ s. understood s sql) has) ∙ is in
+        let P : Command → Row → Database → Type 0 =
+        λ k given d. RefusesToRead old.step_limit k d given e in
+        let one = subst (λ k. P k full db) which refused in
+        let two = subst (λ given. P command given db) all one in
+        let three = subst (λ d. P command params d) now two in
+        inr (inr (refuses old.step_limit old.now e
+        (subst (λ s. P command params (record old.now { schema = s })) has three)))
+
+    pub why_failed : FailsToQuery sql params old new e ⊎ IsTooLate sql params old new e
+        → Why old new e
+    unfolding FailsToQuery
+    why_failed (inl (inl none)) = not_run none
+    why_failed (inl (inr (c, it, h))) =
+        let known = asked_as (Ok c) it.is in
+        shows c (timed params c.formats it.now) c.returning it.is
+        (ap (λ formats. timed params formats it.now) known.2 ∙ append-nil params) known.3 h
+    why_failed (inr late) =
+        absurd (never_some late.0.returning (asked_as (Ok late.0) late.1.is).3 late.2)
+
+  -- the clause of a query
+  pub fails_sql : {X : Type 0} (old new : State) (r : Result X Error)
+      → (HasCleanDisk new → IfErr r (λ e. FailsToQuery sql params old new e
+      ⊎ IsTooLate sql params old new e)) → FailsSql old new r
+  fails_sql old new (Ok x) err now is_open room = tt
+  fails_sql old new (Err e) err now is_open room =
+      why_failed old new room.schema is_open e (err now)
+
+-- a keeper's fault for that error
+pub fails_inside : (begun mid : State) (e : Error) (why : KeepFault) → why ≡ fault_for e
+    → (HasCleanDisk mid → IsTrue mid.is_open → IsRoom begun.now → Why begun mid e)
+    → IsTrusted begun mid → why ≡ Store → HasFailed begun mid
+fails_inside begun mid e why is fails trust store =
+    by (wants_memory e) (sym is ∙ store) (fails trust.clean trust.is_open trust.now)
+  where
+    by : (b : Bool) → (if b then Memory else Store) ≡ Store
+        → (b ≡ true) ⊎ HasFailed begun mid → HasFailed begun mid
+    by b same (inr failed) = failed
+    by true same (inl memory) = absurd (let e = same in cc)
+    by false same (inl memory) = absurd (let e = memory in cc)
