@@ -3,3 +3,4 @@ mod Groups
 mod Texts
 mod Unrun
 mod Working
+mod Distinct

@@ -4,6 +4,7 @@
 mod acting;
 mod counting;
 mod doing;
+pub mod laws;
 mod lines;
 mod opened;
 mod outcome;
