@@ -93,10 +93,10 @@ module _ {S : Type 0} (k : Ghosts S)
 
   -- ---- the turns of a call
 
-  module _ (begun : ℕ) (first : List Node) (a b : S)
-      (visit : Visits k a b d start [] first (Ok begun)) where
+  module _ (begun : ℕ) (before first : List Node) (none : before ≡ []) (a b : S)
+      (visit : Visits k a b d start before first (Ok begun)) where
     one : Done 1 first begun a b
-    one = first_turn k laws d start progress begun first a b visit
+    one = first_turn k laws d start progress begun before first a b none visit
 
     pub soon_fails : (next : List Node) (e : SpreadFault) (c : S) → Broke k d first next e b c
         → Ends a c (Err e)
@@ -118,12 +118,12 @@ module _ {S : Type 0} (k : Ghosts S)
 
       pub soon_done : (told : ℕ) → told < 2 ^ 63 → told ≡ capped (begun + soon) → next ≡ []
           → Ends a c (Ok (record { changed = told }))
-      soon_done told few is none =
+      soon_done told few is end =
           over count told changed a c (is ∙ told_soon)
           (λ t given. small_count changed few (is ∙ told_soon)) last
         where
           last : Done count [] changed a c
-          last = subst (λ (l : List Node). Done count l changed a c) none sofar
+          last = subst (λ (l : List Node). Done count l changed a c) end sofar
 
           -- a small count with an end is the count
           small_count : (n : ℕ) → told < 2 ^ 63 → told ≡ capped n → n < 2 ^ 63
@@ -191,10 +191,10 @@ module _ {S : Type 0} (k : Ghosts S)
           pub later_done : most < 2 ^ 63 → (told : ℕ)
               → told ≡ capped (capped (begun + soon) + later) → last ≡ []
               → Ends a f (Ok (record { changed = told }))
-          later_done fits told sum none =
+          later_done fits told sum end =
               over (count + took_on.turns) told (changed + took_on.total) a f (sum ∙ total) small
               (subst (λ (l : List Node). Done (count + took_on.turns) l
-              (changed + took_on.total) a f) none taken)
+              (changed + took_on.total) a f) end taken)
             where
               total : capped (capped (begun + soon) + later) ≡ capped (changed + took_on.total)
               total =

@@ -76,11 +76,12 @@ module _ {S : Type 0} (k : Ghosts S)
         (visit.becomes (laws.last a b c sofar.follows visit.follows t));
   }
 
-  pub first_turn : (number : ℕ) (next : List Node) (a b : S)
-      → Visits k a b d start [] next (Ok number) → Turned 1 next number a b
-  first_turn number next a b visit =
+  pub first_turn : (number : ℕ) (before next : List Node) (a b : S) → before ≡ []
+      → Visits k a b d start before next (Ok number) → Turned 1 next number a b
+  first_turn number before next a b none visit =
       subst (λ (n : ℕ). Turned 1 next n a b) (omega arith)
-      (turned_on 0 [] start 0 number next a a b (begins a) visit)
+      (turned_on 0 [] start 0 number next a a b (begins a)
+      (subst (λ (l : List Node). Visits k a b d start l next (Ok number)) none visit))
 
   pub turn_fails : (turns : ℕ) (rest : List Node) (w : Node) (changed : ℕ) (next : List Node)
       (e : SpreadFault) (a b c : S) → Turned turns (rest ++ w ∷ []) changed a b
@@ -112,6 +113,8 @@ module _ {S : Type 0} (k : Ghosts S)
           progress.loops turns rest w changed (k.rows a) (k.rows b) (laws.are a b first)
           (sofar.along first t.1) (h (laws.last a b c sofar.follows visit.follows t.0))
 
-  pub first_turn_fails : (next : List Node) (e : SpreadFault) (a b : S)
-      → Visits k a b d start [] next (Err e) → Carried a b (Err e)
-  first_turn_fails next e a b visit = turn_fails 0 [] start 0 next e a a b (begins a) visit
+  pub first_turn_fails : (before next : List Node) (e : SpreadFault) (a b : S) → before ≡ []
+      → Visits k a b d start before next (Err e) → Carried a b (Err e)
+  first_turn_fails before next e a b none visit =
+      turn_fails 0 [] start 0 next e a a b (begins a)
+      (subst (λ (l : List Node). Visits k a b d start l next (Err e)) none visit)

@@ -1,11 +1,17 @@
 -- Turns of carrying lists down, one after the other.
 use Rattle.std.specs.Prelude.{◌≡◌, ℕ, zero, suc, ◌+◌, ◌≤◌, ◌⊎◌, List, [], ◌∷◌, ◌++◌}
 use Rattle.std.specs.Prelude.{Result, Ok, Err}
+use Rattle.room_entry.specs.declared.object.Which.{Which}
 use Rattle.room_rows.specs.declared.keep.Keep.{Ghosts}
 use Rattle.room_rows.specs.declared.node.Node.{Node}
 use Rattle.room_rows.specs.Keep.{capped}
+use Rattle.room_inherit.specs.Spread.{Holds, SpreadsIf}
+use Rattle.room_inherit.specs.SpreadAll.{IsRoot, SweepsIf}
 use Rattle.room_inherit.specs.Turn.{Visits}
 use Rattle.room_inherit.specs.declared.descent.Descent.{Descent}
+use Rattle.room_inherit.specs.declared.descent.Reach.{Reach}
+use Rattle.room_inherit.specs.declared.descent.Reach.TheVariants.{Renewed, All}
+use Rattle.room_inherit.specs.declared.outcome.Spread.{Spread}
 use Rattle.room_inherit.specs.declared.outcome.SpreadFault.{SpreadFault}
 
 module _ {S : Type 0} (k : Ghosts S) (descent : Descent) where
@@ -43,3 +49,10 @@ module _ {S : Type 0} (k : Ghosts S) (descent : Descent) where
   abbrev pub TakesTurns : ℕ → List Node → List Node → S → S → Result ℕ SpreadFault → Type 0
   TakesTurns most before after old new (Ok written) = Took most before after written old new
   TakesTurns most before after old new (Err fault) = Broke before after fault old new
+
+-- What is carried down from an object that was read: a change of its list to those that it
+-- renews, or, from the root, all lists to all folders.
+module _ {S : Type 0} (k : Ghosts S) (old new : S) where
+  abbrev pub Descends : Reach → Node → Which → Result Spread SpreadFault → Type 0
+  Descends Renewed start which result = SpreadsIf k old new (Holds start) which start.id result
+  Descends All start which result = SweepsIf k old new (IsRoot start) which result

@@ -1,9 +1,6 @@
 //! Lists carried down from an object, turn after turn.
-ghost use Rattle.std.specs.Prelude.{◌≡◌, [], Some};
-ghost use Rattle.room_inherit.specs.Spread.{Holds, SpreadsIf};
-ghost use Rattle.room_inherit.specs.SpreadAll.{IsRoot, SweepsIf};
-ghost use Rattle.room_inherit.specs.Turns.{TakesTurns};
-ghost use Rattle.room_inherit.specs.declared.descent.Reach.TheVariants.{Renewed, All};
+ghost use Rattle.std.specs.Prelude.{◌≡◌, []};
+ghost use Rattle.room_inherit.specs.Turns.{Descends, TakesTurns};
 
 use crate::outcome::{Spread, SpreadFault};
 use crate::turn::visit;
@@ -45,10 +42,7 @@ pub(crate) fn carry_down<K: Keep>(
     which: Which,
     reach: Reach,
 ) -> Result<Spread, SpreadFault>
-    ensures spread { reach ≡ Renewed
-        → SpreadsIf K.Keep keep.old keep.new (Holds start.now) which start.now.id result }
-    ensures sweep { reach ≡ All
-        → SweepsIf K.Keep keep.old keep.new (IsRoot start.now) which result }
+    ensures { Descends K.Keep keep.old keep.new reach start.now which result }
 {
     let descent = Descent {
         start: start.id,
@@ -69,12 +63,8 @@ fn go_down<K: Keep>(
     descent: &Descent,
     waiting: &mut Vec<Node>,
 ) -> Result<Spread, SpreadFault>
-    ensures spread { waiting.old.items ≡ [] → start.now.id ≡ descent.now.start
-        → descent.now.reach ≡ Renewed → SpreadsIf K.Keep keep.old keep.new
-        (Holds start.now) descent.now.which start.now.id result }
-    ensures sweep { waiting.old.items ≡ [] → start.now.id ≡ descent.now.start
-        → descent.now.reach ≡ All → SweepsIf K.Keep keep.old keep.new
-        (IsRoot start.now) descent.now.which result }
+    ensures { waiting.old.items ≡ [] → start.now.id ≡ descent.now.start → Descends K.Keep keep.old
+        keep.new descent.now.reach start.now descent.now.which result }
 {
     let begun = visit(alloc, keep, descent, start, waiting)?;
     let soon = take_turns(alloc, keep, descent, waiting, FIRST_TURNS)?;
