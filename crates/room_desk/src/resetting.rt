@@ -5,11 +5,11 @@ ghost use Rattle.room_judge.specs.Judged.{Does, Resets};
 ghost use Rattle.room_desk.specs.Carrying.{IsUnreadableIfHeld};
 ghost use Rattle.room_desk.specs.Setting.{Beneath, IsResetAtEnd};
 
-use crate::setting::set_found;
+use crate::setting::{Setting, set_found};
 use room_ace::{ObjKind, SentList, Which};
-use room_judge::refused;
+use room_judge::{Found, refused};
 use room_machine::{Reason, Reply};
-use room_rows::{Keep, KeepFault, Node, Path, walk};
+use room_rows::{Keep, KeepFault, Path, walk};
 use std::alloc::Global;
 
 /// Sets one of an object's lists as the request does, but checks no rights and leaves no record.
@@ -29,9 +29,18 @@ pub fn reset<K: Keep>(
     let mut chain = found.chain.into_vec();
     match chain.pop() {
         None => Err(KeepFault::Damaged { id: 0 }),
-        Some(last) => {
+        Some(node) => {
+            let depth = path.names().len().saturating_sub(rest);
+            let last = Found { node, depth };
             let above = chain.last();
-            reset_at_end(alloc, keep, path, &last, above, rest, which, sent)
+            let setting = Setting {
+                path,
+                target: &last,
+                above,
+                which,
+                sent,
+            };
+            reset_at_end(alloc, keep, &setting, rest)
         }
     }
 }
@@ -41,22 +50,21 @@ pub fn reset<K: Keep>(
 fn reset_at_end<K: Keep>(
     alloc: Global,
     keep: &mut K,
-    path: &Path,
-    last: &Node,
-    above: Option<&Node>,
+    setting: &Setting<'_, '_, '_, '_>,
     rest: usize,
-    which: Which,
-    sent: &SentList,
 ) -> Result<Reply, KeepFault>
-    ensures done { Does K.Keep keep.old keep.new result (IsUnreadableIfHeld last.now)
-        (Beneath (option_copied above.entry) last.now
-        (IsResetAtEnd path.now which sent.now last.now rest)) }
+    ensures done { Does K.Keep keep.old keep.new result
+        (IsUnreadableIfHeld setting.now.target.now.node)
+        (Beneath (option_copied setting.now.above) setting.now.target.now.node (IsResetAtEnd
+        setting.now.path.now setting.now.which setting.now.sent.now setting.now.target.now.node
+        rest)) }
 {
     if rest == 0 {
-        return set_found(alloc, keep, path, last, above, which, sent);
+        return set_found(alloc, keep, setting);
     }
+    let path = setting.path;
     let count = path.names().len();
-    match last.kind {
+    match setting.target.node.kind {
         ObjKind::Document => Ok(refused(
             alloc,
             path,

@@ -1,7 +1,7 @@
 //! The request that sets a list.
 ghost use Rattle.std.specs.Prelude.{◌≡◌, ◌↔◌, IfOk, IsTrue, []};
 ghost use Rattle.std.specs.Option.{option_copied};
-ghost use Rattle.room_rows.specs.Held.{held_of, with_held};
+ghost use Rattle.room_rows.specs.Held.{with_held};
 ghost use Rattle.room_rows.specs.Keep.{IsDamaged};
 ghost use Rattle.room_judge.specs.Halted.{Serves, Tries, replied};
 ghost use Rattle.room_judge.specs.Judged.{Does};
@@ -15,12 +15,10 @@ ghost use Rattle.room_desk.specs.Setting.{
   IsStored,
   IsWrittenDown,
   SetsOn,
-  Stores,
   fault_in,
   inh_under,
   list_of,
   marked,
-  held_with,
 };
 ghost use Rattle.room_machine.specs.declared.request.Request.TheVariants.{SetList};
 
@@ -32,13 +30,15 @@ use room_machine::{Reason, Reply};
 use room_rows::{Held, Keep, KeepFault, Node, Path};
 use std::alloc::{AllocError, Global};
 
-// The list that is sent for an object, and what the object is in. The root is in nothing.
+/// The list that is sent for the object at a path, and what the object is in. The root is in
+/// nothing.
 #[derive(Drop)]
-struct Setting<'a, 'b, 'c> {
-    target: &'a Found,
-    above: Option<&'b Node>,
-    which: Which,
-    sent: &'c SentList,
+pub(crate) struct Setting<'p, 't, 'a, 's> {
+    pub(crate) path: &'p Path,
+    pub(crate) target: &'t Found,
+    pub(crate) above: Option<&'a Node>,
+    pub(crate) which: Which,
+    pub(crate) sent: &'s SentList,
 }
 
 /// Sets one of an object's lists, and carries it down.
@@ -59,12 +59,13 @@ pub(crate) fn set_list<K: Keep>(
     let pair = walk.to_pair(path)?;
     let above = Some(&pair.folder.node);
     let setting = Setting {
+        path,
         target: &pair.target,
         above,
         which,
         sent,
     };
-    set_allowed(walk, path, &setting)
+    set_allowed(walk, &setting)
 }
 
 // Sets the list of the root, which has nothing above it.
@@ -83,60 +84,49 @@ fn set_root<K: Keep>(
     let node = walk.keep.root()?;
     let root = Found { node, depth: 0 };
     let setting = Setting {
+        path,
         target: &root,
         above: None,
         which,
         sent,
     };
-    set_allowed(walk, path, &setting)
+    set_allowed(walk, &setting)
 }
 
 // Sets the list of the object that the walk came to, where the caller may write it.
 fn set_allowed<K: Keep>(
     walk: &mut Walk<'_, K>,
-    path: &Path,
-    setting: &Setting<'_, '_, '_>,
+    setting: &Setting<'_, '_, '_, '_>,
 ) -> Result<Reply, Halt>
     ensures same_keep { walk.new.keep.ghost_name ≡ walk.old.keep.ghost_name }
     ensures same_asker { walk.new.asker.now ≡ walk.old.asker.now }
     ensures done { Tries K.Keep walk.old.keep.now walk.new.keep.now result (FailsToSet
-        walk.old.asker.now path.now setting.now.target.now (option_copied setting.now.above))
-        (λ old outcome new. SetsOn walk.old.asker.now path.now setting.now.which
-        setting.now.sent.now setting.now.target.now (option_copied setting.now.above) old
-        (replied outcome) new) }
+        walk.old.asker.now setting.now.path.now setting.now.target.now
+        (option_copied setting.now.above)) (λ old outcome new. SetsOn walk.old.asker.now
+        setting.now.path.now setting.now.which setting.now.sent.now setting.now.target.now
+        (option_copied setting.now.above) old (replied outcome) new) }
 {
-    walk.check(path, setting.target, Mask::write_acl())?;
-    Ok(set_found(
-        walk.alloc,
-        walk.keep,
-        path,
-        &setting.target.node,
-        setting.above,
-        setting.which,
-        setting.sent,
-    )?)
+    walk.check(setting.path, setting.target, Mask::write_acl())?;
+    Ok(set_found(walk.alloc, walk.keep, setting)?)
 }
 
-/// Sets the list of the object that was found at the path, below its folder, unless an entry may
-/// not stand there. Nothing is above the root.
+/// Sets the list of the object that was found at the path, unless an entry may not stand there.
 pub(crate) fn set_found<K: Keep>(
     alloc: Global,
     keep: &mut K,
-    path: &Path,
-    node: &Node,
-    above: Option<&Node>,
-    which: Which,
-    sent: &SentList,
+    setting: &Setting<'_, '_, '_, '_>,
 ) -> Result<Reply, KeepFault>
-    ensures done { Does K.Keep keep.old keep.new result (IsUnreadableIfHeld node.now)
-        (Beneath (option_copied above.entry) node.now
-        (IsSetOrRefused path.now which sent.now node.now)) }
+    ensures done { Does K.Keep keep.old keep.new result
+        (IsUnreadableIfHeld setting.now.target.now.node)
+        (Beneath (option_copied setting.now.above) setting.now.target.now.node (IsSetOrRefused
+        setting.now.path.now setting.now.which setting.now.sent.now setting.now.target.now.node)) }
 {
-    let fault = bad_entry(sent.entries().as_slice(), which, node.kind);
+    let kind = setting.target.node.kind;
+    let fault = bad_entry(setting.sent.entries().as_slice(), setting.which, kind);
     match fault {
-        Some(why) => Ok(refused(alloc, path, path.names().len(), why)?),
+        Some(why) => Ok(refused(alloc, setting.path, setting.path.names().len(), why)?),
         None => {
-            set_at(alloc, keep, node, above, which, sent)?;
+            set_at(alloc, keep, setting)?;
             Ok(Reply::Done)
         }
     }
@@ -160,74 +150,40 @@ fn bad_entry(entries: &[Entry], which: Which, kind: ObjKind) -> Option<Reason>
 fn set_at<K: Keep>(
     alloc: Global,
     keep: &mut K,
-    node: &Node,
-    above: Option<&Node>,
-    which: Which,
-    sent: &SentList,
+    setting: &Setting<'_, '_, '_, '_>,
 ) -> Result<(), KeepFault>
-    ensures done { Does K.Keep keep.old keep.new result (IsUnreadableIfHeld node.now)
-        (Beneath (option_copied above.entry) node.now
-        (λ old _ new. IsSet which sent.now node.now old new)) }
-    ensures quiet { IsStored which sent.now node.now (option_copied above.entry) → IfOk result
+    ensures done { Does K.Keep keep.old keep.new result
+        (IsUnreadableIfHeld setting.now.target.now.node)
+        (Beneath (option_copied setting.now.above) setting.now.target.now.node (λ old _ new. IsSet
+        setting.now.which setting.now.sent.now setting.now.target.now.node old new)) }
+    ensures quiet { IsStored setting.now.which setting.now.sent.now setting.now.target.now.node
+        (option_copied setting.now.above) → IfOk result
         (λ _. K.writes keep.new ≡ K.writes keep.old) }
 {
-    let inh = new_inh(alloc, node, above, which, sent)?;
-    store_list(alloc, keep, node, which, sent, &inh)
-}
-
-// Stores the sent list with these inherited entries, unless the object has it already.
-fn store_list<K: Keep>(
-    alloc: Global,
-    keep: &mut K,
-    node: &Node,
-    which: Which,
-    sent: &SentList,
-    inh: &Entries,
-) -> Result<(), KeepFault>
-    ensures done { Does K.Keep keep.old keep.new result (IsUnreadableIfHeld node.now)
-        (Stores which node.now (held_with sent.now inh.now)) }
-    ensures quiet { held_with sent.now inh.now ≡ held_of which node.now → IfOk result
-        (λ _. K.writes keep.new ≡ K.writes keep.old) }
-{
-    let flags = sent.flags();
-    let own = sent_entries(alloc, sent, false)?;
-    if is_same_list(node.held(which), flags, &own, inh) {
+    let inh = new_inh(alloc, setting)?;
+    let own = sent_entries(alloc, setting.sent, false)?;
+    let flags = setting.sent.flags();
+    if is_same_list(setting.target.node.held(setting.which), flags, &own, &inh) {
         return Ok(());
     }
-    write_parts(alloc, keep, node, which, flags, own, inh)
-}
-
-// Writes the list of these flags and entries.
-fn write_parts<K: Keep>(
-    alloc: Global,
-    keep: &mut K,
-    node: &Node,
-    which: Which,
-    flags: ListFlags,
-    own: Entries,
-    inh: &Entries,
-) -> Result<(), KeepFault>
-    ensures done { Does K.Keep keep.old keep.new result (IsUnreadableIfHeld node.now)
-        (IsWrittenDown which node.now (list_of flags own inh.now)) }
-{
     let held = Held::new(flags, own, inh.as_slice())?;
-    write_list(alloc, keep, node, which, held)
+    write_list(alloc, keep, setting, held)
 }
 
 // Writes the list, and carries it down where it passes entries on.
 fn write_list<K: Keep>(
     alloc: Global,
     keep: &mut K,
-    node: &Node,
-    which: Which,
+    setting: &Setting<'_, '_, '_, '_>,
     held: Held,
 ) -> Result<(), KeepFault>
-    ensures done { Does K.Keep keep.old keep.new result (IsUnreadableIfHeld node.now)
-        (IsWrittenDown which node.now held) }
+    ensures done { Does K.Keep keep.old keep.new result
+        (IsUnreadableIfHeld setting.now.target.now.node)
+        (IsWrittenDown setting.now.which setting.now.target.now.node held) }
 {
-    keep.set_held(node.id, which, &held)?;
+    keep.set_held(setting.target.node.id, setting.which, &held)?;
     if held.flags().auto {
-        carry_on(alloc, keep, node, which, held)
+        carry_on(alloc, keep, setting, held)
     } else {
         Ok(())
     }
@@ -237,17 +193,17 @@ fn write_list<K: Keep>(
 fn carry_on<K: Keep>(
     alloc: Global,
     keep: &mut K,
-    node: &Node,
-    which: Which,
+    setting: &Setting<'_, '_, '_, '_>,
     held: Held,
 ) -> Result<(), KeepFault>
     ensures done { Does K.Keep keep.old keep.new result
-        (HasLoopFrom (with_held which held node.now))
-        (IsCarriedFrom which (with_held which held node.now)) }
+        (HasLoopFrom (with_held setting.now.which held setting.now.target.now.node))
+        (IsCarriedFrom setting.now.which
+        (with_held setting.now.which held setting.now.target.now.node)) }
 {
-    let mut start = node.copy()?;
-    start.set_held(which, held);
-    carry_from(alloc, keep, &start, which)
+    let mut start = setting.target.node.copy()?;
+    start.set_held(setting.which, held);
+    carry_from(alloc, keep, &start, setting.which)
 }
 
 // Whether a list has these flags and entries.
@@ -259,18 +215,21 @@ fn is_same_list(held: &Held, flags: ListFlags, own: &Entries, inh: &Entries) -> 
 
 // The inherited entries to be stored: where the sent flags leave the list linked, what the object
 // above passes, and otherwise the sent entries that have the flag.
-fn new_inh(
-    alloc: Global,
-    node: &Node,
-    above: Option<&Node>,
-    which: Which,
-    sent: &SentList,
-) -> Result<Entries, AllocError>
-    ensures { IfOk result (IsNewInh which sent.now node.now (option_copied above.entry)) }
+fn new_inh(alloc: Global, setting: &Setting<'_, '_, '_, '_>) -> Result<Entries, AllocError>
+    ensures { IfOk result (IsNewInh setting.now.which setting.now.sent.now
+        setting.now.target.now.node (option_copied setting.now.above)) }
 {
-    match above {
+    let sent = setting.sent;
+    match setting.above {
         None => sent_entries(alloc, sent, true),
-        Some(parent) => inh_under(alloc, node.kind, parent.held(which), sent),
+        Some(parent) => {
+            inh_under(
+                alloc,
+                setting.target.node.kind,
+                parent.held(setting.which),
+                sent,
+            )
+        }
     }
 }
 

@@ -39,62 +39,64 @@ fn second_right(verdict: &DeleteVerdict) -> Mask
     }
 }
 
+// An object that is to leave its folder, at its path, and what the deletion rule says of it.
+#[derive(Drop)]
+struct Leaving<'a> {
+    path: &'a Path,
+    target: &'a Found,
+    folder: &'a Found,
+    verdict: &'a DeleteVerdict,
+}
+
 impl<K: Keep> Walk<'_, K> {
     // Nothing where the rule grants, and else the denial.
-    fn deletable(
-        &self,
-        path: &Path,
-        target: &Found,
-        folder: &Found,
-        verdict: &DeleteVerdict,
-    ) -> Result<(), Halt>
-        ensures { Grants result (of_deletion (found_site path.now target.now)
-            (found_site path.now folder.now) verdict.now) }
+    fn deletable(&self, leaving: &Leaving<'_>) -> Result<(), Halt>
+        ensures { Grants result (of_deletion
+            (found_site leaving.now.path.now leaving.now.target.now)
+            (found_site leaving.now.path.now leaving.now.folder.now) leaving.now.verdict.now) }
     {
-        match verdict {
+        match leaving.verdict {
             DeleteVerdict::Granted { by_add: _ } => Ok(()),
             DeleteVerdict::AtTarget { place } => {
                 let bits = Mask::delete();
                 let place = Some(*place);
-                granted(self.alloc, path, target, &Verdict::Denied { bits, place })
+                let denied = Verdict::Denied { bits, place };
+                granted(self.alloc, leaving.path, leaving.target, &denied)
             }
             DeleteVerdict::AtParent { bits, place } => {
                 let bits = *bits;
                 let place = *place;
-                granted(self.alloc, path, folder, &Verdict::Denied { bits, place })
+                let denied = Verdict::Denied { bits, place };
+                granted(self.alloc, leaving.path, leaving.folder, &denied)
             }
         }
     }
 
     // Notes the records of the two checks of a deletion with this verdict.
-    fn note_deletion(
-        &mut self,
-        path: &Path,
-        target: &Found,
-        folder: &Found,
-        verdict: &DeleteVerdict,
-    ) -> Result<(), KeepFault>
+    fn note_deletion(&mut self, leaving: &Leaving<'_>) -> Result<(), KeepFault>
         ensures same_keep { self.new.keep.ghost_name ≡ self.old.keep.ghost_name }
         ensures same_asker { self.new.asker.now ≡ self.old.asker.now }
         ensures done { Does K.Keep self.old.keep.now self.new.keep.now result IsNever
             (λ old _ new. new ≡ noted old
             (records_of_checks self.old.asker.now.caller self.old.asker.now.at
-            (is_deletable verdict.now)
-            ((found_site path.now target.now, delete ∷ []) ∷
-            (found_site path.now folder.now, second_right verdict.now) ∷ []))) }
+            (is_deletable leaving.now.verdict.now)
+            ((found_site leaving.now.path.now leaving.now.target.now, delete ∷ []) ∷ (
+              found_site leaving.now.path.now leaving.now.folder.now,
+              second_right leaving.now.verdict.now,
+            ) ∷ []))) }
     {
-        let granted = is_deletable(verdict);
+        let granted = is_deletable(leaving.verdict);
         let first = Checked {
-            path,
-            found: target,
+            path: leaving.path,
+            found: leaving.target,
             bits: Mask::delete(),
             granted,
         };
         note_check(self.alloc, self.keep, self.asker, &first)?;
         let second = Checked {
-            path,
-            found: folder,
-            bits: second_right(verdict),
+            path: leaving.path,
+            found: leaving.folder,
+            bits: second_right(leaving.verdict),
             granted,
         };
         note_check(self.alloc, self.keep, self.asker, &second)
@@ -121,7 +123,13 @@ impl<K: Keep> Walk<'_, K> {
             &folder.node.owners,
             &self.asker.caller,
         );
-        self.note_deletion(path, target, folder, &verdict)?;
-        self.deletable(path, target, folder, &verdict)
+        let leaving = Leaving {
+            path,
+            target,
+            folder,
+            verdict: &verdict,
+        };
+        self.note_deletion(&leaving)?;
+        self.deletable(&leaving)
     }
 }

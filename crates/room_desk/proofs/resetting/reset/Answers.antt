@@ -48,8 +48,8 @@ returns g c =
           tail_known m.laws (done (of_read c.in_ok-found.ensures.read)) c.reset_at_end.ensures.done
           (λ old mid at are both h.
           reset_blames c.args.path.now c.args.which c.args.sent.now old mid c.in_ok-found.found
-          front c.in-Some.last both.0 both.1 chain at are h)
+          front c.in-Some.node both.0 both.1 chain at are h)
           (λ old mid reply new are both said.
           reset_done c.args.path.now c.args.which c.args.sent.now old mid c.in_ok-found.found front
-          c.in-Some.last both.0 both.1 chain _ above new reply are said);
+          c.in-Some.node both.0 both.1 chain _ above new reply are said);
     }

@@ -8,14 +8,15 @@ use Rattle.room_desk.proofs.setting.carry_on.Goals as goal
 pub returns : goal.returns
 returns g c =
     let m = g.met.K.Keep in
+    let setting = c.args.setting.now in
     let start = c.set_held.new.self in
-    let node = with_held c.args.which c.args.held c.args.node.now in
+    let node = with_held setting.which c.args.held setting.target.now.node in
     let same : start ≡ node = c.set_held.ensures
-    ∙ ap (λ (n : Node). with_held c.args.which c.args.held n) c.in_ok-start.ensures in
+    ∙ ap (λ (n : Node). with_held setting.which c.args.held n) c.in_ok-start.ensures in
     record {
       done =
           tail m.laws (none_done m.laws c.args.keep.now) c.carry_from.ensures.done
           (λ old mid at unread h. loop_as start node old mid at same unread h)
           (λ old mid x new unread down.
-          carried_as c.args.which start node old mid new same unread down);
+          carried_as setting.which start node old mid new same unread down);
     }

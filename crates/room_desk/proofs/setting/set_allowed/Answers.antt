@@ -10,7 +10,7 @@ returns-in_err-check-clause-done g c =
     let setting = c.args.setting.now in
     halts_first g.met.K.Keep.laws _ c.in_err-check.ensures.done (λ old at never. absurd never)
     (λ mid new reply are judged old found.
-    not_allowed c.args.walk.now.asker.now c.args.path.now setting.which setting.sent.now
+    not_allowed c.args.walk.now.asker.now setting.path.now setting.which setting.sent.now
     setting.target.now (option_copied setting.above) old mid found new c.write_acl.result
     (Some reply) reply c.write_acl.ensures refl judged)
     c.from_residual.result c.from_residual.ensures.1
@@ -20,7 +20,7 @@ returns-in_err-set_found-clause-done g c =
     let setting = c.args.setting.now in
     faults g.met.K.Keep.laws (done c.in_ok-check.ensures.done) c.in_err-set_found.ensures.done
     (λ mid end at are judged fails old found.
-    allowed_blames c.args.walk.now.asker.now c.args.path.now setting.which setting.sent.now
+    allowed_blames c.args.walk.now.asker.now setting.path.now setting.which setting.sent.now
     setting.target.now (option_copied setting.above) old mid found end c.write_acl.result None
     c.write_acl.ensures refl judged at fails)
     c.from_residual-in_err-set_found.result c.from_residual-in_err-set_found.ensures.1
@@ -32,6 +32,6 @@ returns-clause-done g c =
     finish m.laws _ (then m.laws (done c.in_ok-check.ensures.done)
     (done c.in_ok-set_found.ensures.done)
     (λ mid end new judged said old found.
-    allowed_done c.args.walk.now.asker.now c.args.path.now setting.which setting.sent.now
+    allowed_done c.args.walk.now.asker.now setting.path.now setting.which setting.sent.now
     setting.target.now (option_copied setting.above) old mid found end c.write_acl.result None
     c.write_acl.ensures refl judged new _ said)) (λ old new are h. h)

@@ -1,8 +1,11 @@
-use Rattle.std.proofs.Common.{List, ap, ◌∙◌}
+use Rattle.std.proofs.Common.{List, refl, sym, ap, ◌∙◌, inl, inr}
+use Rattle.std.proofs.lemmas.Bool.{false≢true}
+use Rattle.std.specs.Option.{option_copied}
 use Rattle.room_entry.specs.Ace.{Ace}
-use Rattle.room_judge.proofs.Calls.{none_done, memory, tail_known}
-use Rattle.room_desk.specs.Setting.{held_with}
-use Rattle.room_desk.proofs.Lists.SettingCalls.{fails_before, no_answer, set_from}
+use Rattle.room_judge.proofs.Calls.{none_done, memory, finish, tail_known}
+use Rattle.room_desk.specs.Setting.{held_with, list_of}
+use Rattle.room_desk.proofs.Lists.SettingCalls.{fails_before, list_sent, no_answer, set_from}
+use Rattle.room_desk.proofs.Lists.SettingCalls.{written_as}
 use Rattle.room_desk.proofs.setting.set_at.Goals as goal
 
 pub returns-in_err-inh : goal.returns-in_err-inh
@@ -18,17 +21,75 @@ returns-in_err-inh g c =
           (k.writes c.args.keep.now) c.from_residual.result _ c.from_residual.ensures.1;
     }
 
-pub returns : goal.returns
-returns g c =
+pub returns-in_err-own : goal.returns-in_err-own
+returns-in_err-own g c =
     let k = g.K.Keep in
     let m = g.met.K.Keep in
     record {
-      done = tail_known m.laws (none_done m.laws c.args.keep.now) c.store_list.ensures.done
-          (λ old mid at are same h. fails_before c.args.node.now old mid at same h)
-          (λ old mid x new are same stores.
-          set_from c.args.which c.args.sent.now c.args.node.now _ c.in_ok-inh.inh old mid new are
-          c.in_ok-inh.ensures same stores);
+      done =
+          memory m.laws (none_done m.laws c.args.keep.now) c.from_residual-in_err-own.result
+          c.from_residual-in_err-own.ensures.1;
       quiet =
-          λ same. c.store_list.ensures.quiet
-          (ap (λ (l : List Ace). held_with c.args.sent.now l) c.in_ok-inh.ensures ∙ same);
+          λ same. no_answer (k.writes c.args.keep.now)
+          (k.writes c.args.keep.now) c.from_residual-in_err-own.result _
+          c.from_residual-in_err-own.ensures.1;
+    }
+
+pub returns-then-is_same_list : goal.returns-then-is_same_list
+returns-then-is_same_list g c =
+    let m = g.met.K.Keep in
+    let setting = c.args.setting.now in
+    let node = setting.target.now.node in
+    let sent =
+    list_sent setting.sent.now c.flags-flags.result c.in_ok-own.own c.in_ok-inh.inh
+    c.flags-flags.ensures c.in_ok-own.ensures in
+    record {
+      done =
+          finish m.laws tt (none_done m.laws c.args.keep.now)
+          (λ old new are same.
+          set_from setting.which setting.sent.now node (option_copied setting.above)
+          c.in_ok-inh.inh old old new are c.in_ok-inh.ensures refl
+          (inl
+          (sym sent ∙ c.is_same_list.ensures.0 c.if-is_same_list.true ∙ c.held.ensures, same)));
+      quiet = λ same. refl;
+    }
+
+pub returns-in_err-held : goal.returns-in_err-held
+returns-in_err-held g c =
+    let k = g.K.Keep in
+    let m = g.met.K.Keep in
+    record {
+      done =
+          memory m.laws (none_done m.laws c.args.keep.now) c.from_residual-in_err-held.result
+          c.from_residual-in_err-held.ensures.1;
+      quiet =
+          λ same. no_answer (k.writes c.args.keep.now)
+          (k.writes c.args.keep.now) c.from_residual-in_err-held.result _
+          c.from_residual-in_err-held.ensures.1;
+    }
+
+pub returns : goal.returns
+returns g c =
+    let m = g.met.K.Keep in
+    let setting = c.args.setting.now in
+    let node = setting.target.now.node in
+    let sent =
+    list_sent setting.sent.now c.flags-flags.result c.in_ok-own.own c.in_ok-inh.inh
+    c.flags-flags.ensures c.in_ok-own.ensures in
+    record {
+      done = tail_known m.laws (none_done m.laws c.args.keep.now) c.write_list.ensures.done
+          (λ old mid at are same h. fails_before node old mid at same h)
+          (λ old mid x new are same written.
+          set_from setting.which setting.sent.now node (option_copied setting.above)
+          c.in_ok-inh.inh old mid new are c.in_ok-inh.ensures same
+          (inr (written_as setting.which node c.in_ok-held.held _ mid mid new
+          (c.in_ok-held.ensures
+          ∙ ap (λ (l : List Ace). list_of c.flags-flags.result c.in_ok-own.own l) c.as_slice.ensures
+          ∙ sent) refl written)));
+      quiet =
+          λ same. absurd
+          (false≢true (sym c.if-is_same_list.false
+          ∙ c.is_same_list.ensures.1 (sent
+          ∙ ap (λ (l : List Ace). held_with setting.sent.now l) c.in_ok-inh.ensures
+          ∙ same ∙ sym c.held.ensures)));
     }

@@ -9,10 +9,12 @@ pub returns-in_err-set_held : goal.returns-in_err-set_held
 returns-in_err-set_held g c =
     let k = g.K.Keep in
     let m = g.met.K.Keep in
+    let setting = c.args.setting.now in
+    let node = setting.target.now.node in
     record {
       done = fails m.laws (none_done m.laws c.args.keep.now)
           (of_write c.in_err-set_held.ensures.written)
-          (λ old mid at same h. unread_before c.args.node.now old mid at same h)
+          (λ old mid at same h. unread_before node old mid at same h)
           c.from_residual.result c.from_residual.ensures.1;
     }
 
@@ -20,13 +22,15 @@ pub returns-then-flags : goal.returns-then-flags
 returns-then-flags g c =
     let k = g.K.Keep in
     let m = g.met.K.Keep in
+    let setting = c.args.setting.now in
+    let node = setting.target.now.node in
     let auto = ap (λ (f : ListFlags). f.auto) (sym c.flags.ensures) in
     record {
       done = tail m.laws (done (of_write c.in_ok-set_held.ensures.written)) c.carry_on.ensures.done
           (λ old mid at changes h.
-          carried_fails c.args.which c.args.node.now c.args.held old mid changes at h)
+          carried_fails setting.which node c.args.held old mid changes at h)
           (λ old mid x new changes down.
-          written_down c.args.which c.args.node.now c.args.held old mid changes _ new
+          written_down setting.which node c.args.held old mid changes _ new
           c.if-flags.true auto down);
     }
 
@@ -34,10 +38,12 @@ pub returns-else-flags : goal.returns-else-flags
 returns-else-flags g c =
     let k = g.K.Keep in
     let m = g.met.K.Keep in
+    let setting = c.args.setting.now in
+    let node = setting.target.now.node in
     let auto = ap (λ (f : ListFlags). f.auto) (sym c.flags.ensures) in
     record {
       done = finish m.laws tt (done (of_write c.in_ok-set_held.ensures.written))
           (λ old new are changes.
-          written_still c.args.which c.args.node.now c.args.held old new changes _ c.if-flags.false
+          written_still setting.which node c.args.held old new changes _ c.if-flags.false
           auto);
     }
