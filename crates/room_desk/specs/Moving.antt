@@ -47,7 +47,6 @@ use Rattle.room_rows.specs.Law.{agrees, AllAgree}
 use Rattle.room_rows.specs.Sound.{AreSound}
 use Rattle.room_inherit.specs.Spread.{with_lists}
 use Rattle.room_judge.specs.declared.arrival.Found.{Found}
-use Rattle.room_judge.specs.declared.arrival.Pair.TheVariants.{Both}
 use Rattle.room_judge.specs.declared.asker.Asker.{Asker}
 use Rattle.room_machine.specs.declared.reply.Reply.{Reply}
 use Rattle.room_machine.specs.declared.reply.Reply.TheVariants.{Done}
@@ -56,7 +55,7 @@ use Rattle.room_machine.specs.declared.request.Request.TheVariants.{Move}
 use Rattle.room_machine.specs.Site.{Site, last_name}
 use Rattle.room_machine.specs.Plan.{Item, Check, Deletion, Refusal, right_to_add}
 use Rattle.room_machine.specs.Effect.{moved_node}
-use Rattle.room_judge.specs.Spot.{IsPaired}
+use Rattle.room_judge.specs.Spot.{IsPaired, pair_of}
 use Rattle.room_machine.specs.Stored.{stored_site}
 use Rattle.room_judge.specs.Closed.{IsServed}
 use Rattle.room_judge.specs.Judged.{IsJudged, through}
@@ -99,12 +98,12 @@ abbrev pub MovesOn : Asker → List (List ℕ) → List (List ℕ) → Node → 
     → Rows → Type 0
 MovesOn asker path to root from target mid reply new =
     root_of mid.read ≡ Some root → (old : Rows) → AreRows old → IsPaired asker path old
-    (Both from target) mid → IsServed asker (Move path to) old reply new
+    (pair_of from target) mid → IsServed asker (Move path to) old reply new
 
 abbrev pub FailsToMove : Asker → List (List ℕ) → Node → Found → Found → Rows → ℕ → Type 0
 FailsToMove asker path root from target mid at =
     root_of mid.read ≡ Some root → (old : Rows) → AreRows old → IsPaired asker path old
-    (Both from target) mid → IsDamaged old at
+    (pair_of from target) mid → IsDamaged old at
 
 -- ---- the change
 

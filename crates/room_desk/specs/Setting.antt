@@ -17,6 +17,7 @@ use Rattle.std.specs.Prelude.{
   Option,
   Some,
   None,
+  Ok,
   if◌then◌else◌,
 }
 use Rattle.std.specs.Option.{option_map, option_map_or}
@@ -38,7 +39,6 @@ use Rattle.room_rows.specs.Rows.{Rows, AreRows}
 use Rattle.room_rows.specs.Pass.{pass}
 use Rattle.room_rows.specs.Sound.{AreSound}
 use Rattle.room_desk.specs.Carrying.{GoesDown}
-use Rattle.room_judge.specs.declared.arrival.Arrival.TheVariants.{At}
 use Rattle.room_judge.specs.declared.arrival.Found.{Found}
 use Rattle.room_judge.specs.declared.asker.Asker.{Asker}
 use Rattle.room_judge.specs.Closed.{IsServed}
@@ -177,7 +177,7 @@ pub record IsSetOrRefused (path : List (List ℕ)) (which : Which) (sent : Sent)
 pub record IsFoundUnder (asker : Asker) (path : List (List ℕ)) (target : Found)
     (above : Option Node) (old mid : Rows) : Type 0 where
   pub are : AreRows old
-  pub reached : IsReached asker path (λ _. []) old (At target.node) mid
+  pub reached : IsReached asker path (λ _. []) old (Ok target.node) mid
   pub depth : target.depth ≡ length path
   pub parent : parent_of old.read target.node ≡ above
 

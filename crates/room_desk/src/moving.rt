@@ -1,8 +1,9 @@
 //! The request that moves an object.
 ghost use Rattle.std.specs.Prelude.{◌≡◌, ◌+◌, ◌<◌, true, [], ◌∷◌, Some, length};
 ghost use Rattle.room_rows.specs.Keep.{IsDamaged, IsNever, IsUnreadable};
-ghost use Rattle.room_judge.specs.Halted.{Serves, Tries, arrived, refusal_of, replied};
+ghost use Rattle.room_judge.specs.Halted.{Serves, Tries, replied};
 ghost use Rattle.room_judge.specs.Judged.{FromRoot, IsJudged, IsReached, IsUnreadableFrom};
+ghost use Rattle.room_judge.specs.Judged.{refusal_of};
 ghost use Rattle.room_judge.specs.Stored.{found_site};
 ghost use Rattle.room_desk.specs.Moving.{FailsToMove, MovesOn, at_place, begins};
 ghost use Rattle.room_machine.specs.Plan.{Deletion, Refusal, right_to_add};
@@ -105,7 +106,7 @@ fn reach_place<K: Keep>(
         (FromRoot root.now (λ old outcome new. IsReached walk.old.asker.now (front to.now)
         (at_place old.read to.now (begins moving.now.path.now (front to.now))
         (found_site moving.now.path.now moving.now.target.now)
-        (found_site moving.now.path.now moving.now.from.now)) old (arrived outcome) new)) }
+        (found_site moving.now.path.now moving.now.from.now)) old outcome new)) }
 {
     let depth = to.names().len() - 1;
     let node = walk.walk_from(to, depth, root)?;

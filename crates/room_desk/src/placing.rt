@@ -3,8 +3,8 @@ ghost use Rattle.std.specs.Prelude.{◌≡◌, ◌+◌, length};
 ghost use Rattle.room_entry.specs.Pieces.{same_text};
 ghost use Rattle.room_rows.specs.Calls.{Reads};
 ghost use Rattle.room_rows.specs.Keep.{IsUnreadable};
-ghost use Rattle.room_judge.specs.Halted.{Tries, refusal_of};
-ghost use Rattle.room_judge.specs.Judged.{Does};
+ghost use Rattle.room_judge.specs.Halted.{Tries};
+ghost use Rattle.room_judge.specs.Judged.{Does, refusal_of};
 ghost use Rattle.room_desk.specs.Moving.{
   FailsToPlace,
   FailsToRenew,

@@ -1,22 +1,18 @@
 -- The way to the folder of a path's last name, judged.
 use Rattle.std.proofs.Common.{◌≡◌, ℕ, ◌<◌, ◌+◌, Bool, true, false, cond, ◌&&◌, List, [], ◌∷◌, ◌++◌}
-use Rattle.std.proofs.Common.{length, take, Option, Some, None, refl, sym, ap, subst, ◌∙◌, arith}
+use Rattle.std.proofs.Common.{length, take, Option, Some, None, Result, Ok, Err, refl, sym, ap}
+use Rattle.std.proofs.Common.{subst, ◌∙◌, arith}
 use Rattle.std.specs.Prelude.{is_none}
 use Rattle.std.specs.Option.{option_map, option_and_then}
 use Rattle.std.proofs.lemmas.List.{append-nil}
-use Rattle.std.proofs.Math.Seq.{take-length}
 use Rattle.std.proofs.Math.Bool.{and-false}
 use Rattle.room_rows.specs.declared.node.AuditRow.{AuditRow}
 use Rattle.room_rows.specs.declared.node.Node.{Node}
 use Rattle.room_rows.specs.Content.{child_of}
 use Rattle.room_rows.specs.Rows.{Rows}
-use Rattle.room_judge.specs.declared.arrival.Arrival.{Arrival}
-use Rattle.room_judge.specs.declared.arrival.Arrival.TheVariants.{At, Ended}
+use Rattle.room_judge.specs.declared.arrival.Both.{Both}
 use Rattle.room_judge.specs.declared.arrival.Found.{Found}
-use Rattle.room_judge.specs.declared.arrival.Pair.{Pair}
-use Rattle.room_judge.specs.declared.arrival.Pair.TheVariants.{Both, Halted}
-use Rattle.room_judge.specs.declared.arrival.Spot.{Spot}
-use Rattle.room_judge.specs.declared.arrival.Spot.TheVariants.{Under, Barred}
+use Rattle.room_judge.specs.declared.arrival.Under.{Under}
 use Rattle.room_judge.specs.declared.asker.Asker.{Asker}
 use Rattle.room_machine.specs.declared.reply.Reply.{Reply}
 use Rattle.room_machine.specs.declared.reply.Reply.TheVariants.{Refused}
@@ -27,9 +23,9 @@ use Rattle.room_machine.specs.Plan.{Item, Refusal, way, where_found}
 use Rattle.room_machine.specs.Judge.{first_failure, or_else, records_of_plan}
 use Rattle.room_machine.specs.Stored.{stored_site, stored_along, to_stored}
 use Rattle.room_judge.specs.Stored.{found_site}
-use Rattle.room_judge.specs.Judged.{IsJudged, IsReached, name_after, noted, through}
-use Rattle.room_judge.specs.Spot.{IsSpotIn, IsSpotted, IsPaired, SpotsAfter, SpotsUnder}
-use Rattle.room_judge.specs.Spot.{pair_at_spot, pair_with}
+use Rattle.room_judge.specs.Halted.{both_with}
+use Rattle.room_judge.specs.Judged.{IsJudged, IsReached, child_below, name_after, noted, through}
+use Rattle.room_judge.specs.Spot.{IsPaired, IsSpotted, SpotsUnder, spot_of}
 use Rattle.room_judge.proofs.Judging.{failure_of_parts, records_of_parts, fails_first, passes_first}
 use Rattle.room_judge.proofs.Judging.{refuses, passes_on, judged_none}
 use Rattle.room_judge.proofs.Ways.{plain_way}
@@ -41,19 +37,17 @@ use Rattle.room_judge.proofs.Spots.{name_is_last}
 
 module _ (asker : Asker) (path : List (List ℕ)) (from : Found) where
   -- where the folder is passed, the spot is the folder with what has the next name in it
-  pub spot_found : (old mid new : Rows) (spot : Spot)
-      → IsJudged asker (through (found_site path from)) old None mid → IsSpotIn path from mid spot
-      → new ≡ mid → SpotsUnder asker path from old spot new
-  spot_found old mid new spot judged is same =
-      subst (λ (s : Spot). SpotsUnder asker path from old s new) (sym is) (record {
-        judged =
-            subst (λ (r : Rows). IsJudged asker (through (found_site path from)) old None r)
-            (sym same) judged;
-        folder = refl;
-        child =
-            ap (λ (r : Rows). child_of r.read from.node.id (name_after path from.depth))
-            judged.notes;
-      })
+  pub spot_found : (old mid new : Rows) (child : Option Node)
+      → IsJudged asker (through (found_site path from)) old None mid
+      → child ≡ child_below path from mid → new ≡ mid
+      → SpotsUnder asker path from old (spot_of from child) new
+  spot_found old mid new child judged is same = record {
+    judged =
+        subst (λ (r : Rows). IsJudged asker (through (found_site path from)) old None r)
+        (sym same) judged;
+    folder = refl;
+    child = is ∙ ap (λ (r : Rows). child_below path from r) judged.notes;
+  }
 
 -- ---- a last refusal that can't hold
 
@@ -105,8 +99,8 @@ module _ (asker : Asker) (path : List (List ℕ)) (some : 0 < length path) where
 
   -- a walk that ended before it came to the folder bars the spot with its reply
   pub spot_ends : (old new : Rows) (reply : Reply)
-      → IsReached asker (front path) (λ _. []) old (Ended reply) new
-      → IsSpotted asker path old (Barred reply) new
+      → IsReached asker (front path) (λ _. []) old (Err reply) new
+      → IsSpotted asker path old (Err reply) new
   spot_ends old new reply reached = record {
     judged =
         subst (λ items. IsJudged asker items old (Some reply) new)
@@ -121,7 +115,7 @@ module _ (asker : Asker) (path : List (List ℕ)) (some : 0 < length path) where
   }
 
   module _ (node : Node) (depth : ℕ) (deep : length path ≡ depth + 1) (old mid : Rows)
-      (reached : IsReached asker (front path) (λ _. []) old (At node) mid) where
+      (reached : IsReached asker (front path) (λ _. []) old (Ok node) mid) where
     abbrev from : Found
     from = record { node = node; depth = depth }
 
@@ -155,9 +149,9 @@ module _ (asker : Asker) (path : List (List ℕ)) (some : 0 < length path) where
         (and-false (is_none (child_of old.read node.id (last_name path))))
 
     -- a walk that came to the folder has the spot that is found there, barred or not
-    pub spot_on : (new : Rows) (spot : Spot) → SpotsUnder asker path from mid spot new
-        → IsSpotted asker path old spot new
-    spot_on new (Barred reply) under = record {
+    pub spot_on : (new : Rows) (outcome : Result Under Reply)
+        → SpotsUnder asker path from mid outcome new → IsSpotted asker path old outcome new
+    spot_on new (Err reply) under = record {
       judged =
           subst (λ items. IsJudged asker items old (Some reply) new)
           (sym (way_along old.read true path some))
@@ -166,7 +160,7 @@ module _ (asker : Asker) (path : List (List ℕ)) (some : 0 < length path) where
       folder = tt;
       child = tt;
     }
-    spot_on new (Under folder child) under = record {
+    spot_on new (Ok spot) under = record {
       judged =
           subst (λ items. IsJudged asker items old None new)
           (sym (way_along old.read true path some
@@ -184,7 +178,7 @@ module _ (asker : Asker) (path : List (List ℕ)) (some : 0 < length path) where
           ∙ ap (option_map (stored_site path)) (sym child_is);
     }
       where
-        child_is : child ≡ child_of old.read node.id (last_name path)
+        child_is : spot.child ≡ child_of old.read node.id (last_name path)
         child_is =
             under.child ∙ ap (λ (r : Rows). child_of r.read node.id (name_after path depth))
             reached.judged.notes ∙ ap (child_of old.read node.id) (name_is_last path depth deep)
@@ -226,8 +220,8 @@ module _ (asker : Asker) (path : List (List ℕ)) (some : 0 < length path) where
     stem_of = on_stem (folder_along old.read path) refl
 
   -- where the spot is barred, the walk to the object and its folder halts with the same reply
-  pub pair_barred : (old new : Rows) (reply : Reply) → IsSpotted asker path old (Barred reply) new
-      → IsPaired asker path old (Halted reply) new
+  pub pair_barred : (old new : Rows) (reply : Reply) → IsSpotted asker path old (Err reply) new
+      → IsPaired asker path old (Err reply) new
   pair_barred old new reply spotted = record {
     judged =
         subst (λ items. IsJudged asker items old (Some reply) new)
@@ -240,7 +234,7 @@ module _ (asker : Asker) (path : List (List ℕ)) (some : 0 < length path) where
   }
 
   module _ (old new : Rows) (folder : Found) (child : Option Node)
-      (spotted : IsSpotted asker path old (Under folder child) new) where
+      (spotted : IsSpotted asker path old (spot_of folder child) new) where
     site : Site
     site = found_site path folder
 
@@ -293,29 +287,21 @@ module _ (asker : Asker) (path : List (List ℕ)) (some : 0 < length path) where
         (Refusal path NoSuch (is_none child && true) ∷ []) old new new answer
         (stem_of old new None spotted.judged) judged)
 
-  -- a spot with a child gives the folder and that object, as deep as the path is long
-  pub pair_found : (old new : Rows) (folder : Found) (node : Node) (depth : ℕ) → depth ≡ length path
-      → IsSpotted asker path old (Under folder (Some node)) new
-      → IsPaired asker path old (Both folder (record { node = node; depth = depth })) new
-  pair_found old new folder node depth deep spotted = record {
+  -- what has to be there is found, or the walk is refused
+  pub both_found : (old new : Rows) (folder : Found) (child : Option Node)
+      → IsSpotted asker path old (spot_of folder child) new
+      → IsPaired asker path old (both_with path folder child) new
+  both_found old new folder (Some node) spotted = record {
     judged =
         way_looks old new folder (Some node) spotted None
         (passes_on asker path NoSuch false [] new new None refl (judged_none asker new new refl));
     folder = spotted.folder;
     target = spotted.child;
-    depth = deep;
+    depth = refl;
   }
-
-  -- a spot with no child halts the walk with the refusal that nothing is at the path
-  pub pair_missing : (old new : Rows) (folder : Found) (depth : ℕ) (reply : Reply)
-      → depth ≡ length path → reply ≡ Refused (take depth path) NoSuch
-      → IsSpotted asker path old (Under folder None) new
-      → IsPaired asker path old (Halted reply) new
-  pair_missing old new folder depth reply deep replies spotted = record {
-    judged = way_looks old new folder None spotted (Some reply)
-        (refuses asker path NoSuch true [] new new reply
-        (replies ∙ ap (λ (p : List (List ℕ)). Refused p NoSuch)
-        (ap (λ (d : ℕ). take d path) deep ∙ take-length path)) refl refl);
+  both_found old new folder None spotted = record {
+    judged = way_looks old new folder None spotted (Some (Refused path NoSuch))
+        (refuses asker path NoSuch true [] new new (Refused path NoSuch) refl refl refl);
     folder = tt;
     target = tt;
     depth = tt;
@@ -323,76 +309,59 @@ module _ (asker : Asker) (path : List (List ℕ)) (some : 0 < length path) where
 
 -- ---- in terms of the calls
 
--- what has to be there is found, or the walk is refused
-pub paired_as : (asker : Asker) (path : List (List ℕ)) (some : 0 < length path) (old new : Rows)
-    (folder : Found) (child : Option Node) (pair : Pair) → pair ≡ pair_with path folder child
-    → IsSpotted asker path old (Under folder child) new → IsPaired asker path old pair new
-paired_as asker path some old new folder (Some node) pair is spotted =
-    subst (λ (p : Pair). IsPaired asker path old p new) (sym is)
-    (pair_found asker path some old new folder node (length path) refl spotted)
-paired_as asker path some old new folder None pair is spotted =
-    subst (λ (p : Pair). IsPaired asker path old p new) (sym is)
-    (pair_missing asker path some old new folder (length path) (Refused path NoSuch) refl
-    (ap (λ p. Refused p NoSuch) (sym (take-length path))) spotted)
-
--- the walk along all names but the last
-pub walked_front : (asker : Asker) (path : List (List ℕ)) (depth : ℕ) (arrival : Arrival)
-    (old new : Rows) → length path ≡ depth + 1
-    → IsReached asker (take depth path) (λ _. []) old arrival new
-    → IsReached asker (front path) (λ _. []) old arrival new
-walked_front asker path depth arrival old new deep reached =
-    subst (λ (p : List (List ℕ)). IsReached asker p (λ _. []) old arrival new)
-    (take_front path depth deep) reached
-
 -- so may, in a spot under a folder, what has the last name there
 pub spotted_child : (asker : Asker) (path : List (List ℕ)) (folder : Found)
     (child other : Option Node) (old new : Rows) → child ≡ other
-    → IsSpotted asker path old (Under folder child) new
-    → IsSpotted asker path old (Under folder other) new
+    → IsSpotted asker path old (spot_of folder child) new
+    → IsSpotted asker path old (spot_of folder other) new
 spotted_child asker path folder child other old new same spotted =
-    subst (λ (o : Option Node). IsSpotted asker path old (Under folder o) new) same spotted
+    subst (λ (o : Option Node).
+    IsSpotted asker path old (spot_of folder o) new) same spotted
 
--- a walk to the folder, and what follows it
-pub spot_follows : (asker : Asker) (path : List (List ℕ)) (depth : ℕ) → length path ≡ depth + 1
-    → (arrival : Arrival) (old mid new : Rows) (spot : Spot)
-    → IsReached asker (take depth path) (λ _. []) old arrival mid
-    → SpotsAfter asker path depth arrival mid spot new → IsSpotted asker path old spot new
-spot_follows asker path depth deep (At node) old mid new spot reached spots =
-    let some : 0 < length path = omega arith in
-    spot_on asker path some node depth deep old mid
-    (walked_front asker path depth (At node) old mid deep reached) new spot spots
-spot_follows asker path depth deep (Ended reply) old mid new spot reached spots =
-    let some : 0 < length path = omega arith in
-    subst (λ (s : Spot). IsSpotted asker path old s new) (sym spots.0)
-    (spot_ends asker path some old new reply
-    (subst (λ (r : Rows). IsReached asker (front path) (λ _. []) old (Ended reply) r) (sym spots.1)
-    (walked_front asker path depth (Ended reply) old mid deep reached)))
+module _ (asker : Asker) (path : List (List ℕ)) (depth : ℕ) (deep : length path ≡ depth + 1) where
+  some : 0 < length path
+  some = omega (arith, deep)
 
--- what was found has to be there
-pub paired_in : (asker : Asker) (path : List (List ℕ)) (some : 0 < length path) (old new : Rows)
-    (spot : Spot) (pair : Pair) → pair ≡ pair_at_spot path spot → IsSpotted asker path old spot new
-    → IsPaired asker path old pair new
-paired_in asker path some old new (Under folder child) pair is spotted =
-    paired_as asker path some old new folder child pair is spotted
-paired_in asker path some old new (Barred reply) pair is spotted =
-    subst (λ (p : Pair). IsPaired asker path old p new) (sym is)
-    (pair_barred asker path some old new reply spotted)
+  -- the walk along all names but the last
+  walked_front : (outcome : Result Node Reply) (old new : Rows)
+      → IsReached asker (take depth path) (λ _. []) old outcome new
+      → IsReached asker (front path) (λ _. []) old outcome new
+  walked_front outcome old new reached =
+      subst (λ (p : List (List ℕ)). IsReached asker p (λ _. []) old outcome new)
+      (take_front path depth deep) reached
+
+  -- a walk that ended before the folder
+  pub spot_barred : (old new : Rows) (reply : Reply)
+      → IsReached asker (take depth path) (λ _. []) old (Err reply) new
+      → IsSpotted asker path old (Err reply) new
+  spot_barred old new reply reached =
+      spot_ends asker path some old new reply (walked_front (Err reply) old new reached)
+
+  -- a walk to the folder, and what follows it
+  pub spot_follows : (node : Node) (old mid new : Rows) (outcome : Result Under Reply)
+      → IsReached asker (take depth path) (λ _. []) old (Ok node) mid
+      → SpotsUnder asker path (record { node = node; depth = depth }) mid outcome new
+      → IsSpotted asker path old outcome new
+  spot_follows node old mid new outcome reached spots =
+      spot_on asker path some node depth deep old mid (walked_front (Ok node) old mid reached) new
+      outcome spots
 
 -- the walk to the object alone
-abbrev pub target_in : Pair → Arrival
-target_in (Both folder target) = At target.node
-target_in (Halted reply) = Ended reply
+abbrev pub target_in : Result Both Reply → Result Node Reply
+target_in (Ok pair) = Ok pair.target.node
+target_in (Err reply) = Err reply
 
 -- a walk to an object and its folder has reached the object, or ended with that reply
-pub pair_reached : (asker : Asker) (path : List (List ℕ)) (pair : Pair) (old new : Rows)
-    → IsPaired asker path old pair new → IsReached asker path (λ _. []) old (target_in pair) new
-pair_reached asker path (Both folder target) old new paired =
+pub pair_reached : (asker : Asker) (path : List (List ℕ)) (outcome : Result Both Reply)
+    (old new : Rows) → IsPaired asker path old outcome new
+    → IsReached asker path (λ _. []) old (target_in outcome) new
+pair_reached asker path (Ok pair) old new paired =
     record {
       judged = subst (λ items. IsJudged asker items old None new)
           (sym (plain_way asker path old)) paired.judged;
       found = paired.target;
     }
-pair_reached asker path (Halted reply) old new paired =
+pair_reached asker path (Err reply) old new paired =
     record {
       judged = subst (λ items. IsJudged asker items old (Some reply) new)
           (sym (plain_way asker path old)) paired.judged;

@@ -6,5 +6,4 @@ pub mod Walked
 pub mod Spots
 pub mod Folders
 pub mod Halts
-pub mod Pairing
 pub mod Closing

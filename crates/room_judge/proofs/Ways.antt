@@ -1,6 +1,7 @@
 -- The way to an object, one step after the other.
 use Rattle.std.proofs.Common.{◌≡◌, ℕ, ◌<◌, ◌+◌, false, not, ◌&&◌, List, [], ◌∷◌, ◌++◌, length, take}
-use Rattle.std.proofs.Common.{drop, get_or, Option, Some, None, refl, sym, ap, subst, ◌∙◌}
+use Rattle.std.proofs.Common.{drop, get_or, Option, Some, None, Result, Ok, Err, refl, sym, ap}
+use Rattle.std.proofs.Common.{subst, ◌∙◌}
 use Rattle.std.specs.Prelude.{is_none}
 use Rattle.std.specs.Option.{option_map_or}
 use Rattle.std.proofs.lemmas.List.{append-nil, take_more, drop_more, get_or_read}
@@ -9,8 +10,6 @@ use Rattle.room_rows.specs.declared.node.Node.{Node}
 use Rattle.room_rows.specs.Content.{Content, child_of, root_of, is_empty}
 use Rattle.room_rows.specs.Keep.{IsUnreadable}
 use Rattle.room_rows.specs.Rows.{Rows}
-use Rattle.room_judge.specs.declared.arrival.Arrival.{Arrival}
-use Rattle.room_judge.specs.declared.arrival.Arrival.TheVariants.{At, Ended}
 use Rattle.room_judge.specs.declared.arrival.Found.{Found}
 use Rattle.room_judge.specs.declared.asker.Asker.{Asker}
 use Rattle.room_machine.specs.declared.reply.Reply.{Reply}
@@ -19,10 +18,9 @@ use Rattle.room_machine.specs.Site.{Site, site_at}
 use Rattle.room_machine.specs.Plan.{Item, Refusal, way, where_found}
 use Rattle.room_machine.specs.Stored.{stored_site, stored_from, stored_along, to_stored}
 use Rattle.room_judge.specs.Stored.{found_site}
-use Rattle.room_judge.specs.Judged.{IsJudged, IsStepDown, IsReached, FindsNext, GoesOn, IfAt}
-use Rattle.room_judge.specs.Judged.{ending_reply, name_after, through, arrival_of}
-use Rattle.room_judge.proofs.Judging.{SoFar, fails_first, passes_first, judged_none, refuses}
-use Rattle.room_judge.proofs.Judging.{passes_on, so_far_none, so_far_as, so_far_on, so_far_fails}
+use Rattle.room_judge.specs.Judged.{IsJudged, IsStepDown, IsReached, name_after, through}
+use Rattle.room_judge.proofs.Judging.{SoFar, fails_first, passes_first, judged_none}
+use Rattle.room_judge.proofs.Judging.{so_far_none, so_far_as, so_far_on, so_far_fails}
 use Rattle.room_judge.proofs.Judging.{so_far_last}
 
 -- ---- one step
@@ -30,14 +28,6 @@ use Rattle.room_judge.proofs.Judging.{so_far_last}
 one_name_more : (path : List (List ℕ)) (depth : ℕ) → depth < length path
     → take (depth + 1) path ≡ take depth path ++ name_after path depth ∷ []
 one_name_more path depth below = take_more path depth [] below
-
-module _ (asker : Asker) (path : List (List ℕ)) (from : Found)
-    (below : from.depth < length path) where
-  abbrev name : List ℕ
-  name = name_after path from.depth
-
-  abbrev site : Site
-  site = found_site path from
 
 -- the name that is read off the path
 pub name_read : (path names : List (List ℕ)) (i : ℕ) (name text : List ℕ) → names ≡ path
@@ -47,12 +37,16 @@ name_read path names i name text are below is same =
 
 -- a row that can't be read after a walk to an object couldn't be read before it
 pub reached_blames : (asker : Asker) (path : List (List ℕ)) (items : Site → List Item)
-    (arrival : Arrival) (old now : Rows) (at : ℕ) → IsReached asker path items old arrival now
-    → IsUnreadable now at → IsUnreadable old at
-reached_blames asker path items arrival old now at reached h =
+    (outcome : Result Node Reply) (old now : Rows) (at : ℕ)
+    → IsReached asker path items old outcome now → IsUnreadable now at → IsUnreadable old at
+reached_blames asker path items outcome old now at reached h =
     subst (λ (r : Rows). IsUnreadable r at) reached.judged.notes h
 
--- the check that the next name is there
+-- the object, or the refusal where there is one
+abbrev pub unless : Node → Option Reply → Result Node Reply
+unless node None = Ok node
+unless node (Some reply) = Err reply
+
 -- ---- the whole way
 
 pub not_empty : (rows : Content) (path : List (List ℕ)) (node : Node) (names : List (List ℕ))
@@ -166,8 +160,8 @@ module _ (asker : Asker) (path : List (List ℕ)) where
 
     -- a step that is refused ends the walk along the whole path with its reply
     pub way_ends : (old now new : Rows) (reply : Reply) → IsOnWay asker path from old now
-        → IsStepDown asker path from now (Ended reply) new
-        → IsReached asker path (λ _. []) old (Ended reply) new
+        → IsStepDown asker path from now (Err reply) new
+        → IsReached asker path (λ _. []) old (Err reply) new
     way_ends old now new reply on_way step = record {
       judged = subst (λ items. IsJudged asker items old (Some reply) new) (sym (plain_way old))
           (so_far_fails asker (all_of old) (step_items old) (items_below old) old now new reply
@@ -180,7 +174,7 @@ module _ (asker : Asker) (path : List (List ℕ)) where
 
     -- a step that comes to a child leaves the rest of the way, from that child on
     pub way_goes_on : (old now new : Rows) (next : Found) → next.depth ≡ from.depth + 1
-        → IsOnWay asker path from old now → IsStepDown asker path from now (At next.node) new
+        → IsOnWay asker path from old now → IsStepDown asker path from now (Ok next.node) new
         → IsOnWay asker path next old new
     way_goes_on old now new next deeper on_way step =
         let child : child_of old.read from.node.id next_name ≡ Some next.node =
@@ -224,7 +218,7 @@ module _ (asker : Asker) (path : List (List ℕ)) where
 
   -- all steps are done
   pub way_done : (from : Found) (old now : Rows) → from.depth ≡ length path
-      → IsOnWay asker path from old now → IsReached asker path (λ _. []) old (At from.node) now
+      → IsOnWay asker path from old now → IsReached asker path (λ _. []) old (Ok from.node) now
   way_done from old now full on_way =
       let none_left : drop from.depth path ≡ [] = ap (λ (d : ℕ). drop d path) full
       ∙ drop-length path in
@@ -250,8 +244,8 @@ module _ (asker : Asker) (path : List (List ℕ)) where
   module _ (items : Site → List Item) where
     -- a walk that ended before its target ends with that reply, whatever items are at the target
     pub not_reached : (old new : Rows) (reply : Reply)
-        → IsReached asker path (λ _. []) old (Ended reply) new
-        → IsReached asker path items old (Ended reply) new
+        → IsReached asker path (λ _. []) old (Err reply) new
+        → IsReached asker path items old (Err reply) new
     not_reached old new reply reached = record {
       judged =
           fails_first asker (all_of old)
@@ -261,7 +255,7 @@ module _ (asker : Asker) (path : List (List ℕ)) where
     }
 
     at_target : (old mid new : Rows) (target : Found) (answer : Option Reply)
-        → target.depth ≡ length path → IsReached asker path (λ _. []) old (At target.node) mid
+        → target.depth ≡ length path → IsReached asker path (λ _. []) old (Ok target.node) mid
         → IsJudged asker (items (found_site path target)) mid answer new
         → IsJudged asker (to_stored old.read path items) old answer new
     at_target old mid new target answer deep reached judged =
@@ -276,9 +270,9 @@ module _ (asker : Asker) (path : List (List ℕ)) where
 
     -- a walk that came to its target ends there, with the reply for an item that fails
     pub target_refused : (old mid new : Rows) (target : Found) (reply : Reply)
-        → target.depth ≡ length path → IsReached asker path (λ _. []) old (At target.node) mid
+        → target.depth ≡ length path → IsReached asker path (λ _. []) old (Ok target.node) mid
         → IsJudged asker (items (found_site path target)) mid (Some reply) new
-        → IsReached asker path items old (Ended reply) new
+        → IsReached asker path items old (Err reply) new
     target_refused old mid new target reply deep reached judged =
         record {
           judged = at_target old mid new target (Some reply) deep reached judged;
@@ -287,9 +281,9 @@ module _ (asker : Asker) (path : List (List ℕ)) where
 
     -- a walk that came to its target has reached it where all items there pass
     pub target_passed : (old mid new : Rows) (target : Found) → target.depth ≡ length path
-        → IsReached asker path (λ _. []) old (At target.node) mid
+        → IsReached asker path (λ _. []) old (Ok target.node) mid
         → IsJudged asker (items (found_site path target)) mid None new
-        → IsReached asker path items old (At target.node) new
+        → IsReached asker path items old (Ok target.node) new
     target_passed old mid new target deep reached judged =
         record {
           judged = at_target old mid new target None deep reached judged;
@@ -299,9 +293,9 @@ module _ (asker : Asker) (path : List (List ℕ)) where
     -- the walk comes to the object, or ends with the reply of its items
     pub reaches_with : (old mid new : Rows) (node : Node) (target : Found) (refusal : Option Reply)
         → target ≡ record { node = node; depth = length path }
-        → IsReached asker path (λ _. []) old (At node) mid
+        → IsReached asker path (λ _. []) old (Ok node) mid
         → IsJudged asker (items (found_site path target)) mid refusal new
-        → IsReached asker path items old (arrival_of node refusal) new
+        → IsReached asker path items old (unless node refusal) new
     reaches_with old mid new node target None is reached judged =
         target_passed old mid new (record { node = node; depth = length path }) refl reached
         (subst (λ (t : Found). IsJudged asker (items (found_site path t)) mid None new) is

@@ -10,22 +10,14 @@ use Rattle.room_machine.specs.declared.reply.Reply.TheVariants.{Refused as Refus
 use Rattle.room_machine.specs.declared.reply.Reason.TheVariants.{NoSuch}
 use Rattle.room_machine.specs.declared.request.Request.{Request}
 use Rattle.room_machine.specs.Plan.{Item}
-use Rattle.room_machine.specs.Site.{Site}
-use Rattle.room_judge.specs.declared.arrival.Arrival.{Arrival}
-use Rattle.room_judge.specs.declared.arrival.Arrival.TheVariants.{At, Ended}
 use Rattle.room_judge.specs.declared.arrival.Both.{Both}
 use Rattle.room_judge.specs.declared.arrival.Found.{Found}
-use Rattle.room_judge.specs.declared.arrival.Pair.{Pair}
-use Rattle.room_judge.specs.declared.arrival.Pair.TheVariants.{Both as BothOf, Halted}
-use Rattle.room_judge.specs.declared.arrival.Spot.{Spot}
-use Rattle.room_judge.specs.declared.arrival.Spot.TheVariants.{Under as UnderOf, Barred}
-use Rattle.room_judge.specs.declared.arrival.Under.{Under}
 use Rattle.room_judge.specs.declared.asker.Asker.{Asker}
 use Rattle.room_judge.specs.declared.halt.Halt.{Halt}
 use Rattle.room_judge.specs.declared.halt.Halt.TheVariants.{Refused, Fault}
 use Rattle.room_judge.specs.Closed.{IsServed}
-use Rattle.room_judge.specs.Judged.{Does, FindsNext, IsJudged, IsReached, IsStepDown}
-use Rattle.room_judge.specs.Spot.{IsPaired, IsSpotted, SpotsUnder}
+use Rattle.room_judge.specs.Judged.{Does, IsJudged, refusal_of}
+use Rattle.room_judge.specs.Spot.{pair_of}
 
 -- A refusal is an outcome, as an answer is. A fault isn't.
 abbrev pub settled : {X : Type 0} → Result X Halt → Result (Result X Reply) KeepFault
@@ -37,10 +29,6 @@ settled (Err (Fault fault)) = Err fault
 module _ {S : Type 0} (k : Ghosts S) {X : Type 0} (old new : S) (result : Result X Halt) where
   abbrev pub Tries : (Rows → ℕ → Type 0) → (Rows → Result X Reply → Rows → Type 0) → Type 0
   Tries Blames Becomes = Does k old new (settled result) Blames Becomes
-
-abbrev pub refusal_of : {X : Type 0} → Result X Reply → Option Reply
-refusal_of (Ok x) = None
-refusal_of (Err reply) = Some reply
 
 -- The refusal is the reply for the first item that fails, and the records of the items up to it
 -- come after the others.
@@ -57,43 +45,10 @@ abbrev pub Grants : {X : Type 0} → Result X Halt → Option Reply → Type 0
 Grants (Ok x) wanted = None ≡ wanted
 Grants (Err halt) wanted = Refuses halt wanted
 
--- ---- walks
-
-abbrev pub arrived : Result Node Reply → Arrival
-arrived (Ok node) = At node
-arrived (Err reply) = Ended reply
-
-abbrev pub Reaches : Asker → List (List ℕ) → (Site → List Item) → Rows → Result Node Reply → Rows
-    → Type 0
-Reaches asker path items old outcome new = IsReached asker path items old (arrived outcome) new
-
-abbrev pub Finds : List (List ℕ) → Found → Rows → Result Node Reply → Rows → Type 0
-Finds path from old outcome new = FindsNext path from old (arrived outcome) new
-
-abbrev pub Steps : Asker → List (List ℕ) → Found → Rows → Result Node Reply → Rows → Type 0
-Steps asker path from old outcome new = IsStepDown asker path from old (arrived outcome) new
-
-abbrev pub spotted : Result Under Reply → Spot
-spotted (Ok under) = UnderOf under.folder under.child
-spotted (Err reply) = Barred reply
-
-abbrev pub Spots : Asker → List (List ℕ) → Rows → Result Under Reply → Rows → Type 0
-Spots asker path old outcome new = IsSpotted asker path old (spotted outcome) new
-
-abbrev pub SpotsIn : Asker → List (List ℕ) → Found → Rows → Result Under Reply → Rows → Type 0
-SpotsIn asker path from old outcome new = SpotsUnder asker path from old (spotted outcome) new
-
-abbrev pub paired : Result Both Reply → Pair
-paired (Ok both) = BothOf both.folder both.target
-paired (Err reply) = Halted reply
-
-abbrev pub Pairs : Asker → List (List ℕ) → Rows → Result Both Reply → Rows → Type 0
-Pairs asker path old outcome new = IsPaired asker path old (paired outcome) new
-
 -- the folder and the object at the path, where there is one
 abbrev pub both_with : List (List ℕ) → Found → Option Node → Result Both Reply
 both_with path folder (Some node) =
-    Ok (record { folder = folder; target = record { node = node; depth = length path } })
+    pair_of folder (record { node = node; depth = length path })
 both_with path folder None = Err (RefusedWith path NoSuch)
 
 -- this outcome, or out of memory

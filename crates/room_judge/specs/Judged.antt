@@ -1,7 +1,7 @@
 -- What the calls that carry out a request answer, and what they leave.
 use Rattle.std.specs.Prelude.{◌≡◌, ℕ, ℤ, ◌+◌, Bool, true, false, not, List, [], ◌∷◌, ◌++◌}
-use Rattle.std.specs.Prelude.{Option, Some, None, is_none, slice_index_or, Result, IfOk, IfErr}
-use Rattle.std.specs.Prelude.{take, if◌then◌else◌}
+use Rattle.std.specs.Prelude.{Option, Some, None, is_none, slice_index_or, Result, Ok, Err, IfOk}
+use Rattle.std.specs.Prelude.{IfErr, take, if◌then◌else◌}
 use Rattle.room_entry.specs.Rights.{delete_child, execute, write_data}
 use Rattle.room_entry.specs.declared.object.ObjKind.{ObjKind}
 use Rattle.room_entry.specs.declared.object.ObjKind.TheVariants.{Document, Folder}
@@ -22,8 +22,6 @@ use Rattle.room_rows.specs.Keep.{HasCause, IsUnreadable, reading}
 use Rattle.room_rows.specs.Meaning.{meaning}
 use Rattle.room_rows.specs.Rows.{Rows}
 use Rattle.room_rows.specs.Sound.{AreSound}
-use Rattle.room_judge.specs.declared.arrival.Arrival.{Arrival}
-use Rattle.room_judge.specs.declared.arrival.Arrival.TheVariants.{At, Ended}
 use Rattle.room_judge.specs.declared.arrival.Found.{Found}
 use Rattle.room_judge.specs.declared.asker.Asker.{Asker}
 use Rattle.room_machine.specs.declared.reply.Reply.{Reply}
@@ -93,13 +91,10 @@ second_right (AtParent bits place) = bits
 
 -- ---- the way
 
-abbrev pub ending_reply : Arrival → Option Reply
-ending_reply (At node) = None
-ending_reply (Ended reply) = Some reply
-
-abbrev pub IfAt : Arrival → (Node → Type 0) → Type 0
-IfAt (At node) P = P node
-IfAt (Ended reply) P = Unit {0}
+-- An outcome is an answer or a refusal.
+abbrev pub refusal_of : {X : Type 0} → Result X Reply → Option Reply
+refusal_of (Ok x) = None
+refusal_of (Err reply) = Some reply
 
 -- the name of a path that comes after n others
 abbrev pub name_after : List (List ℕ) → ℕ → List ℕ
@@ -125,35 +120,24 @@ step_items path from rows = let site = found_site path from in
     (is_none (child_below path from rows)) ∷ []
 
 -- the child of the next name, or the refusal where there is none
-pub record FindsNext (path : List (List ℕ)) (from : Found) (old : Rows) (arrival : Arrival)
-    (new : Rows) : Type 0 where
+pub record FindsNext (path : List (List ℕ)) (from : Found) (old : Rows)
+    (outcome : Result Node Reply) (new : Rows) : Type 0 where
   pub same : new ≡ old
-  pub answers : ending_reply arrival
+  pub answers : refusal_of outcome
       ≡ (if is_none (child_below path from old) then Some (no_such path from) else None)
-  pub found : IfAt arrival (λ next. child_below path from old ≡ Some next)
-
--- a refusal ends the walk, and without one it goes on to the child of the next name
-abbrev pub GoesOn : List (List ℕ) → Found → Option Reply → Rows → Arrival → Rows → Type 0
-GoesOn path from None old arrival new = FindsNext path from old arrival new
-GoesOn path from (Some reply) old arrival new = (arrival ≡ Ended reply) × (new ≡ old)
+  pub found : IfOk outcome (λ next. child_below path from old ≡ Some next)
 
 -- One step down the way: it passes through the object, and finds the child of the next name.
 pub record IsStepDown (asker : Asker) (path : List (List ℕ)) (from : Found) (old : Rows)
-    (arrival : Arrival) (new : Rows) : Type 0 where
-  pub judged : IsJudged asker (step_items path from old) old (ending_reply arrival) new
-  pub found : IfAt arrival (λ next. child_below path from old ≡ Some next)
-
--- One more step of a walk that has come past n names. A walk that has ended stays where it is.
-abbrev pub StepsOn : Asker → List (List ℕ) → ℕ → Arrival → Rows → Arrival → Rows → Type 0
-StepsOn asker path depth (At node) old next new =
-    IsStepDown asker path (record { node = node; depth = depth }) old next new
-StepsOn asker path depth (Ended reply) old next new = (next ≡ Ended reply) × (new ≡ old)
+    (outcome : Result Node Reply) (new : Rows) : Type 0 where
+  pub judged : IsJudged asker (step_items path from old) old (refusal_of outcome) new
+  pub found : IfOk outcome (λ next. child_below path from old ≡ Some next)
 
 -- The way to the target of a path and the items at it, and then the target itself.
 pub record IsReached (asker : Asker) (path : List (List ℕ)) (items : Site → List Item) (old : Rows)
-    (arrival : Arrival) (new : Rows) : Type 0 where
-  pub judged : IsJudged asker (to_stored old.read path items) old (ending_reply arrival) new
-  pub found : IfAt arrival
+    (outcome : Result Node Reply) (new : Rows) : Type 0 where
+  pub judged : IsJudged asker (to_stored old.read path items) old (refusal_of outcome) new
+  pub found : IfOk outcome
       (λ target. site_at (stored_along old.read path) path ≡ Some (stored_site path target))
 
 -- the relation holds where the node that was read before is the root
@@ -162,11 +146,6 @@ FromRoot root Becomes old x new = root_of old.read ≡ Some root → Becomes old
 
 abbrev pub IsUnreadableFrom : Node → Rows → ℕ → Type 0
 IsUnreadableFrom root rows at = root_of rows.read ≡ Some root → IsUnreadable rows at
-
--- the object, or the reply that ends the walk there
-abbrev pub arrival_of : Node → Option Reply → Arrival
-arrival_of node None = At node
-arrival_of node (Some reply) = Ended reply
 
 -- the object isn't of the wanted kind
 abbrev pub is_other : ObjKind → ObjKind → Bool

@@ -10,7 +10,7 @@ mod spotting;
 mod walk;
 mod walking;
 
-pub use arrival::{Arrival, Both, Found, Pair, Spot, Under};
+pub use arrival::{Both, Found, Under};
 pub use asker::{Asker, caller_of};
 pub use halt::{Halt, refusal, refused};
 pub use walk::Walk;

@@ -1,8 +1,9 @@
 //! The way to the folder of a path's last name, and to what has that name.
 ghost use Rattle.std.specs.Prelude.{◌≡◌, ◌<◌, ◌+◌, length};
 ghost use Rattle.room_rows.specs.Keep.{HasNoRoot, IsUnreadable};
-ghost use Rattle.room_judge.specs.Halted.{Comes, Pairs, Spots, SpotsIn, Tries, both_with};
+ghost use Rattle.room_judge.specs.Halted.{Comes, Tries, both_with};
 ghost use Rattle.room_judge.specs.Judged.{FromRoot, IsUnreadableFrom};
+ghost use Rattle.room_judge.specs.Spot.{IsPaired, IsSpotted, SpotsUnder};
 
 use crate::arrival::{Both, Found, Under};
 use crate::halt::{Halt, refusal};
@@ -19,7 +20,7 @@ impl<K: Keep> Walk<'_, K> {
         ensures same_keep { self.new.keep.ghost_name ≡ self.old.keep.ghost_name }
         ensures same_asker { self.new.asker.now ≡ self.old.asker.now }
         ensures done { Tries K.Keep self.old.keep.now self.new.keep.now result HasNoRoot
-            (Spots self.old.asker.now path.now) }
+            (IsSpotted self.old.asker.now path.now) }
     {
         let depth = path.names().len() - 1;
         let node = self.walk_along(path, depth)?;
@@ -33,7 +34,7 @@ impl<K: Keep> Walk<'_, K> {
         ensures same_keep { self.new.keep.ghost_name ≡ self.old.keep.ghost_name }
         ensures same_asker { self.new.asker.now ≡ self.old.asker.now }
         ensures done { Tries K.Keep self.old.keep.now self.new.keep.now result HasNoRoot
-            (Pairs self.old.asker.now path.now) }
+            (IsPaired self.old.asker.now path.now) }
     {
         let spot = self.to_spot(path)?;
         both_at(self.alloc, path, spot)
@@ -46,7 +47,7 @@ impl<K: Keep> Walk<'_, K> {
         ensures same_asker { self.new.asker.now ≡ self.old.asker.now }
         ensures done { Tries K.Keep self.old.keep.now self.new.keep.now result
             (IsUnreadableFrom root.now)
-            (FromRoot root.now (Pairs self.old.asker.now path.now)) }
+            (FromRoot root.now (IsPaired self.old.asker.now path.now)) }
     {
         let spot = self.to_spot_from(path, root)?;
         both_at(self.alloc, path, spot)
@@ -59,7 +60,7 @@ impl<K: Keep> Walk<'_, K> {
         ensures same_asker { self.new.asker.now ≡ self.old.asker.now }
         ensures done { Tries K.Keep self.old.keep.now self.new.keep.now result
             (IsUnreadableFrom root.now)
-            (FromRoot root.now (Spots self.old.asker.now path.now)) }
+            (FromRoot root.now (IsSpotted self.old.asker.now path.now)) }
     {
         let depth = path.names().len() - 1;
         let node = self.walk_from(path, depth, root)?;
@@ -72,7 +73,7 @@ impl<K: Keep> Walk<'_, K> {
         ensures same_keep { self.new.keep.ghost_name ≡ self.old.keep.ghost_name }
         ensures same_asker { self.new.asker.now ≡ self.old.asker.now }
         ensures done { Tries K.Keep self.old.keep.now self.new.keep.now result IsUnreadable
-            (SpotsIn self.old.asker.now path.now folder) }
+            (SpotsUnder self.old.asker.now path.now folder) }
     {
         self.pass_through(path, &folder)?;
         let name = &path.names()[folder.depth];

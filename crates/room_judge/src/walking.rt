@@ -2,8 +2,9 @@
 ghost use Rattle.std.specs.Prelude.{◌≡◌, ◌<◌, ◌≤◌, [], ◌∷◌, length, take};
 ghost use Rattle.room_rows.specs.Keep.{HasNoRoot, IsNever, IsUnreadable};
 ghost use Rattle.room_machine.specs.Plan.{Check};
-ghost use Rattle.room_judge.specs.Halted.{Finds, Judges, Reaches, Steps, Tries};
-ghost use Rattle.room_judge.specs.Judged.{FromRoot, IsUnreadableFrom, is_other, of_kind, through};
+ghost use Rattle.room_judge.specs.Halted.{Judges, Tries};
+ghost use Rattle.room_judge.specs.Judged.{FindsNext, FromRoot, IsReached, IsStepDown};
+ghost use Rattle.room_judge.specs.Judged.{IsUnreadableFrom, is_other, of_kind, through};
 ghost use Rattle.room_judge.specs.Stored.{found_site};
 
 use crate::arrival::Found;
@@ -33,7 +34,7 @@ impl<K: Keep> Walk<'_, K> {
         ensures same_keep { self.new.keep.ghost_name ≡ self.old.keep.ghost_name }
         ensures same_asker { self.new.asker.now ≡ self.old.asker.now }
         ensures done { Tries K.Keep self.old.keep.now self.new.keep.now result IsUnreadable
-            (Finds path.now found.now) }
+            (FindsNext path.now found.now) }
     {
         let name = &path.names()[found.depth];
         let child = self.keep.child(found.node.id, name.as_str())?;
@@ -50,7 +51,7 @@ impl<K: Keep> Walk<'_, K> {
         ensures same_keep { self.new.keep.ghost_name ≡ self.old.keep.ghost_name }
         ensures same_asker { self.new.asker.now ≡ self.old.asker.now }
         ensures done { Tries K.Keep self.old.keep.now self.new.keep.now result IsUnreadable
-            (Steps self.old.asker.now path.now found.now) }
+            (IsStepDown self.old.asker.now path.now found.now) }
     {
         self.pass_through(path, found)?;
         self.find_next(path, found)
@@ -63,7 +64,7 @@ impl<K: Keep> Walk<'_, K> {
         ensures same_asker { self.new.asker.now ≡ self.old.asker.now }
         ensures done { Tries K.Keep self.old.keep.now self.new.keep.now result
             (IsUnreadableFrom root)
-            (FromRoot root (Reaches self.old.asker.now (take depth path.now) (λ _. []))) }
+            (FromRoot root (IsReached self.old.asker.now (take depth path.now) (λ _. []))) }
     {
         let mut node = root;
         'names: for index in 0..depth {
@@ -79,7 +80,7 @@ impl<K: Keep> Walk<'_, K> {
         ensures same_keep { self.new.keep.ghost_name ≡ self.old.keep.ghost_name }
         ensures same_asker { self.new.asker.now ≡ self.old.asker.now }
         ensures done { Tries K.Keep self.old.keep.now self.new.keep.now result HasNoRoot
-            (Reaches self.old.asker.now (take depth path.now) (λ _. [])) }
+            (IsReached self.old.asker.now (take depth path.now) (λ _. [])) }
     {
         let root = self.keep.root()?;
         self.walk_down(path, depth, root)
@@ -92,7 +93,7 @@ impl<K: Keep> Walk<'_, K> {
         ensures same_asker { self.new.asker.now ≡ self.old.asker.now }
         ensures done { Tries K.Keep self.old.keep.now self.new.keep.now result
             (IsUnreadableFrom root.now)
-            (FromRoot root.now (Reaches self.old.asker.now (take depth path.now) (λ _. []))) }
+            (FromRoot root.now (IsReached self.old.asker.now (take depth path.now) (λ _. []))) }
     {
         let root = root.copy()?;
         self.walk_down(path, depth, root)
@@ -104,7 +105,7 @@ impl<K: Keep> Walk<'_, K> {
         ensures same_keep { self.new.keep.ghost_name ≡ self.old.keep.ghost_name }
         ensures same_asker { self.new.asker.now ≡ self.old.asker.now }
         ensures done { Tries K.Keep self.old.keep.now self.new.keep.now result HasNoRoot
-            (Reaches self.old.asker.now path.now (λ _. [])) }
+            (IsReached self.old.asker.now path.now (λ _. [])) }
     {
         self.walk_along(path, path.names().len())
     }
@@ -115,7 +116,7 @@ impl<K: Keep> Walk<'_, K> {
         ensures same_keep { self.new.keep.ghost_name ≡ self.old.keep.ghost_name }
         ensures same_asker { self.new.asker.now ≡ self.old.asker.now }
         ensures done { Tries K.Keep self.old.keep.now self.new.keep.now result HasNoRoot
-            (Reaches self.old.asker.now path.now (λ target. Check target mask ∷ [])) }
+            (IsReached self.old.asker.now path.now (λ target. Check target mask ∷ [])) }
     {
         let node = self.walk_to(path)?;
         let found = Found {
@@ -154,7 +155,7 @@ impl<K: Keep> Walk<'_, K> {
         ensures same_keep { self.new.keep.ghost_name ≡ self.old.keep.ghost_name }
         ensures same_asker { self.new.asker.now ≡ self.old.asker.now }
         ensures done { Tries K.Keep self.old.keep.now self.new.keep.now result HasNoRoot
-            (Reaches self.old.asker.now path.now
+            (IsReached self.old.asker.now path.now
             (λ target. of_kind kind target ∷ Check target mask ∷ [])) }
     {
         let node = self.walk_to(path)?;

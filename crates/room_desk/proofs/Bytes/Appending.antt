@@ -14,7 +14,6 @@ use Rattle.room_rows.specs.Meaning.{meaning}
 use Rattle.room_rows.specs.Rows.{Rows, AreRows}
 use Rattle.room_rows.proofs.InPlace.{with_body-there}
 use Rattle.room_rows.specs.Sound.{AreSound}
-use Rattle.room_judge.specs.declared.arrival.Arrival.TheVariants.{At, Ended}
 use Rattle.room_judge.specs.declared.asker.Asker.{Asker}
 use Rattle.room_machine.specs.declared.reply.Reply.{Reply}
 use Rattle.room_machine.specs.declared.reply.Reply.TheVariants.{Done, Refused}
@@ -145,7 +144,7 @@ module _ (asker : Asker) (path : List (List ℕ)) (bytes : List ℕ) where
   )
 
   pub append_ended : (old new : Rows) (reply : Reply) → AreRows old
-      → IsReached asker path (DocumentAt (append_data ∷ [])) old (Ended reply) new
+      → IsReached asker path (DocumentAt (append_data ∷ [])) old (Err reply) new
       → IsServed asker (Append path bytes) old reply new
   append_ended old new reply are reached =
       not_appended old new reply are
@@ -155,7 +154,7 @@ module _ (asker : Asker) (path : List (List ℕ)) (bytes : List ℕ) where
       reached.judged))
 
   module _ (old mid : Rows) (node : Node) (are : AreRows old)
-      (reached : IsReached asker path (DocumentAt (append_data ∷ [])) old (At node) mid) where
+      (reached : IsReached asker path (DocumentAt (append_data ∷ [])) old (Ok node) mid) where
     abbrev limit : ℕ → Item
     limit size = not_over path size
 

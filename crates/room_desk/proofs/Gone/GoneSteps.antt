@@ -1,7 +1,8 @@
 -- A request that removes an object is a step.
 use Rattle.std.proofs.Common.{◌≡◌, ℕ, ◌==◌, Bool, true, false, not, List, [], ◌∷◌, ◌++◌, map}
-use Rattle.std.proofs.Common.{length, take, Option, Some, None, refl, sym, ap, subst, ◌∙◌, inl, inr}
+use Rattle.std.proofs.Common.{length, take, Option, Some, None, refl, sym, ap, subst, ◌∙◌}
 use Rattle.std.proofs.Common.{arith}
+use Rattle.std.proofs.Common.{Err}
 use Rattle.std.proofs.Math.Seq.{take-length}
 use Rattle.std.proofs.lemmas.Bool.{eqb-true, false≢true}
 use Rattle.std.specs.Option.{option_map, option_map_or}
@@ -15,7 +16,6 @@ use Rattle.room_rows.specs.Rows.{Rows, AreRows}
 use Rattle.room_rows.proofs.InPlace.{children_of-with_each, keeps_places}
 use Rattle.room_rows.specs.Sound.{AreSound}
 use Rattle.room_judge.specs.declared.arrival.Found.{Found}
-use Rattle.room_judge.specs.declared.arrival.Pair.TheVariants.{Both, Halted}
 use Rattle.room_judge.specs.declared.asker.Asker.{Asker}
 use Rattle.room_machine.specs.declared.reply.Reply.{Reply}
 use Rattle.room_machine.specs.declared.reply.Reply.TheVariants.{Done, Refused}
@@ -29,12 +29,12 @@ use Rattle.room_judge.specs.Closed.{IsClosed, IsServed}
 use Rattle.room_machine.specs.Stored.{stored_along, stored_from, stored_plan, stored_site}
 use Rattle.room_judge.specs.Stored.{found_site}
 use Rattle.room_judge.specs.Judged.{CarriesOut, IsJudged}
-use Rattle.room_judge.specs.Spot.{IsPaired}
+use Rattle.room_judge.specs.Spot.{IsPaired, pair_of}
 use Rattle.room_desk.specs.Made.{Ends}
 use Rattle.room_desk.specs.Removed.{RemovesFrom, RemovesIfGranted, refused_where}
 use Rattle.room_judge.proofs.Closing.{closed_done, closed_failed, closed_more}
 use Rattle.room_judge.proofs.Judging.{fails_first, judged_none, passes_first, passes_on, refuses}
-use Rattle.room_desk.proofs.Sound.SoundParts.{none_unreadable, root_there, sound_noted, sound_parts}
+use Rattle.room_desk.proofs.Sound.SoundParts.{none_unreadable, sound_noted, sound_parts}
 use Rattle.room_desk.proofs.Gone.SoundRemoved.{CanGo, removed_means, sound_removed}
 use Rattle.room_desk.proofs.Gone.Childless.{childless}
 use Rattle.room_desk.proofs.Made.Pairs.{parent_along}
@@ -126,7 +126,7 @@ module _ (asker : Asker) (path : List (List ℕ)) where
   )
 
   pub remove_halted : (old new : Rows) (reply : Reply) → AreRows old
-      → IsPaired asker path old (Halted reply) new → IsServed asker (Remove path) old reply new
+      → IsPaired asker path old (Err reply) new → IsServed asker (Remove path) old reply new
   remove_halted old new reply are paired =
       not_removed old new reply are
       (fails_first asker (way false (stored_along old.read path) path)
@@ -136,7 +136,7 @@ module _ (asker : Asker) (path : List (List ℕ)) where
 
   module _ (old mid : Rows) (folder target : Found) (are : AreRows old)
       (named : is_empty path ≡ false)
-      (paired : IsPaired asker path old (Both folder target) mid) where
+      (paired : IsPaired asker path old (pair_of folder target) mid) where
     abbrev id : ℕ
     id = target.node.id
 

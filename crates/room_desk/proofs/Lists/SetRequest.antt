@@ -2,6 +2,7 @@
 use Rattle.std.proofs.Common.{◌≡◌, ℕ, true, false, List, [], ◌∷◌, ◌++◌, map, Option, Some, None}
 use Rattle.std.proofs.Common.{refl, sym, ap, subst, ◌∙◌}
 use Rattle.std.specs.Prelude.{option_and_then}
+use Rattle.std.proofs.Common.{Ok, Err}
 use Rattle.std.specs.Option.{option_map, option_map_or}
 use Rattle.room_entry.specs.Rights.{write_acl}
 use Rattle.room_ace.specs.Sent.{Sent}
@@ -17,7 +18,6 @@ use Rattle.room_rows.specs.declared.node.AuditRow.{AuditRow}
 use Rattle.room_machine.specs.Judge.{records_of_plan}
 use Rattle.room_rows.specs.Rows.{Rows, AreRows}
 use Rattle.room_rows.specs.Sound.{AreSound}
-use Rattle.room_judge.specs.declared.arrival.Arrival.TheVariants.{At, Ended}
 use Rattle.room_judge.specs.declared.asker.Asker.{Asker}
 use Rattle.room_machine.specs.declared.reply.Reason.TheVariants.{BadList}
 use Rattle.room_machine.specs.declared.reply.Reply.{Reply}
@@ -25,14 +25,13 @@ use Rattle.room_machine.specs.declared.reply.Reply.TheVariants.{Done, Refused}
 use Rattle.room_machine.specs.declared.request.Request.TheVariants.{SetList}
 use Rattle.room_machine.specs.Effect.{set_list}
 use Rattle.room_judge.specs.declared.arrival.Found.{Found}
-use Rattle.room_judge.specs.declared.arrival.Pair.TheVariants.{Both, Halted}
 use Rattle.room_machine.specs.Closed.{failure_told}
 use Rattle.room_judge.specs.Closed.{IsServed}
 use Rattle.room_judge.proofs.Closing.{closed_done, closed_failed}
-use Rattle.room_judge.specs.Judged.{CarriesOut, IsJudged, IsReached, arrival_of, noted}
-use Rattle.room_judge.specs.Spot.{IsPaired}
+use Rattle.room_judge.specs.Judged.{CarriesOut, IsJudged, IsReached, noted}
+use Rattle.room_judge.specs.Spot.{IsPaired, pair_of}
 use Rattle.room_judge.proofs.Folders.{pair_reached}
-use Rattle.room_judge.proofs.Ways.{not_reached, reaches_with}
+use Rattle.room_judge.proofs.Ways.{not_reached, reaches_with, unless}
 use Rattle.room_judge.proofs.Walked.{root_reached}
 use Rattle.room_machine.specs.Plan.{Check, Item, bad_list, plan_of, way, where_found}
 use Rattle.room_desk.specs.Carrying.{IsRooted, IsUnreadableIfHeld}
@@ -99,7 +98,7 @@ module _ (asker : Asker) (path : List (List ℕ)) (which : Which) (sent : Sent) 
       judged
 
   pub set_ended : (old new : Rows) (reply : Reply) → AreRows old
-      → IsReached asker path (CheckAt (write_acl ∷ [])) old (Ended reply) new
+      → IsReached asker path (CheckAt (write_acl ∷ [])) old (Err reply) new
       → IsServed asker (SetList path which sent) old reply new
   set_ended old new reply are reached =
       let judged = fails_first asker (to_stored old.read path (CheckAt (write_acl ∷ [])))
@@ -112,7 +111,7 @@ module _ (asker : Asker) (path : List (List ℕ)) (which : Which) (sent : Sent) 
       )
 
   module _ (old mid : Rows) (node : Node) (are : AreRows old)
-      (reached : IsReached asker path (CheckAt (write_acl ∷ [])) old (At node) mid) where
+      (reached : IsReached asker path (CheckAt (write_acl ∷ [])) old (Ok node) mid) where
     there : node_at old.read node.id ≡ Some node
     there = target_stands old.read are.numbers path path node reached.found
 
@@ -207,58 +206,54 @@ module _ (asker : Asker) (path : List (List ℕ)) (which : Which) (sent : Sent) 
 module _ (asker : Asker) (path : List (List ℕ)) (which : Which) (sent : Sent) (target : Found)
     (above : Option Node) (old mid : Rows)
     (found : IsFoundUnder asker path target above old mid) where
-  checked : (new : Rows) (bits : List ℕ) (refusal place : Option Reply) → bits ≡ write_acl ∷ []
-      → refusal ≡ place → IsJudged asker (Check (found_site path target) bits ∷ []) mid refusal new
-      → IsReached asker path (CheckAt (write_acl ∷ [])) old (arrival_of target.node place) new
-  checked new bits refusal place same comes judged =
-      reaches_with asker path (CheckAt (write_acl ∷ [])) old mid new target.node target place
-      (ap (λ (d : ℕ). record { node = target.node; depth = d }) found.depth) found.reached
-      (subst (λ (b : List ℕ). IsJudged asker (Check (found_site path target) b ∷ []) mid place new)
-      same
-      (subst (λ (o : Option Reply). IsJudged asker
-      (Check (found_site path target) bits ∷ []) mid o new) comes judged))
-
-  pub not_allowed : (new : Rows) (bits : List ℕ) (refusal : Option Reply) (reply : Reply)
-      → bits ≡ write_acl ∷ [] → refusal ≡ Some reply
+  checked : (new : Rows) (bits : List ℕ) (refusal : Option Reply) → bits ≡ write_acl ∷ []
       → IsJudged asker (Check (found_site path target) bits ∷ []) mid refusal new
-      → IsServed asker (SetList path which sent) old reply new
-  not_allowed new bits refusal reply same comes judged =
-      set_ended asker path which sent old new reply found.are
-      (checked new bits refusal (Some reply) same comes judged)
+      → IsReached asker path (CheckAt (write_acl ∷ [])) old (unless target.node refusal) new
+  checked new bits refusal same judged =
+      reaches_with asker path (CheckAt (write_acl ∷ [])) old mid new target.node target refusal
+      (ap (λ (d : ℕ). record { node = target.node; depth = d }) found.depth) found.reached
+      (subst (λ (b : List ℕ). IsJudged asker (Check (found_site path target) b ∷ []) mid refusal
+      new) same judged)
 
-  module _ (end : Rows) (bits : List ℕ) (refusal : Option Reply) (same : bits ≡ write_acl ∷ [])
-      (comes : refusal ≡ None)
-      (judged : IsJudged asker (Check (found_site path target) bits ∷ []) mid refusal end) where
+  pub not_allowed : (new : Rows) (bits : List ℕ) (reply : Reply) → bits ≡ write_acl ∷ []
+      → IsJudged asker (Check (found_site path target) bits ∷ []) mid (Some reply) new
+      → IsServed asker (SetList path which sent) old reply new
+  not_allowed new bits reply same judged =
+      set_ended asker path which sent old new reply found.are
+      (checked new bits (Some reply) same judged)
+
+  module _ (end : Rows) (bits : List ℕ) (same : bits ≡ write_acl ∷ [])
+      (judged : IsJudged asker (Check (found_site path target) bits ∷ []) mid None end) where
     pub allowed_done : (new : Rows) (reply : Reply)
         → Beneath above target.node (IsSetOrRefused path which sent target.node) end reply new
         → IsServed asker (SetList path which sent) old reply new
     allowed_done new reply said =
-        let reached = checked end bits refusal None same comes judged in
+        let reached = checked end bits None same judged in
         set_done asker path which sent old end target.node found.are reached new reply
         (said (ap (λ (r : Rows). parent_of r.read target.node) reached.judged.notes ∙ found.parent))
 
     pub allowed_blames : (at : ℕ) → IsUnreadableIfHeld target.node end at → IsDamaged old at
     allowed_blames at fails =
         set_blames asker path which sent old end target.node found.are
-        (checked end bits refusal None same comes judged) at fails
+        (checked end bits None same judged) at fails
 
 -- ---- where the walk comes to
 
 pub set_halted : (asker : Asker) (path : List (List ℕ)) (which : Which) (sent : Sent)
-    (old new : Rows) (reply : Reply) → AreRows old → IsPaired asker path old (Halted reply) new
+    (old new : Rows) (reply : Reply) → AreRows old → IsPaired asker path old (Err reply) new
     → IsServed asker (SetList path which sent) old reply new
 set_halted asker path which sent old new reply are paired =
     set_ended asker path which sent old new reply are
     (not_reached asker path (CheckAt (write_acl ∷ [])) old new reply
-    (pair_reached asker path (Halted reply) old new paired))
+    (pair_reached asker path (Err reply) old new paired))
 
 -- an object and its folder
 pub found_pair : (asker : Asker) (path : List (List ℕ)) (folder target : Found) (old mid : Rows)
-    → AreRows old → IsPaired asker path old (Both folder target) mid
+    → AreRows old → IsPaired asker path old (pair_of folder target) mid
     → IsFoundUnder asker path target (Some folder.node) old mid
 found_pair asker path folder target old mid are paired = record {
   are = are;
-  reached = pair_reached asker path (Both folder target) old mid paired;
+  reached = pair_reached asker path (pair_of folder target) old mid paired;
   depth = paired.depth;
   parent =
       parent_paired old.read are.numbers path

@@ -7,7 +7,6 @@ use Rattle.room_rows.specs.declared.node.Node.{Node}
 use Rattle.room_rows.specs.Content.{node_at, child_of, is_folder}
 use Rattle.room_rows.specs.Rows.{Rows, AreRows}
 use Rattle.room_judge.specs.declared.arrival.Found.{Found}
-use Rattle.room_judge.specs.declared.arrival.Spot.TheVariants.{Under}
 use Rattle.room_judge.specs.declared.asker.Asker.{Asker}
 use Rattle.room_machine.specs.declared.reply.Reply.TheVariants.{Refused}
 use Rattle.room_machine.specs.declared.reply.Reason.TheVariants.{NotFolder}
@@ -17,7 +16,7 @@ use Rattle.room_machine.specs.Judge.{failure, first_failure}
 use Rattle.room_machine.specs.Stored.{stored_along}
 use Rattle.room_judge.specs.Stored.{found_site}
 use Rattle.room_judge.specs.Judged.{through}
-use Rattle.room_judge.specs.Spot.{IsSpotted}
+use Rattle.room_judge.specs.Spot.{IsSpotted, spot_of}
 use Rattle.room_judge.proofs.Judging.{failure_of_parts}
 use Rattle.room_desk.proofs.Steps.Serving.{none_both, along_there}
 use Rattle.room_judge.proofs.Spots.{folder_along}
@@ -36,7 +35,7 @@ not_refused false at passes = absurd (let wrong : ⊥ = cc in wrong)
 
 pub found_folder : (asker : Asker) (path : List (List ℕ)) → 0 < length path
     → (old mid : Rows) (folder : Found) (child : Option Node) → AreRows old
-    → IsSpotted asker path old (Under folder child) mid → IsFoundFolder old path folder.node child
+    → IsSpotted asker path old (spot_of folder child) mid → IsFoundFolder old path folder.node child
 found_folder asker path some old mid folder child are spotted =
     let site : Site = found_site path folder in
     let at : folder_along old.read path ≡ Some (found_site path folder) =

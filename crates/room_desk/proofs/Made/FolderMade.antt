@@ -2,6 +2,7 @@
 use Rattle.std.proofs.Common.{◌≡◌, ℕ, ◌<◌, Bool, true, cond, List, [], ◌∷◌, length, take, Option}
 use Rattle.std.proofs.Common.{Some, None, refl, sym, ap, subst, ◌∙◌}
 use Rattle.std.specs.Prelude.{is_none, is_some}
+use Rattle.std.proofs.Common.{Err}
 use Rattle.std.specs.Option.{option_map}
 use Rattle.std.proofs.lemmas.Bool.{false≢true}
 use Rattle.room_entry.specs.Rights.{append_data}
@@ -11,7 +12,6 @@ use Rattle.room_rows.specs.Content.{child_of, with_node}
 use Rattle.room_rows.specs.Meaning.{meaning}
 use Rattle.room_rows.specs.Rows.{Rows, AreRows}
 use Rattle.room_judge.specs.declared.arrival.Found.{Found}
-use Rattle.room_judge.specs.declared.arrival.Spot.TheVariants.{Under, Barred}
 use Rattle.room_judge.specs.declared.asker.Asker.{Asker}
 use Rattle.room_machine.specs.declared.reply.Reply.{Reply}
 use Rattle.room_machine.specs.declared.reply.Reply.TheVariants.{Made, Refused}
@@ -26,7 +26,7 @@ use Rattle.room_machine.specs.Stored.{stored_site, stored_along, stored_plan}
 use Rattle.room_judge.specs.Stored.{found_site}
 use Rattle.room_judge.specs.Judged.{IsJudged, CarriesOut}
 use Rattle.room_desk.specs.Made.{Ends, IsMade, IsNameOf, IsJudgedAndDone, new_child}
-use Rattle.room_judge.specs.Spot.{IsSpotted}
+use Rattle.room_judge.specs.Spot.{IsSpotted, spot_of}
 use Rattle.room_judge.proofs.Closing.{closed_done, closed_failed}
 use Rattle.room_judge.proofs.Judging.{fails_first, passes_first, refuses}
 use Rattle.room_desk.proofs.Steps.Serving.{none_both}
@@ -83,7 +83,7 @@ module _ (asker : Asker) (path : List (List ℕ)) where
   )
 
   pub folder_barred : 0 < length path → (old new : Rows) (reply : Reply) → AreRows old
-      → IsSpotted asker path old (Barred reply) new
+      → IsSpotted asker path old (Err reply) new
       → IsServed asker (MakeFolder path) old reply new
   folder_barred some old new reply are spotted =
       not_made some old new reply are
@@ -94,7 +94,7 @@ module _ (asker : Asker) (path : List (List ℕ)) where
 
   module _ (old mid : Rows) (folder : Found) (child : Option Node) (name : List ℕ)
       (named : IsNameOf path name) (are : AreRows old)
-      (spotted : IsSpotted asker path old (Under folder child) mid) where
+      (spotted : IsSpotted asker path old (spot_of folder child) mid) where
     items_are : where_found (parent_at (stored_along old.read path) path)
         (making path (is_some (site_at (stored_along old.read path) path)))
         ≡ making path (is_some child) (found_site path folder)

@@ -2,6 +2,7 @@
 use Rattle.std.proofs.Common.{◌≡◌, ℕ, Bool, true, false, cond, List, [], ◌∷◌, ◌++◌, length, take}
 use Rattle.std.proofs.Common.{Option, Some, None, nat_lt, refl, sym, ap, subst, ◌∙◌, inl, inr}
 use Rattle.std.specs.Prelude.{is_none, nat_le}
+use Rattle.std.proofs.Common.{Ok, Err}
 use Rattle.std.proofs.lemmas.Bool.{false≢true, ltb-false, le-leb}
 use Rattle.std.proofs.Math.Seq.{take-length}
 use Rattle.room_entry.specs.Rights.{write_data}
@@ -13,9 +14,7 @@ use Rattle.room_rows.specs.Keep.{SetsBody, reading}
 use Rattle.room_rows.specs.Meaning.{meaning}
 use Rattle.room_rows.specs.Rows.{Rows, AreRows}
 use Rattle.room_rows.specs.Sound.{AreSound}
-use Rattle.room_judge.specs.declared.arrival.Arrival.TheVariants.{At, Ended}
 use Rattle.room_judge.specs.declared.arrival.Found.{Found}
-use Rattle.room_judge.specs.declared.arrival.Spot.TheVariants.{Under, Barred}
 use Rattle.room_judge.specs.declared.asker.Asker.{Asker}
 use Rattle.room_machine.specs.declared.reply.Reply.{Reply}
 use Rattle.room_machine.specs.declared.reply.Reply.TheVariants.{Done, Made, Refused}
@@ -31,7 +30,7 @@ use Rattle.room_machine.specs.Stored.{stored_site, stored_along, to_stored}
 use Rattle.room_judge.specs.Stored.{found_site}
 use Rattle.room_judge.specs.Judged.{IsJudged, IsReached, CarriesOut}
 use Rattle.room_desk.specs.Made.{Ends, IsMade, IsNameOf, IsJudgedAndDone, new_child}
-use Rattle.room_judge.specs.Spot.{IsSpotted}
+use Rattle.room_judge.specs.Spot.{IsSpotted, spot_of}
 use Rattle.room_judge.proofs.Closing.{closed_done, closed_failed}
 use Rattle.room_judge.proofs.Judging.{fails_first, passes_first}
 use Rattle.room_desk.proofs.Steps.Serving.{none_both, along_there, folder_fails}
@@ -83,7 +82,7 @@ module _ (asker : Asker) (path : List (List ℕ)) (bytes : List ℕ) where
       (parent_at (stored_along old.read path) path)) old new reply judged)
 
   pub put_barred : (old new : Rows) (reply : Reply) → AreRows old
-      → IsSpotted asker path old (Barred reply) new → IsServed asker (Put path bytes) old reply new
+      → IsSpotted asker path old (Err reply) new → IsServed asker (Put path bytes) old reply new
   put_barred old new reply are spotted = not_reached old new reply are spotted.judged
 
   -- what is judged after the way
@@ -200,7 +199,7 @@ module _ (asker : Asker) (path : List (List ℕ)) (bytes : List ℕ) where
         here served.judged) served.ends
 
   pub put_on : (old mid : Rows) (folder : Found) (node : Node) → AreRows old
-      → IsSpotted asker path old (Under folder (Some node)) mid → (depth : ℕ)
+      → IsSpotted asker path old (spot_of folder (Some node)) mid → (depth : ℕ)
       → depth ≡ length path → (new : Rows) (reply : Reply) → IsJudgedAndDone asker
       (there_items (found_site path (record { node = node; depth = depth }))) Done
       (SetsBody node.id bytes) mid reply new → IsServed asker (Put path bytes) old reply new
@@ -223,7 +222,7 @@ module _ (asker : Asker) (path : List (List ℕ)) (bytes : List ℕ) where
         on (site ∷ sites) = refl
 
     pub root_barred : (old new : Rows) (reply : Reply) → AreRows old
-        → IsReached asker path (λ _. []) old (Ended reply) new
+        → IsReached asker path (λ _. []) old (Err reply) new
         → IsServed asker (Put path bytes) old reply new
     root_barred old new reply are reached =
         not_reached old new reply are
@@ -231,7 +230,7 @@ module _ (asker : Asker) (path : List (List ℕ)) (bytes : List ℕ) where
 
     -- where the root is a document, it is put as any that is there
     pub put_root : (old mid : Rows) (node : Node) → AreRows old
-        → IsReached asker path (λ _. []) old (At node) mid → (new : Rows) (reply : Reply)
+        → IsReached asker path (λ _. []) old (Ok node) mid → (new : Rows) (reply : Reply)
         → IsJudgedAndDone asker
         (there_items (found_site path (record { node = node; depth = 0 }))) Done
         (SetsBody node.id bytes) mid reply new → IsServed asker (Put path bytes) old reply new
@@ -246,7 +245,7 @@ module _ (asker : Asker) (path : List (List ℕ)) (bytes : List ℕ) where
   new_items site = Check site (write_data ∷ []) ∷ not_over path size ∷ []
 
   module _ (old mid : Rows) (folder : Found) (name : List ℕ) (named : IsNameOf path name)
-      (are : AreRows old) (spotted : IsSpotted asker path old (Under folder None) mid) where
+      (are : AreRows old) (spotted : IsSpotted asker path old (spot_of folder None) mid) where
     items_new : put_items path size (site_at (stored_along old.read path) path)
         (parent_at (stored_along old.read path) path) ≡ new_items (found_site path folder)
     items_new =

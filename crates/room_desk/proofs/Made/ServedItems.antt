@@ -2,12 +2,12 @@
 use Rattle.std.proofs.Common.{◌≡◌, ℕ, ◌+◌, Bool, true, false, cond, List, [], ◌∷◌, ◌++◌, length}
 use Rattle.std.proofs.Common.{Option, Some, None, nat_lt, refl, sym, ap, subst, ◌∙◌, inl, arith}
 use Rattle.std.proofs.Common.{length-append}
+use Rattle.std.proofs.Common.{Result}
 use Rattle.room_entry.specs.Rights.{write_data}
 use Rattle.room_rows.specs.declared.node.NewNode.{NewNode}
 use Rattle.room_rows.specs.Keep.{IsDamaged, IsUnreadable, SetsBody}
 use Rattle.room_rows.specs.Paths.{is_object_name}
 use Rattle.room_rows.specs.Rows.{Rows}
-use Rattle.room_judge.specs.declared.arrival.Spot.{Spot}
 use Rattle.room_judge.specs.declared.asker.Asker.{Asker}
 use Rattle.room_machine.specs.declared.reply.Reply.{Reply}
 use Rattle.room_machine.specs.declared.reply.Reply.TheVariants.{Done, Made, Refused}
@@ -21,6 +21,7 @@ use Rattle.room_judge.specs.Spot.{IsSpotted}
 use Rattle.room_desk.specs.Written.{IsPut, TakesBytes}
 use Rattle.room_judge.proofs.Judging.{blames_first, judged_none, passes_first, passes_on, refuses}
 use Rattle.room_judge.proofs.Spots.{last_of}
+use Rattle.room_judge.specs.declared.arrival.Under.{Under}
 
 -- the last part of a path that was split
 pub name_of_parts : (path names : List (List ℕ)) (name : List ℕ) → path ≡ names ++ name ∷ []
@@ -35,8 +36,9 @@ name_of_parts path names name parts sound =
     }
 
 -- a row that can't be read after the way
-pub spotted_blames : (asker : Asker) (path : List (List ℕ)) (spot : Spot) (old mid : Rows) (at : ℕ)
-    → IsSpotted asker path old spot mid → IsUnreadable mid at → IsDamaged old at
+pub spotted_blames : (asker : Asker) (path : List (List ℕ)) (spot : Result Under Reply)
+    (old mid : Rows) (at : ℕ) → IsSpotted asker path old spot mid → IsUnreadable mid at
+    → IsDamaged old at
 spotted_blames asker path spot old mid at spotted h =
     inl (inl (blames_first asker _ _ old mid at spotted.judged h))
 

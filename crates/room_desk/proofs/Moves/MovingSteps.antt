@@ -1,6 +1,7 @@
 -- A move is a step.
 use Rattle.std.proofs.Common.{◌≡◌, ℕ, ◌<◌, ◌==◌, Bool, true, false, List, [], ◌∷◌, ◌++◌, length}
 use Rattle.std.proofs.Common.{take, Option, Some, None, refl, sym, ap, subst, ◌∙◌, arith}
+use Rattle.std.proofs.Common.{Result, Ok, Err}
 use Rattle.std.specs.Option.{option_map_or}
 use Rattle.std.proofs.lemmas.Bool.{eqb-true}
 use Rattle.std.proofs.Math.Seq.{take-length}
@@ -12,10 +13,7 @@ use Rattle.room_rows.specs.Meaning.{meaning}
 use Rattle.room_rows.specs.Paths.{is_object_name}
 use Rattle.room_rows.specs.Rows.{Rows, AreRows}
 use Rattle.room_rows.specs.Sound.{AreSound}
-use Rattle.room_judge.specs.declared.arrival.Arrival.TheVariants.{At, Ended}
 use Rattle.room_judge.specs.declared.arrival.Found.{Found}
-use Rattle.room_judge.specs.declared.arrival.Pair.{Pair}
-use Rattle.room_judge.specs.declared.arrival.Pair.TheVariants.{Both, Halted}
 use Rattle.room_judge.specs.declared.asker.Asker.{Asker}
 use Rattle.room_machine.specs.declared.reply.Reply.{Reply}
 use Rattle.room_machine.specs.declared.reply.Reply.TheVariants.{Done, Refused}
@@ -27,7 +25,7 @@ use Rattle.room_machine.specs.Judge.{first_failure, records_of_plan}
 use Rattle.room_machine.specs.Effect.{moved_node, with_site}
 use Rattle.room_machine.specs.Stored.{stored_site, stored_from, stored_along, to_stored}
 use Rattle.room_judge.specs.Stored.{found_site}
-use Rattle.room_judge.specs.Spot.{IsPaired}
+use Rattle.room_judge.specs.Spot.{IsPaired, pair_of}
 use Rattle.room_judge.specs.Closed.{IsServed}
 use Rattle.room_judge.proofs.Closing.{closed_done, closed_failed}
 use Rattle.room_judge.specs.Judged.{CarriesOut, FromRoot, IsJudged, IsReached, noted}
@@ -41,9 +39,10 @@ use Rattle.room_desk.proofs.Moves.MovingPlan.{stored_items, stored_move, way_not
 use Rattle.room_desk.proofs.Sound.Blamed.{noted_unread}
 use Rattle.room_desk.proofs.Steps.Serving.{none_both}
 use Rattle.room_desk.proofs.Sound.Sites.{fill}
-use Rattle.room_desk.proofs.Sound.SoundParts.{root_there, sound_parts}
+use Rattle.room_desk.proofs.Sound.SoundParts.{sound_parts}
 use Rattle.room_desk.proofs.Steps.Stepping.{changed_step, refused_step}
 use Rattle.room_judge.proofs.Spots.{last_of}
+use Rattle.room_judge.specs.declared.arrival.Both.{Both}
 
 -- ---- at the root, and where the way ends
 
@@ -74,7 +73,7 @@ module _ (asker : Asker) (path to : List (List ℕ)) where
           at_root
 
   pub way_halted : (old new : Rows) (reply : Reply) → AreRows old
-      → IsPaired asker path old (Halted reply) new → IsServed asker (Move path to) old reply new
+      → IsPaired asker path old (Err reply) new → IsServed asker (Move path to) old reply new
   way_halted old new reply are paired =
       let judged = fails_first asker (way false (stored_along old.read path) path)
       (where_found (site_at (stored_along old.read path) path) (at_found old.read path to)) old new
@@ -99,7 +98,7 @@ items_there rows [] is_below target from some = absurd (let wrong : ⊥ = omega 
 items_there rows (name ∷ names) is_below target from some = refl
 
 module _ (asker : Asker) (path to : List (List ℕ)) (from target : Found) (old mid : Rows)
-    (are : AreRows old) (paired : IsPaired asker path old (Both from target) mid) where
+    (are : AreRows old) (paired : IsPaired asker path old (pair_of from target) mid) where
   abbrev target_site : Site
   target_site = found_site path target
 
@@ -179,7 +178,7 @@ module _ (asker : Asker) (path to : List (List ℕ)) (from target : Found) (old 
 
     pub place_ended : (new : Rows) (reply : Reply)
         → IsReached asker (front to) (at_place mid.read to is_below target_site from_site) mid
-        (Ended reply) new → IsServed asker (Move path to) old reply new
+        (Err reply) new → IsServed asker (Move path to) old reply new
     place_ended new reply reached =
         ended new reply (subst (λ items. IsJudged asker items mid (Some reply) new)
         (at_first ∙ sym (items_there old.read to is_below target_site from_site some_to))
@@ -190,7 +189,7 @@ module _ (asker : Asker) (path to : List (List ℕ)) (from target : Found) (old 
     module _ (folder : Node) (last : Rows) (name : List ℕ) (is_last : name ≡ last_name to)
         (named : is_object_name name ≡ true)
         (reached : IsReached asker (front to)
-        (at_place mid.read to is_below target_site from_site) mid (At folder) last) where
+        (at_place mid.read to is_below target_site from_site) mid (Ok folder) last) where
       abbrev folder_site : Site
       folder_site = stored_site (front to) folder
 
@@ -326,7 +325,7 @@ pub name_is : (to rest : List (List ℕ)) (name text : List ℕ) → to ≡ rest
 name_is to rest name text is same = same ∙ sym (ap last_name is ∙ last_of rest name)
 
 -- the root that was read, and the walk from it
-pub rooted_pair : (asker : Asker) (path : List (List ℕ)) (root : Node) (pair : Pair)
+pub rooted_pair : (asker : Asker) (path : List (List ℕ)) (root : Node) (pair : Result Both Reply)
     (old mid new : Rows) → root_of old.read ≡ Some root → mid ≡ old
     → FromRoot root (IsPaired asker path) mid pair new → IsPaired asker path old pair new
 rooted_pair asker path root pair old mid new is same paired =
@@ -334,7 +333,8 @@ rooted_pair asker path root pair old mid new is same paired =
     (paired (ap (λ (r : Rows). root_of r.read) same ∙ is))
 
 -- records leave the root where it was
-pub root_after : (asker : Asker) (path : List (List ℕ)) (root : Node) (pair : Pair) (old mid : Rows)
-    → root_of old.read ≡ Some root → IsPaired asker path old pair mid → root_of mid.read ≡ Some root
+pub root_after : (asker : Asker) (path : List (List ℕ)) (root : Node) (pair : Result Both Reply)
+    (old mid : Rows) → root_of old.read ≡ Some root → IsPaired asker path old pair mid
+    → root_of mid.read ≡ Some root
 root_after asker path root pair old mid is paired =
     ap (λ (r : Rows). root_of r.read) paired.judged.notes ∙ is

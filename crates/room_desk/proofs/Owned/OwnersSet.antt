@@ -1,6 +1,7 @@
 -- A request that gives an object other owners is a step.
 use Rattle.std.proofs.Common.{◌≡◌, ℕ, ◌⊎◌, ◌&&◌, true, List, [], ◌∷◌, Some, None, refl, sym, ap}
 use Rattle.std.proofs.Common.{subst, ◌∙◌, inl, inr}
+use Rattle.std.proofs.Common.{Ok}
 use Rattle.std.proofs.lemmas.Bool.{and_from, and_parts}
 use Rattle.std.proofs.lemmas.Slice.Eq.{bytes_eq-Decides}
 use Rattle.std.specs.Option.{option_map}
@@ -16,7 +17,6 @@ use Rattle.room_rows.proofs.Frames.{Rises}
 use Rattle.room_rows.proofs.InPlace.{keeps_places, node_at-with_each, rises-with_each}
 use Rattle.room_rows.proofs.InPlace.{with_node-there}
 use Rattle.room_rows.specs.Sound.{AreSound}
-use Rattle.room_judge.specs.declared.arrival.Arrival.TheVariants.{At}
 use Rattle.room_judge.specs.declared.asker.Asker.{Asker}
 use Rattle.room_machine.specs.declared.reply.Reply.TheVariants.{Done}
 use Rattle.room_machine.specs.declared.request.Request.TheVariants.{SetOwners}
@@ -65,7 +65,7 @@ unchanged rows new owners node rises there same stays other found =
 
 owners_changed : (asker : Asker) (path : List (List ℕ)) (owners : Owners) (old mid new : Rows)
     (node : Node) → AreRows old
-    → IsReached asker path (CheckAt (write_owner ∷ [])) old (At node) mid
+    → IsReached asker path (CheckAt (write_owner ∷ [])) old (Ok node) mid
     → Changes node.id (with_owners owners) mid new
     → IsServed asker (SetOwners path owners) old Done new
 owners_changed asker path owners old mid new node are reached changes = (
@@ -120,7 +120,7 @@ owners_changed asker path owners old mid new node are reached changes = (
 
 pub owners_set : (asker : Asker) (path : List (List ℕ)) (owners : Owners) (old mid new : Rows)
     (node : Node) → AreRows old
-    → IsReached asker path (CheckAt (write_owner ∷ [])) old (At node) mid
+    → IsReached asker path (CheckAt (write_owner ∷ [])) old (Ok node) mid
     → ((owners ≡ node.owners) × (new ≡ mid)) ⊎ Changes node.id (with_owners owners) mid new
     → IsServed asker (SetOwners path owners) old Done new
 owners_set asker path owners old mid new node are reached (inl same) =

@@ -2,6 +2,7 @@
 use Rattle.std.proofs.Common.{◌≡◌, ℕ, Bool, true, false, cond, not, List, [], ◌∷◌, ◌++◌, map}
 use Rattle.std.proofs.Common.{Option, Some, None, refl, sym, ap, subst, ◌∙◌, inl, inr}
 use Rattle.std.specs.Prelude.{unwrap_or}
+use Rattle.std.proofs.Common.{Result, Ok, Err}
 use Rattle.std.specs.Option.{option_map_or}
 use Rattle.room_entry.specs.Rights.{read_data, read_acl, read_attributes}
 use Rattle.room_entry.specs.Valid.{is_document}
@@ -18,12 +19,9 @@ use Rattle.room_rows.specs.Rows.{Rows, AreRows}
 use Rattle.room_rows.proofs.Frames.{Rises, root_of-is_there, child_of-is_there}
 use Rattle.room_rows.proofs.InPlace.{keeps_places, children_of-with_each}
 use Rattle.room_rows.specs.Sound.{AreSound}
-use Rattle.room_judge.specs.declared.arrival.Arrival.{Arrival}
-use Rattle.room_judge.specs.declared.arrival.Arrival.TheVariants.{At, Ended}
 use Rattle.room_judge.specs.declared.asker.Asker.{Asker}
 use Rattle.room_machine.specs.declared.reply.Reply.{Reply}
 use Rattle.room_machine.specs.declared.reply.Reply.TheVariants.{Bytes, Names, Lists, Attr, Rulings}
-use Rattle.room_machine.specs.declared.reply.Reply.TheVariants.{Done}
 use Rattle.room_machine.specs.declared.request.Request.{Request}
 use Rattle.room_machine.specs.declared.request.Request.TheVariants.{Read, List as ListFolder}
 use Rattle.room_machine.specs.declared.request.Request.TheVariants.{ReadList, ReadAttr, Can}
@@ -69,7 +67,7 @@ module _ (asker : Asker) (path : List (List ℕ)) (request : Request) (items : S
 
   -- an item fails
   pub not_served : (old new : Rows) (reply : Reply) → AreRows old
-      → IsReached asker path items old (Ended reply) new → IsServed asker request old reply new
+      → IsReached asker path items old (Err reply) new → IsServed asker request old reply new
   not_served old new reply are reached = (
     λ known sound. refused_step asker request old known sound new reply
         (plan_is old new (Some reply) are sound reached.judged),
@@ -83,7 +81,7 @@ module _ (asker : Asker) (path : List (List ℕ)) (request : Request) (items : S
       ≡ with_site content (site_at (sites_along content path) path)
       (λ target. (act content target, content)))
       → (old new : Rows) (node : Node) (reply : Reply) → AreRows old
-      → IsReached asker path items old (At node) new
+      → IsReached asker path items old (Ok node) new
       → ((target : Site) → fill target ≡ stored_site path node
       → act (meaning old.read) target ≡ reply) → failure_told reply ≡ None
       → IsShown old asker.caller request reply → IsServed asker request old reply new
@@ -130,7 +128,7 @@ names_kept content (node ∷ nodes) =
 module _ (asker : Asker) (path : List (List ℕ)) where
   pub served_bytes : (old new : Rows) (node : Node) (bytes : List ℕ) → AreRows old
       → IsReached asker path
-      (λ target. of_kind Document target ∷ Check target (read_data ∷ []) ∷ []) old (At node) new
+      (λ target. of_kind Document target ∷ Check target (read_data ∷ []) ∷ []) old (Ok node) new
       → Some bytes ≡ body_of old.read node.id
       → IsServed asker (Read path) old (Bytes bytes) new
   served_bytes old new node bytes are reached body =
@@ -146,7 +144,7 @@ module _ (asker : Asker) (path : List (List ℕ)) where
   -- names are those of the children where all rows can be read
   pub served_names : (old new : Rows) (node : Node) (names : List (List ℕ × ObjKind)) → AreRows old
       → IsReached asker path
-      (λ target. of_kind Folder target ∷ Check target (read_data ∷ []) ∷ []) old (At node) new
+      (λ target. of_kind Folder target ∷ Check target (read_data ∷ []) ∷ []) old (Ok node) new
       → (old.unreadable ≡ [] → names ≡ map shown (children_of old.read node.id))
       → IsServed asker (ListFolder path) old (Names names) new
   served_names old new node names are reached listed = (
@@ -174,7 +172,7 @@ module _ (asker : Asker) (path : List (List ℕ)) where
           (stored_site path node, reached.found, (names, refl, λ _. listed))
 
   pub served_list : (which : Which) (old new : Rows) (node : Node) (reply : Reply) → AreRows old
-      → IsReached asker path (λ target. Check target (read_acl ∷ []) ∷ []) old (At node) new
+      → IsReached asker path (λ target. Check target (read_acl ∷ []) ∷ []) old (Ok node) new
       → reply ≡ Lists (held_of which node).flags (full_of (held_of which node))
       → IsServed asker (ReadList path which) old reply new
   served_list which old new node reply are reached replies =
@@ -193,7 +191,7 @@ module _ (asker : Asker) (path : List (List ℕ)) where
       )
 
   pub served_attr : (old new : Rows) (node : Node) (reply : Reply) → AreRows old
-      → IsReached asker path (λ target. Check target (read_attributes ∷ []) ∷ []) old (At node) new
+      → IsReached asker path (λ target. Check target (read_attributes ∷ []) ∷ []) old (Ok node) new
       → reply ≡ Attr node.kind node.owners → IsServed asker (ReadAttr path) old reply new
   served_attr old new node reply are reached replies =
       served asker path (ReadAttr path) (λ target. Check target (read_attributes ∷ []) ∷ [])
@@ -204,7 +202,7 @@ module _ (asker : Asker) (path : List (List ℕ)) where
       (ap failure_told replies) (stored_site path node, reached.found, replies)
 
   pub served_rulings : (mask : List ℕ) (old new : Rows) (node : Node) (reply : Reply) → AreRows old
-      → IsReached asker path (λ _. []) old (At node) new
+      → IsReached asker path (λ _. []) old (Ok node) new
       → reply ≡ Rulings (rulings_at asker node mask)
       → IsServed asker (Can path mask) old reply new
   served_rulings mask old new node reply are reached replies =
@@ -231,26 +229,25 @@ CheckAt bits target = Check target bits ∷ []
 
 -- the bits, and where the walk comes to
 pub reached_as : (asker : Asker) (path : List (List ℕ)) (items : List ℕ → Site → List Item)
-    (bits named : List ℕ) (arrival place : Arrival) (old new : Rows) → bits ≡ named
-    → arrival ≡ place → IsReached asker path (items bits) old arrival new
-    → IsReached asker path (items named) old place new
-reached_as asker path items bits named arrival place old new same comes reached =
-    subst (λ (b : List ℕ). IsReached asker path (items b) old place new) same
-    (subst (λ (a : Arrival). IsReached asker path (items bits) old a new) comes reached)
+    (bits named : List ℕ) (outcome : Result Node Reply) (old new : Rows) → bits ≡ named
+    → IsReached asker path (items bits) old outcome new
+    → IsReached asker path (items named) old outcome new
+reached_as asker path items bits named outcome old new same reached =
+    subst (λ (b : List ℕ). IsReached asker path (items b) old outcome new) same reached
 
 -- a row that can't be read afterwards couldn't be read before
 pub reached_damaged : (asker : Asker) (path : List (List ℕ)) (items : Site → List Item)
-    (arrival : Arrival) (old mid : Rows) (at : ℕ) → IsReached asker path items old arrival mid
-    → IsUnreadable mid at → IsDamaged old at
-reached_damaged asker path items arrival old mid at reached h =
+    (outcome : Result Node Reply) (old mid : Rows) (at : ℕ)
+    → IsReached asker path items old outcome mid → IsUnreadable mid at → IsDamaged old at
+reached_damaged asker path items outcome old mid at reached h =
     inl (inl (subst (λ (r : Rows). IsUnreadable r at) reached.judged.notes h))
 
 -- nothing is changed after the walk
 pub reached_then : (asker : Asker) (path : List (List ℕ)) (items : Site → List Item)
-    (arrival : Arrival) (old mid new : Rows) → new ≡ mid
-    → IsReached asker path items old arrival mid → IsReached asker path items old arrival new
-reached_then asker path items arrival old mid new same reached =
-    subst (λ (r : Rows). IsReached asker path items old arrival r) (sym same) reached
+    (outcome : Result Node Reply) (old mid new : Rows) → new ≡ mid
+    → IsReached asker path items old outcome mid → IsReached asker path items old outcome new
+reached_then asker path items outcome old mid new same reached =
+    subst (λ (r : Rows). IsReached asker path items old outcome r) (sym same) reached
 
 -- ---- a document has bytes
 
@@ -309,7 +306,7 @@ folder_fails caller site passes = on (is_document site.node.kind) passes
 
 -- a document that was reached is there, and is one
 pub document_there : (asker : Asker) (path : List (List ℕ)) (bits : List ℕ) (old new : Rows)
-    (node : Node) → AreRows old → IsReached asker path (DocumentAt bits) old (At node) new
+    (node : Node) → AreRows old → IsReached asker path (DocumentAt bits) old (Ok node) new
     → (node_at old.read node.id ≡ Some node) × (is_document node.kind ≡ true)
 document_there asker path bits old new node are reached =
     let site : Site = stored_site path node in
@@ -332,7 +329,7 @@ document_there asker path bits old new node are reached =
 
 -- a document that lacks bytes, after the records of the way to it
 pub no_bytes : (asker : Asker) (path : List (List ℕ)) (bits : List ℕ) (old mid : Rows) (node : Node)
-    (at : ℕ) → AreRows old → IsReached asker path (DocumentAt bits) old (At node) mid
+    (at : ℕ) → AreRows old → IsReached asker path (DocumentAt bits) old (Ok node) mid
     → HasNoBytes node.id mid at → IsDamaged old at
 no_bytes asker path bits old mid node at are reached (inl unreadable) =
     inl (inl (subst (λ (r : Rows). IsUnreadable r at) reached.judged.notes unreadable))
@@ -350,20 +347,20 @@ no_bytes asker path bits old mid node at are reached (inr lacks) =
 
 module _ (asker : Asker) (path : List (List ℕ)) where
   pub bytes_answered : (old mid new : Rows) (node : Node) (reply : Reply) → AreRows old
-      → IsReached asker path (DocumentAt (read_data ∷ [])) old (At node) mid
+      → IsReached asker path (DocumentAt (read_data ∷ [])) old (Ok node) mid
       → IsBytesOf node.id mid reply → new ≡ mid → IsServed asker (Read path) old reply new
   bytes_answered old mid new node reply are reached told same =
       subst (λ (r : Reply). IsServed asker (Read path) old r new) (sym told.reply_is)
       (served_bytes asker path old new node told.bytes are
-      (reached_then asker path (DocumentAt (read_data ∷ [])) (At node) old mid new same reached)
+      (reached_then asker path (DocumentAt (read_data ∷ [])) (Ok node) old mid new same reached)
       (sym told.are ∙ ap (λ (r : Rows). body_of r.read node.id) reached.judged.notes))
 
   pub names_answered : (old mid new : Rows) (node : Node) (reply : Reply) → AreRows old
-      → IsReached asker path (FolderAt (read_data ∷ [])) old (At node) mid
+      → IsReached asker path (FolderAt (read_data ∷ [])) old (Ok node) mid
       → AreNamesOf node.id mid reply → new ≡ mid → IsServed asker (ListFolder path) old reply new
   names_answered old mid new node reply are reached told same =
       subst (λ (r : Reply). IsServed asker (ListFolder path) old r new) (sym told.reply_is)
       (served_names asker path old new node told.names are
-      (reached_then asker path (FolderAt (read_data ∷ [])) (At node) old mid new same reached)
+      (reached_then asker path (FolderAt (read_data ∷ [])) (Ok node) old mid new same reached)
       (λ read. told.are (ap (λ (r : Rows). r.unreadable) reached.judged.notes ∙ read)
       ∙ ap (λ (r : Rows). map shown (children_of r.read node.id)) reached.judged.notes))

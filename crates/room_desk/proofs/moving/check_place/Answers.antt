@@ -1,8 +1,7 @@
 use Rattle.std.proofs.Common.{ℕ, Bool, List, [], ◌∷◌, ◌++◌, ◌∙◌, None, Some, subst}
 use Rattle.room_machine.specs.Plan.{Check, Deletion, Item, right_to_add}
 use Rattle.room_machine.specs.Site.{Site, front}
-use Rattle.room_judge.specs.Halted.{refusal_of}
-use Rattle.room_judge.specs.Judged.{IsJudged, through}
+use Rattle.room_judge.specs.Judged.{IsJudged, refusal_of, through}
 use Rattle.room_judge.specs.Stored.{found_site}
 use Rattle.room_judge.specs.declared.asker.Asker.{Asker}
 use Rattle.room_judge.proofs.Calls.{done, tail, then}

@@ -1,12 +1,11 @@
 use Rattle.std.proofs.Common.{◌≡◌, Some, ap, refl, subst, take, ◌∙◌}
+use Rattle.std.proofs.Common.{Result, Err}
 use Rattle.room_rows.specs.Content.{root_of}
 use Rattle.room_rows.specs.Rows.{Rows}
 use Rattle.room_machine.specs.declared.reply.Reply.TheVariants.{Refused}
 use Rattle.room_machine.specs.declared.reply.Reason.TheVariants.{Root}
 use Rattle.room_judge.specs.Halted.{replied}
-use Rattle.room_judge.specs.Spot.{IsPaired}
-use Rattle.room_judge.specs.declared.arrival.Pair.{Pair}
-use Rattle.room_judge.specs.declared.arrival.Pair.TheVariants.{Both, Halted}
+use Rattle.room_judge.specs.Spot.{IsPaired, pair_of}
 use Rattle.room_judge.specs.declared.asker.Asker.{Asker}
 use Rattle.room_judge.proofs.Calls.{done, none_done, of_read, tail_known, then}
 use Rattle.room_judge.proofs.Halts.{faults, halts, refused_as}
@@ -15,6 +14,8 @@ use Rattle.room_desk.proofs.Moves.MovingSteps.{empty_path, root_after, root_stay
 use Rattle.room_desk.proofs.Moves.MovingSteps.{way_halted}
 use Rattle.room_desk.proofs.Sound.Blamed.{rootless_damaged, unread_damaged}
 use Rattle.room_desk.proofs.moving.move_object.Goals as goal
+use Rattle.room_judge.specs.declared.arrival.Both.{Both}
+use Rattle.room_machine.specs.declared.reply.Reply.{Reply}
 
 pub returns-then-is_root-clause-done : goal.returns-then-is_root-clause-done
 returns-then-is_root-clause-done g c =
@@ -43,7 +44,7 @@ returns-in_err-pair-clause-done g c =
     unread_damaged old mid at both.1 (h (ap (λ (r : Rows). root_of r.read) both.1 ∙ both.0)))
     (λ old mid new reply are both halted.
     way_halted asker path c.args.to.now old new reply are
-    (rooted_pair asker path c.in_ok-root.root (Halted reply) old mid new both.0 both.1 halted))
+    (rooted_pair asker path c.in_ok-root.root (Err reply) old mid new both.0 both.1 halted))
     c.from_residual-in_err-pair.result c.from_residual-in_err-pair.ensures.1
 
 pub returns-clause-done : goal.returns-clause-done
@@ -55,7 +56,7 @@ returns-clause-done g c =
     let root = c.in_ok-root.root in
     let folder = c.in_ok-pair.pair.folder in
     let target = c.in_ok-pair.pair.target in
-    let pair : Pair = Both folder target in
+    let pair : Result Both Reply = pair_of folder target in
     tail_known m.laws {Before = λ old new. (root_of old.read ≡ Some root)
     × IsPaired asker path old pair new}
     (then m.laws (done (of_read c.in_ok-root.ensures.read)) (done c.in_ok-pair.ensures.done)

@@ -1,12 +1,12 @@
-use Rattle.std.proofs.Common.{ℕ, Bool, ◌≡◌, ◌<◌, ◌+◌, Some, None, List, length, ap, refl, subst}
+use Rattle.std.proofs.Common.{ℕ, Bool, ◌≡◌, ◌<◌, ◌+◌, Some, None, List, length, ap, subst}
 use Rattle.std.proofs.Common.{arith}
 use Rattle.std.specs.Prelude.{◌-◌}
+use Rattle.std.proofs.Common.{Ok, Err}
 use Rattle.room_rows.specs.Keep.{IsUnreadable}
 use Rattle.room_rows.specs.Rows.{Rows}
 use Rattle.room_machine.specs.Site.{Site, front}
 use Rattle.room_judge.specs.Judged.{IsJudged}
 use Rattle.room_judge.specs.Stored.{found_site}
-use Rattle.room_judge.specs.declared.arrival.Arrival.TheVariants.{At, Ended}
 use Rattle.room_judge.specs.declared.arrival.Found.{Found}
 use Rattle.room_judge.specs.declared.asker.Asker.{Asker}
 use Rattle.room_judge.proofs.Calls.{done, finish, then}
@@ -32,7 +32,7 @@ returns-in_err-node-clause-done g c =
     (at_place old.read to (begins path (front to))
     (found_site path c.args.moving.now.target.now) (found_site path c.args.moving.now.from.now)) old
     new reply
-    (front_reached asker to depth (Ended reply) (Ended reply) old new deep refl (reached rooted)))
+    (front_reached asker to depth (Err reply) old new deep (reached rooted)))
     c.from_residual.result c.from_residual.ensures.1
 
 pub returns-in_err-check_place-clause-done : goal.returns-in_err-check_place-clause-done
@@ -54,8 +54,8 @@ returns-in_err-check_place-clause-done g c =
     (λ old mid at are reached h rooted.
     subst (λ (r : Rows). IsUnreadable r at) (reached rooted).judged.notes h)
     (λ old mid new reply are reached judged rooted.
-    place_reached asker to below target from old mid new node depth (Some reply) (Ended reply) refl
-    deep (front_reached asker to depth (At node) (At node) old mid deep refl (reached rooted))
+    place_reached asker to below target from old mid new node depth (Some reply) deep
+    (front_reached asker to depth (Ok node) old mid deep (reached rooted))
     (subst (λ (a : Asker). IsJudged a
     (at_place mid.read to below target from (found_site to folder)) mid (Some reply) new)
     c.in_ok-node.ensures.same_asker judged))
@@ -80,8 +80,8 @@ returns-clause-done g c =
     finish m.laws _ (then m.laws (done c.in_ok-node.ensures.done)
     (done c.in_ok-check_place.ensures.done)
     (λ old mid new reached judged rooted.
-    place_reached asker to below target from old mid new node depth None (At node) refl deep
-    (front_reached asker to depth (At node) (At node) old mid deep refl (reached rooted))
+    place_reached asker to below target from old mid new node depth None deep
+    (front_reached asker to depth (Ok node) old mid deep (reached rooted))
     (subst (λ (a : Asker). IsJudged a
     (at_place mid.read to below target from (found_site to folder)) mid None new)
     c.in_ok-node.ensures.same_asker judged))) (λ old new are h. h)

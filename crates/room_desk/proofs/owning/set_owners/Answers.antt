@@ -1,9 +1,9 @@
 use Rattle.std.proofs.Common.{[], ◌∷◌, refl, sym, subst}
+use Rattle.std.proofs.Common.{Ok, Err}
 use Rattle.room_entry.specs.Rights.{write_owner}
 use Rattle.room_machine.specs.declared.reply.Reply.{Reply}
 use Rattle.room_machine.specs.declared.request.Request.TheVariants.{SetOwners}
 use Rattle.room_judge.specs.Closed.{IsServed}
-use Rattle.room_judge.specs.declared.arrival.Arrival.TheVariants.{At, Ended}
 use Rattle.room_judge.proofs.Calls.{done, finish, then_known}
 use Rattle.room_judge.proofs.Halts.{faults, halts_first}
 use Rattle.room_desk.proofs.Owned.OwnersSet.{owners_set}
@@ -20,15 +20,15 @@ returns-in_err-node-clause-done g c =
     (λ old new reply are reached.
     not_served asker path (SetOwners path c.args.owners.now) (CheckAt (write_owner ∷ []))
     (λ along content. refl) (λ site. refl) old new reply are
-    (reached_as asker path CheckAt c.write_owner.result (write_owner ∷ []) _ (Ended reply) old new
-    c.write_owner.ensures refl reached))
+    (reached_as asker path CheckAt c.write_owner.result (write_owner ∷ []) (Err reply) old new
+    c.write_owner.ensures reached))
     c.from_residual.result c.from_residual.ensures.1
 
 pub returns-in_err-set_at-clause-done : goal.returns-in_err-set_at-clause-done
 returns-in_err-set_at-clause-done g c =
     faults g.met.K.Keep.laws (done c.in_ok-node.ensures.done) c.in_err-set_at.ensures.done
     (λ old mid at are reached h.
-    reached_damaged c.args.walk.now.asker.now c.args.path.now _ (At c.in_ok-node.node) old mid at
+    reached_damaged c.args.walk.now.asker.now c.args.path.now _ (Ok c.in_ok-node.node) old mid at
     reached h)
     c.from_residual-in_err-set_at.result c.from_residual-in_err-set_at.ensures.1
 
@@ -43,6 +43,6 @@ returns-clause-done g c =
     (λ old mid new are reached set.
     subst (λ (r : Reply). IsServed asker (SetOwners path owners) old r new) (sym set.0)
     (owners_set asker path owners old mid new c.in_ok-node.node are
-    (reached_as asker path CheckAt c.write_owner.result (write_owner ∷ []) _
-    (At c.in_ok-node.node) old mid c.write_owner.ensures refl reached) set.1)))
+    (reached_as asker path CheckAt c.write_owner.result (write_owner ∷ [])
+    (Ok c.in_ok-node.node) old mid c.write_owner.ensures reached) set.1)))
     (λ old new are h. h)

@@ -1,7 +1,7 @@
 use Rattle.std.proofs.Common.{[], ◌∷◌, refl}
+use Rattle.std.proofs.Common.{Ok, Err}
 use Rattle.room_entry.specs.Rights.{read_data}
 use Rattle.room_machine.specs.declared.request.Request.TheVariants.{List as ListFolder}
-use Rattle.room_judge.specs.declared.arrival.Arrival.TheVariants.{At, Ended}
 use Rattle.room_judge.proofs.Calls.{done, finish, of_read, then_known}
 use Rattle.room_judge.proofs.Halts.{faults, halts_first}
 use Rattle.room_desk.proofs.Sound.Blamed.{rootless_damaged}
@@ -18,8 +18,8 @@ returns-in_err-node-clause-done g c =
     (λ old new reply are reached.
     not_served asker path (ListFolder path) (FolderAt (read_data ∷ [])) (λ along content. refl)
     (λ site. refl) old new reply are
-    (reached_as asker path FolderAt c.read_data.result (read_data ∷ []) _ (Ended reply) old new
-    c.read_data.ensures refl reached))
+    (reached_as asker path FolderAt c.read_data.result (read_data ∷ []) (Err reply) old new
+    c.read_data.ensures reached))
     c.from_residual.result c.from_residual.ensures.1
 
 pub returns-in_err-list_at-clause-done : goal.returns-in_err-list_at-clause-done
@@ -27,7 +27,7 @@ returns-in_err-list_at-clause-done g c =
     faults g.met.K.Keep.laws (done c.in_ok-node.ensures.done)
     (of_read c.in_err-list_at.ensures.read)
     (λ old mid at are reached h.
-    reached_damaged c.args.walk.now.asker.now c.args.path.now _ (At c.in_ok-node.node) old mid at
+    reached_damaged c.args.walk.now.asker.now c.args.path.now _ (Ok c.in_ok-node.node) old mid at
     reached h)
     c.from_residual-in_err-list_at.result c.from_residual-in_err-list_at.ensures.1
 
@@ -40,5 +40,5 @@ returns-clause-done g c =
     (done (of_read c.in_ok-list_at.ensures.read))
     (λ old mid new are reached told.
     names_answered asker path old mid new c.in_ok-node.node _ are
-    (reached_as asker path FolderAt c.read_data.result (read_data ∷ []) _ (At c.in_ok-node.node)
-    old mid c.read_data.ensures refl reached) told.0 told.1)) (λ old new are h. h)
+    (reached_as asker path FolderAt c.read_data.result (read_data ∷ []) (Ok c.in_ok-node.node)
+    old mid c.read_data.ensures reached) told.0 told.1)) (λ old new are h. h)

@@ -1,7 +1,7 @@
 use Rattle.std.proofs.Common.{[], ◌∷◌, refl}
+use Rattle.std.proofs.Common.{Ok, Err}
 use Rattle.room_entry.specs.Rights.{read_attributes}
 use Rattle.room_machine.specs.declared.request.Request.TheVariants.{ReadAttr}
-use Rattle.room_judge.specs.declared.arrival.Arrival.TheVariants.{At, Ended}
 use Rattle.room_judge.proofs.Calls.{done, finish}
 use Rattle.room_desk.proofs.Sound.Blamed.{rootless_damaged}
 use Rattle.room_desk.proofs.Steps.Serving.{CheckAt, not_served, reached_as, served_attr}
@@ -17,8 +17,8 @@ returns-in_err-node-clause-done g c =
     (λ old new reply are reached.
     not_served asker path (ReadAttr path) (CheckAt (read_attributes ∷ [])) (λ along content. refl)
     (λ site. refl) old new reply are
-    (reached_as asker path CheckAt c.read_attributes.result (read_attributes ∷ []) _ (Ended reply)
-    old new c.read_attributes.ensures refl reached))
+    (reached_as asker path CheckAt c.read_attributes.result (read_attributes ∷ []) (Err reply)
+    old new c.read_attributes.ensures reached))
     c.from_residual.result c.from_residual.ensures.1
 
 pub returns-clause-done : goal.returns-clause-done
@@ -28,5 +28,5 @@ returns-clause-done g c =
     finish g.met.K.Keep.laws _ (done c.in_ok-node.ensures.done)
     (λ old new are reached.
     served_attr asker path old new c.in_ok-node.node _ are
-    (reached_as asker path CheckAt c.read_attributes.result (read_attributes ∷ []) _
-    (At c.in_ok-node.node) old new c.read_attributes.ensures refl reached) c.attr_reply.ensures)
+    (reached_as asker path CheckAt c.read_attributes.result (read_attributes ∷ [])
+    (Ok c.in_ok-node.node) old new c.read_attributes.ensures reached) c.attr_reply.ensures)

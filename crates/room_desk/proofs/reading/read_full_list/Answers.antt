@@ -1,10 +1,10 @@
 use Rattle.std.proofs.Common.{[], ◌∷◌, refl, ap, ◌∙◌}
+use Rattle.std.proofs.Common.{Ok, Err}
 use Rattle.room_rows.specs.HeldList.{Held}
 use Rattle.room_rows.specs.Held.{full_of}
 use Rattle.room_entry.specs.Rights.{read_acl}
 use Rattle.room_machine.specs.declared.reply.Reply.TheVariants.{Lists}
 use Rattle.room_machine.specs.declared.request.Request.TheVariants.{ReadList}
-use Rattle.room_judge.specs.declared.arrival.Arrival.TheVariants.{At, Ended}
 use Rattle.room_judge.proofs.Calls.{done, finish}
 use Rattle.room_desk.proofs.Sound.Blamed.{rootless_damaged}
 use Rattle.room_desk.proofs.Steps.Serving.{CheckAt, not_served, reached_as, served_list}
@@ -20,8 +20,8 @@ returns-in_err-node-clause-done g c =
     (λ old new reply are reached.
     not_served asker path (ReadList path c.args.which) (CheckAt (read_acl ∷ [])) (λ along content. refl)
     (λ site. refl) old new reply are
-    (reached_as asker path CheckAt c.read_acl.result (read_acl ∷ []) _ (Ended reply) old new
-    c.read_acl.ensures refl reached))
+    (reached_as asker path CheckAt c.read_acl.result (read_acl ∷ []) (Err reply) old new
+    c.read_acl.ensures reached))
     c.from_residual.result c.from_residual.ensures.1
 
 pub returns-in_err-list_reply-clause-done : goal.returns-in_err-list_reply-clause-done
@@ -36,6 +36,6 @@ returns-clause-done g c =
     finish g.met.K.Keep.laws _ (done c.in_ok-node.ensures.done)
     (λ old new are reached.
     served_list asker path c.args.which old new c.in_ok-node.node _ are
-    (reached_as asker path CheckAt c.read_acl.result (read_acl ∷ []) _
-    (At c.in_ok-node.node) old new c.read_acl.ensures refl reached)
+    (reached_as asker path CheckAt c.read_acl.result (read_acl ∷ [])
+    (Ok c.in_ok-node.node) old new c.read_acl.ensures reached)
     (c.in_ok-list_reply.ensures ∙ ap (λ (h : Held). Lists h.flags (full_of h)) c.held.ensures))

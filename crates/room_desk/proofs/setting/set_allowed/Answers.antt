@@ -1,4 +1,3 @@
-use Rattle.std.proofs.Common.{None, Some, refl}
 use Rattle.std.specs.Option.{option_copied}
 use Rattle.room_judge.proofs.Calls.{done, finish, then}
 use Rattle.room_judge.proofs.Halts.{faults, halts_first}
@@ -11,8 +10,8 @@ returns-in_err-check-clause-done g c =
     halts_first g.met.K.Keep.laws _ c.in_err-check.ensures.done (λ old at never. absurd never)
     (λ mid new reply are judged old found.
     not_allowed c.args.walk.now.asker.now setting.path.now setting.which setting.sent.now
-    setting.target.now (option_copied setting.above) old mid found new c.write_acl.result
-    (Some reply) reply c.write_acl.ensures refl judged)
+    setting.target.now (option_copied setting.above) old mid found new c.write_acl.result reply
+    c.write_acl.ensures judged)
     c.from_residual.result c.from_residual.ensures.1
 
 pub returns-in_err-set_found-clause-done : goal.returns-in_err-set_found-clause-done
@@ -21,8 +20,8 @@ returns-in_err-set_found-clause-done g c =
     faults g.met.K.Keep.laws (done c.in_ok-check.ensures.done) c.in_err-set_found.ensures.done
     (λ mid end at are judged fails old found.
     allowed_blames c.args.walk.now.asker.now setting.path.now setting.which setting.sent.now
-    setting.target.now (option_copied setting.above) old mid found end c.write_acl.result None
-    c.write_acl.ensures refl judged at fails)
+    setting.target.now (option_copied setting.above) old mid found end c.write_acl.result
+    c.write_acl.ensures judged at fails)
     c.from_residual-in_err-set_found.result c.from_residual-in_err-set_found.ensures.1
 
 pub returns-clause-done : goal.returns-clause-done
@@ -33,5 +32,5 @@ returns-clause-done g c =
     (done c.in_ok-set_found.ensures.done)
     (λ mid end new judged said old found.
     allowed_done c.args.walk.now.asker.now setting.path.now setting.which setting.sent.now
-    setting.target.now (option_copied setting.above) old mid found end c.write_acl.result None
-    c.write_acl.ensures refl judged new _ said)) (λ old new are h. h)
+    setting.target.now (option_copied setting.above) old mid found end c.write_acl.result
+    c.write_acl.ensures judged new _ said)) (λ old new are h. h)

@@ -1,7 +1,7 @@
 use Rattle.std.proofs.Common.{[], ◌∷◌, refl}
+use Rattle.std.proofs.Common.{Ok, Err}
 use Rattle.room_entry.specs.Rights.{append_data}
 use Rattle.room_judge.specs.Halted.{replied}
-use Rattle.room_judge.specs.declared.arrival.Arrival.TheVariants.{At, Ended}
 use Rattle.room_judge.proofs.Calls.{done, tail_known}
 use Rattle.room_judge.proofs.Halts.{halts_first}
 use Rattle.room_desk.proofs.Bytes.Appending.{append_blames, append_done, append_ended}
@@ -17,8 +17,8 @@ returns-in_err-node-clause-done g c =
     (λ old at h. rootless_damaged old old at refl h)
     (λ old new reply are reached.
     append_ended asker path c.args.bytes.now old new reply are
-    (reached_as asker path DocumentAt c.append_data.result (append_data ∷ []) _ (Ended reply) old
-    new c.append_data.ensures refl reached))
+    (reached_as asker path DocumentAt c.append_data.result (append_data ∷ []) (Err reply) old
+    new c.append_data.ensures reached))
     c.from_residual.result c.from_residual.ensures.1
 
 pub returns-clause-done : goal.returns-clause-done
@@ -29,9 +29,9 @@ returns-clause-done g c =
     tail_known g.met.K.Keep.laws (done c.in_ok-node.ensures.done) c.append_at.ensures.done
     (λ old mid at are reached h.
     append_blames asker path c.args.bytes.now old mid node are
-    (reached_as asker path DocumentAt c.append_data.result (append_data ∷ []) _ (At node) old mid
-    c.append_data.ensures refl reached) at h)
+    (reached_as asker path DocumentAt c.append_data.result (append_data ∷ []) (Ok node) old mid
+    c.append_data.ensures reached) at h)
     (λ old mid outcome new are reached appended.
     append_done asker path c.args.bytes.now old mid node are
-    (reached_as asker path DocumentAt c.append_data.result (append_data ∷ []) _ (At node) old mid
-    c.append_data.ensures refl reached) new (replied outcome) appended)
+    (reached_as asker path DocumentAt c.append_data.result (append_data ∷ []) (Ok node) old mid
+    c.append_data.ensures reached) new (replied outcome) appended)

@@ -1,6 +1,4 @@
-use Rattle.std.proofs.Common.{◌≡◌, ℕ, List, ◌<◌, ◌+◌, Option, length, ap, ◌∙◌, arith}
-use Rattle.room_rows.specs.declared.node.Node.{Node}
-use Rattle.room_judge.specs.declared.arrival.Spot.TheVariants.{Under}
+use Rattle.std.proofs.Common.{◌≡◌, ℕ, List, ◌<◌, ◌+◌, length, ap, ◌∙◌, arith}
 use Rattle.room_rows.specs.Content.{child_of}
 use Rattle.room_judge.proofs.Calls.{done, finish, of_read, then}
 use Rattle.room_judge.proofs.Folders.{spot_found}
@@ -29,8 +27,6 @@ returns-clause-done g c =
     finish m.laws _ (then m.laws (done c.in_ok-pass_through.ensures.done)
     (done (of_read c.in_ok-child.ensures.read))
     (λ old mid new judged both.
-    spot_found c.args.self.now.asker.now path folder old mid new
-    (Under folder c.in_ok-child.child) judged
-    (ap (λ (o : Option Node). Under folder o)
-    (both.0 ∙ ap (λ (n : List ℕ). child_of mid.read folder.node.id n) named)) both.1))
+    spot_found c.args.self.now.asker.now path folder old mid new c.in_ok-child.child judged
+    (both.0 ∙ ap (λ (n : List ℕ). child_of mid.read folder.node.id n) named) both.1))
     (λ old new are h. h)

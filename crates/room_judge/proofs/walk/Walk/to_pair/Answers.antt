@@ -1,7 +1,6 @@
 use Rattle.room_judge.specs.Halted.{both_with}
 use Rattle.room_judge.proofs.Calls.{done}
-use Rattle.room_judge.proofs.Folders.{pair_barred}
-use Rattle.room_judge.proofs.Pairing.{both_found}
+use Rattle.room_judge.proofs.Folders.{both_found, pair_barred}
 use Rattle.room_judge.proofs.Halts.{comes_to, halts_first}
 use Rattle.room_judge.proofs.walk.Walk.to_pair.Goals as goal
 

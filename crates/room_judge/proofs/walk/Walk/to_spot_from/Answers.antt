@@ -1,13 +1,10 @@
-use Rattle.std.proofs.Common.{ℕ, ◌≡◌, ◌<◌, ◌+◌, List, [], length, take, ap, refl, subst, arith}
+use Rattle.std.proofs.Common.{ℕ, ◌≡◌, ◌<◌, ◌+◌, List, [], length, take, Ok, ap, subst, arith}
 use Rattle.std.specs.Prelude.{◌-◌}
-use Rattle.room_judge.specs.Halted.{spotted}
 use Rattle.room_judge.specs.Spot.{SpotsUnder}
-use Rattle.room_judge.specs.declared.arrival.Arrival.TheVariants.{At, Ended}
 use Rattle.room_judge.specs.declared.arrival.Found.{Found}
-use Rattle.room_judge.specs.declared.arrival.Spot.TheVariants.{Barred}
 use Rattle.room_judge.specs.declared.asker.Asker.{Asker}
 use Rattle.room_judge.proofs.Calls.{done, tail}
-use Rattle.room_judge.proofs.Folders.{spot_follows}
+use Rattle.room_judge.proofs.Folders.{spot_barred, spot_follows}
 use Rattle.room_judge.proofs.Halts.{halts_first}
 use Rattle.room_judge.proofs.Ways.{reached_blames}
 use Rattle.room_judge.proofs.walk.Walk.to_spot_from.Goals as goal
@@ -22,8 +19,7 @@ returns-in_err-node-clause-done g c =
     let deep : length path ≡ depth + 1 = omega arith in
     halts_first g.met.K.Keep.laws _ c.in_err-node.ensures.done (λ old at h. h)
     (λ old new reply are reached is.
-    spot_follows c.args.self.now.asker.now path depth deep (Ended reply) old new new (Barred reply)
-    (reached is) (refl, refl))
+    spot_barred c.args.self.now.asker.now path depth deep old new reply (reached is))
     c.from_residual.result c.from_residual.ensures.1
 
 pub returns-clause-done : goal.returns-clause-done
@@ -39,8 +35,8 @@ returns-clause-done g c =
     let deep : length path ≡ depth + 1 = omega arith in
     tail g.met.K.Keep.laws (done c.in_ok-node.ensures.done) c.spot_in.ensures.done
     (λ old mid at reached h is.
-    reached_blames asker (take depth path) (λ _. []) (At node) old mid at (reached is) h)
+    reached_blames asker (take depth path) (λ _. []) (Ok node) old mid at (reached is) h)
     (λ old mid outcome new reached spots is.
-    spot_follows asker path depth deep (At node) old mid new (spotted outcome) (reached is)
-    (subst (λ (a : Asker). SpotsUnder a path folder mid (spotted outcome) new)
+    spot_follows asker path depth deep node old mid new outcome (reached is)
+    (subst (λ (a : Asker). SpotsUnder a path folder mid outcome new)
     c.in_ok-node.ensures.same_asker spots))

@@ -2,7 +2,6 @@ use Rattle.std.proofs.Common.{take, inl, ap, subst, ◌∙◌}
 use Rattle.room_rows.specs.Content.{root_of}
 use Rattle.room_rows.specs.Keep.{IsUnreadable}
 use Rattle.room_rows.specs.Rows.{Rows}
-use Rattle.room_judge.specs.Halted.{arrived}
 use Rattle.room_judge.proofs.Calls.{done, of_read, tail}
 use Rattle.room_judge.proofs.Walked.{reached_from}
 use Rattle.room_judge.proofs.walk.Walk.walk_along.Goals as goal
@@ -15,4 +14,4 @@ returns-clause-done g c =
     (h (ap (λ (r : Rows). root_of r.read) both.1 ∙ both.0))))
     (λ old mid outcome new both reached.
     reached_from c.args.self.now.asker.now (take c.args.depth c.args.path.now) c.in_ok-root.root
-    (arrived outcome) old mid new both.0 both.1 reached)
+    outcome old mid new both.0 both.1 reached)

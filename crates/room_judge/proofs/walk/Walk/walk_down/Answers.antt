@@ -1,11 +1,11 @@
-use Rattle.std.proofs.Common.{◌≡◌, ◌∙◌, refl, take, subst, arith}
-use Rattle.room_judge.specs.declared.arrival.Arrival.TheVariants.{At, Ended}
+use Rattle.std.proofs.Common.{◌≡◌, ◌∙◌, Ok, Err, refl, take, subst, arith}
+use Rattle.room_judge.specs.declared.arrival.Found.{Found}
 use Rattle.room_judge.specs.declared.asker.Asker.{Asker}
-use Rattle.room_judge.specs.Judged.{StepsOn}
+use Rattle.room_judge.specs.Judged.{IsStepDown}
 use Rattle.room_judge.proofs.Calls.{done, finish, then}
 use Rattle.room_judge.proofs.Halts.{halts}
-use Rattle.room_judge.proofs.Walked.{walk_done, walking_blames, walks_on}
-use Rattle.room_judge.proofs.Ways.{way_begins}
+use Rattle.room_judge.proofs.Walked.{walk_done, walk_ends, walks_on}
+use Rattle.room_judge.proofs.Ways.{way_begins, way_blames}
 use Rattle.room_judge.proofs.walk.Walk.walk_down.Goals as goal
 
 pub names-init : goal.names-init
@@ -27,19 +27,18 @@ pub returns-in_err-node : goal.returns-in_err-node
 returns-in_err-node g c =
     let asker = c.args.self.now.asker.now in
     let path = c.args.path.now in
+    let from : Found = record { node = c.names.node; depth = c.names.index } in
     record {
       same_keep = c.in_err-node.ensures.same_keep ∙ c.names.invariant.same_keep;
       same_asker = c.in_err-node.ensures.same_asker ∙ c.names.invariant.same_asker;
       done =
           halts g.met.K.Keep.laws _ c.names.invariant.done c.in_err-node.ensures.done
           (λ old mid at are walking h is.
-          walking_blames asker (take c.args.depth path) c.names.index (At c.names.node) old mid at
-          (walking is) h)
+          way_blames asker (take c.args.depth path) from old mid at (walking is) h)
           (λ old mid new reply are walking step is.
-          walks_on asker path c.args.depth c.requires c.names.index (At c.names.node)
-          (Ended reply) old mid new c.names-test.true (walking is)
-          (subst (λ (a : Asker).
-          StepsOn a path c.names.index (At c.names.node) mid (Ended reply) new)
+          walk_ends asker path c.args.depth c.requires c.names.index c.names.node old mid new reply
+          c.names-test.true (walking is)
+          (subst (λ (a : Asker). IsStepDown a path from mid (Err reply) new)
           c.names.invariant.same_asker step))
           c.from_residual.result c.from_residual.ensures.1;
     }
@@ -48,16 +47,17 @@ pub names-preserved : goal.names-preserved
 names-preserved g c =
     let asker = c.args.self.now.asker.now in
     let path = c.args.path.now in
+    let from : Found = record { node = c.names.node; depth = c.names.index } in
+    let next = c.in_ok-node.node in
     record {
       same_keep = c.in_ok-node.ensures.same_keep ∙ c.names.invariant.same_keep;
       same_asker = c.in_ok-node.ensures.same_asker ∙ c.names.invariant.same_asker;
       done =
           then g.met.K.Keep.laws c.names.invariant.done (done c.in_ok-node.ensures.done)
           (λ old mid new walking step is.
-          walks_on asker path c.args.depth c.requires c.names.index (At c.names.node)
-          (At c.in_ok-node.node) old mid new c.names-test.true (walking is)
-          (subst (λ (a : Asker).
-          StepsOn a path c.names.index (At c.names.node) mid (At c.in_ok-node.node) new)
+          walks_on asker path c.args.depth c.requires c.names.index c.names.node next old mid new
+          c.names-test.true (walking is)
+          (subst (λ (a : Asker). IsStepDown a path from mid (Ok next) new)
           c.names.invariant.same_asker step));
     }
 
@@ -68,4 +68,4 @@ returns-clause-done g c =
     let all : c.names.index ≡ c.args.depth = omega arith in
     finish g.met.K.Keep.laws _ c.names.invariant.done (λ old new are walking is.
     walk_done c.args.self.now.asker.now c.args.path.now c.args.depth c.requires c.names.index
-    (At c.names.node) old new all (walking is))
+    c.names.node old new all (walking is))

@@ -1,8 +1,7 @@
 use Rattle.std.proofs.Common.{◌≡◌, Some, take}
 use Rattle.room_rows.specs.Content.{root_of}
-use Rattle.room_judge.specs.declared.arrival.Arrival.TheVariants.{At}
 use Rattle.room_judge.proofs.Calls.{HasDone}
-use Rattle.room_judge.proofs.Walked.{IsWalking}
+use Rattle.room_judge.proofs.Ways.{IsOnWay}
 use Rattle.room_judge.proofs.walk.Walk.walk_down.Given as goal
 
 -- this many steps are done
@@ -14,5 +13,6 @@ invariant-names g l =
       same_asker : l.self.asker.now ≡ l.fn.self.asker.now;
       done : HasDone k.rows k.Follows k.IsTrusted l.fn.self.keep.now l.self.keep.now
           (λ old now. root_of old.read ≡ Some l.fn.root
-          → IsWalking l.fn.self.asker.now (take l.depth l.path) l.index (At l.node) old now);
+          → IsOnWay l.fn.self.asker.now (take l.depth l.path)
+          (record { node = l.node; depth = l.index }) old now);
     }
