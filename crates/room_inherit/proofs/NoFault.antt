@@ -20,7 +20,8 @@ use Rattle.room_rows.specs.Sound.{true_path}
 
 -- ---- a test that finds nothing, passed by all
 
-all_pass : {X : Type 0} (test : X → Bool) (xs : List X) → find (λ x. not (test x)) xs ≡ None
+-- where no member is found that fails, all pass
+pub all_pass : {X : Type 0} (test : X → Bool) (xs : List X) → find (λ x. not (test x)) xs ≡ None
     → list_all test xs ≡ true
 all_pass test [] none = refl
 all_pass test (x ∷ xs) none = on (test x) (all_pass test xs) none
@@ -31,7 +32,8 @@ all_pass test (x ∷ xs) none = on (test x) (all_pass test xs) none
     on true rest none = rest none
     on false rest none = absurd (let wrong : ⊥ = cc in wrong)
 
-none_fails : {X : Type 0} (test : X → Bool) (xs : List X) → list_all test xs ≡ true
+-- where all pass, none is found that fails
+pub none_fails : {X : Type 0} (test : X → Bool) (xs : List X) → list_all test xs ≡ true
     → find (λ x. not (test x)) xs ≡ None
 none_fails test [] all = refl
 none_fails test (x ∷ xs) all = on (test x) (none_fails test xs) all
@@ -42,7 +44,8 @@ none_fails test (x ∷ xs) all = on (test x) (none_fails test xs) all
     on true rest all = rest all
     on false rest all = absurd (let wrong : ⊥ = cc in wrong)
 
-unbad : (rows : Rows)
+-- the search for a bad list, as one for a number that fails
+pub unbad : (rows : Rows)
     → find (λ id. not (not (has_bad_list rows id))) (numbers_of rows) ≡ first_bad_list rows
 unbad rows = λ i. find (λ id. not-not (has_bad_list rows id) i) (numbers_of rows)
 
@@ -123,6 +126,11 @@ unfaulted rows none =
     (none_fails (reaches tree) tree.nodes none.reach i)
     (none_fails (has_sound_name tree) tree.nodes none.names i)
     (none_fails (has_sound_body tree) tree.nodes none.bodies i)
+
+-- sound rows pass the six
+pub sound_checked : (rows : Rows) → AreSound rows → IsChecked rows
+sound_checked rows sound =
+    (nothing_found rows (first_failing (keeps_law rows.read) rows.read) sound).0
 
 -- rows that are reported to be sound pass all seven tests
 pub no_fault : (rows : Rows) → AreSound rows → HasNoFault rows

@@ -1,12 +1,12 @@
 -- Rows of which all lists were carried down are sound, and mean what they meant.
 use Rattle.std.proofs.Common.{◌≡◌, ℕ, zero, suc, ◌==◌, Bool, true, false, cond, not, ◌&&◌, ◌||◌}
-use Rattle.std.proofs.Common.{List, [], ◌∷◌, map, filter, length, Option, Some, None, refl, sym, ap}
+use Rattle.std.proofs.Common.{List, [], ◌∷◌, map, length, Option, Some, None, refl, sym, ap}
 use Rattle.std.proofs.Common.{subst, ◌∙◌, inl, inr}
-use Rattle.std.specs.Prelude.{is_none, nat_le, nat_lt, option_and_then}
+use Rattle.std.specs.Prelude.{is_none, nat_le, option_and_then}
 use Rattle.std.specs.List.{cons_option, list_all}
 use Rattle.std.specs.Option.{option_map, option_map_or}
 use Rattle.std.proofs.lemmas.Bool.{and_parts, and_from, cases_Bool, false≢true, false_from_ne_true}
-use Rattle.std.proofs.lemmas.Bool.{or_from, or_parts, not-false, not-true}
+use Rattle.std.proofs.lemmas.Bool.{or_parts, not-false}
 use Rattle.std.proofs.lemmas.List.Folds.{list_all-append}
 use Rattle.room_entry.specs.Ace.{Ace}
 use Rattle.room_entry.specs.Valid.{entry_fault, is_document}
@@ -18,32 +18,28 @@ use Rattle.room_entry.specs.declared.object.Which.TheVariants.{Dacl, Sacl}
 use Rattle.room_entry.proofs.Same.{entries_equal}
 use Rattle.room_rows.specs.HeldList.{Held}
 use Rattle.room_rows.specs.declared.node.Node.{Node}
-use Rattle.room_rows.specs.Content.{Content, has_folder_above, is_folder, is_linked_in, is_root}
+use Rattle.room_rows.specs.Content.{Content, has_folder_above, is_folder, is_linked_in}
 use Rattle.room_rows.specs.Content.{node_at, parent_of, reaches_root}
 use Rattle.room_rows.specs.Held.{held_of, full_of, is_linked}
 use Rattle.room_rows.specs.Keep.{reading, with_inh}
 use Rattle.room_rows.specs.Meaning.{kept_held, kept_node, meaning}
-use Rattle.room_rows.specs.Paths.{is_object_name}
-use Rattle.room_rows.specs.Rows.{AreRows, Rows, is_unreadable, numbers_of, put_numbers}
-use Rattle.room_rows.proofs.InPlace.{KeepsPlaces, node_at-with_each, numbers-with_each}
-use Rattle.room_rows.proofs.SamePlace.{IsSamePlace, filter-changed}
+use Rattle.room_rows.specs.Rows.{AreRows, Rows, is_unreadable}
+use Rattle.room_rows.proofs.InPlace.{KeepsPlaces, node_at-with_each}
+use Rattle.room_rows.proofs.SamePlace.{IsSamePlace}
 use Rattle.room_rows.specs.Law.{AllAgree, agrees, agrees_with}
 use Rattle.room_inherit.specs.Laws.{are_valid, RaisedIsSound, RaisedMeansTheSame}
 use Rattle.room_rows.specs.Pass.{pass, passed_flags, ended, carried, waiting}
-use Rattle.room_rows.specs.Sound.{AreSound, bad_root, first_fault, has_bad_list, has_sound_body}
-use Rattle.room_rows.specs.Sound.{has_sound_lists, has_sound_name, is_sound_held, reaches}
-use Rattle.room_rows.specs.Sound.{same_place}
+use Rattle.room_rows.specs.Sound.{AreSound, first_fault}
+use Rattle.room_rows.specs.Sound.{has_sound_lists, is_sound_held, reaches}
 use Rattle.room_inherit.specs.Spread.{is_changed}
 use Rattle.room_inherit.specs.SpreadAll.{IsSpreadAll, with_both}
 use Rattle.room_inherit.proofs.Children.{apart_rising, each_there}
-use Rattle.room_entry.proofs.Facts.Members.{any_map}
 use Rattle.room_inherit.proofs.NoFault.{IsChecked, checked, list_checked, sound}
 use Rattle.room_inherit.proofs.Renewing.{map_agree, map_map}
 use Rattle.room_inherit.proofs.Stored.{all_found}
 use Rattle.room_inherit.proofs.Unmoved as unmoved
 use Rattle.room_inherit.proofs.Valid.{pass_is_valid}
 use Rattle.room_inherit.proofs.Whole.{not_bad}
-use Rattle.room_entry.proofs.Facts.Lists.{all_implied}
 use Rattle.room_rows.proofs.Lookups.{found_number}
 use Rattle.room_entry.proofs.Facts.Booleans.{implied}
 
@@ -354,66 +350,13 @@ module _ (old new : Rows) (changed : ℕ) (spread : IsSpreadAll old new changed)
         (length old.read.nodes) node there node.parent refl
         (all_found (reaches old.read) (λ m. m.id == node.id) old.read.nodes node tests.reach there)
 
-    keeps_place : KeepsPlaces old.read set
-    keeps_place = places f g old.read
-
-    still_good : (id : ℕ) → has_bad_list old id ≡ false → has_bad_list after id ≡ false
-    still_good id bad =
-        or_from (is_unreadable old id) _ (or_parts (is_unreadable old id) _ bad).0
-        (ap (λ o. option_map_or (λ n. not (has_sound_lists n)) o false)
-        (node_at-with_each old.read set keeps_place id) ∙ on (node_at old.read id) refl)
-      where
-        on : (o : Option Node) → node_at old.read id ≡ o
-            → option_map_or (λ n. not (has_sound_lists n)) (option_map set o) false ≡ false
-        on None found = refl
-        on (Some node) found =
-            let there : node_at old.read node.id ≡ Some node = ap (node_at old.read)
-            (found_number id old.read.nodes node found) ∙ found in
-            ap not (and_from (is_sound_held Dacl node.kind (set node).dacl) _ (good Dacl node there)
-            (good Sacl node there))
-
-    named : (node : Node) → has_sound_name after.read (set node) ≡ has_sound_name old.read node
-    named node =
-        ap (λ t. is_root node || (is_object_name node.name && not t))
-        (any_map (λ (other : Node). nat_lt other.id node.id && same_place other node) set
-        old.read.nodes)
-
-    one_root : bad_root (filter is_root after.read.nodes) ≡ None
-    one_root =
-        ap bad_root
-        (filter-changed set is_root (λ a b same. ap is_none same.parent) old.read.nodes keeps_place)
-        ∙ on (filter is_root old.read.nodes) ∙ tests.root
-      where
-        on : (roots : List Node) → bad_root (map set roots) ≡ bad_root roots
-        on [] = refl
-        on (root ∷ []) = refl
-        on (root ∷ other ∷ others) = refl
-
     now_sound : AreSound after
-    now_sound = sound after (record {
-      lists =
-          ap (λ ids. list_all (λ id. not (has_bad_list after id)) (put_numbers old.unreadable ids))
-          (numbers-with_each old.read set keeps_place)
-          ∙ all_implied (λ id. not (has_bad_list old id)) (λ id. not (has_bad_list after id))
-          (λ id is. ap not (still_good id (not-true _ is))) (numbers_of old) tests.lists;
-      root = one_root;
-      parents =
-          unmoved.all_kept set (has_folder_above after.read) (has_folder_above old.read)
-          (unmoved.folder_above old.read set (place f g old.read) (λ n. refl)) old.read.nodes
-          tests.parents;
-      reach =
-          unmoved.all_kept set (reaches after.read) (reaches old.read)
-          (unmoved.reach_all old.read set (place f g old.read)) old.read.nodes tests.reach;
-      names =
-          unmoved.all_kept set (has_sound_name after.read)
-          (has_sound_name old.read) named old.read.nodes tests.names;
-      bodies =
-          unmoved.all_kept set (has_sound_body after.read) (has_sound_body old.read)
-          (λ n. refl) old.read.nodes tests.bodies;
-      law =
-          all_both (agrees after.read Dacl) (agrees after.read Sacl) after.read.nodes (law Dacl)
-          (law Sacl);
-    })
+    now_sound =
+        unmoved.still_sound old set (place f g old.read) (λ n. refl) tests
+        (λ node there before. and_from (is_sound_held Dacl node.kind (set node).dacl) _
+        (good Dacl node there) (good Sacl node there))
+        (all_both (agrees after.read Dacl) (agrees after.read Sacl) after.read.nodes (law Dacl)
+        (law Sacl))
 
 pub raised_is_sound : RaisedIsSound
 raised_is_sound old new changed none spread =

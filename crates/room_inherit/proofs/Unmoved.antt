@@ -1,18 +1,28 @@
 -- Objects that are changed, but stay in their places and of their kinds.
-use Rattle.std.proofs.Common.{◌≡◌, ℕ, zero, suc, Bool, true, false, not, ◌&&◌, ◌||◌, List, [], ◌∷◌}
-use Rattle.std.proofs.Common.{map, length, Option, Some, None, refl, ap, ◌∙◌}
+use Rattle.std.proofs.Common.{◌≡◌, ℕ, zero, suc, Bool, true, false, cond, not, ◌&&◌, ◌||◌, List, []}
+use Rattle.std.proofs.Common.{◌∷◌, map, filter, length, Option, Some, None, nat_lt, refl, ap, ◌∙◌}
 use Rattle.std.specs.Prelude.{is_none, option_and_then}
-use Rattle.std.specs.List.{list_all}
+use Rattle.std.specs.List.{list_all, list_any}
 use Rattle.std.specs.Option.{option_map, option_map_or}
+use Rattle.std.proofs.lemmas.Bool.{not-false, not-true, or_from, or_parts}
 use Rattle.std.proofs.lemmas.List.{length-map}
+use Rattle.room_entry.specs.Pieces.{same_text}
 use Rattle.room_entry.specs.Valid.{is_document}
+use Rattle.room_entry.proofs.Facts.Lists.{all_implied}
+use Rattle.room_entry.proofs.Facts.Members.{any_map}
 use Rattle.room_rows.specs.declared.node.Node.{Node}
-use Rattle.room_rows.specs.Content.{Content, has_folder_above, is_folder, is_root, node_at}
-use Rattle.room_rows.specs.Content.{parent_of, reaches_root, with_each}
+use Rattle.room_rows.specs.Content.{Content, body_of, has_folder_above, is_folder, is_root, node_at}
+use Rattle.room_rows.specs.Content.{parent_of, reaches_root, same_parent, with_each}
+use Rattle.room_rows.specs.Keep.{reading}
+use Rattle.room_rows.specs.Paths.{is_object_name}
+use Rattle.room_rows.specs.Rows.{Rows, is_unreadable, numbers_of}
 use Rattle.room_rows.proofs.InPlace.{KeepsPlaces, keeps_places, node_at-with_each}
-use Rattle.room_rows.proofs.InPlace.{parent_of-with_each}
-use Rattle.room_rows.proofs.SamePlace.{IsSamePlace}
-use Rattle.room_rows.specs.Sound.{reaches}
+use Rattle.room_rows.proofs.InPlace.{numbers-with_each, numbers_of-reading, parent_of-with_each}
+use Rattle.room_rows.proofs.Lookups.{found_number}
+use Rattle.room_rows.proofs.SamePlace.{IsSamePlace, filter-changed}
+use Rattle.room_rows.specs.Sound.{AreSound, bad_root, fits_kind, has_bad_list, has_sound_body}
+use Rattle.room_rows.specs.Sound.{has_sound_lists, has_sound_name, keeps_law, reaches, same_place}
+use Rattle.room_inherit.proofs.NoFault.{IsChecked, sound}
 
 -- a test of all changed objects says what a test of all objects said before the change
 pub all_map : (p q : Node → Bool) (g : Node → Node) → ((n : Node) → p (g n) ≡ q n)
@@ -65,14 +75,96 @@ module _ (rows : Content) (change : Node → Node)
       ∙ reach (length rows.nodes) (change node).parent
       ∙ ap (reaches_root (length rows.nodes) rows) (place node).parent
 
-  -- where no kind changes, a changed object stands in a folder exactly if it did before
-  pub folder_above : ((n : Node) → (change n).kind ≡ n.kind) → (node : Node)
-      → has_folder_above changed (change node) ≡ has_folder_above rows node
-  folder_above kinds node =
-      (λ i. is_none ((place node).parent i) || option_map_or is_folder (above node i) false)
-      ∙ ap (λ t. is_root node || t) (on (parent_of rows node))
+  -- a changed object has a sound name exactly if it had one
+  named : (node : Node) → has_sound_name changed (change node) ≡ has_sound_name rows node
+  named node =
+      ap (λ t. is_root (change node) || (is_object_name (change node).name && not t))
+      (any_map (λ (other : Node). nat_lt other.id (change node).id
+      && same_place other (change node)) change rows.nodes)
+      ∙ (λ i. is_none ((place node).parent i) || (is_object_name ((place node).name i)
+      && not (list_any (λ (other : Node). nat_lt ((place other).number i) ((place node).number i)
+      && (same_parent ((place other).parent i) ((place node).parent i)
+      && same_text ((place other).name i) ((place node).name i))) rows.nodes)))
+
+  -- ---- where no kind changes either
+
+  module _ (kinds : (n : Node) → (change n).kind ≡ n.kind) where
+    -- a changed object stands in a folder exactly if it did before
+    pub folder_above : (node : Node)
+        → has_folder_above changed (change node) ≡ has_folder_above rows node
+    folder_above node =
+        (λ i. is_none ((place node).parent i) || option_map_or is_folder (above node i) false)
+        ∙ ap (λ t. is_root node || t) (on (parent_of rows node))
+      where
+        on : (o : Option Node)
+            → option_map_or is_folder (option_map change o) false ≡ option_map_or is_folder o false
+        on None = refl
+        on (Some parent) = ap (λ kind. not (is_document kind)) (kinds parent)
+
+    -- a changed object has the bytes that it is to have exactly if it had
+    bodied : (node : Node) → has_sound_body changed (change node) ≡ has_sound_body rows node
+    bodied node = λ i. fits_kind (kinds node i) (body_of rows ((place node).number i))
+
+    -- the root is good exactly if it was
+    rooted : bad_root (filter is_root changed.nodes) ≡ bad_root (filter is_root rows.nodes)
+    rooted =
+        ap bad_root
+        (filter-changed change is_root (λ a b same. ap is_none same.parent) rows.nodes places)
+        ∙ on (filter is_root rows.nodes)
+      where
+        on : (roots : List Node) → bad_root (map change roots) ≡ bad_root roots
+        on [] = refl
+        on (root ∷ []) =
+            λ i. cond (not (is_document (kinds root i))) None (Some ((place root).number i))
+        on (root ∷ other ∷ others) = λ i. Some ((place other).number i)
+
+-- ---- rows
+
+-- Rows without a fault whose objects are changed so are sound, where their lists stay sound and the
+-- law holds.
+module _ (old : Rows) (change : Node → Node) (place : (n : Node) → IsSamePlace (change n) n)
+    (kinds : (n : Node) → (change n).kind ≡ n.kind) (none : IsChecked old)
+    (lists : (node : Node) → node_at old.read node.id ≡ Some node → has_sound_lists node ≡ true
+    → has_sound_lists (change node) ≡ true) where
+  abbrev new : Rows
+  new = reading old (with_each old.read change)
+
+  still_good : (id : ℕ) → has_bad_list old id ≡ false → has_bad_list new id ≡ false
+  still_good id good =
+      let parts = or_parts (is_unreadable old id) _ good in
+      or_from (is_unreadable old id) _ parts.0
+      (ap (λ o. option_map_or (λ n. not (has_sound_lists n)) o false)
+      (node_at-with_each old.read change (places old.read change place) id)
+      ∙ on (node_at old.read id) refl parts.1)
     where
-      on : (o : Option Node)
-          → option_map_or is_folder (option_map change o) false ≡ option_map_or is_folder o false
-      on None = refl
-      on (Some parent) = ap (λ kind. not (is_document kind)) (kinds parent)
+      on : (o : Option Node) → node_at old.read id ≡ o
+          → option_map_or (λ n. not (has_sound_lists n)) o false ≡ false
+          → option_map_or (λ n. not (has_sound_lists n)) (option_map change o) false ≡ false
+      on None found good = refl
+      on (Some node) found good =
+          ap not (lists node (ap (node_at old.read) (found_number id old.read.nodes node found)
+          ∙ found) (not-false _ good))
+
+  pub still_sound : list_all (keeps_law new.read) new.read.nodes ≡ true → AreSound new
+  still_sound law = let kept = all_kept change in sound new (record {
+    lists =
+        ap (list_all (λ id. not (has_bad_list new id)))
+        (numbers_of-reading old new.read
+        (numbers-with_each old.read change (places old.read change place)))
+        ∙ all_implied (λ id. not (has_bad_list old id)) (λ id. not (has_bad_list new id))
+        (λ id is. ap not (still_good id (not-true _ is))) (numbers_of old) none.lists;
+    root = rooted old.read change place kinds ∙ none.root;
+    parents =
+        kept (has_folder_above new.read) (has_folder_above old.read)
+        (folder_above old.read change place kinds) old.read.nodes none.parents;
+    reach =
+        kept (reaches new.read) (reaches old.read) (reach_all old.read change place)
+        old.read.nodes none.reach;
+    names =
+        kept (has_sound_name new.read) (has_sound_name old.read) (named old.read change place)
+        old.read.nodes none.names;
+    bodies =
+        kept (has_sound_body new.read) (has_sound_body old.read)
+        (bodied old.read change place kinds) old.read.nodes none.bodies;
+    law = law;
+  })

@@ -4,7 +4,7 @@ use Rattle.std.proofs.Common.{filter, length, Option, Some, None, nat_lt, refl, 
 use Rattle.std.proofs.Common.{inr}
 use Rattle.std.specs.Prelude.{is_none}
 use Rattle.std.specs.List.{AllByRecursion, find}
-use Rattle.std.specs.Option.{option_map, option_map_or}
+use Rattle.std.specs.Option.{option_map_or}
 use Rattle.std.proofs.lemmas.Bool.{false≢true, eq-eqb, or_left, or_right}
 use Rattle.room_entry.specs.Pieces.{is_among}
 use Rattle.room_rows.specs.declared.node.AuditRow.{AuditRow}
@@ -12,15 +12,11 @@ use Rattle.room_rows.specs.declared.node.Node.{Node}
 use Rattle.room_rows.specs.Content.{Content, node_at, is_root, has_folder_above, reaches_root}
 use Rattle.room_rows.specs.Content.{with_records}
 use Rattle.room_rows.specs.Keep.{HasNoRoot, IsUnreadable}
-use Rattle.room_rows.specs.Rows.{Rows, put_number}
-use Rattle.room_rows.specs.declared.report.Report.{Report}
-use Rattle.room_rows.specs.declared.report.Report.TheVariants.{Sound, Fault}
-use Rattle.room_rows.specs.declared.report.Unsound.TheVariants.{BadList, BadRoot, BadParent, Loop}
-use Rattle.room_rows.specs.declared.report.Unsound.TheVariants.{BadName, BadBody, BrokenLaw}
-use Rattle.room_rows.specs.Sound.{AreSound, or_else, or_sound, numbered, true_path, fault_of}
-use Rattle.room_rows.specs.Sound.{first_bad_list, bad_root, first_failing, reaches, has_sound_name}
-use Rattle.room_rows.specs.Sound.{has_sound_body, keeps_law}
+use Rattle.room_rows.specs.Rows.{Rows, numbers_of, put_number}
+use Rattle.room_rows.specs.Sound.{AreSound, first_bad_list, bad_root, first_failing, has_bad_list}
+use Rattle.room_rows.specs.Sound.{reaches, has_sound_name, has_sound_body, keeps_law}
 use Rattle.room_judge.specs.Judged.{NotSound, noted}
+use Rattle.room_inherit.proofs.NoFault.{all_pass, no_fault, none_bad, none_fails, sound, unbad}
 use Rattle.room_inherit.proofs.Whole.{all_read}
 
 -- No test finds a fault.
@@ -33,135 +29,30 @@ pub record SoundParts (rows : Rows) : Type 0 where
   pub bodies : first_failing (has_sound_body rows.read) rows.read ≡ None
   pub law : first_failing (keeps_law rows.read) rows.read ≡ None
 
-group : (a b c : Option Report) → or_else (or_else a b) c ≡ or_else a (or_else b c)
-group None b c = refl
-group (Some report) b c = refl
-
--- one test after the other
-flat : (a b c d e f g : Option Report)
-    → or_else (or_else a (or_else (or_else b (or_else c (or_else d e))) f)) g
-    ≡ or_else a (or_else b (or_else c (or_else d (or_else e (or_else f g)))))
-flat None None None None None None g = refl
-flat None None None None None (Some r) g = refl
-flat None None None None (Some r) f g = refl
-flat None None None (Some r) e f g = refl
-flat None None (Some r) d e f g = refl
-flat None (Some r) c d e f g = refl
-flat (Some r) b c d e f g = refl
-
-passed : {X : Type 0} (path : X → List ℕ)
-    (why : Rattle.room_rows.specs.declared.report.Unsound.Unsound) (o : Option X)
-    (rest : Option Report)
-    → or_sound (or_else (option_map (λ x. Fault (path x) why) o) rest) ≡ Sound → (o ≡ None)
-    × (or_sound rest ≡ Sound)
-passed path why None rest is = (refl, is)
-passed path why (Some x) rest is = absurd (let wrong : ⊥ = cc in wrong)
-
-last_passed : {X : Type 0} (path : X → List ℕ)
-    (why : Rattle.room_rows.specs.declared.report.Unsound.Unsound) (o : Option X)
-    → or_sound (option_map (λ x. Fault (path x) why) o) ≡ Sound → o ≡ None
-last_passed path why None is = refl
-last_passed path why (Some x) is = absurd (let wrong : ⊥ = cc in wrong)
-
 module _ (rows : Rows) where
-  abbrev lists_fault : Option ℕ → Option Report
-  lists_fault o = option_map (λ id. Fault (numbered id) BadList) o
-
-  abbrev root_fault : Option ℕ → Option Report
-  root_fault o = option_map (λ id. Fault (numbered id) BadRoot) o
-
-  abbrev by_number : Rattle.room_rows.specs.declared.report.Unsound.Unsound → Option Node
-      → Option Report
-  by_number why o = fault_of (λ node. numbered node.id) why o
-
-  abbrev by_path : Rattle.room_rows.specs.declared.report.Unsound.Unsound → Option Node
-      → Option Report
-  by_path why o = fault_of (true_path rows.read) why o
-
   pub sound_parts : AreSound rows → SoundParts rows
-  sound_parts sound =
-      let rest : or_sound (or_else (lists_fault (first_bad_list rows))
-      (or_else (root_fault (bad_root (filter is_root rows.read.nodes)))
-      (or_else (by_number BadParent (first_failing (has_folder_above rows.read) rows.read))
-      (or_else (by_number Loop (first_failing (reaches rows.read) rows.read))
-      (or_else (by_path BadName (first_failing (has_sound_name rows.read) rows.read))
-      (or_else (by_path BadBody (first_failing (has_sound_body rows.read) rows.read))
-      (by_path BrokenLaw (first_failing (keeps_law rows.read) rows.read)))))))) ≡ Sound =
-      ap or_sound
-      (sym (flat (lists_fault (first_bad_list rows))
-      (root_fault (bad_root (filter is_root rows.read.nodes)))
-      (by_number BadParent (first_failing (has_folder_above rows.read) rows.read))
-      (by_number Loop (first_failing (reaches rows.read) rows.read))
-      (by_path BadName (first_failing (has_sound_name rows.read) rows.read))
-      (by_path BadBody (first_failing (has_sound_body rows.read) rows.read))
-      (by_path BrokenLaw (first_failing (keeps_law rows.read) rows.read)))) ∙ sound in
-      let lists = passed numbered BadList (first_bad_list rows) _ rest in
-      let root = passed numbered BadRoot (bad_root (filter is_root rows.read.nodes)) _ lists.1 in
-      let parents = passed (λ (node : Node). numbered node.id) BadParent
-      (first_failing (has_folder_above rows.read) rows.read) _ root.1 in
-      let reached = passed (λ (node : Node). numbered node.id) Loop
-      (first_failing (reaches rows.read) rows.read) _ parents.1 in
-      let names = passed (true_path rows.read) BadName
-      (first_failing (has_sound_name rows.read) rows.read) _ reached.1 in
-      let bodies = passed (true_path rows.read) BadBody
-      (first_failing (has_sound_body rows.read) rows.read) _ names.1 in
-      record {
-        lists = lists.0;
-        root = root.0;
-        parents = parents.0;
-        reached = reached.0;
-        names = names.0;
-        bodies = bodies.0;
-        law =
-            last_passed (true_path rows.read) BrokenLaw
-            (first_failing (keeps_law rows.read) rows.read) bodies.1;
-      }
+  sound_parts is = let none = no_fault rows is in record {
+    lists = none_bad rows none;
+    root = none.root;
+    parents = none_fails (has_folder_above rows.read) rows.read.nodes none.parents;
+    reached = none_fails (reaches rows.read) rows.read.nodes none.reach;
+    names = none_fails (has_sound_name rows.read) rows.read.nodes none.names;
+    bodies = none_fails (has_sound_body rows.read) rows.read.nodes none.bodies;
+    law = none_fails (keeps_law rows.read) rows.read.nodes none.law;
+  }
 
   pub parts_sound : SoundParts rows → AreSound rows
-  parts_sound parts =
-      ap or_sound (flat (lists_fault (first_bad_list rows))
-      (root_fault (bad_root (filter is_root rows.read.nodes)))
-      (by_number BadParent (first_failing (has_folder_above rows.read) rows.read))
-      (by_number Loop (first_failing (reaches rows.read) rows.read))
-      (by_path BadName (first_failing (has_sound_name rows.read) rows.read))
-      (by_path BadBody (first_failing (has_sound_body rows.read) rows.read))
-      (by_path BrokenLaw (first_failing (keeps_law rows.read) rows.read)))
-      ∙ ap
-      (λ o. or_sound
-      (or_else (lists_fault o)
-      (or_else (root_fault (bad_root (filter is_root rows.read.nodes)))
-      (or_else (by_number BadParent (first_failing (has_folder_above rows.read) rows.read))
-      (or_else (by_number Loop (first_failing (reaches rows.read) rows.read))
-      (or_else (by_path BadName (first_failing (has_sound_name rows.read) rows.read))
-      (or_else (by_path BadBody (first_failing (has_sound_body rows.read) rows.read))
-      (by_path BrokenLaw (first_failing (keeps_law rows.read) rows.read))))))))) parts.lists
-      ∙ ap
-      (λ o. or_sound
-      (or_else (root_fault o)
-      (or_else (by_number BadParent (first_failing (has_folder_above rows.read) rows.read))
-      (or_else (by_number Loop (first_failing (reaches rows.read) rows.read))
-      (or_else (by_path BadName (first_failing (has_sound_name rows.read) rows.read))
-      (or_else (by_path BadBody (first_failing (has_sound_body rows.read) rows.read))
-      (by_path BrokenLaw (first_failing (keeps_law rows.read) rows.read)))))))) parts.root
-      ∙ ap
-      (λ o. or_sound (or_else (by_number BadParent o)
-      (or_else (by_number Loop (first_failing (reaches rows.read) rows.read))
-      (or_else (by_path BadName (first_failing (has_sound_name rows.read) rows.read))
-      (or_else (by_path BadBody (first_failing (has_sound_body rows.read) rows.read))
-      (by_path BrokenLaw (first_failing (keeps_law rows.read) rows.read))))))) parts.parents
-      ∙ ap
-      (λ o. or_sound (or_else (by_number Loop o)
-      (or_else (by_path BadName (first_failing (has_sound_name rows.read) rows.read))
-      (or_else (by_path BadBody (first_failing (has_sound_body rows.read) rows.read))
-      (by_path BrokenLaw (first_failing (keeps_law rows.read) rows.read)))))) parts.reached
-      ∙ ap
-      (λ o. or_sound (or_else (by_path BadName o)
-      (or_else (by_path BadBody (first_failing (has_sound_body rows.read) rows.read))
-      (by_path BrokenLaw (first_failing (keeps_law rows.read) rows.read))))) parts.names
-      ∙ ap
-      (λ o. or_sound (or_else (by_path BadBody o)
-      (by_path BrokenLaw (first_failing (keeps_law rows.read) rows.read)))) parts.bodies
-      ∙ ap (λ o. or_sound (by_path BrokenLaw o)) parts.law
+  parts_sound parts = sound rows (record {
+    lists =
+        all_pass (λ id. not (has_bad_list rows id)) (numbers_of rows)
+        (unbad rows ∙ parts.lists);
+    root = parts.root;
+    parents = all_pass (has_folder_above rows.read) rows.read.nodes parts.parents;
+    reach = all_pass (reaches rows.read) rows.read.nodes parts.reached;
+    names = all_pass (has_sound_name rows.read) rows.read.nodes parts.names;
+    bodies = all_pass (has_sound_body rows.read) rows.read.nodes parts.bodies;
+    law = all_pass (keeps_law rows.read) rows.read.nodes parts.law;
+  })
 
 -- ---- of use in what follows
 
