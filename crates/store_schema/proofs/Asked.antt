@@ -1,5 +1,5 @@
 -- What reading the schema's number shows.
-use Rattle.std.proofs.Common.{◌≡◌, ◌≤◌, ℕ, ℤ, List, [], ◌∷◌, length, map, Result, Ok, Err, Option}
+use Rattle.std.proofs.Common.{◌≡◌, ℕ, ℤ, List, [], ◌∷◌, length, map, Result, Ok, Err, Option}
 use Rattle.std.proofs.Common.{None, Some, IsTrue, inl, inr, ◌⊎◌, refl, sym, ap, subst, ◌∙◌, true}
 use Rattle.std.proofs.Common.{false, Bool, if◌then◌else◌, arith, IsPermutation, Vec, Global, IfOk}
 use Rattle.std.proofs.Common.{IfErr}
@@ -20,12 +20,11 @@ use Rattle.sqlite_trees.specs.declared.error.StoreError.TheVariants.{Broken, Uns
 use Rattle.sqlite.specs.Command.{Command}
 use Rattle.sqlite.specs.Command.TheVariants.{Rows, Select}
 use Rattle.sqlite_schema.specs.declared.command.Returning.{Returning}
-use Rattle.sqlite_trees.specs.View.{doubt}
 use Rattle.sqlite.specs.Clock.{timed}
 use Rattle.sqlite.specs.Listing.{understood}
 use Rattle.sqlite.specs.State.{State, HasCleanDisk, Shown, ShowsRows, FailsToQuery, FailsToShow}
 use Rattle.sqlite.specs.State.{IsNotRun, IsTooLate, store_error}
-use Rattle.sqlite.proofs.Callers.{IsPlain, command_of, one_permutation, reads_as}
+use Rattle.sqlite.proofs.Callers.{IsPlain, one_permutation, reads_as}
 use Rattle.store_tables.specs.Tables.{no_schema, room_schema}
 use Rattle.store_schema.specs.NewRoom.{is_version, meta_of, number_shown}
 use Rattle.store_schema.specs.Opening.{AsksVersion, CantBeAsked, IsCalled, IsFailure, IsRefusal}
@@ -38,7 +37,8 @@ use Rattle.store_schema.proofs.Answers.{passes, selected}
 use Rattle.store_schema.proofs.Texts.{asked_bare, asked_is, asked_nowhere, asked_plain, asks_value}
 use Rattle.store_schema.proofs.Texts.{is_rooms}
 use Rattle.store_tables.proofs.Bare.{reads_by}
-use Rattle.store_tables.proofs.Within.{unchanged_within, undone_within, wrote_within}
+use Rattle.store_tables.proofs.Within.{CommitsNothing, as_before, unchanged_within, undone_within}
+use Rattle.store_tables.proofs.Within.{wrote_within}
 use Rattle.room_entry.proofs.Facts.Lists.{filter_same}
 use Rattle.store_tables.proofs.Tests.{equals_text}
 
@@ -86,14 +86,14 @@ shown_same old new rows has h =
 
 -- ---- what a query inside a transaction leaves
 
-module _ (old new : State) (clean : doubt old.is_clean ≤ doubt new.is_clean)
+module _ (old new : State) (quiet : CommitsNothing old new)
     (inside : IsTrue old.in_transaction) where
   shows_within : (sql : List ℕ) (c : Compiled) (full : Row) (rows : List Row) (r : Option Returning)
       → ShowsRows old new sql c full rows r → IsWithin old new
-  shows_within sql c full rows None h = unchanged_within old new clean h.3
+  shows_within sql c full rows None h = unchanged_within old new quiet h.3
   shows_within sql c full rows (Some what) h =
       let it = h.1.shown in
-      wrote_within old new clean (record {
+      wrote_within old new quiet (record {
         was_open = it.was_open;
         is_open = it.is_open;
         now_is = it.now_is;
@@ -108,33 +108,35 @@ module _ (old new : State) (clean : doubt old.is_clean ≤ doubt new.is_clean)
 
   not_shown : (sql : List ℕ) (c : Compiled) (full : Row) (e : Error) (r : Option Returning)
       → FailsToShow old new sql c full e r → IsWithin old new
-  not_shown sql c full e None f = unchanged_within old new clean f.3
-  not_shown sql c full e (Some what) (inl f) = unchanged_within old new clean f.1
-  not_shown sql c full e (Some what) (inr f) = undone_within old new clean f.3
+  not_shown sql c full e None f = unchanged_within old new quiet f.3
+  not_shown sql c full e (Some what) (inl f) = unchanged_within old new quiet f.1
+  not_shown sql c full e (Some what) (inr f) = undone_within old new quiet f.3
 
   failed_within : (sql : List ℕ) (params : Row) (e : Error) → FailsToQuery sql params old new e
       ⊎ IsTooLate sql params old new e → IsWithin old new
   unfolding FailsToQuery IsNotRun
-  failed_within sql params e (inl (inl (inl h))) = unchanged_within old new clean h.1
-  failed_within sql params e (inl (inl (inr h))) = undone_within old new clean h.3
+  failed_within sql params e (inl (inl (inl h))) = unchanged_within old new quiet h.1
+  failed_within sql params e (inl (inl (inr h))) = undone_within old new quiet h.3
   failed_within sql params e (inl (inr h)) = not_shown sql h.0 _ e h.0.returning h.2
-  failed_within sql params e (inr late) = unchanged_within old new clean late.5
+  failed_within sql params e (inr late) = unchanged_within old new quiet late.5
 
   pub query_within : (sql : List ℕ) (params : Row) (r : Result (Vec Row Global) Error)
       → (HasCleanDisk new → IfOk r (λ rows. Shown sql params old new rows.items))
       → (HasCleanDisk new → IfErr r (λ e. FailsToQuery sql params old new e
       ⊎ IsTooLate sql params old new e)) → IsWithin old new
   query_within sql params (Ok rows) ok err = record {
-    clean = clean;
+    clean = quiet.clean;
     was_open = λ now. (shown_within sql params rows.items (ok now)).was_open now;
     committed = λ now. (shown_within sql params rows.items (ok now)).committed now;
     settled = λ now. (shown_within sql params rows.items (ok now)).settled now;
+    crash = as_before old new quiet;
   }
   query_within sql params (Err e) ok err = record {
-    clean = clean;
+    clean = quiet.clean;
     was_open = λ now. (failed_within sql params e (err now)).was_open now;
     committed = λ now. (failed_within sql params e (err now)).committed now;
     settled = λ now. (failed_within sql params e (err now)).settled now;
+    crash = as_before old new quiet;
   }
 
 -- ---- over a room's tables the text is understood
@@ -210,12 +212,13 @@ shows_version old new rows version h is = record {
 }
 
 open_as : (old new : State) (sql : List ℕ) (c : Compiled) (full : Row) (rows : List Row)
-    (r : Option Returning) → ShowsRows old new sql c full rows r → IsTrue old.is_open
-open_as old new sql c full rows None h = h.3.0.was_open
-open_as old new sql c full rows (Some what) h = h.1.shown.was_open
+    (r : Option Returning) → ShowsRows old new sql c full rows r
+    → IsTrue old.is_open × IsTrue new.is_open
+open_as old new sql c full rows None h = (h.3.0.was_open, h.3.0.is_open)
+open_as old new sql c full rows (Some what) h = (h.1.shown.was_open, h.1.shown.is_open)
 
 shown_open : (old new : State) (sql : List ℕ) (params : Row) (rows : List Row)
-    → Shown sql params old new rows → IsTrue old.is_open
+    → Shown sql params old new rows → IsTrue old.is_open × IsTrue new.is_open
 unfolding Shown
 shown_open old new sql params rows h = open_as old new sql h.0 _ rows h.0.returning h.2
 
@@ -228,13 +231,13 @@ refusal_of e Memory called = tt
 
 -- ---- the call
 
-module _ (old new : State) (clean : doubt old.is_clean ≤ doubt new.is_clean) where
+module _ (old new : State) (quiet : CommitsNothing old new) where
   pub asks_ok : (rows : Vec Row Global) (version : Option ℤ) → version ≡ number_shown rows.items
       → (HasCleanDisk new → Shown number_text [] old new rows.items)
       → AsksVersion old new (Ok version)
   asks_ok rows version is ok = record {
-    clean = clean;
-    within = λ inside. query_within old new clean inside number_text [] (Ok rows) ok (λ _. tt);
+    clean = quiet.clean;
+    within = λ inside. query_within old new quiet inside number_text [] (Ok rows) ok (λ _. tt);
     told =
         λ now has. (
           is ∙ shown_number old new rows.items has (ok now),
@@ -242,9 +245,11 @@ module _ (old new : State) (clean : doubt old.is_clean ≤ doubt new.is_clean) w
         );
     empty = λ now has. absurd (shown_nowhere old new rows.items has (ok now));
     shown =
-        λ now. (
+        λ now.
+        let opened = shown_open old new number_text [] rows.items (ok now) in (
           shows_version old new rows.items version (ok now) (sym is),
-          shown_open old new number_text [] rows.items (ok now),
+          opened.0,
+          opened.1,
         );
   }
 
@@ -253,8 +258,8 @@ module _ (old new : State) (clean : doubt old.is_clean ≤ doubt new.is_clean) w
       ⊎ IsTooLate number_text [] old new e)
       → AsksVersion old new (Err fault)
   asks_err e fault called err = record {
-    clean = clean;
-    within = λ inside. query_within old new clean inside number_text [] (Err e) (λ _. tt) err;
+    clean = quiet.clean;
+    within = λ inside. query_within old new quiet inside number_text [] (Err e) (λ _. tt) err;
     told = λ now has. by fault called has (err now);
     empty = λ now has. refusal_of e fault called;
     shown = λ now. unread fault called (err now);

@@ -3,7 +3,7 @@ pub mod Creates
 pub mod Within
 pub mod Meant
 pub mod FirstRows
-pub mod Founded
+pub mod Ended
 pub mod Answers
 pub mod Asked
 pub mod Others

@@ -76,14 +76,15 @@ module _ (begun : State) (inside : IsTrue begun.in_transaction) where
         → (HasCleanDisk mid → AnswersMigration begun.now r)
         → (HasCleanDisk mid → IsTrue mid.is_open → IsRoom begun.committed → IsRoom begun.now
         → begun.now ≡ begun.committed → OnOk r (RetainsOthers begun.now.trees mid.now.trees))
-        → IsInside begun mid r
-    by_steps mid r up within leads shown retains =
+        → (HasCleanDisk mid → OnOk r (IsTrue mid.is_open)) → IsInside begun mid r
+    by_steps mid r up within leads shown retains opens =
         record {
           within = within;
           leads = leads;
           shown = shown;
           empty = not_empty mid r up;
           retains = retains;
+          opens = opens;
         }
 
     first : IsWithin begun asked
@@ -141,6 +142,7 @@ module _ (begun : State) (inside : IsTrue begun.in_transaction) where
                   was_open = λ now. (within now).was_open now;
                   committed = λ now. (within now).committed now;
                   settled = λ now. (within now).settled now;
+                  crash = λ now. (within now).crash now;
                 }
 
             all : IsWithin begun end
@@ -153,7 +155,7 @@ module _ (begun : State) (inside : IsTrue begun.in_transaction) where
               → IsInside begun end (Ok tt)
           all_done raised_so end again =
               by_steps end (Ok tt) (up end (Ok tt) again) (all end (Ok tt) again) leads
-              (known end (up end (Ok tt) again)) retains
+              (known end (up end (Ok tt) again)) retains (λ now. (again.shown now).1.1)
             where
               retains : HasCleanDisk end → IsTrue end.is_open → IsRoom begun.committed
                   → IsRoom begun.now → begun.now ≡ begun.committed

@@ -1,5 +1,5 @@
 -- What writing the schema's number anew leaves.
-use Rattle.std.proofs.Common.{◌≡◌, ◌≢◌, ◌≤◌, ℕ, ℤ, pos, suc, List, [], ◌∷◌, length, map, filter}
+use Rattle.std.proofs.Common.{◌≡◌, ◌≢◌, ℕ, ℤ, pos, suc, List, [], ◌∷◌, length, map, filter}
 use Rattle.std.proofs.Common.{inl, inr, Result, Some, Ok, Err, None, IsTrue, OnOk, refl, sym, ap}
 use Rattle.std.proofs.Common.{subst, ◌∙◌, true, false, Bool, arith}
 use Rattle.std.specs.Prelude.{◌==◌}
@@ -22,7 +22,7 @@ use Rattle.sqlite_rules.specs.Calls.{ids_of}
 use Rattle.sqlite_schema.specs.declared.schema.Keys.TheVariants.{Enforced}
 use Rattle.sqlite_schema.specs.declared.schema.Table.{Table}
 use Rattle.sqlite_tied.specs.Compute.{everything}
-use Rattle.sqlite_trees.specs.View.{IsShaped, doubt}
+use Rattle.sqlite_trees.specs.View.{IsShaped}
 use Rattle.sqlite_trees.specs.declared.store.Shape.TheVariants as Shape
 use Rattle.room_rows.specs.Rows.{Rows}
 use Rattle.store_tables.specs.Meaning.{audit_in, bodies_of, nodes_of, pairs_of, rows_of, unread_of}
@@ -45,6 +45,7 @@ use Rattle.sqlite_rules.proofs.ListLemmas.{has_filtered}
 use Rattle.store_tables.proofs.Rowids.{of_each}
 use Rattle.store_schema.specs.NewRoom.{is_version}
 use Rattle.store_tables.specs.Within.{IsWithin}
+use Rattle.store_tables.proofs.Within.{CommitsNothing}
 use Rattle.store_schema.proofs.Texts.{is_rooms, query_of, stamp_is, stamp_plain, stamp_terms}
 use Rattle.store_schema.proofs.Texts.{stamp_text}
 use Rattle.store_schema.proofs.Within.{within_inside}
@@ -185,7 +186,7 @@ stamp_others old new count room n number h =
       texts = keeps_same _ _ (it.others.0 (λ e. let e' : 0 ≡ 5 = e in omega (arith, e')));
     }
 
-module _ (old new : State) (clean : doubt old.is_clean ≤ doubt new.is_clean) where
+module _ (old new : State) (quiet : CommitsNothing old new) where
   pub stamps : (r : Result ℕ Error) (e : Error)
       → (old.in_transaction ≡ false → (r ≡ Err e) × IsWithin old new)
       → (HasCleanDisk new → IsTrue old.in_transaction → ExecutesInside 0 stamp_text [] old new r)
@@ -211,7 +212,7 @@ module _ (old new : State) (clean : doubt old.is_clean ≤ doubt new.is_clean) w
       go : (b : Bool) → old.in_transaction ≡ b → Stamps old new r
       go true is =
           record {
-            within = within_inside old new clean stamp_text [] r (λ now. runs now is);
+            within = within_inside old new quiet stamp_text [] r (λ now. runs now is);
             inside = λ now. mode r (runs now is);
             keeps = λ now room. keeps r room (runs now is);
             retains = λ now room n number. retains r room n number (runs now is);

@@ -1,33 +1,34 @@
 -- What a statement inside a transaction leaves.
-use Rattle.std.proofs.Common.{◌≡◌, ◌≤◌, ℕ, List, Result, Ok, Err, IsTrue, OnOk, inl, inr, refl, sym}
+use Rattle.std.proofs.Common.{◌≡◌, ℕ, List, Result, Ok, Err, IsTrue, OnOk, inl, inr, refl, sym}
 use Rattle.std.proofs.Common.{subst, true, false, Bool}
 use Rattle.sqlite.specs.Order.{Row}
-use Rattle.sqlite_trees.specs.View.{doubt}
 use Rattle.sqlite.specs.Effect.{Database}
 use Rattle.sqlite.specs.declared.error.Error.{Error}
 use Rattle.sqlite.specs.State.{State, HasCleanDisk, Executes, ExecutesInside}
 use Rattle.store_schema.specs.Making.{Makes}
 use Rattle.store_tables.specs.Within.{IsWithin}
-use Rattle.store_tables.proofs.Within.{unchanged_within, undone_within, wrote_within}
+use Rattle.store_tables.proofs.Within.{CommitsNothing, as_before, unchanged_within, undone_within}
+use Rattle.store_tables.proofs.Within.{wrote_within}
 
-module _ (old new : State) (clean : doubt old.is_clean ≤ doubt new.is_clean) where
+module _ (old new : State) (quiet : CommitsNothing old new) where
   inside : (sql : List ℕ) (params : Row) (r : Result ℕ Error)
       → ExecutesInside 0 sql params old new r → IsWithin old new
-  inside sql params (Ok count) h = wrote_within old new clean h.1
+  inside sql params (Ok count) h = wrote_within old new quiet h.1
   inside sql params (Err e) (inl ran) =
       elim ran.1 [
-        | inl same ↦ unchanged_within old new clean same
-        | inr undone ↦ undone_within old new clean undone
+        | inl same ↦ unchanged_within old new quiet same
+        | inr undone ↦ undone_within old new quiet undone
       ]
-  inside sql params (Err e) (inr ends) = unchanged_within old new clean ends.2
+  inside sql params (Err e) (inr ends) = unchanged_within old new quiet ends.2
 
   pub within_inside : (sql : List ℕ) (params : Row) (r : Result ℕ Error)
       → (HasCleanDisk new → ExecutesInside 0 sql params old new r) → IsWithin old new
   within_inside sql params r h = record {
-    clean = clean;
+    clean = quiet.clean;
     was_open = λ now. (inside sql params r (h now)).was_open now;
     committed = λ now. (inside sql params r (h now)).committed now;
     settled = λ now. (inside sql params r (h now)).settled now;
+    crash = as_before old new quiet;
   }
 
   -- where the transaction has ended, a statement is refused

@@ -4,10 +4,11 @@ use Rattle.std.specs.Prelude.{Some, pos, if◌then◌else◌}
 use Rattle.std.specs.List.{AllByRecursion}
 use Rattle.sqlite.specs.Schema.{Schema}
 use Rattle.sqlite.specs.Effect.{Database}
+use Rattle.sqlite.specs.Tree.{Trees}
 use Rattle.sqlite.specs.State.{State, HasCleanDisk}
 use Rattle.sqlite.specs.declared.error.Error.{Error}
 use Rattle.sqlite_trees.specs.View.{doubt}
-use Rattle.store_tables.specs.Within.{IsWithin}
+use Rattle.store_tables.specs.Within.{IsWithin, LeavesOnly, LeavesOrCommits, TreesOf}
 use Rattle.store_tables.specs.Seeing.{wants_memory}
 use Rattle.store_tables.specs.Tables.{no_schema, room_schema}
 use Rattle.store_schema.specs.NewRoom.{IsNewRoom, meta_of}
@@ -36,6 +37,10 @@ pub record IsBare (db : Database) : Type 0 where
 abbrev pub create_fault_of : Error → CreateFault
 create_fault_of why = if wants_memory why then Memory else Db
 
+-- what making a room commits, if it gets that far
+abbrev pub CommitsRoom : Owners → Database → Trees → Type 0
+CommitsRoom owners old db = (old.schema ≡ no_schema) × TreesOf (IsNewRoom owners) db
+
 -- What making a room is.
 pub record Founds (owners : Owners) (old new : State)
     (result : Result (Unit {0}) CreateFault) : Type 0 where
@@ -51,3 +56,7 @@ pub record Founds (owners : Owners) (old new : State)
   -- after a fault the tables are as they were
   pub kept : HasCleanDisk new → IsTrue new.is_open → OnErr result ((new.now ≡ old.now)
       × (new.committed ≡ old.committed))
+  -- a crash leaves what it could leave before, or of an empty database the new room
+  pub crash : LeavesOrCommits old new (CommitsRoom owners old.now)
+  -- and once the room is answered, the room
+  pub lasts : HasCleanDisk new → OnOk result (LeavesOnly new new.now)

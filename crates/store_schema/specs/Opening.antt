@@ -17,7 +17,7 @@ use Rattle.room_rows.specs.declared.keep.KeepFault.{KeepFault}
 use Rattle.room_rows.specs.declared.keep.KeepFault.TheVariants as keep
 use Rattle.store_tables.specs.Seeing.{wants_memory}
 use Rattle.store_tables.specs.Tables.{no_schema, room_schema}
-use Rattle.store_tables.specs.Within.{IsWithin}
+use Rattle.store_tables.specs.Within.{IsWithin, LeavesAsBefore}
 use Rattle.store_schema.specs.NewRoom.{meta_of, number_shown}
 use Rattle.store_schema.specs.declared.fault.OpenFault.{OpenFault}
 use Rattle.store_schema.specs.declared.fault.OpenFault.TheVariants.{NotRooms, OldVersion}
@@ -130,7 +130,8 @@ pub record AsksVersion (old new : State) (result : Result (Option ℤ) OpenFault
       → MatchResult result (λ version. (version ≡ meta_of old.now) × (new.now ≡ old.now)) IsFailure
   pub empty : HasCleanDisk new → old.now.schema ≡ no_schema → IsErrAnd result IsRefusal
   pub shown : HasCleanDisk new
-      → MatchResult result (λ version. ShowsVersion version old.now × IsTrue old.is_open)
+      → MatchResult result
+      (λ version. ShowsVersion version old.now × IsTrue old.is_open × IsTrue new.is_open)
       (IsUnread old.now)
 
 -- The schema is expected to have this number.
@@ -142,7 +143,7 @@ pub record Expects (wanted : ℤ) (old new : State)
       → Says wanted (meta_of old.now) result × OnOk result (new.now ≡ old.now)
   pub empty : HasCleanDisk new → old.now.schema ≡ no_schema → IsErrAnd result IsRefusal
   pub shown : HasCleanDisk new
-      → AnswersVersion wanted old.now result × OnOk result (IsTrue old.is_open)
+      → AnswersVersion wanted old.now result × OnOk result (IsTrue old.is_open × IsTrue new.is_open)
 
 -- What opening a room is.
 pub record Adopts (old new : State) (result : Result (Unit {0}) OpenFault) : Type 0 where
@@ -160,3 +161,5 @@ pub record Adopts (old new : State) (result : Result (Unit {0}) OpenFault) : Typ
   pub told : HasCleanDisk new → old.now.schema ≡ room_schema → Says (pos 2) (meta_of old.now) result
   -- an empty database is no room
   pub empty : HasCleanDisk new → old.now.schema ≡ no_schema → IsErrAnd result IsRefusal
+  -- nor does a crash leave anything new
+  pub crash : LeavesAsBefore old new

@@ -16,7 +16,7 @@ use Rattle.store_tables.specs.Tables.{no_schema}
 use Rattle.store_tables.specs.Trees as tree
 use Rattle.store_schema.specs.NewRoom.{is_version, meta_of}
 use Rattle.store_schema.specs.Opening.{AnswersVersion, IsRefusal, Says, ShowsVersion}
-use Rattle.store_tables.specs.Within.{IsWithin}
+use Rattle.store_tables.specs.Within.{IsWithin, LeavesOnly, LeavesOrCommits, TreesOf}
 use Rattle.store_schema.specs.declared.fault.MigrateFault.{MigrateFault}
 use Rattle.store_schema.specs.declared.fault.MigrateFault.TheVariants.{Opening, Unsound}
 use Rattle.room_rows.specs.Meaning.{meaning}
@@ -124,6 +124,18 @@ pub record IsInside (old new : State) (result : Result (Unit {0}) MigrateFault) 
   pub empty : HasCleanDisk new → old.now.schema ≡ no_schema → IsErrAnd result IsNoRoom
   pub retains : HasCleanDisk new → IsTrue new.is_open → IsRoom old.committed → IsRoom old.now
       → old.now ≡ old.committed → OnOk result (RetainsOthers old.now.trees new.now.trees)
+  -- a connection that is shut gives no answer
+  pub opens : HasCleanDisk new → OnOk result (IsTrue new.is_open)
+
+-- A room of schema 1 becomes this one.
+pub record IsUpgraded (old new : Database) : Type 0 where
+  pub leads : UpgradesTables old new (Ok tt)
+  pub retains : RetainsOthers old.trees new.trees
+
+-- What an upgrade commits, if it gets that far: of a room's tables those of the room upgraded.
+abbrev pub CommitsUpgrade : Database → Trees → Type 0
+CommitsUpgrade old db =
+    ShowsVersion (Some (pos 1)) old × (HasTables old → TreesOf (IsUpgraded old) db)
 
 -- What upgrading a room is.
 pub record Migrates (old new : State) (result : Result (Unit {0}) MigrateFault) : Type 0 where
@@ -145,3 +157,7 @@ pub record Migrates (old new : State) (result : Result (Unit {0}) MigrateFault) 
   -- after a fault any database is as it was
   pub kept : HasCleanDisk new → IsTrue new.is_open
       → OnErr result ((new.now ≡ old.now) × (new.committed ≡ old.committed))
+  -- a crash leaves what it could leave before, or the room upgraded
+  pub crash : LeavesOrCommits old new (CommitsUpgrade old.now)
+  -- and once that is answered, the room upgraded
+  pub lasts : HasCleanDisk new → OnOk result (LeavesOnly new new.now)

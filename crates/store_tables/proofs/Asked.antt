@@ -1,49 +1,49 @@
 -- What a statement inside a transaction answers and leaves.
-use Rattle.std.proofs.Common.{◌≡◌, ℕ, ◌≤◌, List, Result, Ok, Err, IsTrue, ◌⊎◌, false, IfOk, IfErr}
+use Rattle.std.proofs.Common.{◌≡◌, ℕ, List, Result, Ok, Err, IsTrue, ◌⊎◌, false, IfOk, IfErr}
 use Rattle.std.proofs.Common.{Vec, Global}
 use Rattle.sqlite.specs.Order.{Row}
 use Rattle.sqlite.specs.Tree.{Trees}
 use Rattle.sqlite.specs.declared.error.Error.{Error}
 use Rattle.sqlite.specs.State.{State, HasCleanDisk, Shown, FailsToQuery, IsTooLate, Executes}
 use Rattle.sqlite.specs.State.{ExecutesInside}
-use Rattle.sqlite_trees.specs.View.{doubt}
 use Rattle.store_tables.specs.Shown.{IsRoom, Stays}
 use Rattle.store_tables.specs.Statements.{QueriesSql, ExecutesSql}
 use Rattle.store_tables.proofs.Calls.{same_ok}
 use Rattle.store_tables.proofs.Executed.{WritesRoom}
 use Rattle.store_tables.proofs.Inside.{did_inside, query_inside, write_inside}
 use Rattle.store_tables.proofs.Bare.{IsReading}
+use Rattle.store_tables.proofs.Within.{CommitsNothing}
 use Rattle.store_tables.proofs.Tests.{if_ok}
 
 -- a query inside a transaction keeps `QueriesSql`, once it is known what its rows show of a room
 pub asks : (sql : List ℕ) (params : Row) (old new : State) (r : Result (Vec Row Global) Error)
     (Shows : Trees → List Row → Type 0) → IsReading sql
-    → doubt old.is_clean ≤ doubt new.is_clean
+    → CommitsNothing old new
     → ((rows : List Row) → IsRoom old.now → Shown sql params old new rows
     → Shows old.now.trees rows)
     → (HasCleanDisk new → IfOk r (λ rows. Shown sql params old new rows.items))
     → (HasCleanDisk new → IfErr r (λ e. FailsToQuery sql params old new e
     ⊎ IsTooLate sql params old new e)) → QueriesSql Shows old new r
-asks sql params old new r Shows reads clean shows ok err = record {
+asks sql params old new r Shows reads quiet shows ok err = record {
   rows = λ now room. if_ok r _ _ (λ rows shown. shows rows.items room shown) (ok now);
   same = λ now room. same_ok sql params old new r reads (ok now);
-  stays = query_inside sql params old new r reads clean ok err;
+  stays = query_inside sql params old new r reads quiet ok err;
 }
 
 -- a write inside a transaction keeps `ExecutesSql`, once it is known what it leaves by its count
 pub writes : (sql : List ℕ) (params : Row) (old new : State) (r : Result ℕ Error) (e : Error)
-    (Leaves : ℕ → State → State → Type 0) → doubt old.is_clean ≤ doubt new.is_clean
+    (Leaves : ℕ → State → State → Type 0) → CommitsNothing old new
     → (IsTrue old.in_transaction → (count : ℕ) → Executes sql params old new (Ok count)
     → IsRoom old.now → WritesRoom old new)
     → ((count : ℕ) → IsRoom old.now → Executes sql params old new (Ok count) → Leaves count old new)
     → (old.in_transaction ≡ false → (r ≡ Err e) × Stays old new)
     → (HasCleanDisk new → IsTrue old.in_transaction → ExecutesInside 0 sql params old new r)
     → ExecutesSql Leaves old new r
-writes sql params old new r e Leaves clean room_stays leaves ended runs = record {
+writes sql params old new r e Leaves quiet room_stays leaves ended runs = record {
   leaves =
       λ now room. did_inside sql params old new r e (λ count. Leaves count old new)
       (λ off. (ended off).0) (runs now) (by room);
-  stays = write_inside sql params old new r clean room_stays (λ off. (ended off).1) runs;
+  stays = write_inside sql params old new r quiet room_stays (λ off. (ended off).1) runs;
 }
   where
     by : IsRoom old.now → (q : Result ℕ Error) → Executes sql params old new q

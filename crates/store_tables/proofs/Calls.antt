@@ -1,12 +1,11 @@
 -- What a read or a failure leaves of a connection.
-use Rattle.std.proofs.Common.{◌≡◌, ℕ, ◌≤◌, List, [], ◌++◌, Result, Ok, Err, None, Some, Option, inl}
+use Rattle.std.proofs.Common.{◌≡◌, ℕ, List, [], ◌++◌, Result, Ok, Err, None, Some, Option, inl}
 use Rattle.std.proofs.Common.{inr, ◌⊎◌, map, filter, refl, sym, ap, subst, ◌∙◌, false, IfOk, OnOk}
 use Rattle.std.proofs.Common.{Vec, Global}
 use Rattle.std.proofs.lemmas.List.{append-nil, append_assoc}
 use Rattle.std.specs.List.Sorted.{IsPermutation}
 use Rattle.sqlite.specs.declared.types.Value.TheVariants.{Null}
 use Rattle.sqlite.specs.Order.{Row}
-use Rattle.sqlite_trees.specs.View.{doubt}
 use Rattle.sqlite.specs.Effect.{Database}
 use Rattle.sqlite.specs.Program.{overlay}
 use Rattle.sqlite.specs.Tree.{Trees}
@@ -26,7 +25,7 @@ use Rattle.store_tables.proofs.Answers.{passes, shows, selected}
 use Rattle.store_tables.proofs.Bare.{IsReading, shown_same}
 use Rattle.store_tables.specs.Printed.{KeepsPrinted}
 use Rattle.store_tables.proofs.Printed.{keeps_on, keeps_itself}
-use Rattle.store_tables.proofs.Within.{unchanged_within, undone_within}
+use Rattle.store_tables.proofs.Within.{CommitsNothing, as_before, unchanged_within, undone_within}
 
 -- ---- what is retained
 
@@ -60,12 +59,12 @@ retains_at a b c d one two h =
 
 -- ---- calls
 
-module _ (old new : State) (clean : doubt old.is_clean ≤ doubt new.is_clean) where
+module _ (old new : State) (quiet : CommitsNothing old new) where
   -- a call that leaves the state unchanged leaves all that any call has to
   pub unchanged_stays : IsUnchanged old new → Stays old new
   unchanged_stays h =
       record {
-        within = unchanged_within old new clean h;
+        within = unchanged_within old new quiet h;
         room = λ _ _ _ room. subst IsRoom (sym h.0.now_is) room;
         retains =
             λ _ _ _ _ was. retains_at _ _ _ _ h.0.committed_is h.0.now_is was;
@@ -75,7 +74,7 @@ module _ (old new : State) (clean : doubt old.is_clean ≤ doubt new.is_clean) w
   pub rolled_back_stays : IsRolledBack old new → Stays old new
   rolled_back_stays h =
       record {
-        within = undone_within old new clean h;
+        within = undone_within old new quiet h;
         room = λ _ open' room _. subst IsRoom (sym (h.undone open').0) room;
         retains = λ _ open' _ _ _. retains_same _ _ ((h.undone open').0 ∙ sym (h.undone open').1);
       }
@@ -89,10 +88,11 @@ module _ (old new : State) (clean : doubt old.is_clean ≤ doubt new.is_clean) w
   pub stays_by : (HasCleanDisk new → Stays old new) → Stays old new
   stays_by h = record {
     within = record {
-      clean = clean;
+      clean = quiet.clean;
       was_open = λ now. (h now).within.was_open now;
       committed = λ now. (h now).within.committed now;
       settled = λ now. (h now).within.settled now;
+      crash = as_before old new quiet;
     };
     room = λ now. (h now).room now;
     retains = λ now. (h now).retains now;

@@ -1,8 +1,7 @@
 -- What a call inside a `Transaction` leaves.
-use Rattle.std.proofs.Common.{◌≡◌, ℕ, ◌≤◌, List, Result, Ok, Err, IsTrue, inl, inr, ◌⊎◌, refl, sym}
+use Rattle.std.proofs.Common.{◌≡◌, ℕ, List, Result, Ok, Err, IsTrue, inl, inr, ◌⊎◌, refl, sym}
 use Rattle.std.proofs.Common.{subst, true, false, Bool, IfOk, IfErr, Vec, Global}
 use Rattle.sqlite.specs.Order.{Row}
-use Rattle.sqlite_trees.specs.View.{doubt}
 use Rattle.sqlite.specs.Effect.{Database}
 use Rattle.sqlite.specs.declared.error.Error.{Error}
 use Rattle.sqlite.specs.State.{State, HasCleanDisk, Shown, FailsToQuery, IsTooLate, Executes}
@@ -12,57 +11,57 @@ use Rattle.store_tables.proofs.Calls.{failed_query, left_stays, retains_on, stay
 use Rattle.store_tables.proofs.Calls.{unchanged_stays}
 use Rattle.store_tables.proofs.Executed.{WritesRoom}
 use Rattle.store_tables.proofs.Bare.{IsReading, shown_same}
-use Rattle.store_tables.proofs.Within.{wrote_within}
+use Rattle.store_tables.proofs.Within.{CommitsNothing, wrote_within}
 
 late_or : (sql : List ℕ) (params : Row) (old new : State) (e : Error)
-    → doubt old.is_clean ≤ doubt new.is_clean
+    → CommitsNothing old new
     → FailsToQuery sql params old new e ⊎ IsTooLate sql params old new e → Stays old new
-late_or sql params old new e clean (inl h) =
-    left_stays old new clean (failed_query sql params old new e h)
-late_or sql params old new e clean (inr h) = unchanged_stays old new clean h.5
+late_or sql params old new e quiet (inl h) =
+    left_stays old new quiet (failed_query sql params old new e h)
+late_or sql params old new e quiet (inr h) = unchanged_stays old new quiet h.5
 
 -- what a query leaves, whatever it answers
 pub query_inside : (sql : List ℕ) (params : Row) (old new : State)
-    (r : Result (Vec Row Global) Error) → IsReading sql → doubt old.is_clean ≤ doubt new.is_clean
+    (r : Result (Vec Row Global) Error) → IsReading sql → CommitsNothing old new
     → (HasCleanDisk new → IfOk r (λ rows. Shown sql params old new rows.items))
     → (HasCleanDisk new → IfErr r (λ e. FailsToQuery sql params old new e
     ⊎ IsTooLate sql params old new e)) → Stays old new
-query_inside sql params old new (Ok rows) reads clean ok err =
-    stays_by old new clean
-    (λ now. unchanged_stays old new clean (shown_same sql params old new rows.items reads (ok now)))
-query_inside sql params old new (Err e) reads clean ok err =
-    stays_by old new clean (λ now. late_or sql params old new e clean (err now))
+query_inside sql params old new (Ok rows) reads quiet ok err =
+    stays_by old new quiet
+    (λ now. unchanged_stays old new quiet (shown_same sql params old new rows.items reads (ok now)))
+query_inside sql params old new (Err e) reads quiet ok err =
+    stays_by old new quiet (λ now. late_or sql params old new e quiet (err now))
 
 -- a write leaves what every call leaves, if one that answers a count keeps to `WritesRoom`
 inside_only : (sql : List ℕ) (params : Row) (old new : State) (r : Result ℕ Error)
-    → doubt old.is_clean ≤ doubt new.is_clean
+    → CommitsNothing old new
     → ((count : ℕ) → Executes sql params old new (Ok count) → IsRoom old.now → WritesRoom old new)
     → ExecutesInside 0 sql params old new r → Stays old new
-inside_only sql params old new (Ok count) clean writes h = record {
-  within = wrote_within old new clean h.1;
+inside_only sql params old new (Ok count) quiet writes h = record {
+  within = wrote_within old new quiet h.1;
   room = λ _ _ _ room. (writes count h.0 room).1;
   retains = λ _ _ _ room was.
       let w = writes count h.0 room in
       subst (λ (db : Database). Retains db.trees new.now.trees) (sym w.0)
       (retains_on _ _ _ was w.3);
 }
-inside_only sql params old new (Err e) clean writes (inl ran) = left_stays old new clean ran.1
-inside_only sql params old new (Err e) clean writes (inr ends) =
-    unchanged_stays old new clean ends.2
+inside_only sql params old new (Err e) quiet writes (inl ran) = left_stays old new quiet ran.1
+inside_only sql params old new (Err e) quiet writes (inr ends) =
+    unchanged_stays old new quiet ends.2
 
 pub write_inside : (sql : List ℕ) (params : Row) (old new : State) (r : Result ℕ Error)
-    → doubt old.is_clean ≤ doubt new.is_clean
+    → CommitsNothing old new
     → (IsTrue old.in_transaction → (count : ℕ) → Executes sql params old new (Ok count)
     → IsRoom old.now → WritesRoom old new)
     → (old.in_transaction ≡ false → Stays old new)
     → (HasCleanDisk new → IsTrue old.in_transaction → ExecutesInside 0 sql params old new r)
     → Stays old new
-write_inside sql params old new r clean writes ended h = go old.in_transaction refl
+write_inside sql params old new r quiet writes ended h = go old.in_transaction refl
   where
     go : (b : Bool) → old.in_transaction ≡ b → Stays old new
     go true is =
-        stays_by old new clean
-        (λ now. inside_only sql params old new r clean (writes is) (h now is))
+        stays_by old new quiet
+        (λ now. inside_only sql params old new r quiet (writes is) (h now is))
     go false is = ended is
 
 -- what a write did, where the transaction was open

@@ -10,7 +10,7 @@ pub returns-clause-writes : goal.returns-clause-writes
 returns-clause-writes g c =
     let old = state g.S.Store c.args.tx.now.conn.now in
     let new = state g.S.Store c.execute.new.self.conn.now in
-    writes empty_text [] old new c.execute.result _ _ c.execute.ensures.survives.clean
+    writes empty_text [] old new c.execute.result _ _ c.execute.ensures.survives
     (λ inside. empty_room old new inside)
     (λ count room h. (emptied old new count room h).puts)
     (λ off. (

@@ -16,7 +16,7 @@ returns-clause-writes g c =
     let given = c.params-to_sql.ensures in
     let given-2 = c.params-to_sql-2.ensures in
     writes join_text (Text group ∷ Text user ∷ []) old new c.execute.result _ _
-    c.execute.ensures.survives.clean (λ inside. join_room group user old new inside)
+    c.execute.ensures.survives (λ inside. join_room group user old new inside)
     (λ count room h. let d = joined group user old new count room.schema h in
     record { id = _; fresh = d.fresh; puts = d.exchanged.puts })
     (λ off. (

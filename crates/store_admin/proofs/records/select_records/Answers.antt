@@ -11,7 +11,7 @@ returns-clause-asks g c =
     let old = state g.S.Store c.args.tx.now.conn.now in
     let new = state g.S.Store c.query_all.new.self.conn.now in
     asks records_text [] old new c.query_all.result _ (reads_by records_text bare_records)
-    c.query_all.ensures.survives.clean
+    c.query_all.ensures.survives
     (λ rows room. shows_records old new rows room) c.query_all.ensures.ok c.query_all.ensures.err
 
 pub returns-clause-opens : goal.returns-clause-opens

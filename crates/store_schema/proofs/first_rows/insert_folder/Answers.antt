@@ -20,7 +20,7 @@ returns-clause-makes g c =
       c.as_str.ensures,
       c.as_str-2.ensures,
     ) at c.execute.ensures.runs in
-    makes_by old new c.execute.ensures.survives.clean folder_text
+    makes_by old new c.execute.ensures.survives folder_text
     (Text owners.owner ∷ Text owners.group ∷ Text owner_line ∷ []) c.execute.result _ _ _
     (λ off. (
       (c.execute.ensures.ended off).0,

@@ -10,7 +10,7 @@ pub returns-clause-makes : goal.returns-clause-makes
 returns-clause-makes g c =
     let old = state g.S.Store c.args.tx.now.conn.now in
     let new = state g.S.Store c.execute.new.self.conn.now in
-    makes_by old new c.execute.ensures.survives.clean version_text [] c.execute.result _ _ _
+    makes_by old new c.execute.ensures.survives version_text [] c.execute.result _ _ _
     (λ off. (
       (c.execute.ensures.ended off).0,
       subst (λ h. IsWithin old (state g.S.Store h)) (sym (c.execute.ensures.ended off).1)

@@ -1,30 +1,46 @@
-use Rattle.std.proofs.Common.{◌≡◌, Ok, refl, ap, subst, ◌∙◌, not, rules}
+use Rattle.std.proofs.Common.{◌≡◌, Ok, Err, ap, subst, ◌∙◌, not, rules}
 use Rattle.sqlite.specs.Held.{state}
+use Rattle.store_tables.proofs.Within.{settled_by}
 use Rattle.store_schema.specs.Raising.{Migrates}
-use Rattle.store_schema.proofs.Founded.{Begins}
-use Rattle.store_schema.proofs.Migrated.{committed}
+use Rattle.store_schema.specs.declared.fault.MigrateFault.TheVariants.{Opening}
+use Rattle.store_schema.proofs.Ended.{begins_by}
+use Rattle.store_schema.proofs.Migrated.{committed, not_committed}
 use Rattle.store_schema.proofs.migrating.migrate.Goals as goal
 
 pub returns-in-Ok-commit : goal.returns-in-Ok-commit
 returns-in-Ok-commit g c =
+    let s = g.S.Store in
+    let old = c.args.conn.now in
+    let begun = c.transaction-tx.result.conn.now in
+    let mid = c.migrate_inside.new.tx.conn.now in
     let end = c.commit.new.self.0 in
     let same : end ≡ c.conn-1.given.0 = search rules in
-    let old = state g.S.Store c.args.conn.now in
-    let begun = state g.S.Store c.transaction-tx.result.conn.now in
-    let mid = state g.S.Store c.migrate_inside.new.tx.conn.now in
-    let begins : Begins old begun = rw c.transaction-tx.ensures.begun
-    (record {
-      now = refl;
-      committed = refl;
-      same_open = refl;
-      same_clean = refl;
-      mode = refl;
-      settled = λ open'. c.is_autocommit-settled.ensures.settled
-          (c.is_autocommit-settled.ensures.value ∙ ap not c.requires) open';
-    }) in
-    let ran : Migrates old (state g.S.Store end) (Ok tt) = committed old begun mid
-    (state g.S.Store end) begins
+    let begins = begins_by s old begun c.transaction-tx.ensures.begun
+    (c.is_autocommit-settled.ensures.settled
+    (c.is_autocommit-settled.ensures.value ∙ ap not c.requires)) in
+    let ran : Migrates (state s old) (state s end) (Ok tt) =
+    committed (state s old) (state s begun) (state s mid) (state s end) begins
     (λ open'. (c.schema-schema.ensures.live open').0) c.commit.ensures.ended
-    c.commit.ensures.survives.clean
-    (c.in-Ok.ensures.inside begins.mode) c.in-Ok-commit.ensures.ok in
-    subst (λ h. Migrates old (state g.S.Store h) (Ok tt)) same ran
+    (c.in-Ok.ensures.inside begins.mode) c.commit.ensures.survives
+    (settled_by s end (g.met.S.Store.settled end.store) (g.met.S.Store.stays end.store))
+    c.in-Ok-commit.ensures.ok in
+    subst (λ h. Migrates (state s old) (state s h) (Ok tt)) same ran
+
+pub returns-in-Err-commit : goal.returns-in-Err-commit
+returns-in-Err-commit g c =
+    let s = g.S.Store in
+    let old = c.args.conn.now in
+    let begun = c.transaction-tx.result.conn.now in
+    let mid = c.migrate_inside.new.tx.conn.now in
+    let end = c.commit.new.self.0 in
+    let same : end ≡ c.conn-1.given.0 = search rules in
+    let begins = begins_by s old begun c.transaction-tx.ensures.begun
+    (c.is_autocommit-settled.ensures.settled
+    (c.is_autocommit-settled.ensures.value ∙ ap not c.requires)) in
+    let ran : Migrates (state s old) (state s end) (Err (Opening c.failure_of.result)) =
+    not_committed (state s old) (state s begun) (state s mid) (state s end) begins
+    (λ open'. (c.schema-schema.ensures.live open').0) c.commit.ensures.ended
+    (c.in-Ok.ensures.inside begins.mode) c.commit.ensures.survives
+    c.failure_of.result c.failure_of.ensures.failure c.in-Err-commit.error
+    c.in-Err-commit.ensures.err in
+    subst (λ h. Migrates (state s old) (state s h) (Err (Opening c.failure_of.result))) same ran

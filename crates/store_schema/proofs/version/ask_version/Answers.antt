@@ -7,12 +7,12 @@ use Rattle.store_schema.proofs.version.ask_version.Goals as goal
 pub returns-in-Ok-clause-asks : goal.returns-in-Ok-clause-asks
 returns-in-Ok-clause-asks g c =
     asks_ok (state g.S.Store c.args.tx.now.conn.now)
-    (state g.S.Store c.query_all.new.self.conn.now) c.query_all.ensures.survives.clean c.in-Ok.rows
+    (state g.S.Store c.query_all.new.self.conn.now) c.query_all.ensures.survives c.in-Ok.rows
     c.number_in.result (c.number_in.ensures ∙ ap number_shown c.as_slice.ensures.value)
     c.in-Ok.ensures.ok
 
 pub returns-in-Err-clause-asks : goal.returns-in-Err-clause-asks
 returns-in-Err-clause-asks g c =
     asks_err (state g.S.Store c.args.tx.now.conn.now)
-    (state g.S.Store c.query_all.new.self.conn.now) c.query_all.ensures.survives.clean
+    (state g.S.Store c.query_all.new.self.conn.now) c.query_all.ensures.survives
     c.in-Err.error c.open_fault.result c.open_fault.ensures.called c.in-Err.ensures.err

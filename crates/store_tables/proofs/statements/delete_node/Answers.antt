@@ -15,7 +15,7 @@ returns-clause-writes g c =
     let new = state g.S.Store c.execute.new.self.conn.now in
     let given = simp (to_z-of_z c.ranges.id) at c.params-to_sql.ensures in
     writes delete_text (Int c.args.id ∷ []) old new c.execute.result _ _
-    c.execute.ensures.survives.clean (λ inside. delete_room c.args.id old new inside)
+    c.execute.ensures.survives (λ inside. delete_room c.args.id old new inside)
     (λ count room h. delete_one c.args.id old new (Ok count) room h)
     (λ off. (
       (c.execute.ensures.ended off).0,

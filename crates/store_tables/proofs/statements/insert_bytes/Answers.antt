@@ -15,7 +15,7 @@ returns-clause-writes g c =
     let new = state g.S.Store c.execute.new.self.conn.now in
     let given = simp (to_z-of_z c.ranges.id) at c.params-to_sql.ensures in
     writes put_text (Int c.args.id ∷ Blob c.args.bytes.now ∷ []) old new c.execute.result _ _
-    c.execute.ensures.survives.clean (λ inside. put_room c.args.id c.args.bytes.now old new inside)
+    c.execute.ensures.survives (λ inside. put_room c.args.id c.args.bytes.now old new inside)
     (λ count room h. (bodied c.args.id c.args.bytes.now old new count room.schema h).puts)
     (λ off. (
       (c.execute.ensures.ended off).0,

@@ -28,7 +28,7 @@ returns-clause-writes g c =
       c.params-to_sql-10.ensures,
       c.params-to_sql-11.ensures,
     ) at c.execute.ensures.runs) in
-    writes insert_text (values cols) old new c.execute.result _ _ c.execute.ensures.survives.clean
+    writes insert_text (values cols) old new c.execute.result _ _ c.execute.ensures.survives
     (λ inside. insert_room cols (record {
       dacl_own = (_, stored.dacl_own);
       dacl_inh = (_, stored.dacl_inh);

@@ -15,6 +15,6 @@ returns-clause-asks g c =
     let given = simp (to_z-of_z c.ranges.id) at c.params-to_sql.ensures in
     asks body_text (Int c.args.id ∷ []) old new c.query_all.result _
     (reads_by body_text bare_texts.5)
-    c.query_all.ensures.survives.clean
+    c.query_all.ensures.survives
     (λ rows room. shows_bytes old new rows room c.args.id) (rw given at c.query_all.ensures.ok)
     (rw given at c.query_all.ensures.err)

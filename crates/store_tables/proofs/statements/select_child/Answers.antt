@@ -14,7 +14,7 @@ returns-clause-asks g c =
     let new = state g.S.Store c.query_all.new.self.conn.now in
     let given = simp (to_z-of_z c.ranges.parent) at c.params-to_sql.ensures in
     asks child_text (Int c.args.parent ∷ Text c.args.name.now ∷ []) old new c.query_all.result _
-    (reads_by child_text bare_texts.1) c.query_all.ensures.survives.clean
+    (reads_by child_text bare_texts.1) c.query_all.ensures.survives
     (λ rows room. shows_child old new rows room c.args.parent c.args.name.now)
     (rw (given, c.params-to_sql-2.ensures) at c.query_all.ensures.ok)
     (rw (given, c.params-to_sql-2.ensures) at c.query_all.ensures.err)

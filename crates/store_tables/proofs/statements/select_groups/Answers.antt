@@ -14,6 +14,6 @@ returns-clause-asks g c =
     let given = c.params-to_sql.ensures in
     asks groups_text (Text c.args.user.now ∷ []) old new c.query_all.result _
     (reads_by groups_text bare_texts.6)
-    c.query_all.ensures.survives.clean
+    c.query_all.ensures.survives
     (λ rows room. shows_groups old new rows room c.args.user.now)
     (rw given at c.query_all.ensures.ok) (rw given at c.query_all.ensures.err)

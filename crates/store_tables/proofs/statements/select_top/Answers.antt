@@ -11,5 +11,5 @@ returns-clause-asks g c =
     let old = state g.S.Store c.args.tx.now.conn.now in
     let new = state g.S.Store c.query_all.new.self.conn.now in
     asks root_text [] old new c.query_all.result _
-    (reads_by root_text bare_texts.3) c.query_all.ensures.survives.clean
+    (reads_by root_text bare_texts.3) c.query_all.ensures.survives
     (λ rows room. shows_top old new rows room) c.query_all.ensures.ok c.query_all.ensures.err

@@ -15,6 +15,6 @@ returns-clause-asks g c =
     let given = simp (to_z-of_z c.ranges.parent) at c.params-to_sql.ensures in
     asks children_text (Int c.args.parent ∷ []) old new c.query_all.result _
     (reads_by children_text bare_texts.2)
-    c.query_all.ensures.survives.clean
+    c.query_all.ensures.survives
     (λ rows room. shows_under old new rows room c.args.parent) (rw given at c.query_all.ensures.ok)
     (rw given at c.query_all.ensures.err)

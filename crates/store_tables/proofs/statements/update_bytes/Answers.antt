@@ -15,7 +15,7 @@ returns-clause-writes g c =
     let new = state g.S.Store c.execute.new.self.conn.now in
     let given = simp (to_z-of_z c.ranges.id) at c.params-to_sql.ensures in
     writes fill_text (Int c.args.id ∷ Blob c.args.bytes.now ∷ []) old new c.execute.result _ _
-    c.execute.ensures.survives.clean (λ inside. fill_room c.args.id c.args.bytes.now old new inside)
+    c.execute.ensures.survives (λ inside. fill_room c.args.id c.args.bytes.now old new inside)
     (λ count room h. fill_one c.args.id c.args.bytes.now old new count room h)
     (λ off. (
       (c.execute.ensures.ended off).0,

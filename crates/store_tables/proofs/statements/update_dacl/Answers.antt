@@ -28,7 +28,7 @@ returns-clause-writes g c =
       c.params-to_sql-4.ensures,
     ) at c.execute.ensures.runs in
     writes dacl_text (Int c.args.id ∷ cell) old new c.execute.result _ _
-    c.execute.ensures.survives.clean
+    c.execute.ensures.survives
     (recast_room dacl_text dacl_terms dacl_is plain_dacl c.args.id cell change (λ r. refl)
     (holding_printed Dacl c.args.list.now.flags (string_bytes c.args.list.now.own)
     (string_bytes c.args.list.now.inh) (_, c.requires.1.own) (_, c.requires.1.inh)) old new)

@@ -21,7 +21,7 @@ returns-clause-writes g c =
     rw (given, c.params-to_sql-2.ensures, c.params-to_sql-3.ensures) at c.execute.ensures.runs
     in
     writes owners_text (Int c.args.id ∷ cell) old new c.execute.result _ _
-    c.execute.ensures.survives.clean
+    c.execute.ensures.survives
     (recast_room owners_text owners_terms owners_is plain_owners c.args.id cell change
     (λ r. refl) (owning_printed c.args.owner.now c.args.group.now) old new)
     (λ count room h. recast_one owners_text owners_terms owners_is plain_owners c.args.id cell

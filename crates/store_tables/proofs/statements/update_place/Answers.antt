@@ -20,7 +20,7 @@ returns-clause-writes g c =
     let under = simp (to_z-of_z c.ranges.parent) at c.params-to_sql-2.ensures in
     let runs = rw (given, under, c.params-to_sql-3.ensures) at c.execute.ensures.runs in
     writes place_text (Int c.args.id ∷ cell) old new c.execute.result _ _
-    c.execute.ensures.survives.clean
+    c.execute.ensures.survives
     (recast_room place_text place_terms place_is plain_place c.args.id cell change
     (λ r. refl) (lying_printed c.args.parent c.args.name.now) old new)
     (λ count room h. recast_one place_text place_terms place_is plain_place c.args.id cell change

@@ -19,7 +19,7 @@ returns-clause-writes g c =
     let change = inheriting Sacl c.args.text.now in
     let given = simp (to_z-of_z c.ranges.id) at c.params-to_sql.ensures in
     writes sacl_inh_text
-    (Int c.args.id ∷ cell) old new c.execute.result _ _ c.execute.ensures.survives.clean
+    (Int c.args.id ∷ cell) old new c.execute.result _ _ c.execute.ensures.survives
     (recast_room sacl_inh_text sacl_inh_terms sacl_inh_is plain_sacl_inh c.args.id cell change
     (λ r. refl) (inheriting_printed Sacl c.args.text.now c.requires) old new)
     (λ count room h. recast_one sacl_inh_text sacl_inh_terms sacl_inh_is plain_sacl_inh c.args.id
