@@ -1,5 +1,5 @@
 -- A call that isn't made, since memory ran out.
-use Rattle.std.proofs.Common.{◌≡◌, Result, Ok, Err, refl}
+use Rattle.std.proofs.Common.{◌≡◌, Result, Ok, Err, inl, refl}
 use Rattle.sqlite.specs.State.{State}
 use Rattle.room_rows.specs.Rows.{Rows}
 use Rattle.room_store.specs.declared.fault.StoreFault.{StoreFault}
@@ -26,4 +26,7 @@ unrun old Blames Becomes = record {
   tables = λ premise _. premise.tables;
   retains = λ _ _. retains_same old.now old.now refl;
   damaged = λ _ _ is. absurd (no_damage is);
+  lasts = λ _. tt;
+  spared = λ _ _ _ left. left;
+  crash = λ _ _ left. inl left;
 }

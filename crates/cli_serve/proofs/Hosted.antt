@@ -8,6 +8,7 @@ use Rattle.room_rows.specs.Content.{Content}
 use Rattle.room_machine.specs.declared.desk.Desk.{Ghosts}
 use Rattle.room_machine.specs.Run.{Event, Run}
 use Rattle.room_http.specs.Stream.{Runs}
+use Rattle.room_store.specs.Crash.{Lasts}
 use Rattle.room_store.specs.Kept.{IsShut, IsSound, Keeps}
 use Rattle.room_store.specs.Leads.{Leads}
 use Rattle.cli_serve.specs.Lines.{TellsFaults}
@@ -79,15 +80,17 @@ pub served : (port count : ℕ) (told told' : List ℤ → Type 0) (old new : St
     → IsEnd count end (length visits) → LeavesShut end new → status ≡ end_status end
     → OnOk end (TellsPort port out out')
     → Leads old [] new ⊎ TellsPort port out out' → TellsFaults count err mid end
-    → TellsEnd end mid err' → IsServed port count told told' old new out out' err err' status
+    → TellsEnd end mid err' → Lasts new
+    → IsServed port count told told' old new out out' err err' status
 served port count told told' old new out out' err mid err' status visits end few each moments
-    trusted sound run says shut is tells first connections last =
+    trusted sound run says shut is tells first connections last lasts =
     record {
       visits = visits;
       few = few;
       each = each;
       moments = moments;
       leads = record { trusted = trusted; sound = sound; run = run };
+      lasts = lasts;
       ends = ends end port status out out' is tells;
       first = first;
       end = end;

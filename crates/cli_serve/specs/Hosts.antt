@@ -10,6 +10,7 @@ use Rattle.cli_outcome.specs.declared.fault.Fault.{Fault}
 use Rattle.cli_outcome.specs.declared.no_room.NoRoom.{NoRoom}
 use Rattle.cli_outcome.specs.declared.status.Status.{Status}
 use Rattle.store_schema.specs.declared.fault.OpenFault.{OpenFault}
+use Rattle.room_store.specs.Crash.{Lasts}
 use Rattle.room_store.specs.Kept.{IsShut}
 use Rattle.room_store.specs.Leads.{Leads}
 use Rattle.room_store.specs.Opens.{Opens}
@@ -84,7 +85,8 @@ pub record IsTurnedDown (asked asked' : List Place → Type 0) (old new : State)
 
 -- The requests of at most `count` connections were served, each at the moment that the clock read
 -- for it. All is done, or there was a fault, and what the fault says of the connections holds. The
--- port was printed before the first of them, and faults as they came.
+-- port was printed before the first of them, and faults as they came. As long as the connection to
+-- the database is open, a power cut leaves what is seen.
 pub record IsServed (port count : ℕ) (told told' : List ℤ → Type 0) (old new : State)
     (out out' err err' : Option (List ℕ)) (status : ℕ) : Type 0 where
   pub visits : List Visit
@@ -92,6 +94,7 @@ pub record IsServed (port count : ℕ) (told told' : List ℤ → Type 0) (old n
   pub each : All IsServedVisit visits
   pub moments : (before : List ℤ) → told before → told' (before ++ map moment_of visits)
   pub leads : Leads old (requests_of visits) new
+  pub lasts : Lasts new
   pub ends : ((status ≡ 0) × TellsPort port out out') ⊎ (status ≡ 3)
   pub first : Leads old [] new ⊎ TellsPort port out out'
   pub end : Result (Unit {0}) ServingFault

@@ -1,7 +1,6 @@
 -- Requests on rows that needn't be sound.
-use Rattle.std.proofs.Common.{◌≡◌, ℕ, ℤ, List, Option, Result, Ok, Err, IsTrue, refl, sym, ap}
+use Rattle.std.proofs.Common.{ℕ, ℤ, List, Option, Result, Ok, Err, refl, ap}
 use Rattle.std.proofs.Common.{subst, ◌∙◌}
-use Rattle.sqlite.specs.Effect.{Database}
 use Rattle.sqlite.specs.State.{State, HasCleanDisk}
 use Rattle.room_rows.specs.Rows.{Rows}
 use Rattle.room_machine.specs.declared.reply.Reply.{Reply}
@@ -10,7 +9,6 @@ use Rattle.room_machine.specs.Closed.{FailsClosed}
 use Rattle.room_machine.specs.Desk.{Closes}
 use Rattle.room_judge.specs.Closed.{Performs}
 use Rattle.store_tables.specs.Meaning.{rows_of}
-use Rattle.store_tables.specs.Shown.{HasTables}
 use Rattle.room_store.specs.declared.fault.StoreFault.{StoreFault}
 use Rattle.room_store.specs.Kept.{Stores}
 use Rattle.room_store.specs.Premise.{StorePremise}

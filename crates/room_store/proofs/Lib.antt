@@ -8,3 +8,4 @@ mod Testing
 mod Shutting
 mod Closing
 mod Recalled
+mod Outlasting

@@ -1,6 +1,7 @@
 -- What is remembered from one transaction to the next.
 use Rattle.std.proofs.Common.{◌≡◌, ◌≤◌, Result, Ok, Err, Option, None, Some, IsTrue, IsOk, IfSome}
-use Rattle.std.proofs.Common.{false, sym, ap, subst, ◌∙◌, arith}
+use Rattle.std.proofs.Common.{OnErr, inl, false, sym, ap, subst, ◌∙◌, arith}
+use Rattle.sqlite.specs.Effect.{Database}
 use Rattle.sqlite_trees.specs.View.{doubt}
 use Rattle.sqlite.specs.State.{State, HasCleanDisk, IsRolledBack}
 use Rattle.room_remember.specs.declared.memory.Memory.{Memory}
@@ -10,13 +11,14 @@ use Rattle.room_rows.specs.Rows.{Rows}
 use Rattle.store_tables.specs.Meaning.{rows_of}
 use Rattle.store_tables.specs.Shown.{HasTables, Stays, tables_of}
 use Rattle.store_tables.specs.Trust.{IsTrusted}
+use Rattle.store_tables.specs.Within.{IsSettled, LeavesAsBefore, LeavesOnly}
 use Rattle.store_tables.proofs.Calls.{retains_same}
 use Rattle.store_admin.specs.Carries.{ByRows, CallsInside, OnRows}
 use Rattle.room_store.specs.declared.fault.StoreFault.{StoreFault}
 use Rattle.room_store.specs.Ran.{LeavesOpen, Ran}
 use Rattle.room_store.specs.Remembers.{EndsLook, IsKept, Remembers, Settled}
 use Rattle.room_store.specs.Turn.{Begins, GivesUp}
-use Rattle.room_store.proofs.Transact.{made, never_damage, old_clean, old_open, same_fault}
+use Rattle.room_store.proofs.Transact.{before, made, never_damage, old_clean, old_open, same_fault}
 use Rattle.room_store.proofs.Transact.{undone_at}
 
 -- a call that leaves the database leaves what is remembered of it
@@ -44,7 +46,8 @@ module _ (old begun mid back end : State) (begins : Begins old begun) (stays : S
     (back_ended : back.in_transaction ≡ false)
     (back_clean : doubt mid.is_clean ≤ doubt back.is_clean)
     (ended : end.in_transaction ≡ false) (clean : doubt back.is_clean ≤ doubt end.is_clean)
-    (known kept : Memory) (is_kept : IsKept begun mid known kept) where
+    (known kept : Memory) (is_kept : IsKept begun mid known kept)
+    (back_crash : LeavesAsBefore mid back) (crash : LeavesAsBefore back end) where
   to_back : HasCleanDisk end → HasCleanDisk back
   to_back h = omega (arith, clean, h)
 
@@ -64,7 +67,13 @@ module _ (old begun mid back end : State) (begins : Begins old begun) (stays : S
       → Rattle.room_store.proofs.Transact.Made old begun mid back begins stays back_ended back_clean
   made' now = made old begun mid back begins stays back_ended back_clean (to_back now)
 
-  module _ {X : Type 0} (Blames : Rows → Type 0) (Becomes : Rows → X → Rows → Type 0) where
+  before' : LeavesAsBefore old end
+  before' now db left =
+      before old begun mid back begins stays back_ended back_clean (to_back now) db
+      (back_crash (to_back now) db (crash now db left))
+
+  module _ {X : Type 0} (Blames : Rows → Type 0) (Becomes : Rows → X → Rows → Type 0)
+      (now_settled : IsSettled end) where
     looked_well : (x y z : X) → CallsInside begun mid (Ok x) (OnRows Blames) (ByRows Becomes)
         → (HasCleanDisk back → (y ≡ x) × IsRolledBack mid back)
         → (HasCleanDisk end → (z ≡ y) × Settled back end) → Ran old end (Ok z) Blames Becomes
@@ -95,6 +104,10 @@ module _ (old begun mid back end : State) (begins : Begins old begun) (stays : S
           tables = λ premise _. subst HasTables (sym (same premise.disk)) premise.tables;
           retains = λ premise _. retains_same old.now end.now (same premise.disk);
           damaged = λ _ _ is. absurd (let e = is in cc);
+          lasts = λ now. subst (λ (d : Database). LeavesOnly end d) (settled now).committed
+              (now_settled (settled now).is_open);
+          spared = λ _. tt;
+          crash = λ now db left. inl (before' now db left);
         }
 
     looked_badly : (fault : StoreFault) (x y : X)
@@ -122,6 +135,9 @@ module _ (old begun mid back end : State) (begins : Begins old begun) (stays : S
           damaged = λ premise _ is. absurd
               (never_damage (ends premise.disk).0
               (sym (ends premise.disk).1 ∙ same_fault is));
+          lasts = λ _. tt;
+          spared = λ _. before';
+          crash = λ now db left. inl (before' now db left);
         }
 
     never : (HasCleanDisk end → ⊥) → (result : Result X StoreFault)
@@ -139,7 +155,14 @@ module _ (old begun mid back end : State) (begins : Begins old begun) (stays : S
       tables = λ premise. absurd (not' premise.disk);
       retains = λ premise. absurd (not' premise.disk);
       damaged = λ premise. absurd (not' premise.disk);
+      lasts = λ now. absurd (not' now);
+      spared = λ _. spares result;
+      crash = λ now. absurd (not' now);
     }
+      where
+        spares : (result : Result X StoreFault) → OnErr result (LeavesAsBefore old end)
+        spares (Ok x) = tt
+        spares (Err fault) = before'
 
     -- a request that only read, and was rolled back
     pub look_ran : (done : Result X KeepFault) (looked result : Result X StoreFault) → IsOk done

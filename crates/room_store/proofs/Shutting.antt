@@ -1,5 +1,5 @@
 -- What a test says of a connection that a fault may have shut.
-use Rattle.std.proofs.Common.{◌≡◌, ◌≤◌, ◌⊎◌, ℕ, Bool, true, false, List, [], Result, Ok, Err, IfOk}
+use Rattle.std.proofs.Common.{◌≡◌, ◌⊎◌, ℕ, Bool, true, false, List, [], Result, Ok, IfOk}
 use Rattle.std.proofs.Common.{IsTrue, inl, inr, refl, sym, ap, subst, ◌∙◌, true≢false, arith}
 use Rattle.sqlite.specs.Order.{Row}
 use Rattle.sqlite_trees.specs.View.{doubt}
@@ -18,6 +18,7 @@ use Rattle.room_rows.specs.Rows.{Rows}
 use Rattle.room_rows.specs.Sound.{AreSound}
 use Rattle.store_tables.specs.Meaning.{rows_of}
 use Rattle.store_tables.specs.Shown.{HasTables}
+use Rattle.store_tables.proofs.Within.{CommitsNothing, as_before}
 use Rattle.room_store.specs.Kept.{IsShut, IsSound, Keeps, Stores}
 use Rattle.room_store.specs.Ran.{Ran}
 use Rattle.room_store.specs.declared.fault.StoreFault.{StoreFault}
@@ -80,11 +81,11 @@ module _ (old new : State) where
       clean_or_not new.is_clean new.is_open dirty
       (λ now. stays_shut old.is_open new.is_open (was_open now) is)
 
-  was : IsUnchanged old new ⊎ IsRolledBack old new → IsTrue new.is_open → IsTrue old.is_open
+  pub was : IsUnchanged old new ⊎ IsRolledBack old new → IsTrue new.is_open → IsTrue old.is_open
   was (inl same) is = same.0.was_open
   was (inr undone) is = undone.was_open is
 
-  same_rows : (IsTrue old.is_open → old.now ≡ old.committed)
+  pub same_rows : (IsTrue old.is_open → old.now ≡ old.committed)
       → IsUnchanged old new ⊎ IsRolledBack old new → IsTrue new.is_open → new.now ≡ old.now
   same_rows settled (inl same) is = same.0.now_is
   same_rows settled (inr undone) is =
@@ -93,18 +94,19 @@ module _ (old new : State) where
   -- what the test leaves, and what it tells
   pub asks : (result : Result Bool StoreFault)
       → (old.in_transaction ≡ false → new.in_transaction ≡ false)
-      → doubt old.is_clean ≤ doubt new.is_clean
+      → CommitsNothing old new
       → (IsTrue old.is_open → old.now ≡ old.committed)
       → (HasCleanDisk new → IsUnchanged old new ⊎ IsRolledBack old new)
       → IfOk result (Agrees (HasCleanDisk new) (IsShut new)) → Asks old new result
-  asks result ended clean settled left told = record {
+  asks result ended quiet settled left told = record {
     leaves = record {
       ended = ended;
-      clean = λ now. omega (arith, clean, now);
+      clean = λ now. omega (arith, quiet.clean, now);
       was_open = λ now. was (left now);
     };
     same = λ now. same_rows settled (left now);
     told = told;
+    crash = as_before old new quiet;
   }
 
 -- an open connection isn't shut

@@ -5,6 +5,7 @@ use Rattle.sqlite.specs.declared.error.Error.{Error}
 use Rattle.sqlite.specs.declared.error.Error.TheVariants.{SqliteFailure}
 use Rattle.sqlite.specs.declared.error.ErrorCode.TheVariants.{Closed}
 use Rattle.room_machine.specs.Desk.{Agrees}
+use Rattle.store_tables.specs.Within.{LeavesAsBefore}
 use Rattle.room_store.specs.declared.fault.StoreFault.{StoreFault}
 use Rattle.room_store.specs.Kept.{IsShut}
 use Rattle.room_store.specs.Ran.{LeavesOpen}
@@ -19,3 +20,4 @@ pub record Asks (old new : State) (result : Result Bool StoreFault) : Type 0 whe
   pub leaves : LeavesOpen old new
   pub same : HasCleanDisk new → IsTrue new.is_open → new.now ≡ old.now
   pub told : IfOk result (Agrees (HasCleanDisk new) (IsShut new))
+  pub crash : LeavesAsBefore old new

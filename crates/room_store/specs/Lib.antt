@@ -3,6 +3,7 @@ pub mod Kept
 pub mod Ran
 pub mod Turn
 pub mod Leads
+pub mod Crash
 pub mod Opens
 pub mod Asks
 pub mod Remembers

@@ -1,11 +1,12 @@
 //! A connection, and what is remembered of its rows.
-ghost use Rattle.std.specs.Prelude.{◌≡◌, OnOk};
+ghost use Rattle.std.specs.Prelude.{◌≡◌, OnOk, false};
 ghost use Rattle.std.specs.Option.{option_copied};
 ghost use Rattle.sqlite.specs.Held.{state};
 ghost use Rattle.room_inherit.specs.Reading.{IsReport};
 ghost use Rattle.room_judge.specs.Closed.{Performs};
 ghost use Rattle.room_judge.specs.Judged.{Resets};
 ghost use Rattle.room_store.specs.Asks.{Asks};
+ghost use Rattle.room_store.specs.Crash.{Lasts};
 ghost use Rattle.room_store.specs.Failing.{FailsByDb};
 ghost use Rattle.room_store.specs.Premise.{StorePremise};
 ghost use Rattle.room_store.specs.Ran.{HasDamage, Looked, Ran};
@@ -36,15 +37,15 @@ use std::alloc::Global;
 use std::marker::Model;
 use store_tables::RecentLists;
 
-/// A connection, and what requests that only read remembered of its rows. A contract sees the
-/// connection.
+/// A connection, with no transaction open, and what requests that only read remembered of its rows.
+/// A contract sees the connection.
 pub struct Room<S: Alter> {
     conn: Connection<S>,
     memory: Option<Memory>,
 }
 
 impl<S: Alter> Model for Room<S> {
-    ghost use Rattle.std.specs.Prelude.{IfSome};
+    ghost use Rattle.std.specs.Prelude.{◌≡◌, IfSome, false};
     ghost use Rattle.sqlite.specs.Held.{Held, held_code, state};
     ghost use Rattle.room_store.specs.Remembers.{Remembers};
 
@@ -54,7 +55,8 @@ impl<S: Alter> Model for Room<S> {
 
     ghost view = { λ r. r.conn };
 
-    ghost invariant = { λ r. IfSome r.memory (Remembers (state S.Store r.conn)) };
+    ghost invariant = { λ r. (r.conn.in_transaction ≡ false)
+        × IfSome r.memory (Remembers (state S.Store r.conn)) };
 }
 
 impl<S: Alter + Drop> Drop for Room<S> {
@@ -65,6 +67,7 @@ impl<S: Alter + Drop> Drop for Room<S> {
 
 impl<S: Alter> Room<S> {
     pub(crate) fn over(conn: Connection<S>) -> Room<S>
+        requires { conn.in_transaction ≡ false }
         ensures { result ≡ conn }
     {
         Room { conn, memory: None }
@@ -159,8 +162,17 @@ impl<S: Alter> Room<S> {
         test_shut(&mut self.conn)
     }
 
+    // Gives a proof of what a crash leaves. Nothing is done.
+    pub(crate) fn lasts(&self)
+        ensures { Lasts (state S.Store self.now) }
+    {
+        let _schema = self.conn.schema();
+        let _settled = self.conn.is_autocommit();
+    }
+
     pub(crate) fn into_conn(self) -> Connection<S>
-        ensures { result ≡ self }
+        ensures same { result ≡ self }
+        ensures ended { result.in_transaction ≡ false }
     {
         let Room { conn, memory: _ } = self;
         conn

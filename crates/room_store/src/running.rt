@@ -11,10 +11,11 @@ ghost use Rattle.room_store.specs.Remembers.{EndsLook, IsKept, Remembers};
 ghost use Rattle.store_admin.specs.Carries.{ByRows, CallsInside, OnRows};
 ghost use Rattle.store_tables.specs.Meaning.{rows_of};
 ghost use Rattle.store_tables.specs.Shown.{Stays};
+ghost use Rattle.store_tables.specs.Within.{LeavesAsBefore};
 ghost use Rattle.store_tables.specs.Trust.{IsTrusted};
 
 use crate::fault::StoreFault;
-use crate::look::give_up;
+use crate::look::{give_up, if_open, still_open};
 use crate::turn::{begin, finish};
 use room_ace::Name;
 use room_desk::perform;
@@ -127,8 +128,7 @@ fn perform_inside<S: Alter>(
     perform_with(alloc, &mut keeper, known, caller, at, request)
 }
 
-// After calls that only read, and were rolled back: a transaction without calls is committed, which
-// a connection that is shut refuses.
+// After calls that only read, and were rolled back: the answer, if the connection is open.
 fn end_look<S: Alter>(
     conn: &mut Connection<S>,
     looked: Result<Reply, StoreFault>,
@@ -141,10 +141,11 @@ fn end_look<S: Alter>(
     ensures ends { HasCleanDisk (state S.Store conn.new)
         → EndsLook (state S.Store conn.old) (state S.Store conn.new) looked result.0 }
     ensures kept { IfSome result.1 (λ m. (m ≡ kept) × IsOk looked × IsOk result.0) }
+    ensures crash { LeavesAsBefore (state S.Store conn.old) (state S.Store conn.new) }
 {
     match looked {
         Err(fault) => (Err(fault), None),
-        Ok(reply) => match finish(begin(conn), Ok(())) {
+        Ok(reply) => match still_open(conn) {
             Err(fault) => (Err(fault), None),
             Ok(()) => (Ok(reply), Some(kept)),
         },
@@ -178,5 +179,6 @@ pub(crate) fn run_on<S: Alter>(
         return end_look(conn, looked, memory);
     }
     memory.forget();
+    let done = if_open(&mut tx, done);
     (finish(tx, done), Some(memory))
 }

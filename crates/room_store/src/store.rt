@@ -1,5 +1,5 @@
 //! The store.
-ghost use Rattle.std.specs.Prelude.{◌≡◌, [], OnOk};
+ghost use Rattle.std.specs.Prelude.{◌≡◌, [], OnOk, false};
 ghost use Rattle.std.specs.Option.{option_copied};
 ghost use Rattle.sqlite.specs.Held.{state};
 ghost use Rattle.sqlite.specs.State.{HasCleanDisk};
@@ -8,6 +8,7 @@ ghost use Rattle.room_judge.specs.Closed.{Performs};
 ghost use Rattle.room_judge.specs.Judged.{Resets};
 ghost use Rattle.room_machine.specs.Desk.{Closes};
 ghost use Rattle.room_machine.specs.Run.{Event};
+ghost use Rattle.room_store.specs.Crash.{Lasts, Outlasts, unanswered};
 ghost use Rattle.room_store.specs.Failing.{FailsByDb};
 ghost use Rattle.room_store.specs.Kept.{Stores};
 ghost use Rattle.room_store.specs.Leads.{Leads, event_of};
@@ -58,6 +59,7 @@ impl<S: Alter + Drop> Drop for Store<S> {
 impl<S: Alter> Store<S> {
     // A store over these tables, which has had no fault.
     pub(crate) fn over(conn: Connection<S>) -> Store<S>
+        requires { conn.in_transaction ≡ false }
         ensures conn { result.conn ≡ conn }
         ensures faults { result.faults ≡ 0 }
     {
@@ -87,6 +89,10 @@ impl<S: Alter> Store<S> {
         ensures leads { Leads (state S.Store self.old.conn) (event_of result
             (Event.Asked (option_copied caller.entry) at request.now))
             (state S.Store self.new.conn) }
+        ensures outlasts { Outlasts (state S.Store self.old.conn)
+            (unanswered result (Event.Asked (option_copied caller.entry) at request.now))
+            (event_of result (Event.Asked (option_copied caller.entry) at request.now))
+            (state S.Store self.new.conn) }
         ensures faults { self.new.faults ≡ self.old.faults }
     {
         self.conn.run(alloc, &mut self.lists, caller, at, request)
@@ -106,6 +112,10 @@ impl<S: Alter> Store<S> {
             HasDamage (Resets path.now which sent.now) }
         ensures leads { Leads (state S.Store self.old.conn) (event_of result
             (Event.WasReset path.now which sent.now)) (state S.Store self.new.conn) }
+        ensures outlasts { Outlasts (state S.Store self.old.conn)
+            (unanswered result (Event.WasReset path.now which sent.now))
+            (event_of result (Event.WasReset path.now which sent.now))
+            (state S.Store self.new.conn) }
         ensures faults { self.new.faults ≡ self.old.faults }
     {
         self.conn.reset(alloc, path, which, sent)
@@ -117,6 +127,8 @@ impl<S: Alter> Store<S> {
         ensures looked { Looked (state S.Store self.old.conn) (state S.Store self.new.conn) result
             NoTables (λ db report. IsReport (rows_of db) report) }
         ensures leads { Leads (state S.Store self.old.conn) [] (state S.Store self.new.conn) }
+        ensures outlasts { Outlasts (state S.Store self.old.conn) [] []
+            (state S.Store self.new.conn) }
         ensures faults { self.new.faults ≡ self.old.faults }
     {
         self.conn.verify(alloc)
@@ -135,6 +147,9 @@ impl<S: Alter> Store<S> {
             → OnOk result (HasPairsAlone (state S.Store self.new.conn).now) }
         ensures leads { Leads (state S.Store self.old.conn) (event_of result
             (λ _. Event.Replaced pairs.now)) (state S.Store self.new.conn) }
+        ensures outlasts { Outlasts (state S.Store self.old.conn)
+            (unanswered result (λ _. Event.Replaced pairs.now))
+            (event_of result (λ _. Event.Replaced pairs.now)) (state S.Store self.new.conn) }
         ensures faults { self.new.faults ≡ self.old.faults }
     {
         sound_is_no_fault();
@@ -150,6 +165,8 @@ impl<S: Alter> Store<S> {
         ensures fails { FailsByDb (state S.Store self.old.conn) (state S.Store self.new.conn)
             result }
         ensures leads { Leads (state S.Store self.old.conn) [] (state S.Store self.new.conn) }
+        ensures outlasts { Outlasts (state S.Store self.old.conn) [] []
+            (state S.Store self.new.conn) }
         ensures faults { self.new.faults ≡ self.old.faults }
     {
         self.conn.members(alloc)
@@ -163,6 +180,8 @@ impl<S: Alter> Store<S> {
         ensures fails { FailsByDb (state S.Store self.old.conn) (state S.Store self.new.conn)
             result }
         ensures leads { Leads (state S.Store self.old.conn) [] (state S.Store self.new.conn) }
+        ensures outlasts { Outlasts (state S.Store self.old.conn) [] []
+            (state S.Store self.new.conn) }
         ensures faults { self.new.faults ≡ self.old.faults }
     {
         self.conn.audits(alloc)
@@ -176,20 +195,25 @@ impl<S: Alter> Store<S> {
         ensures looked { Looked (state S.Store self.old.conn) (state S.Store self.new.conn) result
             HasDamagedRow IsDump }
         ensures leads { Leads (state S.Store self.old.conn) [] (state S.Store self.new.conn) }
+        ensures outlasts { Outlasts (state S.Store self.old.conn) [] []
+            (state S.Store self.new.conn) }
         ensures faults { self.new.faults ≡ self.old.faults }
     {
         self.conn.dump(alloc)
     }
 
-    /// The connection, with the tables as they are.
+    /// The connection, with the tables as they are, and with no transaction open.
     pub fn into_conn(self) -> Connection<S>
-        ensures { result ≡ self.conn }
+        ensures same { result ≡ self.conn }
+        ensures ended { result.in_transaction ≡ false }
+        ensures lasts { Lasts (state S.Store result) }
     {
         let Store {
             conn,
             lists: _,
             faults: _,
         } = self;
+        conn.lasts();
         conn.into_conn()
     }
 }

@@ -3,7 +3,11 @@ use Rattle.cli_act.proofs.doing.make_room.Goals as goal
 
 pub returns-in-Ok : goal.returns-in-Ok
 returns-in-Ok g c =
-    record { result = Ok tt; creates = rw c.into_conn.ensures c.in-Ok.ensures.made; told = refl }
+    record {
+      result = Ok tt;
+      creates = rw c.into_conn.ensures.same c.in-Ok.ensures.made;
+      told = refl;
+    }
 
 pub returns-in-Err : goal.returns-in-Err
 returns-in-Err g c =

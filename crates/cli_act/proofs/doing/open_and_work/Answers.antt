@@ -9,7 +9,7 @@ returns-in-Ok g c =
     (inl (record {
       mid = c.in-Ok.store.conn;
       opens = c.in-Ok.ensures.opened;
-      works = rw c.into_conn.ensures c.work-outcome.ensures;
+      works = rw c.into_conn.ensures.same c.work-outcome.ensures;
     }))
 
 pub returns-in-Err : goal.returns-in-Err

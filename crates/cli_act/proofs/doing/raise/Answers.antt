@@ -3,7 +3,11 @@ use Rattle.cli_act.proofs.doing.raise.Goals as goal
 
 pub returns-in-Ok : goal.returns-in-Ok
 returns-in-Ok g c =
-    record { result = Ok tt; migrates = rw c.into_conn.ensures c.in-Ok.ensures.raised; told = refl }
+    record {
+      result = Ok tt;
+      migrates = rw c.into_conn.ensures.same c.in-Ok.ensures.raised;
+      told = refl;
+    }
 
 pub returns-in-Err : goal.returns-in-Err
 returns-in-Err g c =

@@ -1,5 +1,6 @@
 use Rattle.std.proofs.Common.{◌⊎◌, [], inl, inr, subst, sym}
 use Rattle.sqlite.specs.Held.{Held, state}
+use Rattle.room_store.specs.Crash.{Lasts}
 use Rattle.room_store.specs.Leads.{Leads}
 use Rattle.cli_serve.specs.Hosts.{IsServed, TellsPort}
 use Rattle.cli_serve.proofs.Hosted.{left_shut, rested, served}
@@ -25,7 +26,7 @@ returns-clause-served g c =
       | inr tells ↦ inr tells
     ] in
     subst (λ (conn : Held g.row.S.Denot). IsServed c.args.port c.args.count told told' old
-    (state g.S.Store conn) out out' err err' status) (sym c.into_conn.ensures)
+    (state g.S.Store conn) out out' err err' status) (sym c.into_conn.ensures.same)
     (served c.args.port c.args.count told told' old new out out' err mid err' status r.visits
     c.serve_at-end.result r.few
     r.each r.moments r.trusted r.sound r.run
@@ -33,4 +34,6 @@ returns-clause-served g c =
     (left_shut _ _ c.args.store c.serve_at-end.new.desk new (λ is. is) c.serve_at-end.result
     received.2)
     c.tell_end-status.ensures.status c.serve_at-end.ensures.told first
-    c.serve_at-end.ensures.faults c.tell_end-status.ensures.told)
+    c.serve_at-end.ensures.faults c.tell_end-status.ensures.told
+    (subst (λ (conn : Held g.row.S.Denot). Lasts (state g.S.Store conn)) c.into_conn.ensures.same
+    c.into_conn.ensures.lasts))

@@ -8,7 +8,7 @@ pub returns-in-Ok : goal.returns-in-Ok
 returns-in-Ok g c =
     let old = state g.S.Store c.args.conn.now in
     let new = state g.S.Store c.prepare.new.self in
-    asks old new _ c.prepare.ensures.mode c.prepare.ensures.survives.clean
+    asks old new _ c.prepare.ensures.mode c.prepare.ensures.survives
     (c.if-not-is_autocommit.ensures.settled refl) (λ now. inl (c.in-Ok.ensures.ok now).1)
     (λ now. not_shut new (c.in-Ok.ensures.ok now).1.0.is_open)
 
@@ -16,7 +16,7 @@ pub returns-then-says_shut : goal.returns-then-says_shut
 returns-then-says_shut g c =
     let old = state g.S.Store c.args.conn.now in
     let new = state g.S.Store c.prepare.new.self in
-    asks old new _ c.prepare.ensures.mode c.prepare.ensures.survives.clean
+    asks old new _ c.prepare.ensures.mode c.prepare.ensures.survives
     (c.if-not-is_autocommit.ensures.settled refl)
     (λ now. left_by _ old new _ _ (c.in-Err.ensures.err now []))
     (is_shut old new _ c.in-Err.error (g.met.S.Store.shut_if_dirty c.prepare.new.self.store)
@@ -26,6 +26,6 @@ pub returns-else-says_shut : goal.returns-else-says_shut
 returns-else-says_shut g c =
     let old = state g.S.Store c.args.conn.now in
     let new = state g.S.Store c.prepare.new.self in
-    asks old new _ c.prepare.ensures.mode c.prepare.ensures.survives.clean
+    asks old new _ c.prepare.ensures.mode c.prepare.ensures.survives
     (c.if-not-is_autocommit.ensures.settled refl)
     (λ now. left_by _ old new _ _ (c.in-Err.ensures.err now [])) tt

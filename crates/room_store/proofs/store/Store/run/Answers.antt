@@ -7,6 +7,7 @@ use Rattle.room_machine.specs.Run.{Asked}
 use Rattle.room_store.specs.Ran.{HasDamage, Ran}
 use Rattle.room_store.proofs.Closing.{closes}
 use Rattle.room_store.proofs.Leading.{leading, performed}
+use Rattle.room_store.proofs.Outlasting.{outlasting}
 use Rattle.room_store.proofs.store.Store.run.Goals as goal
 
 pub returns-clause-closed : goal.returns-clause-closed
@@ -29,3 +30,14 @@ returns-clause-leads g c =
     (to_z-of_z w64 c.args.at c.ranges.at) c.run.ensures.ran in
     leading old new HasDamage (Performs user c.args.at asked) (Asked user c.args.at asked)
     (performed user c.args.at asked) c.run.result ran
+
+pub returns-clause-outlasts : goal.returns-clause-outlasts
+returns-clause-outlasts g c =
+    let old = state g.S.Store c.args.self.now.conn in
+    let new = state g.S.Store c.run.new.self in
+    let user = option_copied c.args.caller in
+    let asked = c.args.request.now in
+    let ran = subst (λ at. Ran old new c.run.result HasDamage (Performs user at asked))
+    (to_z-of_z w64 c.args.at c.ranges.at) c.run.ensures.ran in
+    outlasting old new HasDamage (Performs user c.args.at asked) (Asked user c.args.at asked)
+    (λ reply. reply) (performed user c.args.at asked) c.run.result ran

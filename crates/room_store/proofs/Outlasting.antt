@@ -1,0 +1,241 @@
+-- What a crash leaves after some calls.
+use Rattle.std.proofs.Common.{◌≡◌, ◌⊎◌, List, [], ◌∷◌, ◌++◌, Result, Ok, Err}
+use Rattle.std.proofs.Common.{IsTrue, inl, inr, refl, sym, subst, ◌∙◌}
+use Rattle.std.proofs.lemmas.Bool.{cases_Bool}
+use Rattle.std.proofs.lemmas.List.{append_assoc, append-nil}
+use Rattle.sqlite_rules.specs.Lists.{Has}
+use Rattle.sqlite.specs.Effect.{Database}
+use Rattle.sqlite.specs.Held.{Held}
+use Rattle.sqlite.specs.Schema.{Schema}
+use Rattle.sqlite.specs.State.{State, HasCleanDisk}
+use Rattle.sqlite.specs.Tree.{Trees}
+use Rattle.room_rows.specs.Content.{Content}
+use Rattle.room_rows.specs.Meaning.{meaning}
+use Rattle.room_rows.specs.Rows.{Rows}
+use Rattle.room_rows.specs.Sound.{AreSound}
+use Rattle.room_machine.specs.declared.reply.Reply.{Reply}
+use Rattle.room_machine.specs.Run.{Event, Happens, RunsMeet}
+use Rattle.store_tables.specs.Meaning.{rows_of}
+use Rattle.store_tables.specs.Shown.{IsRoom, room_of}
+use Rattle.store_tables.specs.Within.{LeavesAsBefore}
+use Rattle.room_store.specs.Crash.{Asking, HoldsRoom, HoldsRoomAfter, Lasts, Leaves}
+use Rattle.room_store.specs.Crash.{LeavesWhole, LosesNothing, Outlasts, OutlastsOn, Try, all_asked}
+use Rattle.room_store.specs.Crash.{all_happened, left_by, unanswered}
+use Rattle.room_store.specs.Kept.{IsShut, IsSound, Keeps}
+use Rattle.room_store.specs.Leads.{Leads, event_of}
+use Rattle.room_store.specs.Ran.{CommitsAnswer, Ran}
+use Rattle.room_store.specs.declared.fault.StoreFault.{StoreFault}
+use Rattle.room_store.proofs.Leading.{IsEvent, itself, leading, on}
+use Rattle.room_store.proofs.Shutting.{not_shut}
+
+-- what is seen over an open connection, where a crash leaves that and nothing else
+pub seen_is_left : (s : State) → IsSound s → IsTrue s.is_open → Lasts s → (room : Content)
+    → Keeps s room → (db : Trees) → s.may_leave db → HoldsRoom room db
+seen_is_left s sound is_open lasts room keeps db left =
+    let good = sound is_open in
+    let safe = lasts is_open in (
+      s.now,
+      record { tables = room_of good.0 safe.0; sound = good.1; means = keeps is_open },
+      safe.1.only db left,
+    )
+
+pub nothing_lost : (old new : State) (events : List Event) → Leads old events new → Lasts new
+    → LosesNothing old events new
+nothing_lost old new events leads lasts now sound is_open room keeps db left =
+    let it = leads.run now sound room keeps in
+    (it.0, it.1, seen_is_left new (leads.sound now sound) is_open lasts it.0 it.2 db left)
+
+-- ---- what was asked for
+
+has_front : {X : Type 0} (xs ys : List X) (x : X) → Has xs x → Has (xs ++ ys) x
+has_front [] ys x has = absurd has
+has_front (y ∷ xs) ys x (inl is) = inl is
+has_front (y ∷ xs) ys x (inr has) = inr (has_front xs ys x has)
+
+has_last : {X : Type 0} (xs : List X) (x : X) → Has (xs ++ x ∷ []) x
+has_last [] x = inl refl
+has_last (y ∷ xs) x = inr (has_last xs x)
+
+-- a crash leaves no more where more was asked for, and the connection may be shut by now
+more : (old new : State) (before asked : List Asking) (room : Content) (db : Trees)
+    → (IsShut old → IsShut new) → Leaves before old room → old.may_leave db
+    → HoldsRoom room db ⊎ (IsShut new × (happens : Asking) × Has (before ++ asked) happens
+    × HoldsRoomAfter room db happens)
+more old new before asked room db shut leaves left =
+    elim (leaves db left) [
+      | inl holds ↦ inl holds
+      | inr p ↦ inr (shut p.0, p.1, has_front before asked p.1 p.2, p.3)
+    ]
+
+-- over a connection that was open, what is left is the room itself
+only : (s : State) (before : List Asking) (room : Content) (db : Trees) → IsTrue s.is_open
+    → Leaves before s room → s.may_leave db → HoldsRoom room db
+only s before room db is_open leaves left =
+    elim (leaves db left) [
+      | inl holds ↦ holds
+      | inr p ↦ absurd (not_shut s is_open p.0)
+    ]
+
+-- ---- one call
+
+still_shut : (old new : State) → (IsTrue new.is_open → IsTrue old.is_open) → IsShut old → IsShut new
+still_shut old new was shut =
+    elim (cases_Bool new.is_open) [
+      | inl is ↦ absurd (not_shut old (was is) shut)
+      | inr is ↦ is
+    ]
+
+-- two databases with the same schema and the same trees are one
+same_database : (a b : Database) → a.schema ≡ b.schema → a.trees ≡ b.trees → a ≡ b
+same_database a b schema trees =
+    subst (λ (t : Trees). a ≡ record { schema = b.schema; trees = t }) trees
+    (subst (λ (s : Schema). a ≡ record { schema = s; trees = a.trees }) schema refl)
+
+module _ (old new : State) {X : Type 0} (Blames : Rows → Type 0)
+    (Becomes : Rows → X → Rows → Type 0) (asking : Asking) (reply : X → Reply)
+    (becomes : (before after : Rows) (x : X) → Becomes before x after → AreSound before
+    → IsEvent (asking (reply x)) before after) where
+  -- what a commit leaves is one event more
+  after_one : (room : Content) → IsSound old → Keeps old room → (db : Trees)
+      → CommitsAnswer Becomes old db
+      → HoldsRoomAfter room db asking
+  after_one room sound keeps db (is_open, commits) =
+      let good = sound is_open in
+      let c = commits good.0 in
+      let x = c.0 in
+      let it = c.1.0 in
+      let answered = c.1.1 in
+      let is = c.1.2 in
+      let event = becomes _ _ x answered.becomes good.1 in
+      let next = meaning (rows_of it).read in (
+        reply x,
+        next,
+        subst (λ (r : Content). Happens r (asking (reply x)) next) (keeps is_open) event.happens,
+        (it, record { tables = answered.room; sound = event.sound; means = refl }, is),
+      )
+
+  -- what an answer leaves
+  after_answer : (x : X) → Ran old new (Ok x) Blames Becomes → HasCleanDisk new → IsSound old
+      → (before : List Asking) (room : Content) → Leaves before old room
+      → IsSound new → (next : Content) → Keeps new next → Leaves (before ++ []) new next
+  after_answer x ran now sound before room leaves sound' next keeps db left =
+      let is_open = ran.answers now in
+      let good = sound is_open.0 in
+      let good' = sound' is_open.1 in
+      let is = (ran.lasts now).only db left in
+      let room_at : (it : Database) → IsRoom it → db ≡ it.trees → IsRoom new.now =
+      λ it has here. subst IsRoom
+      (same_database it new.now (has.schema ∙ sym good'.0.schema) (sym here ∙ is)) has in
+      let tables : IsRoom new.now =
+      elim (ran.crash now db left) [
+        | inl was ↦ (let it = only old before room db is_open.0 leaves was in
+            room_at it.0 it.1.tables it.2)
+        | inr c ↦ (let it = c.1 good.0 in room_at it.1.0 it.1.1.room it.1.2)
+      ] in
+      inl (new.now, record { tables = tables; sound = good'.1; means = keeps is_open.1 }, is)
+
+  -- what a fault leaves
+  after_fault : (fault : StoreFault) → Ran {X = X} old new (Err fault) Blames Becomes
+      → HasCleanDisk new → IsSound old → (before : List Asking) (room : Content) → Keeps old room
+      → Leaves before old room → Leaves (before ++ asking ∷ []) new room
+  after_fault fault ran now sound before room keeps leaves db left =
+      let shut = still_shut old new (ran.leaves.was_open now) in
+      let was_left : old.may_leave db → HoldsRoom room db ⊎ (IsShut new × (happens : Asking)
+      × Has (before ++ asking ∷ []) happens
+      × HoldsRoomAfter room db happens) =
+      more old new before (asking ∷ []) room db shut leaves in
+      elim (cases_Bool new.is_open) [
+        | inl is ↦ was_left (ran.spared is now db left)
+        | inr is ↦ (elim (ran.crash now db left) [
+          | inl was ↦ was_left was
+          | inr c ↦ inr (is, asking, has_last before asking, after_one room sound keeps db c)
+        ])
+      ]
+
+  pub outlasting : (result : Result X StoreFault) → Ran old new result Blames Becomes
+      → Outlasts old (unanswered result asking) (event_of result (λ x. asking (reply x))) new
+  outlasting (Ok x) ran = record {
+    leads = leading old new Blames Becomes (λ x. asking (reply x)) becomes (Ok x) ran;
+    leaves = λ now sound room keeps before leaves.
+        let leads = leading old new Blames Becomes (λ x. asking (reply x)) becomes (Ok x) ran in
+        let it = leads.run now sound room keeps in (
+          it.0,
+          it.1,
+          it.2,
+          after_answer x ran now sound before room leaves (leads.sound now sound) it.0 it.2,
+        );
+  }
+  outlasting (Err fault) ran = record {
+    leads = leading old new Blames Becomes (λ x. asking (reply x)) becomes (Err fault) ran;
+    leaves = λ now sound room keeps before leaves.
+        let leads = leading old new Blames Becomes (λ x. asking (reply x)) becomes (Err fault) ran
+        in
+        let it = leads.run now sound room keeps in (
+          room,
+          refl,
+          subst (Keeps new) it.1 it.2,
+          after_fault fault ran now sound before room keeps leaves,
+        );
+  }
+
+-- a call that commits nothing, by which nothing happens
+pub idle : (old new : State) → Leads old [] new → LeavesAsBefore old new
+    → (HasCleanDisk new → IsTrue new.is_open → IsTrue old.is_open) → Outlasts old [] [] new
+idle old new leads crash was_open = record {
+  leads = leads;
+  leaves = λ now sound room keeps before leaves.
+      let it = leads.run now sound room keeps in (
+        room,
+        refl,
+        subst (Keeps new) it.1 it.2,
+        λ db left. more old new before [] room db (still_shut old new (was_open now)) leaves
+            (crash now db left),
+      );
+}
+
+-- ---- over any list of calls
+
+pub together : RunsMeet → (old mid new : State) (asked asked' : List Asking)
+    (events events' : List Event) → Outlasts old asked events mid → Outlasts mid asked' events' new
+    → Outlasts old (asked ++ asked') (events ++ events') new
+together meet old mid new asked asked' events events' p q = record {
+  leads = on meet old mid new events events' p.leads q.leads;
+  leaves = λ now sound room keeps before leaves.
+      let now' = q.leads.trusted now in
+      let one = p.leaves now' sound room keeps before leaves in
+      let two =
+      q.leaves now (p.leads.sound now' sound) one.0 one.2 (before ++ asked) one.3 in (
+        two.0,
+        meet room one.0 two.0 events events' one.1 two.1,
+        two.2,
+        subst (λ (all : List Asking). Leaves all new two.0) (append_assoc before asked asked')
+            two.3,
+      );
+}
+
+pub nothing_tried : (s : State) → Outlasts s [] [] s
+nothing_tried s = record {
+  leads = itself s;
+  leaves = λ _ _ room keeps before leaves. (
+    room,
+    refl,
+    keeps,
+    subst (λ (all : List Asking). Leaves all s room) (sym (append-nil before)) leaves,
+  );
+}
+
+pub all_outlast : {S : Type 0} (shown : Held S → State) → RunsMeet
+    → (first : Held S) (calls : List (Try S)) → OutlastsOn shown first calls
+    → Outlasts (shown first) (all_asked calls) (all_happened calls) (shown (left_by first calls))
+all_outlast shown meet first [] follows = nothing_tried (shown first)
+all_outlast shown meet first (call ∷ calls) follows =
+    together meet (shown first) (shown call.1.1) (shown (left_by call.1.1 calls)) call.0
+    (all_asked calls) call.1.0 (all_happened calls) follows.0
+    (all_outlast shown meet call.1.1 calls follows.1)
+
+pub leaves_whole : (old new : State) (asked : List Asking) (events : List Event)
+    → Outlasts old asked events new → LeavesWhole old asked events new
+leaves_whole old new asked events outlasts now sound is_open lasts room keeps =
+    let it = outlasts.leaves now sound room keeps [] (λ db left.
+    inl (seen_is_left old sound is_open lasts room keeps db left)) in
+    (it.0, it.1, it.3)
