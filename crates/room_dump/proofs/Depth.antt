@@ -7,7 +7,7 @@ use Rattle.std.specs.Option.{option_map_or}
 use Rattle.std.proofs.lemmas.Bool.{false≢true, eqb-true, eq-eqb}
 use Rattle.room_rows.specs.declared.node.Node.{Node}
 use Rattle.room_rows.specs.Content.{Content, children_of, has_parent}
-use Rattle.room_dump.specs.Dump.{path_below, tree_of}
+use Rattle.room_dump.specs.Dump.{tree_of}
 use Rattle.room_dump.proofs.Counting.{count_parts, each_both, each_counted, each_filter}
 use Rattle.room_dump.proofs.Counting.{none_counted, same_flat}
 use Rattle.room_entry.proofs.Facts.Members.{count}
@@ -78,28 +78,28 @@ apart_from node rest once =
 below_next : (a b : ℕ) → a < b → a < suc b
 below_next a b less = omega (arith, less)
 
-module _ {X : Type 0} (tell : List ℕ → Node → List X) where
+module _ {P X : Type 0} (below : P → Node → Node → P) (tell : P → Node → List X) where
   -- Two depths beyond the count of objects that nobody has come to yet give the same text.
   abbrev Same : ℕ → ℕ → Content → Type 0
   Same d e content =
-      (rest : List Node) (path : List ℕ) (node : Node) → HasAll content rest node
+      (rest : List Node) (place : P) (node : Node) → HasAll content rest node
       → Each (HasAll content rest) rest → IsOnce node rest → count always rest < d
       → count always rest < e
-      → tree_of tell d content path node ≡ tree_of tell e content path node
+      → tree_of below tell d content place node ≡ tree_of below tell e content place node
 
   -- one level down there are fewer
   level : (d e : ℕ) (content : Content) → Same d e content → Same (suc d) (suc e) content
-  level d e content before rest path node all alls once less less' =
-      ap (λ (text : List X). tell path node ++ text)
-      (same_flat (λ child. tree_of tell d content (path_below path child) child)
-      (λ child. tree_of tell e content (path_below path child) child) (children_of content node.id)
+  level d e content before rest place node all alls once less less' =
+      ap (λ (text : List X). tell place node ++ text)
+      (same_flat (λ child. tree_of below tell d content (below place node child) child)
+      (λ child. tree_of below tell e content (below place node child) child) (children_of content node.id)
       (each-sorted SameBelow (filter (has_parent node.id) content.nodes)
-      (subst (Each SameBelow) all below)))
+      (subst (Each SameBelow) all all_same)))
     where
       SameBelow : Node → Type 0
       SameBelow child =
-          tree_of tell d content (path_below path child) child
-          ≡ tree_of tell e content (path_below path child) child
+          tree_of below tell d content (below place node child) child
+          ≡ tree_of below tell e content (below place node child) child
 
       left : List Node
       left = others node rest
@@ -117,7 +117,7 @@ module _ {X : Type 0} (tell : List ℕ → Node → List X) where
           let fewer = λ (p : Node → Bool). with_more (count p (child ∷ []))
           (count p (filter (has_parent node.id) rest)) (count p left) (count p rest) (counted p)
           (count_parts p (has_parent node.id) rest) in
-          before left (path_below path child) child has
+          before left (below place node child) child has
           (each_filter (HasAll content left) (λ n. not (has_parent node.id n)) rest still)
           (λ id. at_most_one (count (is_number id) (child ∷ []) + count (is_number id) left)
           (count (is_number id) rest) (fewer (is_number id)) (count (is_number id) (node ∷ []))
@@ -125,8 +125,8 @@ module _ {X : Type 0} (tell : List ℕ → Node → List X) where
           (less_by_one (count always left) (count always rest) d (fewer always) less)
           (less_by_one (count always left) (count always rest) e (fewer always) less')
 
-      below : Each SameBelow (filter (has_parent node.id) rest)
-      below =
+      all_same : Each SameBelow (filter (has_parent node.id) rest)
+      all_same =
           each_both (HasAll content left)
           (λ c. (p : Node → Bool)
           → count p (c ∷ []) ≤ count p (filter (has_parent node.id) rest)) SameBelow child_same
@@ -135,21 +135,21 @@ module _ {X : Type 0} (tell : List ℕ → Node → List X) where
           (each_counted (filter (has_parent node.id) rest))
 
   pub deep_enough : (d e : ℕ) (content : Content) → Same d e content
-  deep_enough zero e content rest path node all alls once less less' =
+  deep_enough zero e content rest place node all alls once less less' =
       absurd (not_below_zero (count always rest) less)
-  deep_enough (suc d) zero content rest path node all alls once less less' =
+  deep_enough (suc d) zero content rest place node all alls once less less' =
       absurd (not_below_zero (count always rest) less')
-  deep_enough (suc d) (suc e) content rest path node all alls once less less' =
-      level d e content (λ r p n a b c x y. deep_enough d e content r p n a b c x y) rest path node
+  deep_enough (suc d) (suc e) content rest place node all alls once less less' =
+      level d e content (λ r p n a b c x y. deep_enough d e content r p n a b c x y) rest place node
       all alls once less less'
 
   -- An object's text, and after it those of its children as deep.
-  pub goes_on : (d : ℕ) (content : Content) (rest : List Node) (path : List ℕ) (node : Node)
+  pub goes_on : (d : ℕ) (content : Content) (rest : List Node) (place : P) (node : Node)
       → HasAll content rest node → Each (HasAll content rest) rest → IsOnce node rest
       → count always rest < d
-      → tree_of tell d content path node ≡ tell path node
-      ++ flat_map (λ child. tree_of tell d content (path_below path child) child)
+      → tree_of below tell d content place node ≡ tell place node
+      ++ flat_map (λ child. tree_of below tell d content (below place node child) child)
       (children_of content node.id)
-  goes_on d content rest path node all alls once less =
-      deep_enough d (suc d) content rest path node all alls once less
+  goes_on d content rest place node all alls once less =
+      deep_enough d (suc d) content rest place node all alls once less
       (below_next (count always rest) d less)

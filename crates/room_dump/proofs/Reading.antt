@@ -47,6 +47,20 @@ module _ {S : Type 0} (k : Ghosts S)
       subst (λ (w : Rows). Answers w x) (sofar.same (laws.first a b c sofar.follows read.follows t))
       (read.answers (laws.last a b c sofar.follows read.follows t))
 
+  -- the calls that answered are all
+  pub answered : {Y : Type 0} (a c : S) (x : Y) {Blames : Rows → ℕ → Type 0}
+      {Answers : Rows → Y → Type 0} → HasRead a c → (k.IsTrusted a c → Answers (k.rows a) x)
+      → Reads k {X = Y} a c (Ok x) Blames Answers
+  answered a c x sofar answers =
+      record {
+        follows = sofar.follows;
+        unwritten = sofar.unwritten;
+        same = sofar.same;
+        answers = answers;
+        unfailed = sofar.unfailed;
+        fault = tt;
+      }
+
   -- the rows themselves are at fault
   pub damaged : {Y : Type 0} (a c : S) (id : ℕ) {Blames : Rows → ℕ → Type 0}
       {Answers : Rows → Y → Type 0} → HasRead a c → (k.IsTrusted a c → Blames (k.rows a) id)
@@ -101,3 +115,14 @@ module _ {S : Type 0} (k : Ghosts S)
       cause (Damaged id) h =
           λ t. blames (before t) id
           (subst (λ (w : Rows). Blames w id) (sofar.same (before t)) (h (now t)))
+
+  -- a last read, whose answer is that of the call that made it
+  pub tail : {X : Type 0} (a b c : S) (r : Result X KeepFault) {Blames Blames' : Rows → ℕ → Type 0}
+      {Answers Answers' : Rows → X → Type 0} → HasRead a b
+      → (k.IsTrusted a b → (at : ℕ) → Blames (k.rows a) at → Blames' (k.rows a) at)
+      → (k.IsTrusted a c → (x : X) → Answers (k.rows a) x → Answers' (k.rows a) x)
+      → Reads k b c r Blames Answers → Reads k a c r Blames' Answers'
+  tail a b c (Ok x) sofar blames answers read =
+      answered a c x (read_on a b c x sofar read)
+      (λ t. answers t x (answer_on a b c x sofar read t))
+  tail a b c (Err e) sofar blames answers read = fails a b c e (Err e) blames sofar read refl

@@ -27,25 +27,32 @@ shown (byte ∷ bytes) = byte ∷ bytes
 abbrev pub path_below : List ℕ → Node → List ℕ
 path_below above node = above ++ slash ∷ node.name
 
--- What is printed of an object, and after it of its children with all that is below them, in order
--- of name, no deeper than the number says.
-abbrev pub tree_of : {X : Type 0} → (List ℕ → Node → List X) → ℕ → Content → List ℕ → Node → List X
-tree_of tell zero content path node = []
-tree_of tell (suc depth) content path node =
-    tell path node ++ flat_map (λ child. tree_of tell depth content (path_below path child) child)
+-- What is told of an object at a place, and after it of its children with all that is below them,
+-- in order of name, no deeper than the number says. The place of a child comes from its parent's.
+abbrev pub tree_of : {P X : Type 0} → (P → Node → Node → P) → (P → Node → List X) → ℕ → Content → P
+    → Node → List X
+tree_of below tell zero content place node = []
+tree_of below tell (suc depth) content place node =
+    tell place node
+    ++ flat_map (λ child. tree_of below tell depth content (below place node child) child)
     (children_of content node.id)
+
+-- the path of a child
+abbrev pub child_path : List ℕ → Node → Node → List ℕ
+child_path path node child = path_below path child
 
 -- Of all objects, the root first. No object is deeper than there are rows.
 abbrev pub all_of : {X : Type 0} → (List ℕ → Node → List X) → Rows → List X
 all_of tell rows =
-    option_map_or (tree_of tell (length (numbers_of rows)) rows.read []) (root_of rows.read) []
+    option_map_or (tree_of child_path tell (length (numbers_of rows)) rows.read [])
+    (root_of rows.read) []
 
 -- the lines of an object
 abbrev pub object_lines : Content → List ℕ → Node → List ℕ
 object_lines content path node = object_text (shown path) node (size_of content node)
 
 abbrev pub tree_text : ℕ → Content → List ℕ → Node → List ℕ
-tree_text depth content = tree_of (object_lines content) depth content
+tree_text depth content = tree_of child_path (object_lines content) depth content
 
 abbrev pub objects_text : Rows → List ℕ
 objects_text rows = all_of (object_lines rows.read) rows

@@ -24,6 +24,7 @@ turns-init g c =
 pub returns-in_err-told : goal.returns-in_err-told
 returns-in_err-told g c =
     let k = g.K.Keep in
+    let laws = g.met.K.Keep.laws in
     let a = c.args.keep.now in
     let b = c.turns.keep in
     let w = k.rows a in
@@ -34,10 +35,10 @@ returns-in_err-told g c =
     c.in-Some.ensures.items (c.turns.invariant.turning t start) in
     record {
       read =
-          fails k g.met.K.Keep.laws a b c.push_one-told.new.keep c.in_err-told.field-0.0
+          fails k laws a b c.push_one-told.new.keep c.in_err-told.field-0.0
           c.from_residual.result
-          (λ t at h start. blamed w c.pop.new.self.items c.in-Some.object c.args.most c.turns._turn
-          before text (here t start) at h)
+          (λ t at h start. blamed w (laws.are a b t) c.pop.new.self.items c.in-Some.object c.args.most
+          c.turns._turn before text (here t start) at h)
           c.turns.invariant.read c.in_err-told.ensures.read c.from_residual.ensures.1;
     }
 
