@@ -13,4 +13,4 @@ pub use fault::{CsvFault, CsvWhy};
 pub use laws::{first_fault, groups_read_back, pairs_of_rows};
 pub use pairs::Pairs;
 pub use reading::read_groups;
-pub use writing::{write_audits, write_groups};
+pub use writing::{push_row, rows_into, text_of, write_audits, write_groups};

@@ -52,16 +52,16 @@ pub fn write_audits(alloc: Global, audits: &[AuditRow]) -> Result<Bytes, AllocEr
     text_of(writer)
 }
 
-// A writer of rows that has written none.
-fn rows_into(alloc: Global) -> Writer<Vec<u8>>
+/// A writer of rows that has written none.
+pub fn rows_into(alloc: Global) -> Writer<Vec<u8>>
     ensures at { StandsAtRow result }
     ensures none { written result ≡ [] }
 {
     WriterBuilder::new().from_writer(Vec::new(alloc))
 }
 
-// Writes one more row.
-fn push_row(writer: &mut Writer<Vec<u8>>, fields: &[&[u8]]) -> Result<(), AllocError>
+/// Writes one more row.
+pub fn push_row(writer: &mut Writer<Vec<u8>>, fields: &[&[u8]]) -> Result<(), AllocError>
     requires { StandsAtRow writer.old }
     ensures at { OnOk result (StandsAtRow writer.new) }
     ensures text { OnOk result
@@ -73,8 +73,8 @@ fn push_row(writer: &mut Writer<Vec<u8>>, fields: &[&[u8]]) -> Result<(), AllocE
     }
 }
 
-// The text of all rows.
-fn text_of(writer: Writer<Vec<u8>>) -> Result<Bytes, AllocError>
+/// The text of all rows.
+pub fn text_of(writer: Writer<Vec<u8>>) -> Result<Bytes, AllocError>
     ensures { IfOk result (λ bytes. bytes ≡ written writer) }
 {
     match writer.into_inner() {

@@ -1,6 +1,6 @@
 -- Ways that a caller comes along, and what the replies at their ends say.
 use Rattle.std.proofs.Common.{ℕ, ◌≡◌, ◌&&◌, Bool, true, false, cond, not, List, [], ◌∷◌, ◌++◌, map}
-use Rattle.std.proofs.Common.{filter, length, take, Option, Some, None, ℤ, refl, sym, ap, subst}
+use Rattle.std.proofs.Common.{filter, length, take, Option, Some, None, refl, sym, ap, subst}
 use Rattle.std.proofs.Common.{◌∙◌}
 use Rattle.std.specs.Prelude.{is_none, IsTrue}
 use Rattle.std.specs.List.{list_all}
@@ -21,14 +21,13 @@ use Rattle.room_rows.specs.Content.{Content, children_of, is_empty, is_folder, w
 use Rattle.room_machine.specs.declared.reply.Reply.{Reply}
 use Rattle.room_machine.specs.declared.reply.Reply.TheVariants.{Denied, Done, Refused, Rulings}
 use Rattle.room_machine.specs.declared.reply.Reason.TheVariants.{NotFolder, NoSuch, NotEmpty, Root}
-use Rattle.room_machine.specs.declared.request.Request.{Request}
 use Rattle.room_machine.specs.declared.request.Request.TheVariants.{Can, Remove}
 use Rattle.room_machine.specs.Site.{Site, front, full_at, parent_at, site_at, sites_along}
 use Rattle.room_machine.specs.Plan.{Deletion, Item, Refusal, plan_of, way, where_found}
 use Rattle.room_machine.specs.Judge.{entry_at, failure, first_failure, of_deletion, of_verdict}
 use Rattle.room_machine.specs.Judge.{or_else}
 use Rattle.room_machine.specs.Effect.{effect, rulings}
-use Rattle.room_machine.specs.Step.{Step, answered, caller_in}
+use Rattle.room_machine.specs.Step.{caller_in}
 use Rattle.room_machine.proofs.Replies.{or_reply, reply_of}
 use Rattle.room_review.specs.Rights.{grants, last_of, lets_through, may_remove, may_remove_at}
 use Rattle.room_review.specs.Rights.{reaches, rights, rights_at, sites_above}

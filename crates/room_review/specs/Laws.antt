@@ -1,7 +1,7 @@
 -- Laws of a review: what a row says is what the room would answer.
 use Rattle.std.specs.Prelude.{◌≡◌, ℕ, ℤ, ◌||◌, Bool, true, false, not, List, [], Option, Some}
-use Rattle.std.specs.Prelude.{IsTrue, if◌then◌else◌}
-use Rattle.std.specs.List.{flat_map, list_all, list_any}
+use Rattle.std.specs.Prelude.{IsTrue, if◌then◌else◌, ◌∷◌, length, take}
+use Rattle.std.specs.List.{flat_map, list_all, list_any, AllByRecursion as Each}
 use Rattle.room_entry.specs.Bits.{all_bits}
 use Rattle.room_entry.specs.Pieces.{same_text}
 use Rattle.room_entry.specs.declared.entry.Who.{Who}
@@ -12,6 +12,10 @@ use Rattle.room_eval.specs.Verdict.{is_allowed}
 use Rattle.room_rows.specs.declared.node.Node.{Node}
 use Rattle.room_rows.specs.Content.{Content, is_folder}
 use Rattle.room_rows.specs.Held.{full_of}
+use Rattle.room_rows.specs.Meaning.{meaning}
+use Rattle.room_rows.specs.Rows.{AreRows, Rows, numbers_of}
+use Rattle.room_rows.specs.Sound.{AreSound}
+use Rattle.room_dump.specs.Dump.{tree_of}
 use Rattle.room_machine.specs.declared.reply.Reason.{Reason}
 use Rattle.room_machine.specs.declared.reply.Reason.TheVariants.{NotEmpty}
 use Rattle.room_machine.specs.declared.reply.Reply.{Reply}
@@ -20,8 +24,11 @@ use Rattle.room_machine.specs.declared.reply.Reply.TheVariants.{Done, Denied, Re
 use Rattle.room_machine.specs.declared.request.Request.{Request}
 use Rattle.room_machine.specs.declared.request.Request.TheVariants.{Can, Remove}
 use Rattle.room_machine.specs.Site.{Site, full_at, site_at, sites_along}
-use Rattle.room_machine.specs.Step.{Step}
+use Rattle.room_machine.specs.Step.{Step, caller_in}
+use Rattle.room_machine.specs.Stored.{stored_along}
 use Rattle.room_review.specs.Rights.{may_remove_at, reaches_at, rights_at, sites_above}
+use Rattle.room_review.specs.Standing.{granted}
+use Rattle.room_review.specs.Table.{Place, place_below, place_of, site_of}
 
 -- ---- what replies say of rights
 
@@ -132,3 +139,30 @@ StrangersGetTheSame =
     IsUnknownIn content name → IsUnknownIn content other →
     Step content (Some name) moment request reply after →
     Step content (Some other) moment request another later → reply ≡ another
+
+-- ---- the table
+
+-- the objects of a table, each with where it stands, in the order of their rows
+abbrev pub told_of : Rows → Place → Node → List (Place × Node)
+told_of rows place node =
+    tree_of place_below (λ place node. (place, node) ∷ []) (length (numbers_of rows)) rows.read
+    place node
+
+-- what the table says of a caller there, by the stored lists of the objects on the way, is what the
+-- lists say that are computed from the root, at the path of the object
+abbrev pub SaysAt : Rows → Option (List ℕ) → Place × Node → Type 0
+SaysAt rows user it =
+    granted (caller_in rows.read user) it.0.above (site_of it.0 it.1)
+    ≡ (
+      rights_at (meaning rows.read) user it.0.path,
+      may_remove_at (meaning rows.read) user it.0.path,
+    )
+
+-- In sound rows the rows of a table say of each object what `rights_at` and `may_remove_at` say of
+-- its path.
+abbrev pub TableSaysRights : Type 0
+TableSaysRights =
+    (rows : Rows) → AreRows rows → AreSound rows → (user : Option (List ℕ)) (path : List (List ℕ))
+    (target : Site) → site_at (stored_along rows.read path) path ≡ Some target
+    → Each (SaysAt rows user)
+    (told_of rows (place_of (take (length path) (stored_along rows.read path)) target) target.node)

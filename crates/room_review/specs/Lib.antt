@@ -1,2 +1,7 @@
 pub mod Rights
+pub mod Users
+pub mod Standing
+pub mod Table
+pub mod Lines
+pub mod Telling
 pub mod Laws

@@ -1,4 +1,16 @@
 //! Who may do what: the rights of each caller at the objects of a room, as a room would answer.
 #![tactic(auto)]
 
+mod gathering;
+mod granting;
 pub mod laws;
+mod parties;
+mod question;
+mod reviewing;
+mod sheet;
+mod standing;
+mod telling;
+mod users;
+
+pub use question::{Question, Reviewed};
+pub use reviewing::review;

@@ -1,0 +1,321 @@
+-- What is kept of an object, by what is kept of the folder that it stands in.
+use Rattle.std.proofs.Common.{ℕ, suc, ◌-◌, ◌≡◌, Bool, true, false, cond, not, ◌&&◌, ◌||◌, List, []}
+use Rattle.std.proofs.Common.{◌∷◌, ◌++◌, length, take, filter, Option, Some, None, refl, sym, ap}
+use Rattle.std.proofs.Common.{◌∙◌, arith, inl, inr, map, get_or, min, ◌+◌, ◌<◌}
+use Rattle.std.specs.Prelude.{◌==◌, is_none}
+use Rattle.std.specs.List.{list_all}
+use Rattle.std.specs.Option.{option_map, option_map_or}
+use Rattle.std.proofs.lemmas.Bool.{and_parts, eqb-true, false≢true, or_cases}
+use Rattle.std.proofs.lemmas.List.{get_or-map, length-map, map-append, take_all, take_more}
+use Rattle.std.proofs.lemmas.List.Folds.{list_all-append}
+use Rattle.room_entry.specs.BitLaws.{has-chosen}
+use Rattle.room_entry.specs.Bits.{all_bits, has, shares}
+use Rattle.room_entry.specs.Rights.{delete, delete_child, execute, write_data}
+use Rattle.room_entry.specs.declared.object.Which.TheVariants.{Dacl}
+use Rattle.room_entry.specs.declared.parties.Caller.{Caller}
+use Rattle.room_eval.specs.Deletion.{by_adding, deletion_by}
+use Rattle.room_eval.specs.declared.deletion.DeleteVerdict.{DeleteVerdict}
+use Rattle.room_eval.specs.Verdict.{is_allowed, ruling_of, verdict, verdict_by}
+use Rattle.room_eval.specs.declared.outcome.Ruling.{Ruling}
+use Rattle.room_eval.specs.declared.outcome.Ruling.TheVariants.{Allowed, Denied, Silent}
+use Rattle.room_eval.specs.declared.outcome.Verdict.{Verdict}
+use Rattle.room_rows.specs.declared.node.Node.{Node}
+use Rattle.room_rows.specs.Content.{is_folder}
+use Rattle.room_rows.specs.Held.{full_of}
+use Rattle.room_machine.specs.Judge.{of_deletion, passes}
+use Rattle.room_machine.specs.Plan.{Deletion}
+use Rattle.room_machine.specs.Site.{Site, full_at}
+use Rattle.room_machine.specs.Stored.{stored_site}
+use Rattle.room_review.specs.Rights.{grants, last_of, lets_through, may_remove, reaches, rights}
+use Rattle.room_review.specs.Standing.{before_last, is_denied, keeps_children, repeats, same_grant}
+use Rattle.room_review.specs.Standing.{standing}
+use Rattle.room_review.specs.declared.standing.Standing.{Standing}
+use Rattle.room_eval.proofs.Steps.{verdict_agree}
+
+-- ---- the last object on a way
+
+split_last : (above : List Site) (folder : Site) → last_of above ≡ Some folder
+    → above ≡ before_last above ++ folder ∷ []
+split_last [] folder last = absurd (let wrong : ⊥ = cc in wrong)
+split_last (site ∷ []) folder last = let same : site ≡ folder = cc in ap (λ s. s ∷ []) same
+split_last (site ∷ next ∷ more) folder last =
+    let count : length (site ∷ next ∷ more) - 1 ≡ suc (length (next ∷ more) - 1) = omega arith in
+    ap (λ l. site ∷ l) (split_last (next ∷ more) folder last)
+    ∙ ap (λ n. take n (site ∷ next ∷ more) ++ folder ∷ []) (sym count)
+
+pub none_last : (above : List Site) → last_of above ≡ None → above ≡ []
+none_last [] none = refl
+none_last (site ∷ []) none = absurd (let wrong : ⊥ = cc in wrong)
+none_last (site ∷ next ∷ more) none =
+    absurd (let wrong : ⊥ = (let rest = none_last (next ∷ more) none in cc) in wrong)
+
+-- where a change of it is none, there is none
+pub mapped_none : {A B : Type 0} (f : A → B) (o : Option A) → option_map f o ≡ None → o ≡ None
+mapped_none f None is = refl
+mapped_none f (Some x) is = absurd (let wrong : ⊥ = cc in wrong)
+
+-- where there is a change of it, there is one
+pub mapped_some : {A B : Type 0} (f : A → B) (o : Option A) (y : B) → option_map f o ≡ Some y
+    → (x : A) × (o ≡ Some x) × (f x ≡ y)
+mapped_some f None y is = absurd (let wrong : ⊥ = cc in wrong)
+mapped_some f (Some x) y is = (x, refl, let same : f x ≡ y = cc in same)
+
+-- one more of two lists, of which each member of the second comes from that of the first
+pub next_mapped : {A B C : Type 0} (f : A → B) (g : A → C) (xs : List A) (ys : List B) (i : ℕ)
+    (x : A) (y : B) (zs : List C) (z : C) → i < length xs → ((d : A) → x ≡ get_or xs i d)
+    → ((d : B) → y ≡ get_or ys i d) → ys ≡ map f xs → (y ≡ f x → z ≡ g x)
+    → zs ≡ map g (take i xs) → zs ++ z ∷ [] ≡ map g (take (i + 1) xs)
+next_mapped f g xs ys i x y zs z below at beside are turns sofar =
+    let same : y ≡ f x =
+    beside (f x) ∙ ap (λ l. get_or l i (f x)) are ∙ get_or-map f xs i x (f x) below ∙ ap f (sym (at x)) in
+    (λ j. sofar j ++ turns same j ∷ []) ∙ sym (map-append g (take i xs) (x ∷ []))
+    ∙ ap (map g) (ap (λ v. take i xs ++ v ∷ []) (at x) ∙ sym (take_more xs i x below))
+
+-- all of them
+pub all_mapped : {A B C : Type 0} (f : A → B) (g : A → C) (xs : List A) (ys : List B) (n : ℕ)
+    (zs : List C) → n ≡ min (length xs) (length ys) → ys ≡ map f xs → zs ≡ map g (take n xs)
+    → zs ≡ map g xs
+all_mapped f g xs ys n zs many are sofar =
+    let long : length ys ≡ length xs = ap length are ∙ length-map xs f in
+    sofar ∙ ap (map g) (take_all n xs (omega arith))
+
+-- ---- rights that a mask may have
+
+known_delete : has all_bits delete ≡ true
+unfolding all_bits
+known_delete = refl
+
+known_delete_child : has all_bits delete_child ≡ true
+unfolding all_bits
+known_delete_child = refl
+
+known_execute : has all_bits execute ≡ true
+unfolding all_bits
+known_execute = refl
+
+known_write_data : has all_bits write_data ≡ true
+unfolding all_bits
+known_write_data = refl
+
+-- ---- the deletion rule by rulings
+
+module _ (target folder : Site) where
+  abbrev is_passed : DeleteVerdict → Bool
+  is_passed v = is_none (of_deletion target folder v)
+
+  by_rulings : (own above : Ruling) (adding : Verdict) (added : Bool)
+      → is_passed (by_adding adding) ≡ added
+      → is_passed (deletion_by own above adding)
+      ≡ ((is_allowed own || is_allowed above)
+      || ((not (is_denied own) && not (is_denied above)) && added))
+  by_rulings (Allowed p) above adding added is = refl
+  by_rulings (Denied p) (Allowed q) adding added is = refl
+  by_rulings (Denied p) (Denied q) adding added is = refl
+  by_rulings (Denied p) Silent adding added is = refl
+  by_rulings Silent (Allowed q) adding added is = refl
+  by_rulings Silent (Denied q) adding added is = refl
+  by_rulings Silent Silent adding added is = is
+
+  -- the verdict on one bit
+  by_ruling : (bit : ℕ) (r : Ruling) → is_passed (by_adding (verdict_by (λ b. r) (bit ∷ [])))
+      ≡ is_allowed r
+  by_ruling bit (Allowed p) = refl
+  by_ruling bit (Denied p) = refl
+  by_ruling bit Silent = refl
+
+  by_right : (says : ℕ → Ruling) (bit : ℕ)
+      → is_passed (by_adding (verdict_by says (bit ∷ []))) ≡ is_allowed (says bit)
+  by_right says bit =
+      ap (λ v. is_passed (by_adding v))
+      (verdict_agree says (λ b. says bit) (bit ∷ []) (λ b it. ap says (sym (only b it))))
+      ∙ by_ruling bit (says bit)
+    where
+      only : (b : ℕ) → has (bit ∷ []) b ≡ true → bit ≡ b
+      only b it = elim (or_cases (bit == b) false it) [
+        | inl same ↦ eqb-true bit b same
+        | inr wrong ↦ absurd (false≢true wrong)
+      ]
+
+  passes_by : (caller : Caller)
+      → passes caller (Deletion target folder)
+      ≡ ((grants caller delete target || grants caller delete_child folder)
+      || ((not (is_denied (ruling_of (full_at Dacl target) caller target.node.owners delete))
+      && not (keeps_children caller folder)) && grants caller write_data folder))
+  passes_by caller =
+      by_rulings (ruling_of (full_at Dacl target) caller target.node.owners delete)
+      (ruling_of (full_at Dacl folder) caller folder.node.owners delete_child)
+      (verdict (full_at Dacl folder) caller folder.node.owners (write_data ∷ []))
+      (grants caller write_data folder)
+      (by_right (ruling_of (full_at Dacl folder) caller folder.node.owners) write_data)
+
+-- ---- an object behind others
+
+and_one : (t : Bool) → (t && true) ≡ t
+and_one true = refl
+and_one false = refl
+
+or_nothing : (t : Bool) → (t || false) ≡ t
+or_nothing true = refl
+or_nothing false = refl
+
+module _ (caller : Caller) (path : List (List ℕ)) (node : Node) (above : List Site) where
+  abbrev target : Site
+  target = stored_site path node
+
+  abbrev allowed : List ℕ
+  allowed =
+      filter (λ right. is_allowed (ruling_of (full_of node.dacl) caller node.owners right)) all_bits
+
+  abbrev denied : List ℕ
+  denied =
+      filter (λ right. is_denied (ruling_of (full_of node.dacl) caller node.owners right)) all_bits
+
+  has_allowed : (right : ℕ) → has all_bits right ≡ true → has allowed right ≡ grants caller right target
+  has_allowed right known = has-chosen (λ b. grants caller b target) right known
+
+  has_denied : (right : ℕ) → has all_bits right ≡ true
+      → has denied right ≡ is_denied (ruling_of (full_at Dacl target) caller target.node.owners right)
+  has_denied right known =
+      has-chosen (λ b. is_denied (ruling_of (full_of node.dacl) caller node.owners b)) right known
+
+  module _ (free : reaches caller above ≡ true) where
+    rights_open : allowed ≡ rights caller above target
+    rights_open = sym (ap (λ t. cond t allowed []) free)
+
+    opens_open : (is_folder node && has allowed execute) ≡ reaches caller (above ++ target ∷ [])
+    opens_open =
+        sym (list_all-append (lets_through caller) above (target ∷ [])
+        ∙ ap (λ t. t && (lets_through caller target && true)) free
+        ∙ and_one (lets_through caller target)
+        ∙ ap (λ t. is_folder node && t) (sym (has_allowed execute known_execute)))
+
+    keeps_open : shares (delete_child ∷ []) denied
+        ≡ (reaches caller above && keeps_children caller target)
+    keeps_open =
+        or_nothing (has denied delete_child) ∙ has_denied delete_child known_delete_child
+        ∙ sym (ap (λ t. t && keeps_children caller target) free)
+
+  -- the root
+  pub root_standing : (granted : List ℕ) (opens keeps : Bool) (refused : List ℕ) → above ≡ []
+      → granted ≡ allowed → refused ≡ denied → opens ≡ (is_folder node && has granted execute)
+      → keeps ≡ shares (delete_child ∷ []) refused
+      → record { rights = granted; remove = false; opens = opens; keeps = keeps; repeats = false }
+      ≡ standing caller above target
+  root_standing granted opens keeps refused top grants denies lets keep =
+      let free : reaches caller above ≡ true = ap (reaches caller) top in
+      λ i. record {
+        rights = (grants ∙ rights_open free) i;
+        remove = (none_above top) i;
+        opens = (lets ∙ ap (λ g. is_folder node && has g execute) grants ∙ opens_open free) i;
+        keeps = (keep ∙ ap (λ d. shares (delete_child ∷ []) d) denies ∙ keeps_open free) i;
+        repeats = (none_repeats top) i;
+      }
+    where
+      none_above : above ≡ [] → false ≡ may_remove caller above target
+      none_above top = sym (ap (λ (sites : List Site). may_remove caller sites target) top)
+
+      none_repeats : above ≡ [] → false ≡ repeats caller above target
+      none_repeats top = sym (ap (λ (sites : List Site). repeats caller sites target) top)
+
+  module _ (folder : Site) (last : last_of above ≡ Some folder) (kept : Standing)
+      (is : kept ≡ standing caller (before_last above) folder) where
+    opens_is : kept.opens ≡ reaches caller above
+    opens_is =
+        ap (λ (s : Standing). s.opens) is ∙ sym (ap (reaches caller) (split_last above folder last))
+
+    repeats_is : (granted : List ℕ) (remove : Bool) → granted ≡ rights caller above target
+        → remove ≡ may_remove caller above target
+        → same_grant (granted, remove) (kept.rights, kept.remove) ≡ repeats caller above target
+    repeats_is granted remove grants removes =
+        (λ i. same_grant (grants i, removes i) ((is i).rights, (is i).remove))
+        ∙ sym (ap (λ (o : Option Site). option_map_or (λ site.
+        same_grant (rights caller above target, may_remove caller above target)
+        (rights caller (before_last above) site, may_remove caller (before_last above) site)) o
+        false) last)
+
+    -- an object that the caller doesn't come to
+    pub closed_standing : kept.opens ≡ false
+        → record {
+          rights = [];
+          remove = false;
+          opens = false;
+          keeps = false;
+          repeats = same_grant ([], false) (kept.rights, kept.remove);
+        } ≡ standing caller above target
+    closed_standing shut =
+        let closed : reaches caller above ≡ false = sym opens_is ∙ shut in
+        let none : [] ≡ rights caller above target = sym (ap (λ t. cond t allowed []) closed) in
+        let stays : false ≡ may_remove caller above target =
+        sym (ap (λ t. t && option_map_or (λ site. passes caller (Deletion target site))
+        (last_of above) false) closed) in
+        λ i. record {
+          rights = none i;
+          remove = stays i;
+          opens =
+              (sym (list_all-append (lets_through caller) above (target ∷ [])
+              ∙ ap (λ t. t && (lets_through caller target && true)) closed)) i;
+          keeps = (sym (ap (λ t. t && keeps_children caller target) closed)) i;
+          repeats = (repeats_is [] false none stays) i;
+        }
+
+    module _ (free : reaches caller above ≡ true) where
+      -- the caller comes to the folder
+      before : reaches caller (before_last above) ≡ true
+      before =
+          (and_parts (reaches caller (before_last above)) (lets_through caller folder && true)
+          (sym (list_all-append (lets_through caller) (before_last above) (folder ∷ []))
+          ∙ sym (ap (reaches caller) (split_last above folder last)) ∙ free)).0
+
+      folder_has : (right : ℕ) → has all_bits right ≡ true
+          → has kept.rights right ≡ grants caller right folder
+      folder_has right known =
+          ap (λ (s : Standing). has s.rights right) is
+          ∙ ap (λ t. has (cond t (filter (λ b. grants caller b folder) all_bits) []) right) before
+          ∙ has-chosen (λ b. grants caller b folder) right known
+
+      folder_keeps : kept.keeps ≡ keeps_children caller folder
+      folder_keeps =
+          ap (λ (s : Standing). s.keeps) is ∙ ap (λ t. t && keeps_children caller folder) before
+
+      removes : ((has allowed delete || has kept.rights delete_child)
+          || ((not (has denied delete) && not kept.keeps) && has kept.rights write_data))
+          ≡ may_remove caller above target
+      removes =
+          (λ i. (has_allowed delete known_delete i || folder_has delete_child known_delete_child i)
+          || ((not (has_denied delete known_delete i) && not (folder_keeps i))
+          && folder_has write_data known_write_data i))
+          ∙ sym (passes_by target folder caller)
+          ∙ sym (ap (λ (o : Option Site). option_map_or (λ site.
+          passes caller (Deletion target site)) o false) last)
+          ∙ sym (ap (λ t. t && option_map_or (λ site. passes caller (Deletion target site))
+          (last_of above) false) free)
+
+    -- an object that the caller comes to
+    pub open_standing : (granted refused : List ℕ) (remove opens keeps : Bool) → kept.opens ≡ true
+        → granted ≡ allowed → refused ≡ denied
+        → remove ≡ ((has granted delete || has kept.rights delete_child)
+        || ((not (has refused delete) && not kept.keeps) && has kept.rights write_data))
+        → opens ≡ (is_folder node && has granted execute)
+        → keeps ≡ shares (delete_child ∷ []) refused
+        → record {
+          rights = granted;
+          remove = remove;
+          opens = opens;
+          keeps = keeps;
+          repeats = same_grant (granted, remove) (kept.rights, kept.remove);
+        } ≡ standing caller above target
+    open_standing granted refused remove opens keeps free' grants denies rule lets keep =
+        let free : reaches caller above ≡ true = sym opens_is ∙ free' in
+        let given : granted ≡ rights caller above target = grants ∙ rights_open free in
+        let goes : remove ≡ may_remove caller above target =
+        rule
+        ∙ (λ i. (has (grants i) delete || has kept.rights delete_child)
+        || ((not (has (denies i) delete) && not kept.keeps) && has kept.rights write_data))
+        ∙ removes free in
+        λ i. record {
+          rights = given i;
+          remove = goes i;
+          opens = (lets ∙ ap (λ g. is_folder node && has g execute) grants ∙ opens_open free) i;
+          keeps = (keep ∙ ap (λ d. shares (delete_child ∷ []) d) denies ∙ keeps_open free) i;
+          repeats = (repeats_is granted remove given goes) i;
+        }

@@ -1,0 +1,188 @@
+-- What a list says of all rights, entry by entry.
+use Rattle.std.proofs.Common.{ℕ, ◌+◌, ◌<◌, ◌≤◌, ◌≡◌, ◌∷◌, Bool, true, false, cond, not, ◌&&◌, ◌||◌}
+use Rattle.std.proofs.Common.{List, [], length, drop, get_or, refl, sym, ap, ◌∙◌, inl, inr}
+use Rattle.std.specs.Prelude.{◌==◌, filter}
+use Rattle.std.proofs.lemmas.Bool.{and_cases, and_parts, eqb-true, not-false, not-true}
+use Rattle.std.proofs.lemmas.List.{drop_all}
+use Rattle.std.proofs.lemmas.Map.Views.{any-filter_same}
+use Rattle.room_entry.specs.Ace.{Ace}
+use Rattle.room_entry.specs.BitLaws.{chosen_agree, has-chosen}
+use Rattle.room_entry.specs.Bits.{all_bits, has, shares}
+use Rattle.room_entry.specs.Valid.{asks_records}
+use Rattle.room_entry.specs.declared.entry.EntryKind.{EntryKind}
+use Rattle.room_entry.specs.declared.parties.Caller.{Caller}
+use Rattle.room_entry.specs.declared.parties.Owners.{Owners}
+use Rattle.room_eval.specs.Verdict.{bears_on, counts, ruled_by, ruling_from, ruling_of}
+use Rattle.room_eval.specs.declared.outcome.Ruling.{Ruling}
+use Rattle.room_eval.specs.declared.outcome.Ruling.TheVariants.{Silent}
+use Rattle.room_entry.proofs.Facts.Members.{all_each, each_fails, each_weaker}
+use Rattle.room_entry.proofs.Texts.{at_bit}
+use Rattle.room_eval.proofs.Steps.{drop_here, ruling_head, ruling_passed, ruling_records}
+use Rattle.room_eval.proofs.Steps.{ruling_without}
+
+-- what a kept part of a mask has
+has_kept : (test : ℕ → Bool) (mask : List ℕ) (bit : ℕ)
+    → has (filter test mask) bit ≡ (test bit && has mask bit)
+has_kept test mask bit =
+    any-filter_same (λ other. other == bit) test (test bit)
+    (λ other same. ap test (eqb-true other bit same)) mask
+
+-- a bit of one of two masks that share none
+apart : (mask other : List ℕ) (bit : ℕ) → shares mask other ≡ false → has mask bit ≡ true
+    → has other bit ≡ false
+apart mask other bit none it =
+    not-true (has other bit)
+    (at_bit (λ b. not (has other b)) mask bit
+    (all_each (λ b. not (has other b)) mask
+    (each_weaker _ _ (λ b fails. ap not fails) mask (each_fails (has other) mask none))) it)
+
+-- of a bit that some entry may still rule, what the rest says counts
+where_unruled : (g u : Bool) (s t : Bool) → (u ≡ true → s ≡ t) → (g || (u && s)) ≡ (g || (u && t))
+where_unruled g true s t same = ap (λ x. g || x) (same refl)
+where_unruled g false s t same = refl
+
+none_left : (g u t : Bool) → t ≡ false → (g || (u && t)) ≡ g
+none_left g u true fails = absurd (let wrong : ⊥ = cc in wrong)
+none_left true u false fails = refl
+none_left false true false fails = refl
+none_left false false false fails = refl
+
+module _ (test : Ruling → Bool) where
+  -- a ruling that passes is found for the bits of a mask (m) that no entry has ruled (u), beside
+  -- those that were found before (g)
+  on_pass : (g u m : Bool) (head rest : Ruling) → test head ≡ true
+      → (g || (u && test (cond m head rest))) ≡ ((g || (m && u)) || ((not m && u) && test rest))
+  on_pass true u m head rest is = refl
+  on_pass false true true head rest is = is
+  on_pass false true false head rest is = refl
+  on_pass false false true head rest is = refl
+  on_pass false false false head rest is = refl
+
+  -- one that fails isn't
+  on_fail : (g u m : Bool) (head rest : Ruling) → test head ≡ false
+      → (g || (u && test (cond m head rest))) ≡ (g || ((not m && u) && test rest))
+  on_fail true u m head rest isnt = refl
+  on_fail false true true head rest isnt = isnt
+  on_fail false true false head rest isnt = refl
+  on_fail false false true head rest isnt = refl
+  on_fail false false false head rest isnt = refl
+
+  module _ (entries : List Ace) (caller : Caller) (owners : Owners) where
+    abbrev pub passes : ℕ → Bool
+    passes bit = test (ruling_of entries caller owners bit)
+
+    abbrev says : ℕ → List Ace → ℕ → Ruling
+    says place rest bit = ruling_from place rest caller owners bit
+
+    -- The ruling of a bit passes where the bit is found by the entries before a place, or where
+    -- none of them rules it and the ruling of the rest passes.
+    abbrev pub FoundBefore : List ℕ → List ℕ → ℕ → Type 0
+    FoundBefore found unruled i =
+        (bit : ℕ) → has all_bits bit ≡ true
+        → passes bit
+        ≡ (has found bit || (has unruled bit && test (says (i + 1) (drop i entries) bit)))
+
+    -- no entry yet
+    pub found_none : (found unruled : List ℕ) → found ≡ [] → unruled ≡ all_bits
+        → FoundBefore found unruled 0
+    found_none found unruled none whole bit known =
+        sym ((λ i. has (none i) bit || (has (whole i) bit && test (says 1 (drop 0 entries) bit)))
+        ∙ ap (λ t. t && test (says 1 (drop 0 entries) bit)) known)
+
+    -- no entry is left
+    pub found_all : (found unruled : List ℕ) (i : ℕ) → test Silent ≡ false → length entries ≤ i
+        → FoundBefore found unruled i → filter (has found) all_bits ≡ found
+        → found ≡ filter passes all_bits
+    found_all found unruled i silent past so known =
+        sym known
+        ∙ chosen_agree (has found) passes (λ bit it. sym (so bit it
+        ∙ none_left (has found bit) (has unruled bit) (test (says (i + 1) (drop i entries) bit))
+        (ap (λ rest. test (says (i + 1) rest bit)) (drop_all i entries past) ∙ silent)))
+
+    module _ (i : ℕ) (entry : Ace) (below : i < length entries)
+        (is : entry ≡ get_or entries i entry) (found unruled : List ℕ)
+        (so : FoundBefore found unruled i) where
+      abbrev rest : List Ace
+      rest = drop (i + 1) entries
+
+      here : (bit : ℕ) → has all_bits bit ≡ true
+          → passes bit
+          ≡ (has found bit || (has unruled bit && test (says (i + 1) (entry ∷ rest) bit)))
+      here bit known =
+          so bit known
+          ∙ ap (λ left. has found bit || (has unruled bit && test (says (i + 1) left bit)))
+          (drop_here entries i entry below is)
+
+      -- an entry that bears on no unruled bit
+      pub found_passed : bears_on entry caller owners unruled ≡ false
+          → FoundBefore found unruled (i + 1)
+      found_passed isnt bit known =
+          here bit known
+          ∙ where_unruled (has found bit) (has unruled bit) _ _ (λ it. ap test (same it))
+        where
+          same : has unruled bit ≡ true
+              → says (i + 1) (entry ∷ rest) bit ≡ says (i + 1 + 1) rest bit
+          same it =
+              elim (and_cases (shares unruled entry.mask && not (asks_records entry.kind))
+              (counts entry caller owners) isnt) [
+                | inl first ↦ elim (and_cases (shares unruled entry.mask)
+                    (not (asks_records entry.kind)) first) [
+                      | inl none ↦
+                          ruling_without (i + 1) entry rest caller owners bit
+                          (apart unruled entry.mask bit none it)
+                      | inr asks ↦
+                          ruling_records (i + 1) entry rest caller owners bit
+                          (not-false (asks_records entry.kind) asks)
+                    ]
+                | inr silent ↦ ruling_passed (i + 1) entry rest caller owners bit silent
+              ]
+
+      module _ (bears : bears_on entry caller owners unruled ≡ true) (kind : EntryKind)
+          (of_kind : entry.kind ≡ kind) where
+        does : counts entry caller owners ≡ true
+        does =
+            (and_parts (shares unruled entry.mask && not (asks_records entry.kind))
+            (counts entry caller owners) bears).1
+
+        abbrev less : List ℕ
+        less = filter (λ bit. not (has entry.mask bit)) unruled
+
+        abbrev more : List ℕ
+        more =
+            filter (λ bit. has found bit || has (filter (has entry.mask) unruled) bit) all_bits
+
+        has_less : (bit : ℕ) → has less bit ≡ (not (has entry.mask bit) && has unruled bit)
+        has_less bit = has_kept (λ b. not (has entry.mask b)) unruled bit
+
+        -- its ruling passes
+        pub found_more : (pass : (bit : ℕ)
+            → test (ruled_by kind (i + 1) (says (i + 1 + 1) rest bit)) ≡ true)
+            → (next left : List ℕ) → next ≡ more → left ≡ less → FoundBefore next left (i + 1)
+        found_more pass next left grows shrinks bit known =
+            let after = says (i + 1 + 1) rest bit in
+            let either = λ (b : ℕ). has found b || has (filter (has entry.mask) unruled) b in
+            here bit known
+            ∙ ap (λ r. has found bit || (has unruled bit && test r))
+            (ruling_head (i + 1) entry rest caller owners bit kind does of_kind)
+            ∙ on_pass (has found bit) (has unruled bit) (has entry.mask bit)
+            (ruled_by kind (i + 1) after) after (pass bit)
+            ∙ ap (λ t. (has found bit || t)
+            || ((not (has entry.mask bit) && has unruled bit) && test after))
+            (sym (has_kept (has entry.mask) unruled bit))
+            ∙ ap (λ t. either bit || (t && test after)) (sym (has_less bit))
+            ∙ ap (λ t. t || (has less bit && test after)) (sym (has-chosen either bit known))
+            ∙ sym (λ i. has (grows i) bit || (has (shrinks i) bit && test after))
+
+        -- its ruling fails
+        pub found_same : (fail : (bit : ℕ)
+            → test (ruled_by kind (i + 1) (says (i + 1 + 1) rest bit)) ≡ false)
+            → (next left : List ℕ) → next ≡ found → left ≡ less → FoundBefore next left (i + 1)
+        found_same fail next left stays shrinks bit known =
+            let after = says (i + 1 + 1) rest bit in
+            here bit known
+            ∙ ap (λ r. has found bit || (has unruled bit && test r))
+            (ruling_head (i + 1) entry rest caller owners bit kind does of_kind)
+            ∙ on_fail (has found bit) (has unruled bit) (has entry.mask bit)
+            (ruled_by kind (i + 1) after) after (fail bit)
+            ∙ ap (λ t. has found bit || (t && test after)) (sym (has_less bit))
+            ∙ sym (λ i. has (stays i) bit || (has (shrinks i) bit && test after))

@@ -1,0 +1,61 @@
+-- From the object that a review starts at, a walk comes to all below it.
+use Rattle.std.proofs.Common.{◌≡◌, ℕ, List, [], ◌∷◌, ◌++◌, length, Option, Some, None, refl, sym}
+use Rattle.std.proofs.Common.{ap, subst}
+use Rattle.std.specs.List.{AllByRecursion as Each}
+use Rattle.std.specs.Option.{option_map_or}
+use Rattle.room_rows.specs.declared.node.Node.{Node}
+use Rattle.room_rows.specs.Content.{Content, child_of, root_of}
+use Rattle.room_rows.specs.Rows.{AreRows, Rows, numbers_of}
+use Rattle.room_dump.proofs.Reached.{IsThere, Reached, all_there, reached_child, reached_first}
+use Rattle.room_machine.specs.Site.{Site, site_at}
+use Rattle.room_machine.specs.Stored.{stored_along, stored_from, stored_site}
+use Rattle.room_review.specs.Telling.{StartsAt}
+
+some_same : (x y : Site) → Some x ≡ Some y → x ≡ y
+some_same x y same = ap (λ o. option_map_or (λ z. z) o x) same
+
+module _ (content : Content) (there : Each (IsThere content) content.nodes) (most : ℕ) where
+  abbrev below : List (List ℕ) → List (List ℕ) → List ℕ → Option Node → List Site
+  below path names name o =
+      option_map_or (λ child. stored_from content (path ++ name ∷ []) child names) o []
+
+  reached_from : (names path : List (List ℕ)) (node : Node) (site : Site)
+      → Reached content (node ∷ []) most 0
+      → site_at (stored_from content path node names) names ≡ Some site
+      → Reached content (site.node ∷ []) most 0
+  reached_from [] path node site r is =
+      subst (λ (s : Site). Reached content (s.node ∷ []) most 0)
+      (some_same (stored_site path node) site is) r
+  reached_from (name ∷ names) path node site r is =
+      on (child_of content node.id name) refl is
+      (λ child r' is'. reached_from names (path ++ name ∷ []) child site r' is')
+    where
+      on : (o : Option Node) → child_of content node.id name ≡ o
+          → site_at (below path names name o) names ≡ Some site
+          → ((child : Node) → Reached content (child ∷ []) most 0
+          → site_at (stored_from content (path ++ name ∷ []) child names) names ≡ Some site
+          → Reached content (site.node ∷ []) most 0)
+          → Reached content (site.node ∷ []) most 0
+      on None found is next = absurd (let wrong : ⊥ = cc in wrong)
+      on (Some child) found is next =
+          next child (reached_child content there node child name most 0 r found) is
+
+-- the object at a path waits alone
+reached_at : (rows : Rows) → AreRows rows → (path : List (List ℕ)) (site : Site)
+    → site_at (stored_along rows.read path) path ≡ Some site
+    → Reached rows.read (site.node ∷ []) (length (numbers_of rows)) 0
+reached_at rows are path site is = on (root_of rows.read) refl is
+  where
+    on : (o : Option Node) → root_of rows.read ≡ o
+        → site_at (option_map_or (λ root. stored_from rows.read [] root path) o []) path ≡ Some site
+        → Reached rows.read (site.node ∷ []) (length (numbers_of rows)) 0
+    on None found is = absurd (let wrong : ⊥ = cc in wrong)
+    on (Some root) found is =
+        reached_from rows.read (all_there rows are) (length (numbers_of rows)) path [] root site
+        (reached_first rows are root found) is
+
+pub starts_reached : (rows : Rows) → AreRows rows → (most : ℕ) (path : List (List ℕ)) (node : Node)
+    → StartsAt most path node rows → Reached rows.read (node ∷ []) most 0
+starts_reached rows are most path node start =
+    subst (λ (n : ℕ). Reached rows.read (node ∷ []) n 0) (sym start.most_is)
+    (reached_at rows are path (stored_site path node) start.is_there)
