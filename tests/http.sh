@@ -97,6 +97,19 @@ exchange() {
   exec 3>&- 3<&-
 }
 
+# Sends what was written, and reads the answers meanwhile, so that neither side waits for the other; $work/statuses then has a
+# line for each answer.
+converse() {
+  last_message GET '/can/?' - >>"$work/sent"
+  : >"$work/statuses"
+  exec 3<>"/dev/tcp/127.0.0.1/$port" || return 1
+  timeout "$patience" cat <&3 >"$work/reply" &
+  cat "$work/sent" >&3
+  wait $!
+  exec 3>&- 3<&-
+  grep -ao 'HTTP/1\.1 [0-9]*' "$work/reply" | cut -d' ' -f2 | sed '$d' >"$work/statuses"
+}
+
 # One message with an optional user and body. '-' is no user.
 message() { # METHOD TARGET USER [BODY [FIELD ..]]
   local method=$1 target=$2 user=$3 body=${4-} field

@@ -145,3 +145,22 @@ is_missing() { [ ! -e "$1" ] && [ ! -L "$1" ]; }
 has() { command -v "$1" >/dev/null 2>&1; }
 # An older sqlite3 doesn't read the tables.
 has_sqlite() { has sqlite3 && sqlite3 :memory: 'CREATE TABLE t (a INTEGER) STRICT;' >/dev/null 2>&1; }
+
+# What the consoles of a page type goes to a script, with a line @N before each command; what they show goes to standard output
+# in the same form. A server is waited for, since nobody types as fast as a script.
+from_consoles() { # PAGE SCRIPT
+  awk -v script="$2" '
+    /^```/ { inside = $0 == "```console"; typed = 0; next }
+    !inside { next }
+    typed { print >script; typed = $0 != "END"; next }
+    /^\$ / {
+      print "@" ++n
+      if (/^\$ rooms verify/) print "wait" >script
+      print "echo; echo @" n >script
+      print substr($0, 3) >script
+      if (/&$/) print "until grep -q ^listening \"$OUT\"; do sleep 0.05; done" >script
+      typed = /<<END$/
+      next
+    }
+    { print }' "$1"
+}

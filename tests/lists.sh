@@ -189,19 +189,6 @@ plays() { # CELLS LIST
   plays_managing "$2"
 }
 
-# Sends what was written, and reads the answers meanwhile, so that neither side waits for the other; $work/statuses then has a
-# line for each answer.
-converse() {
-  last_message GET '/can/?' - >>"$work/sent"
-  : >"$work/statuses"
-  exec 3<>"/dev/tcp/127.0.0.1/$port" || return 1
-  timeout "$patience" cat <&3 >"$work/reply" &
-  cat "$work/sent" >&3
-  wait $!
-  exec 3>&- 3<&-
-  grep -ao 'HTTP/1\.1 [0-9]*' "$work/reply" | cut -d' ' -f2 | sed '$d' >"$work/statuses"
-}
-
 # Compares what was answered with what was expected, and with the cells that were said. Prints a line for each difference, and
 # last the number of all that agree. Only who may remove a folder is told that it isn't empty.
 judge() { # NAME

@@ -7,25 +7,6 @@ fi
 mkdir -p top/crates/rooms/out rooms
 ln -s "$rooms" top/crates/rooms/out/rooms
 
-# What the consoles of a page type goes to a script, with a line @N before each command; what they show goes to standard output
-# in the same form. A server is waited for, since nobody types as fast as a script.
-from_consoles() { # PAGE SCRIPT
-  awk -v script="$2" '
-    /^```/ { inside = $0 == "```console"; typed = 0; next }
-    !inside { next }
-    typed { print >script; typed = $0 != "END"; next }
-    /^\$ / {
-      print "@" ++n
-      if (/^\$ rooms verify/) print "wait" >script
-      print "echo; echo @" n >script
-      print substr($0, 3) >script
-      if (/&$/) print "until grep -q ^listening \"$OUT\"; do sleep 0.05; done" >script
-      typed = /<<END$/
-      next
-    }
-    { print }' "$1"
-}
-
 # The quick start goes to a script, and what its comments show to standard output.
 from_comments() { # PAGE SCRIPT
   awk -v script="$2" '
