@@ -60,6 +60,7 @@ over_file() { # NAME STATUS OUT ERR FILE
   for command in groups-out audit dump verify migrate; do
     gives "$name: $command" "$wanted" "$out" "$err" "$command" "$file"
   done
+  gives "$name: review" "$wanted" "$out" "$err" review "$file" /
   gives "$name: groups" "$wanted" "$out" "$err" groups "$file" pairs.csv
   from_lines list:
   gives "$name: reset" "$wanted" "$out" "$err" reset "$file" / dacl
@@ -105,6 +106,7 @@ over_lacking() { # COMMAND ..
 over_lacking groups-out lacking.db
 over_lacking audit lacking.db
 over_lacking dump lacking.db
+over_lacking review lacking.db /
 over_lacking verify lacking.db
 over_lacking groups lacking.db pairs.csv
 from_lines list:
