@@ -8,15 +8,17 @@ has() { command -v "$1" >/dev/null 2>&1; }
 # The settings are never executed: a line is a name, '=' and a value.
 read_settings() { # CONF
   local line number=0
-  FILE='' PORT='' TITLE='' BACKUPS='' KEEP=30 MAIL='' UNIT=${1##*/} PROGRAM=/usr/local/bin/rooms
+  FILE='' PORT='' TITLE='' BACKUPS='' KEEP=30 MAIL='' REVIEW='' REVIEWER='' UNIT=${1##*/} PROGRAM=/usr/local/bin/rooms
   UNIT=rooms@${UNIT%.conf}
   { [ -f "$1" ] && [ -r "$1" ]; } || refuse "no settings: $1 can't be read"
   while IFS= read -r line || [ -n "$line" ]; do
     number=$((number + 1))
     case $line in
       '' | '#'*) ;;
-      FILE=* | PORT=* | TITLE=* | BACKUPS=* | KEEP=* | MAIL=* | UNIT=* | PROGRAM=*) printf -v "${line%%=*}" %s "${line#*=}" ;;
-      *) refuse "bad settings: $1, line $number has none of FILE= PORT= TITLE= BACKUPS= KEEP= MAIL= UNIT= PROGRAM=" ;;
+      FILE=* | PORT=* | TITLE=* | BACKUPS=* | KEEP=* | MAIL=* | REVIEW=* | REVIEWER=* | UNIT=* | PROGRAM=*)
+        printf -v "${line%%=*}" %s "${line#*=}"
+        ;;
+      *) refuse "bad settings: $1, line $number has none of FILE= PORT= TITLE= BACKUPS= KEEP= MAIL= REVIEW= REVIEWER= UNIT= PROGRAM=" ;;
     esac
   done <"$1"
   check_settings "$1"
@@ -31,6 +33,7 @@ check_settings() { # CONF
   [[ $KEEP =~ ^(0|[1-9][0-9]{0,5})$ ]] || refuse "bad settings: KEEP in $1 isn't a number: '$KEEP'"
   [[ $UNIT =~ ^[A-Za-z0-9_][A-Za-z0-9:_.@-]*$ ]] || refuse "bad settings: UNIT in $1 isn't the name of a unit: '$UNIT'"
   [[ $MAIL != -* ]] || refuse "bad settings: MAIL in $1 isn't an address: '$MAIL'"
+  check_review "$1"
   { [ -x "$PROGRAM" ] && [ -f "$PROGRAM" ]; } || refuse "no program: $PROGRAM, of $1, isn't there or can't be run"
   folder=$(dirname "$FILE")
   base=$(basename "$FILE")
@@ -38,6 +41,16 @@ check_settings() { # CONF
   owner=$(stat -c %u "$folder")
   group=$(stat -c %g "$folder")
   [ "$(id -u)" = 0 ] || [ "$(id -u)" = "$owner" ] || refuse "not root: $folder belongs to another user"
+}
+
+# A review that is put into the room needs a folder there, a user, and the server's port.
+check_review() { # CONF
+  local name='^[A-Za-z0-9._+$\@-]+$'
+  [ -n "$REVIEW$REVIEWER" ] || return 0
+  [[ $REVIEW = / || ( $REVIEW = /* && $REVIEW != */ ) ]] || refuse "bad settings: REVIEW in $1 isn't a folder of the room: '$REVIEW'"
+  [[ $REVIEWER =~ $name ]] || refuse "bad settings: REVIEWER in $1 isn't a user's name: '$REVIEWER'"
+  [ -n "$PORT" ] || refuse "bad settings: REVIEW in $1 needs PORT"
+  has curl || refuse "no curl: REVIEW in $1 needs it: apt-get install curl"
 }
 
 # Everything in the room's folder is done as its user, since root would follow any link in it.

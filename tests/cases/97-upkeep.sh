@@ -37,9 +37,59 @@ run dump "backups/$good/F"
 holds 'the copy has the document' grep -q '^document root staff 5 /f$' "$work/out"
 holds 'the lists have it' grep -q '^document root staff 5 /f$' "backups/$good/lists.txt"
 holds 'the records are there' grep -q '^at,user,path' "backups/$good/records.csv"
+printf '%s\n' path,kind,user,rights,remove "/,folder,root,$ALL,no" '/,folder,*,,no' '/,folder,ANONYMOUS@,,no' "/f,document,root,$ALL,yes" >wanted
+same 'the review is there' "backups/$good/review.csv" wanted
 holds 'nobody else may read it' [ -z "$(find backups/* -perm /077)" ]
 holds 'the room is still its users' [ -z "$(find office -not -user "$STAND_USER")" ]
 holds 'nothing is owed' [ -z "$(ls run)" ]
+
+# Where the settings say so, the review is put into the room once the server is back.
+reviewing() { # FOLDER USER
+  read -r port <"$stand/port"
+  # The next server listens at the next port.
+  setting PORT $((port + 1))
+  setting REVIEW "$1"
+  setting REVIEWER "$2"
+}
+put_there() { # NAME
+  local last
+  last=$(backups | tail -n 1)
+  read -r port <"$stand/port"
+  curl -s -m "$patience" -H 'Room-User: root' "http://127.0.0.1:$port/doc/for%20auditors/${last%.*}-review.csv" >got
+  same "$1" got "backups/$last/review.csv"
+}
+printf '%s\n' PORT= REVIEW= REVIEWER= >>conf
+if has curl; then
+  answers 'a way for all' /dacl/ done_reply PUT $'list:a\nA::EVERYONE@:x\nA:fd:root:'"$ALL"
+  answers 'a folder for auditors' /folder/for%20auditors made POST
+  answers 'and its list' /dacl/for%20auditors done_reply PUT $'list:a\nA:fd:carl:rxaw\n'
+  reviewing '/for auditors' carl
+  night
+  holds 'a night with a review' [ "$status" = 0 -a ! -s "$stand/messages" ]
+  put_there 'the review is in the room'
+  sleep 1
+  reviewing '/for auditors' carl
+  night
+  holds 'a second one that day' [ "$status" = 0 ]
+  put_there 'takes its place'
+  holds 'and has the document of the first' grep -q '^/for auditors/.*-review.csv,document,carl,' got
+  reviewing '/for auditors' bob
+  night
+  says 'who may not add there' 1 "-review.csv isn't put into the room: {\"at\":\"/for auditors\""
+  unit_runs 'who may not add there: the server runs'
+  holds 'the backup is there' [ -s "backups/$(backups | tail -n 1)/review.csv" ]
+  reviewing /nowhere root
+  night
+  says 'a folder that is not there' 1 '"why":"no-such"} 404'
+  unit stop
+  night
+  says 'a review without a server' 0 "no server runs: /nowhere/"
+  unit start
+  setting REVIEW ''
+  setting REVIEWER ''
+else
+  skip 'a review in the room' 'no curl'
+fi
 
 # A server that somebody stopped stays stopped.
 unit stop
@@ -152,7 +202,7 @@ refused() { # NAME TEXT
   holds "$1: a message" [ -s "$stand/messages" ]
 }
 cp conf kept
-for line in 'KEEP=many' 'KEEP=-1' 'PORT=many' 'PORT=0' 'FILE=F' 'UNIT=a b' 'UNIT=-a' 'MAIL=-s' 'PROGRAM=/nowhere' 'FILE=/nowhere/F' 'rm -rf /' 'OTHER=x'; do
+for line in 'KEEP=many' 'KEEP=-1' 'PORT=many' 'PORT=0' 'FILE=F' 'UNIT=a b' 'UNIT=-a' 'MAIL=-s' 'REVIEW=/audit' 'REVIEWER=carl' 'PROGRAM=/nowhere' 'FILE=/nowhere/F' 'rm -rf /' 'OTHER=x'; do
   { cat kept; echo "$line"; } >conf
   night
   refused "settings with $line" "$([[ $line = *nowhere* ]] && echo 'no ' || echo 'bad settings: ')"
