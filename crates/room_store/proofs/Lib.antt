@@ -9,3 +9,4 @@ mod Shutting
 mod Closing
 mod Recalled
 mod Outlasting
+mod Reviewed

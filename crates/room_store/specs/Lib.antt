@@ -8,3 +8,4 @@ pub mod Opens
 pub mod Asks
 pub mod Remembers
 pub mod Failing
+pub mod Reviews

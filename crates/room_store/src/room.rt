@@ -10,6 +10,7 @@ ghost use Rattle.room_store.specs.Crash.{Lasts};
 ghost use Rattle.room_store.specs.Failing.{FailsByDb};
 ghost use Rattle.room_store.specs.Premise.{StorePremise};
 ghost use Rattle.room_store.specs.Ran.{HasDamage, Looked, Ran};
+ghost use Rattle.room_store.specs.Reviews.{IsReviewOf};
 ghost use Rattle.store_admin.specs.Carries.{NoTables};
 ghost use Rattle.store_admin.specs.Dump.{HasDamagedRow, IsDump};
 ghost use Rattle.store_tables.specs.Meaning.{rows_of};
@@ -25,12 +26,14 @@ use crate::fault::StoreFault;
 use crate::look::test_shut;
 use crate::operating::{audits_on, dump_on, members_on, replace_on};
 use crate::resetting::reset_on;
+use crate::reviewing::review_on;
 use crate::running::run_on;
 use crate::verifying::verify_on;
 use room_ace::{Name, SentList, Which};
 use room_inherit::Report;
 use room_machine::{Reply, Request};
 use room_remember::Memory;
+use room_review::{Question, Reviewed};
 use room_rows::{AuditRow, Path};
 use sqlite::{Alter, Connection};
 use std::alloc::Global;
@@ -153,6 +156,18 @@ impl<S: Alter> Room<S> {
     {
         self.memory = None;
         dump_on(alloc, &mut self.conn)
+    }
+
+    pub(crate) fn review(
+        &mut self,
+        alloc: Global,
+        question: &Question,
+    ) -> Result<Reviewed, StoreFault>
+        ensures looked { Looked (state S.Store self.old) (state S.Store self.new) result
+            HasDamagedRow (IsReviewOf question.now) }
+    {
+        self.memory = None;
+        review_on(alloc, &mut self.conn, question)
     }
 
     // What is remembered stays: nothing is read, and the rows are as they were.

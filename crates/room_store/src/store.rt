@@ -14,6 +14,7 @@ ghost use Rattle.room_store.specs.Kept.{Stores};
 ghost use Rattle.room_store.specs.Leads.{Leads, event_of};
 ghost use Rattle.room_store.specs.Premise.{StorePremise};
 ghost use Rattle.room_store.specs.Ran.{HasDamage, Looked, Ran};
+ghost use Rattle.room_store.specs.Reviews.{IsReviewOf};
 ghost use Rattle.store_admin.specs.Carries.{NoTables};
 ghost use Rattle.store_admin.specs.Dump.{HasDamagedRow, IsDump};
 ghost use Rattle.store_tables.specs.Meaning.{rows_of};
@@ -31,6 +32,7 @@ use room_ace::{Name, SentList, Which};
 use room_inherit::Report;
 use room_inherit::laws::sound_is_no_fault;
 use room_machine::{Reply, Request};
+use room_review::{Question, Reviewed};
 use room_rows::{AuditRow, Path};
 use sqlite::{Alter, Connection};
 use std::alloc::Global;
@@ -200,6 +202,21 @@ impl<S: Alter> Store<S> {
         ensures faults { self.new.faults ≡ self.old.faults }
     {
         self.conn.dump(alloc)
+    }
+
+    /// Who may do what with the object at a path and with all below it, by the lists and the pairs
+    /// that the tables hold, as a table; or a refusal: no such object, or a document on the way.
+    /// Both are read from the same rows. Nothing changes. The error is `Damaged` only for a damaged
+    /// row, so never on sound rows.
+    pub fn review(&mut self, alloc: Global, question: &Question) -> Result<Reviewed, StoreFault>
+        ensures looked { Looked (state S.Store self.old.conn) (state S.Store self.new.conn) result
+            HasDamagedRow (IsReviewOf question.now) }
+        ensures leads { Leads (state S.Store self.old.conn) [] (state S.Store self.new.conn) }
+        ensures outlasts { Outlasts (state S.Store self.old.conn) [] []
+            (state S.Store self.new.conn) }
+        ensures faults { self.new.faults ≡ self.old.faults }
+    {
+        self.conn.review(alloc, question)
     }
 
     /// The connection, with the tables as they are, and with no transaction open.

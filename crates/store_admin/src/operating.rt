@@ -1,8 +1,9 @@
 //! All pairs, and how their rows are written.
-ghost use Rattle.std.specs.Prelude.{◌≡◌, [], IfOk};
+ghost use Rattle.std.specs.Prelude.{◌≡◌, [], IfOk, OnOk};
 ghost use Rattle.sqlite.specs.Held.{state};
 ghost use Rattle.store_tables.specs.Paired.{pair_cmp};
 ghost use Rattle.store_tables.specs.Statements.{QueriesSql, OfAny, ExecutesSql};
+ghost use Rattle.store_tables.specs.Trust.{IsTrusted};
 ghost use Rattle.store_admin.specs.Carries.{AnswersOpen, CallsInside, NoTables, Reading};
 ghost use Rattle.store_admin.specs.Failing.{FailsInside, FailsSql};
 ghost use Rattle.store_admin.specs.Operating.{
@@ -109,6 +110,9 @@ pub fn all_members<S: Alter>(
     ensures same_reference { tx.new.conn.ghost_name ≡ tx.old.conn.ghost_name }
     ensures carries { CallsInside (state S.Store tx.old.conn.now) (state S.Store tx.new.conn.now)
         result NoTables (Reading (λ db pairs. AreMembers db pairs.items)) }
+    ensures same { IsTrusted (state S.Store tx.old.conn.now) (state S.Store tx.new.conn.now)
+        → OnOk result
+        ((state S.Store tx.new.conn.now).now ≡ (state S.Store tx.old.conn.now).now) }
     ensures opens { AnswersOpen (state S.Store tx.old.conn.now) (state S.Store tx.new.conn.now)
         result }
     ensures fails { FailsInside (state S.Store tx.old.conn.now) (state S.Store tx.new.conn.now)

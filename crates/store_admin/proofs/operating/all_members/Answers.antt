@@ -27,3 +27,7 @@ returns-in-Err-clause-fails g c =
     let new = state g.S.Store c.select_members.new.tx.conn.now in
     λ trust is. fails_inside old new c.in-Err.error c.fault_for.result c.fault_for.ensures.fault
     c.in-Err.ensures.fails trust (let e = is in cc)
+
+-- a query changes nothing
+pub returns-clause-same : goal.returns-clause-same
+returns-clause-same g c = λ trust. (c.in-Ok.ensures.asks.same trust.clean trust.now).0.now_is
