@@ -14,6 +14,7 @@ work_ended (task.Groups pairs) old new outcome works ended = works.ran.leaves.en
 work_ended task.GroupsOut old new outcome works ended = works.looked.leaves.ended ended
 work_ended task.Audit old new outcome works ended = works.looked.leaves.ended ended
 work_ended task.Dump old new outcome works ended = works.looked.leaves.ended ended
+work_ended (task.Review question) old new outcome works ended = works.looked.leaves.ended ended
 work_ended (task.Reset path which sent) old new outcome works ended = works.ran.leaves.ended ended
 work_ended task.Verify old new outcome works ended = works.looked.leaves.ended ended
 work_ended task.Migrate old new outcome works ended = absurd works
@@ -33,6 +34,8 @@ module _ {S : Type 0} (shown : Held S → State) where
   does_ended task.GroupsOut old new outcome does = room_ended task.GroupsOut old new outcome does
   does_ended task.Audit old new outcome does = room_ended task.Audit old new outcome does
   does_ended task.Dump old new outcome does = room_ended task.Dump old new outcome does
+  does_ended (task.Review question) old new outcome does =
+      room_ended (task.Review question) old new outcome does
   does_ended (task.Reset path which sent) old new outcome does =
       room_ended (task.Reset path which sent) old new outcome does
   does_ended task.Verify old new outcome does = room_ended task.Verify old new outcome does

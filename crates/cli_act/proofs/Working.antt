@@ -14,6 +14,7 @@ module _ {S : Type 0} (shown : Held S → State) where
   does_work task.GroupsOut old new outcome is works = works
   does_work task.Audit old new outcome is works = works
   does_work task.Dump old new outcome is works = works
+  does_work (task.Review question) old new outcome is works = works
   does_work (task.Reset path which sent) old new outcome is works = works
   does_work task.Verify old new outcome is works = works
   does_work task.Migrate old new outcome is works = absurd is

@@ -15,6 +15,9 @@ use Rattle.room_judge.specs.Judged.{Resets}
 use Rattle.room_machine.specs.Run.{Replaced, WasReset}
 use Rattle.room_machine.specs.declared.reply.Reply.{Reply}
 use Rattle.room_machine.specs.declared.reply.Reply.TheVariants as reply
+use Rattle.room_review.specs.declared.question.Question.{Question}
+use Rattle.room_review.specs.declared.question.Reviewed.{Reviewed}
+use Rattle.room_review.specs.declared.question.Reviewed.TheVariants as reviewed
 use Rattle.store_admin.specs.Carries.{NoTables}
 use Rattle.store_admin.specs.Dump.{HasDamagedRow, IsDump}
 use Rattle.store_admin.specs.Operating.{AreMembers, AreRecords, HasUnreadRecord, ReplacesMembers}
@@ -28,6 +31,7 @@ use Rattle.store_schema.specs.declared.fault.OpenFault.{OpenFault}
 use Rattle.room_store.specs.Leads.{Leads, event_of}
 use Rattle.room_store.specs.Opens.{Creates, Opens}
 use Rattle.room_store.specs.Ran.{HasDamage, Looked, Ran}
+use Rattle.room_store.specs.Reviews.{IsReviewOf}
 use Rattle.room_store.specs.declared.fault.StoreFault.{StoreFault}
 use Rattle.room_store.specs.declared.fault.StoreFault.TheVariants as store
 use Rattle.store_tables.specs.Meaning.{rows_of}
@@ -66,10 +70,18 @@ abbrev pub after_dump : Result (String Global) StoreFault → Outcome
 after_dump (Ok text) = Bytes (string_bytes text)
 after_dump (Err fault) = after_fault fault
 
+abbrev pub after_review : Reviewed → Outcome
+after_review (reviewed.Table text) = Bytes text
+after_review (reviewed.Refused at why) = Answer (answer.Refused at why)
+
+abbrev pub after_reviewing : Result Reviewed StoreFault → Outcome
+after_reviewing (Ok reviewed) = after_review reviewed
+after_reviewing (Err fault) = after_fault fault
+
 -- A reset is done or refused. It has no other reply.
 abbrev pub after_reply : Reply → Outcome
 after_reply reply.Done = Answer answer.ListSet
-after_reply (reply.Refused at why) = Answer (answer.ListRefused at why)
+after_reply (reply.Refused at why) = Answer (answer.Refused at why)
 after_reply other = Failed Database
 
 abbrev pub after_reset : Result Reply StoreFault → Outcome
@@ -130,6 +142,13 @@ pub record GivesDump (old : State) (outcome : Outcome) (new : State) : Type 0 wh
   pub leads : Leads old [] new
   pub told : outcome ≡ after_dump result
 
+pub record GivesReview (question : Question) (old : State) (outcome : Outcome) (new : State)
+    : Type 0 where
+  pub result : Result Reviewed StoreFault
+  pub looked : Looked old new result HasDamagedRow (IsReviewOf question)
+  pub leads : Leads old [] new
+  pub told : outcome ≡ after_reviewing result
+
 pub record SetsList (path : List (List ℕ)) (which : Which) (sent : Sent) (old : State)
     (outcome : Outcome) (new : State) : Type 0 where
   pub result : Result Reply StoreFault
@@ -158,6 +177,7 @@ Works (task.Groups pairs) old outcome new = PutsMembers pairs old outcome new
 Works task.GroupsOut old outcome new = GivesMembers old outcome new
 Works task.Audit old outcome new = GivesRecords old outcome new
 Works task.Dump old outcome new = GivesDump old outcome new
+Works (task.Review question) old outcome new = GivesReview question old outcome new
 Works (task.Reset path which sent) old outcome new = SetsList path which sent old outcome new
 Works task.Verify old outcome new = TestsRows old outcome new
 Works task.Migrate old outcome new = ⊥

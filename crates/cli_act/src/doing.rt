@@ -91,6 +91,7 @@ pub(crate) fn do_task<S: Alter>(
         | Task::GroupsOut
         | Task::Audit
         | Task::Dump
+        | Task::Review(_)
         | Task::Reset(..)
         | Task::Verify => open_and_work(alloc, conn, task),
     }

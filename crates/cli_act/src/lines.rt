@@ -33,7 +33,7 @@ fn reason_at(alloc: Global, at: &Path, why: &Reason) -> Result<String, AllocErro
     format!(in alloc; "refused: {why} at {path}\n")
 }
 
-// The line of a list that isn't set.
+// The line of what is refused at a path.
 fn refusal_line(alloc: Global, at: &Path, why: &Reason) -> Result<String, AllocError>
     ensures { IfOk result (λ text. string_bytes text ≡ reason_line at.now why.now) }
 {
@@ -60,7 +60,7 @@ impl TaskAnswer {
                 format!(in alloc; "groups {groups}, members {members}\n")
             }
             TaskAnswer::ListSet => String::from_str(alloc, "done\n"),
-            TaskAnswer::ListRefused { at, why } => refusal_line(alloc, at, why),
+            TaskAnswer::Refused { at, why } => refusal_line(alloc, at, why),
             TaskAnswer::Sound => String::from_str(alloc, "sound\n"),
             TaskAnswer::Unsound { path, why } => {
                 let path = path.as_str();

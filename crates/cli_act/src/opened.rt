@@ -6,6 +6,7 @@ ghost use Rattle.cli_act.specs.Doing.{
   GivesDump,
   GivesMembers,
   GivesRecords,
+  GivesReview,
   IsText,
   IsWork,
   PutsMembers,
@@ -15,6 +16,7 @@ ghost use Rattle.cli_act.specs.Doing.{
   after_fault,
   after_reply,
   after_report,
+  after_review,
 };
 ghost use Rattle.room_import.specs.Exports.{groups_text, records_text};
 
@@ -26,6 +28,7 @@ use room_ace::{Name, SentList, Which};
 use room_import::{write_audits, write_groups};
 use room_inherit::Report;
 use room_machine::Reply;
+use room_review::{Question, Reviewed};
 use room_rows::{AuditRow, Bytes, Path};
 use room_store::{Store, StoreFault};
 use sqlite::Alter;
@@ -118,6 +121,26 @@ fn tell_all<S: Alter>(alloc: Global, store: &mut Store<S>) -> Outcome
     }
 }
 
+fn tell_review<S: Alter>(alloc: Global, store: &mut Store<S>, question: &Question) -> Outcome
+    ensures { GivesReview question.now (state S.Store store.old.conn) result
+        (state S.Store store.new.conn) }
+{
+    match store.review(alloc, question) {
+        Ok(reviewed) => after_review(reviewed),
+        Err(fault) => after_fault(fault),
+    }
+}
+
+// The outcome of a review.
+fn after_review(reviewed: Reviewed) -> Outcome
+    ensures { result ≡ after_review reviewed }
+{
+    match reviewed {
+        Reviewed::Table(text) => Outcome::Bytes(text),
+        Reviewed::Refused { at, why } => Outcome::Answer(TaskAnswer::Refused { at, why }),
+    }
+}
+
 fn set_list<S: Alter>(
     alloc: Global,
     store: &mut Store<S>,
@@ -140,7 +163,7 @@ fn after_reply(reply: Reply) -> Outcome
 {
     match reply {
         Reply::Done => Outcome::Answer(TaskAnswer::ListSet),
-        Reply::Refused { at, why } => Outcome::Answer(TaskAnswer::ListRefused { at, why }),
+        Reply::Refused { at, why } => Outcome::Answer(TaskAnswer::Refused { at, why }),
         Reply::Bytes(_)
         | Reply::Names(_)
         | Reply::Lists(..)
@@ -183,6 +206,7 @@ pub(crate) fn work<S: Alter>(alloc: Global, store: &mut Store<S>, task: &Task) -
         Task::Verify => test(alloc, store),
         Task::Init(_) => unreachable!(),
         Task::Dump => tell_all(alloc, store),
+        Task::Review(question) => tell_review(alloc, store, question),
         Task::Migrate => unreachable!(),
     }
 }

@@ -17,8 +17,8 @@ pub enum TaskAnswer {
     Replaced { groups: usize, members: usize },
     /// A list was set.
     ListSet,
-    /// A list was not set, for what was found at the path.
-    ListRefused { at: Path, why: Reason },
+    /// It was refused, for what was found at the path.
+    Refused { at: Path, why: Reason },
     /// No test finds a fault in the rows.
     Sound,
     /// The first fault of the rows, and where it is.
@@ -49,7 +49,7 @@ impl TaskAnswer {
             TaskAnswer::Made => Status::Done,
             TaskAnswer::Replaced { .. } => Status::Done,
             TaskAnswer::ListSet => Status::Done,
-            TaskAnswer::ListRefused { .. } => Status::Refused,
+            TaskAnswer::Refused { .. } => Status::Refused,
             TaskAnswer::Sound => Status::Done,
             TaskAnswer::Unsound { .. } => Status::Found,
             TaskAnswer::Raised => Status::Done,

@@ -1,4 +1,4 @@
--- A line without fault names one of the ten subcommands.
+-- A line without fault names one of the eleven subcommands.
 use Rattle.std.proofs.Common.{◌≡◌, ap, refl, true, false, Bool, List, [], ◌∷◌, Option, Some, None}
 use Rattle.std.proofs.Common.{cond, inl, inr, is_some}
 use Rattle.std.proofs.lemmas.Bool.{false≢true, true≢false}
@@ -106,7 +106,10 @@ all_named names = (
                 inr (inr (inr (inr (inr (inr (inr (inl refl))))))),
                 (
                   inr (inr (inr (inr (inr (inr (inr (inr (inl refl)))))))),
-                  (inr (inr (inr (inr (inr (inr (inr (inr (inr (refl))))))))), tt),
+                  (
+                    inr (inr (inr (inr (inr (inr (inr (inr (inr (inl refl))))))))),
+                    (inr (inr (inr (inr (inr (inr (inr (inr (inr (inr refl))))))))), tt),
+                  ),
                 ),
               ),
             ),

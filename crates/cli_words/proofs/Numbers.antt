@@ -1,9 +1,9 @@
--- Numbers of options, as `clap` answers them.
-use Rattle.std.proofs.Common.{◌≡◌, ap, refl, List, ℕ, Option, Some, None}
+-- Numbers of options and flags, as `clap` answers them.
+use Rattle.std.proofs.Common.{◌≡◌, ap, refl, codes, List, ℕ, Option, Some, None, Bool, true, false}
 use Rattle.std.specs.Prelude.{Result, Ok, Err, unwrap_or}
 use Rattle.std.specs.Str.Parse.{ParsesUnsigned}
 use Rattle.clap.specs.Words.{ReadsOne}
-use Rattle.cli_words.specs.Command.{IsNumber}
+use Rattle.cli_words.specs.Command.{IsFlag, IsNumber}
 
 pub number_read : (E : Type 0) (G : List ℕ → Result ℕ E → Type 0) (bits default : ℕ)
     (text : Option (List ℕ)) (answer : Option ℕ)
@@ -17,3 +17,9 @@ number_read E G bits default (Some t) (Some v) only none value =
 number_read E G bits default (Some t) None only none value =
     let read = value t refl in
     λ numeral fits. absurd (only t (Err read.0) read.1 (numeral, fits))
+
+pub flag_read : (text : Option (List ℕ)) (flag : Bool) → (text ≡ None → flag ≡ false)
+    → (text ≡ Some (codes "true") → flag ≡ true) → (text ≡ Some (codes "false") → flag ≡ false)
+    → IsFlag text flag
+flag_read None flag none on off = none refl
+flag_read (Some text) flag none on off = (λ is. on (ap Some is), λ is. off (ap Some is))

@@ -11,9 +11,8 @@ use Rattle.room_entry.specs.declared.failure.Failure.{Failure}
 use Rattle.room_entry.specs.declared.failure.Failure.TheVariants.{OutOfMemory, Fault}
 use Rattle.room_import.specs.Groups.{groups_in}
 use Rattle.cli_outcome.specs.Ending.{IsOfStream}
-use Rattle.cli_outcome.specs.Reading.{IsInput}
 use Rattle.cli_outcome.specs.declared.fault.Fault.{Fault as StreamFault}
-use Rattle.cli_words.specs.Tasks.{goes_on, pairs_in, task_path, refused_by, reset_of, sent_in}
+use Rattle.cli_words.specs.Tasks.{goes_on, pairs_in, task_path, refused_by, sent_in}
 use Rattle.cli_words.specs.Tasks.{task_of}
 use Rattle.cli_words.specs.declared.judging.Task.{Task}
 use Rattle.cli_words.specs.declared.judging.Task.TheVariants as task
@@ -66,6 +65,7 @@ task-take (command.Groups file csv) input =
 task-take (command.GroupsOut file) input = refl
 task-take (command.Audit file) input = refl
 task-take (command.Dump file) input = refl
+task-take (command.Review file path user all) input = refl
 task-take (command.Reset file path which) input =
     ap (λ (read : Result Sent TaskRefusal).
     Some (goes_on (task_path path.now)

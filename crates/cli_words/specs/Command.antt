@@ -1,6 +1,6 @@
 -- Which command the words are (own).
 use Rattle.std.specs.Prelude.{◌≡◌, ◌≢◌, ◌⊎◌, ◌<◌, false, ◌^◌, ℕ, List, [], Option, Some, None}
-use Rattle.std.specs.Prelude.{codes, unwrap_or, if◌then◌else◌}
+use Rattle.std.specs.Prelude.{Bool, true, codes, option_map, unwrap_or, if◌then◌else◌}
 use Rattle.std.specs.Str.{bytes_eq}
 use Rattle.std.specs.Str.Parse.{IsNumeral, digits_value, without_leading_plus}
 use Rattle.std.specs.Borrow.{Bor}
@@ -28,6 +28,11 @@ IsNumber bits default (Some text) number =
     let digits = without_leading_plus text in
     IsNumeral 10 digits → digits_value 10 digits < 2 ^ bits → number ≡ digits_value 10 digits
 
+-- Whether a flag was given, by the text that the matches have of it.
+abbrev pub IsFlag : Option Text → Bool → Type 0
+IsFlag None flag = flag ≡ false
+IsFlag (Some text) flag = (text ≡ codes "true" → flag ≡ true) × (text ≡ codes "false" → flag ≡ false)
+
 abbrev pub which_in : List Row → Which
 which_in rows = if bytes_eq (word (codes "LIST") rows) (codes "dacl") then Dacl else Sacl
 
@@ -48,6 +53,10 @@ IsMet name rows (command.Audit file) =
     (name ≡ codes "audit") × (file.now ≡ word (codes "FILE") rows)
 IsMet name rows (command.Dump file) =
     (name ≡ codes "dump") × (file.now ≡ word (codes "FILE") rows)
+IsMet name rows (command.Review file path user all) = (name ≡ codes "review")
+    × (file.now ≡ word (codes "FILE") rows) × (path.now ≡ word (codes "PATH") rows)
+    × (option_map (λ (text : Bor Text). text.now) user ≡ first_of (codes "user") rows)
+    × IsFlag (one_of (codes "all") rows) all
 IsMet name rows (command.Reset file path which) = (name ≡ codes "reset")
     × (file.now ≡ word (codes "FILE") rows) × (path.now ≡ word (codes "PATH") rows)
     × (which ≡ which_in rows)
@@ -56,12 +65,12 @@ IsMet name rows (command.Verify file) =
 IsMet name rows (command.Migrate file) =
     (name ≡ codes "migrate") × (file.now ≡ word (codes "FILE") rows)
 
--- One of the ten names of subcommands.
+-- One of the eleven names of subcommands.
 abbrev pub IsName : Text → Type 0
 IsName name = (name ≡ codes "check") ⊎ ((name ≡ codes "init") ⊎ ((name ≡ codes "serve")
     ⊎ ((name ≡ codes "groups") ⊎ ((name ≡ codes "groups-out") ⊎ ((name ≡ codes "audit")
-    ⊎ ((name ≡ codes "dump") ⊎ ((name ≡ codes "reset") ⊎ ((name ≡ codes "verify")
-    ⊎ (name ≡ codes "migrate")))))))))
+    ⊎ ((name ≡ codes "dump") ⊎ ((name ≡ codes "review") ⊎ ((name ≡ codes "reset")
+    ⊎ ((name ≡ codes "verify") ⊎ (name ≡ codes "migrate"))))))))))
 
 abbrev pub HasName : Option (Text × List Row) → Type 0
 HasName None = ⊥

@@ -1,9 +1,9 @@
 -- The subcommands with their arguments, as `clap` reads them (own).
-use Rattle.std.specs.Prelude.{◌≡◌, ◌∷◌, List, [], Option, Some, Bool, true, false, codes, map, pos}
-use Rattle.std.specs.Prelude.{fold}
+use Rattle.std.specs.Prelude.{◌≡◌, ◌∷◌, List, [], Some, true, false, codes, map, pos}
 use Rattle.std.specs.Borrow.{Bor}
-use Rattle.clap.specs.Words.{App, Rule, Shape, Text, app_of, new_app, new_rule, rule_of, with_rule}
+use Rattle.clap.specs.Words.{App, Rule, Text, app_of, new_app, new_rule, rule_of}
 use Rattle.clap.specs.Words.{with_subcommand}
+use Rattle.clap.specs.declared.builder.action.ArgAction.TheVariants.{SetTrue}
 use Rattle.clap.specs.declared.builder.arg.Arg.{Arg}
 use Rattle.clap.specs.declared.builder.command.Command.{Command}
 use Rattle.clap.specs.declared.builder.command.Command.TheViews.{out-Command}
@@ -42,6 +42,17 @@ count = number (codes "count") (codes "1") (parser.Signed (pos 1) (pos 1000000))
 abbrev pub serve : App
 serve = sub (codes "serve") (file ∷ port ∷ count ∷ [])
 
+-- the only user whose rows are written
+abbrev pub user : Rule
+user = record (new_rule (codes "user")) { long = Some (codes "user") }
+
+-- a flag: no row is left out
+abbrev pub all : Rule
+all = record (new_rule (codes "all")) { long = Some (codes "all"); action = Some SetTrue }
+
+abbrev pub review : App
+review = sub (codes "review") (file ∷ wanted (codes "PATH") ∷ user ∷ all ∷ [])
+
 abbrev pub reset : Bor (List (Bor Text)) → App
 reset names = sub (codes "reset") (file ∷ wanted (codes "PATH") ∷ attribute names ∷ [])
 
@@ -73,13 +84,14 @@ making = sub (codes "check") [] ∷ init ∷ serve ∷ groups ∷ []
 
 abbrev pub telling : List App
 telling =
-    over_file (codes "groups-out") ∷ over_file (codes "audit") ∷ over_file (codes "dump") ∷ []
+    over_file (codes "groups-out") ∷ over_file (codes "audit") ∷ over_file (codes "dump") ∷ review
+    ∷ []
 
 abbrev pub keeping : Bor (List (Bor Text)) → List App
 keeping names =
     reset names ∷ over_file (codes "verify") ∷ over_file (codes "migrate") ∷ []
 
--- all ten subcommands
+-- all eleven subcommands
 abbrev pub command_line : Bor (List (Bor Text)) → App
 command_line names = with_all (keeping names) (with_all telling (with_all making program))
 

@@ -1,6 +1,7 @@
 -- The task of a subcommand and its input, or the first reason to refuse it (own).
-use Rattle.std.specs.Prelude.{ℕ, List, ◌++◌, Option, Some, None, Result, Ok, Err, codes}
-use Rattle.std.specs.Prelude.{if◌then◌else◌, length, nat_lt}
+use Rattle.std.specs.Prelude.{ℕ, Bool, List, ◌++◌, Option, Some, None, Result, Ok, Err, codes}
+use Rattle.std.specs.Prelude.{if◌then◌else◌, length, nat_lt, option_map}
+use Rattle.std.specs.Borrow.{Bor}
 use Rattle.room_ace.specs.Faults.{line_fault_text}
 use Rattle.room_entry.specs.Faults.{text_fault_text}
 use Rattle.room_ace.specs.Lists.{sent_of}
@@ -11,6 +12,7 @@ use Rattle.room_import.specs.Faults.{csv_fault_text}
 use Rattle.room_import.specs.Groups.{groups_in}
 use Rattle.room_rows.specs.Faults.{path_fault_text}
 use Rattle.room_rows.specs.Paths.{path_of}
+use Rattle.room_review.specs.declared.question.Question.{Question}
 use Rattle.cli_words.specs.declared.judging.Task.{Task}
 use Rattle.cli_words.specs.declared.judging.Task.TheVariants as task
 use Rattle.cli_words.specs.declared.refusal.TaskRefusal.{TaskRefusal}
@@ -62,6 +64,16 @@ abbrev pub reset_of : List ℕ → Which → List ℕ → Result Task TaskRefusa
 reset_of path which input = goes_on (task_path path) (λ path. goes_on (sent_in input) (λ list.
     Ok (task.Reset path which list)))
 
+abbrev pub question_of : List ℕ → Option (List ℕ) → Bool → Result Question TaskRefusal
+question_of path user all = goes_on (task_path path)
+    (λ path. Ok (record { path = path; user = user; all = all }))
+
+-- a review of one user, or of all callers: the name is judged before the path
+abbrev pub review_of : List ℕ → Option (List ℕ) → Bool → Result Question TaskRefusal
+review_of path None all = question_of path None all
+review_of path (Some name) all =
+    goes_on (task_name name) (λ name. question_of path (Some name) all)
+
 -- `check` and `serve` are none of these tasks.
 abbrev pub task_of : Command → List ℕ → Option (Result Task TaskRefusal)
 task_of command.Check input = None
@@ -72,6 +84,9 @@ task_of (command.Groups file csv) input =
 task_of (command.GroupsOut file) input = Some (Ok task.GroupsOut)
 task_of (command.Audit file) input = Some (Ok task.Audit)
 task_of (command.Dump file) input = Some (Ok task.Dump)
+task_of (command.Review file path user all) input =
+    Some (goes_on (review_of path.now (option_map (λ (name : Bor (List ℕ)). name.now) user) all)
+    (λ question. Ok (task.Review question)))
 task_of (command.Reset file path which) input = Some (reset_of path.now which input)
 task_of (command.Verify file) input = Some (Ok task.Verify)
 task_of (command.Migrate file) input = Some (Ok task.Migrate)

@@ -39,6 +39,14 @@ pub enum Command<'a> {
     Dump {
         file: &'a str,
     },
+    /// Writes who may do what at a path and below it: the rows of one user or of all callers,
+    /// without those that repeat what the folder above says, or all.
+    Review {
+        file: &'a str,
+        path: &'a str,
+        user: Option<&'a str>,
+        all: bool,
+    },
     /// Sets a list at a path without asking any right.
     Reset {
         file: &'a str,
@@ -79,6 +87,7 @@ impl<'a> Command<'a> {
             Command::GroupsOut { file } => Some(file),
             Command::Audit { file } => Some(file),
             Command::Dump { file } => Some(file),
+            Command::Review { file, .. } => Some(file),
             Command::Reset { file, .. } => Some(file),
             Command::Verify { file } => Some(file),
             Command::Migrate { file } => Some(file),

@@ -89,6 +89,20 @@ and then the members.
 
 Example: rooms dump office.rooms";
 
+pub(crate) const REVIEW: &str = "\
+A row path,kind,user,rights,remove, and then a row for each object and caller:
+which rights this caller would be granted there, by their letters, and whether
+the object may be removed. The callers are all users who are in a group, own
+something or are named in a list; then *, which is any other name; then
+ANONYMOUS@, a caller without a name. A row that repeats what the same caller may
+do with the folder above is left out. PATH is written as it is, without escapes.
+
+  0  the rows
+  2  refused: N1 no-such at PATH, or another refusal
+  3  a fault, printed on standard error
+
+Example: rooms review office.rooms /letters --user bob";
+
 pub(crate) const RESET: &str = "\
 The list is read from standard input: the line list: with its flags, and then an
 entry on each line. PATH is written as it is, without escapes.

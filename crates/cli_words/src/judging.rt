@@ -1,14 +1,14 @@
 //! Validates a subcommand's words and input.
-ghost use Rattle.std.specs.Prelude.{IfSome, IsSome};
+ghost use Rattle.std.specs.Prelude.{IfSome, IsSome, option_map};
 ghost use Rattle.room_entry.specs.Gives.{Gives};
-ghost use Rattle.cli_words.specs.Tasks.{task_name, init_task, pairs_in, task_path, reset_of};
-ghost use Rattle.cli_words.specs.Tasks.{sent_in};
-ghost use Rattle.cli_words.specs.Tasks.{task_of};
+ghost use Rattle.cli_words.specs.Tasks.{init_task, pairs_in, question_of, reset_of, review_of};
+ghost use Rattle.cli_words.specs.Tasks.{sent_in, task_name, task_of, task_path};
 
 use crate::command::Command;
 use crate::refusal::TaskRefusal;
 use room_ace::{Failure, MOST_BYTES, Name, Owners, SentList, Which, read_list, read_name};
 use room_import::{Pairs, read_groups};
+use room_review::Question;
 use room_rows::{Path, read_path};
 use std::alloc::Global;
 
@@ -28,6 +28,8 @@ pub enum Task {
     Audit,
     /// Print all objects and members.
     Dump,
+    /// Print who may do what.
+    Review(Question),
     /// Set the list at this path.
     Reset(Path, Which, SentList),
     /// Find the first fault of the rows.
@@ -53,6 +55,12 @@ pub fn judge(
         Command::GroupsOut { .. } => Ok(Task::GroupsOut),
         Command::Audit { .. } => Ok(Task::Audit),
         Command::Dump { .. } => Ok(Task::Dump),
+        Command::Review {
+            path,
+            user,
+            all,
+            ..
+        } => Ok(Task::Review(review_of(alloc, path, *user, *all)?)),
         Command::Reset { path, which, .. } => reset_of(alloc, path, *which, input),
         Command::Verify { .. } => Ok(Task::Verify),
         Command::Migrate { .. } => Ok(Task::Migrate),
@@ -89,6 +97,32 @@ fn pairs_in(alloc: Global, input: &[u8]) -> Result<Pairs, Failure<TaskRefusal>>
         Err(Failure::Fault(fault)) => Err(Failure::Fault(TaskRefusal::Row(fault))),
         Err(Failure::OutOfMemory) => Err(Failure::OutOfMemory),
     }
+}
+
+fn review_of(
+    alloc: Global,
+    path: &str,
+    user: Option<&str>,
+    all: bool,
+) -> Result<Question, Failure<TaskRefusal>>
+    ensures { Gives result (review_of path.now (option_map (λ name. name.now) user.entry) all) }
+{
+    match user {
+        None => question_of(alloc, path, None, all),
+        Some(name) => question_of(alloc, path, Some(task_name(alloc, name)?), all),
+    }
+}
+
+fn question_of(
+    alloc: Global,
+    path: &str,
+    user: Option<Name>,
+    all: bool,
+) -> Result<Question, Failure<TaskRefusal>>
+    ensures { Gives result (question_of path.now user all) }
+{
+    let path = task_path(alloc, path)?;
+    Ok(Question { path, user, all })
 }
 
 fn reset_of(

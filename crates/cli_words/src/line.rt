@@ -1,11 +1,11 @@
 //! The subcommands with their arguments, as they are declared to `clap`.
 ghost use Rattle.std.specs.Prelude.{IfOk, [], codes};
-ghost use Rattle.cli_words.specs.Line.{IsArg, IsCommandLine, IsLine, IsReset, count, file, groups};
-ghost use Rattle.cli_words.specs.Line.{init, making, over_file, port, program, serve, sub, telling};
-ghost use Rattle.cli_words.specs.Line.{wanted, with_all};
+ghost use Rattle.cli_words.specs.Line.{IsArg, IsCommandLine, IsLine, IsReset, all, count, file};
+ghost use Rattle.cli_words.specs.Line.{groups, init, making, over_file, port, program, review};
+ghost use Rattle.cli_words.specs.Line.{serve, sub, telling, user, wanted, with_all};
 
 use crate::help;
-use clap::{Arg, Command, value_parser};
+use clap::{Arg, ArgAction, Command, value_parser};
 use std::alloc::{AllocError, Global};
 
 // What `rooms --version` prints.
@@ -107,6 +107,33 @@ fn groups<'a>(alloc: Global) -> Result<Command<'a>, AllocError>
         .arg(wanted(alloc, "CSV", "A file with the header group,user"))
 }
 
+fn user<'a>(alloc: Global) -> Arg<'a>
+    ensures { IsArg user result }
+{
+    Arg::new(alloc, "user")
+        .long("user")
+        .help("The only user whose rows are written")
+}
+
+fn all<'a>(alloc: Global) -> Arg<'a>
+    ensures { IsArg all result }
+{
+    Arg::new(alloc, "all")
+        .long("all")
+        .action(ArgAction::SetTrue)
+        .help("Leaves out no row")
+}
+
+fn review<'a>(alloc: Global) -> Result<Command<'a>, AllocError>
+    ensures { IfOk result (IsLine review) }
+{
+    let about = "Writes who may do what with an object and all below it, as CSV";
+    over_file(alloc, "review", about, help::REVIEW)?
+        .arg(wanted(alloc, "PATH", "The path of the object"))?
+        .arg(user(alloc))?
+        .arg(all(alloc))
+}
+
 // The program without its subcommands.
 fn program<'a>(alloc: Global) -> Command<'a>
     ensures { IsLine program result }
@@ -149,7 +176,8 @@ fn with_telling<'a>(alloc: Global) -> Result<Command<'a>, AllocError>
         help::GROUPS_OUT,
     )?)?
     .subcommand(over_file(alloc, "audit", "Writes the records as CSV", help::AUDIT)?)?
-    .subcommand(over_file(alloc, "dump", "Writes all objects and members", help::DUMP)?)
+    .subcommand(over_file(alloc, "dump", "Writes all objects and members", help::DUMP)?)?
+    .subcommand(review(alloc)?)
 }
 
 /// The program with all its subcommands.

@@ -1,9 +1,10 @@
 //! Words read as a command.
 ghost use Rattle.std.specs.Prelude.{◌≡◌, IfErr, IfOk, IfSome, IsSome, map};
-ghost use Rattle.std.specs.Prelude.{codes};
-ghost use Rattle.clap.specs.Words.{found_of, kind_of, one_of, rows_of, subcommand_rows_of};
-ghost use Rattle.cli_words.specs.Command.{HasName, IsCommand, IsMet, IsName, IsNumber, IsRead};
-ghost use Rattle.cli_words.specs.Command.{IsRefused, IsTold, which_in, word};
+ghost use Rattle.std.specs.Prelude.{codes, option_map};
+ghost use Rattle.clap.specs.Words.{first_of, found_of, kind_of, one_of, rows_of};
+ghost use Rattle.clap.specs.Words.{subcommand_rows_of};
+ghost use Rattle.cli_words.specs.Command.{HasName, IsCommand, IsFlag, IsMet, IsName, IsNumber};
+ghost use Rattle.cli_words.specs.Command.{IsRead, IsRefused, IsTold, which_in, word};
 
 use crate::command::{CliFault, Command};
 use crate::line::command_line;
@@ -79,6 +80,31 @@ fn groups<'a>(words: &ArgMatches<'a>) -> Command<'a>
     }
 }
 
+// The user who was named, if one was.
+fn user<'a>(words: &ArgMatches<'a>) -> Option<&'a str>
+    ensures { option_map (λ text. text.now) result
+        ≡ first_of (codes "user") (rows_of (found_of words.now)) }
+{
+    words.get_str("user")
+}
+
+fn all(words: &ArgMatches<'_>) -> bool
+    ensures { IsFlag (one_of (codes "all") (rows_of (found_of words.now))) result }
+{
+    words.get_flag("all")
+}
+
+fn review<'a>(words: &ArgMatches<'a>) -> Command<'a>
+    ensures { IsMet (codes "review") (rows_of (found_of words.now)) result }
+{
+    Command::Review {
+        file: word(words, "FILE"),
+        path: word(words, "PATH"),
+        user: user(words),
+        all: all(words),
+    }
+}
+
 fn reset<'a>(words: &ArgMatches<'a>) -> Command<'a>
     ensures { IsMet (codes "reset") (rows_of (found_of words.now)) result }
 {
@@ -100,6 +126,7 @@ fn met<'a>(name: &str, words: &ArgMatches<'a>) -> Option<Command<'a>>
         "init" => Some(init(words)),
         "serve" => Some(serve(words)),
         "groups" => Some(groups(words)),
+        "review" => Some(review(words)),
         "reset" => Some(reset(words)),
         "groups-out" => Some(Command::GroupsOut { file }),
         "audit" => Some(Command::Audit { file }),

@@ -12,6 +12,8 @@
 //! - `groups-out FILE` prints the members as CSV.
 //! - `audit FILE` prints the records as CSV.
 //! - `dump FILE` prints all objects and all members.
+//! - `review FILE PATH --user NAME --all` prints as CSV who may do what with the object at PATH and
+//!   with all below it.
 //! - `reset FILE PATH dacl|sacl` sets the list on standard input, without testing any right, and
 //!   prints `done`.
 //! - `verify FILE` prints the first fault of the rows, or `sound`.

@@ -75,6 +75,35 @@ fn words_of_a_room_are_read(rt: HostRuntime) -> Result<(), Fail> {
 }
 
 #[test]
+fn words_of_a_review_are_read(rt: HostRuntime) -> Result<(), Fail> {
+    let bare = Command::Review {
+        file: "a.db",
+        path: "/a b",
+        user: None,
+        all: false,
+    };
+    expect_read(&rt, &["rooms", "review", "a.db", "/a b"], bare)?;
+    let whole = Command::Review {
+        file: "a.db",
+        path: "/",
+        user: Some("bob"),
+        all: true,
+    };
+    let words = ["rooms", "review", "--all", "a.db", "--user", "bob", "/"];
+    expect_read(&rt, &words, whole)?;
+    let named = Command::Review {
+        file: "a.db",
+        path: "/",
+        user: Some(""),
+        all: false,
+    };
+    expect_read(&rt, &["rooms", "review", "a.db", "/", "--user="], named)?;
+    let twice = ["rooms", "review", "a.db", "/", "--user", "a", "--user", "b"];
+    told(&rt, &twice, ErrorKind::ArgumentConflict)?;
+    Ok(())
+}
+
+#[test]
 fn words_of_a_file_are_read(rt: HostRuntime) -> Result<(), Fail> {
     let file = "a.db";
     expect_read(&rt, &["rooms", "check"], Command::Check)?;
@@ -130,6 +159,7 @@ fn other_words_are_refused(rt: HostRuntime) -> Result<(), Fail> {
     let missing = ErrorKind::MissingRequiredArgument;
     expect_refused(&rt, &["rooms", "verify"], missing)?;
     expect_refused(&rt, &["rooms", "init", "a.db", "alice"], missing)?;
+    expect_refused(&rt, &["rooms", "review", "a.db"], missing)?;
     let other_list = ["rooms", "reset", "a.db", "/", "facl"];
     told(&rt, &other_list, ErrorKind::InvalidValue)?;
     expect_refused(
@@ -162,6 +192,7 @@ fn help_tells_statuses_and_an_example(rt: HostRuntime) -> Result<(), Fail> {
     expect_help(&rt, "groups-out", "Example: rooms groups-out office.rooms")?;
     expect_help(&rt, "audit", "Example: rooms audit office.rooms")?;
     expect_help(&rt, "dump", "Example: rooms dump office.rooms")?;
+    expect_help(&rt, "review", "Example: rooms review office.rooms /letters")?;
     expect_help(
         &rt,
         "reset",

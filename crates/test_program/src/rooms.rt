@@ -28,6 +28,13 @@ member sales bob
 const DOCUMENT: &str = "INSERT INTO nodes VALUES (2, 1, 'f', 0, 'root', 'staff', 0, 0, '', \
      'A:I:OWNER@:rwanNxDtThHdcCoy\n', '', ''); INSERT INTO bodies VALUES (2, x'6869');";
 
+const REVIEWED: &str = "\
+path,kind,user,rights,remove
+/,folder,root,rwanNxDtThHdcCoy,no
+/,folder,*,,no
+/,folder,ANONYMOUS@,,no
+";
+
 const GROUPS: &[u8] = b"\xEF\xBB\xBFgroup,user\r\nsales,alice\r\nsales,bob\r\nsales,alice\r\n";
 
 const BAD_GROUPS: &[u8] = b"group,user\nsales,alice\nops,bad name\n";
@@ -93,6 +100,24 @@ fn reset_is_refused_before_the_room_is_opened(rt: HostRuntime) -> Result<(), Fai
         &[
             tells(bad_path, "refused: P1 bad object name\n", 2),
             tells(bad_list, "refused: line 1: A6 no list line\n", 2),
+        ],
+    )
+}
+
+#[test]
+fn review_is_printed_or_refused(rt: HostRuntime) -> Result<(), Fail> {
+    let bad_name = Ask::Review("q", Some("bad name"));
+    let bad_path = Ask::Review("q", Some("bob"));
+    let below = Ask::Review("/f/x", None);
+    plays(
+        rt.alloc(),
+        &[
+            tells(bad_name, "refused: A3 bad who\n", 2),
+            tells(bad_path, "refused: P1 bad object name\n", 2),
+            tells(Ask::Init, "ready\n", 0),
+            tells(Ask::Review("/", None), REVIEWED, 0),
+            tells(Ask::Review("/q", None), "refused: N1 no-such at /q\n", 2),
+            after(DOCUMENT, below, "refused: N2 not-folder at /f\n", 2),
         ],
     )
 }

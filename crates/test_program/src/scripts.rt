@@ -14,6 +14,7 @@ pub enum Ask {
     GroupsOut,
     Audit,
     Dump,
+    Review(&'static str, Option<&'static str>),
     Reset(&'static str, Which, &'static [u8]),
     Verify,
     Migrate,
@@ -69,6 +70,15 @@ pub fn task_of(alloc: Global, ask: Ask) -> Result<Task, Failure<TaskRefusal>> {
         Ask::GroupsOut => judge(alloc, &Command::GroupsOut { file }, &[]),
         Ask::Audit => judge(alloc, &Command::Audit { file }, &[]),
         Ask::Dump => judge(alloc, &Command::Dump { file }, &[]),
+        Ask::Review(path, user) => {
+            let review = Command::Review {
+                file,
+                path,
+                user,
+                all: false,
+            };
+            judge(alloc, &review, &[])
+        }
         Ask::Reset(path, which, list) => judge(alloc, &Command::Reset { file, path, which }, list),
         Ask::Verify => judge(alloc, &Command::Verify { file }, &[]),
         Ask::Migrate => judge(alloc, &Command::Migrate { file }, &[]),

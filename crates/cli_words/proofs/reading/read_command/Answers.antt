@@ -1,8 +1,8 @@
-use Rattle.std.proofs.Common.{◌≡◌, ◌∙◌, refl, sym, subst, map, ap, true, [], List, Option, inl, inr}
+use Rattle.std.proofs.Common.{◌≡◌, refl, sym, subst, map, true, [], List, Option, inl, inr}
 use Rattle.std.proofs.lemmas.Bool.{false_from_ne_true}
 use Rattle.std.specs.Borrow.{Bor}
 use Rattle.clap.specs.Simple.{HasMatchesOf, is_simple}
-use Rattle.clap.specs.Words.{App, HasKind, IsAmong, Row, Text, app_of, fault_of, is_simple_and_free}
+use Rattle.clap.specs.Words.{App, HasKind, IsAmong, Row, Text, fault_of, is_simple_and_free}
 use Rattle.clap.specs.Words.{kind_of, subcommand_of, subcommand_rows_of, takes}
 use Rattle.clap.specs.declared.error.Error.{Error}
 use Rattle.clap.specs.declared.error.kind.ErrorKind.{ErrorKind}

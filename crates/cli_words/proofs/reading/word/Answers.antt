@@ -1,4 +1,4 @@
-use Rattle.std.proofs.Common.{◌≡◌, ◌∙◌, ap, sym, List, ℕ, Option, [], Some, None}
+use Rattle.std.proofs.Common.{◌∙◌, ap, sym, List, ℕ, Option, []}
 use Rattle.std.specs.Prelude.{unwrap_or, option_map}
 use Rattle.clap.specs.Words.{found_of}
 use Rattle.clap.proofs.WalkLemmas.{first_value-rows}

@@ -1,4 +1,3 @@
-use Rattle.std.proofs.Common.{subst}
 use Rattle.cli_words.proofs.Taking.{unread, whole}
 use Rattle.cli_words.proofs.task.read_task.Goals as goal
 

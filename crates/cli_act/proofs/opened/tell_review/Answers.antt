@@ -1,0 +1,20 @@
+use Rattle.std.proofs.Common.{Ok, Err}
+use Rattle.cli_act.proofs.opened.tell_review.Goals as goal
+
+pub returns-in-Ok : goal.returns-in-Ok
+returns-in-Ok g c =
+    record {
+      result = Ok c.in-Ok.reviewed;
+      looked = c.in-Ok.ensures.looked;
+      leads = c.in-Ok.ensures.leads;
+      told = c.after_review.ensures;
+    }
+
+pub returns-in-Err : goal.returns-in-Err
+returns-in-Err g c =
+    record {
+      result = Err c.in-Err.fault;
+      looked = c.in-Err.ensures.looked;
+      leads = c.in-Err.ensures.leads;
+      told = c.after_fault.ensures;
+    }
