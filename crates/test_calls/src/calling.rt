@@ -1,10 +1,11 @@
 //! The calls of a store, each with its answer in words.
 
 use crate::words::{cut, push_lines, push_report, push_store_fault};
-use room_ace::{Failure, Name, SentList, Which};
+use room_ace::{Failure, Name, SentList, Which, read_name};
 use room_import::{CsvFault, read_groups, write_audits};
 use room_inherit::Report;
 use room_machine::Reply;
+use room_review::{Question, Reviewed};
 use room_rows::{AuditRow, Path};
 use room_store::{Store, StoreFault};
 use sqlite::Alter;
@@ -80,6 +81,7 @@ pub(crate) fn call<S: Alter>(
         "Dump" => dump(alloc, store, told),
         "Members" => members(alloc, store, told),
         "Audits" => audits(alloc, store, told),
+        "Review" => review(alloc, store, rest, told),
         "Import" => import(alloc, store, rest, told),
         _ => Err(Fail::new("no such call of a store")),
     }
@@ -141,6 +143,59 @@ fn recorded<S: Alter>(alloc: Global, store: &mut Store<S>) -> Result<Vec<AuditRo
 fn push_audits(alloc: Global, told: &mut String, rows: &[AuditRow]) -> Result<(), Fail> {
     let bytes = write_audits(alloc, rows)?;
     push_lines(told, str::from_utf8(bytes.as_slice())?)
+}
+
+// Adds the table of a review, or the refusal.
+fn review<S: Alter>(
+    alloc: Global,
+    store: &mut Store<S>,
+    words: &str,
+    told: &mut String,
+) -> Result<(), Fail> {
+    let question = question_of(alloc, words)?;
+    let answer = reviewed(alloc, store, &question);
+    drop(question);
+    match answer {
+        Ok(reviewed) => push_reviewed(alloc, told, reviewed),
+        Err(fault) => push_store_fault(told, fault),
+    }
+}
+
+// A path, then perhaps a user, then perhaps `all`.
+fn question_of(alloc: Global, words: &str) -> Result<Question, Fail> {
+    let (place, words) = cut(words);
+    let (user, rest) = match words {
+        "all" => ("", words),
+        _ => cut(words),
+    };
+    let user = user_of(alloc, user)?;
+    Ok(Question {
+        path: path_of(alloc, place)?,
+        user,
+        all: rest == "all",
+    })
+}
+
+fn user_of(alloc: Global, text: &str) -> Result<Option<Name>, Fail> {
+    if text.is_empty() {
+        return Ok(None);
+    }
+    Ok(Some(read_name(alloc, text)?))
+}
+
+fn reviewed<S: Alter>(
+    alloc: Global,
+    store: &mut Store<S>,
+    question: &Question,
+) -> Result<Reviewed, StoreFault> {
+    store.review(alloc, question)
+}
+
+fn push_reviewed(alloc: Global, told: &mut String, reviewed: Reviewed) -> Result<(), Fail> {
+    match reviewed {
+        Reviewed::Table(text) => push_lines(told, str::from_utf8(text.as_slice())?),
+        Reviewed::Refused { at, why } => push_reply(alloc, told, &Reply::Refused { at, why }),
+    }
 }
 
 fn which_of(text: &str) -> Which {
