@@ -8,6 +8,7 @@ use Rattle.std.specs.Option.{option_map, option_map_or}
 use Rattle.std.proofs.lemmas.Bool.{and_parts, eqb-true, false≢true, or_cases}
 use Rattle.std.proofs.lemmas.List.{get_or-map, length-map, map-append, take_all, take_more}
 use Rattle.std.proofs.lemmas.List.Folds.{list_all-append}
+use Rattle.std.proofs.Math.Bool.{and-true, or-false}
 use Rattle.room_entry.specs.BitLaws.{has-chosen}
 use Rattle.room_entry.specs.Bits.{all_bits, has, shares}
 use Rattle.room_entry.specs.Rights.{delete, delete_child, execute, write_data}
@@ -150,14 +151,6 @@ module _ (target folder : Site) where
 
 -- ---- an object behind others
 
-and_one : (t : Bool) → (t && true) ≡ t
-and_one true = refl
-and_one false = refl
-
-or_nothing : (t : Bool) → (t || false) ≡ t
-or_nothing true = refl
-or_nothing false = refl
-
 module _ (caller : Caller) (path : List (List ℕ)) (node : Node) (above : List Site) where
   abbrev target : Site
   target = stored_site path node
@@ -186,13 +179,13 @@ module _ (caller : Caller) (path : List (List ℕ)) (node : Node) (above : List 
     opens_open =
         sym (list_all-append (lets_through caller) above (target ∷ [])
         ∙ ap (λ t. t && (lets_through caller target && true)) free
-        ∙ and_one (lets_through caller target)
+        ∙ and-true (lets_through caller target)
         ∙ ap (λ t. is_folder node && t) (sym (has_allowed execute known_execute)))
 
     keeps_open : shares (delete_child ∷ []) denied
         ≡ (reaches caller above && keeps_children caller target)
     keeps_open =
-        or_nothing (has denied delete_child) ∙ has_denied delete_child known_delete_child
+        or-false (has denied delete_child) ∙ has_denied delete_child known_delete_child
         ∙ sym (ap (λ t. t && keeps_children caller target) free)
 
   -- the root

@@ -34,25 +34,6 @@ use Rattle.room_entry.proofs.Texts.{all-append, same_text-true}
 
 -- ---- names that are gathered
 
-or_none : (t : Bool) → t ≡ (t || false)
-or_none true = refl
-or_none false = refl
-
--- a name that is there
-pub gathers_there : (names : List (List ℕ)) (name : List ℕ) → is_listed name names ≡ true
-    → Gathers names (name ∷ []) names
-gathers_there names name there other =
-    on (same_text name other) refl
-  where
-    on : (t : Bool) → same_text name other ≡ t
-        → is_listed other names ≡ (is_listed other names || (t || false))
-    on true is =
-        let listed : is_listed other names ≡ true =
-        subst (λ (text : List ℕ). is_listed text names ≡ true) (same_text-true name other is) there
-        in
-        listed ∙ ap (λ t. t || true) (sym listed)
-    on false is = or_none (is_listed other names)
-
 in_between : (a b t : Bool) → (a || (t || b)) ≡ ((a || b) || (t || false))
 in_between true b t = refl
 in_between false true true = refl
@@ -73,22 +54,6 @@ gathers_put names place name other =
     ∙ ap (λ (all : List (List ℕ)). list_any here all) (take-append-drop place names))
 
 module _ {X : Type 0} (f : X → List (List ℕ)) (start : List (List ℕ)) (xs : List X) where
-  pub gathers_next : (i : ℕ) (x : X) (names more : List (List ℕ)) → i < length xs
-      → x ≡ get_or xs i x → GathersFirst f start xs i names → Gathers names (f x) more
-      → GathersFirst f start xs (i + 1) more
-  gathers_next i x names more below is sofar next =
-      subst (λ (found : List (List ℕ)). Gathers start found more)
-      (sym (flat_map-append f (take i xs) (x ∷ []) ∙ refl)
-      ∙ sym (ap (flat_map f) (take_more xs i x below
-      ∙ ap (λ y. take i xs ++ y ∷ []) (sym is))))
-      (subst (λ (found : List (List ℕ)). Gathers start (flat_map f (take i xs) ++ found) more)
-      (sym (append_none (f x)))
-      (gathers_on start names more (flat_map f (take i xs)) (f x) sofar next))
-    where
-      append_none : (found : List (List ℕ)) → found ++ [] ≡ found
-      append_none [] = refl
-      append_none (y ∷ ys) = ap (λ zs. y ∷ zs) (append_none ys)
-
   pub gathers_all : (i : ℕ) (names : List (List ℕ)) → length xs ≤ i → GathersFirst f start xs i names
       → Gathers start (flat_map f xs) names
   gathers_all i names past sofar =
@@ -138,13 +103,6 @@ module _ (names : List (List ℕ)) (name : List ℕ) where
   -- the names before a place come before the name
   abbrev pub AreBefore : ℕ → Type 0
   AreBefore i = list_all (λ other. is_before other name) (take i names) ≡ true
-
-  pub before_next : (i : ℕ) (other : List ℕ) → i < length names → other ≡ get_or names i other
-      → slice_cmp nat_cmp other name ≡ Less → AreBefore i → AreBefore (i + 1)
-  before_next i other below is less sofar =
-      list_all_more (λ text. is_before text name) names i other below
-      ∙ and_from (list_all (λ text. is_before text name) (take i names)) _ sofar
-      (ap (λ text. is_before text name) (sym is) ∙ ap is_lt less)
 
   pub found_there : (i : ℕ) (other : List ℕ) → i < length names → other ≡ get_or names i other
       → slice_cmp nat_cmp other name ≡ Equal → is_listed name names ≡ true

@@ -19,15 +19,11 @@ use Rattle.room_review.specs.Lines.{line, lines}
 use Rattle.room_review.specs.Standing.{standing, standings}
 use Rattle.room_review.specs.Table.{row, rows_at}
 use Rattle.room_entry.proofs.Facts.Members.{filter_map}
+use Rattle.room_inherit.proofs.Renewing.{map_map}
 
 zip_map : {A B : Type 0} (f : A → B) (xs : List A) → zip xs (map f xs) ≡ map (λ x. (x, f x)) xs
 zip_map f [] = refl
 zip_map f (x ∷ xs) = ap (λ l. (x, f x) ∷ l) (zip_map f xs)
-
-map_map : {A B C : Type 0} (g : B → C) (f : A → B) (xs : List A)
-    → map g (map f xs) ≡ map (λ x. g (f x)) xs
-map_map g f [] = refl
-map_map g f (x ∷ xs) = ap (λ l. g (f x) ∷ l) (map_map g f xs)
 
 -- by what is kept of them for all callers at an object
 pub lines_at : (path : List ℕ) (kind : ObjKind) (all : Bool) (parties : List Party)
