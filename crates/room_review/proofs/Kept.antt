@@ -3,12 +3,11 @@ use Rattle.std.proofs.Common.{ℕ, suc, ◌-◌, ◌≡◌, Bool, true, false, c
 use Rattle.std.proofs.Common.{◌∷◌, ◌++◌, length, take, filter, Option, Some, None, refl, sym, ap}
 use Rattle.std.proofs.Common.{◌∙◌, arith, inl, inr, map, get_or, min, ◌+◌, ◌<◌}
 use Rattle.std.specs.Prelude.{◌==◌, is_none}
-use Rattle.std.specs.List.{list_all}
 use Rattle.std.specs.Option.{option_map, option_map_or}
+use Rattle.std.proofs.Math.Bool.{and-true, or-false}
 use Rattle.std.proofs.lemmas.Bool.{and_parts, eqb-true, false≢true, or_cases}
 use Rattle.std.proofs.lemmas.List.{get_or-map, length-map, map-append, take_all, take_more}
 use Rattle.std.proofs.lemmas.List.Folds.{list_all-append}
-use Rattle.std.proofs.Math.Bool.{and-true, or-false}
 use Rattle.room_entry.specs.BitLaws.{has-chosen}
 use Rattle.room_entry.specs.Bits.{all_bits, has, shares}
 use Rattle.room_entry.specs.Rights.{delete, delete_child, execute, write_data}
@@ -68,7 +67,8 @@ pub next_mapped : {A B C : Type 0} (f : A → B) (g : A → C) (xs : List A) (ys
     → zs ≡ map g (take i xs) → zs ++ z ∷ [] ≡ map g (take (i + 1) xs)
 next_mapped f g xs ys i x y zs z below at beside are turns sofar =
     let same : y ≡ f x =
-    beside (f x) ∙ ap (λ l. get_or l i (f x)) are ∙ get_or-map f xs i x (f x) below ∙ ap f (sym (at x)) in
+    beside (f x) ∙ ap (λ l. get_or l i (f x)) are ∙ get_or-map f xs i x (f x) below
+    ∙ ap f (sym (at x)) in
     (λ j. sofar j ++ turns same j ∷ []) ∙ sym (map-append g (take i xs) (x ∷ []))
     ∙ ap (map g) (ap (λ v. take i xs ++ v ∷ []) (at x) ∙ sym (take_more xs i x below))
 
@@ -163,11 +163,13 @@ module _ (caller : Caller) (path : List (List ℕ)) (node : Node) (above : List 
   denied =
       filter (λ right. is_denied (ruling_of (full_of node.dacl) caller node.owners right)) all_bits
 
-  has_allowed : (right : ℕ) → has all_bits right ≡ true → has allowed right ≡ grants caller right target
+  has_allowed : (right : ℕ) → has all_bits right ≡ true
+      → has allowed right ≡ grants caller right target
   has_allowed right known = has-chosen (λ b. grants caller b target) right known
 
   has_denied : (right : ℕ) → has all_bits right ≡ true
-      → has denied right ≡ is_denied (ruling_of (full_at Dacl target) caller target.node.owners right)
+      → has denied right
+      ≡ is_denied (ruling_of (full_at Dacl target) caller target.node.owners right)
   has_denied right known =
       has-chosen (λ b. is_denied (ruling_of (full_of node.dacl) caller node.owners b)) right known
 

@@ -1,7 +1,6 @@
 -- Names in order, and a name that is none of them.
 use Rattle.std.proofs.Common.{ℕ, zero, suc, ◌<◌, ◌≤◌, ◌^◌, ◌≡◌, Bool, true, false, cond, not}
-use Rattle.std.proofs.Common.{◌&&◌, ◌||◌, List, [], ◌∷◌, ◌++◌, map, length, take, drop, get_or}
-use Rattle.std.proofs.Common.{refl}
+use Rattle.std.proofs.Common.{◌&&◌, ◌||◌, List, [], ◌∷◌, length, take, drop, get_or, refl}
 use Rattle.std.proofs.Common.{sym, ap, subst, ◌∙◌, arith, nat_cmp, is_lt, drop-cons, ◌+◌, ◌%◌}
 use Rattle.std.proofs.Common.{⊎_elim, Result, Ok, Err}
 use Rattle.std.specs.Prelude.{decimal, nat_lt, nat_le, ◌==◌}
@@ -9,15 +8,13 @@ use Rattle.std.specs.Cmp.Lexicographic.{slice_cmp, nat_list_cmp_total, texts_tie
 use Rattle.std.specs.List.{flat_map, insert, list_all, list_any, position_or_len}
 use Rattle.std.specs.Ordering.{is_eq, ordering_reverse}
 use Rattle.std.specs.Set.{remove_key}
-use Rattle.std.specs.declared.cmp.Ordering.{Ordering}
-use Rattle.std.specs.declared.cmp.Ordering.TheVariants.{Less, Equal, Greater}
+use Rattle.std.specs.declared.cmp.Ordering.TheVariants.{Equal, Greater}
 use Rattle.std.proofs.lemmas.Bool.{agree_below_at, and_from, and_parts}
 use Rattle.std.proofs.lemmas.Bool.{cases_lt, false_from_ne_true, le-leb, lt-ltb, not-true}
 use Rattle.std.proofs.lemmas.Fmt.{decimal_by_steps, decimal_injective, decimal_nonempty}
 use Rattle.std.proofs.lemmas.Fmt.{length-decimal-le}
-use Rattle.std.proofs.lemmas.Grind.{flat_map-append}
-use Rattle.std.proofs.lemmas.List.{take_all, take_more, take-append-drop}
-use Rattle.std.proofs.lemmas.List.Folds.{list_all_more, list_any_at, list_any-append}
+use Rattle.std.proofs.lemmas.List.{take_all, take-append-drop}
+use Rattle.std.proofs.lemmas.List.Folds.{list_any_at, list_any-append}
 use Rattle.std.proofs.lemmas.Map.Made.{length-remove_key}
 use Rattle.room_entry.specs.Bytes.{at_sign}
 use Rattle.room_entry.specs.Gives.{Gives}
@@ -28,7 +25,7 @@ use Rattle.room_entry.specs.declared.fault.TextFault.TheVariants.{BadWho}
 use Rattle.room_entry.specs.Pieces.{same_text}
 use Rattle.room_rows.specs.Content.{is_before}
 use Rattle.room_review.specs.Users.{Gathers, are_apart, is_listed}
-use Rattle.room_review.proofs.Gathers.{GathersFirst, gathers_on}
+use Rattle.room_review.proofs.Gathers.{GathersFirst}
 use Rattle.room_entry.proofs.Cuts.{pieces_whole}
 use Rattle.room_entry.proofs.Texts.{all-append, same_text-true}
 
@@ -54,8 +51,8 @@ gathers_put names place name other =
     ∙ ap (λ (all : List (List ℕ)). list_any here all) (take-append-drop place names))
 
 module _ {X : Type 0} (f : X → List (List ℕ)) (start : List (List ℕ)) (xs : List X) where
-  pub gathers_all : (i : ℕ) (names : List (List ℕ)) → length xs ≤ i → GathersFirst f start xs i names
-      → Gathers start (flat_map f xs) names
+  pub gathers_all : (i : ℕ) (names : List (List ℕ)) → length xs ≤ i
+      → GathersFirst f start xs i names → Gathers start (flat_map f xs) names
   gathers_all i names past sofar =
       subst (λ (all : List X). Gathers start (flat_map f all) names) (take_all i xs past) sofar
 
@@ -209,7 +206,8 @@ all_digits n fits =
     one n below = agree_below_at (λ n. is_plain (48 + n)) (λ n. true) 10 n refl below
 
 plain_parts : (ds : List ℕ) → list_all is_plain ds ≡ true
-    → (list_all is_local_byte ds ≡ true) × (length ds ≤ position_or_len (λ byte. byte == at_sign) ds)
+    → (list_all is_local_byte ds ≡ true)
+    × (length ds ≤ position_or_len (λ byte. byte == at_sign) ds)
 plain_parts [] all = (refl, omega arith)
 plain_parts (b ∷ ds) all =
     let parts = and_parts (is_plain b) (list_all is_plain ds) all in

@@ -17,7 +17,7 @@ use Rattle.room_review.specs.declared.parties.Party.{Party}
 use Rattle.room_review.specs.declared.standing.Standing.{Standing}
 use Rattle.room_review.specs.Lines.{line, lines}
 use Rattle.room_review.specs.Standing.{standing, standings}
-use Rattle.room_review.specs.Table.{row, rows_at}
+use Rattle.room_review.specs.Table.{rows_at}
 use Rattle.room_entry.proofs.Facts.Members.{filter_map}
 use Rattle.room_inherit.proofs.Renewing.{map_map}
 
@@ -55,7 +55,8 @@ module _ (path : List ℕ) (kind : ObjKind) (all : Bool) (parties : List Party)
       rw add-one
       (drop-cons (zip parties here) i pair (let many = length-zip parties here in omega arith)
       ∙ ap (λ (z : Party × Standing). z ∷ drop (suc i) (zip parties here))
-      (get_or-zip parties here i pair first second ∙ λ j. (sym (at party) j, sym (beside standing) j)))
+      (get_or-zip parties here i pair first second
+      ∙ λ j. (sym (at party) j, sym (beside standing) j)))
 
   -- a row that stands
   pub line_shown : (before after total : List ℕ) → (all || not standing.repeats) ≡ true

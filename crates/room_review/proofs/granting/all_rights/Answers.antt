@@ -6,4 +6,5 @@ use Rattle.room_review.proofs.granting.all_rights.Goals as goal
 pub returns : goal.returns
 unfolding all_bits
 returns c =
-    c.unwrap_or.ensures ∙ ap (λ (o : Option (List ℕ)). unwrap_or o c.empty.result) c.from_number.ensures
+    c.unwrap_or.ensures
+    ∙ ap (λ (o : Option (List ℕ)). unwrap_or o c.empty.result) c.from_number.ensures

@@ -99,7 +99,8 @@ returns c =
     let i = c.loop-index.index in
     record {
       allowed =
-          found_all is_allowed entries caller owners c.loop-index.allowed c.loop-index.unruled i refl
+          found_all is_allowed entries caller owners c.loop-index.allowed c.loop-index.unruled i
+          refl
           c.loop-index-test.false c.loop-index.invariant.allows c.is_known.ensures;
       denied =
           found_all is_denied entries caller owners c.loop-index.denied c.loop-index.unruled i refl

@@ -1,4 +1,4 @@
-use Rattle.std.proofs.Common.{ℕ, ◌||◌, ◌++◌, List, drop, length, not, ap, ◌∙◌, rules}
+use Rattle.std.proofs.Common.{◌++◌, drop, length, not, ap, ◌∙◌, rules}
 use Rattle.std.specs.List.{zip}
 use Rattle.std.proofs.lemmas.Bool.{or_from, or_left, or_right, not_from_false, not_from_true}
 use Rattle.std.proofs.lemmas.List.{length_push}

@@ -12,11 +12,13 @@ loop-party-preserved c above site path last is =
     let parties = c.args.parties.now in
     let folder = c.args.folder.now in
     let turn = zip_turn parties folder c.loop-party.yielded c.into_iter-party-iterator.result
-    c.loop-party.party-iterator c.next.new.self c.next.result (search rules) (search rules) c.loop-party.yielded_by
+    c.loop-party.party-iterator c.next.new.self c.next.result (search rules) (search rules)
+    c.loop-party.yielded_by
     (c.in-Some.party, c.in-Some.above) c.in-Some.is c.next.ensures.steps in
     c.in_ok-push.ensures.items
     ∙ next_mapped (λ (party : Party). standing party.caller (before_last above) site)
-    (λ (party : Party). standing party.caller above (stored_site path c.args.node.now)) parties folder
+    (λ (party : Party). standing party.caller above (stored_site path c.args.node.now)) parties
+    folder
     (length c.loop-party.yielded) c.in-Some.party.now c.in-Some.above.now c.loop-party.items.items
     c.below.result turn.0 turn.2 turn.3 is (c.below.ensures above site path last)
     (c.loop-party.invariant above site path last is)
@@ -28,8 +30,10 @@ returns c above site path last is =
     let parties = c.args.parties.now in
     let folder = c.args.folder.now in
     all_mapped (λ (party : Party). standing party.caller (before_last above) site)
-    (λ (party : Party). standing party.caller above (stored_site path c.args.node.now)) parties folder
+    (λ (party : Party). standing party.caller above (stored_site path c.args.node.now)) parties
+    folder
     (length c.loop-party.yielded) c.loop-party.items.items
     (zip_end parties folder c.loop-party.yielded c.into_iter-party-iterator.result
-    c.loop-party.party-iterator c.next.new.self c.next.result (search rules) (search rules) c.loop-party.yielded_by
+    c.loop-party.party-iterator c.next.new.self c.next.result (search rules) (search rules)
+    c.loop-party.yielded_by
     c.in-None.is c.next.ensures.steps) is (c.loop-party.invariant above site path last is)

@@ -1,4 +1,4 @@
-use Rattle.std.proofs.Common.{ℕ, ◌≡◌, List, Some, length, map, take}
+use Rattle.std.proofs.Common.{ℕ, ◌≡◌, List, Some, length, take}
 use Rattle.room_machine.specs.Site.{Site}
 use Rattle.room_machine.specs.Stored.{stored_site}
 use Rattle.room_review.specs.Rights.{last_of}

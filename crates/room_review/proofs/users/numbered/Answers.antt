@@ -1,7 +1,4 @@
 use Rattle.std.proofs.Common.{ap, Err, ◌∙◌, rules}
-use Rattle.room_entry.specs.Gives.{Gives}
-use Rattle.room_entry.specs.Names.{name_of}
-use Rattle.room_entry.specs.declared.fault.TextFault.{TextFault}
 use Rattle.room_review.proofs.Listed.{never_refused, number_named}
 use Rattle.room_review.proofs.users.numbered.Goals as goal
 

@@ -1,4 +1,4 @@
-use Rattle.std.proofs.Common.{ℕ, ◌++◌, List, ap, ◌∙◌, sym}
+use Rattle.std.proofs.Common.{ℕ, ◌++◌, List, ap, ◌∙◌}
 use Rattle.std.specs.List.{zip}
 use Rattle.room_import.specs.Exports.{rows_text}
 use Rattle.room_review.specs.Lines.{lines}
