@@ -16,6 +16,7 @@ use room_ace::{Caller, Mask};
 use room_rows::Node;
 use std::alloc::{AllocError, Global};
 use std::marker::Model;
+use std::rc::Rc;
 
 /// What one caller may do with an object, and what the object says for what stands below it.
 #[derive(Drop)]
@@ -33,9 +34,11 @@ pub(crate) struct Standing {
 }
 
 /// All callers at one object, in their order. A contract sees the list of them.
+///
+/// It is shared by all that waits below the object, so a copy takes no memory.
 #[derive(Drop)]
 pub(crate) struct Standings {
-    items: Vec<Standing>,
+    items: Rc<Vec<Standing>>,
 }
 
 impl Model for Standings {
@@ -44,10 +47,19 @@ impl Model for Standings {
 
     ghost Value = { List Standing };
 
-    ghost view = { λ s. s.items.items };
+    ghost view = { λ s. s.items.value.items };
 }
 
 impl Standings {
+    // The standings of the vector.
+    fn new(alloc: Global, items: Vec<Standing>) -> Result<Standings, AllocError>
+        ensures { IfOk result (λ here. here ≡ items.items) }
+    {
+        Ok(Standings {
+            items: Rc::new(alloc, items)?,
+        })
+    }
+
     /// The standings as a slice.
     pub(crate) fn as_slice(&self) -> &[Standing]
         ensures { result.now ≡ self.now }
@@ -56,31 +68,16 @@ impl Standings {
     }
 
     /// A copy.
-    pub(crate) fn copy(&self, alloc: Global) -> Result<Standings, AllocError>
+    pub(crate) fn copy(&self) -> Result<Standings, AllocError>
         ensures { IfOk result (λ copy. copy ≡ self.now) }
     {
-        let mut items = Vec::with_capacity(alloc, self.items.len())?;
-        for standing in &self.items {
-            items.push(standing.copy())?;
-        }
-        Ok(Standings { items })
+        Ok(Standings {
+            items: self.items.clone()?,
+        })
     }
 }
 
 impl Standing {
-    // The same once more.
-    fn copy(&self) -> Standing
-        ensures { result ≡ self.now }
-    {
-        Standing {
-            rights: self.rights,
-            remove: self.remove,
-            opens: self.opens,
-            keeps: self.keeps,
-            repeats: self.repeats,
-        }
-    }
-
     // Whether these are the rights and the removal.
     fn grants(&self, rights: Mask, remove: bool) -> bool
         ensures { result ≡ same_grant (rights, remove) (self.now.rights, self.now.remove) }
@@ -135,7 +132,7 @@ fn standings_at_root(alloc: Global, parties: &[Party], root: &Node) -> Result<St
     for party in parties {
         items.push(at_root(&party.caller, root))?;
     }
-    Ok(Standings { items })
+    Standings::new(alloc, items)
 }
 
 // All callers at an object in a folder.
@@ -154,7 +151,7 @@ fn standings_below(
     for (party, above) in parties.iter().zip(folder) {
         items.push(below(above, &party.caller, node))?;
     }
-    Ok(Standings { items })
+    Standings::new(alloc, items)
 }
 
 // A caller at the root, to which each comes, and which none may remove.

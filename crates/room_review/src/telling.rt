@@ -272,7 +272,7 @@ fn push_child(
         (waiting.new.items ≡ waiting.old.items ++ waiting_below above.now here.now node ∷ []) }
 {
     let path = path_below(alloc, above, node.name.as_str())?;
-    let folder = here.copy(alloc)?;
+    let folder = here.copy()?;
     waiting.push(Waiting { path, node, folder })?;
     Ok(())
 }
