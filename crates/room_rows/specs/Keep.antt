@@ -1,5 +1,7 @@
 -- What the calls of a keeper answer, and what they leave.
 use Rattle.std.specs.Prelude.{◌≡◌, ℕ, ◌+◌, ◌<◌, ◌≤◌, ◌^◌, ◌-◌, ◌⊎◌, min, map, Bool, not, List, []}
+use Rattle.std.specs.List.{list_all, list_any}
+use Rattle.std.specs.Prelude.{◌==◌, is_some}
 use Rattle.std.specs.Prelude.{◌∷◌, false, Option, Some, None, Result, Ok, Err, IfOk, IfErr, IsTrue}
 use Rattle.std.specs.Prelude.{if◌then◌else◌}
 use Rattle.room_entry.specs.Ace.{Ace}
@@ -13,7 +15,7 @@ use Rattle.room_rows.specs.declared.node.AuditRow.{AuditRow}
 use Rattle.room_rows.specs.declared.node.NewNode.{NewNode}
 use Rattle.room_rows.specs.declared.node.Node.{Node}
 use Rattle.room_rows.specs.Content.{Content, node_at, root_of, child_of, children_of, body_of}
-use Rattle.room_rows.specs.Content.{groups_of, is_empty, is_folder, with_node, with_body}
+use Rattle.room_rows.specs.Content.{groups_of, is_empty, is_folder, with_node, with_body, with_each}
 use Rattle.room_rows.specs.Content.{without_node, with_records}
 use Rattle.room_rows.specs.Held.{held_of, with_held}
 use Rattle.room_rows.specs.Rows.{AreRows, Rows, is_unreadable, numbers_of}
@@ -117,6 +119,15 @@ with_owners owners node = record node { owners = owners }
 abbrev pub with_place : ℕ → List ℕ → Node → Node
 with_place parent name node = record node { parent = Some parent; name = name }
 
+-- these objects are there
+abbrev pub are_there : List ℕ → Content → Bool
+are_there ids content = list_all (λ id. is_some (node_at content id)) ids
+
+-- the content with each of these objects changed
+abbrev pub with_changed : List ℕ → (Node → Node) → Content → Content
+with_changed ids change content =
+    with_each content (λ node. if list_any (λ id. id == node.id) ids then change node else node)
+
 abbrev pub IsFolderAt : Rows → ℕ → Type 0
 IsFolderAt rows id = (node : Node) × (node_at rows.read id ≡ Some node) × IsTrue (is_folder node)
 
@@ -130,6 +141,11 @@ abbrev pub Changes : ℕ → (Node → Node) → Rows → Rows → Type 0
 Changes id change old new =
     (node : Node) → node_at old.read id ≡ Some node
     → new ≡ reading old (with_node old.read (change node))
+
+-- Each of these objects, if all are there, is changed in this way, and nothing else is.
+abbrev pub ChangesAll : List ℕ → (Node → Node) → Rows → Rows → Type 0
+ChangesAll ids change old new =
+    IsTrue (are_there ids old.read) → new ≡ reading old (with_changed ids change old.read)
 
 -- The object has another parent and another name, if that parent is a folder and the name is free
 -- there.
@@ -206,10 +222,10 @@ IfSeen (Err Memory) P = Unit {0}
 IfSeen (Err Store) P = Unit {0}
 IfSeen (Err (Damaged id)) P = P
 
--- A call that answers Ok is counted.
-abbrev pub writes_after : {X : Type 0} → Result X KeepFault → ℕ → ℕ
-writes_after (Ok x) before = one_more before
-writes_after (Err fault) before = before
+-- What a call that answers Ok wrote is counted.
+abbrev pub writes_after : {X : Type 0} → ℕ → Result X KeepFault → ℕ → ℕ
+writes_after count (Ok x) before = capped (before + count)
+writes_after count (Err fault) before = before
 
 module _ {S : Type 0} (rows : S → Rows) (failures writes : S → ℕ)
     (Follows IsTrusted : S → S → Type 0) where
@@ -235,12 +251,17 @@ module _ {S : Type 0} (rows : S → Rows) (failures writes : S → ℕ)
     pub fault : IfErr result (HasCause (failures old) (failures new)
         (λ at. IsTrusted old new → Blames (rows old) at))
 
-  -- One call that writes. After a fault nothing is said of the rows.
-  pub record IsWrite {X : Type 0} (old new : S) (result : Result X KeepFault)
+  -- One call that writes, so many objects or records. After a fault nothing is said of the rows.
+  pub record IsWriteOf (count : ℕ) {X : Type 0} (old new : S) (result : Result X KeepFault)
       (Blames : Rows → ℕ → Type 0) (Becomes : Rows → X → Rows → Type 0) : Type 0 where
     pub follows : Follows old new
-    pub written : writes new ≡ writes_after result (writes old)
+    pub written : writes new ≡ writes_after count result (writes old)
     pub becomes : IsTrusted old new → IfOk result (λ answer. Becomes (rows old) answer (rows new))
     pub unfailed : IfOk result (λ _. failures new ≡ failures old)
     pub fault : IfErr result (HasCause (failures old) (failures new)
         (λ at. IsTrusted old new → Blames (rows old) at))
+
+  -- One call that writes one of them.
+  abbrev pub IsWrite : {X : Type 0} → S → S → Result X KeepFault → (Rows → ℕ → Type 0)
+      → (Rows → X → Rows → Type 0) → Type 0
+  IsWrite = IsWriteOf 1

@@ -1,5 +1,5 @@
 //! The contract of what keeps the objects.
-ghost use Rattle.std.specs.Prelude.{◌≡◌, ℕ, Some};
+ghost use Rattle.std.specs.Prelude.{◌≡◌, ℕ, Some, length};
 ghost use Rattle.room_rows.specs.declared.keep.KeepFault.TheVariants.{Memory};
 ghost use Rattle.room_rows.specs.Faults.{keep_fault_text};
 ghost use Rattle.room_rows.specs.Held.{with_held};
@@ -10,6 +10,7 @@ ghost use Rattle.room_rows.specs.Keep.{
   AreNamedUnder,
   AreNumbers,
   Changes,
+  ChangesAll,
   HasChildren,
   HasNoRoot,
   IsBodyOf,
@@ -21,6 +22,7 @@ ghost use Rattle.room_rows.specs.Keep.{
   IsUnreadable,
   IsUnreadableAt,
   IsWrite,
+  IsWriteOf,
   KeepLaws,
   Leaves,
   Notes,
@@ -85,7 +87,7 @@ impl From<AllocError> for KeepFault {
 pub trait Keep {
     ghost rows: { Self → Rows };
 
-    // How often the keeper has failed, and how often a call that writes has answered Ok.
+    // How often the keeper has failed, and how much was written by calls that answered Ok.
     ghost failures: { Self → ℕ };
 
     ghost writes: { Self → ℕ };
@@ -165,6 +167,12 @@ pub trait Keep {
     fn set_inh(&mut self, id: u64, which: Which, entries: &[Entry]) -> Result<(), KeepFault>
         ensures written { IsWrite rows failures writes Follows IsTrusted self.old self.new result
             IsUnreadable (Leaves (Changes id (with_inh which entries.now))) };
+
+    /// The same of each of these objects, in any order. Each is counted as a write.
+    fn set_inh_all(&mut self, ids: &[u64], which: Which, entries: &[Entry]) -> Result<(), KeepFault>
+        ensures written { IsWriteOf rows failures writes Follows IsTrusted (length ids.now)
+            self.old self.new result
+            IsUnreadable (Leaves (ChangesAll ids.now (with_inh which entries.now))) };
 
     /// Replaces the owner and the owning group of an object. The error is `Damaged` for a row that
     /// can't be read.
