@@ -3,7 +3,7 @@ use Rattle.std.proofs.Common.{◌≡◌, ℕ, Result, Ok, Err, IfOk, IfErr, refl
 use Rattle.std.specs.Result.{IsErrAnd}
 use Rattle.room_rows.specs.declared.keep.KeepFault.{KeepFault}
 use Rattle.room_rows.specs.declared.keep.KeepFault.TheVariants.{Memory, Store, Damaged}
-use Rattle.room_rows.specs.Keep.{HasCause, IfSeen, IsRead, IsWrite, KeepLaws}
+use Rattle.room_rows.specs.Keep.{HasCause, IfSeen, IsRead, IsWriteOf, KeepLaws}
 use Rattle.room_rows.specs.Rows.{Rows, AreRows}
 use Rattle.room_rows.proofs.Steps.{later_cause}
 use Rattle.room_judge.specs.Judged.{IsDone}
@@ -35,9 +35,9 @@ module _ {S : Type 0} {rows : S → Rows} {failures : S → ℕ}
       both (Err e) answers same = tt
 
   -- a call that writes, with what it made of the rows and the cause of its fault
-  pub of_write : {writes : S → ℕ} {X : Type 0} {a b : S} {r : Result X KeepFault}
+  pub of_write : {writes : S → ℕ} {count : ℕ} {X : Type 0} {a b : S} {r : Result X KeepFault}
       {Blames : Rows → ℕ → Type 0} {Becomes : Rows → X → Rows → Type 0}
-      → IsWrite rows failures writes Follows IsTrusted a b r Blames Becomes
+      → IsWriteOf rows failures writes Follows IsTrusted count a b r Blames Becomes
       → IsDone rows failures Follows IsTrusted a b r Blames Becomes
   of_write write = record { follows = write.follows; becomes = write.becomes; fault = write.fault }
 

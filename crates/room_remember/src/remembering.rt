@@ -214,6 +214,16 @@ impl<'a, K: Keep> Keep for Remembering<'a, K> {
         self.keeper.set_inh(id, which, entries)
     }
 
+    fn set_inh_all(
+        &mut self,
+        ids: &[u64],
+        which: Which,
+        entries: &[Entry],
+    ) -> Result<(), KeepFault> {
+        self.forget();
+        self.keeper.set_inh_all(ids, which, entries)
+    }
+
     fn set_owners(&mut self, id: u64, owners: &Owners) -> Result<(), KeepFault> {
         self.forget();
         self.keeper.set_owners(id, owners)

@@ -9,3 +9,4 @@ pub mod SamePlace
 pub mod Frames
 pub mod InPlace
 pub mod Sets
+pub mod Many

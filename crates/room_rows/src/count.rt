@@ -1,5 +1,5 @@
 //! Counts of failures and of writes.
-ghost use Rattle.std.specs.Prelude.{◌≡◌, ◌⊎◌, ◌-◌, ◌^◌, ◌<◌, ◌≤◌};
+ghost use Rattle.std.specs.Prelude.{◌≡◌, ◌⊎◌, ◌+◌, ◌-◌, ◌^◌, ◌<◌, ◌≤◌};
 ghost use Rattle.room_rows.specs.Keep.{capped, one_more};
 
 use crate::keep::KeepFault;
@@ -13,6 +13,14 @@ pub fn count_one(count: &mut u64)
     if *count < u64::MAX {
         *count += 1;
     }
+}
+
+/// Adds so many to the count. At the greatest u64 it stays there.
+pub fn count_all(count: &mut u64, more: u64)
+    ensures capped { capped count.new ≡ capped (capped count.old + more) }
+    ensures no_less { count.old ≤ count.new }
+{
+    *count = count.saturating_add(more);
 }
 
 /// Counts a failure, and answers its fault, `Store`. At the greatest u64 the count stays there.

@@ -14,7 +14,7 @@ mod report;
 mod text;
 
 pub use chain::walk;
-pub use count::{count_one, failed};
+pub use count::{count_all, count_one, failed};
 pub use fault::PathFault;
 pub use held::Held;
 pub use keep::{Keep, KeepFault};

@@ -32,8 +32,8 @@ use Rattle.room_rows.proofs.Lookups.{found_number}
 -- ---- a call that memory ended
 
 pub err_writes : {X : Type 0} (r : Result X KeepFault) (e : KeepFault) (n : ℕ) → r ≡ Err e
-    → n ≡ writes_after r n
-err_writes r e n is = sym (ap (λ q. writes_after q n) is)
+    → n ≡ writes_after 1 r n
+err_writes r e n is = sym (ap (λ q. writes_after 1 q n) is)
 
 pub err_becomes : {X : Type 0} (r : Result X KeepFault) (e : KeepFault) (P : X → Type 0) → r ≡ Err e
     → IfOk r P

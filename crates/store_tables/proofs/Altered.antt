@@ -196,7 +196,7 @@ module _ (v2 v3 v4 v5 v6 v7 v8 v9 v10 v11 v12 : Value) (n : Node) where
 
 module _ (id : ℕ) (r : Row) (before : Node) (number : number_in (Int (pos id)) ≡ Some before.id)
     (e : node_in (shown_node r) ≡ Some before) where
-  inherits_back : (which : Which) (text : List ℕ) (entries : List Ace)
+  pub inherits_back : (which : Which) (text : List ℕ) (entries : List Ace)
       → entries_in (Text text) ≡ Some entries
       → node_in (shown_node (stored_node (pos id) (recast (inheriting which text r))))
       ≡ Some (with_inh which entries before)

@@ -40,3 +40,7 @@ pub mod Adding
 pub mod Changing
 pub mod Noted
 pub mod Noting
+pub mod RangeTexts
+pub mod Ranged
+pub mod AlteredAll
+pub mod Putting

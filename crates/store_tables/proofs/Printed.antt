@@ -1,8 +1,9 @@
 -- What a change of `nodes` leaves of the list columns: what they held, or printed entries.
 use Rattle.std.proofs.Common.{◌≡◌, ℕ, ℤ, ◌+◌, List, [], ◌∷◌, codes, drop, find, Bool, true, false}
-use Rattle.std.proofs.Common.{not, Some, inl, inr, ◌⊎◌, refl, sym, subst, ◌∙◌, if◌then◌else◌}
+use Rattle.std.proofs.Common.{not, map, Some, inl, inr, ◌⊎◌, refl, sym, ap, subst, ◌∙◌}
+use Rattle.std.proofs.Common.{if◌then◌else◌}
 use Rattle.std.specs.Prelude.{◌==◌}
-use Rattle.std.proofs.lemmas.Bool.{and_parts}
+use Rattle.std.proofs.lemmas.Bool.{and_parts, cases_Bool, cond-false, cond-true}
 use Rattle.std.proofs.lemmas.Grind.{get_or_after_one}
 use Rattle.sqlite.specs.declared.types.Value.{Value}
 use Rattle.sqlite.specs.declared.types.Value.TheVariants.{Null, Int, Real, Text, Blob}
@@ -13,7 +14,10 @@ use Rattle.sqlite.specs.Tree.{rowid, has_rowid, without_rowid, put_row}
 use Rattle.sqlite.specs.Effect.{Database}
 use Rattle.sqlite_rules.specs.Lists.{Has}
 use Rattle.sqlite_rules.proofs.ListLemmas.{has_filtered, has_found}
+use Rattle.sqlite_rules.specs.Edit.{id_in}
+use Rattle.sqlite_rules.proofs.ProbeLemmas.{has_mapped}
 use Rattle.sqlite_rules.proofs.RuleLemmas.{keeps_at}
+use Rattle.sqlite_rules.proofs.TableLemmas.{int_is}
 use Rattle.sqlite_schema.specs.Rules.{are_typed, is_of, passes}
 use Rattle.sqlite_schema.specs.declared.schema.Column.{Column}
 use Rattle.sqlite_schema.specs.declared.schema.Constraint.TheVariants.{Datatype}
@@ -26,7 +30,8 @@ use Rattle.room_entry.specs.declared.object.Which.{Which}
 use Rattle.room_entry.specs.declared.object.Which.TheVariants.{Dacl, Sacl}
 use Rattle.store_tables.specs.Printed.{ArePrinted, HeldBefore, HoldsPrinted, IsCanonical}
 use Rattle.store_tables.specs.Printed.{KeepsPrinted, list_cells}
-use Rattle.store_tables.specs.Shown.{IsRoom, holding, inheriting, lying, owning, stored_node}
+use Rattle.store_tables.specs.Shown.{IsRoom, holding, inheriting, is_in_range, lying, owning}
+use Rattle.store_tables.specs.Shown.{recast_in, stored_node}
 use Rattle.store_tables.specs.Tables.{column_of, nodes, room_schema}
 use Rattle.store_tables.proofs.Rowids.{of_each, rowid_is}
 use Rattle.store_tables.specs.NodeCells as cell
@@ -269,3 +274,34 @@ keeps_over db room id change writes r found =
       | inl printed ↦ inl printed
       | inr same ↦ inr (r, there.0, is, same)
     ])
+
+-- where those of a range are written over
+pub keeps_each : (db : Database) → IsRoom db → (change : Row → Row) → WritesPrinted change
+    → (first last : ℤ) → KeepsPrinted (db.trees 0) (map (recast_in change first last) (db.trees 0))
+keeps_each db room change writes first last place list x there =
+    let from = has_mapped (recast_in change first last) (db.trees 0) x there in
+    let r = from.0 in
+    let written = rowid r ∷ Null ∷ cast_all (drop 1 nodes.columns) (change r) in
+    elim (cases_Bool (is_in_range first last r)) [
+      | inl within ↦
+          let number = int_is (rowid r) (of_each _ (db.trees 0) room.nodes.1 r from.1) in
+          let is : x ≡ stored_node (id_in (rowid r)) (cast_all (drop 1 nodes.columns) (change r)) =
+          from.2 ∙ cond-true (is_in_range first last r) written r within
+          ∙ ap (λ v. v ∷ Null ∷ cast_all (drop 1 nodes.columns) (change r)) number in
+          elim (writes (id_in (rowid r)) r (room_texts db room r from.1) place list) [
+            | inl printed ↦
+                inl (subst (λ (l : Row). HoldsPrinted (column l place)) (sym is) printed)
+            | inr same ↦
+                inr (
+                  r,
+                  from.1,
+                  number ∙ ap rowid (sym is),
+                  same ∙ ap (λ (l : Row). column l place) (sym is),
+                )
+          ]
+      | inr isnt ↦
+          subst
+          (λ (l : Row). HoldsPrinted (column l place) ⊎ HeldBefore (db.trees 0) place l)
+          (sym (from.2 ∙ cond-false (is_in_range first last r) written r isnt))
+          (inr (r, from.1, refl, refl))
+    ]

@@ -25,8 +25,8 @@ use Rattle.sqlite_trees.specs.declared.store.Shape.TheVariants as Shape
 use Rattle.sqlite_trees.proofs.TreeLemmas.{IsShaped-filter, IsShaped-put_row}
 use Rattle.store_tables.specs.Tables.{nodes, room_schema}
 use Rattle.store_tables.specs.Shown.{IsRoom, KeepsAll, Recasts, Replaces, stored_node}
-use Rattle.store_tables.proofs.Texts.{matches_parameter, updates_nodes}
-use Rattle.store_tables.proofs.Answers.{shows, selected}
+use Rattle.store_tables.proofs.Texts.{matches_parameter, updates_nodes, updates_where}
+use Rattle.store_tables.proofs.Answers.{passes, shows, selected}
 use Rattle.store_tables.proofs.Tests.{passes_id}
 use Rattle.store_tables.proofs.Writes.{went, same_value, nodes_table}
 use Rattle.store_tables.specs.Printed.{KeepsPrinted}
@@ -43,16 +43,17 @@ use Rattle.room_entry.proofs.Facts.Lists.{filter_same}
 abbrev pub recast : Row → Row
 recast cells = cast_all (drop 1 nodes.columns) cells
 
-cast_head : (id : ℤ) (cells : Row)
+-- a row that is given its number and such cells
+pub cast_head : (id : ℤ) (cells : Row)
     → cast_row nodes_table (Int id ∷ Null ∷ cells) ≡ stored_node id (recast cells)
 cast_head id cells = rw (cast_int id, cast_null) refl
 
 -- which rows are found, and what the edit then leaves
-pub record Rewritten (terms : List Term) (id : ℤ) (given : Row) (old new : State)
+pub record Rewritten (tests terms : List Term) (params : Row) (old new : State)
     (count : ℕ) : Type 0 where
   pub rows : List Row
   pub found : IsPermutation
-      (map (shows terms (Int id ∷ given)) (filter (has_rowid id) (old.now.trees 0))) rows
+      (map (shows terms params) (filter (passes tests params) (old.now.trees 0))) rows
   pub next : Trees
   pub edited : Edited room_schema Enforced old.now.trees (update_edit old.now.trees rows) (Ok next)
   pub now : new.now ≡ record { schema = room_schema; trees = next }
@@ -61,14 +62,13 @@ pub record Rewritten (terms : List Term) (id : ℤ) (given : Row) (old new : Sta
   pub shown : Shows old new new.now
       (if old.in_transaction then old.committed else new.now) old.in_transaction
 
-pub rewritten : (text : List ℕ) (terms : List Term)
-    → command_of (understood room_schema text) ≡ updates_nodes terms
-    → IsPlain (understood room_schema text) → (id : ℤ) (given : Row) (old new : State) (count : ℕ)
-    → old.now.schema ≡ room_schema → Executes text (Int id ∷ given) old new (Ok count)
-    → Rewritten terms id given old new count
-rewritten sql terms is plain id given old new count has h =
-    let params = Int id ∷ given in
-    let command = updates_nodes terms in
+pub rewritten : (text : List ℕ) (tests terms : List Term)
+    → command_of (understood room_schema text) ≡ updates_where tests terms
+    → IsPlain (understood room_schema text) → (params : Row) (old new : State) (count : ℕ)
+    → old.now.schema ≡ room_schema → Executes text params old new (Ok count)
+    → Rewritten tests terms params old new count
+rewritten sql tests terms is plain params old new count has h =
+    let command = updates_where tests terms in
     let w = runs_as sql params old new room_schema has command is plain count h in
     let text = statement_of sql (understood room_schema sql) in
     let done = went
@@ -83,13 +83,11 @@ rewritten sql terms is plain id given old new count has h =
       last = None;
     } =
     same_value did.2 in
-    let found = selected Null 0 (matches_parameter 0 0 ∷ []) terms []
-    (overlay old.now.trees []) params asked.0 (asked.1.answer Null) in
     record {
       rows = asked.0;
       found =
-          subst (λ l. IsPermutation (map (shows terms params) l) asked.0)
-          (filter_same _ _ (passes_id id) (old.now.trees 0)) found;
+          selected Null 0 tests terms [] (overlay old.now.trees []) params asked.0
+          (asked.1.answer Null);
       next = did.0;
       edited = did.1;
       now =
@@ -174,19 +172,26 @@ Did id change count db next = ((count ≡ 0) × KeepsAll db next)
 
 pub did : (terms : List Term) (id : ℤ) (given : Row) (change : Row → Row)
     → Gives terms id given change → (old new : State) (count : ℕ) → IsRoom old.now
-    → Rewritten terms id given old new count → Did id change count old.now.trees new.now.trees
+    → Rewritten (matches_parameter 0 0 ∷ []) terms (Int id ∷ given) old new count
+    → Did id change count old.now.trees new.now.trees
 did terms id given change gives old new count room d =
     go (at_most_one id (old.now.trees 0) room.nodes.0)
   where
     now : new.now.trees ≡ d.next
     now = ap (λ (db : Database). db.trees) d.now
 
+    found : IsPermutation
+        (map (shows terms (Int id ∷ given)) (filter (has_rowid id) (old.now.trees 0))) d.rows
+    found =
+        subst (λ l. IsPermutation (map (shows terms (Int id ∷ given)) l) d.rows)
+        (filter_same _ _ (passes_id id) (old.now.trees 0)) d.found
+
     go : ((filter (has_rowid id) (old.now.trees 0) ≡ [])
         ⊎ ((r : Row) × (filter (has_rowid id) (old.now.trees 0) ≡ r ∷ [])))
         → Did id change count old.now.trees new.now.trees
     go (inl none) =
         let rows = alone_in d.rows
-        (subst (λ l. IsPermutation (map (shows terms (Int id ∷ given)) l) d.rows) none d.found)
+        (subst (λ l. IsPermutation (map (shows terms (Int id ∷ given)) l) d.rows) none found)
         in
         let same = none_recast id old.now.trees d.next d.rows rows d.edited in
         inl (
@@ -199,7 +204,7 @@ did terms id given change gives old new count room d =
         (of_each _ (old.now.trees 0) room.nodes.1 r
         (has_found (has_rowid id) (old.now.trees 0) r there.0)) there.1 in
         let rows = one_permutation _ d.rows
-        (subst (λ l. IsPermutation (map (shows terms (Int id ∷ given)) l) d.rows) one d.found)
+        (subst (λ l. IsPermutation (map (shows terms (Int id ∷ given)) l) d.rows) one found)
         in
         let rows' : d.rows ≡ (Int id ∷ Int id ∷ Null ∷ change r) ∷ [] = rows
         ∙ ap (λ l. l ∷ []) (gives r) ∙ ap (λ v. (v ∷ v ∷ Null ∷ change r) ∷ []) is in
@@ -215,7 +220,8 @@ module _ (text : List ℕ) (terms : List Term)
       → (count : ℕ) → Executes text (Int id ∷ given) old new (Ok count) → IsRoom old.now
       → WritesRoom old new
   recast_room printed old new inside count h room =
-      let d = rewritten text terms is plain id given old new count room.schema h in (
+      let d = rewritten text (matches_parameter 0 0 ∷ []) terms is plain (Int id ∷ given) old new
+      count room.schema h in (
         d.shown.committed_is ∙ ap (λ b. if b then old.committed else new.now) inside,
         elim (did terms id given change gives old new count room d) [
           | inl same ↦ record {
@@ -253,7 +259,8 @@ module _ (text : List ℕ) (terms : List Term)
       → Recasts change id old.now.trees new.now.trees
   recast_one old new count room h one =
       elim (did terms id given change gives old new count room
-      (rewritten text terms is plain id given old new count room.schema h)) [
+      (rewritten text (matches_parameter 0 0 ∷ []) terms is plain (Int id ∷ given) old new count
+      room.schema h)) [
         | inl same ↦ absurd (let e : 0 ≡ 1 = sym same.0 ∙ one in omega (arith, e))
         | inr put ↦
             λ r there. subst (λ (x : Row). Replaces id

@@ -3,7 +3,7 @@ use Rattle.std.proofs.Common.{◌≡◌, ℕ, ℤ, pos, List, [], ◌∷◌, Boo
 use Rattle.std.proofs.Common.{sym, ap, subst, ◌∙◌, nat_cmp, Result, Ok, Err, IfOk}
 use Rattle.std.specs.declared.cmp.Ordering.{Ordering}
 use Rattle.std.specs.declared.cmp.Ordering.TheVariants.{Less, Equal, Greater}
-use Rattle.std.specs.Ordering.{is_eq, is_lt, is_ge}
+use Rattle.std.specs.Ordering.{is_eq, is_gt, is_lt, is_ge, is_le}
 use Rattle.std.proofs.Math.Bool.{and-true}
 use Rattle.sqlite.specs.declared.types.Value.{Value}
 use Rattle.sqlite.specs.declared.types.Value.TheVariants.{Null, Int, Real, Text, Blob}
@@ -11,11 +11,13 @@ use Rattle.sqlite.specs.Order.{Row, column, value_cmp}
 use Rattle.sqlite.specs.Tree.{rowid, has_rowid}
 use Rattle.sqlite.specs.Ops.{is_true, from_truth, binary}
 use Rattle.sqlite_sql.specs.declared.ops.BinaryOp.TheVariants.{Compare, Is}
-use Rattle.sqlite_sql.specs.declared.ops.CompareOp.TheVariants.{Eq, Ge}
+use Rattle.sqlite_sql.specs.declared.ops.CompareOp.TheVariants.{Eq, Ge, Le}
 use Rattle.sqlite_value.specs.declared.keys.Collation.TheVariants.{Binary}
 use Rattle.sqlite_value.proofs.OrderLemmas.{value_cmp-Null}
-use Rattle.store_tables.specs.Shown.{is_numbered, is_child, is_child_named, is_top, is_user_row}
+use Rattle.store_tables.specs.Shown.{is_numbered, is_child, is_child_named, is_in_range, is_top}
+use Rattle.store_tables.specs.Shown.{is_user_row}
 use Rattle.store_tables.proofs.Texts.{matches_parameter, is_kept, top_tests}
+use Rattle.store_tables.proofs.RangeTexts.{range_tests}
 use Rattle.store_tables.proofs.Answers.{passes}
 
 -- from what is known of the value of a result, if it is Ok, to what follows from it
@@ -67,6 +69,43 @@ at_least_int (Int m) n = told _ ∙ at_least_is _
 at_least_int (Real x) n = told _ ∙ at_least_is _
 at_least_int (Text t) n = told _ ∙ at_least_is _
 at_least_int (Blob b) n = told _ ∙ at_least_is _
+
+at_most_is : (o : Ordering) → is_le o ≡ not (is_gt o)
+at_most_is Less = refl
+at_most_is Equal = refl
+at_most_is Greater = refl
+
+within : (v : Value) (first last : ℤ)
+    → is_true (binary (Compare Le Binary) v (Int last)) ≡ not (is_gt (value_cmp v (Int last)))
+    → (is_true (binary (Compare Ge Binary) v (Int first))
+    && (is_true (binary (Compare Le Binary) v (Int last)) && true))
+    ≡ (not (is_lt (value_cmp v (Int first))) && not (is_gt (value_cmp v (Int last))))
+within v first last most =
+    ap (λ b. b && (is_true (binary (Compare Le Binary) v (Int last)) && true))
+    (at_least_int v first)
+    ∙ ap (λ b. not (is_lt (value_cmp v (Int first))) && b) (and-true _ ∙ most)
+
+-- a value is between two integers in SQL where the order puts it there, as it doesn't put NULL
+between_ints : (v : Value) (first last : ℤ)
+    → (is_true (binary (Compare Ge Binary) v (Int first))
+    && (is_true (binary (Compare Le Binary) v (Int last)) && true))
+    ≡ (not (is_lt (value_cmp v (Int first))) && not (is_gt (value_cmp v (Int last))))
+unfolding binary
+between_ints Null first last =
+    let low : not (is_lt (value_cmp Null (Int first))) ≡ false =
+    ap (λ o. not (is_lt o)) (value_cmp-Null (Int first)) in
+    ap (λ b. b && (is_true (binary (Compare Le Binary) Null (Int last)) && true))
+    (at_least_int Null first ∙ low)
+    ∙ sym (ap (λ b. b && not (is_gt (value_cmp Null (Int last)))) low)
+between_ints (Int m) first last = within (Int m) first last (told _ ∙ at_most_is _)
+between_ints (Real x) first last = within (Real x) first last (told _ ∙ at_most_is _)
+between_ints (Text t) first last = within (Text t) first last (told _ ∙ at_most_is _)
+between_ints (Blob b) first last = within (Blob b) first last (told _ ∙ at_most_is _)
+
+-- the tests of writes by a range of numbers are met by the rows with these rowids
+pub passes_range : (first last : ℤ) (given : Row) (r : Row)
+    → passes range_tests (Int first ∷ Int last ∷ given) r ≡ is_in_range first last r
+passes_range first last given r = between_ints (rowid r) first last
 
 -- the test of queries and writes by number is met by the row with that rowid
 pub passes_id : (id : ℤ) (r : Row)

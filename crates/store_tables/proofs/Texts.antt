@@ -255,10 +255,13 @@ sacl_inh_terms =
     col 1 0 ∷ col 1 0 ∷ lit Null ∷ col 1 2 ∷ col 1 3 ∷ col 1 4 ∷ col 1 5 ∷ col 1 6 ∷ col 1 7
     ∷ col 1 8 ∷ col 1 9 ∷ col 1 10 ∷ col 1 11 ∷ col 0 1 ∷ []
 
+-- rows of nodes that pass these tests are written with these terms
+abbrev pub updates_where : List Term → List Term → Command
+updates_where tests terms = Update 0 (record { lets = []; body = query_of 0 tests terms [] })
+
 -- rows of nodes that are found by their number are written with these terms
 abbrev pub updates_nodes : List Term → Command
-updates_nodes terms =
-    Update 0 (record { lets = []; body = query_of 0 (matches_parameter 0 0 ∷ []) terms [] })
+updates_nodes terms = updates_where (matches_parameter 0 0 ∷ []) terms
 
 -- the UPDATE of the inherited DACL compiles to a write by number that changes `dacl_inh`
 pub dacl_inh_is : command_of (understood room_schema dacl_inh_text) ≡ updates_nodes dacl_inh_terms

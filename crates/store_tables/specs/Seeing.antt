@@ -76,10 +76,10 @@ wants_memory other = false
 abbrev pub fault_for : Error → KeepFault
 fault_for why = if wants_memory why then Memory else Store
 
--- the answer of a statement that has to change one row
-abbrev pub one_changed : Result ℕ Error → Result (Unit {0}) KeepFault
-one_changed (Ok count) = if count == 1 then Ok tt else Err Store
-one_changed (Err why) = Err (fault_for why)
+-- the answer of a statement that has to change so many rows
+abbrev pub all_changed : ℕ → Result ℕ Error → Result (Unit {0}) KeepFault
+all_changed wanted (Ok count) = if count == wanted then Ok tt else Err Store
+all_changed wanted (Err why) = Err (fault_for why)
 
 abbrev pub result_of_seen : {X : Type 0} → Seen X → Result X KeepFault
 result_of_seen Foreign = Err Store

@@ -1,10 +1,10 @@
 -- What the statements show of the tables, and what each leaves.
 use Rattle.std.specs.Prelude.{◌≡◌, ℕ, ℤ, List, [], ◌∷◌, ◌++◌, Bool, true, false, ◌&&◌, not}
-use Rattle.std.specs.Prelude.{IsTrue, pos, drop, find, Some}
+use Rattle.std.specs.Prelude.{IsTrue, pos, drop, find, map, Some, if◌then◌else◌}
 use Rattle.room_entry.specs.declared.object.Which.{Which}
 use Rattle.room_entry.specs.declared.object.Which.TheVariants.{Dacl, Sacl}
 use Rattle.sqlite_rules.specs.Cast.{cast_all}
-use Rattle.std.specs.Ordering.{is_eq, is_lt}
+use Rattle.std.specs.Ordering.{is_eq, is_gt, is_lt}
 use Rattle.sqlite.specs.declared.types.Value.TheVariants.{Null, Int, Text, Blob}
 use Rattle.sqlite.specs.Order.{Row, column, value_cmp}
 use Rattle.sqlite.specs.Tree.{Trees, rowid, has_rowid, without_rowid, put_row}
@@ -169,6 +169,25 @@ lying parent name r = Int parent ∷ Text name ∷ column r cell.kind ∷ column
 abbrev pub Recasts : (Row → Row) → ℤ → Trees → Trees → Type 0
 Recasts change id db next = (r : Row) → find (has_rowid id) (db tree.nodes) ≡ Some r
     → Replaces id (cast_all (drop 1 nodes.columns) (change r)) db next
+
+-- the row's number is one from the first to the last
+abbrev pub is_in_range : ℤ → ℤ → Row → Bool
+is_in_range first last r =
+    not (is_lt (value_cmp (rowid r) (Int first))) && not (is_gt (value_cmp (rowid r) (Int last)))
+
+-- a row of these numbers with these cells, as the columns make them, and any other as it is
+abbrev pub recast_in : (Row → Row) → ℤ → ℤ → Row → Row
+recast_in change first last r =
+    if is_in_range first last r
+    then rowid r ∷ Null ∷ cast_all (drop 1 nodes.columns) (change r) else r
+
+-- the rows of these numbers are replaced by ones of these cells
+pub record RecastsAll (change : Row → Row) (first last : ℤ) (db next : Trees) : Type 0 where
+  pub nodes : next tree.nodes ≡ map (recast_in change first last) (db tree.nodes)
+  pub bodies : next tree.bodies ≡ db tree.bodies
+  pub members : next tree.members ≡ db tree.members
+  pub meta : next tree.meta ≡ db tree.meta
+  pub audits : next tree.audits ≡ db tree.audits
 
 -- a row of bytes as it is stored
 abbrev pub stored_body : ℤ → List ℕ → Row

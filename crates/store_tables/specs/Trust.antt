@@ -1,6 +1,6 @@
 -- When the answers of a database are those of its rows, and that this is so of each part of a run
 -- of calls.
-use Rattle.std.specs.Prelude.{◌≡◌, [], ◌∷◌, Result, IfOk, IfErr, ◌≤◌, ℕ, IsTrue}
+use Rattle.std.specs.Prelude.{◌≡◌, List, [], ◌∷◌, Result, IfOk, IfErr, ◌≤◌, ℕ, IsTrue}
 use Rattle.std.proofs.Common.{sym, subst, arith}
 use Rattle.sqlite_trees.specs.View.{doubt}
 use Rattle.sqlite.specs.State.{State, HasCleanDisk}
@@ -8,7 +8,7 @@ use Rattle.sqlite.specs.Effect.{Database}
 use Rattle.room_rows.specs.declared.node.AuditRow.{AuditRow}
 use Rattle.room_rows.specs.declared.node.Node.{Node}
 use Rattle.room_rows.specs.Content.{with_records}
-use Rattle.room_rows.specs.Keep.{Changes, HasCause, capped, reading}
+use Rattle.room_rows.specs.Keep.{Changes, ChangesAll, HasCause, capped, reading}
 use Rattle.room_rows.specs.declared.keep.KeepFault.{KeepFault}
 use Rattle.store_tables.specs.Meaning.{rows_of}
 use Rattle.store_tables.specs.Seeing.{Nowhere}
@@ -26,6 +26,10 @@ pub record IsTrusted (first last : State) : Type 0 where
 -- the object, if it is there, is changed so, and nothing else is
 abbrev pub Alters : ℕ → (Node → Node) → Database → Database → Type 0
 Alters id change old new = Changes id change (rows_of old) (rows_of new)
+
+-- the same of each of these objects, if all are there
+abbrev pub AltersAll : List ℕ → (Node → Node) → Database → Database → Type 0
+AltersAll ids change old new = ChangesAll ids change (rows_of old) (rows_of new)
 
 -- a record is added after the others, and nothing else is changed
 abbrev pub HasNoted : AuditRow → Database → Database → Type 0

@@ -1,7 +1,7 @@
 //! Why the database failed.
 ghost use Rattle.std.specs.Prelude.{◌≡◌, ◌≤◌, ℕ, IfErr, OnOk, true};
 ghost use Rattle.room_rows.specs.Keep.{HasCause, capped};
-ghost use Rattle.store_tables.specs.Seeing.{Nowhere, fault_for, one_changed, wants_memory};
+ghost use Rattle.store_tables.specs.Seeing.{Nowhere, all_changed, fault_for, wants_memory};
 
 use room_rows::{KeepFault, failed};
 use sqlite::{Error, ErrorCode};
@@ -42,16 +42,30 @@ pub(crate) fn blamed(error: Error, failures: &mut u64) -> KeepFault
     }
 }
 
-/// What came of a statement that had to change one row.
-pub(crate) fn wrote_one(done: Result<usize, Error>, failures: &mut u64) -> Result<(), KeepFault>
-    ensures answer { result ≡ one_changed done }
+/// What came of a statement that had to change so many rows.
+pub(crate) fn wrote_all(
+    done: Result<usize, Error>,
+    wanted: u64,
+    failures: &mut u64,
+) -> Result<(), KeepFault>
+    ensures answer { result ≡ all_changed wanted done }
     ensures cause { IfErr result (HasCause (capped failures.old) (capped failures.new) Nowhere) }
     ensures unfailed { OnOk result (failures.new ≡ failures.old) }
     ensures no_less { failures.old ≤ failures.new }
 {
     match done {
-        Ok(count) if count == 1 => Ok(()),
+        Ok(count) if count as u64 == wanted => Ok(()),
         Ok(_) => Err(failed(failures)),
         Err(error) => Err(blamed(error, failures)),
     }
+}
+
+/// What came of a statement that had to change one row.
+pub(crate) fn wrote_one(done: Result<usize, Error>, failures: &mut u64) -> Result<(), KeepFault>
+    ensures answer { result ≡ all_changed 1 done }
+    ensures cause { IfErr result (HasCause (capped failures.old) (capped failures.new) Nowhere) }
+    ensures unfailed { OnOk result (failures.new ≡ failures.old) }
+    ensures no_less { failures.old ≤ failures.new }
+{
+    wrote_all(done, 1, failures)
 }

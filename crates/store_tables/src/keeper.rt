@@ -7,7 +7,7 @@ ghost use Rattle.room_rows.specs.Held.{with_held};
 ghost use Rattle.room_rows.specs.Calls.{Reads};
 ghost use Rattle.room_rows.specs.Keep.{AreChildrenOf, AreNamedUnder, HasChildren, HasNoRoot};
 ghost use Rattle.room_rows.specs.Keep.{IsChildOf, IsRootOf, IsUnreadable};
-ghost use Rattle.room_rows.specs.Keep.{capped, with_inh, with_owners, with_place, writes_after};
+ghost use Rattle.room_rows.specs.Keep.{capped, with_owners, with_place, writes_after};
 ghost use Rattle.store_tables.specs.Meaning.{rows_of};
 ghost use Rattle.store_tables.specs.Columns.{IsInserted};
 ghost use Rattle.room_entry.specs.Valid.{is_document};
@@ -20,6 +20,7 @@ ghost use Rattle.store_tables.specs.Whole.{Sees, SeesEach, SeesNamed, SeesSome, 
 
 use crate::columns::{columns_of, held_columns, name_is_kept, record_of, text_is_kept};
 use crate::fault::{blamed, wrote_one};
+use crate::inherited::{put_inh, put_inh_all};
 use crate::reading::number_of;
 use crate::recent::RecentLists;
 use crate::seen::{
@@ -28,7 +29,7 @@ use crate::seen::{
 use crate::statements::{
     delete_node, insert_bytes, insert_node, insert_record, select_bytes, select_child,
     select_groups, select_names, select_node, select_numbers, select_some, select_top,
-    select_under, update_bytes, update_held, update_inh, update_owners, update_place,
+    select_under, update_bytes, update_held, update_owners, update_place,
 };
 use room_ace::{Entry, Name, Names, Owners, Which, names_are_text};
 use room_rows::{
@@ -65,7 +66,7 @@ fn put_held<S: Alter>(
 ) -> Result<(), KeepFault>
     ensures same_reference { keeper.new.tx.ghost_name ≡ keeper.old.tx.ghost_name }
     ensures same_lender { keeper.new.tx.now.conn.ghost_name ≡ keeper.old.tx.now.conn.ghost_name }
-    ensures written { capped keeper.new.writes ≡ writes_after result (capped keeper.old.writes) }
+    ensures written { capped keeper.new.writes ≡ writes_after 1 result (capped keeper.old.writes) }
     ensures puts { Puts (state S.Store keeper.old.tx.now.conn.now)
         (state S.Store keeper.new.tx.now.conn.now) keeper.old.failures keeper.new.failures
         result (λ _. Alters id (with_held which held.now)) }
@@ -89,7 +90,7 @@ fn put_owners<S: Alter>(
 ) -> Result<(), KeepFault>
     ensures same_reference { keeper.new.tx.ghost_name ≡ keeper.old.tx.ghost_name }
     ensures same_lender { keeper.new.tx.now.conn.ghost_name ≡ keeper.old.tx.now.conn.ghost_name }
-    ensures written { capped keeper.new.writes ≡ writes_after result (capped keeper.old.writes) }
+    ensures written { capped keeper.new.writes ≡ writes_after 1 result (capped keeper.old.writes) }
     ensures puts { Puts (state S.Store keeper.old.tx.now.conn.now)
         (state S.Store keeper.new.tx.now.conn.now) keeper.old.failures keeper.new.failures
         result (λ _. Alters id (with_owners owners.now)) }
@@ -114,7 +115,7 @@ fn put_place<S: Alter>(
 ) -> Result<(), KeepFault>
     ensures same_reference { keeper.new.tx.ghost_name ≡ keeper.old.tx.ghost_name }
     ensures same_lender { keeper.new.tx.now.conn.ghost_name ≡ keeper.old.tx.now.conn.ghost_name }
-    ensures written { capped keeper.new.writes ≡ writes_after result (capped keeper.old.writes) }
+    ensures written { capped keeper.new.writes ≡ writes_after 1 result (capped keeper.old.writes) }
     ensures puts { Puts (state S.Store keeper.old.tx.now.conn.now)
         (state S.Store keeper.new.tx.now.conn.now) keeper.old.failures keeper.new.failures
         result (λ _. Alters id (with_place parent name.now)) }
@@ -127,31 +128,6 @@ fn put_place<S: Alter>(
     };
     text_is_kept(name);
     let done = update_place(keeper.tx, at, under, name);
-    wrote_one(done, &mut keeper.failures)?;
-    count_one(&mut keeper.writes);
-    Ok(())
-}
-
-// Writes what a list of an object that is there inherits.
-fn put_inh<S: Alter>(
-    keeper: &mut Keeper<'_, '_, S>,
-    id: u64,
-    which: Which,
-    entries: &[Entry],
-) -> Result<(), KeepFault>
-    ensures same_reference { keeper.new.tx.ghost_name ≡ keeper.old.tx.ghost_name }
-    ensures same_lender { keeper.new.tx.now.conn.ghost_name ≡ keeper.old.tx.now.conn.ghost_name }
-    ensures written { capped keeper.new.writes ≡ writes_after result (capped keeper.old.writes) }
-    ensures puts { Puts (state S.Store keeper.old.tx.now.conn.now)
-        (state S.Store keeper.new.tx.now.conn.now) keeper.old.failures keeper.new.failures
-        result (λ _. Alters id (with_inh which entries.now)) }
-{
-    let Some(at) = rowid_of(id) else {
-        return Err(failed(&mut keeper.failures));
-    };
-    let text = keeper.lists.print(keeper.alloc, entries)?;
-    let done = update_inh(keeper.tx, at, which, text.as_str());
-    drop(text);
     wrote_one(done, &mut keeper.failures)?;
     count_one(&mut keeper.writes);
     Ok(())
@@ -211,7 +187,7 @@ fn put_bytes<S: Alter>(
 fn put_record<S: Alter>(keeper: &mut Keeper<'_, '_, S>, row: &AuditRow) -> Result<(), KeepFault>
     ensures same_reference { keeper.new.tx.ghost_name ≡ keeper.old.tx.ghost_name }
     ensures same_lender { keeper.new.tx.now.conn.ghost_name ≡ keeper.old.tx.now.conn.ghost_name }
-    ensures written { capped keeper.new.writes ≡ writes_after result (capped keeper.old.writes) }
+    ensures written { capped keeper.new.writes ≡ writes_after 1 result (capped keeper.old.writes) }
     ensures puts { Puts (state S.Store keeper.old.tx.now.conn.now)
         (state S.Store keeper.new.tx.now.conn.now) keeper.old.failures keeper.new.failures
         result (λ _. HasNoted row.now) }
@@ -398,6 +374,15 @@ impl<'a, 'conn, S: Alter> Keep for Keeper<'a, 'conn, S> {
 
     fn set_inh(&mut self, id: u64, which: Which, entries: &[Entry]) -> Result<(), KeepFault> {
         put_inh(self, id, which, entries)
+    }
+
+    fn set_inh_all(
+        &mut self,
+        ids: &[u64],
+        which: Which,
+        entries: &[Entry],
+    ) -> Result<(), KeepFault> {
+        put_inh_all(self, ids, which, entries)
     }
 
     fn set_owners(&mut self, id: u64, owners: &Owners) -> Result<(), KeepFault> {

@@ -3,6 +3,7 @@
 
 mod columns;
 mod fault;
+mod inherited;
 mod keeper;
 mod reading;
 mod recent;

@@ -4,7 +4,7 @@ ghost use Rattle.sqlite.specs.Held.{state};
 ghost use Rattle.store_tables.specs.Columns.{StoresHeld, StoresNode, record_values, values_of};
 ghost use Rattle.store_tables.specs.Printed.{IsCanonical};
 ghost use Rattle.store_tables.specs.Shown.{Bodies, Fills, AddsRecordRow};
-ghost use Rattle.store_tables.specs.Shown.{Recasts, RemovesRow};
+ghost use Rattle.store_tables.specs.Shown.{Recasts, RecastsAll, RemovesRow};
 ghost use Rattle.store_tables.specs.Shown.{holding, inheriting, lying, owning};
 ghost use Rattle.store_tables.specs.Statements.{QueriesSql, HasBytes, HasChild};
 ghost use Rattle.store_tables.specs.Statements.{HasGroups, HasNames};
@@ -288,6 +288,64 @@ pub(crate) fn update_inh<S: Alter>(
     match which {
         Which::Dacl => update_dacl_inh(tx, id, text),
         Which::Sacl => update_sacl_inh(tx, id, text),
+    }
+}
+
+// Writes what the dacls inherit in the rows of these numbers, from the first to the last.
+fn update_dacl_range<S: Alter>(
+    tx: &mut Transaction<'_, S>,
+    first: i64,
+    last: i64,
+    text: &str,
+) -> Result<usize, Error>
+    requires { IsCanonical text.now }
+    ensures same_reference { tx.new.conn.ghost_name ≡ tx.old.conn.ghost_name }
+    ensures writes { ExecutesSql
+        (OfAny (RecastsAll (inheriting Which.Dacl text.now) first last))
+        (state S.Store tx.old.conn.now) (state S.Store tx.new.conn.now) result }
+{
+    tx.execute(
+        "UPDATE nodes SET dacl_inh = ?3 WHERE id >= ?1 AND id <= ?2",
+        params![first, last, text],
+    )
+}
+
+// The same of the sacls.
+fn update_sacl_range<S: Alter>(
+    tx: &mut Transaction<'_, S>,
+    first: i64,
+    last: i64,
+    text: &str,
+) -> Result<usize, Error>
+    requires { IsCanonical text.now }
+    ensures same_reference { tx.new.conn.ghost_name ≡ tx.old.conn.ghost_name }
+    ensures writes { ExecutesSql
+        (OfAny (RecastsAll (inheriting Which.Sacl text.now) first last))
+        (state S.Store tx.old.conn.now) (state S.Store tx.new.conn.now) result }
+{
+    tx.execute(
+        "UPDATE nodes SET sacl_inh = ?3 WHERE id >= ?1 AND id <= ?2",
+        params![first, last, text],
+    )
+}
+
+/// Writes what a list inherits in the rows of these numbers, from the first to the last, and none
+/// of their other columns.
+pub(crate) fn update_range<S: Alter>(
+    tx: &mut Transaction<'_, S>,
+    first: i64,
+    last: i64,
+    which: Which,
+    text: &str,
+) -> Result<usize, Error>
+    requires { IsCanonical text.now }
+    ensures same_reference { tx.new.conn.ghost_name ≡ tx.old.conn.ghost_name }
+    ensures writes { ExecutesSql (OfAny (RecastsAll (inheriting which text.now) first last))
+        (state S.Store tx.old.conn.now) (state S.Store tx.new.conn.now) result }
+{
+    match which {
+        Which::Dacl => update_dacl_range(tx, first, last, text),
+        Which::Sacl => update_sacl_range(tx, first, last, text),
     }
 }
 

@@ -5,7 +5,8 @@ use room_rows::{AuditRow, Bytes, Held, Keep, KeepFault, Listing, NewNode, Node, 
 use std::test::Fail;
 
 /// How often each kind of call was made. Calls of `set_inh` are counted apart from the other calls
-/// that write rows, so that a spread is seen apart from the change that starts it.
+/// that write rows, so that a spread is seen apart from the change that starts it. A call of
+/// `set_inh_all` counts as one of `set_inh` for each of its objects.
 #[derive(Clone, Copy)]
 pub struct Calls {
     root: u64,
@@ -197,6 +198,16 @@ impl<K: Keep> Keep for Tally<K> {
     fn set_inh(&mut self, id: u64, which: Which, entries: &[Entry]) -> Result<(), KeepFault> {
         self.calls.inherited = self.calls.inherited.saturating_add(1);
         self.keeper.set_inh(id, which, entries)
+    }
+
+    fn set_inh_all(
+        &mut self,
+        ids: &[u64],
+        which: Which,
+        entries: &[Entry],
+    ) -> Result<(), KeepFault> {
+        self.calls.inherited = self.calls.inherited.saturating_add(ids.len() as u64);
+        self.keeper.set_inh_all(ids, which, entries)
     }
 
     fn set_owners(&mut self, id: u64, owners: &Owners) -> Result<(), KeepFault> {

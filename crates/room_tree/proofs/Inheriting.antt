@@ -1,0 +1,80 @@
+-- Objects in memory that inherit the same, one after the other.
+use Rattle.std.proofs.Common.{◌≡◌, ℕ, ◌==◌, ◌&&◌, ◌++◌, Bool, true, false, List, [], ◌∷◌, Ok, Some}
+use Rattle.std.proofs.Common.{refl, sym, ap, ◌∙◌, inl, inr}
+use Rattle.std.specs.Prelude.{is_some}
+use Rattle.std.proofs.lemmas.Bool.{cases_Bool, cond-false, cond-true, eqb-true}
+use Rattle.std.proofs.lemmas.List.Folds.{list_all-append}
+use Rattle.room_entry.specs.Ace.{Ace}
+use Rattle.room_entry.specs.declared.object.Which.{Which}
+use Rattle.room_rows.specs.declared.node.Node.{Node}
+use Rattle.room_rows.specs.Content.{put_node}
+use Rattle.room_rows.specs.Finding.{find_id}
+use Rattle.room_rows.specs.Keep.{with_inh}
+use Rattle.room_rows.proofs.InPlace.{place-with_inh}
+use Rattle.room_rows.proofs.Many.{none_changed, then_changed, with_inh-once}
+use Rattle.room_tree.specs.Memory.{Inherits, StayRows, are_found, memory_rows}
+use Rattle.room_tree.proofs.Found.{found_put}
+
+-- an object that is put in the place of one that is there is no new one
+pub same_put : (nodes : List Node) (new node : Node) (id : ℕ) → find_id id nodes ≡ Some node
+    → new.id ≡ id → (at : ℕ)
+    → is_some (find_id at (put_node new nodes)) ≡ is_some (find_id at nodes)
+same_put nodes new node id found is at =
+    ap is_some (found_put new at nodes) ∙ elim (cases_Bool (new.id == at)) [
+      | inl here ↦
+          ap is_some (cond-true (new.id == at) (Some new) (find_id at nodes) here)
+          ∙ sym (ap is_some (ap (λ (n : ℕ). find_id n nodes) (sym (eqb-true new.id at here) ∙ is)
+          ∙ found))
+      | inr other ↦ ap is_some (cond-false (new.id == at) (Some new) (find_id at nodes) other)
+    ]
+
+same_found : (a b : List Node) → ((id : ℕ) → is_some (find_id id b) ≡ is_some (find_id id a))
+    → (ids : List ℕ) → are_found ids b ≡ are_found ids a
+same_found a b same [] = refl
+same_found a b same (id ∷ ids) =
+    ap (λ t. t && are_found ids b) (same id)
+    ∙ ap (λ t. is_some (find_id id a) && t) (same_found a b same ids)
+
+-- none so far
+pub inherits_none : (which : Which) (entries : List Ace) (nodes : List Node)
+    → Inherits [] which entries nodes nodes (Ok true)
+inherits_none which entries nodes =
+    record {
+      rows = λ bodies members audits are. are;
+      same = λ id. refl;
+      found = refl;
+      changed =
+          λ _ bodies members audits are. none_changed (with_inh which entries)
+          (memory_rows nodes bodies members audits);
+    }
+
+module _ (which : Which) (entries : List Ace) (a b c : List Node) (ids more : List ℕ)
+    (before : Inherits ids which entries a b (Ok true)) where
+  rows_on : StayRows b c → StayRows a c
+  rows_on after bodies members audits are =
+      after bodies members audits (before.rows bodies members audits are)
+
+  -- and some more, which are all there
+  pub inherits_more : Inherits more which entries b c (Ok true)
+      → Inherits (ids ++ more) which entries a c (Ok true)
+  inherits_more after =
+      record {
+        rows = rows_on after.rows;
+        same = λ id. after.same id ∙ before.same id;
+        found =
+            before.found ∙ both (are_found ids a) (are_found more a) before.found
+            (after.found ∙ same_found a b before.same more)
+            ∙ sym (list_all-append (λ (id : ℕ). is_some (find_id id a)) ids more);
+        changed =
+            λ _ bodies members audits are. then_changed (with_inh which entries)
+            (place-with_inh which entries) (with_inh-once which entries) ids more
+            (memory_rows a bodies members audits) (memory_rows b bodies members audits)
+            (memory_rows c bodies members audits)
+            (before.changed refl bodies members audits are)
+            (after.changed refl bodies members audits (before.rows bodies members audits are));
+      }
+    where
+      both : (p q : Bool) → true ≡ p → true ≡ q → p ≡ (p && q)
+      both true true one two = refl
+      both true false one two = absurd (let e = two in cc)
+      both false q one two = absurd (let e = one in cc)

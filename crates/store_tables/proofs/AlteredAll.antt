@@ -1,0 +1,308 @@
+-- What the rows mean once the rows of a range of numbers are written.
+use Rattle.std.proofs.Common.{◌≡◌, ◌<◌, ◌≤◌, ◌+◌, ℕ, suc, zero, ℤ, pos, negsuc, List, [], ◌∷◌}
+use Rattle.std.proofs.Common.{map, find, not, None, Some, Option, refl, sym, ap, subst, ◌∙◌, Bool}
+use Rattle.std.proofs.Common.{true, false, cond, inl, inr, ◌⊎◌, arith, unwrap_or}
+use Rattle.std.specs.Prelude.{◌==◌, ◌&&◌, ◌||◌, is_none, is_some, nat_lt, option_and_then}
+use Rattle.std.specs.Prelude.{if◌then◌else◌}
+use Rattle.std.specs.List.{cons_option, filter_map, list_any, range_with_len}
+use Rattle.std.specs.Option.{option_map}
+use Rattle.std.specs.Ordering.{is_eq, is_gt, is_lt}
+use Rattle.std.specs.declared.cmp.Ordering.TheVariants.{Equal, Greater, Less}
+use Rattle.std.proofs.lemmas.Bool.{and_parts, cond-false, cond-true, eqb-true, ltb-false, ltb-true}
+use Rattle.std.proofs.lemmas.Bool.{eqb-false, ne_eqb}
+use Rattle.sqlite.specs.declared.types.Value.TheVariants.{Int, Null, Text}
+use Rattle.sqlite.specs.Effect.{Database}
+use Rattle.sqlite.specs.Order.{Row, value_cmp}
+use Rattle.sqlite.specs.Tree.{has_rowid, rowid}
+use Rattle.sqlite_rules.specs.Edit.{id_in}
+use Rattle.sqlite_rules.specs.Lists.{Has}
+use Rattle.sqlite_rules.proofs.PlaceLemmas.{row_at_is}
+use Rattle.sqlite_rules.proofs.TableLemmas.{int_is}
+use Rattle.sqlite_value.proofs.OrderLemmas.{value_cmp-Int}
+use Rattle.room_entry.specs.Ace.{Ace}
+use Rattle.room_entry.specs.declared.object.Which.{Which}
+use Rattle.room_rows.specs.declared.node.Node.{Node}
+use Rattle.room_rows.specs.Content.{Content, node_at}
+use Rattle.room_rows.specs.Keep.{are_there, with_inh}
+use Rattle.room_rows.proofs.Many.{changed_among}
+use Rattle.store_tables.specs.Filed.{node_at_row, node_keyed}
+use Rattle.store_tables.specs.Meaning.{audit_in, bodies_of, entries_in, node_in, nodes_of}
+use Rattle.store_tables.specs.Meaning.{number_in, pairs_of, rows_of, unread_in, unread_of}
+use Rattle.store_tables.specs.RoomRows.{number_in-low}
+use Rattle.store_tables.specs.Shown.{IsRoom, RecastsAll, inheriting, is_in_range, recast_in}
+use Rattle.store_tables.specs.Shown.{shown_node}
+use Rattle.store_tables.specs.Trust.{AltersAll}
+use Rattle.store_tables.proofs.Altered.{inherits_back}
+use Rattle.store_tables.proofs.Recast.{recast}
+use Rattle.store_tables.proofs.Removed.{same_rows}
+use Rattle.store_tables.proofs.Rowids.{has_itself, of_each}
+
+-- ---- numbers that follow one another
+
+later_on : (first n : ℕ) → first ≤ n → (first == n) ≡ false → first + 1 ≤ n
+later_on first n low isnt = omega (arith, low, eqb-false first n isnt)
+
+in_run : (first count n : ℕ) → first ≤ n → n < first + count
+    → list_any (λ (id : ℕ). id == n) (range_with_len first count) ≡ true
+in_run first zero n low high = absurd (omega (arith, low, high))
+in_run first (suc more) n low high =
+    by (first == n) refl
+    (λ isnt. in_run (first + 1) more n (later_on first n low isnt) (omega (arith, high)))
+  where
+    by : (b : Bool) → (first == n) ≡ b
+        → ((first == n) ≡ false
+        → list_any (λ (id : ℕ). id == n) (range_with_len (first + 1) more) ≡ true)
+        → ((first == n) || list_any (λ (id : ℕ). id == n) (range_with_len (first + 1) more)) ≡ true
+    by true is later =
+        ap (λ c. c || list_any (λ (id : ℕ). id == n) (range_with_len (first + 1) more)) is
+    by false isnt later =
+        ap (λ c. c || list_any (λ (id : ℕ). id == n) (range_with_len (first + 1) more)) isnt
+        ∙ later isnt
+
+past_run : (first count n : ℕ) → (n < first) ⊎ (first + count ≤ n)
+    → list_any (λ (id : ℕ). id == n) (range_with_len first count) ≡ false
+past_run first zero n out = refl
+past_run first (suc more) n (inl low) =
+    ap (λ c. c || list_any (λ (id : ℕ). id == n) (range_with_len (first + 1) more))
+    (ne_eqb first n (λ e. absurd (omega (arith, low, e))))
+    ∙ past_run (first + 1) more n (inl (omega (arith, low)))
+past_run first (suc more) n (inr high) =
+    ap (λ c. c || list_any (λ (id : ℕ). id == n) (range_with_len (first + 1) more))
+    (ne_eqb first n (λ e. absurd (omega (arith, high, e))))
+    ∙ past_run (first + 1) more n (inr (omega (arith, high)))
+
+there_in_run : (content : Content) (first count n : ℕ)
+    → are_there (range_with_len first count) content ≡ true → first ≤ n → n < first + count
+    → is_some (node_at content n) ≡ true
+there_in_run content first zero n there low high = absurd (omega (arith, low, high))
+there_in_run content first (suc more) n there low high =
+    let parts = and_parts (is_some (node_at content first))
+    (are_there (range_with_len (first + 1) more) content) there in
+    by (first == n) refl parts.0
+    (λ isnt. there_in_run content (first + 1) more n parts.1 (later_on first n low isnt)
+    (omega (arith, high)))
+  where
+    by : (b : Bool) → (first == n) ≡ b → is_some (node_at content first) ≡ true
+        → ((first == n) ≡ false → is_some (node_at content n) ≡ true)
+        → is_some (node_at content n) ≡ true
+    by true is here later =
+        subst (λ (m : ℕ). is_some (node_at content m) ≡ true) (eqb-true first n is) here
+    by false isnt here later = later isnt
+
+-- ---- rowids between two numbers
+
+less_test : (b c : Bool) → is_lt (cond b Less (cond c Greater Equal)) ≡ b
+less_test true c = refl
+less_test false true = refl
+less_test false false = refl
+
+more_test : (b c : Bool) → is_gt (cond b Less (cond c Greater Equal)) ≡ (not b && c)
+more_test true c = refl
+more_test false true = refl
+more_test false false = refl
+
+test_of : (r : Row) (m first last : ℕ) → rowid r ≡ Int (pos m)
+    → is_in_range (pos first) (pos last) r
+    ≡ (not (nat_lt m first) && not (not (nat_lt m last) && nat_lt last m))
+test_of r m first last is =
+    ap (λ v. not (is_lt (value_cmp v (Int (pos first))))
+    && not (is_gt (value_cmp v (Int (pos last))))) is
+    ∙ ap (λ o. not (is_lt o) && not (is_gt (value_cmp (Int (pos m)) (Int (pos last)))))
+    (value_cmp-Int (pos m) (pos first))
+    ∙ ap (λ b. not b && not (is_gt (value_cmp (Int (pos m)) (Int (pos last)))))
+    (less_test (nat_lt m first) (nat_lt first m))
+    ∙ ap (λ o. not (nat_lt m first) && not (is_gt o)) (value_cmp-Int (pos m) (pos last))
+    ∙ ap (λ b. not (nat_lt m first) && not b) (more_test (nat_lt m last) (nat_lt last m))
+
+between : (m first last : ℕ)
+    → (not (nat_lt m first) && not (not (nat_lt m last) && nat_lt last m)) ≡ true
+    → (first ≤ m) × (m ≤ last)
+between m first last = by (nat_lt m first) (nat_lt m last) (nat_lt last m) refl refl refl
+  where
+    by : (a b c : Bool) → nat_lt m first ≡ a → nat_lt m last ≡ b → nat_lt last m ≡ c
+        → (not a && not (not b && c)) ≡ true → (first ≤ m) × (m ≤ last)
+    by true b c low below above e = absurd (let x = e in cc)
+    by false true c low below above e =
+        let l = ltb-false m first low in
+        let h = ltb-true m last below in
+        (omega (arith, l), omega (arith, h))
+    by false false true low below above e = absurd (let x = e in cc)
+    by false false false low below above e =
+        let l = ltb-false m first low in
+        let h = ltb-false last m above in
+        (omega (arith, l), omega (arith, h))
+
+outside : (m first last : ℕ)
+    → (not (nat_lt m first) && not (not (nat_lt m last) && nat_lt last m)) ≡ false
+    → (m < first) ⊎ (last < m)
+outside m first last = by (nat_lt m first) (nat_lt m last) (nat_lt last m) refl refl refl
+  where
+    by : (a b c : Bool) → nat_lt m first ≡ a → nat_lt m last ≡ b → nat_lt last m ≡ c
+        → (not a && not (not b && c)) ≡ false → (m < first) ⊎ (last < m)
+    by true b c low below above e = inl (ltb-true m first low)
+    by false true c low below above e = absurd (let x = e in cc)
+    by false false true low below above e =
+        inr (ltb-true last m above)
+    by false false false low below above e = absurd (let x = e in cc)
+
+below_none : (b : Bool) (x : Bool) → b ≡ true → (not b && x) ≡ true → ⊥
+below_none b x is e = absurd (let f = sym (ap (λ c. not c && x) is) ∙ e in cc)
+
+-- a row whose number is between two numbers has such a number
+number_between : (r : Row) (first last : ℕ) (z : ℤ) → rowid r ≡ Int z
+    → is_in_range (pos first) (pos last) r ≡ true
+    → (m : ℕ) × (rowid r ≡ Int (pos m)) × (first ≤ m) × (m ≤ last)
+number_between r first last (pos m) is within =
+    let it = between m first last (sym (test_of r m first last is) ∙ within) in
+    (m, is, it.0, it.1)
+number_between r first last (negsuc k) is within =
+    absurd
+    (below_none (is_lt (value_cmp (rowid r) (Int (pos first))))
+    (not (is_gt (value_cmp (rowid r) (Int (pos last)))))
+    (ap (λ v. is_lt (value_cmp v (Int (pos first)))) is
+    ∙ ap is_lt (value_cmp-Int (negsuc k) (pos first))) within)
+
+-- ---- the objects are changed
+
+abbrev see : Row → Option Node
+see r = node_in (shown_node r)
+
+one_of_some : {A : Type 0} (o : Option A) → is_some o ≡ true → (a : A) × (o ≡ Some a)
+one_of_some None is = absurd (let e = is in cc)
+one_of_some (Some a) is = (a, refl)
+
+same_pos : (m n : ℕ) → Int (pos m) ≡ Int (pos n) → m ≡ n
+same_pos m n e = cc
+
+module _ (db next : Database) (room : IsRoom db) (which : Which) (text : List ℕ)
+    (entries : List Ace) (back : entries_in (Text text) ≡ Some entries) (first more : ℕ) (low : 0 < first)
+    (there : are_there (range_with_len first (more + 1)) (rows_of db).read ≡ true) where
+  abbrev run : List ℕ
+  run = range_with_len first (more + 1)
+
+  abbrev change : Node → Node
+  change = with_inh which entries
+
+  abbrev cells : Row → Row
+  cells = inheriting which text
+
+  abbrev to_row : Row → Row
+  to_row = recast_in cells (pos first) (pos (first + more))
+
+  -- the object that is there was read of this row
+  seen : (r : Row) (m : ℕ) → Has (db.trees 0) r → rowid r ≡ Int (pos m) → first ≤ m
+      → m ≤ first + more → is_some (see r) ≡ true
+  seen r m has is low' high =
+      by (find (has_rowid (pos m)) (db.trees 0)) refl
+      (row_at_is (db.trees 0) (pos m) r room.nodes.0 has
+      (ap (λ v. is_eq (value_cmp v (Int (pos m)))) is ∙ has_itself (pos m)))
+      (sym (ap is_some (node_at_row db m room.nodes.0))
+      ∙ there_in_run (rows_of db).read first (more + 1) m there low' (omega (arith, high)))
+    where
+      by : (o : Option Row) → find (has_rowid (pos m)) (db.trees 0) ≡ o
+          → unwrap_or (find (has_rowid (pos m)) (db.trees 0)) [] ≡ r
+          → is_some (option_and_then see (find (has_rowid (pos m)) (db.trees 0))) ≡ true
+          → is_some (see r) ≡ true
+      by None found same some =
+          absurd (let e = sym (ap (λ o. is_some (option_and_then see o)) found) ∙ some in cc)
+      by (Some y) found same some =
+          let it : y ≡ r = sym (ap (λ o. unwrap_or o []) found) ∙ same in
+          subst (λ (x : Row). is_some (see x) ≡ true) it
+          (sym (ap (λ o. is_some (option_and_then see o)) found) ∙ some)
+
+  -- a row of the range, as it is read before and after
+  within_seen : (r : Row) → Has (db.trees 0) r
+      → is_in_range (pos first) (pos (first + more)) r ≡ true → (n : Node) × (see r ≡ Some n) × (see (to_row r) ≡ Some (changed_among run change n))
+  within_seen r has within =
+      let is = int_is (rowid r) (of_each _ (db.trees 0) room.nodes.1 r has) in
+      let at = number_between r first (first + more) (id_in (rowid r)) is within in
+      let one = one_of_some (see r) (seen r at.0 has at.1 at.2 at.3) in
+      let same : at.0 ≡ one.0.id =
+      same_pos at.0 one.0.id (sym at.1 ∙ node_keyed r one.0 one.1) in
+      let number : number_in (Int (pos at.0)) ≡ Some one.0.id =
+      number_in-low at.0 (omega (arith, low, at.2)) ∙ ap Some same in
+      let new : to_row r ≡ Int (pos at.0) ∷ Null ∷ recast (cells r) =
+      cond-true (is_in_range (pos first) (pos (first + more)) r)
+      (rowid r ∷ Null ∷ recast (cells r)) r within
+      ∙ ap (λ v. v ∷ Null ∷ recast (cells r)) at.1 in (
+        one.0,
+        one.1,
+        ap see new ∙ inherits_back at.0 r one.0 number one.1 which text entries back
+            ∙ ap Some (sym (cond-true _ (change one.0) one.0
+            (ap (λ (n : ℕ). list_any (λ (id : ℕ). id == n) run) (sym same)
+            ∙ in_run first (more + 1) at.0 at.2 (omega (arith, at.3))))),
+      )
+
+  stays : (r : Row) → is_in_range (pos first) (pos (first + more)) r ≡ false → to_row r ≡ r
+  stays r isnt =
+      cond-false (is_in_range (pos first) (pos (first + more)) r)
+      (rowid r ∷ Null ∷ recast (cells r)) r isnt
+
+  out_seen : (r : Row) → is_in_range (pos first) (pos (first + more)) r ≡ false → (o : Option Node)
+      → see r ≡ o → o ≡ option_map (changed_among run change) o
+  out_seen r isnt None is = refl
+  out_seen r isnt (Some n) is =
+      ap Some (sym (cond-false _ (change n) n
+      (past_run first (more + 1) n.id
+      (on (outside n.id first (first + more)
+      (sym (test_of r n.id first (first + more) (node_keyed r n is)) ∙ isnt))))))
+    where
+      on : (n.id < first) ⊎ (first + more < n.id) → (n.id < first) ⊎ (first + (more + 1) ≤ n.id)
+      on (inl l) = inl l
+      on (inr h) = inr (omega (arith, h))
+
+  -- each row is read as the changed object, if it is read as one
+  read_so : (r : Row) → Has (db.trees 0) r
+      → (see (to_row r) ≡ option_map (changed_among run change) (see r))
+      × (unread_in (shown_node (to_row r)) ≡ unread_in (shown_node r))
+  read_so r has = by (is_in_range (pos first) (pos (first + more)) r) refl
+    where
+      by : (b : Bool) → is_in_range (pos first) (pos (first + more)) r ≡ b
+          → (see (to_row r) ≡ option_map (changed_among run change) (see r))
+          × (unread_in (shown_node (to_row r)) ≡ unread_in (shown_node r))
+      by true within =
+          let it = within_seen r has within in (
+            it.2 ∙ sym (ap (option_map (changed_among run change)) it.1),
+            ap (λ o. if is_none o then number_in (rowid (to_row r)) else None) it.2
+                ∙ sym (ap (λ o. if is_none o then number_in (rowid r) else None) it.1),
+          )
+      by false isnt = (
+        ap see (stays r isnt) ∙ out_seen r isnt (see r) refl,
+        ap (λ (x : Row). unread_in (shown_node x)) (stays r isnt),
+      )
+
+  nodes_so : (rows : List Row) → ((r : Row) → Has rows r → Has (db.trees 0) r)
+      → nodes_of (map to_row rows) ≡ map (changed_among run change) (nodes_of rows)
+  nodes_so [] has = refl
+  nodes_so (r ∷ rows) has =
+      ap (λ o. cons_option o (nodes_of (map to_row rows))) (read_so r (has r (inl refl))).0
+      ∙ ap (cons_option (option_map (changed_among run change) (see r)))
+      (nodes_so rows (λ x h. has x (inr h)))
+      ∙ on (see r)
+    where
+      on : (o : Option Node)
+          → cons_option (option_map (changed_among run change) o)
+          (map (changed_among run change) (nodes_of rows))
+          ≡ map (changed_among run change) (cons_option o (nodes_of rows))
+      on None = refl
+      on (Some n) = refl
+
+  unread_so : (rows : List Row) → ((r : Row) → Has rows r → Has (db.trees 0) r)
+      → unread_of (map to_row rows) ≡ unread_of rows
+  unread_so [] has = refl
+  unread_so (r ∷ rows) has =
+      ap (λ o. cons_option o (unread_of (map to_row rows))) (read_so r (has r (inl refl))).1
+      ∙ ap (cons_option (unread_in (shown_node r))) (unread_so rows (λ x h. has x (inr h)))
+
+-- the rows of a range are written, and so are the objects
+pub inherited_range : (db next : Database) → IsRoom db → (which : Which) (text : List ℕ)
+    (entries : List Ace) → entries_in (Text text) ≡ Some entries → (first more : ℕ) → 0 < first
+    → RecastsAll (inheriting which text) (pos first) (pos (first + more)) db.trees next.trees
+    → AltersAll (range_with_len first (more + 1)) (with_inh which entries) db next
+inherited_range db next room which text entries back first more low put there =
+    same_rows
+    (ap nodes_of put.nodes
+    ∙ nodes_so db next room which text entries back first more low there (db.trees 0) (λ r h. h))
+    (ap unread_of put.nodes
+    ∙ unread_so db next room which text entries back first more low there (db.trees 0) (λ r h. h))
+    (ap bodies_of put.bodies) (ap pairs_of put.members) (ap (filter_map audit_in) put.audits)

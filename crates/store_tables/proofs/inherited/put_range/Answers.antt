@@ -1,0 +1,47 @@
+use Rattle.std.proofs.Common.{◌≡◌, ◌+◌, ◌-◌, ap, subst, ◌∙◌, pos, to_z, of_z, w64, arith}
+use Rattle.std.specs.List.{range_with_len}
+use Rattle.std.proofs.Math.Facts.{to_z-of_z}
+use Rattle.sqlite.specs.Held.{state}
+use Rattle.room_rows.specs.Keep.{with_inh}
+use Rattle.store_tables.specs.Shown.{RecastsAll, inheriting}
+use Rattle.store_tables.specs.Trust.{AltersAll}
+use Rattle.store_tables.proofs.AlteredAll.{inherited_range}
+use Rattle.store_tables.proofs.Changed.{if_all}
+use Rattle.store_tables.proofs.Tests.{if_ok}
+use Rattle.store_tables.proofs.inherited.put_range.Goals as goal
+
+pub returns-clause-puts : goal.returns-clause-puts
+returns-clause-puts g c = λ entries printed.
+    let old = state g.S.Store c.args.keeper.now.tx.now.conn.now in
+    let new = state g.S.Store c.update_range-done.new.tx.conn.now in
+    let text = c.args.text.now in
+    let first = c.args.first in
+    let more = c.args.count - 1 in
+    let from : to_z w64 (of_z w64 c.in-Some.from) ≡ pos first = ap
+    (λ z. to_z w64 (of_z w64 z)) c.in-Some.ensures.1 ∙ to_z-of_z c.in-Some.ensures.0 in
+    let to : to_z w64 (of_z w64 c.in-Some-end_of.to) ≡ pos (first + more) = ap
+    (λ z. to_z w64 (of_z w64 z)) c.in-Some-end_of.ensures.1 ∙ to_z-of_z c.in-Some-end_of.ensures.0
+    in
+    let whole : more + 1 ≡ c.args.count = let some = c.requires.some in omega (arith, some) in
+    record {
+      stays = c.update_range-done.ensures.writes.stays;
+      no_less = c.wrote_all.ensures.no_less;
+      unfailed = c.wrote_all.ensures.unfailed;
+      fault = c.wrote_all.ensures.cause;
+      becomes = λ trust.
+          if_all c.args.count c.update_range-done.result _ c.wrote_all.result
+          c.wrote_all.ensures.answer
+          (if_ok c.update_range-done.result _ _
+          (λ count put all. subst
+          (λ n. AltersAll (range_with_len first n) (with_inh c.args.which entries) old.now new.now)
+          whole
+          (inherited_range old.now new.now trust.now c.args.which text entries printed.1 first more
+          c.in-Some.ensures.2
+          (subst
+          (λ z. RecastsAll (inheriting c.args.which text) (pos first) z old.now.trees
+          new.now.trees) to
+          (subst
+          (λ z. RecastsAll (inheriting c.args.which text) z
+          (to_z w64 (of_z w64 c.in-Some-end_of.to)) old.now.trees new.now.trees) from put))))
+          (c.update_range-done.ensures.writes.leaves trust.clean trust.now));
+    }
