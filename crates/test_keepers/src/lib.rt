@@ -13,6 +13,8 @@ mod dumps;
 #[cfg(test)]
 mod keepers;
 #[cfg(test)]
+mod many;
+#[cfg(test)]
 mod passing;
 #[cfg(test)]
 mod paths;
