@@ -1,29 +1,24 @@
 -- Documents below which nothing stands, left out of the objects that wait.
-use Rattle.std.proofs.Common.{◌≡◌, ℕ, ◌≤◌, ◌==◌, Bool, true, false, cond, not, ◌&&◌, ◌||◌, List, []}
-use Rattle.std.proofs.Common.{◌∷◌, ◌++◌, map, filter, length, Option, Some, refl, sym, ap, subst}
+use Rattle.std.proofs.Common.{◌≡◌, ℕ, ◌≤◌, ◌==◌, Bool, true, false, cond, not, ◌&&◌, List, []}
+use Rattle.std.proofs.Common.{◌∷◌, ◌++◌, map, filter, length, Some, refl, sym, ap, subst}
 use Rattle.std.proofs.Common.{◌∙◌, inl, inr, arith}
-use Rattle.std.specs.Prelude.{nat_lt}
 use Rattle.std.specs.List.{AllByRecursion, list_any}
-use Rattle.std.specs.Option.{option_map_or}
 use Rattle.std.proofs.lemmas.Bool.{cases_Bool, or_cases, or_from, or_left, or_parts, or_right}
-use Rattle.std.proofs.lemmas.Bool.{false≢true, eqb-true, ltb-true}
+use Rattle.std.proofs.lemmas.Bool.{false≢true, eqb-true}
 use Rattle.room_entry.specs.Ace.{Ace}
 use Rattle.room_entry.specs.Valid.{is_document}
 use Rattle.room_entry.specs.declared.object.Which.{Which}
 use Rattle.room_rows.specs.declared.node.Node.{Node}
-use Rattle.room_rows.specs.Content.{Content, has_parent, is_folder, put_node, sorted_by_name}
-use Rattle.room_rows.specs.Content.{with_node}
+use Rattle.room_rows.specs.Content.{Content, has_parent, is_folder, sorted_by_name}
 use Rattle.room_rows.specs.Finding.{find_id}
-use Rattle.room_rows.specs.Held.{held_of}
 use Rattle.room_inherit.specs.declared.descent.Descent.{Descent}
 use Rattle.room_inherit.specs.Spread.{with_lists}
-use Rattle.room_inherit.specs.Turn.{AreKnown, IsChildless, LeavesOut, TellsWaiting, brought_up}
-use Rattle.room_inherit.specs.Turn.{is_outdated, next_of, passed_to, put_nodes, renewed, waits_next}
-use Rattle.room_inherit.proofs.Kinship.{same_kind, same_parent}
+use Rattle.room_inherit.specs.Turn.{IsChildless, LeavesOut, TellsWaiting, brought_up}
+use Rattle.room_inherit.specs.Turn.{is_outdated, next_of, passed_to, renewed, waits_next}
+use Rattle.room_inherit.proofs.Kinship.{same_kind}
 use Rattle.room_rows.proofs.InPlace.{with_inh-id}
 use Rattle.room_entry.proofs.Facts.Members.{any_agree, any_filter, any_map, each_fails, each_filter}
 use Rattle.room_inherit.proofs.Children.{Apart, any_sorted, each_found, has_id}
-use Rattle.room_inherit.proofs.Renewing.{known_other}
 use Rattle.room_inherit.proofs.Frontier.{Frontier, Waits, set, set_parent}
 
 -- ---- what stands below an object
@@ -54,55 +49,7 @@ none_below id nodes none =
     every [] = tt
     every (x ∷ xs) = (and_true (has_parent id x), every xs)
 
--- an object put in the place of one of its number and its parent
-below_one : (id : ℕ) (new stored : Node) (nodes : List Node)
-    → find_id new.id nodes ≡ Some stored → has_parent id new ≡ has_parent id stored
-    → list_any (has_parent id) (put_node new nodes) ≡ list_any (has_parent id) nodes
-below_one id new stored [] found same = absurd (let wrong : ⊥ = cc in wrong)
-below_one id new stored (x ∷ xs) found same =
-    on (nat_lt x.id new.id) (x.id == new.id) refl refl found (λ later.
-    below_one id new stored xs later same)
-  where
-    more : (t r : Bool) → (t ≡ true → r ≡ true) → (t || r) ≡ r
-    more true r implies = sym (implies refl)
-    more false r implies = refl
-
-    same_some : (y : Node) → Some x ≡ Some y → x ≡ y
-    same_some y e = cc
-
-    on : (s t : Bool) → nat_lt x.id new.id ≡ s → (x.id == new.id) ≡ t
-        → cond t (Some x) (find_id new.id xs) ≡ Some stored
-        → (find_id new.id xs ≡ Some stored
-        → list_any (has_parent id) (put_node new xs) ≡ list_any (has_parent id) xs)
-        → list_any (has_parent id)
-        (cond s (x ∷ put_node new xs) (cond t (new ∷ xs) (new ∷ x ∷ xs)))
-        ≡ list_any (has_parent id) (x ∷ xs)
-    on true true less is found rest =
-        absurd (let below = ltb-true x.id new.id less in let e = eqb-true x.id new.id is in
-        let wrong : ⊥ = omega (arith, below, e) in wrong)
-    on true false less is found rest = ap (λ r. has_parent id x || r) (rest found)
-    on false true less is found rest =
-        ap (λ t. t || list_any (has_parent id) xs)
-        (same ∙ ap (has_parent id) (sym (same_some stored found)))
-    on false false less is found rest =
-        more (has_parent id new) (list_any (has_parent id) (x ∷ xs))
-        (λ has. or_right (has_parent id x) (list_any (has_parent id) xs)
-        (found_below id new.id xs stored found (sym same ∙ has)))
-
--- putting known objects leaves below which objects something stands
-pub below_put : (which : Which) (content : Content) (nodes : List Node)
-    → AreKnown which nodes content → (id : ℕ)
-    → list_any (has_parent id) (put_nodes nodes content.nodes)
-    ≡ list_any (has_parent id) content.nodes
-below_put which content [] known id = refl
-below_put which content (x ∷ xs) known id =
-    below_put which (with_node content x) xs (known_other which content x xs known.1 known.2) id
-    ∙ below_one id x known.0.0 content.nodes known.0.1
-    (ap (has_parent id) known.0.2
-    ∙ ap (λ (p : Option ℕ). option_map_or (λ parent. parent == id) p false)
-    (same_parent which (held_of which x).inh known.0.0))
-
--- so do other lists
+-- other lists leave below which objects something stands
 pub below_lists : (which : Which) (f : Node → List Ace) (old : Content) (id : ℕ)
     → list_any (has_parent id) (with_lists which f old).nodes
     ≡ list_any (has_parent id) old.nodes

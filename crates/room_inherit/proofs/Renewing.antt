@@ -1,25 +1,37 @@
--- Objects put into the rows, and the children of an object renewed there.
-use Rattle.std.proofs.Common.{◌≡◌, ℕ, ◌<◌, ◌==◌, Bool, true, false, cond, ◌||◌, List, [], ◌∷◌, map}
-use Rattle.std.proofs.Common.{filter, Some, refl, sym, ap, ◌∙◌, inl, inr, arith}
-use Rattle.std.specs.Prelude.{nat_lt}
-use Rattle.std.proofs.lemmas.Bool.{cases_Bool, and_parts, false≢true, eq-eqb, eqb-true, ne_eqb}
-use Rattle.std.proofs.lemmas.Bool.{lt-ltb, le-ltb, cond-true, cond-false, or_left}
-use Rattle.std.proofs.lemmas.List.{map-id}
-use Rattle.std.specs.List.{AllByRecursion as Each}
+-- Objects of rows that are changed by their numbers, and the children of an object renewed so.
+use Rattle.std.proofs.Common.{◌≡◌, ℕ, ◌+◌, ◌==◌, Bool, true, false, cond, not, ◌&&◌, ◌||◌, List, []}
+use Rattle.std.proofs.Common.{◌∷◌, map, filter, length, Option, Some, None, refl, sym, ap, ◌∙◌, inl}
+use Rattle.std.proofs.Common.{inr}
+use Rattle.std.specs.Prelude.{IsTrue, is_some}
+use Rattle.std.specs.List.{AllByRecursion as Each, list_any}
+use Rattle.std.specs.Option.{option_map}
+use Rattle.std.proofs.lemmas.Bool.{cases_Bool, and_parts, and_from, false≢true, eq-eqb, eqb-true}
+use Rattle.std.proofs.lemmas.Bool.{cond-true, cond-false, or_left, or_from}
+use Rattle.std.proofs.lemmas.List.{map-id, length-map}
 use Rattle.std.proofs.lemmas.Option.{same_Some}
+use Rattle.room_entry.specs.Valid.{is_document}
+use Rattle.room_entry.specs.declared.object.ObjKind.{ObjKind}
+use Rattle.room_entry.specs.declared.object.ObjKind.TheVariants.{Document, Folder}
 use Rattle.room_entry.specs.declared.object.Which.{Which}
-use Rattle.room_rows.specs.HeldList.{Held}
 use Rattle.room_rows.specs.declared.node.Node.{Node}
-use Rattle.room_rows.specs.Content.{Content, node_at, children_of, put_node, with_node, is_rising}
+use Rattle.room_rows.specs.Content.{Content, node_at, children_of, has_parent, with_each}
 use Rattle.room_rows.specs.Finding.{find_id}
-use Rattle.room_rows.specs.Keep.{with_inh}
-use Rattle.room_inherit.specs.Turn.{is_outdated, passed_to, renewed, renewals, renewed_below}
-use Rattle.room_inherit.specs.Turn.{put_nodes, AreKnown}
-use Rattle.room_entry.proofs.Facts.Members.{each_weaker, each_filter, each_fails}
-use Rattle.room_inherit.proofs.Children.{has_id, Apart, ids_of, each_found, each_there, each_above}
-use Rattle.room_inherit.proofs.Children.{apart_rising, apart_filter, has_id_map, each_child}
-use Rattle.room_inherit.proofs.Children.{apart_children, is_such_child, found_first, found_later}
-use Rattle.room_rows.proofs.InPlace.{held_of-with_inh, with_inh-id}
+use Rattle.room_rows.specs.Held.{held_of}
+use Rattle.room_rows.specs.Keep.{Changes, ChangesAll, are_there, reading, with_changed, with_inh}
+use Rattle.room_rows.specs.Rows.{AreRows, Rows}
+use Rattle.room_inherit.specs.declared.by_kind.ByKind.{ByKind}
+use Rattle.room_inherit.specs.declared.passed.Passed.{Passed}
+use Rattle.room_inherit.specs.Turn.{IsPassed, count_of, is_kind, is_outdated, of_kind, outdated_of}
+use Rattle.room_inherit.specs.Turn.{renewals, renewed, renewed_below, to_kind, with_passed}
+use Rattle.room_entry.proofs.Facts.Members.{all_each, any_map, count, count_either, count_length}
+use Rattle.room_entry.proofs.Facts.Members.{each_filter, each_map}
+use Rattle.room_rows.proofs.Frames.{Rises}
+use Rattle.room_rows.proofs.InPlace.{keeps_places, node_at-with_each, place-with_inh}
+use Rattle.room_rows.proofs.InPlace.{with_node-replaces, with_each-with_each}
+use Rattle.room_rows.proofs.Lookups.{found_number}
+use Rattle.room_rows.proofs.SamePlace.{IsSamePlace, replaced, replaced_elsewhere, replaced_here}
+use Rattle.room_rows.proofs.SamePlace.{same_place}
+use Rattle.room_inherit.proofs.Children.{apart_rising, each_child, each_there, is_such_child}
 
 -- two facts of each member, taken together, are one fact of each
 pub each_both : {A : Type 0} (P Q : A → Type 0) (xs : List A) → Each P xs → Each Q xs
@@ -45,191 +57,211 @@ pub one_object : (nodes : List Node) (x y : Node) → find_id x.id nodes ≡ Som
 one_object nodes x y there there' same =
     same_Some x y (sym there ∙ ap (λ i. find_id i nodes) same ∙ there')
 
--- an object put into the rows leaves those of other numbers
-pub find_other : (id : ℕ) (new : Node) (nodes : List Node) → (new.id == id) ≡ false
-    → find_id id (put_node new nodes) ≡ find_id id nodes
-find_other id new [] other = found_later id new [] other
-find_other id new (x ∷ xs) other =
-    on (nat_lt x.id new.id) (x.id == new.id) refl (find_other id new xs other)
+-- two changes that do the same to each object of rows give the same content
+same_change : (content : Content) (f g : Node → Node) → Rises content
+    → ((n : Node) → node_at content n.id ≡ Some n → f n ≡ g n)
+    → with_each content f ≡ with_each content g
+same_change content f g rises same =
+    ap (λ (nodes : List Node). record content { nodes = nodes })
+    (map_agree f g content.nodes
+    (each_there (λ n. f n ≡ g n) content.nodes (apart_rising 0 content.nodes rises) same))
+
+-- ---- objects that are changed by their numbers
+
+some_there : (o : Option Node) → IsTrue (is_some o && true) → (node : Node) × (o ≡ Some node)
+some_there None there = absurd (false≢true there)
+some_there (Some node) there = (node, refl)
+
+module _ (change : Node → Node) (same : (n : Node) → IsSamePlace (change n) n) where
+  -- an object is changed if its number is among these
+  abbrev changed : List ℕ → Node → Node
+  changed ids node = cond (list_any (λ id. id == node.id) ids) (change node) node
+
+  stays : (ids : List ℕ) (n : Node) → IsSamePlace (changed ids n) n
+  stays ids n = on (list_any (λ id. id == n.id) ids)
+    where
+      on : (t : Bool) → IsSamePlace (cond t (change n) n) n
+      on true = same n
+      on false = same_place n
+
+  pub changes_none : (rows : Rows) → rows ≡ reading rows (with_changed [] change rows.read)
+  changes_none rows =
+      ap (λ (nodes : List Node). reading rows (record rows.read { nodes = nodes }))
+      (sym (map-id rows.read.nodes))
+
+  pub changes_one : (id : ℕ) (old new : Rows) → AreRows old → Changes id change old new
+      → ChangesAll (id ∷ []) change old new
+  changes_one id old new are changes = λ there.
+      let some = some_there (node_at old.read id) there in
+      changes some.0 some.1
+      ∙ ap (reading old)
+      (with_node-replaces old.read are.numbers id some.0 (change some.0) some.1 (same some.0)
+      ∙ same_change old.read (replaced (change some.0)) (changed (id ∷ [])) are.numbers
+      (alone some.0 some.1))
+    where
+      alone : (node : Node) → node_at old.read id ≡ Some node → (n : Node)
+          → node_at old.read n.id ≡ Some n → replaced (change node) n ≡ changed (id ∷ []) n
+      alone node found n here = elim (cases_Bool (id == n.id)) [
+        | inl is ↦
+            let e = eqb-true id n.id is in
+            let one = same_Some node n (sym found ∙ ap (node_at old.read) e ∙ here) in
+            replaced_here (change node) n
+            (sym ((same node).number ∙ ap (λ (m : Node). m.id) one))
+            ∙ ap change one
+            ∙ sym (cond-true ((id == n.id) || false) (change n) n (or_left (id == n.id) false is))
+        | inr isnt ↦
+            replaced_elsewhere (change node) n
+            (λ e. false≢true (sym isnt ∙ eq-eqb id n.id
+            (sym (e ∙ (same node).number ∙ found_number id old.read.nodes node found))))
+            ∙ sym (cond-false ((id == n.id) || false) (change n) n
+            (or_from (id == n.id) false isnt refl))
+      ]
+
+  -- objects that are there are there still
+  pub still_there : (ids more : List ℕ) (content : Content) → IsTrue (are_there more content)
+      → IsTrue (are_there more (with_changed ids change content))
+  still_there ids [] content there = there
+  still_there ids (id ∷ more) content there =
+      let parts = and_parts (is_some (node_at content id)) (are_there more content) there in
+      and_from (is_some (node_at (with_changed ids change content) id))
+      (are_there more (with_changed ids change content))
+      (ap is_some (node_at-with_each content (changed ids)
+      (keeps_places content (changed ids) (stays ids)) id) ∙ mapped (node_at content id) ∙ parts.0)
+      (still_there ids more content parts.1)
+    where
+      mapped : (o : Option Node) → is_some (option_map (changed ids) o) ≡ is_some o
+      mapped None = refl
+      mapped (Some node) = refl
+
+-- ---- the outdated children of an object, by kind
+
+-- as many as are outdated at all
+count_kinds : (which : Which) (above : Node) (nodes : List Node)
+    → length (outdated_of which above Document nodes)
+    + length (outdated_of which above Folder nodes)
+    ≡ length (renewals which above nodes)
+count_kinds which above nodes =
+    (λ i. counted Document i + counted Folder i)
+    ∙ sym (count_either (passes Document) (passes Folder) (is_outdated which above) nodes
+    (every nodes))
+    ∙ sym (count_length (is_outdated which above) nodes)
+    ∙ sym (length-map (filter (is_outdated which above) nodes) (renewed which above))
   where
-    on : (s t : Bool) → (x.id == new.id) ≡ t → find_id id (put_node new xs) ≡ find_id id xs
-        → find_id id (cond s (x ∷ put_node new xs) (cond t (new ∷ xs) (new ∷ x ∷ xs)))
-        ≡ find_id id (x ∷ xs)
-    on true t is rest = ap (λ r. cond (x.id == id) (Some x) r) rest
-    on false true is rest =
-        found_later id new xs other
-        ∙ sym (found_later id x xs (ap (λ i. i == id) (eqb-true x.id new.id is) ∙ other))
-    on false false is rest = found_later id new (x ∷ xs) other
+    passes : ObjKind → Node → Bool
+    passes kind n = is_outdated which above n && is_kind kind n.kind
 
--- an object put in the place of the one of its number
-pub put_is_map : (k : ℕ) (nodes : List Node) (id : ℕ) (old new : Node)
-    → is_rising (k ∷ ids_of nodes) ≡ true → find_id id nodes ≡ Some old → new.id ≡ old.id
-    → put_node new nodes ≡ map (λ (n : Node). cond (n.id == new.id) new n) nodes
-put_is_map k [] id old new rises found same = absurd (let wrong : ⊥ = cc in wrong)
-put_is_map k (x ∷ xs) id old new rises found same =
-    let parts = and_parts (nat_lt k x.id) (is_rising (x.id ∷ ids_of xs)) rises in
-    elim (cases_Bool (x.id == id)) [
-      | inl is ↦
-          let it = same_Some x old (sym (found_first id x xs is) ∙ found) in
-          let e : x.id ≡ new.id = ap (λ (n : Node). n.id) it ∙ sym same in
-          let head : cond (x.id == new.id) new x ≡ new = cond-true (x.id == new.id) new x
-          (eq-eqb x.id new.id e) in
-          let tail : map (λ (n : Node). cond (n.id == new.id) new n) xs ≡ xs =
-          map_agree (λ (n : Node). cond (n.id == new.id) new n) (λ n. n) xs
-          (each_weaker (λ n. x.id < n.id) (λ n. cond (n.id == new.id) new n ≡ n)
-          (λ n above. cond-false (n.id == new.id) new n
-          (ne_eqb n.id new.id
-          (λ q. absurd (let wrong : ⊥ = omega (arith, above, q, e) in wrong)))) xs
-          (each_above x.id xs parts.1)) ∙ map-id xs in
-          cond-false (nat_lt x.id new.id) _ _ (le-ltb x.id new.id (omega (arith, e)))
-          ∙ cond-true (x.id == new.id) _ _ (eq-eqb x.id new.id e) ∙ sym (λ i. head i ∷ tail i)
-      | inr isnt ↦
-          let later = sym (found_later id x xs isnt) ∙ found in
-          let below : x.id < old.id = each_found (λ n. x.id < n.id) id xs old
-          (each_above x.id xs parts.1) later in
-          let less : x.id < new.id = omega (arith, below, same) in
-          let head : cond (x.id == new.id) new x ≡ x = cond-false (x.id == new.id) new x
-          (ne_eqb x.id new.id (λ q. absurd (let wrong : ⊥ = omega (arith, less, q) in wrong)))
-          in
-          cond-true (nat_lt x.id new.id) _ _ (lt-ltb x.id new.id less)
-          ∙ (λ i. sym head i ∷ put_is_map x.id xs id old new parts.1 later same i)
-    ]
+    counted : (kind : ObjKind)
+        → length (outdated_of which above kind nodes) ≡ count (passes kind) nodes
+    counted kind =
+        length-map (filter (passes kind) nodes) (λ (n : Node). n.id)
+        ∙ count_length (passes kind) nodes
 
--- it leaves the numbers as they were
-same_numbers : (k : ℕ) (nodes : List Node) (id : ℕ) (old new : Node)
-    → is_rising (k ∷ ids_of nodes) ≡ true → find_id id nodes ≡ Some old → new.id ≡ old.id
-    → ids_of (put_node new nodes) ≡ ids_of nodes
-same_numbers k nodes id old new rises found same =
-    ap ids_of (put_is_map k nodes id old new rises found same) ∙ kept nodes
-  where
-    one : (n : Node) (t : Bool) → (n.id == new.id) ≡ t → (cond t new n).id ≡ n.id
-    one n true is = sym (eqb-true n.id new.id is)
-    one n false is = refl
+    split : (t d : Bool) → t ≡ ((t && d) || (t && not d))
+    split true true = refl
+    split true false = refl
+    split false d = refl
 
-    kept : (nodes : List Node)
-        → ids_of (map (λ (n : Node). cond (n.id == new.id) new n) nodes) ≡ ids_of nodes
-    kept [] = refl
-    kept (x ∷ xs) = λ i. one x (x.id == new.id) refl i ∷ kept xs i
+    apart : (t d : Bool) → (t && not d) ≡ true → (t && d) ≡ false
+    apart true true is = sym is
+    apart true false is = refl
+    apart false d is = refl
 
--- several such objects, of which no two have one number
-module _ (g : Node → Node) (same : (n : Node) → (g n).id ≡ n.id) where
-  point : (k n : Node) (ks : List Node) → has_id k.id ks ≡ false → (k.id ≡ n.id → k ≡ n)
-      → (let m = cond (n.id == (g k).id) (g k) n in cond (has_id m.id ks) (g m) m)
-      ≡ cond ((k.id == n.id) || has_id n.id ks) (g n) n
-  point k n ks new one = elim (cases_Bool (n.id == (g k).id)) [
-    | inl is ↦
-        let e : k.id ≡ n.id = sym (same k) ∙ sym (eqb-true n.id (g k).id is) in
-        ap (λ (m : Node). cond (has_id m.id ks) (g m) m) (cond-true (n.id == (g k).id) (g k) n is)
-        ∙ cond-false (has_id (g k).id ks) (g (g k)) (g k) (ap (λ i. has_id i ks) (same k) ∙ new)
-        ∙ ap g (one e)
-        ∙ sym (cond-true ((k.id == n.id) || has_id n.id ks) (g n) n
-        (or_left (k.id == n.id) (has_id n.id ks) (eq-eqb k.id n.id e)))
-    | inr isnt ↦
-        let other : (k.id == n.id) ≡ false = ne_eqb k.id n.id
-        (λ e. false≢true (sym isnt ∙ eq-eqb n.id (g k).id (sym e ∙ sym (same k)))) in
-        ap (λ (m : Node). cond (has_id m.id ks) (g m) m)
-        (cond-false (n.id == (g k).id) (g k) n isnt)
-        ∙ ap (λ t. cond (t || has_id n.id ks) (g n) n) (sym other)
-  ]
-
-  -- to put objects of the rows once more, changed, is to change these where they stand and no other
-  pub put_nodes_map : (ks nodes : List Node) → is_rising (0 ∷ ids_of nodes) ≡ true → Apart ks
-      → Each (λ k. find_id k.id nodes ≡ Some k) ks
-      → put_nodes (map g ks) nodes ≡ map (λ n. cond (has_id n.id ks) (g n) n) nodes
-  put_nodes_map [] nodes rises apart there = sym (map-id nodes)
-  put_nodes_map (k ∷ ks) nodes rises apart there =
-      let one = put_is_map 0 nodes k.id k (g k) rises there.0 (same k) in
-      let rises_still = ap (λ ids. is_rising (0 ∷ ids))
-      (same_numbers 0 nodes k.id k (g k) rises there.0 (same k)) ∙ rises in
-      let others = each_both (λ m. (m.id == k.id) ≡ false) (λ m. find_id m.id nodes ≡ Some m) ks
-      (each_fails (λ (m : Node). m.id == k.id) ks apart.0) there.1 in
-      let there_still = each_weaker (λ m. ((m.id == k.id) ≡ false) × (find_id m.id nodes ≡ Some m))
-      (λ m. find_id m.id (put_node (g k) nodes) ≡ Some m)
-      (λ m h. find_other m.id (g k) nodes
-      (ne_eqb (g k).id m.id (λ e. false≢true (sym h.0 ∙ eq-eqb m.id k.id (sym e ∙ same k)))) ∙ h.1)
-      ks others in
-      put_nodes_map ks (put_node (g k) nodes) rises_still apart.1 there_still
-      ∙ ap (map (λ n. cond (has_id n.id ks) (g n) n)) one
-      ∙ map_map (λ n. cond (has_id n.id ks) (g n) n)
-      (λ (n : Node). cond (n.id == (g k).id) (g k) n) nodes
-      ∙ map_agree (λ n. let m = cond (n.id == (g k).id) (g k) n in cond (has_id m.id ks) (g m) m)
-      (λ n. cond ((k.id == n.id) || has_id n.id ks) (g n) n) nodes
-      (each_there (λ n. (let m = cond (n.id == (g k).id) (g k) n in cond (has_id m.id ks) (g m) m)
-      ≡ cond ((k.id == n.id) || has_id n.id ks) (g n) n) nodes (apart_rising 0 nodes rises)
-      (λ n found. point k n ks apart.0 (one_object nodes k n there.0 found)))
-
--- objects known still after one of another number is put
-pub known_other : (which : Which) (content : Content) (new : Node) (nodes : List Node)
-    → has_id new.id nodes ≡ false → AreKnown which nodes content
-    → AreKnown which nodes (with_node content new)
-known_other which content new [] apart known = tt
-known_other which content new (x ∷ xs) apart known =
-    let fails = each_fails (λ (m : Node). m.id == new.id) (x ∷ xs) apart in (
+    every : (xs : List Node)
+        → Each (λ n. (is_outdated which above n ≡ (passes Document n || passes Folder n))
+        × (passes Folder n ≡ true → passes Document n ≡ false)) xs
+    every [] = tt
+    every (x ∷ xs) = (
       (
-        known.0.0,
-        find_other x.id new content.nodes
-            (ne_eqb new.id x.id (λ e. false≢true (sym fails.0 ∙ eq-eqb x.id new.id (sym e))))
-            ∙ known.0.1,
-        known.0.2,
+        split (is_outdated which above x) (is_document x.kind),
+        apart (is_outdated which above x) (is_document x.kind),
       ),
-      known.1,
-      known_other which content new xs
-          (none_behind (x.id == new.id) (has_id new.id xs) apart) known.2,
+      every xs,
     )
-  where
-    none_behind : (s t : Bool) → (s || t) ≡ false → t ≡ false
-    none_behind true t none = absurd (false≢true (sym none))
-    none_behind false t none = none
 
-module _ (which : Which) (above : Node) (content : Content)
-    (rises : is_rising (0 ∷ ids_of content.nodes) ≡ true) where
-  abbrev outdated : List Node
-  outdated = filter (is_outdated which above) (children_of content above.id)
+module _ (which : Which) (above : Node) (content : Content) (rises : Rises content)
+    (numbers : ByKind)
+    (all : (kind : ObjKind)
+    → of_kind numbers kind ≡ outdated_of which above kind (children_of content above.id)) where
+  abbrev is_stale : ObjKind → Node → Bool
+  is_stale kind n = is_outdated which above n && is_kind kind n.kind
 
-  renewed_id : (n : Node) → (renewed which above n).id ≡ n.id
-  renewed_id n = with_inh-id which (passed_to which above n) n
+  -- they are counted
+  pub count_gathered : count_of numbers
+      ≡ length (renewals which above (children_of content above.id))
+  count_gathered =
+      (λ i. length (all Document i) + length (all Folder i))
+      ∙ count_kinds which above (children_of content above.id)
 
-  are_apart : Apart outdated
-  are_apart =
-      apart_filter (is_outdated which above) (children_of content above.id)
-      (apart_children content (apart_rising 0 content.nodes rises) above.id)
-
-  are_there : Each (λ n. node_at content n.id ≡ Some n) outdated
-  are_there =
-      each_filter (λ n. node_at content n.id ≡ Some n) (is_outdated which above)
+  -- and there
+  pub gathered_there : (kind : ObjKind) → IsTrue (are_there (of_kind numbers kind) content)
+  gathered_there kind =
+      ap (λ ids. are_there ids content) (all kind)
+      ∙ all_each (λ id. is_some (node_at content id))
+      (outdated_of which above kind (children_of content above.id))
+      (each_map (λ id. is_some (node_at content id) ≡ true) (λ (n : Node). n.id)
+      (filter (is_stale kind) (children_of content above.id))
+      (each_filter (λ n. is_some (node_at content n.id) ≡ true) (is_stale kind)
       (children_of content above.id)
       (each_child content (apart_rising 0 content.nodes rises)
-      (λ n. is_outdated which above n ≡ true → node_at content n.id ≡ Some n) above.id
-      (λ n there is passes. there))
+      (λ n. is_stale kind n ≡ true → is_some (node_at content n.id) ≡ true) above.id
+      (λ n there is stale. ap is_some there))))
 
-  known_all : (ks : List Node) → Apart ks → Each (λ n. node_at content n.id ≡ Some n) ks
-      → AreKnown which (map (renewed which above) ks) content
-  known_all [] apart there = tt
-  known_all (k ∷ ks) apart there = (
-    (
-      k,
-      ap (λ i. node_at content i) (renewed_id k) ∙ there.0,
-      sym (ap (λ (h : Held). with_inh which h.inh k) (held_of-with_inh which (passed_to which above k) k)),
-    ),
-    has_id_map (renewed which above) renewed_id (renewed which above k).id ks
-        ∙ ap (λ i. has_id i ks) (renewed_id k) ∙ apart.0,
-    known_all ks apart.1 there.1,
-  )
+  gathers : (kind : ObjKind) (n : Node) → node_at content n.id ≡ Some n
+      → list_any (λ id. id == n.id) (of_kind numbers kind)
+      ≡ (has_parent above.id n && is_stale kind n)
+  gathers kind n there =
+      ap (list_any (λ id. id == n.id)) (all kind)
+      ∙ any_map (λ id. id == n.id) (λ (m : Node). m.id)
+      (filter (is_stale kind) (children_of content above.id))
+      ∙ is_such_child content (apart_rising 0 content.nodes rises) (is_stale kind) above.id n there
 
-  -- what is to be stored is known
-  pub known_renewals : AreKnown which (renewals which above (children_of content above.id)) content
-  known_renewals = known_all outdated are_apart are_there
+  module _ (passed : Passed) (is : IsPassed (held_of which above) passed) where
+    abbrev given : ObjKind → Node → Node
+    given kind n =
+        cond (list_any (λ id. id == n.id) (of_kind numbers kind))
+        (with_inh which (to_kind passed kind) n) n
 
-  -- and is what one turn makes of the rows
-  pub turn_becomes : put_nodes (renewals which above (children_of content above.id)) content.nodes
-      ≡ map (renewed_below which above) content.nodes
-  turn_becomes =
-      put_nodes_map (renewed which above) renewed_id outdated content.nodes rises are_apart
-      are_there
-      ∙ map_agree (λ n. cond (has_id n.id outdated) (renewed which above n) n)
-      (renewed_below which above) content.nodes
-      (each_there (λ n. cond (has_id n.id outdated) (renewed which above n) n
-      ≡ renewed_below which above n) content.nodes (apart_rising 0 content.nodes rises)
-      (λ n there. ap (λ t. cond t (renewed which above n) n)
-      (is_such_child content (apart_rising 0 content.nodes rises)
-      (is_outdated which above) above.id n there)))
+    -- an object gets what is passed to its kind, if it is an outdated child
+    once : (n : Node) → node_at content n.id ≡ Some n
+        → given Folder (given Document n) ≡ renewed_below which above n
+    once n there =
+        ap (given Folder) (ap (λ t. cond t (with_inh which (to_kind passed Document) n) n)
+        (gathers Document n there))
+        ∙ ap (λ t. cond t (with_inh which (to_kind passed Folder) (first (is_document n.kind)))
+        (first (is_document n.kind)))
+        (ap (λ i. list_any (λ id. id == i) (of_kind numbers Folder)) (number (is_document n.kind))
+        ∙ gathers Folder n there)
+        ∙ second (has_parent above.id n) (is_outdated which above n) n.kind
+        ∙ ap (λ e. cond (has_parent above.id n && is_outdated which above n) (with_inh which e n) n)
+        (is.entries n.kind)
+      where
+        first : Bool → Node
+        first d = cond (has_parent above.id n && (is_outdated which above n && d))
+            (with_inh which (to_kind passed Document) n) n
+
+        number : (d : Bool) → (first d).id ≡ n.id
+        number d = on (has_parent above.id n && (is_outdated which above n && d))
+          where
+            on : (t : Bool) → (cond t (with_inh which (to_kind passed Document) n) n).id ≡ n.id
+            on true = (place-with_inh which (to_kind passed Document) n).number
+            on false = refl
+
+        second : (h o : Bool) (kind : ObjKind)
+            → (let m = cond (h && (o && is_document kind))
+            (with_inh which (to_kind passed Document) n) n in
+            cond (h && (o && not (is_document kind)))
+            (with_inh which (to_kind passed Folder) m) m)
+            ≡ cond (h && o) (with_inh which (to_kind passed kind) n) n
+        second true true Document = refl
+        second true true Folder = refl
+        second true false kind = refl
+        second false o kind = refl
+
+    -- so what is written is what a turn makes of the rows
+    pub turn_becomes : with_passed which passed numbers Folder
+        (with_passed which passed numbers Document content)
+        ≡ with_each content (renewed_below which above)
+    turn_becomes =
+        with_each-with_each content (given Document) (given Folder)
+        ∙ same_change content (λ n. given Folder (given Document n)) (renewed_below which above)
+        rises once

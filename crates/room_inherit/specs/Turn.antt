@@ -1,5 +1,6 @@
 -- One object's children, and what they are to inherit from it.
-use Rattle.std.specs.Prelude.{◌≡◌, ℕ, ◌==◌, ◌&&◌, ◌⊎◌, Bool, true, false, not, List, [], ◌∷◌, ◌++◌}
+use Rattle.std.specs.Prelude.{◌≡◌, ℕ, ◌+◌, ◌==◌, ◌&&◌, ◌⊎◌, Bool, true, false, not, List, []}
+use Rattle.std.specs.Prelude.{◌∷◌, ◌++◌}
 use Rattle.std.specs.Prelude.{length, map, filter, Some, Result, IsTrue, if◌then◌else◌}
 use Rattle.std.specs.List.{list_any}
 use Rattle.room_entry.specs.Ace.{Ace}
@@ -9,15 +10,19 @@ use Rattle.room_entry.specs.declared.object.ObjKind.{ObjKind}
 use Rattle.room_entry.specs.declared.object.ObjKind.TheVariants.{Document, Folder}
 use Rattle.room_entry.specs.declared.object.Which.{Which}
 use Rattle.room_rows.specs.declared.keep.Keep.{Ghosts}
+use Rattle.room_rows.specs.declared.keep.KeepFault.{KeepFault}
 use Rattle.room_rows.specs.declared.node.Node.{Node}
-use Rattle.room_rows.specs.Content.{Content, node_at, children_of, has_parent, is_folder, put_node}
+use Rattle.room_rows.specs.Content.{Content, children_of, has_parent, is_folder}
 use Rattle.room_rows.specs.Content.{with_each}
+use Rattle.room_rows.specs.Calls.{Reads}
 use Rattle.room_rows.specs.HeldList.{Held}
 use Rattle.room_rows.specs.Held.{held_of, full_of, is_linked}
-use Rattle.room_rows.specs.Keep.{reading, with_inh}
+use Rattle.room_rows.specs.Keep.{AreChildrenOf, IsUnreadable, are_there, reading, with_changed}
+use Rattle.room_rows.specs.Keep.{with_inh}
 use Rattle.room_rows.specs.Rows.{Rows}
 use Rattle.room_rows.specs.Pass.{pass}
 use Rattle.room_inherit.specs.Spread.{Carries, CarriesIf}
+use Rattle.room_inherit.specs.declared.by_kind.ByKind.{ByKind}
 use Rattle.room_inherit.specs.declared.descent.Descent.{Descent}
 use Rattle.room_inherit.specs.declared.descent.Reach.{Reach}
 use Rattle.room_inherit.specs.declared.descent.Reach.TheVariants.{Renewed, All}
@@ -50,24 +55,6 @@ is_met_again which start above node = (node.id == start) && is_linked_to which a
 
 abbrev pub meets_again : Which → ℕ → Node → List Node → Bool
 meets_again which start above nodes = list_any (is_met_again which start above) nodes
-
--- ---- rows with other objects
-
-abbrev pub put_nodes : List Node → List Node → List Node
-put_nodes [] nodes = nodes
-put_nodes (node ∷ more) nodes = put_nodes more (put_node node nodes)
-
-abbrev pub with_nodes : Content → List Node → Content
-with_nodes content nodes = record content { nodes = put_nodes nodes content.nodes }
-
--- each is an object of the rows but for its inherited entries, and none comes twice
-abbrev pub AreKnown : Which → List Node → Content → Type 0
-AreKnown which [] content = Unit {0}
-AreKnown which (node ∷ nodes) content =
-    ((stored : Node) × (node_at content node.id ≡ Some stored)
-    × (node ≡ with_inh which (held_of which node).inh stored))
-    × (list_any (λ other. other.id == node.id) nodes ≡ false)
-    × AreKnown which nodes content
 
 -- the child is renewed where it is outdated
 abbrev pub renewed_below : Which → Node → Node → Node
@@ -127,48 +114,6 @@ pub record IsVisit (descent : Descent) (above : Node) (before after : List Node)
   pub chosen : LeavesOut old.read
       (next_of descent.reach descent.which above (children_of old.read above.id)) next
 
--- The outdated ones of these children are renewed in the rows, and those that wait next are added
--- after the objects that wait, perhaps without documents below which nothing stands.
-pub record IsRenewal (descent : Descent) (above : Node) (nodes before after : List Node)
-    (old : Rows) (written : ℕ) (new : Rows) : Type 0 where
-  pub counted : written ≡ length (renewals descent.which above nodes)
-  pub next : List Node
-  pub waits : after ≡ before ++ next
-  pub chosen : LeavesOut old.read (next_of descent.reach descent.which above nodes) next
-  pub stores : new ≡ reading old (with_nodes old.read (renewals descent.which above nodes))
-
--- The child is renewed in the rows, if it is outdated, and it is told whether it waits next.
-pub record IsRenewed (descent : Descent) (above child : Node) (old : Rows) (waits : Bool)
-    (new : Rows) : Type 0 where
-  pub told : TellsWaiting old.read descent.reach descent.which above child waits
-  pub stores : new
-      ≡ reading old (with_nodes old.read (renewals descent.which above (child ∷ [])))
-
-abbrev pub one_if : Bool → ℕ
-one_if test = if test then 1 else 0
-
-module _ {S : Type 0} (k : Ghosts S) (old new : S) where
-  -- The children of an object are renewed.
-  abbrev pub Visits : Descent → Node → List Node → List Node → Result ℕ SpreadFault → Type 0
-  Visits descent above before after result =
-      Carries k old new (λ written. written) result
-      (MeetsAgain descent.which descent.start above) (IsVisit descent above before after)
-
-  -- These children are renewed, where those that are outdated are known to the rows.
-  abbrev pub RenewsAll : Descent → Node → List Node → List Node → List Node
-      → Result ℕ SpreadFault → Type 0
-  RenewsAll descent above nodes before after result =
-      CarriesIf k old new
-      (λ rows. AreKnown descent.which (renewals descent.which above nodes) rows.read)
-      (λ written. written) result (λ _. ⊥) (IsRenewal descent above nodes before after)
-
-  -- This child is renewed, if it is outdated and known to the rows.
-  abbrev pub Renews : Descent → Node → Node → Bool → Result Bool SpreadFault → Type 0
-  Renews descent above child renews result =
-      CarriesIf k old new
-      (λ rows. AreKnown descent.which (renewals descent.which above (child ∷ [])) rows.read)
-      (λ _. one_if renews) result (λ _. ⊥) (IsRenewed descent above child)
-
 -- what a list passes to the children of a kind
 abbrev pub to_kind : Passed → ObjKind → List Ace
 to_kind passed Document = passed.to_documents
@@ -178,3 +123,76 @@ to_kind passed Folder = passed.to_folders
 pub record IsPassed (held : Held) (passed : Passed) : Type 0 where
   pub auto : passed.auto ≡ held.flags.auto
   pub entries : (kind : ObjKind) → to_kind passed kind ≡ pass kind (full_of held)
+
+-- ---- what is gathered first, and then written
+
+abbrev pub is_kind : ObjKind → ObjKind → Bool
+is_kind Document kind = is_document kind
+is_kind Folder kind = not (is_document kind)
+
+-- the numbers of this kind
+abbrev pub of_kind : ByKind → ObjKind → List ℕ
+of_kind numbers Document = numbers.documents.items
+of_kind numbers Folder = numbers.folders.items
+
+-- how many numbers, of both kinds
+abbrev pub count_of : ByKind → ℕ
+count_of numbers = length (of_kind numbers Document) + length (of_kind numbers Folder)
+
+-- the numbers of those of the children that are outdated and of this kind
+abbrev pub outdated_of : Which → Node → ObjKind → List Node → List ℕ
+outdated_of which above kind nodes =
+    map (λ node. node.id)
+    (filter (λ node. is_outdated which above node && is_kind kind node.kind) nodes)
+
+-- The numbers of the outdated ones of these children are added by their kinds, and those that wait
+-- next are added after the objects that wait, perhaps without documents below which nothing stands.
+pub record IsGathered (descent : Descent) (above : Node) (nodes before after : List Node)
+    (sofar numbers : ByKind) (rows : Rows) : Type 0 where
+  pub outdated : (kind : ObjKind)
+      → of_kind numbers kind
+      ≡ of_kind sofar kind ++ outdated_of descent.which above kind nodes
+  pub next : List Node
+  pub waits : after ≡ before ++ next
+  pub chosen : LeavesOut rows.read (next_of descent.reach descent.which above nodes) next
+
+-- the objects of these numbers get what is passed to this kind
+abbrev pub with_passed : Which → Passed → ByKind → ObjKind → Content → Content
+with_passed which passed numbers kind content =
+    with_changed (of_kind numbers kind) (with_inh which (to_kind passed kind)) content
+
+-- first the documents, then the folders
+abbrev pub with_both_passed : Which → Passed → ByKind → Content → Content
+with_both_passed which passed numbers content =
+    with_passed which passed numbers Folder (with_passed which passed numbers Document content)
+
+module _ {S : Type 0} (k : Ghosts S) (old new : S) where
+  -- The children of an object are renewed.
+  abbrev pub Visits : Descent → Node → List Node → List Node → Result ℕ SpreadFault → Type 0
+  Visits descent above before after result =
+      Carries k old new (λ written. written) result
+      (MeetsAgain descent.which descent.start above) (IsVisit descent above before after)
+
+  -- These children are gone through, without a write.
+  abbrev pub Gathers : Descent → Node → List Node → List Node → List Node → ByKind → ByKind
+      → Result (Unit {0}) KeepFault → Type 0
+  Gathers descent above nodes before after sofar numbers result =
+      Reads k old new result IsUnreadable
+      (λ rows _. IsGathered descent above nodes before after sofar numbers rows)
+
+  -- The objects of these numbers get what is passed to their kinds, if all are there.
+  abbrev pub WritesAll : Which → Passed → ByKind → Result (Unit {0}) SpreadFault → Type 0
+  WritesAll which passed numbers result =
+      CarriesIf k old new
+      (λ rows. (kind : ObjKind) → IsTrue (are_there (of_kind numbers kind) rows.read))
+      (λ _. count_of numbers) result (λ _. ⊥)
+      (λ rows _ now. now ≡ reading rows (with_both_passed which passed numbers rows.read))
+
+  -- The object's children are renewed, if these are all of them, and the first object isn't one.
+  abbrev pub RenewsAll : Descent → Node → List Node → List Node → List Node
+      → Result ℕ SpreadFault → Type 0
+  RenewsAll descent above nodes before after result =
+      CarriesIf k old new
+      (λ rows. AreChildrenOf above.id rows nodes
+      × (meets_again descent.which descent.start above nodes ≡ false))
+      (λ written. written) result (λ _. ⊥) (IsVisit descent above before after)

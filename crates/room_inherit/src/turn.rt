@@ -1,17 +1,20 @@
 //! One turn of carrying lists down: an object's children.
-ghost use Rattle.std.specs.Prelude.{◌≡◌, ◌<◌, ◌≤◌, ◌^◌, ◌++◌, ◌∷◌, false, [], IfOk, OnOk};
-ghost use Rattle.room_rows.specs.Calls.{Reads};
+ghost use Rattle.std.specs.Prelude.{◌≡◌, ◌<◌, ◌≤◌, ◌^◌, ◌+◌, ◌++◌, ◌∷◌, false, []};
+ghost use Rattle.std.specs.Prelude.{length, IfOk, OnOk};
+ghost use Rattle.room_rows.specs.Calls.{Reads, WritesOf};
 ghost use Rattle.room_rows.specs.Held.{held_of};
-ghost use Rattle.room_rows.specs.Keep.{IsUnreadable};
-ghost use Rattle.room_inherit.specs.Turn.{IsChildless, IsPassed, Renews, RenewsAll};
-ghost use Rattle.room_inherit.specs.Turn.{TellsWaiting, Visits, brought_up, is_outdated};
-ghost use Rattle.room_inherit.specs.Turn.{meets_again, waits_next};
+ghost use Rattle.room_rows.specs.Keep.{ChangesAll, IsUnreadable, Leaves, with_inh};
+ghost use Rattle.room_inherit.specs.Turn.{Gathers, IsChildless, IsPassed, RenewsAll};
+ghost use Rattle.room_inherit.specs.Turn.{TellsWaiting, Visits, WritesAll, brought_up, count_of};
+ghost use Rattle.room_inherit.specs.Turn.{is_outdated, meets_again, of_kind, outdated_of};
+ghost use Rattle.room_inherit.specs.Turn.{waits_next};
 
+use crate::by_kind::ByKind;
 use crate::descent::{Descent, Reach};
 use crate::inheriting::{stores, takes_from};
 use crate::outcome::SpreadFault;
 use crate::passed::Passed;
-use room_ace::Which;
+use room_ace::{Entry, ObjKind, Which};
 use room_rows::{Keep, KeepFault, Node};
 use std::alloc::{AllocError, Global};
 
@@ -47,7 +50,7 @@ fn meets_again(children: &[Node], descent: &Descent, above: &Node) -> bool
 }
 
 // Renews those that are outdated, answers how many they are, and adds those that it goes on to
-// after the ones that wait. What is passed is that of the object above, and each is in the rows.
+// after the ones that wait. What is passed is that of the object above, whose children these are.
 fn renew_all<K: Keep>(
     alloc: Global,
     keep: &mut K,
@@ -61,52 +64,131 @@ fn renew_all<K: Keep>(
         waiting.new.items result }
     ensures few { IfOk result (λ written. written < 2 ^ 63) }
 {
-    let mut written: u64 = 0;
-    'children: for child in children {
-        written += renew_next(alloc, keep, descent, passed, child, waiting)?;
-    }
-    Ok(written)
+    let mut outdated = ByKind::new(alloc);
+    gather(
+        alloc,
+        keep,
+        descent,
+        passed,
+        children,
+        &mut outdated,
+        waiting,
+    )?;
+    write_all(keep, descent.which, passed, &outdated)?;
+    Ok(outdated.count())
 }
 
-// Renews one child, if it is outdated, answers 1 if it was, and adds it if it waits next.
-fn renew_next<K: Keep>(
+// Gathers the numbers of those that are outdated, and adds those that it goes on to after the ones
+// that wait.
+fn gather<K: Keep>(
+    alloc: Global,
+    keep: &mut K,
+    descent: &Descent,
+    passed: &Passed,
+    children: Vec<Node>,
+    outdated: &mut ByKind,
+    waiting: &mut Vec<Node>,
+) -> Result<(), KeepFault>
+    ensures gathered { (above : Node) → IsPassed (held_of descent.now.which above) passed.now
+        → Gathers K.Keep keep.old keep.new descent.now above children.items waiting.old.items
+        waiting.new.items outdated.old outdated.new result }
+    ensures few { OnOk result
+        (count_of outdated.new ≤ count_of outdated.old + length children.items) }
+{
+    'children: for child in children {
+        gather_next(alloc, keep, descent, passed, child, outdated, waiting)?;
+    }
+    Ok(())
+}
+
+// Adds the number of one child, if it is outdated, and adds the child if it waits next.
+fn gather_next<K: Keep>(
     alloc: Global,
     keep: &mut K,
     descent: &Descent,
     passed: &Passed,
     child: Node,
+    outdated: &mut ByKind,
     waiting: &mut Vec<Node>,
-) -> Result<u64, SpreadFault>
-    ensures renewed { (above : Node) → IsPassed (held_of descent.now.which above) passed.now
-        → RenewsAll K.Keep keep.old keep.new descent.now above (child ∷ []) waiting.old.items
-        waiting.new.items result }
-    ensures one { IfOk result (λ written. written ≤ 1) }
+) -> Result<(), KeepFault>
+    ensures gathered { (above : Node) → IsPassed (held_of descent.now.which above) passed.now
+        → Gathers K.Keep keep.old keep.new descent.now above (child ∷ []) waiting.old.items
+        waiting.new.items outdated.old outdated.new result }
+    ensures one { OnOk result (count_of outdated.new ≤ count_of outdated.old + 1) }
 {
     let renews = is_outdated(passed, &child, descent.which);
-    let waits = renew(keep, descent, passed, &child, renews)?;
+    let waits = look_at(keep, &descent.reach, &child, renews, outdated)?;
     if waits {
         wait_next(alloc, descent.which, passed, child, renews, waiting)?;
     }
-    Ok(if renews { 1 } else { 0 })
+    Ok(())
 }
 
-// Renews the child in the rows, if it is outdated, and answers whether it waits next.
-fn renew<K: Keep>(
+// Adds the number of a child that is outdated, and answers whether the child waits next.
+fn look_at<K: Keep>(
     keep: &mut K,
-    descent: &Descent,
-    passed: &Passed,
+    reach: &Reach,
     child: &Node,
     renews: bool,
-) -> Result<bool, SpreadFault>
-    ensures renewed { (above : Node) → IsPassed (held_of descent.now.which above) passed.now
-        → renews ≡ is_outdated descent.now.which above child.now
-        → Renews K.Keep keep.old keep.new descent.now above child.now renews result }
+    outdated: &mut ByKind,
+) -> Result<bool, KeepFault>
+    ensures asked { (which : Which) (above : Node) → renews ≡ is_outdated which above child.now
+        → Reads K.Keep keep.old keep.new result IsUnreadable
+        (λ rows waits. TellsWaiting rows.read reach.now which above child.now waits) }
+    ensures added { (which : Which) (above : Node) → renews ≡ is_outdated which above child.now
+        → OnOk result ((kind : ObjKind) → of_kind outdated.new kind
+        ≡ of_kind outdated.old kind ++ outdated_of which above kind (child.now ∷ [])) }
+    ensures one { OnOk result (count_of outdated.new ≤ count_of outdated.old + 1) }
 {
-    let waits = waits_next(keep, &descent.reach, child, renews)?;
-    if renews {
-        keep.set_inh(child.id, descent.which, passed.to(child.kind).as_slice())?;
-    }
+    let waits = waits_next(keep, reach, child, renews)?;
+    add_outdated(child, renews, outdated)?;
     Ok(waits)
+}
+
+// Adds the number of a child that is outdated.
+fn add_outdated(child: &Node, renews: bool, outdated: &mut ByKind) -> Result<(), AllocError>
+    ensures added { (which : Which) (above : Node) → renews ≡ is_outdated which above child.now
+        → OnOk result ((kind : ObjKind) → of_kind outdated.new kind
+        ≡ of_kind outdated.old kind ++ outdated_of which above kind (child.now ∷ [])) }
+    ensures one { OnOk result (count_of outdated.new ≤ count_of outdated.old + 1) }
+{
+    if renews {
+        outdated.add(child.kind, child.id)?;
+    }
+    Ok(())
+}
+
+// Writes what is passed to each kind into the outdated ones of that kind.
+fn write_all<K: Keep>(
+    keep: &mut K,
+    which: Which,
+    passed: &Passed,
+    outdated: &ByKind,
+) -> Result<(), SpreadFault>
+    ensures written { WritesAll K.Keep keep.old keep.new which passed.now outdated.now result }
+{
+    let to_documents = passed.to(ObjKind::Document).as_slice();
+    write(keep, outdated.documents.as_slice(), which, to_documents)?;
+    let to_folders = passed.to(ObjKind::Folder).as_slice();
+    write(keep, outdated.folders.as_slice(), which, to_folders)?;
+    Ok(())
+}
+
+// Writes the entries into these objects, in one call if there are any.
+fn write<K: Keep>(
+    keep: &mut K,
+    ids: &[u64],
+    which: Which,
+    entries: &[Entry],
+) -> Result<(), KeepFault>
+    ensures written { WritesOf K.Keep keep.old keep.new result (length ids.now) IsUnreadable
+        (Leaves (ChangesAll ids.now (with_inh which entries.now))) }
+{
+    match ids {
+        [] => Ok(()),
+        [id] => keep.set_inh(*id, which, entries),
+        _ => keep.set_inh_all(ids, which, entries),
+    }
 }
 
 // Whether the child is linked, and stores something else than it is to store.

@@ -1,5 +1,5 @@
 use Rattle.std.proofs.Common.{sym, ◌∙◌}
-use Rattle.room_inherit.proofs.Calls.{document_asked}
+use Rattle.room_inherit.proofs.Gathered.{document_asked}
 use Rattle.room_inherit.proofs.turn.may_have_below.Goals as goal
 
 pub returns-then-is_document : goal.returns-then-is_document

@@ -15,9 +15,9 @@ returns-clause-visit g c =
     ∙ c.if-meets_again.false in
     let passed = subst (λ (h : Held). IsPassed h c.in_ok-passed.passed) c.held.ensures
     c.in_ok-passed.ensures in
-    visited g.K.Keep g.met.K.Keep.laws d above children c.args.waiting.now.items c.renew_all.result
-    c.renew_all.new.waiting.items c.args.keep.now c.children.new.self c.renew_all.new.keep
-    c.in_ok-children.ensures.read apart
+    visited g.K.Keep g.met.K.Keep.laws d above children c.args.waiting.now.items
+    c.renew_all.new.waiting.items c.renew_all.result c.args.keep.now c.children.new.self
+    c.renew_all.new.keep c.in_ok-children.ensures.read apart
     (subst
     (λ (l : List Node). RenewsAll g.K.Keep c.children.new.self c.renew_all.new.keep d above l
     c.args.waiting.now.items c.renew_all.new.waiting.items c.renew_all.result) c.into_vec.ensures

@@ -1,5 +1,5 @@
 use Rattle.std.proofs.Common.{sym, ◌∙◌}
-use Rattle.room_inherit.proofs.Calls.{told_below, told_none}
+use Rattle.room_inherit.proofs.Gathered.{told_below, told_none}
 use Rattle.room_inherit.proofs.turn.waits_next.Goals as goal
 
 pub returns-then-waits : goal.returns-then-waits

@@ -1,0 +1,228 @@
+-- The children of an object gone through, without a write.
+use Rattle.std.proofs.Common.{◌≡◌, ℕ, suc, ◌+◌, ◌<◌, ◌&&◌, Bool, true, false, cond, List, [], ◌∷◌}
+use Rattle.std.proofs.Common.{◌++◌, length, map, filter, drop, get_or, Result, Ok, Err, IfOk, refl}
+use Rattle.std.proofs.Common.{sym, ap, subst, ◌∙◌, inl, inr, add-one, drop-cons}
+use Rattle.std.proofs.lemmas.List.{append_assoc, append-nil}
+use Rattle.room_entry.specs.Valid.{is_document}
+use Rattle.room_entry.specs.declared.object.ObjKind.{ObjKind}
+use Rattle.room_entry.specs.declared.object.Which.{Which}
+use Rattle.room_rows.specs.declared.keep.Keep.{Ghosts}
+use Rattle.room_rows.specs.declared.node.Node.{Node}
+use Rattle.room_rows.specs.declared.keep.KeepFault.{KeepFault}
+use Rattle.room_rows.specs.Keep.{IsUnreadable, IsRead, HasChildren, KeepLaws}
+use Rattle.room_rows.specs.Rows.{Rows}
+use Rattle.room_rows.proofs.Steps.{HasRead, answered, gives_up, none_yet, read_on, seen}
+use Rattle.room_inherit.specs.declared.by_kind.ByKind.{ByKind}
+use Rattle.room_inherit.specs.declared.descent.Descent.{Descent}
+use Rattle.room_inherit.specs.declared.descent.Reach.{Reach}
+use Rattle.room_inherit.specs.Turn.{Gathers, IsChildless, IsGathered, LeavesOut, TellsWaiting}
+use Rattle.room_inherit.specs.Turn.{brought_up, is_kind, is_outdated, next_of, of_kind, outdated_of}
+use Rattle.room_inherit.specs.Turn.{waits_next}
+use Rattle.room_inherit.proofs.Chosen.{chosen_append, none_below, one_chosen}
+
+-- ---- whether a child waits
+
+module _ {S : Type 0} (k : Ghosts S) (a b : S) where
+  -- a call that tells whether something may stand below an object
+  abbrev MayHave : Node → Result Bool KeepFault → Type 0
+  MayHave object result =
+      IsRead k.rows k.failures k.writes k.Follows k.IsTrusted a b result IsUnreadable
+      (λ rows may. may ≡ false → IsChildless rows.read object)
+
+  abbrev Tells : Reach → Which → Node → Node → Result Bool KeepFault → Type 0
+  Tells reach which above child result =
+      IsRead k.rows k.failures k.writes k.Follows k.IsTrusted a b result IsUnreadable
+      (λ rows waits. TellsWaiting rows.read reach which above child waits)
+
+  -- it was asked whether a document has children
+  pub document_asked : (object : Node) (r : Result Bool KeepFault) → is_document object.kind ≡ true
+      → IsRead k.rows k.failures k.writes k.Follows k.IsTrusted a b r IsUnreadable
+      (HasChildren object.id) → MayHave object r
+  document_asked object r document read = record {
+    follows = read.follows;
+    unwritten = read.unwritten;
+    same = read.same;
+    answers = λ t. on r (read.answers t);
+    unfailed = read.unfailed;
+    fault = read.fault;
+  }
+    where
+      on : (r : Result Bool KeepFault) → IfOk r (HasChildren object.id (k.rows a))
+          → IfOk r (λ may. may ≡ false → IsChildless (k.rows a).read object)
+      on (Ok may) h = λ no. (document, none_below object.id (k.rows a).read.nodes (h.0 no))
+      on (Err e) h = tt
+
+  -- a child that would wait waits, unless nothing stands below it
+  pub told_below : (reach : Reach) (which : Which) (above child : Node) (r : Result Bool KeepFault)
+      → true ≡ waits_next reach which above child → MayHave child r
+      → Tells reach which above child r
+  told_below reach which above child r is read = record {
+    follows = read.follows;
+    unwritten = read.unwritten;
+    same = read.same;
+    answers = λ t. on r (read.answers t);
+    unfailed = read.unfailed;
+    fault = read.fault;
+  }
+    where
+      on : (r : Result Bool KeepFault)
+          → IfOk r (λ may. may ≡ false → IsChildless (k.rows a).read child)
+          → IfOk r (TellsWaiting (k.rows a).read reach which above child)
+      on (Ok true) h = inl is
+      on (Ok false) h = inr (refl, h refl)
+      on (Err e) h = tt
+
+-- a child that doesn't wait
+pub told_none : {S : Type 0} (k : Ghosts S)
+    → KeepLaws k.rows k.failures k.writes k.Follows k.IsTrusted → (a : S) (reach : Reach)
+    (which : Which) (above child : Node) → false ≡ waits_next reach which above child
+    → IsRead k.rows k.failures k.writes k.Follows k.IsTrusted a a (Ok false) IsUnreadable
+    (λ rows waits. TellsWaiting rows.read reach which above child waits)
+told_none k laws a reach which above child is = record {
+  follows = laws.itself a;
+  unwritten = refl;
+  same = λ t. refl;
+  answers = λ t. inl is;
+  unfailed = refl;
+  fault = tt;
+}
+
+-- ---- one child
+
+-- it is told whether the child waits next, and its number is added if it is outdated
+pub one_gathered : {S : Type 0} (k : Ghosts S) (d : Descent) (above child : Node)
+    (before after : List Node) (sofar numbers : ByKind) (a b : S) (waits : Bool)
+    → IsRead k.rows k.failures k.writes k.Follows k.IsTrusted a b (Ok waits) IsUnreadable
+    (λ rows waits. TellsWaiting rows.read d.reach d.which above child waits)
+    → ((kind : ObjKind)
+    → of_kind numbers kind
+    ≡ of_kind sofar kind ++ outdated_of d.which above kind (child ∷ []))
+    → after ≡ before ++ cond waits (brought_up d.which above child ∷ []) []
+    → Gathers k a b d above (child ∷ []) before after sofar numbers (Ok tt)
+one_gathered k d above child before after sofar numbers a b waits read outdated joined =
+    answered k.rows k.failures k.writes k.Follows k.IsTrusted a b tt
+    (seen k.rows k.failures k.writes k.Follows k.IsTrusted a b waits read)
+    (λ t. record {
+      outdated = outdated;
+      next = cond waits (brought_up d.which above child ∷ []) [];
+      waits = joined;
+      chosen = one_chosen (k.rows a).read d above child waits (read.answers t);
+    })
+
+-- ---- children that are gone through
+
+pub rest_of : (nodes : List Node) (i : ℕ) (node : Node) → i < length nodes
+    → node ≡ get_or nodes i node → drop i nodes ≡ node ∷ drop (i + 1) nodes
+rest_of nodes i node below is =
+    drop-cons nodes i node below ∙ ap (λ (n : Node). n ∷ drop (suc i) nodes) (sym is)
+    ∙ ap (λ (j : ℕ). node ∷ drop j nodes) (sym (add-one i))
+
+next_cons : (reach : Reach) (which : Which) (above child : Node) (left : List Node)
+    → next_of reach which above (child ∷ left) ≡ next_of reach which above (child ∷ [])
+    ++ next_of reach which above left
+next_cons reach which above child left = on (waits_next reach which above child)
+  where
+    on : (t : Bool) → map (brought_up which above)
+        (cond t (child ∷ filter (waits_next reach which above) left)
+        (filter (waits_next reach which above) left))
+        ≡ map (brought_up which above) (cond t (child ∷ []) []) ++ next_of reach which above left
+    on true = refl
+    on false = refl
+
+outdated_cons : (which : Which) (above : Node) (kind : ObjKind) (child : Node) (left : List Node)
+    → outdated_of which above kind (child ∷ left)
+    ≡ outdated_of which above kind (child ∷ []) ++ outdated_of which above kind left
+outdated_cons which above kind child left =
+    on (is_outdated which above child && is_kind kind child.kind)
+  where
+    on : (t : Bool) → map (λ (n : Node). n.id)
+        (cond t (child ∷ filter (λ n. is_outdated which above n && is_kind kind n.kind) left)
+        (filter (λ n. is_outdated which above n && is_kind kind n.kind) left))
+        ≡ map (λ (n : Node). n.id) (cond t (child ∷ []) []) ++ outdated_of which above kind left
+    on true = refl
+    on false = refl
+
+module _ {S : Type 0} (k : Ghosts S)
+    (laws : KeepLaws k.rows k.failures k.writes k.Follows k.IsTrusted) (d : Descent) (above : Node)
+    (all before : List Node) (none : ByKind) where
+  -- what was gathered of some of the children, where these are left
+  pub record HasGathered (left mid : List Node) (numbers : ByKind) (rows : Rows) : Type 0 where
+    pub outdated : (kind : ObjKind)
+        → of_kind numbers kind ++ outdated_of d.which above kind left
+        ≡ of_kind none kind ++ outdated_of d.which above kind all
+    pub waits : (more : List Node)
+        → LeavesOut rows.read (next_of d.reach d.which above left) more
+        → (next : List Node) × (mid ++ more ≡ before ++ next)
+        × LeavesOut rows.read (next_of d.reach d.which above all) next
+
+  -- some of the children are gone through
+  pub record Gathering (left mid : List Node) (numbers : ByKind) (a b : S) : Type 0 where
+    pub read : HasRead k.rows k.failures k.writes k.Follows k.IsTrusted a b
+    pub gathered : k.IsTrusted a b → HasGathered left mid numbers (k.rows a)
+
+  -- at the beginning none is
+  pub gathering_begins : (a : S) → Gathering all before none a a
+  gathering_begins a = record {
+    read = none_yet k.rows k.failures k.writes k.Follows k.IsTrusted laws a;
+    gathered = λ t.
+        record { outdated = λ kind. refl; waits = λ more chosen. (more, refl, chosen) };
+  }
+
+  module _ (child : Node) (left mid after : List Node) (sofar numbers : ByKind) where
+    gathered_more : (rows : Rows) → HasGathered (child ∷ left) mid sofar rows
+        → IsGathered d above (child ∷ []) mid after sofar numbers rows
+        → HasGathered left after numbers rows
+    gathered_more rows has one = record {
+      outdated = λ kind.
+          ap (λ ids. ids ++ outdated_of d.which above kind left) (one.outdated kind)
+          ∙ append_assoc (of_kind sofar kind) (outdated_of d.which above kind (child ∷ []))
+          (outdated_of d.which above kind left)
+          ∙ ap (λ ids. of_kind sofar kind ++ ids)
+          (sym (outdated_cons d.which above kind child left))
+          ∙ has.outdated kind;
+      waits = λ more chosen.
+          let both = chosen_append rows.read (next_of d.reach d.which above (child ∷ []))
+          (next_of d.reach d.which above left) one.next more one.chosen chosen in
+          let (ends, joined, whole) = has.waits (one.next ++ more)
+          (subst (λ (l : List Node). LeavesOut rows.read l (one.next ++ more))
+          (sym (next_cons d.reach d.which above child left)) both) in (
+            ends,
+            ap (λ (l : List Node). l ++ more) one.waits ∙ append_assoc mid one.next more ∙ joined,
+            whole,
+          );
+    }
+
+    module _ (a b c : S) (has : Gathering (child ∷ left) mid sofar a b) where
+      -- one more of them
+      pub gathering_on : Gathers k b c d above (child ∷ []) mid after sofar numbers (Ok tt)
+          → Gathering left after numbers a c
+      gathering_on one =
+          let on = read_on k.rows k.failures k.writes k.Follows k.IsTrusted laws a b c (Ok tt)
+          has.read one in
+          record {
+            read = seen k.rows k.failures k.writes k.Follows k.IsTrusted a c tt on;
+            gathered = λ t.
+                gathered_more (k.rows a)
+                (has.gathered (laws.first a b c has.read.follows one.follows t)) (on.answers t);
+          }
+
+      pub gathering_stops : (e : KeepFault)
+          → Gathers k b c d above (child ∷ []) mid after sofar numbers (Err e)
+          → Gathers k a c d above all before after none numbers (Err e)
+      gathering_stops e one =
+          gives_up k.rows k.failures k.writes k.Follows k.IsTrusted a c e (λ w at h. h)
+          (read_on k.rows k.failures k.writes k.Follows k.IsTrusted laws a b c (Err e) has.read one)
+
+  -- at the end all are
+  pub gathering_ends : (mid : List Node) (numbers : ByKind) (a b : S)
+      → Gathering [] mid numbers a b → Gathers k a b d above all before mid none numbers (Ok tt)
+  gathering_ends mid numbers a b has =
+      answered k.rows k.failures k.writes k.Follows k.IsTrusted a b tt has.read (λ t.
+      let found = has.gathered t in
+      let (next, joined, chosen) = found.waits [] refl in
+      record {
+        outdated = λ kind. sym (append-nil (of_kind numbers kind)) ∙ found.outdated kind;
+        next = next;
+        waits = sym (append-nil mid) ∙ joined;
+        chosen = chosen;
+      })
