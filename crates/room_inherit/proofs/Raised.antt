@@ -34,7 +34,7 @@ use Rattle.room_rows.specs.Sound.{has_sound_lists, is_sound_held, reaches}
 use Rattle.room_inherit.specs.Spread.{is_changed}
 use Rattle.room_inherit.specs.SpreadAll.{IsSpreadAll, with_both}
 use Rattle.room_inherit.proofs.Children.{apart_rising, each_there}
-use Rattle.room_inherit.proofs.NoFault.{IsChecked, checked, list_checked, sound}
+use Rattle.room_inherit.proofs.NoFault.{IsChecked, checked, list_checked}
 use Rattle.room_inherit.proofs.Renewing.{map_agree, map_map}
 use Rattle.room_inherit.proofs.Stored.{all_found}
 use Rattle.room_inherit.proofs.Unmoved as unmoved
