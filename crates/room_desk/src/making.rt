@@ -19,7 +19,7 @@ ghost use Rattle.room_machine.specs.declared.reply.Reply.TheVariants.{Done, Made
 ghost use Rattle.room_machine.specs.declared.request.Request.TheVariants.{MakeFolder, Put};
 
 use crate::writing::put_bytes;
-use room_ace::{Entries, ListFlags, MOST_BYTES, Mask, Name, ObjKind, Owners};
+use room_ace::{ListFlags, MOST_BYTES, Mask, Name, ObjKind, Owners};
 use room_inherit::pass;
 use room_judge::{Asker, Found, Halt, Under, Walk, refusal};
 use room_machine::{Reason, Reply};
@@ -266,5 +266,5 @@ fn passed_list(alloc: Global, kind: ObjKind, parent: &Held) -> Result<Held, Allo
         auto: parent.flags().auto,
         protect: false,
     };
-    Held::new(flags, Entries::new(alloc), passed.as_slice())
+    Ok(Held::inherited(flags, passed))
 }

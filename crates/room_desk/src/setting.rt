@@ -166,7 +166,7 @@ fn set_at<K: Keep>(
     if is_same_list(setting.target.node.held(setting.which), flags, &own, &inh) {
         return Ok(());
     }
-    let held = Held::new(flags, own, inh.as_slice())?;
+    let held = Held::new(flags, own, inh)?;
     write_list(alloc, keep, setting, held)
 }
 

@@ -31,16 +31,21 @@ impl Model for Held {
 }
 
 impl Held {
-    /// The list of these own entries, followed by copies of these inherited ones.
-    pub fn new(flags: ListFlags, own: Entries, inh: &[Entry]) -> Result<Held, AllocError>
-        ensures { IfOk result (λ held. held ≡ record { flags = flags; own = own; inh = inh.now }) }
+    /// The list of these own entries, followed by these inherited ones.
+    pub fn new(flags: ListFlags, own: Entries, inh: Entries) -> Result<Held, AllocError>
+        ensures { IfOk result (λ held. held ≡ record { flags = flags; own = own; inh = inh }) }
     {
+        // most lists are inherited whole, and need no memory for own entries before them
+        if own.as_slice().is_empty() {
+            return Ok(Held::inherited(flags, inh));
+        }
         let count = own.as_slice().len();
-        let mut entries = own;
-        entries.extend(inh)?;
+        let mut entries = own.into_vec();
+        let mut moved = inh.into_vec();
+        entries.append(&mut moved)?;
         Ok(Held {
             flags,
-            entries,
+            entries: Entries::from_vec(entries),
             own: count,
         })
     }
@@ -88,9 +93,14 @@ impl Held {
     pub fn with_inh(&self, alloc: Global, inh: &[Entry]) -> Result<Held, AllocError>
         ensures { IfOk result (λ held. held ≡ record self.now { inh = inh.now }) }
     {
-        let mut own = Entries::new(alloc);
-        own.extend(self.own())?;
-        Held::new(self.flags, own, inh)
+        let mut entries = Entries::new(alloc);
+        entries.extend(self.own())?;
+        entries.extend(inh)?;
+        Ok(Held {
+            flags: self.flags,
+            entries,
+            own: self.own,
+        })
     }
 
     /// A copy.

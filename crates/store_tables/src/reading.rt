@@ -164,11 +164,7 @@ fn held_of(
     let Some(inh) = entries_at(alloc, lists, inh)? else {
         return Ok(None);
     };
-    // most lists are inherited whole, and need no copy after own entries
-    if own.as_slice().is_empty() {
-        return Ok(Some(Held::inherited(flags, inh)));
-    }
-    Ok(Some(Held::new(flags, own, inh.as_slice())?))
+    Ok(Some(Held::new(flags, own, inh)?))
 }
 
 /// The object in a row of all columns of `nodes`, if it can be read.

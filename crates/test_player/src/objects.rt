@@ -23,7 +23,7 @@ fn parted(alloc: Global, entries: &[Entry], inherited: bool) -> Result<Entries, 
 fn held_from(alloc: Global, sent: &SentList) -> Result<Held, AllocError> {
     let inh = parted(alloc, sent.entries().as_slice(), true)?;
     let own = parted(alloc, sent.entries().as_slice(), false)?;
-    Held::new(sent.flags(), own, inh.as_slice())
+    Held::new(sent.flags(), own, inh)
 }
 
 /// The list of this text as it is kept: what has the flag I is inherited.

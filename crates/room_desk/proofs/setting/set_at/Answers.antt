@@ -3,7 +3,7 @@ use Rattle.std.proofs.lemmas.Bool.{false≢true}
 use Rattle.std.specs.Option.{option_copied}
 use Rattle.room_entry.specs.Ace.{Ace}
 use Rattle.room_judge.proofs.Calls.{none_done, memory, finish, tail_known}
-use Rattle.room_desk.specs.Setting.{held_with, list_of}
+use Rattle.room_desk.specs.Setting.{held_with}
 use Rattle.room_desk.proofs.Lists.SettingCalls.{fails_before, list_sent, no_answer, set_from}
 use Rattle.room_desk.proofs.Lists.SettingCalls.{written_as}
 use Rattle.room_desk.proofs.setting.set_at.Goals as goal
@@ -83,9 +83,7 @@ returns g c =
           set_from setting.which setting.sent.now node (option_copied setting.above)
           c.in_ok-inh.inh old mid new are c.in_ok-inh.ensures same
           (inr (written_as setting.which node c.in_ok-held.held _ mid mid new
-          (c.in_ok-held.ensures
-          ∙ ap (λ (l : List Ace). list_of c.flags-flags.result c.in_ok-own.own l) c.as_slice.ensures
-          ∙ sent) refl written)));
+          (c.in_ok-held.ensures ∙ sent) refl written)));
       quiet =
           λ same. absurd
           (false≢true (sym c.if-is_same_list.false
