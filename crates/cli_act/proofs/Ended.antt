@@ -1,26 +1,26 @@
 -- After a task no transaction is open.
-use Rattle.std.proofs.Common.{◌≡◌, ◌⊎◌, inl, inr, false}
+use Rattle.std.proofs.Common.{◌≡◌, inl, inr, false}
 use Rattle.sqlite.specs.Held.{Held}
 use Rattle.sqlite.specs.State.{State}
 use Rattle.cli_act.specs.Doing.{DoesTask, Works, WorksOnRoom}
 use Rattle.cli_act.specs.declared.outcome.Outcome.{Outcome}
+use Rattle.cli_words.specs.declared.judging.RoomTask.{RoomTask}
+use Rattle.cli_words.specs.declared.judging.RoomTask.TheVariants as room
 use Rattle.cli_words.specs.declared.judging.Task.{Task}
 use Rattle.cli_words.specs.declared.judging.Task.TheVariants as task
 
-work_ended : (work : Task) (old new : State) (outcome : Outcome) → Works work old outcome new
+work_ended : (work : RoomTask) (old new : State) (outcome : Outcome) → Works work old outcome new
     → old.in_transaction ≡ false → new.in_transaction ≡ false
-work_ended (task.Init owners) old new outcome works ended = absurd works
-work_ended (task.Groups pairs) old new outcome works ended = works.ran.leaves.ended ended
-work_ended task.GroupsOut old new outcome works ended = works.looked.leaves.ended ended
-work_ended task.Audit old new outcome works ended = works.looked.leaves.ended ended
-work_ended task.Dump old new outcome works ended = works.looked.leaves.ended ended
-work_ended (task.Review question) old new outcome works ended = works.looked.leaves.ended ended
-work_ended (task.Reset path which sent) old new outcome works ended = works.ran.leaves.ended ended
-work_ended task.Verify old new outcome works ended = works.looked.leaves.ended ended
-work_ended task.Migrate old new outcome works ended = absurd works
+work_ended (room.Groups pairs) old new outcome works ended = works.ran.leaves.ended ended
+work_ended room.GroupsOut old new outcome works ended = works.looked.leaves.ended ended
+work_ended room.Audit old new outcome works ended = works.looked.leaves.ended ended
+work_ended room.Dump old new outcome works ended = works.looked.leaves.ended ended
+work_ended (room.Review path user all) old new outcome works ended = works.looked.leaves.ended ended
+work_ended (room.Reset path which sent) old new outcome works ended = works.ran.leaves.ended ended
+work_ended room.Verify old new outcome works ended = works.looked.leaves.ended ended
 
 module _ {S : Type 0} (shown : Held S → State) where
-  room_ended : (work : Task) (old new : Held S) (outcome : Outcome)
+  room_ended : (work : RoomTask) (old new : Held S) (outcome : Outcome)
       → WorksOnRoom shown work old outcome new → (shown new).in_transaction ≡ false
   room_ended work old new outcome (inl opened) =
       work_ended work (shown opened.mid) (shown new) outcome opened.works opened.opens.adopts.ended
@@ -29,14 +29,5 @@ module _ {S : Type 0} (shown : Held S → State) where
   pub does_ended : (work : Task) (old new : Held S) (outcome : Outcome)
       → DoesTask shown work old outcome new → (shown new).in_transaction ≡ false
   does_ended (task.Init owners) old new outcome does = does.creates.founds.ended
-  does_ended (task.Groups pairs) old new outcome does =
-      room_ended (task.Groups pairs) old new outcome does
-  does_ended task.GroupsOut old new outcome does = room_ended task.GroupsOut old new outcome does
-  does_ended task.Audit old new outcome does = room_ended task.Audit old new outcome does
-  does_ended task.Dump old new outcome does = room_ended task.Dump old new outcome does
-  does_ended (task.Review question) old new outcome does =
-      room_ended (task.Review question) old new outcome does
-  does_ended (task.Reset path which sent) old new outcome does =
-      room_ended (task.Reset path which sent) old new outcome does
-  does_ended task.Verify old new outcome does = room_ended task.Verify old new outcome does
   does_ended task.Migrate old new outcome does = does.migrates.ended
+  does_ended (task.OnRoom work) old new outcome does = room_ended work old new outcome does

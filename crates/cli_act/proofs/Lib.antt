@@ -2,5 +2,4 @@ mod Ended
 mod Groups
 mod Texts
 mod Unrun
-mod Working
 mod Distinct

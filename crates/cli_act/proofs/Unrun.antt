@@ -1,10 +1,11 @@
 -- A call that isn't made, since memory ran out.
-use Rattle.std.proofs.Common.{◌≡◌, Result, Ok, Err, inl, refl}
+use Rattle.std.proofs.Common.{◌≡◌, Result, Err, inl, refl}
+use Rattle.sqlite.specs.Effect.{Database}
 use Rattle.sqlite.specs.State.{State}
 use Rattle.room_rows.specs.Rows.{Rows}
 use Rattle.room_store.specs.declared.fault.StoreFault.{StoreFault}
 use Rattle.room_store.specs.declared.fault.StoreFault.TheVariants.{Memory, Damaged}
-use Rattle.room_store.specs.Ran.{Ran}
+use Rattle.room_store.specs.Ran.{Looked, Ran}
 use Rattle.store_tables.proofs.Calls.{retains_same}
 
 no_damage : {X : Type 0} → ◌≡◌ {A = Result X StoreFault} (Err Memory) (Err Damaged) → ⊥
@@ -29,4 +30,15 @@ unrun old Blames Becomes = record {
   lasts = λ _. tt;
   spared = λ _ _ _ left. left;
   crash = λ _ _ left. inl left;
+}
+
+pub unlooked : {X : Type 0} (old : State) (Blames : Database → Type 0)
+    (Answers : Database → X → Type 0) → Looked {X = X} old old (Err Memory) Blames Answers
+unlooked old Blames Answers = record {
+  leaves = record { ended = λ h. h; clean = λ h. h; was_open = λ _ h. h };
+  same = λ _ _. refl;
+  answers = λ _. tt;
+  answer = λ _. tt;
+  damaged = λ _ _ is. absurd (no_damage is);
+  crash = λ _ _ left. left;
 }

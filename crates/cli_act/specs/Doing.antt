@@ -1,5 +1,6 @@
 -- What a task does to a database, and what comes of it.
-use Rattle.std.specs.Prelude.{◌≡◌, ◌⊎◌, ℕ, List, [], String, length, string_bytes, Result, Ok, Err}
+use Rattle.std.specs.Prelude.{◌≡◌, ◌⊎◌, ℕ, Bool, List, [], Option, String, length, string_bytes}
+use Rattle.std.specs.Prelude.{Result, Ok, Err}
 use Rattle.std.specs.Global.{Global}
 use Rattle.std.specs.Prelude.{Vec}
 use Rattle.sqlite.specs.Held.{Held}
@@ -42,6 +43,8 @@ use Rattle.cli_act.specs.declared.outcome.Outcome.{Outcome}
 use Rattle.cli_act.specs.declared.outcome.Outcome.TheVariants.{Answer, Bytes, Failed}
 use Rattle.cli_words.specs.declared.judging.Task.{Task}
 use Rattle.cli_words.specs.declared.judging.Task.TheVariants as task
+use Rattle.cli_words.specs.declared.judging.RoomTask.{RoomTask}
+use Rattle.cli_words.specs.declared.judging.RoomTask.TheVariants as room
 use Rattle.cli_act.specs.Counting.{distinct_groups}
 
 -- ---- what comes of an answer
@@ -164,27 +167,24 @@ pub record TestsRows (old : State) (outcome : Outcome) (new : State) : Type 0 wh
 
 -- ---- a task
 
--- the task works on a room that is there
-abbrev pub IsWork : Task → Type 0
-IsWork (task.Init owners) = ⊥
-IsWork task.Migrate = ⊥
-IsWork work = Unit {0}
+-- what a store is asked for a review
+abbrev pub question_of : List (List ℕ) → Option (List ℕ) → Bool → Question
+question_of path user all = record { path = path; user = user; all = all }
 
 -- What a task does to a room that is open.
-abbrev pub Works : Task → State → Outcome → State → Type 0
-Works (task.Init owners) old outcome new = ⊥
-Works (task.Groups pairs) old outcome new = PutsMembers pairs old outcome new
-Works task.GroupsOut old outcome new = GivesMembers old outcome new
-Works task.Audit old outcome new = GivesRecords old outcome new
-Works task.Dump old outcome new = GivesDump old outcome new
-Works (task.Review question) old outcome new = GivesReview question old outcome new
-Works (task.Reset path which sent) old outcome new = SetsList path which sent old outcome new
-Works task.Verify old outcome new = TestsRows old outcome new
-Works task.Migrate old outcome new = ⊥
+abbrev pub Works : RoomTask → State → Outcome → State → Type 0
+Works (room.Groups pairs) old outcome new = PutsMembers pairs old outcome new
+Works room.GroupsOut old outcome new = GivesMembers old outcome new
+Works room.Audit old outcome new = GivesRecords old outcome new
+Works room.Dump old outcome new = GivesDump old outcome new
+Works (room.Review path user all) old outcome new =
+    GivesReview (question_of path user all) old outcome new
+Works (room.Reset path which sent) old outcome new = SetsList path which sent old outcome new
+Works room.Verify old outcome new = TestsRows old outcome new
 
 module _ {S : Type 0} (shown : Held S → State) where
   -- The database is opened as a room, and the task then works on it.
-  pub record OpensAndWorks (work : Task) (old : Held S) (outcome : Outcome) (new : Held S)
+  pub record OpensAndWorks (work : RoomTask) (old : Held S) (outcome : Outcome) (new : Held S)
       : Type 0 where
     pub mid : Held S
     pub opens : Opens (shown old) (shown mid) (Ok tt)
@@ -196,12 +196,12 @@ module _ {S : Type 0} (shown : Held S → State) where
     pub opens : Opens (shown old) (shown new) (Err fault)
     pub told : outcome ≡ not_opened fault
 
-  abbrev pub WorksOnRoom : Task → Held S → Outcome → Held S → Type 0
+  abbrev pub WorksOnRoom : RoomTask → Held S → Outcome → Held S → Type 0
   WorksOnRoom work old outcome new =
       OpensAndWorks work old outcome new ⊎ OpensNot old outcome new
 
-  -- What a task does to a database: all but those that make or upgrade a room open it first.
+  -- What a task does to a database.
   abbrev pub DoesTask : Task → Held S → Outcome → Held S → Type 0
   DoesTask (task.Init owners) old outcome new = MakesRoom owners (shown old) outcome (shown new)
   DoesTask task.Migrate old outcome new = RaisesRoom (shown old) outcome (shown new)
-  DoesTask work old outcome new = WorksOnRoom work old outcome new
+  DoesTask (task.OnRoom work) old outcome new = WorksOnRoom work old outcome new

@@ -1,13 +1,13 @@
 //! A task done on a database.
 ghost use Rattle.std.specs.Prelude.{◌≡◌, Err, false};
 ghost use Rattle.sqlite.specs.Held.{state};
-ghost use Rattle.cli_act.specs.Doing.{DoesTask, IsWork, MakesRoom};
-ghost use Rattle.cli_act.specs.Doing.{RaisesRoom, after_create, after_migrate};
+ghost use Rattle.cli_act.specs.Doing.{DoesTask, MakesRoom, RaisesRoom, WorksOnRoom, after_create};
+ghost use Rattle.cli_act.specs.Doing.{after_migrate};
 
 use crate::opened::work;
 use crate::outcome::{Outcome, TaskAnswer};
 use cli_outcome::Fault;
-use cli_words::Task;
+use cli_words::{RoomTask, Task};
 use room_ace::Owners;
 use room_store::Store;
 use sqlite::{Alter, Connection};
@@ -58,11 +58,10 @@ fn raise<S: Alter>(alloc: Global, conn: Connection<S>) -> (Connection<S>, Outcom
 fn open_and_work<S: Alter>(
     alloc: Global,
     conn: Connection<S>,
-    task: &Task,
+    task: &RoomTask,
 ) -> (Connection<S>, Outcome)
-    requires ended { conn.in_transaction ≡ false }
-    requires work { IsWork task.now }
-    ensures { DoesTask (state S.Store) task.now conn result.1 result.0 }
+    requires { conn.in_transaction ≡ false }
+    ensures { WorksOnRoom (state S.Store) task.now conn result.1 result.0 }
 {
     match Store::adopt(conn) {
         Ok(store) => {
@@ -87,12 +86,6 @@ pub(crate) fn do_task<S: Alter>(
     match task {
         Task::Init(owners) => make_room(conn, owners),
         Task::Migrate => raise(alloc, conn),
-        Task::Groups(_)
-        | Task::GroupsOut
-        | Task::Audit
-        | Task::Dump
-        | Task::Review(_)
-        | Task::Reset(..)
-        | Task::Verify => open_and_work(alloc, conn, task),
+        Task::OnRoom(task) => open_and_work(alloc, conn, task),
     }
 }

@@ -1,5 +1,5 @@
 //! A task on a room that is open, each by one call of the store.
-ghost use Rattle.std.specs.Prelude.{◌≡◌, length};
+ghost use Rattle.std.specs.Prelude.{◌≡◌, IfOk, length};
 ghost use Rattle.cli_act.specs.Counting.{distinct_groups};
 ghost use Rattle.sqlite.specs.Held.{state};
 ghost use Rattle.cli_act.specs.Doing.{
@@ -8,7 +8,6 @@ ghost use Rattle.cli_act.specs.Doing.{
   GivesRecords,
   GivesReview,
   IsText,
-  IsWork,
   PutsMembers,
   SetsList,
   TestsRows,
@@ -17,13 +16,14 @@ ghost use Rattle.cli_act.specs.Doing.{
   after_reply,
   after_report,
   after_review,
+  question_of,
 };
 ghost use Rattle.room_import.specs.Exports.{groups_text, records_text};
 
 use crate::counting::count_groups;
 use crate::outcome::{Outcome, TaskAnswer};
 use cli_outcome::Fault;
-use cli_words::Task;
+use cli_words::RoomTask;
 use room_ace::{Name, SentList, Which};
 use room_import::{write_audits, write_groups};
 use room_inherit::Report;
@@ -32,7 +32,7 @@ use room_review::{Question, Reviewed};
 use room_rows::{AuditRow, Bytes, Path};
 use room_store::{Store, StoreFault};
 use sqlite::Alter;
-use std::alloc::Global;
+use std::alloc::{AllocError, Global};
 
 // The outcome where a store gave no answer.
 fn after_fault(fault: StoreFault) -> Outcome
@@ -131,6 +131,34 @@ fn tell_review<S: Alter>(alloc: Global, store: &mut Store<S>, question: &Questio
     }
 }
 
+// What a store is asked for a review.
+fn question_of(path: &Path, user: &Option<Name>, all: bool) -> Result<Question, AllocError>
+    ensures { IfOk result (λ question. question ≡ question_of path.now user.now all) }
+{
+    let user = match user {
+        None => None,
+        Some(name) => Some(name.copy()?),
+    };
+    let path = path.copy()?;
+    Ok(Question { path, user, all })
+}
+
+fn review<S: Alter>(
+    alloc: Global,
+    store: &mut Store<S>,
+    path: &Path,
+    user: &Option<Name>,
+    all: bool,
+) -> Outcome
+    ensures { GivesReview (question_of path.now user.now all) (state S.Store store.old.conn) result
+        (state S.Store store.new.conn) }
+{
+    match question_of(path, user, all) {
+        Ok(question) => tell_review(alloc, store, &question),
+        Err(_) => Outcome::Failed(Fault::Memory),
+    }
+}
+
 // The outcome of a review.
 fn after_review(reviewed: Reviewed) -> Outcome
     ensures { result ≡ after_review reviewed }
@@ -194,19 +222,16 @@ fn test<S: Alter>(alloc: Global, store: &mut Store<S>) -> Outcome
 }
 
 /// Does a task on the room of a store.
-pub(crate) fn work<S: Alter>(alloc: Global, store: &mut Store<S>, task: &Task) -> Outcome
-    requires { IsWork task.now }
+pub(crate) fn work<S: Alter>(alloc: Global, store: &mut Store<S>, task: &RoomTask) -> Outcome
     ensures { Works task.now (state S.Store store.old.conn) result (state S.Store store.new.conn) }
 {
     match task {
-        Task::Groups(pairs) => replace(alloc, store, pairs.as_slice()),
-        Task::GroupsOut => tell_members(alloc, store),
-        Task::Audit => tell_records(alloc, store),
-        Task::Reset(path, which, sent) => set_list(alloc, store, path, *which, sent),
-        Task::Verify => test(alloc, store),
-        Task::Init(_) => unreachable!(),
-        Task::Dump => tell_all(alloc, store),
-        Task::Review(question) => tell_review(alloc, store, question),
-        Task::Migrate => unreachable!(),
+        RoomTask::Groups(pairs) => replace(alloc, store, pairs.as_slice()),
+        RoomTask::GroupsOut => tell_members(alloc, store),
+        RoomTask::Audit => tell_records(alloc, store),
+        RoomTask::Dump => tell_all(alloc, store),
+        RoomTask::Review { path, user, all } => review(alloc, store, path, user, *all),
+        RoomTask::Reset(path, which, sent) => set_list(alloc, store, path, *which, sent),
+        RoomTask::Verify => test(alloc, store),
     }
 }

@@ -1,9 +1,9 @@
 -- The first bytes of an input that show that it is too long have the task of all of it.
 use Rattle.std.proofs.Common.{ℕ, ◌≡◌, ◌+◌, ◌<◌, ◌≤◌, ◌∙◌, List, [], length, Option, Some, None}
 use Rattle.std.proofs.Common.{Result, Ok, Err, refl, sym, ap, subst, inl, inr, arith}
-use Rattle.std.specs.Prelude.{take, nat_lt, IfSome, IsSome, if◌then◌else◌}
+use Rattle.std.specs.Prelude.{take, nat_lt, IfSome, if◌then◌else◌}
 use Rattle.std.proofs.lemmas.List.{length-take-le, take_all}
-use Rattle.std.proofs.lemmas.Bool.{cases_Bool, cond-true, false≢true, lt-ltb, ltb-true, ltb-false}
+use Rattle.std.proofs.lemmas.Bool.{cases_Bool, cond-true, lt-ltb, ltb-true, ltb-false}
 use Rattle.room_entry.specs.Gives.{Gives}
 use Rattle.room_ace.specs.Lists.{sent_of}
 use Rattle.room_ace.specs.Sent.{Sent}
@@ -16,11 +16,12 @@ use Rattle.cli_words.specs.Tasks.{goes_on, pairs_in, task_path, refused_by, sent
 use Rattle.cli_words.specs.Tasks.{task_of}
 use Rattle.cli_words.specs.declared.judging.Task.{Task}
 use Rattle.cli_words.specs.declared.judging.Task.TheVariants as task
+use Rattle.cli_words.specs.declared.judging.RoomTask.TheVariants as room
 use Rattle.cli_words.specs.declared.refusal.TaskRefusal.{TaskRefusal}
 use Rattle.cli_words.specs.declared.refusal.TaskRefusal.TheVariants as refusal
 use Rattle.cli_words.specs.Asked.{input_of}
-use Rattle.cli_words.specs.declared.command.Command.{Command}
-use Rattle.cli_words.specs.declared.command.Command.TheVariants as command
+use Rattle.cli_words.specs.declared.command.Job.{Job}
+use Rattle.cli_words.specs.declared.command.Job.TheVariants as job
 use Rattle.cli_words.specs.Reads.{IsTask, ReadsTask, most_of}
 use Rattle.cli_words.specs.Stops.{stop_of_refusal}
 use Rattle.cli_words.specs.declared.stop.Stop.{Stop}
@@ -54,45 +55,43 @@ sent-take : (input : List ℕ) → sent_in (take 1048577 input) ≡ sent_in inpu
 sent-take input =
     limited 1048576 (Err refusal.TooLong) (λ bytes. refused_by refusal.Line (sent_of bytes)) input
 
-task-take : (asked : Command) (input : List ℕ)
+task-take : (asked : Job) (input : List ℕ)
     → task_of asked (take (most_of (input_of asked)) input) ≡ task_of asked input
-task-take command.Check input = refl
-task-take (command.Init file owner group) input = refl
-task-take (command.Serve file port count) input = refl
-task-take (command.Groups file csv) input =
+task-take (job.Init owner group) input = refl
+task-take (job.Groups csv) input =
     ap (λ (read : Result (List (List ℕ × List ℕ)) TaskRefusal).
-    Some (goes_on read (λ pairs. Ok (task.Groups pairs)))) (pairs-take input)
-task-take (command.GroupsOut file) input = refl
-task-take (command.Audit file) input = refl
-task-take (command.Dump file) input = refl
-task-take (command.Review file path user all) input = refl
-task-take (command.Reset file path which) input =
+    goes_on read (λ pairs. Ok (task.OnRoom (room.Groups pairs)))) (pairs-take input)
+task-take job.GroupsOut input = refl
+task-take job.Audit input = refl
+task-take job.Dump input = refl
+task-take (job.Review path user all) input = refl
+task-take (job.Reset path which) input =
     ap (λ (read : Result Sent TaskRefusal).
-    Some (goes_on (task_path path.now)
-    (λ path. goes_on read (λ list. Ok (task.Reset path which list))))) (sent-take input)
-task-take (command.Verify file) input = refl
-task-take (command.Migrate file) input = refl
+    goes_on (task_path path.now)
+    (λ path. goes_on read (λ list. Ok (task.OnRoom (room.Reset path which list)))))
+    (sent-take input)
+task-take job.Verify input = refl
+task-take job.Migrate input = refl
 
 -- the task of what was read
-pub whole : (asked : Command) (known : Option (List ℕ)) (bytes : List ℕ) (most : ℕ)
+pub whole : (asked : Job) (known : Option (List ℕ)) (bytes : List ℕ) (most : ℕ)
     (result : Result Task Stop)
     → most ≡ most_of (input_of asked) → IfSome known (λ input. bytes ≡ take most input)
     → IsTask (task_of asked bytes) result → ReadsTask asked known result
 whole asked None bytes most result is front told = (bytes, tt, told)
 whole asked (Some input) bytes most result is front told =
     let due : task_of asked bytes ≡ task_of asked input = rw (front, is) (task-take asked input) in
-    let P : Option (Result Task TaskRefusal) → Type 0 = λ due. IsTask due result in
+    let P : Result Task TaskRefusal → Type 0 = λ due. IsTask due result in
     (input, refl, subst P due told)
 
 -- nothing could be read
-pub unread : (asked : Command) (known : Option (List ℕ)) (why : StreamFault) → IsOfStream why
+pub unread : (asked : Job) (known : Option (List ℕ)) (why : StreamFault) → IsOfStream why
     → ReadsTask asked known (Err (stop.Failed why))
 unread asked None why is = ([], tt, is)
 unread asked (Some input) why is = (input, refl, is)
 
 -- or why there is none
-pub refused : (due : Option (Result Task TaskRefusal)) (failure : Failure TaskRefusal) → IsSome due
-    → IfSome due (Gives {A = Task} (Err failure)) → IsTask due (Err (stop_of_refusal failure))
-refused None failure is gives = absurd (false≢true is)
-refused (Some told) OutOfMemory is gives = inl refl
-refused (Some told) (Fault why) is gives = ap Some gives
+pub refused : (due : Result Task TaskRefusal) (failure : Failure TaskRefusal)
+    → Gives {A = Task} (Err failure) due → IsTask due (Err (stop_of_refusal failure))
+refused due OutOfMemory gives = inl refl
+refused due (Fault why) gives = gives

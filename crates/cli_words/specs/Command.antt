@@ -15,6 +15,8 @@ use Rattle.room_entry.specs.declared.object.Which.{Which}
 use Rattle.cli_words.specs.Line.{AreAttributes, command_line}
 use Rattle.cli_words.specs.declared.command.Command.{Command}
 use Rattle.cli_words.specs.declared.command.Command.TheVariants as command
+use Rattle.cli_words.specs.declared.command.Job.{Job}
+use Rattle.cli_words.specs.declared.command.Job.TheVariants as job
 
 -- the word that was given for an argument
 abbrev pub word : Text → List Row → Text
@@ -36,34 +38,32 @@ IsFlag (Some text) flag = (text ≡ codes "true" → flag ≡ true) × (text ≡
 abbrev pub which_in : List Row → Which
 which_in rows = if bytes_eq (word (codes "LIST") rows) (codes "dacl") then Dacl else Sacl
 
+-- A job of this name, with its words.
+abbrev pub IsJob : Text → List Row → Job → Type 0
+IsJob name rows (job.Init owner group) = (name ≡ codes "init")
+    × (owner.now ≡ word (codes "OWNER") rows) × (group.now ≡ word (codes "GROUP") rows)
+IsJob name rows (job.Groups csv) =
+    (name ≡ codes "groups") × (csv.now ≡ word (codes "CSV") rows)
+IsJob name rows job.GroupsOut = name ≡ codes "groups-out"
+IsJob name rows job.Audit = name ≡ codes "audit"
+IsJob name rows job.Dump = name ≡ codes "dump"
+IsJob name rows (job.Review path user all) = (name ≡ codes "review")
+    × (path.now ≡ word (codes "PATH") rows)
+    × (option_map (λ (text : Bor Text). text.now) user ≡ first_of (codes "user") rows)
+    × IsFlag (one_of (codes "all") rows) all
+IsJob name rows (job.Reset path which) = (name ≡ codes "reset")
+    × (path.now ≡ word (codes "PATH") rows) × (which ≡ which_in rows)
+IsJob name rows job.Verify = name ≡ codes "verify"
+IsJob name rows job.Migrate = name ≡ codes "migrate"
+
 -- A subcommand of this name, with its words.
 abbrev pub IsMet : Text → List Row → Command → Type 0
 IsMet name rows command.Check = name ≡ codes "check"
-IsMet name rows (command.Init file owner group) = (name ≡ codes "init")
-    × (file.now ≡ word (codes "FILE") rows) × (owner.now ≡ word (codes "OWNER") rows)
-    × (group.now ≡ word (codes "GROUP") rows)
 IsMet name rows (command.Serve file port count) = (name ≡ codes "serve")
     × (file.now ≡ word (codes "FILE") rows) × IsNumber 16 8780 (one_of (codes "port") rows) port
     × IsNumber 32 1 (one_of (codes "count") rows) count
-IsMet name rows (command.Groups file csv) = (name ≡ codes "groups")
-    × (file.now ≡ word (codes "FILE") rows) × (csv.now ≡ word (codes "CSV") rows)
-IsMet name rows (command.GroupsOut file) =
-    (name ≡ codes "groups-out") × (file.now ≡ word (codes "FILE") rows)
-IsMet name rows (command.Audit file) =
-    (name ≡ codes "audit") × (file.now ≡ word (codes "FILE") rows)
-IsMet name rows (command.Dump file) =
-    (name ≡ codes "dump") × (file.now ≡ word (codes "FILE") rows)
-IsMet name rows (command.Review file path user all) = (name ≡ codes "review")
-    × (file.now ≡ word (codes "FILE") rows) × (path.now ≡ word (codes "PATH") rows)
-    × (option_map (λ (text : Bor Text). text.now) user ≡ first_of (codes "user") rows)
-    × IsFlag (one_of (codes "all") rows) all
-IsMet name rows (command.Reset file path which) = (name ≡ codes "reset")
-    × (file.now ≡ word (codes "FILE") rows) × (path.now ≡ word (codes "PATH") rows)
-    × (which ≡ which_in rows)
-IsMet name rows (command.Verify file) =
-    (name ≡ codes "verify") × (file.now ≡ word (codes "FILE") rows)
-IsMet name rows (command.Migrate file) =
-    (name ≡ codes "migrate") × (file.now ≡ word (codes "FILE") rows)
+IsMet name rows (command.On file job) =
+    (file.now ≡ word (codes "FILE") rows) × IsJob name rows job
 
 -- One of the eleven names of subcommands.
 abbrev pub IsName : Text → Type 0

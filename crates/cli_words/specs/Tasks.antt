@@ -1,4 +1,4 @@
--- The task of a subcommand and its input, or the first reason to refuse it (own).
+-- The task of a job and its input, or the first reason to refuse it (own).
 use Rattle.std.specs.Prelude.{ℕ, Bool, List, ◌++◌, Option, Some, None, Result, Ok, Err, codes}
 use Rattle.std.specs.Prelude.{if◌then◌else◌, length, nat_lt, option_map}
 use Rattle.std.specs.Borrow.{Bor}
@@ -12,13 +12,13 @@ use Rattle.room_import.specs.Faults.{csv_fault_text}
 use Rattle.room_import.specs.Groups.{groups_in}
 use Rattle.room_rows.specs.Faults.{path_fault_text}
 use Rattle.room_rows.specs.Paths.{path_of}
-use Rattle.room_review.specs.declared.question.Question.{Question}
 use Rattle.cli_words.specs.declared.judging.Task.{Task}
 use Rattle.cli_words.specs.declared.judging.Task.TheVariants as task
+use Rattle.cli_words.specs.declared.judging.RoomTask.TheVariants as room
 use Rattle.cli_words.specs.declared.refusal.TaskRefusal.{TaskRefusal}
 use Rattle.cli_words.specs.declared.refusal.TaskRefusal.TheVariants as refusal
-use Rattle.cli_words.specs.declared.command.Command.{Command}
-use Rattle.cli_words.specs.declared.command.Command.TheVariants as command
+use Rattle.cli_words.specs.declared.command.Job.{Job}
+use Rattle.cli_words.specs.declared.command.Job.TheVariants as job
 
 -- the line that is printed of a refusal
 abbrev pub refusal_text : TaskRefusal → List ℕ
@@ -62,31 +62,28 @@ init_task owner group = goes_on (task_name owner) (λ owner. goes_on (task_name 
 
 abbrev pub reset_of : List ℕ → Which → List ℕ → Result Task TaskRefusal
 reset_of path which input = goes_on (task_path path) (λ path. goes_on (sent_in input) (λ list.
-    Ok (task.Reset path which list)))
+    Ok (task.OnRoom (room.Reset path which list))))
 
-abbrev pub question_of : List ℕ → Option (List ℕ) → Bool → Result Question TaskRefusal
-question_of path user all = goes_on (task_path path)
-    (λ path. Ok (record { path = path; user = user; all = all }))
+abbrev pub review_at : List ℕ → Option (List ℕ) → Bool → Result Task TaskRefusal
+review_at path user all =
+    goes_on (task_path path) (λ path. Ok (task.OnRoom (room.Review path user all)))
 
 -- a review of one user, or of all callers: the name is judged before the path
-abbrev pub review_of : List ℕ → Option (List ℕ) → Bool → Result Question TaskRefusal
-review_of path None all = question_of path None all
+abbrev pub review_of : List ℕ → Option (List ℕ) → Bool → Result Task TaskRefusal
+review_of path None all = review_at path None all
 review_of path (Some name) all =
-    goes_on (task_name name) (λ name. question_of path (Some name) all)
+    goes_on (task_name name) (λ name. review_at path (Some name) all)
 
--- `check` and `serve` are none of these tasks.
-abbrev pub task_of : Command → List ℕ → Option (Result Task TaskRefusal)
-task_of command.Check input = None
-task_of (command.Init file owner group) input = Some (init_task owner.now group.now)
-task_of (command.Serve file port count) input = None
-task_of (command.Groups file csv) input =
-    Some (goes_on (pairs_in input) (λ pairs. Ok (task.Groups pairs)))
-task_of (command.GroupsOut file) input = Some (Ok task.GroupsOut)
-task_of (command.Audit file) input = Some (Ok task.Audit)
-task_of (command.Dump file) input = Some (Ok task.Dump)
-task_of (command.Review file path user all) input =
-    Some (goes_on (review_of path.now (option_map (λ (name : Bor (List ℕ)). name.now) user) all)
-    (λ question. Ok (task.Review question)))
-task_of (command.Reset file path which) input = Some (reset_of path.now which input)
-task_of (command.Verify file) input = Some (Ok task.Verify)
-task_of (command.Migrate file) input = Some (Ok task.Migrate)
+-- The task of a job.
+abbrev pub task_of : Job → List ℕ → Result Task TaskRefusal
+task_of (job.Init owner group) input = init_task owner.now group.now
+task_of job.Migrate input = Ok task.Migrate
+task_of (job.Groups csv) input =
+    goes_on (pairs_in input) (λ pairs. Ok (task.OnRoom (room.Groups pairs)))
+task_of job.GroupsOut input = Ok (task.OnRoom room.GroupsOut)
+task_of job.Audit input = Ok (task.OnRoom room.Audit)
+task_of job.Dump input = Ok (task.OnRoom room.Dump)
+task_of (job.Review path user all) input =
+    review_of path.now (option_map (λ (name : Bor (List ℕ)). name.now) user) all
+task_of (job.Reset path which) input = reset_of path.now which input
+task_of job.Verify input = Ok (task.OnRoom room.Verify)

@@ -1,25 +1,33 @@
 //! Validates a subcommand's words and input.
-ghost use Rattle.std.specs.Prelude.{IfSome, IsSome, option_map};
+ghost use Rattle.std.specs.Prelude.{option_map};
 ghost use Rattle.room_entry.specs.Gives.{Gives};
-ghost use Rattle.cli_words.specs.Tasks.{init_task, pairs_in, question_of, reset_of, review_of};
+ghost use Rattle.cli_words.specs.Tasks.{init_task, pairs_in, reset_of, review_at, review_of};
 ghost use Rattle.cli_words.specs.Tasks.{sent_in, task_name, task_of, task_path};
 
-use crate::command::Command;
+use crate::command::Job;
 use crate::refusal::TaskRefusal;
 use room_ace::{Failure, MOST_BYTES, Name, Owners, SentList, Which, read_list, read_name};
 use room_import::{Pairs, read_groups};
-use room_review::Question;
 use room_rows::{Path, read_path};
 use std::alloc::Global;
 
 /// The most bytes of a group file. One byte more is enough to see that it is too long.
 pub const MOST_GROUP_BYTES: usize = 8_388_608;
 
-/// A subcommand that works on an open database for a while, with its arguments and input.
+/// A job on a database, with its arguments and input.
 #[derive(Drop)]
 pub enum Task {
     /// Make a room whose root has these owners.
     Init(Owners),
+    /// Upgrade the older schema.
+    Migrate,
+    /// Do this with the room that the database holds.
+    OnRoom(RoomTask),
+}
+
+/// What is done with a room that is there.
+#[derive(Drop)]
+pub enum RoomTask {
     /// Replace the members by these pairs of group and user.
     Groups(Pairs),
     /// Print the members.
@@ -28,43 +36,35 @@ pub enum Task {
     Audit,
     /// Print all objects and members.
     Dump,
-    /// Print who may do what.
-    Review(Question),
+    /// Print who may do what at this path and below it: the rows of one user or of all callers,
+    /// and whether also those that repeat what the folder above says.
+    Review {
+        path: Path,
+        user: Option<Name>,
+        all: bool,
+    },
     /// Set the list at this path.
     Reset(Path, Which, SentList),
     /// Find the first fault of the rows.
     Verify,
-    /// Upgrade the older schema.
-    Migrate,
 }
 
-/// The task of a subcommand and its input, which is the bytes of its list or of its CSV file. The
-/// error is the first reason to refuse it, or that memory ran out: names are validated first, next
-/// the path, then the input.
-pub fn judge(
-    alloc: Global,
-    command: &Command<'_>,
-    input: &[u8],
-) -> Result<Task, Failure<TaskRefusal>>
-    requires { IsSome (task_of command.now input.now) }
-    ensures { IfSome (task_of command.now input.now) (Gives result) }
+/// The task of a job and its input, which is the bytes of its list or of its CSV file. The error is
+/// the first reason to refuse it, or that memory ran out: names are validated first, next the path,
+/// then the input.
+pub fn judge(alloc: Global, job: &Job<'_>, input: &[u8]) -> Result<Task, Failure<TaskRefusal>>
+    ensures { Gives result (task_of job.now input.now) }
 {
-    match command {
-        Command::Init { owner, group, .. } => init_task(alloc, owner, group),
-        Command::Groups { .. } => Ok(Task::Groups(pairs_in(alloc, input)?)),
-        Command::GroupsOut { .. } => Ok(Task::GroupsOut),
-        Command::Audit { .. } => Ok(Task::Audit),
-        Command::Dump { .. } => Ok(Task::Dump),
-        Command::Review {
-            path,
-            user,
-            all,
-            ..
-        } => Ok(Task::Review(review_of(alloc, path, *user, *all)?)),
-        Command::Reset { path, which, .. } => reset_of(alloc, path, *which, input),
-        Command::Verify { .. } => Ok(Task::Verify),
-        Command::Migrate { .. } => Ok(Task::Migrate),
-        Command::Check | Command::Serve { .. } => unreachable!(),
+    match job {
+        Job::Init { owner, group } => init_task(alloc, owner, group),
+        Job::Migrate => Ok(Task::Migrate),
+        Job::Groups { .. } => Ok(Task::OnRoom(RoomTask::Groups(pairs_in(alloc, input)?))),
+        Job::GroupsOut => Ok(Task::OnRoom(RoomTask::GroupsOut)),
+        Job::Audit => Ok(Task::OnRoom(RoomTask::Audit)),
+        Job::Dump => Ok(Task::OnRoom(RoomTask::Dump)),
+        Job::Review { path, user, all } => review_of(alloc, path, *user, *all),
+        Job::Reset { path, which } => reset_of(alloc, path, *which, input),
+        Job::Verify => Ok(Task::OnRoom(RoomTask::Verify)),
     }
 }
 
@@ -99,30 +99,31 @@ fn pairs_in(alloc: Global, input: &[u8]) -> Result<Pairs, Failure<TaskRefusal>>
     }
 }
 
+// A review of one user, or of all callers.
 fn review_of(
     alloc: Global,
     path: &str,
     user: Option<&str>,
     all: bool,
-) -> Result<Question, Failure<TaskRefusal>>
+) -> Result<Task, Failure<TaskRefusal>>
     ensures { Gives result (review_of path.now (option_map (λ name. name.now) user.entry) all) }
 {
     match user {
-        None => question_of(alloc, path, None, all),
-        Some(name) => question_of(alloc, path, Some(task_name(alloc, name)?), all),
+        None => review_at(alloc, path, None, all),
+        Some(name) => review_at(alloc, path, Some(task_name(alloc, name)?), all),
     }
 }
 
-fn question_of(
+fn review_at(
     alloc: Global,
     path: &str,
     user: Option<Name>,
     all: bool,
-) -> Result<Question, Failure<TaskRefusal>>
-    ensures { Gives result (question_of path.now user all) }
+) -> Result<Task, Failure<TaskRefusal>>
+    ensures { Gives result (review_at path.now user all) }
 {
     let path = task_path(alloc, path)?;
-    Ok(Question { path, user, all })
+    Ok(Task::OnRoom(RoomTask::Review { path, user, all }))
 }
 
 fn reset_of(
@@ -135,7 +136,7 @@ fn reset_of(
 {
     let path = task_path(alloc, path)?;
     let list = sent_in(alloc, input)?;
-    Ok(Task::Reset(path, which, list))
+    Ok(Task::OnRoom(RoomTask::Reset(path, which, list)))
 }
 
 fn task_path(alloc: Global, text: &str) -> Result<Path, Failure<TaskRefusal>>

@@ -13,8 +13,8 @@ mod stop;
 mod task;
 mod telling;
 
-pub use command::{CliFault, Command, Input};
-pub use judging::{MOST_GROUP_BYTES, Task, judge};
+pub use command::{CliFault, Command, Input, Job};
+pub use judging::{MOST_GROUP_BYTES, RoomTask, Task, judge};
 pub use reading::read_command;
 pub use refusal::TaskRefusal;
 pub use stop::Stop;

@@ -3,10 +3,10 @@ ghost use Rattle.std.specs.Prelude.{◌≡◌, IfErr, IfOk, IfSome, IsSome, map}
 ghost use Rattle.std.specs.Prelude.{codes, option_map};
 ghost use Rattle.clap.specs.Words.{first_of, found_of, kind_of, one_of, rows_of};
 ghost use Rattle.clap.specs.Words.{subcommand_rows_of};
-ghost use Rattle.cli_words.specs.Command.{HasName, IsCommand, IsFlag, IsMet, IsName, IsNumber};
-ghost use Rattle.cli_words.specs.Command.{IsRead, IsRefused, IsTold, which_in, word};
+ghost use Rattle.cli_words.specs.Command.{HasName, IsCommand, IsFlag, IsJob, IsMet, IsName};
+ghost use Rattle.cli_words.specs.Command.{IsNumber, IsRead, IsRefused, IsTold, which_in, word};
 
-use crate::command::{CliFault, Command};
+use crate::command::{CliFault, Command, Job};
 use crate::line::command_line;
 use clap::ArgMatches;
 use clap::error::{Error, ErrorKind};
@@ -51,11 +51,10 @@ fn count(words: &ArgMatches<'_>) -> u32
     }
 }
 
-fn init<'a>(words: &ArgMatches<'a>) -> Command<'a>
-    ensures { IsMet (codes "init") (rows_of (found_of words.now)) result }
+fn init<'a>(words: &ArgMatches<'a>) -> Job<'a>
+    ensures { IsJob (codes "init") (rows_of (found_of words.now)) result }
 {
-    Command::Init {
-        file: word(words, "FILE"),
+    Job::Init {
         owner: word(words, "OWNER"),
         group: word(words, "GROUP"),
     }
@@ -71,11 +70,10 @@ fn serve<'a>(words: &ArgMatches<'a>) -> Command<'a>
     }
 }
 
-fn groups<'a>(words: &ArgMatches<'a>) -> Command<'a>
-    ensures { IsMet (codes "groups") (rows_of (found_of words.now)) result }
+fn groups<'a>(words: &ArgMatches<'a>) -> Job<'a>
+    ensures { IsJob (codes "groups") (rows_of (found_of words.now)) result }
 {
-    Command::Groups {
-        file: word(words, "FILE"),
+    Job::Groups {
         csv: word(words, "CSV"),
     }
 }
@@ -94,22 +92,20 @@ fn all(words: &ArgMatches<'_>) -> bool
     words.get_flag("all")
 }
 
-fn review<'a>(words: &ArgMatches<'a>) -> Command<'a>
-    ensures { IsMet (codes "review") (rows_of (found_of words.now)) result }
+fn review<'a>(words: &ArgMatches<'a>) -> Job<'a>
+    ensures { IsJob (codes "review") (rows_of (found_of words.now)) result }
 {
-    Command::Review {
-        file: word(words, "FILE"),
+    Job::Review {
         path: word(words, "PATH"),
         user: user(words),
         all: all(words),
     }
 }
 
-fn reset<'a>(words: &ArgMatches<'a>) -> Command<'a>
-    ensures { IsMet (codes "reset") (rows_of (found_of words.now)) result }
+fn reset<'a>(words: &ArgMatches<'a>) -> Job<'a>
+    ensures { IsJob (codes "reset") (rows_of (found_of words.now)) result }
 {
-    Command::Reset {
-        file: word(words, "FILE"),
+    Job::Reset {
         path: word(words, "PATH"),
         which: which(words),
     }
@@ -123,16 +119,16 @@ fn met<'a>(name: &str, words: &ArgMatches<'a>) -> Option<Command<'a>>
     let file = word(words, "FILE");
     match name {
         "check" => Some(Command::Check),
-        "init" => Some(init(words)),
         "serve" => Some(serve(words)),
-        "groups" => Some(groups(words)),
-        "review" => Some(review(words)),
-        "reset" => Some(reset(words)),
-        "groups-out" => Some(Command::GroupsOut { file }),
-        "audit" => Some(Command::Audit { file }),
-        "dump" => Some(Command::Dump { file }),
-        "verify" => Some(Command::Verify { file }),
-        "migrate" => Some(Command::Migrate { file }),
+        "init" => Some(Command::On(file, init(words))),
+        "groups" => Some(Command::On(file, groups(words))),
+        "review" => Some(Command::On(file, review(words))),
+        "reset" => Some(Command::On(file, reset(words))),
+        "groups-out" => Some(Command::On(file, Job::GroupsOut)),
+        "audit" => Some(Command::On(file, Job::Audit)),
+        "dump" => Some(Command::On(file, Job::Dump)),
+        "verify" => Some(Command::On(file, Job::Verify)),
+        "migrate" => Some(Command::On(file, Job::Migrate)),
         _ => None,
     }
 }

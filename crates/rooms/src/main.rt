@@ -81,7 +81,7 @@ fn run<S: Start>(rt: &HostRuntime, start: S) -> Result<u8, Stop> {
             &mut rt.stderr(),
         )),
         Command::Serve { file, port, count } => work::serve(rt, start, file, port, count),
-        _ => work::carry_out(rt, start, &command),
+        Command::On(file, job) => work::carry_out(rt, start, file, &job),
     }
 }
 

@@ -1,35 +1,34 @@
 //! The subcommands that need the file of a room.
-ghost use Rattle.std.specs.Prelude.{◌≡◌, ℕ, List, IsSome, false};
-ghost use Rattle.cli_words.specs.Tasks.{task_of};
+ghost use Rattle.std.specs.Prelude.{◌≡◌, false};
 
 use crate::files::{FileConnection, close, connect, make_file, open, take_away};
 use cli_act::act;
 use cli_serve::{NetPorts, Seconds, host};
-use cli_words::{Command, Input, Stop, Task, read_task};
+use cli_words::{Input, Job, Stop, Task, read_task};
 use sqlite_std_file::Start;
 use std::{fs, io};
 
-/// Reads what the subcommand needs, validates it, and carries it out on its file. The error is why
-/// nothing was done.
-pub fn carry_out<S: Start>(rt: &HostRuntime, start: S, command: &Command<'_>) -> Result<u8, Stop>
-    requires { (input : List ℕ) → IsSome (task_of command.now input) }
-{
-    let task = task_for(rt, command)?;
-    let file = command.file().unwrap_or("");
+/// Reads what the job needs, validates it, and carries it out on the file. The error is why nothing
+/// was done.
+pub fn carry_out<S: Start>(
+    rt: &HostRuntime,
+    start: S,
+    file: &str,
+    job: &Job<'_>,
+) -> Result<u8, Stop> {
+    let task = task_for(rt, job)?;
     match task {
         Task::Init(_) => begin(rt, start, file, &task),
-        _ => Ok(work_on(rt, open(rt, file, start)?, &task)),
+        Task::Migrate | Task::OnRoom(_) => Ok(work_on(rt, open(rt, file, start)?, &task)),
     }
 }
 
-// The task, with what the command names as its input.
-fn task_for(rt: &HostRuntime, command: &Command<'_>) -> Result<Task, Stop>
-    requires { (input : List ℕ) → IsSome (task_of command.now input) }
-{
-    match command.input() {
-        Input::Nothing => read_task(rt.alloc(), command, io::empty()),
-        Input::Standard => read_task(rt.alloc(), command, rt.reader()),
-        Input::File(name) => read_task(rt.alloc(), command, fs::open(rt, name)?),
+// The task, with what the job names as its input.
+fn task_for(rt: &HostRuntime, job: &Job<'_>) -> Result<Task, Stop> {
+    match job.input() {
+        Input::Nothing => read_task(rt.alloc(), job, io::empty()),
+        Input::Standard => read_task(rt.alloc(), job, rt.reader()),
+        Input::File(name) => read_task(rt.alloc(), job, fs::open(rt, name)?),
     }
 }
 

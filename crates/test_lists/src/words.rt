@@ -1,7 +1,7 @@
 //! Which words the program takes.
 
 use clap::error::ErrorKind;
-use cli_words::{Command, read_command};
+use cli_words::{Command, Job, read_command};
 use room_ace::{Failure, Which};
 use std::process::Abort;
 use std::test::Fail;
@@ -17,6 +17,15 @@ fn expect_read(
         Err(_) => return Err(Fail::from("the words are refused")),
     }
     Ok(())
+}
+
+// Tests that the words are this job on the file `a.db`.
+fn expect_job(
+    rt: &(impl Abort + AllocGlobal),
+    words: &[&str],
+    wanted: Job<'_>,
+) -> Result<(), Fail> {
+    expect_read(rt, words, Command::On("a.db", wanted))
 }
 
 // What `clap` says of words that it refuses with this kind.
@@ -49,55 +58,46 @@ fn expect_help(rt: &(impl Abort + AllocGlobal), subcommand: &str, line: &str) ->
 
 #[test]
 fn words_of_a_room_are_read(rt: HostRuntime) -> Result<(), Fail> {
-    let init = Command::Init {
-        file: "a.db",
+    let init = Job::Init {
         owner: "alice",
         group: "staff",
     };
-    expect_read(&rt, &["rooms", "init", "a.db", "alice", "staff"], init)?;
-    let groups = Command::Groups {
-        file: "a.db",
-        csv: "g.csv",
-    };
-    expect_read(&rt, &["rooms", "groups", "a.db", "g.csv"], groups)?;
-    let reset = Command::Reset {
-        file: "a.db",
+    expect_job(&rt, &["rooms", "init", "a.db", "alice", "staff"], init)?;
+    let groups = Job::Groups { csv: "g.csv" };
+    expect_job(&rt, &["rooms", "groups", "a.db", "g.csv"], groups)?;
+    let reset = Job::Reset {
         path: "/a b",
         which: Which::Sacl,
     };
-    expect_read(&rt, &["rooms", "reset", "a.db", "/a b", "sacl"], reset)?;
-    let dacl = Command::Reset {
-        file: "a.db",
+    expect_job(&rt, &["rooms", "reset", "a.db", "/a b", "sacl"], reset)?;
+    let dacl = Job::Reset {
         path: "/",
         which: Which::Dacl,
     };
-    expect_read(&rt, &["rooms", "reset", "a.db", "/", "dacl"], dacl)
+    expect_job(&rt, &["rooms", "reset", "a.db", "/", "dacl"], dacl)
 }
 
 #[test]
 fn words_of_a_review_are_read(rt: HostRuntime) -> Result<(), Fail> {
-    let bare = Command::Review {
-        file: "a.db",
+    let bare = Job::Review {
         path: "/a b",
         user: None,
         all: false,
     };
-    expect_read(&rt, &["rooms", "review", "a.db", "/a b"], bare)?;
-    let whole = Command::Review {
-        file: "a.db",
+    expect_job(&rt, &["rooms", "review", "a.db", "/a b"], bare)?;
+    let whole = Job::Review {
         path: "/",
         user: Some("bob"),
         all: true,
     };
     let words = ["rooms", "review", "--all", "a.db", "--user", "bob", "/"];
-    expect_read(&rt, &words, whole)?;
-    let named = Command::Review {
-        file: "a.db",
+    expect_job(&rt, &words, whole)?;
+    let named = Job::Review {
         path: "/",
         user: Some(""),
         all: false,
     };
-    expect_read(&rt, &["rooms", "review", "a.db", "/", "--user="], named)?;
+    expect_job(&rt, &["rooms", "review", "a.db", "/", "--user="], named)?;
     let twice = ["rooms", "review", "a.db", "/", "--user", "a", "--user", "b"];
     told(&rt, &twice, ErrorKind::ArgumentConflict)?;
     Ok(())
@@ -105,17 +105,12 @@ fn words_of_a_review_are_read(rt: HostRuntime) -> Result<(), Fail> {
 
 #[test]
 fn words_of_a_file_are_read(rt: HostRuntime) -> Result<(), Fail> {
-    let file = "a.db";
     expect_read(&rt, &["rooms", "check"], Command::Check)?;
-    expect_read(
-        &rt,
-        &["rooms", "groups-out", file],
-        Command::GroupsOut { file },
-    )?;
-    expect_read(&rt, &["rooms", "audit", file], Command::Audit { file })?;
-    expect_read(&rt, &["rooms", "dump", file], Command::Dump { file })?;
-    expect_read(&rt, &["rooms", "verify", file], Command::Verify { file })?;
-    expect_read(&rt, &["rooms", "migrate", file], Command::Migrate { file })
+    expect_job(&rt, &["rooms", "groups-out", "a.db"], Job::GroupsOut)?;
+    expect_job(&rt, &["rooms", "audit", "a.db"], Job::Audit)?;
+    expect_job(&rt, &["rooms", "dump", "a.db"], Job::Dump)?;
+    expect_job(&rt, &["rooms", "verify", "a.db"], Job::Verify)?;
+    expect_job(&rt, &["rooms", "migrate", "a.db"], Job::Migrate)
 }
 
 // What `serve` is with these numbers.

@@ -1,6 +1,6 @@
 //! Subcommands one after another on a database in memory.
 use cli_act::act;
-use cli_words::{Command, Task, TaskRefusal, judge};
+use cli_words::{Job, Task, TaskRefusal, judge};
 use room_ace::{Failure, Which};
 use sqlite::{Connection, MemStore};
 use std::alloc::Global;
@@ -59,29 +59,23 @@ pub fn fails(before: &'static str, ask: Ask, err: &'static str) -> Step {
 }
 
 pub fn task_of(alloc: Global, ask: Ask) -> Result<Task, Failure<TaskRefusal>> {
-    let file = "room.db";
     match ask {
         Ask::Init => {
             let owner = "root";
             let group = "staff";
-            judge(alloc, &Command::Init { file, owner, group }, &[])
+            judge(alloc, &Job::Init { owner, group }, &[])
         }
-        Ask::Groups(csv) => judge(alloc, &Command::Groups { file, csv: "" }, csv),
-        Ask::GroupsOut => judge(alloc, &Command::GroupsOut { file }, &[]),
-        Ask::Audit => judge(alloc, &Command::Audit { file }, &[]),
-        Ask::Dump => judge(alloc, &Command::Dump { file }, &[]),
+        Ask::Groups(csv) => judge(alloc, &Job::Groups { csv: "" }, csv),
+        Ask::GroupsOut => judge(alloc, &Job::GroupsOut, &[]),
+        Ask::Audit => judge(alloc, &Job::Audit, &[]),
+        Ask::Dump => judge(alloc, &Job::Dump, &[]),
         Ask::Review(path, user) => {
-            let review = Command::Review {
-                file,
-                path,
-                user,
-                all: false,
-            };
-            judge(alloc, &review, &[])
+            let all = false;
+            judge(alloc, &Job::Review { path, user, all }, &[])
         }
-        Ask::Reset(path, which, list) => judge(alloc, &Command::Reset { file, path, which }, list),
-        Ask::Verify => judge(alloc, &Command::Verify { file }, &[]),
-        Ask::Migrate => judge(alloc, &Command::Migrate { file }, &[]),
+        Ask::Reset(path, which, list) => judge(alloc, &Job::Reset { path, which }, list),
+        Ask::Verify => judge(alloc, &Job::Verify, &[]),
+        Ask::Migrate => judge(alloc, &Job::Migrate, &[]),
     }
 }
 
