@@ -2,7 +2,6 @@
 use Rattle.std.specs.Prelude.{ℕ, List, Option}
 use Rattle.cli_act.specs.Outcome.{answer_status, answer_line}
 use Rattle.cli_outcome.specs.Written.{PrintsFault, PrintsText}
-use Rattle.cli_outcome.specs.declared.status.Status.{Status}
 use Rattle.cli_outcome.specs.declared.status.Status.TheVariants as status
 use Rattle.cli_act.specs.declared.outcome.Outcome.{Outcome}
 use Rattle.cli_act.specs.declared.outcome.Outcome.TheVariants as outcome

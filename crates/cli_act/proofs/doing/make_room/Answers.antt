@@ -1,4 +1,4 @@
-use Rattle.std.proofs.Common.{Ok, Err, refl, sym}
+use Rattle.std.proofs.Common.{Ok, Err, refl}
 use Rattle.cli_act.proofs.doing.make_room.Goals as goal
 
 pub returns-in-Ok : goal.returns-in-Ok

@@ -1,4 +1,4 @@
-use Rattle.std.proofs.Common.{Ok, Err, rules}
+use Rattle.std.proofs.Common.{Ok, Err}
 use Rattle.cli_act.proofs.opened.tell_records.Goals as goal
 
 pub returns-in-Ok : goal.returns-in-Ok

@@ -1,4 +1,4 @@
-use Rattle.std.proofs.Common.{inl, inr, refl, sym, ◌∙◌}
+use Rattle.std.proofs.Common.{inl, inr, refl, ◌∙◌}
 use Rattle.cli_act.proofs.Texts.{told_as}
 use Rattle.cli_outcome.proofs.KnownBytes.{writes_none}
 use Rattle.cli_act.proofs.telling.tell_answer.Goals as goal
