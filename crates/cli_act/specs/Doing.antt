@@ -13,7 +13,7 @@ use Rattle.room_inherit.specs.Reading.{IsReport}
 use Rattle.room_rows.specs.declared.report.Report.{Report}
 use Rattle.room_rows.specs.declared.report.Report.TheVariants as report
 use Rattle.room_judge.specs.Judged.{Resets}
-use Rattle.room_machine.specs.Run.{Replaced, WasReset}
+use Rattle.room_machine.specs.Run.{Replaced, WasReset, event_of}
 use Rattle.room_machine.specs.declared.reply.Reply.{Reply}
 use Rattle.room_machine.specs.declared.reply.Reply.TheVariants as reply
 use Rattle.room_review.specs.declared.question.Question.{Question}
@@ -29,7 +29,7 @@ use Rattle.store_schema.specs.declared.fault.CreateFault.TheVariants as creating
 use Rattle.store_schema.specs.declared.fault.MigrateFault.{MigrateFault}
 use Rattle.store_schema.specs.declared.fault.MigrateFault.TheVariants as raising
 use Rattle.store_schema.specs.declared.fault.OpenFault.{OpenFault}
-use Rattle.room_store.specs.Leads.{Leads, event_of}
+use Rattle.room_store.specs.Leads.{Leads}
 use Rattle.room_store.specs.Opens.{Creates, Opens}
 use Rattle.room_store.specs.Ran.{HasDamage, Looked, Ran}
 use Rattle.room_store.specs.Reviews.{IsReviewOf}

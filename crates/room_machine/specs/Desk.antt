@@ -1,11 +1,12 @@
 -- What a desk does at a request, and what it counts.
-use Rattle.std.specs.Prelude.{ℕ, ℤ, Bool, true, false, List, Option, Result, Ok, Err}
+use Rattle.std.specs.Prelude.{ℕ, ℤ, Bool, true, false, List, [], ◌++◌, Option, Result, Ok, Err}
 use Rattle.room_rows.specs.Content.{Content}
 use Rattle.room_rows.specs.Keep.{one_more}
 use Rattle.room_rows.specs.Rows.{Rows}
 use Rattle.room_machine.specs.Closed.{FailsClosed}
 use Rattle.room_machine.specs.declared.reply.Reply.{Reply}
 use Rattle.room_machine.specs.declared.request.Request.{Request}
+use Rattle.room_machine.specs.Run.{Asking, Event}
 use Rattle.room_machine.specs.Step.{Step}
 
 -- A reply is that of a step from the content before to the content after. A fault leaves the
@@ -33,3 +34,13 @@ fault_counted (Err fault) count = one_more count
 abbrev pub Agrees : Type 0 → Type 0 → Bool → Type 0
 Agrees trusted fact true = fact
 Agrees trusted fact false = trusted → ¬ fact
+
+-- What holds of the states of a desk, where a relation says of two of them what was asked for and
+-- got no answer in between, and what happened: nothing between a state and itself, and between a
+-- state and a third one what was asked for, and what happened, up to the second and after it.
+pub record DeskLaws {D : Type 0} (Outlasts : D → List Asking → List Event → D → Type 0)
+    : Type 0 where
+  pub itself : (a : D) → Outlasts a [] [] a
+  pub on : (a b c : D) (asked later : List Asking) (events others : List Event)
+      → Outlasts a asked events b → Outlasts b later others c
+      → Outlasts a (asked ++ later) (events ++ others) c

@@ -1,5 +1,5 @@
 -- Runs of the room machine.
-use Rattle.std.specs.Prelude.{◌≡◌, ℕ, ℤ, List, [], ◌∷◌, ◌++◌, Option}
+use Rattle.std.specs.Prelude.{◌≡◌, ℕ, ℤ, List, [], ◌∷◌, ◌++◌, Option, Result, Ok, Err}
 use Rattle.room_entry.specs.declared.object.Which.{Which}
 use Rattle.room_rows.specs.Content.{Content}
 use Rattle.room_ace.specs.Sent.{Sent}
@@ -13,6 +13,20 @@ pub data Event : Type 0 where
   Asked : Option (List ℕ) → ℤ → Request → Reply → Event
   WasReset : List (List ℕ) → Which → Sent → Reply → Event
   Replaced : List (List ℕ × List ℕ) → Event
+
+-- what a call asks for: what happens if it gets this reply
+abbrev pub Asking : Type 0
+Asking = Reply → Event
+
+-- what happened by a call: no event at a fault
+abbrev pub event_of : {X E : Type 0} → Result X E → (X → Event) → List Event
+event_of (Ok answer) happens = happens answer ∷ []
+event_of (Err fault) happens = []
+
+-- what a call asked for that got no answer
+abbrev pub unanswered : {X E : Type 0} → Result X E → Asking → List Asking
+unanswered (Ok answer) happens = []
+unanswered (Err fault) happens = happens ∷ []
 
 abbrev pub Happens : Content → Event → Content → Type 0
 Happens content (Asked user moment request reply) after =

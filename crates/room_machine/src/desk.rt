@@ -1,9 +1,10 @@
 //! The desk: what answers requests, one step of the room machine for each.
-ghost use Rattle.std.specs.Prelude.{◌≡◌, ℕ, IfOk, OnOk};
+ghost use Rattle.std.specs.Prelude.{◌≡◌, ℕ, List, [], IfOk, OnOk};
 ghost use Rattle.std.specs.Option.{option_copied};
 ghost use Rattle.room_rows.specs.Content.{Content};
 ghost use Rattle.room_rows.specs.Rows.{Rows};
-ghost use Rattle.room_machine.specs.Desk.{Agrees, Closes, Steps, fault_counted};
+ghost use Rattle.room_machine.specs.Desk.{Agrees, Closes, DeskLaws, Steps, fault_counted};
+ghost use Rattle.room_machine.specs.Run.{Asking, Event, event_of, unanswered};
 
 use crate::reply::Reply;
 use crate::request::Request;
@@ -35,6 +36,10 @@ pub trait Desk {
     // How often a call has answered a fault, at most the greatest number of 64 bits.
     ghost faults: { Self → ℕ };
 
+    // From the first state to the second these were asked for and got no answer, and these
+    // happened. A desk that keeps its content on a disk says by it what a power cut leaves of them.
+    ghost Outlasts: { Self → List Asking → List Event → Self → Type 0 };
+
     /// Carries out one request of a caller, who is anonymous without a name, at a moment in seconds
     /// from 1970-01-01 00:00 UTC. A denial or a refusal is a reply. The error is a fault of the
     /// desk, which leaves what is kept as it was. Of damaged rows too, nothing is served, shown or
@@ -53,7 +58,11 @@ pub trait Desk {
         ensures closed { trusted self.new → Closes (stored self.old)
             (option_copied caller.entry) at request.now result (stored self.new) }
         ensures faults { faults self.new ≡ fault_counted result (faults self.old) }
-        ensures shut { shut self.old → shut self.new × (trusted self.new → OnOk result ⊥) };
+        ensures shut { shut self.old → shut self.new × (trusted self.new → OnOk result ⊥) }
+        ensures outlasts { Outlasts self.old
+            (unanswered result (Event.Asked (option_copied caller.entry) at request.now))
+            (event_of result (Event.Asked (option_copied caller.entry) at request.now))
+            self.new };
 
     /// Whether the desk is shut: a fault of its store may have left it so that it answers no
     /// request any more. What it keeps stays as it was. The error is that the desk couldn't find
@@ -66,8 +75,12 @@ pub trait Desk {
         ensures held { trusted self.new → (rows : Rows) → stored self.old rows
             → stored self.new rows }
         ensures faults { faults self.new ≡ fault_counted result (faults self.old) }
-        ensures told { IfOk result (λ told. Agrees (trusted self.new) (shut self.new) told) };
+        ensures told { IfOk result (λ told. Agrees (trusted self.new) (shut self.new) told) }
+        ensures outlasts { Outlasts self.old [] [] self.new };
 
     // There is a content that the desk keeps.
     ghost keeps: { (desk : Self) → (room : Content) × content desk room };
+
+    // What outlasts is said of a state and itself, and of states one after the other.
+    ghost laws: { DeskLaws Outlasts };
 }

@@ -81,6 +81,9 @@ impl Desk for MemDesk {
 
     ghost faults = { λ desk. desk.faults };
 
+    // A power cut leaves nothing of what is in memory, and nothing is promised of it.
+    ghost Outlasts = { λ _ _ _ _. ⊤ };
+
     fn run(
         &mut self,
         alloc: Global,
@@ -105,6 +108,11 @@ impl Desk for MemDesk {
     }
 
     ghost keeps = { λ desk. (content_in desk.keep, refl) };
+
+    ghost laws = { record {
+      itself = λ _. tt;
+      on = λ _ _ _ _ _ _ _ _ _. tt;
+    } };
 }
 
 // One more than the count. At the greatest u64 the count stays there.

@@ -8,5 +8,5 @@ mod Testing
 mod Shutting
 mod Closing
 mod Recalled
-mod Outlasting
+pub mod Outlasting
 mod Reviewed

@@ -1,8 +1,7 @@
 -- What a crash leaves after some calls.
 use Rattle.std.proofs.Common.{◌≡◌, ◌⊎◌, List, [], ◌∷◌, ◌++◌, Result, Ok, Err}
-use Rattle.std.proofs.Common.{IsTrue, inl, inr, refl, sym, subst, ◌∙◌}
+use Rattle.std.proofs.Common.{Bool, IsTrue, inl, inr, refl, sym, subst, ◌∙◌}
 use Rattle.std.proofs.lemmas.Bool.{cases_Bool}
-use Rattle.std.proofs.lemmas.List.{append_assoc, append-nil}
 use Rattle.sqlite_rules.specs.Lists.{Has}
 use Rattle.sqlite.specs.Effect.{Database}
 use Rattle.sqlite.specs.Held.{Held}
@@ -14,19 +13,21 @@ use Rattle.room_rows.specs.Meaning.{meaning}
 use Rattle.room_rows.specs.Rows.{Rows}
 use Rattle.room_rows.specs.Sound.{AreSound}
 use Rattle.room_machine.specs.declared.reply.Reply.{Reply}
-use Rattle.room_machine.specs.Run.{Event, Happens, RunsMeet}
+use Rattle.room_machine.specs.Run.{Asking, Event, Happens, RunsMeet, event_of, unanswered}
 use Rattle.store_tables.specs.Meaning.{rows_of}
 use Rattle.store_tables.specs.Shown.{IsRoom, room_of}
 use Rattle.store_tables.specs.Within.{LeavesAsBefore}
-use Rattle.room_store.specs.Crash.{Asking, HoldsRoom, HoldsRoomAfter, Lasts, Leaves}
-use Rattle.room_store.specs.Crash.{LeavesWhole, LosesNothing, Outlasts, OutlastsOn, Try, all_asked}
-use Rattle.room_store.specs.Crash.{all_happened, left_by, unanswered}
+use Rattle.room_store.specs.Asks.{Asks}
+use Rattle.room_store.specs.Crash.{HoldsRoom, HoldsRoomAfter, Lasts, Leaves, LeavesWhole}
+use Rattle.room_store.specs.Crash.{LosesNothing, Outlasts, OutlastsOn, Try, all_asked}
+use Rattle.room_store.specs.Crash.{all_happened, left_by}
 use Rattle.room_store.specs.Kept.{IsShut, IsSound, Keeps}
-use Rattle.room_store.specs.Leads.{Leads, event_of}
+use Rattle.room_store.specs.Leads.{Leads}
 use Rattle.room_store.specs.Ran.{CommitsAnswer, Ran}
 use Rattle.room_store.specs.declared.fault.StoreFault.{StoreFault}
-use Rattle.room_store.proofs.Leading.{IsEvent, itself, leading, on}
-use Rattle.room_store.proofs.Shutting.{not_shut}
+use Rattle.room_store.specs.Lasting.{nothing_tried, together}
+use Rattle.room_store.proofs.Leading.{IsEvent, leading}
+use Rattle.room_store.proofs.Shutting.{asked_keeps, asked_sound, not_shut}
 
 -- what is seen over an open connection, where a crash leaves that and nothing else
 pub seen_is_left : (s : State) → IsSound s → IsTrue s.is_open → Lasts s → (room : Content)
@@ -193,36 +194,17 @@ idle old new leads crash was_open = record {
       );
 }
 
+-- a test whether the connection is shut
+pub asked_outlasts : (old new : State) (result : Result Bool StoreFault) → Asks old new result
+    → Outlasts old [] [] new
+asked_outlasts old new result asked =
+    idle old new (record {
+      trusted = asked.leaves.clean;
+      sound = asked_sound old new result asked;
+      run = λ now sound room keeps. (room, refl, asked_keeps old new result asked now room keeps);
+    }) asked.crash asked.leaves.was_open
+
 -- ---- over any list of calls
-
-pub together : RunsMeet → (old mid new : State) (asked asked' : List Asking)
-    (events events' : List Event) → Outlasts old asked events mid → Outlasts mid asked' events' new
-    → Outlasts old (asked ++ asked') (events ++ events') new
-together meet old mid new asked asked' events events' p q = record {
-  leads = on meet old mid new events events' p.leads q.leads;
-  leaves = λ now sound room keeps before leaves.
-      let now' = q.leads.trusted now in
-      let one = p.leaves now' sound room keeps before leaves in
-      let two =
-      q.leaves now (p.leads.sound now' sound) one.0 one.2 (before ++ asked) one.3 in (
-        two.0,
-        meet room one.0 two.0 events events' one.1 two.1,
-        two.2,
-        subst (λ (all : List Asking). Leaves all new two.0) (append_assoc before asked asked')
-            two.3,
-      );
-}
-
-pub nothing_tried : (s : State) → Outlasts s [] [] s
-nothing_tried s = record {
-  leads = itself s;
-  leaves = λ _ _ room keeps before leaves. (
-    room,
-    refl,
-    keeps,
-    subst (λ (all : List Asking). Leaves all s room) (sym (append-nil before)) leaves,
-  );
-}
 
 pub all_outlast : {S : Type 0} (shown : Held S → State) → RunsMeet
     → (first : Held S) (calls : List (Try S)) → OutlastsOn shown first calls

@@ -1,5 +1,5 @@
 -- What a crash leaves of a room: what was answered, and of what wasn't, all or nothing.
-use Rattle.std.specs.Prelude.{◌≡◌, ◌⊎◌, List, [], ◌∷◌, ◌++◌, Result, Ok, Err, IsTrue}
+use Rattle.std.specs.Prelude.{◌≡◌, ◌⊎◌, List, [], ◌∷◌, ◌++◌, IsTrue}
 use Rattle.sqlite_rules.specs.Lists.{Has}
 use Rattle.sqlite.specs.Effect.{Database, IsDatabase}
 use Rattle.sqlite.specs.Held.{Held}
@@ -8,7 +8,7 @@ use Rattle.sqlite.specs.Tree.{Trees}
 use Rattle.room_rows.specs.Content.{Content}
 use Rattle.room_rows.specs.Meaning.{meaning}
 use Rattle.room_rows.specs.Sound.{AreSound}
-use Rattle.room_machine.specs.Run.{Event, Happens, Run}
+use Rattle.room_machine.specs.Run.{Asking, Event, Happens, Run}
 use Rattle.room_machine.specs.declared.reply.Reply.{Reply}
 use Rattle.store_tables.specs.Meaning.{rows_of}
 use Rattle.store_tables.specs.Shown.{IsRoom}
@@ -40,10 +40,6 @@ LosesNothing old events new = HasCleanDisk new → IsSound old → IsTrue new.is
     → (room : Content) → Keeps old room
     → (db : Trees) → new.may_leave db → (next : Content) × Run room events next × HoldsRoom next db
 
--- what a call asks for: what happens if it gets this reply
-abbrev pub Asking : Type 0
-Asking = Reply → Event
-
 -- This asking and no more happened after that content, whatever its reply.
 abbrev pub HoldsRoomAfter : Content → Trees → Asking → Type 0
 HoldsRoomAfter room db happens = (reply : Reply) × (next : Content)
@@ -54,11 +50,6 @@ HoldsRoomAfter room db happens = (reply : Reply) × (next : Content)
 abbrev pub Leaves : List Asking → State → Content → Type 0
 Leaves asked s room = (db : Trees) → s.may_leave db → HoldsRoom room db
     ⊎ (IsShut s × (happens : Asking) × Has asked happens × HoldsRoomAfter room db happens)
-
--- what a call asked for that got no answer
-abbrev pub unanswered : {X E : Type 0} → Result X E → Asking → List Asking
-unanswered (Ok answer) happens = []
-unanswered (Err fault) happens = happens ∷ []
 
 -- From one state to a later one these things happened, and these were asked for and got no answer.
 -- A crash leaves all of the first, and at most one of the others.

@@ -23,6 +23,7 @@ ghost use Rattle.store_admin.specs.Operating.{
 };
 
 use crate::fault::StoreFault;
+use crate::laws::what_is_committed_lasts;
 use crate::look::test_shut;
 use crate::operating::{audits_on, dump_on, members_on, replace_on};
 use crate::resetting::reset_on;
@@ -181,8 +182,7 @@ impl<S: Alter> Room<S> {
     pub(crate) fn lasts(&self)
         ensures { Lasts (state S.Store self.now) }
     {
-        let _schema = self.conn.schema();
-        let _settled = self.conn.is_autocommit();
+        what_is_committed_lasts(&self.conn);
     }
 
     pub(crate) fn into_conn(self) -> Connection<S>

@@ -188,6 +188,8 @@ impl Desk for FaultyDesk {
 
     ghost faults = { λ s. s.faults };
 
+    ghost Outlasts = { λ _ _ _ _. ⊤ };
+
     fn run(
         &mut self,
         _alloc: Global,
@@ -204,6 +206,11 @@ impl Desk for FaultyDesk {
     }
 
     ghost keeps = { λ s. (content_in s.desk.keep, refl) };
+
+    ghost laws = { record {
+      itself = λ _. tt;
+      on = λ _ _ _ _ _ _ _ _ _. tt;
+    } };
 }
 
 #[test]

@@ -2,7 +2,7 @@ use Rattle.std.proofs.Common.{Err, refl}
 use Rattle.room_store.specs.declared.fault.StoreFault.TheVariants.{Memory}
 use Rattle.cli_act.proofs.Unrun.{unlooked}
 use Rattle.cli_act.proofs.opened.review.Goals as goal
-use Rattle.room_store.proofs.Leading.{itself}
+use Rattle.room_store.specs.Lasting.{itself}
 
 pub returns-in-Err : goal.returns-in-Err
 returns-in-Err g c =

@@ -1,4 +1,5 @@
 use Rattle.sqlite.specs.Held.{state}
+use Rattle.room_store.proofs.Outlasting.{asked_outlasts}
 use Rattle.room_store.proofs.Shutting.{asked_keeps, asked_sound, asked_stored}
 use Rattle.room_store.proofs.desk.StoreDesk.is_shut.Goals as goal
 
@@ -30,4 +31,14 @@ returns-in-Ok-clause-held g c =
 pub returns-in-Err-clause-held : goal.returns-in-Err-clause-held
 returns-in-Err-clause-held g c =
     asked_stored (state g.S.Store c.args.self.now.conn) (state g.S.Store c.is_shut.new.self) _
+    c.is_shut.ensures
+
+pub returns-in-Ok-clause-outlasts : goal.returns-in-Ok-clause-outlasts
+returns-in-Ok-clause-outlasts g c =
+    asked_outlasts (state g.S.Store c.args.self.now.conn) (state g.S.Store c.is_shut.new.self) _
+    c.is_shut.ensures
+
+pub returns-in-Err-clause-outlasts : goal.returns-in-Err-clause-outlasts
+returns-in-Err-clause-outlasts g c =
+    asked_outlasts (state g.S.Store c.args.self.now.conn) (state g.S.Store c.is_shut.new.self) _
     c.is_shut.ensures
