@@ -1,10 +1,12 @@
--- Runs over what a desk kept at several moments.
+-- Runs over what a desk kept at several moments, and what outlasts them.
 use Rattle.std.proofs.Common.{ℤ, List, [], ◌++◌, subst, sym, refl}
 use Rattle.std.specs.List.{flat_map}
 use Rattle.std.proofs.lemmas.Grind.{flat_map-append}
 use Rattle.room_rows.specs.Content.{Content}
-use Rattle.room_machine.specs.Run.{Event}
-use Rattle.room_http.specs.Stream.{Exchange, event_at, RunsExchanges, Runs}
+use Rattle.room_machine.specs.declared.desk.Desk.{Ghosts}
+use Rattle.room_machine.specs.Desk.{DeskLaws}
+use Rattle.room_machine.specs.Run.{Asking, Event}
+use Rattle.room_http.specs.Stream.{Exchange, event_at, events_by, RunsExchanges, Runs}
 use Rattle.room_machine.proofs.Meeting.{meet}
 
 pub Runs-then : (old mid new : Content → Type 0) (events others : List Event)
@@ -24,3 +26,13 @@ Leads-then old mid new at xs ys first then =
     subst (λ (events : List Event). Runs old events new)
     (sym (flat_map-append (event_at at) xs ys))
     (Runs-then old mid new (flat_map (event_at at) xs) (flat_map (event_at at) ys) first then)
+
+-- of two parts of a connection, of which only the second may have a request without an answer
+pub Outlasts-then : {D : Type 0} (d : Ghosts D) → DeskLaws d.Outlasts → (old mid new : D) (at : ℤ)
+    (xs ys : List Exchange) (asked : List Asking) → d.Outlasts old [] (events_by at xs) mid
+    → d.Outlasts mid asked (events_by at ys) new
+    → d.Outlasts old asked (events_by at (xs ++ ys)) new
+Outlasts-then d laws old mid new at xs ys asked first then =
+    subst (λ (events : List Event). d.Outlasts old asked events new)
+    (sym (flat_map-append (event_at at) xs ys))
+    (laws.on old mid new [] asked (events_by at xs) (events_by at ys) first then)

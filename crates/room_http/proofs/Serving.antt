@@ -5,7 +5,10 @@ use Rattle.std.proofs.lemmas.List.{append-nil, length-append}
 use Rattle.std.proofs.lemmas.List.Elements.{All-append, All-nil, All-from_recursion}
 use Rattle.std.proofs.lemmas.Grind.{flat_map-append}
 use Rattle.std.specs.Io.KnownBytes.{Appends}
-use Rattle.room_http.proofs.Runs.{Leads-then, Runs-none}
+use Rattle.room_machine.specs.declared.desk.Desk.{Ghosts}
+use Rattle.room_machine.specs.Desk.{DeskLaws}
+use Rattle.room_machine.specs.Run.{Asking}
+use Rattle.room_http.proofs.Runs.{Leads-then, Outlasts-then, Runs-none}
 use Rattle.room_http.specs.declared.ended.Cause.{Cause}
 use Rattle.room_http.specs.declared.ended.Ended.{Ended}
 use Rattle.room_http.specs.declared.ended.ServeFault.{ServeFault}
@@ -13,15 +16,18 @@ use Rattle.room_http.specs.declared.server.Halt.{Halt}
 use Rattle.room_http.specs.Limits.{max_messages}
 use Rattle.room_http.specs.Message.{print_message}
 use Rattle.room_http.specs.Stream.{Exchange, IsOpen, exchange_text, bytes_of, texts_of, last_text}
-use Rattle.room_http.specs.Stream.{Last, last_exchange, RunsExchanges, EndsStream}
-use Rattle.room_http.specs.Serve.{Seen, Blames, FaultsRose, Serves, Stops, Connects, Next}
-use Rattle.room_http.specs.Serve.{next_text, next_exchange, IsNext, NextRose, NearLast, NearNext}
+use Rattle.room_http.specs.Stream.{Last, events_by, last_asking, last_exchange, RunsExchanges}
+use Rattle.room_http.specs.Stream.{EndsStream}
+use Rattle.room_http.specs.Serve.{Snapshot, Blames, FaultsRose, Serves, Stops, Connects, Next}
+use Rattle.room_http.specs.Serve.{next_asking, next_exchange, next_text, IsNext, NextRose}
+use Rattle.room_http.specs.Serve.{NearLast, NearNext}
 use Rattle.room_http.specs.Turn.{Along, TurnsOpen, TurnsLast, TurnsStop}
 use Rattle.room_http.proofs.KnownBytes.{Consumes-then, Consumes-none}
 use Rattle.room_entry.proofs.Facts.KnownBytes.{Appends-then, Appends-none}
 
-pub Along-begin : (holds : Type 0) (at : ℤ) (old : Seen) → Along holds at 0 old old []
-Along-begin holds at old = record {
+pub Along-begin : {D : Type 0} (d : Ghosts D) → DeskLaws d.Outlasts → (at : ℤ)
+    (old : Snapshot D) → Along d at 0 old old []
+Along-begin d laws at old = record {
   read = [];
   exchanges = [];
   reads = Consumes-none old.left;
@@ -30,8 +36,9 @@ Along-begin holds at old = record {
   few = omega arith;
   near = omega arith;
   writes = Appends-none old.sent;
-  run = λ s. Runs-none old.content;
+  run = λ _ _. Runs-none (d.content old.desk);
   faults = refl;
+  outlasts = laws.itself old.desk;
 }
 
 -- the bytes of one more exchange
@@ -47,41 +54,6 @@ bytes-then read buf more after xs x whole came =
     ∙ sym (append_assoc (bytes_of xs) (print x) after)
     ∙ ap (λ t. t ++ after) (sym one)
 
-pub Along-then : (so_far one all : Type 0) (at : ℤ) (n : ℕ) (old mid new : Seen)
-    (buf after : List ℕ)
-    → Along so_far at n old mid buf → (all → so_far) → (all → one)
-    → TurnsOpen one at n mid new buf after
-    → Along all at (n + 1) old new after
-Along-then so_far one all at n old mid new buf after a f s t =
-    let xs = a.exchanges in
-    let x = t.x in
-    let text : List ℕ = exchange_text false x in
-    let one : texts_of (xs ++ x ∷ []) ≡ texts_of xs ++ text =
-    flat_map-append (exchange_text false) xs (x ∷ [])
-    ∙ ap (λ k. texts_of xs ++ k) (append-nil text) in
-    let W : List ℕ → Type 0 = λ k. Appends old.sent new.sent k in
-    record {
-      read = a.read ++ t.came.0;
-      exchanges = xs ++ x ∷ [];
-      reads = Consumes-then old.left mid.left new.left a.read t.came.0 a.reads t.came.1;
-      opens = record {
-        whole = bytes-then a.read buf t.came.0 after xs x a.opens.whole t.came.2;
-        each =
-            All-append IsOpen xs (x ∷ []) a.opens.each
-            (All-from_recursion IsOpen (x ∷ []) (t.is_open, tt));
-      };
-      few = t.more;
-      near = t.near;
-      count = ap (λ k. k + 1) a.count ∙ sym (length-append xs (x ∷ []));
-      writes =
-          subst W (sym one) (Appends-then old.sent mid.sent new.sent
-          (texts_of xs) text a.writes t.writes);
-      run =
-          λ q. Leads-then old.content mid.content new.content at xs (x ∷ []) (a.run (f q))
-          (t.run (s q));
-      faults = t.faults ∙ a.faults;
-    }
-
 -- the bytes of what ends the connection
 bytes-last : (read buf more rest : List ℕ) (xs : List Exchange)
     → read ≡ bytes_of xs ++ buf → rest ≡ buf ++ more → read ++ more ≡ bytes_of xs ++ rest
@@ -89,84 +61,127 @@ bytes-last read buf more rest xs whole came =
     ap (λ t. t ++ more) whole ∙ append_assoc (bytes_of xs) buf more
     ∙ ap (λ t. bytes_of xs ++ t) (sym came)
 
-pub Serves-from : (so_far one all : Type 0) (at : ℤ) (n : ℕ) (old mid new : Seen) (buf : List ℕ)
-    (ended : Ended)
-    → Along so_far at n old mid buf → (all → so_far) → (all → one)
-    → TurnsLast one at n mid new buf ended
-    → Serves all at old new ended
-Serves-from so_far one all at n old mid new buf ended a f s t =
-    let F : ℕ → Type 0 = λ f. FaultsRose t.last f new.faults in
-    let E : ℕ → Type 0 = λ k. EndsStream t.rest k t.last in
-    record {
-      read = a.read ++ t.came.0;
-      exchanges = a.exchanges;
-      last = t.last;
-      reads = Consumes-then old.left mid.left new.left a.read t.came.0 a.reads t.came.1;
-      stream = record {
-        rest = t.rest;
-        opens =
-            record {
-              whole =
-                  bytes-last a.read buf t.came.0 t.rest a.exchanges a.opens.whole t.came.2;
-              each =
-                  a.opens.each;
-            };
-        few = subst (λ k. k < max_messages) a.count a.few;
-        ends = subst E a.count t.ends;
-      };
-      near = t.near;
-      writes =
-          Appends-then old.sent mid.sent new.sent (texts_of a.exchanges)
-          (last_text t.last) a.writes t.writes;
-      ended_is = t.is;
-      at_end = t.at_end;
-      run =
-          λ q. Leads-then old.content mid.content new.content at a.exchanges (last_exchange t.last)
-          (a.run (f q)) (t.run (s q));
-      faults = subst F a.faults t.faults;
-    }
+-- a connection so far, and what its desk keeps to from then on
+module _ {D : Type 0} (d : Ghosts D) (laws : DeskLaws d.Outlasts) (at : ℤ) (n : ℕ)
+    (old mid new : Snapshot D) (buf : List ℕ) (a : Along d at n old mid buf)
+    (trusted : d.trusted new.desk → d.trusted mid.desk)
+    (sound : d.trusted mid.desk → d.sound old.desk → d.sound mid.desk) where
+  run-then : (ys : List Exchange)
+      → (d.trusted new.desk → d.sound mid.desk
+      → RunsExchanges (d.content mid.desk) at ys (d.content new.desk))
+      → d.trusted new.desk → d.sound old.desk
+      → RunsExchanges (d.content old.desk) at (a.exchanges ++ ys) (d.content new.desk)
+  run-then ys run t s =
+      Leads-then (d.content old.desk) (d.content mid.desk) (d.content new.desk) at a.exchanges ys
+      (a.run (trusted t) s) (run t (sound (trusted t) s))
 
-pub Stops-from : (so_far one all : Type 0) (at : ℤ) (n : ℕ) (old mid new : Seen) (buf : List ℕ)
-    (stop : Halt) (fault : ServeFault)
-    → fault.answered ≡ n → fault.acted ≡ stop.acted → fault.cause ≡ stop.cause
-    → Along so_far at n old mid buf → (all → so_far) → (all → one)
-    → TurnsStop one at n mid new buf stop
-    → Stops all at old new fault
-Stops-from so_far one all at n old mid new buf stop fault answered acted cause a f s t =
-    let N : ℕ → Type 0 = λ k. IsNext t.rest k t.next in
-    let F : ℕ → Type 0 = λ f. NextRose t.next f new.faults in
-    record {
-      connects = record {
+  outlasts-then : (ys : List Exchange) (asked : List Asking)
+      → d.Outlasts mid.desk asked (events_by at ys) new.desk
+      → d.Outlasts old.desk asked (events_by at (a.exchanges ++ ys)) new.desk
+  outlasts-then ys asked then =
+      Outlasts-then d laws old.desk mid.desk new.desk at a.exchanges ys asked a.outlasts then
+
+  pub Along-then : (after : List ℕ) → TurnsOpen d at n mid new buf after
+      → Along d at (n + 1) old new after
+  Along-then after t =
+      let xs = a.exchanges in
+      let x = t.x in
+      let text : List ℕ = exchange_text false x in
+      let one : texts_of (xs ++ x ∷ []) ≡ texts_of xs ++ text =
+      flat_map-append (exchange_text false) xs (x ∷ [])
+      ∙ ap (λ k. texts_of xs ++ k) (append-nil text) in
+      let W : List ℕ → Type 0 = λ k. Appends old.sent new.sent k in
+      record {
+        read = a.read ++ t.came.0;
+        exchanges = xs ++ x ∷ [];
+        reads = Consumes-then old.left mid.left new.left a.read t.came.0 a.reads t.came.1;
+        opens = record {
+          whole = bytes-then a.read buf t.came.0 after xs x a.opens.whole t.came.2;
+          each =
+              All-append IsOpen xs (x ∷ []) a.opens.each
+              (All-from_recursion IsOpen (x ∷ []) (t.is_open, tt));
+        };
+        few = t.more;
+        near = t.near;
+        count = ap (λ k. k + 1) a.count ∙ sym (length-append xs (x ∷ []));
+        writes =
+            subst W (sym one) (Appends-then old.sent mid.sent new.sent
+            (texts_of xs) text a.writes t.writes);
+        run = run-then (x ∷ []) t.run;
+        faults = t.faults ∙ a.faults;
+        outlasts = outlasts-then (x ∷ []) [] t.outlasts;
+      }
+
+  pub Serves-from : (ended : Ended) → TurnsLast d at n mid new buf ended → Serves d at old new ended
+  Serves-from ended t =
+      let F : ℕ → Type 0 = λ f. FaultsRose t.last f (d.faults new.desk) in
+      let E : ℕ → Type 0 = λ k. EndsStream t.rest k t.last in
+      record {
         read = a.read ++ t.came.0;
         exchanges = a.exchanges;
-        next = t.next;
-        rest = t.rest;
+        last = t.last;
         reads = Consumes-then old.left mid.left new.left a.read t.came.0 a.reads t.came.1;
-        opens =
-            record {
-              whole =
-                  bytes-last a.read buf t.came.0 t.rest a.exchanges a.opens.whole t.came.2;
-              each =
-                  a.opens.each;
-            };
-        few = subst (λ k. k < max_messages) a.count a.few;
-        is_next = subst N a.count t.is_next;
+        stream = record {
+          rest = t.rest;
+          opens =
+              record {
+                whole =
+                    bytes-last a.read buf t.came.0 t.rest a.exchanges a.opens.whole t.came.2;
+                each =
+                    a.opens.each;
+              };
+          few = subst (λ k. k < max_messages) a.count a.few;
+          ends = subst E a.count t.ends;
+        };
         near = t.near;
-        begun = t.writes.0;
-        beginning = (t.writes.1, t.writes.2);
         writes =
-            Appends-then old.sent mid.sent new.sent
-            (texts_of a.exchanges) t.writes.0 a.writes t.writes.3;
-        run =
-            λ q. Leads-then old.content mid.content new.content at a.exchanges
-            (next_exchange t.next) (a.run (f q)) (t.run (s q));
+            Appends-then old.sent mid.sent new.sent (texts_of a.exchanges)
+            (last_text t.last) a.writes t.writes;
+        ended_is = t.is;
+        at_end = t.at_end;
+        run = run-then (last_exchange t.last) t.run;
         faults = subst F a.faults t.faults;
-      };
-      answered = answered ∙ a.count;
-      acted = acted ∙ t.acted;
-      cause =
-          subst (λ (k : Cause). Blames k t.next t.rest t.writes.0 t.writes.1) (sym cause) t.cause;
-    }
+        outlasts = outlasts-then (last_exchange t.last) (last_asking at t.last) t.outlasts;
+      }
+
+  pub Stops-from : (stop : Halt) (fault : ServeFault) → fault.answered ≡ n
+      → fault.acted ≡ stop.acted → fault.cause ≡ stop.cause → TurnsStop d at n mid new buf stop
+      → Stops d at old new fault
+  Stops-from stop fault answered acted cause t =
+      let N : ℕ → Type 0 = λ k. IsNext t.rest k t.next in
+      let F : ℕ → Type 0 = λ f. NextRose t.next f (d.faults new.desk) in
+      record {
+        connects = record {
+          read = a.read ++ t.came.0;
+          exchanges = a.exchanges;
+          next = t.next;
+          rest = t.rest;
+          reads = Consumes-then old.left mid.left new.left a.read t.came.0 a.reads t.came.1;
+          opens =
+              record {
+                whole =
+                    bytes-last a.read buf t.came.0 t.rest a.exchanges a.opens.whole t.came.2;
+                each =
+                    a.opens.each;
+              };
+          few = subst (λ k. k < max_messages) a.count a.few;
+          is_next = subst N a.count t.is_next;
+          near = t.near;
+          begun = t.writes.0;
+          beginning = (t.writes.1, t.writes.2);
+          writes =
+              Appends-then old.sent mid.sent new.sent
+              (texts_of a.exchanges) t.writes.0 a.writes t.writes.3;
+          run = run-then (next_exchange t.next) t.run;
+          faults = subst F a.faults t.faults;
+          outlasts = outlasts-then (next_exchange t.next) (next_asking at t.next) t.outlasts;
+        };
+        answered = answered ∙ a.count;
+        acted = acted ∙ t.acted;
+        cause =
+            subst (λ (k : Cause). Blames k t.next t.rest t.writes.0 t.writes.1) (sym cause)
+            t.cause;
+      }
 
 -- ---- however it ended
 
@@ -207,6 +222,13 @@ next-exchange-of (Last.Refused refusal) = refl
 next-exchange-of (Last.Closing x) = refl
 next-exchange-of (Last.Failed m) = refl
 
+next-asking-of : (at : ℤ) (last : Last) → last_asking at last ≡ next_asking at (next_of last)
+next-asking-of at Last.Clean = refl
+next-asking-of at Last.Cut = refl
+next-asking-of at (Last.Refused refusal) = refl
+next-asking-of at (Last.Closing x) = refl
+next-asking-of at (Last.Failed m) = refl
+
 next-rose-of : (last : Last) (old new : ℕ) → FaultsRose last old new
     → NextRose (next_of last) old new
 next-rose-of Last.Clean old new f = f
@@ -215,11 +237,13 @@ next-rose-of (Last.Refused refusal) old new f = f
 next-rose-of (Last.Closing x) old new f = f
 next-rose-of (Last.Failed m) old new f = f
 
-pub served-connects : (holds : Type 0) (at : ℤ) (old new : Seen) (ended : Ended)
-    → Serves holds at old new ended → Connects holds at old new
-served-connects holds at old new ended s =
-    let L : List Exchange → Type 0 = λ ys. RunsExchanges old.content at
-    (s.exchanges ++ ys) new.content in
+pub served-connects : {D : Type 0} (d : Ghosts D) (at : ℤ) (old new : Snapshot D) (ended : Ended)
+    → Serves d at old new ended → Connects d at old new
+served-connects d at old new ended s =
+    let L : List Exchange → Type 0 = λ ys. RunsExchanges (d.content old.desk) at
+    (s.exchanges ++ ys) (d.content new.desk) in
+    let O : List Asking → List Exchange → Type 0 = λ asked ys. d.Outlasts old.desk asked
+    (events_by at (s.exchanges ++ ys)) new.desk in
     record {
       read = s.read;
       exchanges = s.exchanges;
@@ -233,6 +257,9 @@ served-connects holds at old new ended s =
       begun = last_text s.last;
       beginning = ([], next-text-of s.last ∙ sym (append-nil (last_text s.last)));
       writes = s.writes;
-      run = λ h. subst L (next-exchange-of s.last) (s.run h);
-      faults = next-rose-of s.last old.faults new.faults s.faults;
+      run = λ t q. subst L (next-exchange-of s.last) (s.run t q);
+      faults = next-rose-of s.last (d.faults old.desk) (d.faults new.desk) s.faults;
+      outlasts =
+          subst (λ asked. O asked (next_exchange (next_of s.last))) (next-asking-of at s.last)
+          (subst (O (last_asking at s.last)) (next-exchange-of s.last) s.outlasts);
     }

@@ -4,20 +4,19 @@ use Rattle.std.proofs.Common.{min, refl, inl, inr, sym, ap, subst, ◌∙◌, ar
 use Rattle.std.proofs.Common.{Result, Ok, Err}
 use Rattle.std.specs.Io.KnownBytes.{Appends}
 use Rattle.std.proofs.lemmas.Bool.{cases_lt}
+use Rattle.room_machine.specs.declared.desk.Desk.{Ghosts}
 use Rattle.room_machine.specs.declared.reply.Reply.{Reply}
+use Rattle.room_machine.specs.Desk.{DeskLaws}
 use Rattle.http_message.specs.declared.fault.HttpFault.{HttpFault}
-use Rattle.http_message.specs.Asked as message
-use Rattle.http_message.specs.Reply.{reply_text, fault_text}
 use Rattle.room_http.specs.Message.{Asked}
 use Rattle.room_http.specs.Answer.{Stepped, ActedIf, AnswersMessage, Delivers, JoinsText}
-use Rattle.room_http.specs.Answer.{KeepsContent, Responds, SendsRefusal, TellsReply, Rose}
+use Rattle.room_http.specs.Answer.{Responds, SendsRefusal, TellsReply, Rose}
 use Rattle.room_http.specs.declared.told.Answer.{Answer}
 use Rattle.room_http.specs.declared.told.Response.{Response}
 use Rattle.room_http.specs.declared.told.Lost.{Lost}
-use Rattle.room_rows.specs.Content.{Content}
 use Rattle.room_http.specs.Stream.{Agrees, answer_text, events_at, Runs}
 use Rattle.room_http.specs.Text.{store_text}
-use Rattle.room_http.specs.Serve.{Seen, BlamesText, BlamesWriter}
+use Rattle.room_http.specs.Serve.{BlamesText, BlamesWriter}
 use Rattle.room_http.specs.Turn.{WritesPart}
 use Rattle.room_http.specs.Tell.{Replies, Begun, IsBegun, StopsFault, StopsWithin}
 use Rattle.room_http.specs.declared.ended.Cause.{Cause}
@@ -32,119 +31,101 @@ rose-by old new (inr le) e = inr le
 pub rose : (old new : ℕ) → new ≡ min (old + 1) (2 ^ 64 - 1) → Rose old new
 rose old new e = rose-by old new (cases_lt old (2 ^ 64 - 1)) e
 
--- the desk took the step, and its reply is the text
-pub responds-by : (holds : Type 0) (at : ℤ) (close : Bool) (asked : Asked)
-    (old new : Content → Type 0) (before after : ℕ) (reply : Reply)
-    → Stepped holds at old new asked reply → after ≡ before
-    → (result : Result Response Lost) → Delivers reply close result
-    → Responds holds at close asked old new before after result
-responds-by holds at close asked old new before after reply s same (Ok (Response.Refused text)) d =
-    absurd d
-responds-by holds at close asked old new before after reply s same (Ok (Response.Replied text)) d =
-    ((reply, s, d), same)
-responds-by holds at close asked old new before after reply s same (Ok Response.Fault) d = absurd d
-responds-by holds at close asked old new before after reply s same (Err lost) d =
-    (subst (λ (a : Bool). ActedIf a holds at old new asked) (sym d) (reply, s), same)
+nothing-sent : (sent sent' : Option (List ℕ)) → sent' ≡ sent → Appends sent sent' []
+nothing-sent sent sent' e =
+    subst (λ (s : Option (List ℕ)). Appends sent s []) (sym e) (Appends-none sent)
 
--- the same where the text is put together
-pub joined-answers : (holds : Type 0) (at : ℤ) (close : Bool) (asked : Asked)
-    (old new : Content → Type 0) (before after : ℕ) (text : List ℕ)
-    → TellsReply holds at close asked old new text × (after ≡ before)
-    → (result : Result Answer Lost) → JoinsText text result
-    → AnswersMessage holds at close asked old new before after result
-joined-answers holds at close asked old new before after text tells (Ok (Answer.Text whole)) j =
-    (inr (tells.0.0, tells.0.1, j ∙ tells.0.2), tells.1)
-joined-answers holds at close asked old new before after text tells (Ok Answer.Fault) j = absurd j
-joined-answers holds at close asked old new before after text tells (Err lost) j =
-    (subst (λ (a : Bool). ActedIf a holds at old new asked) (sym j) (tells.0.0, tells.0.1), tells.1)
+module _ {D : Type 0} (d : Ghosts D) (at : ℤ) (old new : D) where
+  -- the desk took the step, and its reply is the text
+  pub responds-by : (close : Bool) (asked : Asked) (reply : Reply)
+      → Stepped d at old new asked reply → (result : Result Response Lost)
+      → Delivers reply close result → Responds d at old new close asked result
+  responds-by close asked reply s (Ok (Response.Refused text)) b = absurd b
+  responds-by close asked reply s (Ok (Response.Replied text)) b = (reply, s, b)
+  responds-by close asked reply s (Ok Response.Fault) b = absurd b
+  responds-by close asked reply s (Err lost) b =
+      subst (λ (a : Bool). ActedIf d at old new a asked) (sym b) (reply, s)
 
--- of a message that a test refuses
-pub replies-refused : (holds : Type 0) (at : ℤ) (asked : Asked) (old new : Seen) (fault : HttpFault)
-    → asked ≡ Err fault → KeepsContent old.content new.content → new.faults ≡ old.faults
-    → Replies holds at asked old new None
-replies-refused holds at asked old new fault e same faults =
-    let A : Asked → Type 0 = λ a. Agrees a None in
-    let R : Asked → Type 0 = λ a. Runs old.content (events_at at a None) new.content in
-    record {
-      agrees = subst A (sym e) tt;
-      run = λ s. subst R (sym e) (λ room is. (room, refl, same room is));
-      faults = faults;
-    }
+  -- the same where the text is put together
+  pub joined-answers : (close : Bool) (asked : Asked) (text : List ℕ)
+      → TellsReply d at old new close asked text → (result : Result Answer Lost)
+      → JoinsText text result → AnswersMessage d at old new close asked result
+  joined-answers close asked text tells (Ok (Answer.Text whole)) j =
+      inr (tells.0, tells.1, j ∙ tells.2)
+  joined-answers close asked text tells (Ok Answer.Fault) j = absurd j
+  joined-answers close asked text tells (Err lost) j =
+      subst (λ (a : Bool). ActedIf d at old new a asked) (sym j) (tells.0, tells.1)
 
--- of the desk
-pub replies-stepped : (holds : Type 0) (at : ℤ) (asked : Asked) (old new : Seen) (reply : Reply)
-    → Stepped holds at old.content new.content asked reply → new.faults ≡ old.faults
-    → Replies holds at asked old new (Some reply)
-replies-stepped holds at asked old new reply s faults =
-    let A : Asked → Type 0 = λ a. Agrees a (Some reply) in
-    let R : Asked → Type 0 = λ a. Runs old.content (events_at at a (Some reply)) new.content in
-    record {
-      agrees = subst A (sym s.asks) tt;
-      run =
-          λ q. subst R (sym s.asks)
-          (λ room is. let one = s.step q room is in (one.0, (one.0, one.1, refl), one.2));
-      faults = faults;
-    }
+  -- of a message that a test refuses
+  replies-refused : DeskLaws d.Outlasts → (asked : Asked) (fault : HttpFault) → asked ≡ Err fault
+      → new ≡ old → Replies d at old new asked None
+  replies-refused laws asked fault e same =
+      let A : Asked → Type 0 = λ a. Agrees a None in
+      let R : Asked → Type 0 = λ a. Runs (d.content old) (events_at at a None) (d.content old) in
+      let O : Asked → Type 0 = λ a. d.Outlasts old [] (events_at at a None) old in
+      subst (λ (desk : D). Replies d at old desk asked None) (sym same)
+      (record {
+        agrees = subst A (sym e) tt;
+        run = λ _ _. subst R (sym e) (λ room is. (room, refl, is));
+        faults = refl;
+        outlasts = subst O (sym e) (laws.itself old);
+      })
 
-pub text-refused : (close : Bool) (asked : Asked) (fault : HttpFault) → asked ≡ Err fault
-    → fault_text fault close ≡ answer_text close asked None
-text-refused close asked fault e = ap (λ a. answer_text close a None) (sym e)
+  -- of the desk
+  replies-stepped : (asked : Asked) (reply : Reply) → Stepped d at old new asked reply
+      → Replies d at old new asked (Some reply)
+  replies-stepped asked reply s =
+      let A : Asked → Type 0 = λ a. Agrees a (Some reply) in
+      let R : Asked → Type 0 = λ a.
+      Runs (d.content old) (events_at at a (Some reply)) (d.content new) in
+      let O : Asked → Type 0 = λ a. d.Outlasts old [] (events_at at a (Some reply)) new in
+      record {
+        agrees = subst A (sym s.asks) tt;
+        run =
+            λ t q. subst R (sym s.asks)
+            (λ room is. let one = s.step t q room is in (one.0, (one.0, one.1, refl), one.2));
+        faults = s.faults;
+        outlasts = subst O (sym s.asks) s.outlasts;
+      }
 
-pub text-stepped : (close : Bool) (asked : Asked) (call : message.UserRequest) (reply : Reply)
-    → asked ≡ Ok call
-    → reply_text reply close ≡ answer_text close asked (Some reply)
-text-stepped close asked call reply e = ap (λ a. answer_text close a (Some reply)) (sym e)
+  -- memory ran out, before the desk acted or after it
+  pub begun-lost : (close : Bool) (asked : Asked) (sent sent' : Option (List ℕ)) (acted : Bool)
+      → ActedIf d at old new acted asked → sent' ≡ sent
+      → (begun : Begun) × IsBegun d at old new close asked sent sent' acted Cause.Memory begun
+  begun-lost close asked sent sent' true a same = (
+    Begun.Telling (Some a.0),
+    (
+      replies-stepped asked a.0 a.1,
+      (([], answer_text close asked (Some a.0), refl, nothing-sent sent sent' same), refl),
+      refl,
+    ),
+  )
+  begun-lost close asked sent sent' false a same =
+      (Begun.Nothing, (nothing-sent sent sent' same, refl, a, refl))
 
-nothing-sent : (old new : Seen) → new.sent ≡ old.sent → Appends old.sent new.sent []
-nothing-sent old new e =
-    let P : Option (List ℕ) → Type 0 = λ s. Appends old.sent s [] in
-    subst P (sym e) (Appends-none old.sent)
+  pub refused-tells : DeskLaws d.Outlasts → (close : Bool) (asked : Asked) (text : List ℕ)
+      → SendsRefusal d at old new close asked text
+      → Replies d at old new asked None × (text ≡ answer_text close asked None)
+  refused-tells laws close asked text a = (
+    replies-refused laws asked a.0.0 a.0.1 a.1,
+    a.0.2 ∙ ap (λ (t : Asked). answer_text close t None) (sym a.0.1),
+  )
 
--- memory ran out, before the desk acted or after it
-pub begun-lost : (holds : Type 0) (at : ℤ) (close : Bool) (asked : Asked) (old new : Seen)
-    (acted : Bool)
-    → ActedIf acted holds at old.content new.content asked → new.sent ≡ old.sent
-    → new.faults ≡ old.faults
-    → (begun : Begun) × IsBegun holds at close asked old new acted Cause.Memory begun
-begun-lost holds at close asked old new true a sent faults = (
-  Begun.Telling (Some a.0),
-  (
-    replies-stepped holds at asked old new a.0 a.1 faults,
-    (([], answer_text close asked (Some a.0), refl, nothing-sent old new sent), refl),
-    refl,
-  ),
-)
-begun-lost holds at close asked old new false a sent faults =
-    (Begun.Nothing, (nothing-sent old new sent, refl, a, faults, refl))
+  pub replied-tells : (close : Bool) (asked : Asked) (text : List ℕ)
+      → TellsReply d at old new close asked text
+      → (reply : Reply) × Replies d at old new asked (Some reply)
+      × (text ≡ answer_text close asked (Some reply))
+  replied-tells close asked text a = (
+    a.0,
+    replies-stepped asked a.0 a.1,
+    a.2 ∙ ap (λ (t : Asked). answer_text close t (Some a.0)) (sym a.1.asks),
+  )
 
 -- what holds of an `Ok`, at the arm that found which
 pub at-value : {A E : Type 0} (P : Result A E → Type 0) (result : Result A E) (found value : A)
     → result ≡ Ok found → found ≡ value → P result → P (Ok value)
 at-value P result found value e f h =
     subst (λ x. P (Ok x)) f (subst P e h)
-
-pub refused-tells : (holds : Type 0) (at : ℤ) (close : Bool) (asked : Asked) (old new : Seen)
-    (text : List ℕ)
-    → SendsRefusal close asked old.content new.content text × (new.faults ≡ old.faults)
-    → Replies holds at asked old new None × (text ≡ answer_text close asked None)
-refused-tells holds at close asked old new text a = (
-  replies-refused holds at asked old new a.0.0.0 a.0.0.1 a.0.1 a.1,
-  a.0.0.2
-      ∙ text-refused close asked a.0.0.0 a.0.0.1,
-)
-
-pub replied-tells : (holds : Type 0) (at : ℤ) (close : Bool) (asked : Asked) (old new : Seen)
-    (text : List ℕ)
-    → TellsReply holds at close asked old.content new.content text × (new.faults ≡ old.faults)
-    → (reply : Reply) × Replies holds at asked old new (Some reply)
-    × (text ≡ answer_text close asked (Some reply))
-replied-tells holds at close asked old new text a =
-    let s = a.0.1 in (
-      a.0.0,
-      replies-stepped holds at asked old new a.0.0 s a.1,
-      a.0.2
-          ∙ text-stepped close asked s.call a.0.0 s.asks,
-    )
 
 pub Appends-is : (u v : Option (List ℕ)) (a b : List ℕ) → a ≡ b → Appends u v a → Appends u v b
 Appends-is u v a b e w = subst (λ t. Appends u v t) e w

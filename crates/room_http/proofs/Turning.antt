@@ -9,7 +9,9 @@ use Rattle.std.specs.List.{slice_range}
 use Rattle.std.specs.Io.KnownBytes.{Appends, IsAtEnd}
 use Rattle.std.proofs.lemmas.Option.{same_Some, none-some}
 use Rattle.room_rows.specs.Content.{Content}
+use Rattle.room_machine.specs.declared.desk.Desk.{Ghosts}
 use Rattle.room_machine.specs.declared.reply.Reply.{Reply}
+use Rattle.room_machine.specs.Desk.{DeskLaws}
 use Rattle.room_machine.specs.Run.{Event}
 use Rattle.http_message.specs.declared.head.Head.{Head}
 use Rattle.http_message.specs.Asked.{request_of}
@@ -23,11 +25,13 @@ use Rattle.room_http.specs.Limits.{max_messages, read_size}
 use Rattle.room_http.specs.Message.{Message, print_message, IsRefusedHead, IsPart, asked, closes}
 use Rattle.room_http.specs.Message.{head_of}
 use Rattle.room_http.specs.Text.{store_text, refusal_reply}
-use Rattle.room_http.specs.Stream.{Last, answer_text, events_at, Runs, RunsExchanges, says_close}
+use Rattle.room_http.specs.Stream.{Last, answer_text, events_at, events_by, Runs, RunsExchanges}
+use Rattle.room_http.specs.Stream.{says_close}
 use Rattle.room_http.specs.Spans.{Came}
-use Rattle.room_http.specs.Serve.{Seen, Next, BlamesBefore, IsNearHead}
+use Rattle.room_http.specs.Serve.{Snapshot, Next, BlamesBefore, IsNearHead, seen}
 use Rattle.room_http.specs.Turn.{TurnsOpen, TurnsLast, TurnsStop, Turns, WholeNext}
-use Rattle.room_http.specs.Tell.{Replies, Fails, Begun, IsBegun, StopsWithin}
+use Rattle.room_http.specs.Answer.{Failed}
+use Rattle.room_http.specs.Tell.{Replies, Begun, IsBegun, StopsWithin}
 use Rattle.room_http.proofs.Near.{near-message, near-rest}
 use Rattle.room_http.proofs.KnownBytes.{Came-none, Came-then, Consumes-none}
 use Rattle.room_http.specs.declared.refusal.Refusal.{Refusal}
@@ -68,15 +72,23 @@ leads-one at old new m reply run =
     subst (λ (events : List Event). Runs old events new)
     (sym (append-nil (events_at at (asked m) reply))) run
 
-pub take-open : (holds : Type 0) (at : ℤ) (n : ℕ) (old new : Seen) (buf after : List ℕ)
+outlasts-one : {D : Type 0} (d : Ghosts D) (at : ℤ) (old new : D) (m : Message)
+    (reply : Option Reply) → d.Outlasts old [] (events_at at (asked m) reply) new
+    → d.Outlasts old [] (events_by at (record { message = m; reply = reply } ∷ [])) new
+outlasts-one d at old new m reply outlasts =
+    subst (λ (events : List Event). d.Outlasts old [] events new)
+    (sym (append-nil (events_at at (asked m) reply))) outlasts
+
+pub take-open : {D : Type 0} (d : Ghosts D) (at : ℤ) (n : ℕ) (old new : Snapshot D)
+    (buf after : List ℕ)
     (next : NextMessage) (w : WholeNext buf next)
     (reply : Option Reply) → n < max_messages → length buf < next.end + read_size
     → new.left ≡ old.left → says_close w.message n ≡ false
     → after ≡ drop next.end buf
-    → Replies holds at (asked w.message) old new reply
+    → Replies d at old.desk new.desk (asked w.message) reply
     → Appends old.sent new.sent (answer_text false (asked w.message) reply)
-    → TurnsOpen holds at n old new buf after
-take-open holds at n old new buf after next w reply few near same stays rest r wrote =
+    → TurnsOpen d at n old new buf after
+take-open d at n old new buf after next w reply few near same stays rest r wrote =
     let m = w.message in
     let L : Option (List ℕ) → Type 0 = λ l. Came old.left l buf (print_message m ++ after) in
     let whole : print_message m ++ after ≡ buf = ap (λ t. print_message m ++ t) rest
@@ -94,8 +106,9 @@ take-open holds at n old new buf after next w reply few near same stays rest r w
       came = subst L (sym same) ([], Consumes-none old.left, whole ∙ sym (append-nil buf));
       near = near-rest buf after next.end rest near;
       writes = wrote;
-      run = λ s. leads-one at old.content new.content m reply (r.run s);
+      run = λ t s. leads-one at (d.content old.desk) (d.content new.desk) m reply (r.run t s);
       faults = r.faults;
+      outlasts = outlasts-one d at old.desk new.desk m reply r.outlasts;
     }
 
 came-same : (u v : Option (List ℕ)) (buf : List ℕ) → v ≡ u → Came u v buf buf
@@ -103,14 +116,15 @@ came-same u v buf e =
     let L : Option (List ℕ) → Type 0 = λ l. Came u l buf buf in
     subst L (sym e) (Came-none u buf)
 
-pub take-closing : (holds : Type 0) (at : ℤ) (n : ℕ) (old new : Seen) (buf : List ℕ)
+pub take-closing : {D : Type 0} (d : Ghosts D) (at : ℤ) (n : ℕ) (old new : Snapshot D)
+    (buf : List ℕ)
     (next : NextMessage) (w : WholeNext buf next)
     (reply : Option Reply) → length buf < next.end + read_size → new.left ≡ old.left
     → says_close w.message n ≡ true
-    → Replies holds at (asked w.message) old new reply
+    → Replies d at old.desk new.desk (asked w.message) reply
     → Appends old.sent new.sent (answer_text true (asked w.message) reply)
-    → TurnsLast holds at n old new buf Ended.Closed
-take-closing holds at n old new buf next w reply near same close r wrote =
+    → TurnsLast d at n old new buf Ended.Closed
+take-closing d at n old new buf next w reply near same close r wrote =
     let m = w.message in
     record {
       last = Last.Closing (record { message = m; reply = reply });
@@ -121,57 +135,62 @@ take-closing holds at n old new buf next w reply near same close r wrote =
       near = near-message buf next w near;
       writes = wrote;
       at_end = tt;
-      run = λ s. leads-one at old.content new.content m reply (r.run s);
+      run = λ t s. leads-one at (d.content old.desk) (d.content new.desk) m reply (r.run t s);
       faults = r.faults;
+      outlasts = outlasts-one d at old.desk new.desk m reply r.outlasts;
     }
 
 -- a whole reply, whatever it says of the connection
-pub take-answered : (holds : Type 0) (at : ℤ) (n : ℕ) (old new : Seen) (buf after : List ℕ)
+pub take-answered : {D : Type 0} (d : Ghosts D) (at : ℤ) (n : ℕ) (old new : Snapshot D)
+    (buf after : List ℕ)
     (next : NextMessage) (w : WholeNext buf next)
     (reply : Option Reply) (close : Bool) (ended : Option Ended) → n < max_messages
     → length buf < next.end + read_size → new.left ≡ old.left
     → says_close w.message n ≡ close
     → (close ≡ true → ended ≡ Some Ended.Closed)
     → (close ≡ false → (ended ≡ None) × (after ≡ drop next.end buf))
-    → Replies holds at (asked w.message) old new reply
+    → Replies d at old.desk new.desk (asked w.message) reply
     → Appends old.sent new.sent (answer_text close (asked w.message) reply)
-    → Turns holds at n old new buf after (Ok ended)
-take-answered holds at n old new buf after next w reply true ended few near same says closing
+    → Turns d at n old new buf after (Ok ended)
+take-answered d at n old new buf after next w reply true ended few near same says closing
     staying r wrote =
-    subst (λ (e : Option Ended). Turns holds at n old new buf after (Ok e)) (sym (closing refl))
-    (take-closing holds at n old new buf next w reply near same says r wrote)
-take-answered holds at n old new buf after next w reply false ended few near same says closing
+    subst (λ (e : Option Ended). Turns d at n old new buf after (Ok e)) (sym (closing refl))
+    (take-closing d at n old new buf next w reply near same says r wrote)
+take-answered d at n old new buf after next w reply false ended few near same says closing
     staying r wrote =
     let stays = staying refl in
-    subst (λ (e : Option Ended). Turns holds at n old new buf after (Ok e)) (sym stays.0)
-    (take-open holds at n old new buf after next w reply few near same says stays.1 r wrote)
+    subst (λ (e : Option Ended). Turns d at n old new buf after (Ok e)) (sym stays.0)
+    (take-open d at n old new buf after next w reply few near same says stays.1 r wrote)
 
-pub take-failed : (holds : Type 0) (at : ℤ) (n : ℕ) (old new : Seen) (buf : List ℕ)
+pub take-failed : {D : Type 0} (d : Ghosts D) (at : ℤ) (n : ℕ) (old new : Snapshot D)
+    (buf : List ℕ)
     (next : NextMessage) (w : WholeNext buf next)
     → length buf < next.end + read_size → new.left ≡ old.left
-    → Fails holds (asked w.message) old new → Appends old.sent new.sent store_text
-    → TurnsLast holds at n old new buf Ended.Closed
-take-failed holds at n old new buf next w near same f wrote =
+    → Failed d at old.desk new.desk (asked w.message) → Appends old.sent new.sent store_text
+    → TurnsLast d at n old new buf Ended.Closed
+take-failed d at n old new buf next w near same f wrote =
     record {
       last = Last.Failed w.message;
       is = refl;
       rest = buf;
       came = came-same old.left new.left buf same;
-      ends = (w.is, f.0, (drop next.end buf, w.whole));
+      ends = (w.is, f.asks, (drop next.end buf, w.whole));
       near = near-message buf next w near;
       writes = wrote;
       at_end = tt;
-      run = λ s room is. (room, refl, f.1 s room is);
-      faults = f.2;
+      run = λ t s room is. (room, refl, f.keeps t s room is);
+      faults = f.faults;
+      outlasts = f.outlasts;
     }
 
-pub take-stop : (holds : Type 0) (at : ℤ) (n : ℕ) (old new : Seen) (buf : List ℕ)
-    (next : NextMessage) (w : WholeNext buf next)
+pub take-stop : {D : Type 0} (d : Ghosts D) → DeskLaws d.Outlasts → (at : ℤ) (n : ℕ)
+    (old new : Snapshot D) (buf : List ℕ) (next : NextMessage) (w : WholeNext buf next)
     (close : Bool) (stop : Halt) (begun : Begun) → length buf < next.end + read_size
     → new.left ≡ old.left → says_close w.message n ≡ close
-    → IsBegun holds at close (asked w.message) old new stop.acted stop.cause begun
-    → TurnsStop holds at n old new buf stop
-take-stop holds at n old new buf next w close stop Begun.Nothing near same e b =
+    → IsBegun d at old.desk new.desk close (asked w.message) old.sent new.sent stop.acted stop.cause
+    begun
+    → TurnsStop d at n old new buf stop
+take-stop {D} d laws at n old new buf next w close stop Begun.Nothing near same e b =
     record {
       next = Next.Unknown;
       rest = buf;
@@ -180,11 +199,14 @@ take-stop holds at n old new buf next w close stop Begun.Nothing near same e b =
       near = tt;
       writes = ([], [], refl, b.0);
       acted = b.1;
-      cause = subst (λ (k : Cause). BlamesBefore k buf) (sym b.4) tt;
-      run = λ s room is. (room, refl, b.2 room is);
-      faults = b.3;
+      cause = subst (λ (k : Cause). BlamesBefore k buf) (sym b.3) tt;
+      run = λ _ _. subst (λ (desk : D). Runs (d.content old.desk) [] (d.content desk)) (sym b.2)
+          (Runs-none (d.content old.desk));
+      faults = ap d.faults b.2;
+      outlasts = subst (λ (desk : D). d.Outlasts old.desk [] [] desk) (sym b.2)
+          (laws.itself old.desk);
     }
-take-stop holds at n old new buf next w close stop (Begun.Telling reply) near same e b =
+take-stop d laws at n old new buf next w close stop (Begun.Telling reply) near same e b =
     let m = w.message in
     record {
       next = Next.Exchanging (record { message = m; reply = reply }) close;
@@ -195,33 +217,35 @@ take-stop holds at n old new buf next w close stop (Begun.Telling reply) near sa
       writes = b.1.0;
       acted = b.2;
       cause = b.1.1;
-      run = λ s. leads-one at old.content new.content m reply (b.0.run s);
+      run = λ t s. leads-one at (d.content old.desk) (d.content new.desk) m reply (b.0.run t s);
       faults = b.0.faults;
+      outlasts = outlasts-one d at old.desk new.desk m reply b.0.outlasts;
     }
-take-stop holds at n old new buf next w close stop Begun.Failing near same e b =
+take-stop d laws at n old new buf next w close stop Begun.Failing near same e b =
     record {
       next = Next.Failing w.message;
       rest = buf;
       came = came-same old.left new.left buf same;
-      is_next = (w.is, b.0.0, (drop next.end buf, w.whole));
+      is_next = (w.is, b.0.asks, (drop next.end buf, w.whole));
       near = near-message buf next w near;
       writes = b.1.0;
       acted = b.2;
       cause = b.1.1;
-      run = λ s room is. (room, refl, b.0.1 s room is);
-      faults = b.0.2;
+      run = λ t s room is. (room, refl, b.0.keeps t s room is);
+      faults = b.0.faults;
+      outlasts = b.0.outlasts;
     }
 
 -- a turn after more bytes came
-pub shift : (holds : Type 0) (at : ℤ) (n : ℕ) (left mid sent : Option (List ℕ))
-    (content : Content → Type 0) (faults : ℕ) (new : Seen)
+pub shift : {D : Type 0} (d : Ghosts D) (at : ℤ) (n : ℕ) (left mid sent : Option (List ℕ))
+    (desk : D) (new : Snapshot D)
     (buf came after : List ℕ) (result : Result (Option Ended) Halt)
     → Came left mid buf came
-    → Turns holds at n (record { left = mid; sent = sent; content = content; faults = faults }) new
+    → Turns d at n (seen mid sent desk) new
     came after result
-    → Turns holds at n (record { left = left; sent = sent; content = content; faults = faults }) new
+    → Turns d at n (seen left sent desk) new
     buf after result
-shift holds at n left mid sent content faults new buf came after (Ok None) more t = record {
+shift d at n left mid sent desk new buf came after (Ok None) more t = record {
   x = t.x;
   is_open = t.is_open;
   more = t.more;
@@ -230,8 +254,9 @@ shift holds at n left mid sent content faults new buf came after (Ok None) more 
   writes = t.writes;
   run = t.run;
   faults = t.faults;
+  outlasts = t.outlasts;
 }
-shift holds at n left mid sent content faults new buf came after (Ok (Some ended)) more t = record {
+shift d at n left mid sent desk new buf came after (Ok (Some ended)) more t = record {
   last = t.last;
   is = t.is;
   rest = t.rest;
@@ -242,8 +267,9 @@ shift holds at n left mid sent content faults new buf came after (Ok (Some ended
   at_end = t.at_end;
   run = t.run;
   faults = t.faults;
+  outlasts = t.outlasts;
 }
-shift holds at n left mid sent content faults new buf came after (Err stop) more t = record {
+shift d at n left mid sent desk new buf came after (Err stop) more t = record {
   next = t.next;
   rest = t.rest;
   came = Came-then left mid new.left buf came t.rest more t.came;
@@ -254,21 +280,22 @@ shift holds at n left mid sent content faults new buf came after (Err stop) more
   cause = t.cause;
   run = t.run;
   faults = t.faults;
+  outlasts = t.outlasts;
 }
 
-pub turn-refused : (holds : Type 0) (at : ℤ) (n : ℕ) (left mid sent wrote : Option (List ℕ))
-    (content : Content → Type 0) (faults : ℕ)
+pub turn-refused : {D : Type 0} (d : Ghosts D) → DeskLaws d.Outlasts → (at : ℤ) (n : ℕ)
+    (left mid sent wrote : Option (List ℕ)) (desk : D)
     (buf came after : List ℕ) (reason : Refusal) (result : Result (Option Ended) Halt)
     → Came left mid buf came → IsRefusedHead came reason → IsNearHead came
     → IfOk result (λ ended. (ended ≡ Some Ended.Closed) × Appends sent wrote (refusal_reply reason))
     → IfErr result (λ stop. (stop.acted ≡ false)
     × StopsWithin sent wrote (refusal_reply reason) stop.cause)
-    → Turns holds at n (record { left = left; sent = sent; content = content; faults = faults })
-    (record { left = mid; sent = wrote; content = content; faults = faults }) buf after result
-turn-refused holds at n left mid sent wrote content faults buf came after reason
+    → Turns d at n (seen left sent desk)
+    (seen mid wrote desk) buf after result
+turn-refused d laws at n left mid sent wrote desk buf came after reason
     (Ok None) more is near ok err =
     absurd (none-some _ ok.0)
-turn-refused holds at n left mid sent wrote content faults buf came after reason
+turn-refused d laws at n left mid sent wrote desk buf came after reason
     (Ok (Some ended)) more is near ok err =
     record {
       last = Last.Refused reason;
@@ -279,10 +306,11 @@ turn-refused holds at n left mid sent wrote content faults buf came after reason
       near = near;
       writes = ok.1;
       at_end = tt;
-      run = λ s. Runs-none content;
+      run = λ _ _. Runs-none (d.content desk);
       faults = refl;
+      outlasts = laws.itself desk;
     }
-turn-refused holds at n left mid sent wrote content faults buf came after reason
+turn-refused d laws at n left mid sent wrote desk buf came after reason
     (Err stop) more is near ok err =
     record {
       next = Next.Refusing reason;
@@ -293,17 +321,18 @@ turn-refused holds at n left mid sent wrote content faults buf came after reason
       writes = err.1.0;
       acted = err.0;
       cause = err.1.1;
-      run = λ s. Runs-none content;
+      run = λ _ _. Runs-none (d.content desk);
       faults = refl;
+      outlasts = laws.itself desk;
     }
 
 -- the input ended
-pub turn-clean : (holds : Type 0) (at : ℤ) (n : ℕ) (left mid sent : Option (List ℕ))
-    (content : Content → Type 0) (faults : ℕ)
+pub turn-clean : {D : Type 0} (d : Ghosts D) → DeskLaws d.Outlasts → (at : ℤ) (n : ℕ)
+    (left mid sent : Option (List ℕ)) (desk : D)
     (buf came : List ℕ) → Came left mid buf came → IsAtEnd mid × (came ≡ [])
-    → TurnsLast holds at n (record { left = left; sent = sent; content = content; faults = faults })
-    (record { left = mid; sent = sent; content = content; faults = faults }) buf Ended.Clean
-turn-clean holds at n left mid sent content faults buf came more e = record {
+    → TurnsLast d at n (seen left sent desk)
+    (seen mid sent desk) buf Ended.Clean
+turn-clean d laws at n left mid sent desk buf came more e = record {
   last = Last.Clean;
   is = refl;
   rest = came;
@@ -312,16 +341,17 @@ turn-clean holds at n left mid sent content faults buf came more e = record {
   near = tt;
   writes = Appends-none sent;
   at_end = e.0;
-  run = λ s. Runs-none content;
+  run = λ _ _. Runs-none (d.content desk);
   faults = refl;
+  outlasts = laws.itself desk;
 }
 
-pub turn-cut : (holds : Type 0) (at : ℤ) (n : ℕ) (left mid sent : Option (List ℕ))
-    (content : Content → Type 0) (faults : ℕ)
+pub turn-cut : {D : Type 0} (d : Ghosts D) → DeskLaws d.Outlasts → (at : ℤ) (n : ℕ)
+    (left mid sent : Option (List ℕ)) (desk : D)
     (buf came : List ℕ) → Came left mid buf came → IsAtEnd mid × IsPart came
-    → TurnsLast holds at n (record { left = left; sent = sent; content = content; faults = faults })
-    (record { left = mid; sent = sent; content = content; faults = faults }) buf Ended.Cut
-turn-cut holds at n left mid sent content faults buf came more e = record {
+    → TurnsLast d at n (seen left sent desk)
+    (seen mid sent desk) buf Ended.Cut
+turn-cut d laws at n left mid sent desk buf came more e = record {
   last = Last.Cut;
   is = refl;
   rest = came;
@@ -330,6 +360,7 @@ turn-cut holds at n left mid sent content faults buf came more e = record {
   near = tt;
   writes = Appends-none sent;
   at_end = e.0;
-  run = λ s. Runs-none content;
+  run = λ _ _. Runs-none (d.content desk);
   faults = refl;
+  outlasts = laws.itself desk;
 }

@@ -2,7 +2,8 @@
 use Rattle.std.specs.Prelude.{◌≡◌, ℕ, ℤ, ◌+◌, ◌<◌, ◌⊎◌, Bool, false, List, [], ◌∷◌, ◌++◌}
 use Rattle.std.specs.Prelude.{length, Option, is_some, ⊤}
 use Rattle.std.specs.Io.KnownBytes.{Appends, Consumes, IsAtEnd}
-use Rattle.room_rows.specs.Content.{Content}
+use Rattle.room_machine.specs.declared.desk.Desk.{Ghosts}
+use Rattle.room_machine.specs.Run.{Asking}
 use Rattle.room_http.specs.declared.ended.Cause.{Cause}
 use Rattle.room_http.specs.declared.ended.Ended.{Ended}
 use Rattle.room_http.specs.declared.ended.ServeFault.{ServeFault}
@@ -12,17 +13,19 @@ use Rattle.room_http.specs.Message.{Message, print_message, IsMessage, IsRefused
 use Rattle.room_http.specs.Text.{refusal_reply, store_text}
 use Rattle.room_http.specs.Answer.{Rose}
 use Rattle.room_http.specs.Stream.{Exchange, IsExchange, exchange_text, Last, IsRequest, says_close}
-use Rattle.room_http.specs.Stream.{StartsWith, ended_of, last_text}
-use Rattle.room_http.specs.Stream.{last_exchange, RunsExchanges, OpensStream}
+use Rattle.room_http.specs.Stream.{StartsWith, asking_at, ended_of, events_by, last_asking}
+use Rattle.room_http.specs.Stream.{last_exchange, last_text, RunsExchanges, OpensStream}
 use Rattle.room_http.specs.Stream.{Stream, texts_of}
 
--- what is known at one moment: the bytes that the reader has left and that the writer took, what
--- the desk keeps, and how often it failed
-pub record Seen : Type 1 where
+-- one moment: the bytes that the reader has left and that the writer took, where they are known,
+-- and the desk
+pub record Snapshot (D : Type 0) : Type 0 where
   pub left : Option (List ℕ)
   pub sent : Option (List ℕ)
-  pub content : Content → Type 0
-  pub faults : ℕ
+  pub desk : D
+
+abbrev pub seen : {D : Type 0} → Option (List ℕ) → Option (List ℕ) → D → Snapshot D
+seen left sent desk = record { left = left; sent = sent; desk = desk }
 
 -- the reader has nothing left where the end says so
 abbrev pub AtEndIf : Last → Option (List ℕ) → Type 0
@@ -52,8 +55,10 @@ FaultsRose (Last.Failed m) old new = Rose old new
 FaultsRose last old new = new ≡ old
 
 -- A connection that ended: what was read is a stream, what was written its replies, and what the
--- desk did their run, where `holds`.
-pub record Serves (holds : Type 0) (at : ℤ) (old new : Seen) (ended : Ended) : Type 0 where
+-- desk did their run, if it was sound before and is trusted afterwards. What the desk failed at, if
+-- it did, was asked for and got no answer from it.
+pub record Serves {D : Type 0} (d : Ghosts D) (at : ℤ) (old new : Snapshot D) (ended : Ended)
+    : Type 0 where
   pub read : List ℕ
   pub exchanges : List Exchange
   pub last : Last
@@ -63,8 +68,12 @@ pub record Serves (holds : Type 0) (at : ℤ) (old new : Seen) (ended : Ended) :
   pub writes : Appends old.sent new.sent (texts_of exchanges ++ last_text last)
   pub ended_is : ended ≡ ended_of last
   pub at_end : AtEndIf last new.left
-  pub run : holds → RunsExchanges old.content at (exchanges ++ last_exchange last) new.content
-  pub faults : FaultsRose last old.faults new.faults
+  pub run : d.trusted new.desk → d.sound old.desk
+      → RunsExchanges (d.content old.desk) at (exchanges ++ last_exchange last)
+      (d.content new.desk)
+  pub faults : FaultsRose last (d.faults old.desk) (d.faults new.desk)
+  pub outlasts : d.Outlasts old.desk (last_asking at last)
+      (events_by at (exchanges ++ last_exchange last)) new.desk
 
 -- ---- a connection, however it ended
 
@@ -100,6 +109,11 @@ next_text (Next.Failing m) = store_text
 abbrev pub next_exchange : Next → List Exchange
 next_exchange (Next.Exchanging x close) = x ∷ []
 next_exchange next = []
+
+-- what was asked for and got no answer from the desk
+abbrev pub next_asking : ℤ → Next → List Asking
+next_asking at (Next.Failing m) = asking_at at (asked m)
+next_asking at next = []
 
 -- the desk took the step of the next message
 abbrev pub did_act : Next → Bool
@@ -140,7 +154,8 @@ Blames cause (Next.Failing m) left begun back = BlamesWriter cause back
 -- What a connection is, however it ended: the bytes that were read begin with messages that leave
 -- it open; what was written are their replies, and a beginning of what comes next; and what the
 -- desk did is a run of the room machine over them, with the next message where its step was taken.
-pub record Connects (holds : Type 0) (at : ℤ) (old new : Seen) : Type 0 where
+-- What the desk failed at, if it did, was asked for and got no answer from it.
+pub record Connects {D : Type 0} (d : Ghosts D) (at : ℤ) (old new : Snapshot D) : Type 0 where
   pub read : List ℕ
   pub exchanges : List Exchange
   pub next : Next
@@ -153,13 +168,18 @@ pub record Connects (holds : Type 0) (at : ℤ) (old new : Seen) : Type 0 where
   pub begun : List ℕ
   pub beginning : (back : List ℕ) × (next_text next ≡ begun ++ back)
   pub writes : Appends old.sent new.sent (texts_of exchanges ++ begun)
-  pub run : holds → RunsExchanges old.content at (exchanges ++ next_exchange next) new.content
-  pub faults : NextRose next old.faults new.faults
+  pub run : d.trusted new.desk → d.sound old.desk
+      → RunsExchanges (d.content old.desk) at (exchanges ++ next_exchange next)
+      (d.content new.desk)
+  pub faults : NextRose next (d.faults old.desk) (d.faults new.desk)
+  pub outlasts : d.Outlasts old.desk (next_asking at next)
+      (events_by at (exchanges ++ next_exchange next)) new.desk
 
 -- A connection that a fault ended: how many replies went out whole, whether the desk took the step
 -- of the next message, and what failed.
-pub record Stops (holds : Type 0) (at : ℤ) (old new : Seen) (fault : ServeFault) : Type 0 where
-  pub connects : Connects holds at old new
+pub record Stops {D : Type 0} (d : Ghosts D) (at : ℤ) (old new : Snapshot D) (fault : ServeFault)
+    : Type 0 where
+  pub connects : Connects d at old new
   pub answered : fault.answered ≡ length connects.exchanges
   pub acted : fault.acted ≡ did_act connects.next
   pub cause : Blames fault.cause connects.next connects.rest connects.begun connects.beginning.0

@@ -4,7 +4,7 @@ use Rattle.std.specs.Prelude.{◌++◌, length, Option, Some, None, Ok, Err, All
 use Rattle.std.specs.List.{flat_map}
 use Rattle.room_rows.specs.Content.{Content}
 use Rattle.room_machine.specs.declared.reply.Reply.{Reply}
-use Rattle.room_machine.specs.Run.{Event, Run}
+use Rattle.room_machine.specs.Run.{Asking, Event, Run}
 use Rattle.http_message.specs.Reply.{reply_text, fault_text}
 use Rattle.room_http.specs.declared.refusal.Refusal.{Refusal}
 use Rattle.room_http.specs.declared.ended.Ended.{Ended}
@@ -49,6 +49,15 @@ events_at at (Err fault) reply = []
 abbrev pub event_at : ℤ → Exchange → List Event
 event_at at x = events_at at (asked x.message) x.reply
 
+-- what happens by these exchanges, one after the other
+abbrev pub events_by : ℤ → List Exchange → List Event
+events_by at xs = flat_map (event_at at) xs
+
+-- what the message asks of the desk, at this moment, if no test refuses it
+abbrev pub asking_at : ℤ → Asked → List Asking
+asking_at at (Ok call) = Event.Asked call.0 at call.1 ∷ []
+asking_at at (Err fault) = []
+
 -- these events are a run from what the desk kept to what it keeps then
 abbrev pub Runs : (Content → Type 0) → List Event → (Content → Type 0) → Type 0
 Runs old events new =
@@ -56,7 +65,7 @@ Runs old events new =
 
 -- the exchanges are such a run
 abbrev pub RunsExchanges : (Content → Type 0) → ℤ → List Exchange → (Content → Type 0) → Type 0
-RunsExchanges old at xs new = Runs old (flat_map (event_at at) xs) new
+RunsExchanges old at xs new = Runs old (events_by at xs) new
 
 -- ---- the end
 
@@ -102,6 +111,11 @@ last_text (Last.Failed m) = store_text
 abbrev pub last_exchange : Last → List Exchange
 last_exchange (Last.Closing x) = x ∷ []
 last_exchange last = []
+
+-- what was asked for and got no answer from the desk
+abbrev pub last_asking : ℤ → Last → List Asking
+last_asking at (Last.Failed m) = asking_at at (asked m)
+last_asking at last = []
 
 abbrev pub ended_of : Last → Ended
 ended_of Last.Clean = Ended.Clean

@@ -2,6 +2,7 @@
 use Rattle.std.specs.Prelude.{◌≡◌, ℕ, ℤ, ◌+◌, ◌<◌, ◌≤◌, false, List, [], ◌∷◌, ◌++◌, length, drop}
 use Rattle.std.specs.Prelude.{slice_range, Option, Some, None, Result, Ok, Err, ⊤}
 use Rattle.std.specs.Io.KnownBytes.{Appends, Consumes, IsAtEnd}
+use Rattle.room_machine.specs.declared.desk.Desk.{Ghosts}
 use Rattle.room_http.specs.declared.ended.Ended.{Ended}
 use Rattle.room_http.specs.declared.server.Halt.{Halt}
 use Rattle.room_http.specs.declared.next.NextMessage.{NextMessage}
@@ -10,10 +11,11 @@ use Rattle.room_http.specs.Limits.{max_messages, read_size}
 use Rattle.room_http.specs.Message.{Message, print_message, IsMessage}
 use Rattle.room_http.specs.Message.{IsRefusedHead, IsPart, head_of}
 use Rattle.room_http.specs.Stream.{Exchange, IsOpen, exchange_text, Last}
-use Rattle.room_http.specs.Stream.{EndsStream, ended_of, last_text}
+use Rattle.room_http.specs.Stream.{EndsStream, ended_of, events_by, last_asking, last_text}
 use Rattle.room_http.specs.Stream.{last_exchange, RunsExchanges, OpensStream, texts_of}
-use Rattle.room_http.specs.Serve.{Seen, AtEndIf, FaultsRose, Next, IsNext, next_text, next_exchange}
-use Rattle.room_http.specs.Serve.{did_act, Blames, NextRose, IsNearHead, NearLast, NearNext}
+use Rattle.room_http.specs.Serve.{Snapshot, AtEndIf, FaultsRose, Next, IsNext, next_asking}
+use Rattle.room_http.specs.Serve.{next_exchange, next_text, did_act, Blames, NextRose, IsNearHead}
+use Rattle.room_http.specs.Serve.{NearLast, NearNext}
 use Rattle.room_http.specs.Spans.{Came}
 
 -- a front of the text was written
@@ -51,62 +53,68 @@ ComesNear buf Upcoming.Cut = ⊤
 ComesNear buf (Upcoming.Refused refusal) = IsNearHead buf
 ComesNear buf (Upcoming.Whole next) = length buf < next.end + read_size
 
--- ---- a turn, after n messages
+module _ {D : Type 0} (d : Ghosts D) (at : ℤ) (n : ℕ) (old new : Snapshot D) where
+  -- ---- a turn, after n messages
 
-pub record TurnsOpen (holds : Type 0) (at : ℤ) (n : ℕ) (old new : Seen)
-    (buf_old buf_new : List ℕ) : Type 0 where
-  pub x : Exchange
-  pub is_open : IsOpen x
-  pub more : n + 1 < max_messages
-  pub came : Came old.left new.left buf_old (print_message x.message ++ buf_new)
-  pub near : length buf_new < read_size
-  pub writes : Appends old.sent new.sent (exchange_text false x)
-  pub run : holds → RunsExchanges old.content at (x ∷ []) new.content
-  pub faults : new.faults ≡ old.faults
+  pub record TurnsOpen (buf_old buf_new : List ℕ) : Type 0 where
+    pub x : Exchange
+    pub is_open : IsOpen x
+    pub more : n + 1 < max_messages
+    pub came : Came old.left new.left buf_old (print_message x.message ++ buf_new)
+    pub near : length buf_new < read_size
+    pub writes : Appends old.sent new.sent (exchange_text false x)
+    pub run : d.trusted new.desk → d.sound old.desk
+        → RunsExchanges (d.content old.desk) at (x ∷ []) (d.content new.desk)
+    pub faults : d.faults new.desk ≡ d.faults old.desk
+    pub outlasts : d.Outlasts old.desk [] (events_by at (x ∷ [])) new.desk
 
-pub record TurnsLast (holds : Type 0) (at : ℤ) (n : ℕ) (old new : Seen) (buf : List ℕ)
-    (ended : Ended) : Type 0 where
-  pub last : Last
-  pub is : ended ≡ ended_of last
-  pub rest : List ℕ
-  pub came : Came old.left new.left buf rest
-  pub ends : EndsStream rest n last
-  pub near : NearLast last rest
-  pub writes : Appends old.sent new.sent (last_text last)
-  pub at_end : AtEndIf last new.left
-  pub run : holds → RunsExchanges old.content at (last_exchange last) new.content
-  pub faults : FaultsRose last old.faults new.faults
+  pub record TurnsLast (buf : List ℕ) (ended : Ended) : Type 0 where
+    pub last : Last
+    pub is : ended ≡ ended_of last
+    pub rest : List ℕ
+    pub came : Came old.left new.left buf rest
+    pub ends : EndsStream rest n last
+    pub near : NearLast last rest
+    pub writes : Appends old.sent new.sent (last_text last)
+    pub at_end : AtEndIf last new.left
+    pub run : d.trusted new.desk → d.sound old.desk
+        → RunsExchanges (d.content old.desk) at (last_exchange last) (d.content new.desk)
+    pub faults : FaultsRose last (d.faults old.desk) (d.faults new.desk)
+    pub outlasts : d.Outlasts old.desk (last_asking at last) (events_by at (last_exchange last))
+        new.desk
 
-pub record TurnsStop (holds : Type 0) (at : ℤ) (n : ℕ) (old new : Seen) (buf : List ℕ)
-    (stop : Halt) : Type 0 where
-  pub next : Next
-  pub rest : List ℕ
-  pub came : Came old.left new.left buf rest
-  pub is_next : IsNext rest n next
-  pub near : NearNext next rest
-  pub writes : WritesSome old.sent new.sent (next_text next)
-  pub acted : stop.acted ≡ did_act next
-  pub cause : Blames stop.cause next rest writes.0 writes.1
-  pub run : holds → RunsExchanges old.content at (next_exchange next) new.content
-  pub faults : NextRose next old.faults new.faults
+  pub record TurnsStop (buf : List ℕ) (stop : Halt) : Type 0 where
+    pub next : Next
+    pub rest : List ℕ
+    pub came : Came old.left new.left buf rest
+    pub is_next : IsNext rest n next
+    pub near : NearNext next rest
+    pub writes : WritesSome old.sent new.sent (next_text next)
+    pub acted : stop.acted ≡ did_act next
+    pub cause : Blames stop.cause next rest writes.0 writes.1
+    pub run : d.trusted new.desk → d.sound old.desk
+        → RunsExchanges (d.content old.desk) at (next_exchange next) (d.content new.desk)
+    pub faults : NextRose next (d.faults old.desk) (d.faults new.desk)
+    pub outlasts : d.Outlasts old.desk (next_asking at next) (events_by at (next_exchange next))
+        new.desk
 
-abbrev pub Turns : Type 0 → ℤ → ℕ → Seen → Seen → List ℕ → List ℕ → Result (Option Ended) Halt
-    → Type 0
-Turns holds at n old new buf_old buf_new (Ok None) = TurnsOpen holds at n old new buf_old buf_new
-Turns holds at n old new buf_old buf_new (Ok (Some ended)) =
-    TurnsLast holds at n old new buf_old ended
-Turns holds at n old new buf_old buf_new (Err stop) = TurnsStop holds at n old new buf_old stop
+  abbrev pub Turns : List ℕ → List ℕ → Result (Option Ended) Halt → Type 0
+  Turns buf_old buf_new (Ok None) = TurnsOpen buf_old buf_new
+  Turns buf_old buf_new (Ok (Some ended)) = TurnsLast buf_old ended
+  Turns buf_old buf_new (Err stop) = TurnsStop buf_old stop
 
--- ---- a connection so far
+  -- ---- a connection so far
 
-pub record Along (holds : Type 0) (at : ℤ) (n : ℕ) (old new : Seen) (buf : List ℕ) : Type 0 where
-  pub read : List ℕ
-  pub exchanges : List Exchange
-  pub reads : Consumes old.left new.left read
-  pub opens : OpensStream read exchanges buf
-  pub count : n ≡ length exchanges
-  pub few : n < max_messages
-  pub near : length buf < read_size
-  pub writes : Appends old.sent new.sent (texts_of exchanges)
-  pub run : holds → RunsExchanges old.content at exchanges new.content
-  pub faults : new.faults ≡ old.faults
+  pub record Along (buf : List ℕ) : Type 0 where
+    pub read : List ℕ
+    pub exchanges : List Exchange
+    pub reads : Consumes old.left new.left read
+    pub opens : OpensStream read exchanges buf
+    pub count : n ≡ length exchanges
+    pub few : n < max_messages
+    pub near : length buf < read_size
+    pub writes : Appends old.sent new.sent (texts_of exchanges)
+    pub run : d.trusted new.desk → d.sound old.desk
+        → RunsExchanges (d.content old.desk) at exchanges (d.content new.desk)
+    pub faults : d.faults new.desk ≡ d.faults old.desk
+    pub outlasts : d.Outlasts old.desk [] (events_by at exchanges) new.desk

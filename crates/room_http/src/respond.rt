@@ -23,9 +23,8 @@ pub fn answer<D: Desk>(
     body: &[u8],
     close: bool,
 ) -> Result<Answer, Lost>
-    ensures answers { AnswersMessage (D.trusted desk.new × D.sound desk.old) at close
-        (request_of head.now body.now)
-        (D.content desk.old) (D.content desk.new) (D.faults desk.old) (D.faults desk.new) result }
+    ensures answers { AnswersMessage D.Desk at desk.old desk.new close
+        (request_of head.now body.now) result }
     ensures trusted { D.trusted desk.new → D.trusted desk.old }
     ensures sound { D.trusted desk.new → D.sound desk.old → D.sound desk.new }
 {
@@ -57,9 +56,8 @@ pub(crate) fn respond<D: Desk>(
     body: &[u8],
     close: bool,
 ) -> Result<Response, Lost>
-    ensures responds { Responds (D.trusted desk.new × D.sound desk.old) at close
-        (request_of head.now body.now)
-        (D.content desk.old) (D.content desk.new) (D.faults desk.old) (D.faults desk.new) result }
+    ensures responds { Responds D.Desk at desk.old desk.new close
+        (request_of head.now body.now) result }
     ensures trusted { D.trusted desk.new → D.trusted desk.old }
     ensures sound { D.trusted desk.new → D.sound desk.old → D.sound desk.new }
 {
@@ -89,9 +87,8 @@ fn ask<D: Desk>(
     request: &Request,
     close: bool,
 ) -> Result<Response, Lost>
-    ensures responds { Responds (D.trusted desk.new × D.sound desk.old) at close
-        (Ok (option_copied caller.entry, request.now))
-        (D.content desk.old) (D.content desk.new) (D.faults desk.old) (D.faults desk.new) result }
+    ensures responds { Responds D.Desk at desk.old desk.new close
+        (Ok (option_copied caller.entry, request.now)) result }
     ensures trusted { D.trusted desk.new → D.trusted desk.old }
     ensures sound { D.trusted desk.new → D.sound desk.old → D.sound desk.new }
 {

@@ -6,7 +6,7 @@ ghost use Rattle.http_message.specs.Asked.{request_of};
 ghost use Rattle.http_message.specs.Close.{asks_close};
 ghost use Rattle.room_http.specs.Limits.{chunk_size, max_fields, max_messages, read_size};
 ghost use Rattle.room_http.specs.Text.{refusal_reply};
-ghost use Rattle.room_http.specs.Serve.{Connects, Seen, Serves, Stops};
+ghost use Rattle.room_http.specs.Serve.{Connects, Serves, Stops, seen};
 ghost use Rattle.room_http.specs.Turn.{Turns, WholeNext};
 ghost use Rattle.room_http.specs.Tell.{StopsWithin, SendsReply};
 
@@ -54,20 +54,8 @@ fn tell<W: Write, D: Desk>(
     body: &[u8],
     close: bool,
 ) -> Result<Told, Halt>
-    ensures tells { (left : Option (List ℕ)) → SendsReply (D.trusted desk.new × D.sound desk.old) at
-        close (request_of head.now body.now)
-        (record {
-          left = left;
-          sent = W.contents w.old;
-          content = D.content desk.old;
-          faults = D.faults desk.old;
-        })
-        (record {
-          left = left;
-          sent = W.contents w.new;
-          content = D.content desk.new;
-          faults = D.faults desk.new;
-        }) result }
+    ensures tells { SendsReply D.Desk at desk.old desk.new close (request_of head.now body.now)
+        (W.contents w.old) (W.contents w.new) result }
     ensures trusted { D.trusted desk.new → D.trusted desk.old }
     ensures sound { D.trusted desk.new → D.sound desk.old → D.sound desk.new }
 {
@@ -120,20 +108,8 @@ fn take_message<W: Write, D: Desk>(
     requires few { answered < max_messages }
     requires next { WholeNext buf.old.items next }
     ensures turn { (left : Option (List ℕ)) → length buf.old.items < next.end + read_size
-        → Turns (D.trusted desk.new × D.sound desk.old) at answered
-        (record {
-          left = left;
-          sent = W.contents w.old;
-          content = D.content desk.old;
-          faults = D.faults desk.old;
-        })
-        (record {
-          left = left;
-          sent = W.contents w.new;
-          content = D.content desk.new;
-          faults = D.faults desk.new;
-        })
-        buf.old.items buf.new.items result }
+        → Turns D.Desk at answered (seen left (W.contents w.old) desk.old)
+        (seen left (W.contents w.new) desk.new) buf.old.items buf.new.items result }
     ensures trusted { D.trusted desk.new → D.trusted desk.old }
     ensures sound { D.trusted desk.new → D.sound desk.old → D.sound desk.new }
 {
@@ -201,20 +177,9 @@ fn turn<R: Read, W: Write, D: Desk>(
     requires few { answered < max_messages }
     requires room { length spans.old ≡ max_fields }
     requires chunk { length chunk.old ≡ chunk_size }
-    ensures turn { length buf.old.items < read_size
-        → Turns (D.trusted desk.new × D.sound desk.old) at answered
-        (record {
-          left = R.remaining r.old;
-          sent = W.contents w.old;
-          content = D.content desk.old;
-          faults = D.faults desk.old;
-        })
-        (record {
-          left = R.remaining r.new;
-          sent = W.contents w.new;
-          content = D.content desk.new;
-          faults = D.faults desk.new;
-        })
+    ensures turn { length buf.old.items < read_size → Turns D.Desk at answered
+        (seen (R.remaining r.old) (W.contents w.old) desk.old)
+        (seen (R.remaining r.new) (W.contents w.new) desk.new)
         buf.old.items buf.new.items result }
     ensures trusted { D.trusted desk.new → D.trusted desk.old }
     ensures sound { D.trusted desk.new → D.sound desk.old → D.sound desk.new }
@@ -247,45 +212,15 @@ pub fn serve<R: Read, W: Write, D: Desk>(
     r: &mut R,
     w: &mut W,
 ) -> Result<Ended, ServeFault>
-    ensures connects { Connects (D.trusted desk.new × D.sound desk.old) at
-        (record {
-          left = R.remaining r.old;
-          sent = W.contents w.old;
-          content = D.content desk.old;
-          faults = D.faults desk.old;
-        })
-        (record {
-          left = R.remaining r.new;
-          sent = W.contents w.new;
-          content = D.content desk.new;
-          faults = D.faults desk.new;
-        }) }
-    ensures serves { IfOk result (Serves (D.trusted desk.new × D.sound desk.old) at
-        (record {
-          left = R.remaining r.old;
-          sent = W.contents w.old;
-          content = D.content desk.old;
-          faults = D.faults desk.old;
-        })
-        (record {
-          left = R.remaining r.new;
-          sent = W.contents w.new;
-          content = D.content desk.new;
-          faults = D.faults desk.new;
-        })) }
-    ensures stops { IfErr result (Stops (D.trusted desk.new × D.sound desk.old) at
-        (record {
-          left = R.remaining r.old;
-          sent = W.contents w.old;
-          content = D.content desk.old;
-          faults = D.faults desk.old;
-        })
-        (record {
-          left = R.remaining r.new;
-          sent = W.contents w.new;
-          content = D.content desk.new;
-          faults = D.faults desk.new;
-        })) }
+    ensures connects { Connects D.Desk at
+        (seen (R.remaining r.old) (W.contents w.old) desk.old)
+        (seen (R.remaining r.new) (W.contents w.new) desk.new) }
+    ensures serves { IfOk result (Serves D.Desk at
+        (seen (R.remaining r.old) (W.contents w.old) desk.old)
+        (seen (R.remaining r.new) (W.contents w.new) desk.new)) }
+    ensures stops { IfErr result (Stops D.Desk at
+        (seen (R.remaining r.old) (W.contents w.old) desk.old)
+        (seen (R.remaining r.new) (W.contents w.new) desk.new)) }
     ensures trusted { D.trusted desk.new → D.trusted desk.old }
     ensures sound { D.trusted desk.new → D.sound desk.old → D.sound desk.new }
 {

@@ -7,17 +7,12 @@ use Rattle.room_http.proofs.respond.answer.Goals as goal
 
 pub returns-in-Ok-Replied-clause-answers : goal.returns-in-Ok-Replied-clause-answers
 returns-in-Ok-Replied-clause-answers g c =
-    let all = g.D.Desk.trusted c.respond.new.desk × g.D.Desk.sound c.args.desk.now in
+    let d = g.D.Desk in
     let asked = request_of c.args.head.now c.args.body.now in
-    let old = g.D.Desk.content c.args.desk.now in
-    let new = g.D.Desk.content c.respond.new.desk in
-    let before = g.D.Desk.faults c.args.desk.now in
-    let after = g.D.Desk.faults c.respond.new.desk in
-    let given = subst
-    (λ (z : ℤ). Responds all z c.args.close asked old new before after c.respond.result)
+    let old = c.args.desk.now in
+    let new = c.respond.new.desk in
+    let given = subst (λ (z : ℤ). Responds d z old new c.args.close asked c.respond.result)
     (to_z-of_z w64 c.args.at c.ranges.at) c.respond.ensures.responds in
-    let tells = at-value
-    (Responds all c.args.at c.args.close asked old new before after) _ _ _ c.in-Ok-Replied.is
+    let tells = at-value (Responds d c.args.at old new c.args.close asked) _ _ _ c.in-Ok-Replied.is
     c.in-Ok-Replied.field-0-is given in
-    joined-answers all c.args.at c.args.close asked old new before after _ tells c.joined.result
-    c.joined.ensures
+    joined-answers d c.args.at old new c.args.close asked _ tells c.joined.result c.joined.ensures

@@ -8,19 +8,16 @@ use Rattle.room_http.proofs.respond.respond.Goals as goal
 
 pub returns-in-Ok-clause-responds : goal.returns-in-Ok-clause-responds
 returns-in-Ok-clause-responds g c =
-    let old = g.D.Desk.content c.args.desk.now in
-    let new = g.D.Desk.content c.ask.new.desk in
-    let before = g.D.Desk.faults c.args.desk.now in
-    let after = g.D.Desk.faults c.ask.new.desk in
-    let all = g.D.Desk.trusted c.ask.new.desk × g.D.Desk.sound c.args.desk.now in
+    let d = g.D.Desk in
+    let old = c.args.desk.now in
+    let new = c.ask.new.desk in
     let close = c.args.close in
     let asked : Asked = request_of c.args.head.now c.args.body.now in
     let user = option_copied c.as_ref.result in
     let request = c.in-Ok.request in
     let same : Ok (user, request) ≡ asked =
     ap (λ u. Ok (u, request)) c.as_ref.ensures.value ∙ sym c.in-Ok.ensures in
-    let given = subst (λ (z : ℤ). Responds all z close
-    (Ok (user, request)) old new before after c.ask.result)
+    let given = subst
+    (λ (z : ℤ). Responds d z old new close (Ok (user, request)) c.ask.result)
     (to_z-of_z w64 c.args.at c.ranges.at) c.ask.ensures.responds in
-    subst (λ (a : Asked). Responds all c.args.at close a old new before after c.ask.result) same
-    given
+    subst (λ (a : Asked). Responds d c.args.at old new close a c.ask.result) same given

@@ -2,35 +2,23 @@ use Rattle.std.proofs.Common.{◌∙◌, refl, subst, ℤ, w64, Some, None}
 use Rattle.std.proofs.lemmas.Int.{to_z-of_z}
 use Rattle.http_message.specs.Asked.{request_of}
 use Rattle.room_http.specs.Answer.{Responds}
-use Rattle.room_http.specs.Serve.{Seen}
 use Rattle.room_http.specs.Tell.{Begun}
 use Rattle.room_http.proofs.Telling.{at-value, refused-tells, replied-tells, begun-lost}
 use Rattle.room_http.proofs.Telling.{within-write, within-fault, Appends-is}
 use Rattle.room_http.proofs.server.tell.Goals as goal
 
 pub returns-in-Ok-Refused-clause-tells : goal.returns-in-Ok-Refused-clause-tells
-returns-in-Ok-Refused-clause-tells g c left =
-    let old : Seen = record {
-      left = left;
-      sent = g.W.Write.contents c.args.w.now;
-      content = g.D.Desk.content c.args.desk.now;
-      faults = g.D.Desk.faults c.args.desk.now;
-    } in
-    let new : Seen = record {
-      left = left;
-      sent = g.W.Write.contents c.write_text.new.w;
-      content = g.D.Desk.content c.respond.new.desk;
-      faults = g.D.Desk.faults c.respond.new.desk;
-    } in
+returns-in-Ok-Refused-clause-tells g c =
+    let d = g.D.Desk in
+    let old = c.args.desk.now in
+    let new = c.respond.new.desk in
     let asked = request_of c.args.head.now c.args.body.now in
-    let all = g.D.Desk.trusted c.respond.new.desk × g.D.Desk.sound c.args.desk.now in
-    let given = subst
-    (λ (z : ℤ). Responds all z c.args.close asked old.content new.content old.faults new.faults
-    c.respond.result) (to_z-of_z w64 c.args.at c.ranges.at) c.respond.ensures.responds in
-    let answers = at-value
-    (Responds all c.args.at c.args.close asked old.content new.content old.faults new.faults) _
-    _ _ c.in-Ok-Refused.is c.in-Ok-Refused.field-0-is given in
-    let tells = refused-tells all c.args.at c.args.close asked old new _ answers in (
+    let given = subst (λ (z : ℤ). Responds d z old new c.args.close asked c.respond.result)
+    (to_z-of_z w64 c.args.at c.ranges.at) c.respond.ensures.responds in
+    let answers = at-value (Responds d c.args.at old new c.args.close asked) _ _ _
+    c.in-Ok-Refused.is c.in-Ok-Refused.field-0-is given in
+    let tells =
+    refused-tells d c.args.at old new g.met.D.Desk.laws c.args.close asked _ answers in (
       Begun.Telling None,
       (
         tells.0,
@@ -41,53 +29,29 @@ returns-in-Ok-Refused-clause-tells g c left =
     )
 
 pub returns-in-Ok-write_reply-clause-tells : goal.returns-in-Ok-write_reply-clause-tells
-returns-in-Ok-write_reply-clause-tells g c left =
-    let old : Seen = record {
-      left = left;
-      sent = g.W.Write.contents c.args.w.now;
-      content = g.D.Desk.content c.args.desk.now;
-      faults = g.D.Desk.faults c.args.desk.now;
-    } in
-    let new : Seen = record {
-      left = left;
-      sent = g.W.Write.contents c.write_reply.new.w;
-      content = g.D.Desk.content c.respond.new.desk;
-      faults = g.D.Desk.faults c.respond.new.desk;
-    } in
+returns-in-Ok-write_reply-clause-tells g c =
+    let d = g.D.Desk in
+    let old = c.args.desk.now in
+    let new = c.respond.new.desk in
     let asked = request_of c.args.head.now c.args.body.now in
-    let all = g.D.Desk.trusted c.respond.new.desk × g.D.Desk.sound c.args.desk.now in
-    let given = subst
-    (λ (z : ℤ). Responds all z c.args.close asked old.content new.content old.faults new.faults
-    c.respond.result) (to_z-of_z w64 c.args.at c.ranges.at) c.respond.ensures.responds in
-    let answers = at-value
-    (Responds all c.args.at c.args.close asked old.content new.content old.faults new.faults) _
-    _ _ c.in-Ok-Replied.is c.in-Ok-Replied.field-0-is given in
-    let tells = replied-tells all c.args.at c.args.close asked old new _ answers in
+    let given = subst (λ (z : ℤ). Responds d z old new c.args.close asked c.respond.result)
+    (to_z-of_z w64 c.args.at c.ranges.at) c.respond.ensures.responds in
+    let answers = at-value (Responds d c.args.at old new c.args.close asked) _ _ _
+    c.in-Ok-Replied.is c.in-Ok-Replied.field-0-is given in
+    let tells = replied-tells d c.args.at old new c.args.close asked _ answers in
     (Some tells.0, tells.1, Appends-is _ _ _ _ tells.2 c.in-Ok-write_reply.ensures.ok)
 
 pub returns-in-Ok-Replied-clause-tells : goal.returns-in-Ok-Replied-clause-tells
-returns-in-Ok-Replied-clause-tells g c left =
-    let old : Seen = record {
-      left = left;
-      sent = g.W.Write.contents c.args.w.now;
-      content = g.D.Desk.content c.args.desk.now;
-      faults = g.D.Desk.faults c.args.desk.now;
-    } in
-    let new : Seen = record {
-      left = left;
-      sent = g.W.Write.contents c.write_reply.new.w;
-      content = g.D.Desk.content c.respond.new.desk;
-      faults = g.D.Desk.faults c.respond.new.desk;
-    } in
+returns-in-Ok-Replied-clause-tells g c =
+    let d = g.D.Desk in
+    let old = c.args.desk.now in
+    let new = c.respond.new.desk in
     let asked = request_of c.args.head.now c.args.body.now in
-    let all = g.D.Desk.trusted c.respond.new.desk × g.D.Desk.sound c.args.desk.now in
-    let given = subst
-    (λ (z : ℤ). Responds all z c.args.close asked old.content new.content old.faults new.faults
-    c.respond.result) (to_z-of_z w64 c.args.at c.ranges.at) c.respond.ensures.responds in
-    let answers = at-value
-    (Responds all c.args.at c.args.close asked old.content new.content old.faults new.faults) _
-    _ _ c.in-Ok-Replied.is c.in-Ok-Replied.field-0-is given in
-    let tells = replied-tells all c.args.at c.args.close asked old new _ answers in (
+    let given = subst (λ (z : ℤ). Responds d z old new c.args.close asked c.respond.result)
+    (to_z-of_z w64 c.args.at c.ranges.at) c.respond.ensures.responds in
+    let answers = at-value (Responds d c.args.at old new c.args.close asked) _ _ _
+    c.in-Ok-Replied.is c.in-Ok-Replied.field-0-is given in
+    let tells = replied-tells d c.args.at old new c.args.close asked _ answers in (
       Begun.Telling (Some tells.0),
       (
         tells.1,
@@ -98,42 +62,26 @@ returns-in-Ok-Replied-clause-tells g c left =
     )
 
 pub returns-clause-tells : goal.returns-clause-tells
-returns-clause-tells g c left =
-    let old : Seen = record {
-      left = left;
-      sent = g.W.Write.contents c.args.w.now;
-      content = g.D.Desk.content c.args.desk.now;
-      faults = g.D.Desk.faults c.args.desk.now;
-    } in
-    let new : Seen = record {
-      left = left;
-      sent = g.W.Write.contents c.args.w.now;
-      content = g.D.Desk.content c.respond.new.desk;
-      faults = g.D.Desk.faults c.respond.new.desk;
-    } in
+returns-clause-tells g c =
+    let d = g.D.Desk in
+    let old = c.args.desk.now in
+    let new = c.respond.new.desk in
     let asked = request_of c.args.head.now c.args.body.now in
-    let all = g.D.Desk.trusted c.respond.new.desk × g.D.Desk.sound c.args.desk.now in
-    let given = subst
-    (λ (z : ℤ). Responds all z c.args.close asked old.content new.content old.faults new.faults
-    c.respond.result) (to_z-of_z w64 c.args.at c.ranges.at) c.respond.ensures.responds in
-    let answers = subst
-    (λ r. Responds all c.args.at c.args.close asked old.content new.content old.faults
-    new.faults r) c.in-Err.is given in
-    begun-lost all c.args.at c.args.close asked old new c.in-Err.lost.acted answers.0 refl answers.1
+    let given = subst (λ (z : ℤ). Responds d z old new c.args.close asked c.respond.result)
+    (to_z-of_z w64 c.args.at c.ranges.at) c.respond.ensures.responds in
+    let answers = subst (λ r. Responds d c.args.at old new c.args.close asked r) c.in-Err.is
+    given in
+    begun-lost d c.args.at old new c.args.close asked _ _ c.in-Err.lost.acted answers refl
 
 pub returns-in-Ok-Fault-clause-tells : goal.returns-in-Ok-Fault-clause-tells
-returns-in-Ok-Fault-clause-tells g c left =
-    let all = g.D.Desk.trusted c.respond.new.desk × g.D.Desk.sound c.args.desk.now in
+returns-in-Ok-Fault-clause-tells g c =
+    let d = g.D.Desk in
+    let old = c.args.desk.now in
+    let new = c.respond.new.desk in
     let asked = request_of c.args.head.now c.args.body.now in
-    let old = g.D.Desk.content c.args.desk.now in
-    let new = g.D.Desk.content c.respond.new.desk in
-    let before = g.D.Desk.faults c.args.desk.now in
-    let after = g.D.Desk.faults c.respond.new.desk in
-    let given = subst
-    (λ (z : ℤ). Responds all z c.args.close asked old new before after c.respond.result)
+    let given = subst (λ (z : ℤ). Responds d z old new c.args.close asked c.respond.result)
     (to_z-of_z w64 c.args.at c.ranges.at) c.respond.ensures.responds in
-    let fails = at-value
-    (Responds all c.args.at c.args.close asked old new before after) _ _ _ c.in-Ok-Fault.is
+    let fails = at-value (Responds d c.args.at old new c.args.close asked) _ _ _ c.in-Ok-Fault.is
     c.in-Ok-Fault.field-0-is given in (
       Begun.Failing,
       (
