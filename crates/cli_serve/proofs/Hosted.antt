@@ -4,18 +4,26 @@ use Rattle.std.proofs.Common.{Ok, Err, OnOk, inl, inr, subst, sym, refl, arith}
 use Rattle.std.proofs.lemmas.List.{append-nil}
 use Rattle.std.proofs.lemmas.List.Elements.{All-nil}
 use Rattle.sqlite.specs.State.{State, HasCleanDisk}
-use Rattle.room_rows.specs.Content.{Content}
 use Rattle.room_machine.specs.declared.desk.Desk.{Ghosts}
-use Rattle.room_machine.specs.Run.{Event, Run}
+use Rattle.room_machine.specs.Desk.{DeskLaws}
+use Rattle.room_machine.specs.Run.{Asking, Event}
+use Rattle.room_machine.proofs.Meeting.{meet}
 use Rattle.room_http.specs.Stream.{Runs}
-use Rattle.room_store.specs.Crash.{Lasts}
+use Rattle.room_store.specs.Crash.{Lasts, Outlasts}
+use Rattle.room_store.specs.Lasting.{together}
+use Rattle.room_store.specs.Opens.{Opens}
+use Rattle.room_store.proofs.Outlasting.{idle, leaves_whole}
+use Rattle.store_schema.specs.declared.fault.OpenFault.{OpenFault}
 use Rattle.room_store.specs.Kept.{IsShut, IsSound, Keeps}
 use Rattle.room_store.specs.Leads.{Leads}
 use Rattle.cli_serve.specs.Lines.{TellsFaults}
-use Rattle.cli_serve.specs.Staying.{Outlasts, Rests, Served}
+use Rattle.cli_serve.specs.Staying.{Rests, Served}
+use Rattle.cli_serve.specs.Staying as staying
 use Rattle.cli_serve.specs.Visits.{IsEnd, IsServedVisit, Visit, moment_of, requests_of}
+use Rattle.cli_serve.specs.Visits.{unanswered_of}
 use Rattle.cli_serve.specs.declared.fault.ServingFault.{ServingFault}
-use Rattle.cli_serve.specs.Hosts.{IsServed, LeavesShut, TellsEnd, TellsPort, end_status}
+use Rattle.cli_serve.specs.Hosts.{IsServed, LeavesRequests, LeavesShut, TellsEnd, TellsPort}
+use Rattle.cli_serve.specs.Hosts.{end_status}
 use Rattle.cli_serve.specs.Places.{AsksFor, Place}
 
 pub ends : (end : Result (Unit {0}) ServingFault) (port status : ℕ) (out out' : Option (List ℕ))
@@ -25,9 +33,9 @@ ends (Ok done) port status out out' is told = inl (is, told)
 ends (Err fault) port status out out' is told = inr is
 
 -- no connection came
-pub unserved : {D : Type 0} (d : Ghosts D) (count : ℕ) (told : List ℤ → Type 0) (desk : D)
-    → Served d count told told desk desk (Err ServingFault.Net)
-unserved d count told desk = (
+pub unserved : {D : Type 0} (d : Ghosts D) → DeskLaws d.Outlasts → (count : ℕ)
+    (told : List ℤ → Type 0) (desk : D) → Served d count told told desk desk (Err ServingFault.Net)
+unserved d laws count told desk = (
   record {
     trusted = λ t. t;
     sound = λ t s. s;
@@ -36,6 +44,7 @@ unserved d count told desk = (
     each = All-nil IsServedVisit;
     moments = λ before is. subst told (sym (append-nil before)) is;
     run = λ t s room is. (room, refl, is);
+    outlasts = laws.itself desk;
   },
   inr refl,
   refl,
@@ -47,26 +56,37 @@ pub untold : (count : ℕ) (err : Option (List ℕ))
 untold count err = (0, omega arith, refl)
 
 -- a desk that is as it was
-pub rests : {D : Type 0} (d : Ghosts D) (old new : D) → new ≡ old → Rests d old new
-rests {D} d old new same =
+pub rests : {D : Type 0} (d : Ghosts D) → DeskLaws d.Outlasts → (old new : D) → new ≡ old
+    → Rests d old new
+rests {D} d laws old new same =
     subst (λ (desk : D). Rests d old desk) (sym same)
     (record {
       trusted = λ t. t;
       sound = λ t s. s;
       run = λ t s room is. (room, refl, is);
+      outlasts = laws.itself old;
     })
 
 -- the same, where the port may have been printed
-pub rests_or : {D : Type 0} (d : Ghosts D) (old new : D) (port : ℕ) (out out' : Option (List ℕ))
+pub rests_or : {D : Type 0} (d : Ghosts D) → DeskLaws d.Outlasts → (old new : D) (port : ℕ)
+    (out out' : Option (List ℕ))
     → (new ≡ old) ⊎ TellsPort port out out' → Rests d old new ⊎ TellsPort port out out'
-rests_or d old new port out out' (inl same) = inl (rests d old new same)
-rests_or d old new port out out' (inr tells) = inr tells
+rests_or d laws old new port out out' (inl same) = inl (rests d laws old new same)
+rests_or d laws old new port out out' (inr tells) = inr tells
 
 -- a store on which nothing was done, in terms of its content
 pub rested : (old new : State) → (HasCleanDisk new → HasCleanDisk old)
     → (HasCleanDisk new → IsSound old → IsSound new)
     → (HasCleanDisk new → IsSound old → Runs (Keeps old) [] (Keeps new)) → Leads old [] new
 rested old new trusted sound run = record { trusted = trusted; sound = sound; run = run }
+
+-- what a power cut leaves, where it left what was seen before
+pub leaves_requests : (old new : State) (visits : List Visit)
+    → Outlasts old (unanswered_of visits) (requests_of visits) new → Lasts old
+    → LeavesRequests old visits new
+leaves_requests old new visits outlasts lasts now sound is_open room keeps =
+    leaves_whole old new (unanswered_of visits) (requests_of visits) outlasts now sound is_open
+    lasts room keeps
 
 -- what a store served, in terms of its content
 pub served : (port count : ℕ) (told told' : List ℤ → Type 0) (old new : State)
@@ -80,10 +100,11 @@ pub served : (port count : ℕ) (told told' : List ℤ → Type 0) (old new : St
     → IsEnd count end (length visits) → LeavesShut end new → status ≡ end_status end
     → OnOk end (TellsPort port out out')
     → Leads old [] new ⊎ TellsPort port out out' → TellsFaults count err mid end
-    → TellsEnd end mid err' → Lasts new
+    → TellsEnd end mid err' → Lasts old → Lasts new
+    → Outlasts old (unanswered_of visits) (requests_of visits) new
     → IsServed port count told told' old new out out' err err' status
 served port count told told' old new out out' err mid err' status visits end few each moments
-    trusted sound run says shut is tells first connections last lasts =
+    trusted sound run says shut is tells first connections last lasted lasts outlasts =
     record {
       visits = visits;
       few = few;
@@ -91,6 +112,8 @@ served port count told told' old new out out' err mid err' status visits end few
       moments = moments;
       leads = record { trusted = trusted; sound = sound; run = run };
       lasts = lasts;
+      outlasts = outlasts;
+      leaves = leaves_requests old new visits outlasts lasted;
       ends = ends end port status out out' is tells;
       first = first;
       end = end;
@@ -103,7 +126,7 @@ served port count told told' old new out out' err mid err' status visits end few
 -- a desk that ended the service is shut
 module _ {D : Type 0} (d : Ghosts D) (visits : ℕ) (old new : D) (s : State)
     (shut : d.shut new → IsShut s) where
-  pub left_shut : (end : Result (Unit {0}) ServingFault) → Outlasts d visits old new end
+  pub left_shut : (end : Result (Unit {0}) ServingFault) → staying.Outlasts d visits old new end
       → LeavesShut end s
   left_shut (Ok done) is = tt
   left_shut (Err ServingFault.Memory) is = tt
@@ -111,17 +134,16 @@ module _ {D : Type 0} (d : Ghosts D) (visits : ℕ) (old new : D) (s : State)
   left_shut (Err ServingFault.Net) is = tt
   left_shut (Err ServingFault.Desk) is = shut is.2.2.tells
 
--- events after a step without events
-pub after : (old mid new : State) (events : List Event) → Leads old [] mid → Leads mid events new
-    → Leads old events new
-after old mid new events first then = record {
-  trusted = λ now. first.trusted (then.trusted now);
-  sound = λ now sound. then.sound now (first.sound (then.trusted now) sound);
-  run = λ now sound room keeps.
-      let one = first.run (then.trusted now) sound room keeps in
-      let two = then.run now (first.sound (then.trusted now) sound) one.0 one.2 in
-      (two.0, subst (λ (start : Content). Run start events two.0) one.1 two.1, two.2);
-}
+-- by opening a room nothing happens, and nothing is lost
+pub opened : (old new : State) (result : Result (Unit {0}) OpenFault) → Opens old new result
+    → Outlasts old [] [] new
+opened old new result opens =
+    idle old new opens.leads opens.adopts.crash opens.adopts.was_open
+
+-- what happens after that
+pub after : (old mid new : State) (asked : List Asking) (events : List Event)
+    → Outlasts old [] [] mid → Outlasts mid asked events new → Outlasts old asked events new
+after old mid new asked events first then = together meet old mid new [] asked [] events first then
 
 -- nothing was asked for
 pub asks_none : (asked : List Place → Type 0) → AsksFor asked asked []

@@ -1,16 +1,19 @@
 -- Connections one after another, as what a desk did.
-use Rattle.std.proofs.Common.{◌≡◌, ℕ, ℤ, ◌+◌, ◌≤◌, All, List, [], ◌∷◌, ◌++◌, length, map, Option}
+use Rattle.std.proofs.Common.{◌≡◌, ℕ, ℤ, ◌+◌, ◌≤◌, All, IfSome, List, [], ◌∷◌, ◌++◌, length, map}
+use Rattle.std.proofs.Common.{Option, Some, None}
 use Rattle.std.proofs.Common.{subst, sym, ap, refl, ◌∙◌, arith, append_assoc}
 use Rattle.std.proofs.lemmas.Grind.{flat_map-append}
 use Rattle.std.proofs.lemmas.List.{append-nil, length-append, map-append}
 use Rattle.std.proofs.lemmas.List.Elements.{All-append, All-nil, All-from_recursion, All-weaker}
 use Rattle.room_machine.specs.declared.desk.Desk.{Ghosts}
-use Rattle.room_machine.specs.Run.{Event}
-use Rattle.room_http.specs.Serve.{Connects, IsNext, Next, next_exchange}
+use Rattle.room_machine.specs.Desk.{DeskLaws}
+use Rattle.room_machine.specs.Run.{Asking, Event}
+use Rattle.room_http.specs.Message.{Message}
+use Rattle.room_http.specs.Serve.{Connects, IsNext, Next, next_asking, next_exchange, seen}
 use Rattle.room_http.specs.Stream.{Exchange, IsExchange, IsOpen, Runs}
-use Rattle.cli_serve.specs.Visits.{Attends, IsServedVisit, Receives, ReceivesAll, Visit, moment_of}
-use Rattle.cli_serve.specs.Visits.{requests_of, visit_events}
-use Rattle.room_machine.proofs.Meeting.{meet}
+use Rattle.cli_serve.specs.Visits.{AsksDesk, Attends, IsServedVisit, Receives, ReceivesAll, Visit}
+use Rattle.cli_serve.specs.Visits.{asking_by, moment_of, requests_of, unanswered_of, visit_events}
+use Rattle.cli_serve.specs.Visits.{visit_unanswered}
 use Rattle.room_http.proofs.Runs.{Runs-then}
 
 -- what comes next is an exchange, if anything comes
@@ -27,10 +30,36 @@ next_few (Next.Exchanging x close) = omega arith
 next_few (Next.Refusing refusal) = omega arith
 next_few (Next.Failing m) = omega arith
 
+-- the message that the desk failed at, if one comes next
+abbrev next_failed : Next → Option Message
+next_failed (Next.Failing m) = Some m
+next_failed next = None
+
+next_unanswered : (at : ℤ) (next : Next) → next_asking at next ≡ asking_by at (next_failed next)
+next_unanswered at Next.Unknown = refl
+next_unanswered at (Next.Exchanging x close) = refl
+next_unanswered at (Next.Refusing refusal) = refl
+next_unanswered at (Next.Failing m) = refl
+
+next_fails : (left : List ℕ) (n : ℕ) (next : Next) → IsNext left n next
+    → IfSome (next_failed next) AsksDesk
+next_fails left n Next.Unknown is = tt
+next_fails left n (Next.Exchanging x close) is = tt
+next_fails left n (Next.Refusing refusal) is = tt
+next_fails left n (Next.Failing m) is = (is.0, is.1)
+
 exchange_is : (x : Exchange) → IsOpen x → IsExchange x
 exchange_is x given = given.is
 
-module _ {D : Type 0} (d : Ghosts D) where
+module _ {D : Type 0} (d : Ghosts D) (laws : DeskLaws d.Outlasts) where
+  -- the same requests, however they are listed
+  pub alike : (old new : D) (asked asked' : List Asking) (events events' : List Event)
+      → asked ≡ asked' → events ≡ events' → d.Outlasts old asked events new
+      → d.Outlasts old asked' events' new
+  alike old new asked asked' events events' a e outlasts =
+      subst (λ (es : List Event). d.Outlasts old asked' es new) e
+      (subst (λ (us : List Asking). d.Outlasts old us events new) a outlasts)
+
   -- no connection came
   unfoldable pub nobody : (count : ℕ) (told : List ℤ → Type 0) (desk : D)
       → Receives d count told told desk desk
@@ -42,10 +71,12 @@ module _ {D : Type 0} (d : Ghosts D) where
     each = All-nil IsServedVisit;
     moments = λ before is. subst told (sym (append-nil before)) is;
     run = λ t s room is. (room, refl, is);
+    outlasts = laws.itself desk;
   }
 
   -- more connections might have come
-  unfoldable pub fewer : (less count : ℕ) (told told' : List ℤ → Type 0) (old new : D) → less ≤ count
+  unfoldable pub fewer : (less count : ℕ) (told told' : List ℤ → Type 0) (old new : D)
+      → less ≤ count
       → Receives d less told told' old new → Receives d count told told' old new
   fewer less count told told' old new h given = record {
     trusted = given.trusted;
@@ -55,6 +86,7 @@ module _ {D : Type 0} (d : Ghosts D) where
     each = given.each;
     moments = given.moments;
     run = given.run;
+    outlasts = given.outlasts;
   }
 
   -- some connections came, and then others
@@ -81,6 +113,11 @@ module _ {D : Type 0} (d : Ghosts D) where
         (Runs-then (d.content old) (d.content mid) (d.content new) (requests_of first.visits)
         (requests_of then.visits) (first.run (then.trusted t) s)
         (then.run t (first.sound (then.trusted t) s)));
+    outlasts =
+        alike old new _ _ _ _ (sym (flat_map-append visit_unanswered first.visits then.visits))
+        (sym (flat_map-append visit_events first.visits then.visits))
+        (laws.on old mid new (unanswered_of first.visits) (unanswered_of then.visits)
+        (requests_of first.visits) (requests_of then.visits) first.outlasts then.outlasts);
   }
 
   -- the same as exactly none
@@ -101,19 +138,16 @@ module _ {D : Type 0} (d : Ghosts D) where
   -- one connection was served
   pub attends : {z : ℤ} {left sent left_then sent_then : Option (List ℕ)} (at : ℤ) (old new : D)
       → z ≡ at → (d.trusted new → d.trusted old) → (d.trusted new → d.sound old → d.sound new)
-      → Connects (d.trusted new × d.sound old) z
-      (record { left = left; sent = sent; content = d.content old; faults = d.faults old })
-      (record {
-        left = left_then;
-        sent = sent_then;
-        content = d.content new;
-        faults = d.faults new;
-      })
+      → Connects d z (seen left sent old) (seen left_then sent_then new)
       → Attends d at old new
   attends {z} at old new same trusted sound connects =
       let next = next_exchange connects.next in
       let all = connects.exchanges ++ next in
-      let visit : Visit = record { at = z; exchanges = all } in
+      let visit : Visit = record {
+        at = z;
+        exchanges = all;
+        failed = next_failed connects.next;
+      } in
       record {
         trusted = trusted;
         sound = sound;
@@ -125,8 +159,11 @@ module _ {D : Type 0} (d : Ghosts D) where
               (next_each connects.rest (length connects.exchanges) connects.next connects.is_next);
           few = let few = connects.few in let one = next_few connects.next in
               omega (arith, length-append connects.exchanges next, few, one);
+          fails =
+              next_fails connects.rest (length connects.exchanges) connects.next connects.is_next;
         };
-        run = λ t s. connects.run (t, s);
+        run = connects.run;
+        outlasts = alike old new _ _ _ _ (next_unanswered z connects.next) refl connects.outlasts;
       }
 
   -- a connection was lost, and the desk wasn't asked
@@ -134,10 +171,11 @@ module _ {D : Type 0} (d : Ghosts D) where
   lost at desk = record {
     trusted = λ t. t;
     sound = λ t s. s;
-    visit = record { at = at; exchanges = [] };
+    visit = record { at = at; exchanges = []; failed = None };
     moment = refl;
-    is = record { each = All-nil IsExchange; few = omega arith };
+    is = record { each = All-nil IsExchange; few = omega arith; fails = tt };
     run = λ t s room is. (room, refl, is);
+    outlasts = laws.itself desk;
   }
 
   -- and the clock read its moment
@@ -155,6 +193,9 @@ module _ {D : Type 0} (d : Ghosts D) where
     run = λ t s.
         subst (λ (events : List Event). Runs (d.content old) events (d.content new))
         (sym (append-nil (visit_events a.visit))) (a.run t s);
+    outlasts =
+        alike old new _ _ _ _ (sym (append-nil (visit_unanswered a.visit)))
+        (sym (append-nil (visit_events a.visit))) a.outlasts;
   }
 
   -- the same as exactly one

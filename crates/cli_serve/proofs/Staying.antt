@@ -4,14 +4,14 @@ use Rattle.std.proofs.Common.{subst, sym, refl, inl, ◌∙◌, arith, add-one}
 use Rattle.std.proofs.lemmas.List.{append-nil, length-append}
 use Rattle.std.proofs.lemmas.List.Elements.{All-nil}
 use Rattle.room_machine.specs.declared.desk.Desk.{Ghosts}
-use Rattle.room_machine.specs.Desk.{Agrees}
+use Rattle.room_machine.specs.Desk.{Agrees, DeskLaws}
 use Rattle.room_rows.specs.Content.{Content}
 use Rattle.cli_serve.specs.Staying.{Lasts, Outlasts, Passes, Rests, Served, TellsShut}
 use Rattle.cli_serve.specs.Visits.{IsEnd, IsServedVisit, Receives, ReceivesAll}
 use Rattle.cli_serve.specs.declared.fault.ServingFault.{ServingFault}
 use Rattle.cli_serve.proofs.Receiving.{fewer, nobody, others}
 
-module _ {D : Type 0} (d : Ghosts D) where
+module _ {D : Type 0} (d : Ghosts D) (laws : DeskLaws d.Outlasts) where
   -- the desk was asked, and no connection came
   pub asked : (told : List ℤ → Type 0) (old new : D) → Rests d old new
       → ReceivesAll d 0 told told old new
@@ -24,6 +24,7 @@ module _ {D : Type 0} (d : Ghosts D) where
       each = All-nil IsServedVisit;
       moments = λ before is. subst told (sym (append-nil before)) is;
       run = rests.run;
+      outlasts = rests.outlasts;
     },
     refl,
   )
@@ -31,11 +32,12 @@ module _ {D : Type 0} (d : Ghosts D) where
   -- asking leaves what is kept
   pub rests : (old new : D) → (d.trusted new → d.trusted old)
       → (d.trusted new → (room : Content) → d.content old room → d.content new room)
-      → (d.trusted new → d.sound old → d.sound new) → Rests d old new
-  rests old new trusted kept sound = record {
+      → (d.trusted new → d.sound old → d.sound new) → d.Outlasts old [] [] new → Rests d old new
+  rests old new trusted kept sound outlasts = record {
     trusted = trusted;
     sound = sound;
     run = λ t s room is. (room, refl, kept t room is);
+    outlasts = outlasts;
   }
 
   -- what the desk has told of itself
@@ -56,7 +58,7 @@ module _ {D : Type 0} (d : Ghosts D) where
       → IsEnd count (Err fault) 0 → Outlasts d 0 desk desk (Err fault)
       → Served d count told told desk desk (Err fault)
   unfolding nobody
-  unserved count told desk fault says stays = (nobody d count told desk, says, stays)
+  unserved count told desk fault says stays = (nobody d laws count told desk, says, stays)
 
   module _ (number count : ℕ) (told told' : List ℤ → Type 0) (old mid : D)
       (first : ReceivesAll d number told told' old mid) (stays : Lasts d number old mid) where
@@ -82,7 +84,7 @@ module _ {D : Type 0} (d : Ghosts D) where
         → Served d count told told'' old new (Err fault)
     unfolding fewer others
     missing told'' new fault more end =
-        let all = others d number 0 told told' told'' old mid new first.0 end.2 in
+        let all = others d laws number 0 told told' told'' old mid new first.0 end.2 in
         let none = end.2.few in
         let visits : length all.visits ≡ number =
         omega (arith, length-append first.0.visits end.2.visits, first.1, none) in
@@ -90,7 +92,7 @@ module _ {D : Type 0} (d : Ghosts D) where
         subst (λ (n : ℕ). Lasts d n old new) (sym visits)
         (subst (λ (desk : D). Lasts d number old desk) (sym end.1) stays) in
         let net : Served d count told told'' old new (Err ServingFault.Net) = (
-          fewer d (number + 0) count told told'' old new (omega (arith, more)) all,
+          fewer d laws (number + 0) count told told'' old new (omega (arith, more)) all,
           inl (omega (arith, visits, more)),
           here,
         ) in
@@ -102,10 +104,10 @@ module _ {D : Type 0} (d : Ghosts D) where
         → Served d count told told'' old new (Err ServingFault.Desk)
     unfolding fewer others
     left_shut told'' new shut more next leaves is =
-        let all = others d number 1 told told' told'' old mid new first.0 next.0 in
+        let all = others d laws number 1 told told' told'' old mid new first.0 next.0 in
         let visits : length all.visits ≡ number + 1 =
         omega (arith, length-append first.0.visits next.0.visits, first.1, next.1) in (
-          fewer d (number + 1) count told told'' old new (omega (arith, more)) all,
+          fewer d laws (number + 1) count told told'' old new (omega (arith, more)) all,
           omega (arith, visits),
           (number, visits, (mid, stays, subst (λ (b : Bool). Passes d mid new b) is leaves)),
         )

@@ -1,21 +1,24 @@
 -- What the subcommand `serve` does on an open database (own).
 use Rattle.std.specs.Prelude.{◌≡◌, ◌≤◌, ◌⊎◌, ℕ, ℤ, All, List, [], ◌∷◌, ◌++◌, codes, length, map}
-use Rattle.std.specs.Prelude.{Option, Result, Ok, Err, ⊤}
+use Rattle.std.specs.Prelude.{IsTrue, Option, Result, Ok, Err, ⊤}
 use Rattle.std.specs.Io.KnownBytes.{Appends}
 use Rattle.sqlite.specs.Held.{Held}
-use Rattle.sqlite.specs.State.{State}
+use Rattle.sqlite.specs.State.{State, HasCleanDisk}
 use Rattle.cli_outcome.specs.Ending.{fault_line, no_room_text}
 use Rattle.cli_outcome.specs.Written.{PrintsFault, PrintsText, WritesSome}
 use Rattle.cli_outcome.specs.declared.fault.Fault.{Fault}
 use Rattle.cli_outcome.specs.declared.no_room.NoRoom.{NoRoom}
 use Rattle.cli_outcome.specs.declared.status.Status.{Status}
 use Rattle.store_schema.specs.declared.fault.OpenFault.{OpenFault}
-use Rattle.room_store.specs.Crash.{Lasts}
-use Rattle.room_store.specs.Kept.{IsShut}
+use Rattle.room_rows.specs.Content.{Content}
+use Rattle.room_machine.specs.Run.{Run}
+use Rattle.room_store.specs.Crash.{Lasts, Leaves, Outlasts}
+use Rattle.room_store.specs.Kept.{IsShut, IsSound, Keeps}
 use Rattle.room_store.specs.Leads.{Leads}
 use Rattle.room_store.specs.Opens.{Opens}
 use Rattle.cli_serve.specs.Lines.{TellsFaults, listening_line}
 use Rattle.cli_serve.specs.Visits.{IsEnd, IsServedVisit, Visit, moment_of, requests_of}
+use Rattle.cli_serve.specs.Visits.{unanswered_of}
 use Rattle.cli_serve.specs.declared.fault.ServingFault.{ServingFault}
 use Rattle.cli_serve.specs.Places.{AsksFor, Place, local_place}
 
@@ -83,10 +86,21 @@ pub record IsTurnedDown (asked asked' : List Place → Type 0) (old new : State)
   pub told : TurnsDown (why_not_opened why) out out' err err' status
   pub asked_none : AsksFor asked asked' []
 
+-- From a sound room over an open connection, where the disk has returned what was written: whatever
+-- a power cut leaves is a sound room, the one after all requests that were answered. Where a fault,
+-- or the power cut itself, has shut the connection, it may be the room after one request more, one
+-- of those that got no answer.
+abbrev pub LeavesRequests : State → List Visit → State → Type 0
+LeavesRequests old visits new = HasCleanDisk new → IsSound old → IsTrue old.is_open
+    → (room : Content) → Keeps old room
+    → (next : Content) × Run room (requests_of visits) next
+    × Leaves (unanswered_of visits) new next
+
 -- The requests of at most `count` connections were served, each at the moment that the clock read
 -- for it. All is done, or there was a fault, and what the fault says of the connections holds. The
 -- port was printed before the first of them, and faults as they came. As long as the connection to
--- the database is open, a power cut leaves what is seen.
+-- the database is open, a power cut leaves what is seen. Whether it is open or not, a power cut
+-- leaves all requests that were answered, and at most one that wasn't, as a whole.
 pub record IsServed (port count : ℕ) (told told' : List ℤ → Type 0) (old new : State)
     (out out' err err' : Option (List ℕ)) (status : ℕ) : Type 0 where
   pub visits : List Visit
@@ -95,6 +109,8 @@ pub record IsServed (port count : ℕ) (told told' : List ℤ → Type 0) (old n
   pub moments : (before : List ℤ) → told before → told' (before ++ map moment_of visits)
   pub leads : Leads old (requests_of visits) new
   pub lasts : Lasts new
+  pub outlasts : Outlasts old (unanswered_of visits) (requests_of visits) new
+  pub leaves : LeavesRequests old visits new
   pub ends : ((status ≡ 0) × TellsPort port out out') ⊎ (status ≡ 3)
   pub first : Leads old [] new ⊎ TellsPort port out out'
   pub end : Result (Unit {0}) ServingFault

@@ -12,6 +12,7 @@ pub record Rests {D : Type 0} (d : Ghosts D) (old new : D) : Type 0 where
   pub trusted : d.trusted new → d.trusted old
   pub sound : d.trusted new → d.sound old → d.sound new
   pub run : d.trusted new → d.sound old → Runs (d.content old) [] (d.content new)
+  pub outlasts : d.Outlasts old [] [] new
 
 -- The desk was asked whether it is shut. Where it isn't said to be, it isn't, or it couldn't find
 -- out, which is a fault of its own.

@@ -1,30 +1,51 @@
 -- What the connections of a listener do at a desk (own).
-use Rattle.std.specs.Prelude.{◌≡◌, ℕ, ℤ, ◌≤◌, ◌<◌, ◌⊎◌, All, List, ◌++◌, length, map, Result, Ok}
-use Rattle.std.specs.Prelude.{Err}
+use Rattle.std.specs.Prelude.{◌≡◌, ℕ, ℤ, ◌≤◌, ◌<◌, ◌⊎◌, All, List, [], ◌++◌, length, map, Option}
+use Rattle.std.specs.Prelude.{Some, None, IfSome, Result, Ok, Err}
 use Rattle.std.specs.List.{flat_map}
 use Rattle.room_machine.specs.declared.desk.Desk.{Ghosts}
-use Rattle.room_machine.specs.Run.{Event}
+use Rattle.room_machine.specs.Run.{Asking, Event}
 use Rattle.room_http.specs.Limits.{max_messages}
-use Rattle.room_http.specs.Stream.{Exchange, IsExchange, event_at, Runs}
+use Rattle.room_http.specs.Message.{IsMessage, Message, asked}
+use Rattle.room_http.specs.Stream.{Exchange, IsExchange, IsRequest, Runs, asking_at, events_by}
 use Rattle.cli_serve.specs.declared.fault.ServingFault.{ServingFault}
 
--- a connection as the desk sees it: its moment, and its messages with their replies
+-- a connection as the desk sees it: its moment, its messages with their replies, and the message
+-- that the desk failed at, if there was one
 pub record Visit : Type 0 where
   pub at : ℤ
   pub exchanges : List Exchange
+  pub failed : Option Message
+
+-- a message by which the desk is asked
+abbrev pub AsksDesk : Message → Type 0
+AsksDesk m = IsMessage m × IsRequest (asked m)
 
 -- each is a message, and the desk is asked exactly where no test refuses it
 pub record IsServedVisit (visit : Visit) : Type 0 where
   pub each : All IsExchange visit.exchanges
   pub few : length visit.exchanges ≤ max_messages
+  pub fails : IfSome visit.failed AsksDesk
 
--- its requests, each of its caller at that moment
+-- its requests that were answered, each of its caller at that moment
 abbrev pub visit_events : Visit → List Event
-visit_events visit = flat_map (event_at visit.at) visit.exchanges
+visit_events visit = events_by visit.at visit.exchanges
 
 -- the requests of one connection after another
 abbrev pub requests_of : List Visit → List Event
 requests_of visits = flat_map visit_events visits
+
+-- what a message asks for
+abbrev pub asking_by : ℤ → Option Message → List Asking
+asking_by at (Some m) = asking_at at (asked m)
+asking_by at None = []
+
+-- its request that got no answer, if there was one
+abbrev pub visit_unanswered : Visit → List Asking
+visit_unanswered visit = asking_by visit.at visit.failed
+
+-- the requests without an answer, of one connection after another
+abbrev pub unanswered_of : List Visit → List Asking
+unanswered_of visits = flat_map visit_unanswered visits
 
 abbrev pub moment_of : Visit → ℤ
 moment_of visit = visit.at
@@ -38,12 +59,13 @@ pub record Attends {D : Type 0} (d : Ghosts D) (at : ℤ) (old new : D) : Type 0
   pub is : IsServedVisit visit
   pub run : d.trusted new → d.sound old
       → Runs (d.content old) (visit_events visit) (d.content new)
+  pub outlasts : d.Outlasts old (visit_unanswered visit) (visit_events visit) new
 
 -- From one state of a desk to a later one, what it did is a run over the requests of at most
 -- `count` connections, one after another. This is said of a desk that was sound before and is
--- trusted afterwards. The moments of the connections are readings of a clock, one for each, in
--- order. `told` says what the readings may have been before, and `told'` what they may be
--- afterwards.
+-- trusted afterwards. What outlasts them is said of any desk. The moments of the connections are
+-- readings of a clock, one for each, in order. `told` says what the readings may have been before,
+-- and `told'` what they may be afterwards.
 pub record Receives {D : Type 0} (d : Ghosts D) (count : ℕ) (told told' : List ℤ → Type 0)
     (old new : D) : Type 0 where
   pub trusted : d.trusted new → d.trusted old
@@ -54,6 +76,7 @@ pub record Receives {D : Type 0} (d : Ghosts D) (count : ℕ) (told told' : List
   pub moments : (before : List ℤ) → told before → told' (before ++ map moment_of visits)
   pub run : d.trusted new → d.sound old
       → Runs (d.content old) (requests_of visits) (d.content new)
+  pub outlasts : d.Outlasts old (unanswered_of visits) (requests_of visits) new
 
 -- exactly this many connections, of which those that were lost had no message
 abbrev pub ReceivesAll : {D : Type 0} → Ghosts D → ℕ → (List ℤ → Type 0) → (List ℤ → Type 0)

@@ -1,11 +1,11 @@
 //! The room of a database, served on a port.
 ghost use Rattle.std.specs.Prelude.{◌≡◌, ◌⊎◌, List, [], ◌∷◌, OnOk, false};
 ghost use Rattle.sqlite.specs.Held.{state};
-ghost use Rattle.room_store.specs.Leads.{Leads};
+ghost use Rattle.room_store.specs.Crash.{Outlasts};
 ghost use Rattle.cli_serve.specs.Lines.{TellsFaults};
 ghost use Rattle.cli_serve.specs.Staying.{Rests, Served};
-ghost use Rattle.cli_serve.specs.Visits.{Visit, requests_of};
-ghost use Rattle.cli_serve.specs.Hosts.{Hosts, IsServed, TellsPort};
+ghost use Rattle.cli_serve.specs.Visits.{Visit, requests_of, unanswered_of};
+ghost use Rattle.cli_serve.specs.Hosts.{Hosts, IsServed, LeavesRequests, TellsPort};
 ghost use Rattle.cli_serve.specs.Places.{AsksFor, local_place};
 
 use crate::fault::ServingFault;
@@ -15,6 +15,7 @@ use crate::serving::serve_on;
 use crate::telling::{tell_end, tell_opening};
 use room_machine::Desk;
 use room_store::Store;
+use room_store::laws::{what_is_committed_lasts, what_is_seen_lasts};
 use sqlite::{Alter, Connection};
 use std::alloc::Global;
 use std::io::Write;
@@ -24,7 +25,8 @@ use std::net::Ipv4Addr;
 /// other. It returns the connection with the status: 0 where all is done, 2 where the database
 /// holds no room of this version, which is printed on `out`, and 3 at a fault, which is printed on
 /// `err`. A fault of the disk that shuts the connection ends the service after the client's
-/// connection that met it; any other fault of a request doesn't.
+/// connection that met it; any other fault of a request doesn't. A power cut at any moment leaves
+/// all requests that were answered, and at most one that wasn't, as a whole.
 pub fn host<S: Alter, P: Ports, M: Moments, O: Write, E: Write>(
     alloc: Global,
     conn: Connection<S>,
@@ -36,12 +38,15 @@ pub fn host<S: Alter, P: Ports, M: Moments, O: Write, E: Write>(
     err: &mut E,
 ) -> (Connection<S>, u8)
     requires { conn.in_transaction ≡ false }
-    ensures leads { (visits : List Visit)
-        × Leads (state S.Store conn) (requests_of visits) (state S.Store result.0) }
+    ensures outlasts { (visits : List Visit)
+        × Outlasts (state S.Store conn) (unanswered_of visits) (requests_of visits)
+        (state S.Store result.0)
+        × LeavesRequests (state S.Store conn) visits (state S.Store result.0) }
     ensures hosts { Hosts (state S.Store) port count (P.asked ports.old) (P.asked ports.new)
         (M.told clock.old) (M.told clock.new) conn result.0 (O.contents out.old)
         (O.contents out.new) (E.contents err.old) (E.contents err.new) result.1 }
 {
+    what_is_committed_lasts(&conn);
     match Store::adopt(conn) {
         Ok(store) => host_store(alloc, store, ports, clock, port, count, out, err),
         Err((conn, fault)) => {
@@ -68,6 +73,7 @@ fn host_store<S: Alter, P: Ports, M: Moments, O: Write, E: Write>(
         result.1 }
     ensures asked { AsksFor (P.asked ports.old) (P.asked ports.new) (local_place port ∷ []) }
 {
+    what_is_seen_lasts(&store);
     let end = serve_at(alloc, &mut store, ports, clock, port, count, out, err);
     let status = tell_end(end, err);
     (store.into_conn(), status)

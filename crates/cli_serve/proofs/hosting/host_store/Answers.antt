@@ -35,5 +35,6 @@ returns-clause-served g c =
     received.2)
     c.tell_end-status.ensures.status c.serve_at-end.ensures.told first
     c.serve_at-end.ensures.faults c.tell_end-status.ensures.told
+    c.what_is_seen_lasts.ensures
     (subst (λ (conn : Held g.row.S.Denot). Lasts (state g.S.Store conn)) c.into_conn.ensures.same
-    c.into_conn.ensures.lasts))
+    c.into_conn.ensures.lasts) r.outlasts)

@@ -11,9 +11,9 @@ use Rattle.cli_serve.proofs.serving.serve_each.Goals.{then-told, else-told}
 pub returns-in-Err-clause-received : goal.returns-in-Err-clause-received
 returns-in-Err-clause-received g c =
     let one = c.connections.invariant in
-    missing g.D.Desk c.connections.number c.args.count _ _ c.args.desk.now c.connections.desk
-    one.received one.stays _ c.pass.new.desk c.in-Err.fault c.connections-test.true
-    c.in-Err.ensures.fault
+    missing g.D.Desk g.met.D.Desk.laws c.connections.number c.args.count _ _ c.args.desk.now
+    c.connections.desk one.received one.stays _ c.pass.new.desk c.in-Err.fault
+    c.connections-test.true c.in-Err.ensures.fault
 
 pub returns-in-Err-clause-faults : goal.returns-in-Err-clause-faults
 returns-in-Err-clause-faults g c =
@@ -23,9 +23,9 @@ returns-in-Err-clause-faults g c =
 pub returns-then-left-clause-received : goal.returns-then-left-clause-received
 returns-then-left-clause-received g c =
     let one = c.connections.invariant in
-    left_shut g.D.Desk c.connections.number c.args.count _ _ c.args.desk.now c.connections.desk
-    one.received one.stays _ c.pass.new.desk c.in-Ok.left.shut c.connections-test.true
-    c.in-Ok.ensures.received c.in-Ok.ensures.leaves c.if-left.true
+    left_shut g.D.Desk g.met.D.Desk.laws c.connections.number c.args.count _ _ c.args.desk.now
+    c.connections.desk one.received one.stays _ c.pass.new.desk c.in-Ok.left.shut
+    c.connections-test.true c.in-Ok.ensures.received c.in-Ok.ensures.leaves c.if-left.true
 
 pub returns-then-left-clause-faults : goal.returns-then-left-clause-faults
 returns-then-left-clause-faults g c =
@@ -40,11 +40,11 @@ connections-preserved g c =
     let n = c.connections.number in
     let some = told_next WritesSome n _ _ _ one.some told.some in
     let received =
-    all_others g.D.Desk n 1 _ _ _ c.args.desk.now c.connections.desk c.pass.new.desk
-    one.received c.in-Ok.ensures.received in
+    all_others g.D.Desk g.met.D.Desk.laws n 1 _ _ _ c.args.desk.now c.connections.desk
+    c.pass.new.desk one.received c.in-Ok.ensures.received in
     let stays =
-    stays_on g.D.Desk n c.args.desk.now c.connections.desk c.pass.new.desk c.in-Ok.left.shut
-    one.stays c.in-Ok.ensures.leaves c.if-left.false in
+    stays_on g.D.Desk g.met.D.Desk.laws n c.args.desk.now c.connections.desk c.pass.new.desk
+    c.in-Ok.left.shut one.stays c.in-Ok.ensures.leaves c.if-left.false in
     elim c.if-told.branch [
       | then-told w ↦ record {
         received = received;
@@ -64,7 +64,7 @@ connections-preserved g c =
 
 pub connections-init : goal.connections-init
 connections-init g c = record {
-  received = none g.D.Desk _ c.args.desk.now;
+  received = none g.D.Desk g.met.D.Desk.laws _ c.args.desk.now;
   stays = refl;
   whole = λ _. refl;
   some = refl;
@@ -73,8 +73,9 @@ connections-init g c = record {
 pub returns-then-told-2-clause-received : goal.returns-then-told-2-clause-received
 returns-then-told-2-clause-received g c =
     let one = c.connections.invariant in
-    all_served g.D.Desk c.connections.number c.args.count _ _ c.args.desk.now c.connections.desk
-    one.received one.stays (omega (arith, c.connections.auto.number-end, c.connections-test.false))
+    all_served g.D.Desk g.met.D.Desk.laws c.connections.number c.args.count _ _ c.args.desk.now
+    c.connections.desk one.received one.stays
+    (omega (arith, c.connections.auto.number-end, c.connections-test.false))
 
 pub returns-then-told-2-clause-faults : goal.returns-then-told-2-clause-faults
 returns-then-told-2-clause-faults g c =
@@ -86,8 +87,9 @@ returns-then-told-2-clause-faults g c =
 pub returns-else-told-2-clause-received : goal.returns-else-told-2-clause-received
 returns-else-told-2-clause-received g c =
     let one = c.connections.invariant in
-    untold g.D.Desk c.connections.number c.args.count _ _ c.args.desk.now c.connections.desk
-    one.received one.stays (omega (arith, c.connections.auto.number-end, c.connections-test.false))
+    untold g.D.Desk g.met.D.Desk.laws c.connections.number c.args.count _ _ c.args.desk.now
+    c.connections.desk one.received one.stays
+    (omega (arith, c.connections.auto.number-end, c.connections-test.false))
 
 pub returns-else-told-2-clause-faults : goal.returns-else-told-2-clause-faults
 returns-else-told-2-clause-faults g c =

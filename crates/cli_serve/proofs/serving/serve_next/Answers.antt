@@ -12,17 +12,21 @@ returns-in-Ok-Some-clause-received g c =
     let fits : SFits w64 at = search rules in
     let attends = subst (λ (z : ℤ). Attends g.D.Desk z old new)
     (to_z-of_z w64 at fits) c.serve_stream.ensures in
-    exactly_one g.D.Desk at _ _ old new c.next.ensures attends
+    exactly_one g.D.Desk g.met.D.Desk.laws at _ _ old new c.next.ensures attends
 
 pub returns-in-Ok-None-clause-received : goal.returns-in-Ok-None-clause-received
 returns-in-Ok-None-clause-received g c =
-    exactly_one g.D.Desk c.next-in-Ok-None.result _ _ c.args.desk.now c.args.desk.now
+    exactly_one g.D.Desk g.met.D.Desk.laws c.next-in-Ok-None.result _ _ c.args.desk.now
+    c.args.desk.now
     c.next-in-Ok-None.ensures
-    (lost g.D.Desk c.next-in-Ok-None.result c.args.desk.now)
+    (lost g.D.Desk g.met.D.Desk.laws c.next-in-Ok-None.result c.args.desk.now)
 
 pub returns-in-Ok-Some-clause-attends : goal.returns-in-Ok-Some-clause-attends
 returns-in-Ok-Some-clause-attends g c = (_, c.serve_stream.ensures)
 
 pub returns-in-Ok-None-clause-attends : goal.returns-in-Ok-None-clause-attends
 returns-in-Ok-None-clause-attends g c =
-    (c.next-in-Ok-None.result, lost g.D.Desk c.next-in-Ok-None.result c.args.desk.now)
+    (
+      c.next-in-Ok-None.result,
+      lost g.D.Desk g.met.D.Desk.laws c.next-in-Ok-None.result c.args.desk.now,
+    )
