@@ -4,16 +4,12 @@ ghost use Rattle.std.specs.Prelude.{◌≡◌, IfOk, false};
 use crate::look::test_unopened;
 use cli_outcome::Fault;
 use cli_words::Stop;
-use sqlite::Connection;
-use sqlite_std_file::{FileFrom, Start};
-use sqlite_store::FileStore;
+use sqlite_std_file::Start;
 use std::fs::{self, OpenOptions};
 use std::io::{self, ErrorKind};
 use std::os::unix::fs::OpenOptionsExt;
+use store_file::{FileConnection, open_with, pages_of};
 use store_tables::wants_memory;
-
-/// A connection to the file and to its log.
-pub type FileConnection<S> = Connection<FileStore<FileFrom<S>>>;
 
 // Only the owner may read the file. Whoever can read it isn't bound by any list.
 const OWNER_ALONE: u32 = 0o600;
@@ -66,14 +62,15 @@ fn test_file(rt: &HostRuntime, path: &str) -> Result<(), Stop> {
     test_unopened(rt, path)
 }
 
-/// Opens a file that is there as a database. The error is that of the file or of the database, or
-/// that memory ran out.
+/// Opens a file that is there as a database, with as many pages in memory as its size is worth. The
+/// error is that of the file or of the database, or that memory ran out.
 pub fn connect<S: Start>(rt: &HostRuntime, file: &str, start: S) -> Result<FileConnection<S>, Stop>
     ensures { IfOk result (λ conn. conn.in_transaction ≡ false) }
 {
-    // With its canonical path a file is never taken for a database in memory or an address.
+    // A file that isn't there has no canonical path, and is not made.
     let path = fs::canonicalize(rt, file)?;
-    match Connection::open_from(rt, path.as_str(), false, start) {
+    let pages = pages_of(rt, path.as_str());
+    match open_with(rt, path.as_str(), start, pages) {
         Ok(conn) => Ok(conn),
         Err((error, _left)) if wants_memory(error) => Err(Stop::Failed(Fault::Memory)),
         Err(_) => Err(Stop::Failed(Fault::Database)),

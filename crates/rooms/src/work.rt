@@ -1,12 +1,13 @@
 //! The subcommands that need the file of a room.
 ghost use Rattle.std.specs.Prelude.{◌≡◌, false};
 
-use crate::files::{FileConnection, close, connect, make_file, open, take_away};
+use crate::files::{close, connect, make_file, open, take_away};
 use cli_act::act;
 use cli_serve::{NetPorts, Seconds, host};
 use cli_words::{Input, Job, Stop, Task, read_task};
 use sqlite_std_file::Start;
 use std::{fs, io};
+use store_file::FileConnection;
 
 /// Reads what the job needs, validates it, and carries it out on the file. The error is why nothing
 /// was done.

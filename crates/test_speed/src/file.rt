@@ -13,6 +13,7 @@ use std::alloc::Global;
 use std::fs;
 use std::test::Fail;
 use std::time::Instant;
+use store_file::{open_with, pages_of};
 use test_calls::{OPEN, Scene};
 use test_player::Spoken;
 
@@ -75,8 +76,9 @@ fn play(alloc: Global, scene: &mut Scene<Disk>, job: &Job<'_>) -> Result<(), Fai
     scene.play(alloc, script.as_str())
 }
 
+// Opens the file as `serve` does.
 fn open(rt: &HostRuntime) -> Result<Connection<Disk>, Fail> {
-    match Connection::open_from(rt, FILE, false, Unknown) {
+    match open_with(rt, FILE, Unknown, pages_of(rt, FILE)) {
         Ok(conn) => Ok(conn),
         Err((error, _)) => Err(Fail::from(error)),
     }
