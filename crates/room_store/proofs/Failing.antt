@@ -50,4 +50,4 @@ fails_by old begun mid end (Err why) (Err fault) begins stays ended clean counts
     let store = store_of why (sym gave.0 ∙ same_fault is) in
     let m = made old begun mid end begins stays ended clean premise.disk
     (gave.1.was_open is_open) premise.tables in
-    inr (around old begun mid end counts (fails m.trusted (ap Err store)))
+    around old begun mid end counts (fails m.trusted (ap Err store))

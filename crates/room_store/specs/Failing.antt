@@ -1,13 +1,12 @@
 -- When a store gives no answer because of its database.
-use Rattle.std.specs.Prelude.{◌≡◌, ◌⊎◌, Result, Err, IsTrue}
+use Rattle.std.specs.Prelude.{◌≡◌, Result, Err, IsTrue}
 use Rattle.sqlite.specs.State.{State}
 use Rattle.store_admin.specs.Failing.{HasFailed}
 use Rattle.room_store.specs.declared.fault.StoreFault.{StoreFault}
 use Rattle.room_store.specs.declared.fault.StoreFault.TheVariants.{Db}
 use Rattle.room_store.specs.Premise.{StorePremise}
 
--- `Db` comes only where the database failed, or within a transaction of the connection's owner.
+-- `Db` comes only where the database failed.
 abbrev pub FailsByDb : {X : Type 0} → State → State → Result X StoreFault → Type 0
 FailsByDb old new result =
-    StorePremise old new → IsTrue new.is_open → result ≡ Err Db
-    → IsTrue old.in_transaction ⊎ HasFailed old new
+    StorePremise old new → IsTrue new.is_open → result ≡ Err Db → HasFailed old new

@@ -1,5 +1,5 @@
 //! The review of a part of the room, in a transaction that is rolled back.
-ghost use Rattle.std.specs.Prelude.{◌≡◌};
+ghost use Rattle.std.specs.Prelude.{◌≡◌, false};
 ghost use Rattle.sqlite.specs.Held.{state};
 ghost use Rattle.room_store.specs.Ran.{Looked};
 ghost use Rattle.room_store.specs.Reviews.{IsReviewBy, IsReviewOf};
@@ -89,18 +89,16 @@ fn review_inside<S: Alter>(
     }
 }
 
-/// The review. Nothing changes, and within another transaction it answers `Db` at once.
+/// The review. Nothing changes.
 pub(crate) fn review_on<S: Alter>(
     alloc: Global,
     conn: &mut Connection<S>,
     question: &Question,
 ) -> Result<Reviewed, StoreFault>
+    requires { conn.old.in_transaction ≡ false }
     ensures looked { Looked (state S.Store conn.old) (state S.Store conn.new) result HasDamagedRow
         (IsReviewOf question.now) }
 {
-    if !conn.is_autocommit() {
-        return Err(StoreFault::Db);
-    }
     let mut tx = begin(conn);
     let done = review_inside(alloc, &mut tx, question);
     give_up(tx, done)

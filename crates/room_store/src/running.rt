@@ -152,8 +152,7 @@ fn end_look<S: Alter>(
     }
 }
 
-/// Carries out one request in one transaction, with what is remembered. Inside another one it
-/// returns `Db` at once.
+/// Carries out one request in one transaction, with what is remembered.
 pub(crate) fn run_on<S: Alter>(
     alloc: Global,
     conn: &mut Connection<S>,
@@ -163,14 +162,12 @@ pub(crate) fn run_on<S: Alter>(
     at: i64,
     request: &Request,
 ) -> (Result<Reply, StoreFault>, Option<Memory>)
-    requires { Remembers (state S.Store conn.old) known }
+    requires between { conn.old.in_transaction ≡ false }
+    requires remembers { Remembers (state S.Store conn.old) known }
     ensures ran { Ran (state S.Store conn.old) (state S.Store conn.new) result.0 HasDamage
         (Performs (option_copied caller.entry) at request.now) }
     ensures remembers { IfSome result.1 (Remembers (state S.Store conn.new)) }
 {
-    if !conn.is_autocommit() {
-        return (Err(StoreFault::Db), None);
-    }
     let mut tx = begin(conn);
     let mut memory = known;
     let (done, only_read) = perform_inside(alloc, &mut tx, lists, &mut memory, caller, at, request);

@@ -38,8 +38,7 @@ use sqlite::{Alter, Connection};
 use std::alloc::Global;
 use store_tables::RecentLists;
 
-/// A room in the tables of a connection. Each call that writes is one transaction; within a
-/// transaction of the connection's owner all calls answer `Db`.
+/// A room in the tables of a connection. Each call is one transaction.
 pub struct Store<S: Alter> {
     pub(crate) conn: Room<S>,
     // the lists that requests read recently

@@ -1,4 +1,4 @@
-use Rattle.std.proofs.Common.{[], inl, refl, sym, ◌∙◌}
+use Rattle.std.proofs.Common.{[], ap, inl, not, sym, ◌∙◌}
 use Rattle.sqlite.specs.Held.{state}
 use Rattle.room_store.proofs.Shutting.{asks, is_shut, not_shut}
 use Rattle.room_store.proofs.Testing.{left_by}
@@ -8,16 +8,20 @@ pub returns-in-Ok : goal.returns-in-Ok
 returns-in-Ok g c =
     let old = state g.S.Store c.args.conn.now in
     let new = state g.S.Store c.prepare.new.self in
+    let settled = c.is_autocommit-settled.ensures.settled
+    (c.is_autocommit-settled.ensures.value ∙ ap not c.requires) in
     asks old new _ c.prepare.ensures.mode c.prepare.ensures.survives
-    (c.if-not-is_autocommit.ensures.settled refl) (λ now. inl (c.in-Ok.ensures.ok now).1)
+    settled (λ now. inl (c.in-Ok.ensures.ok now).1)
     (λ now. not_shut new (c.in-Ok.ensures.ok now).1.0.is_open)
 
 pub returns-then-says_shut : goal.returns-then-says_shut
 returns-then-says_shut g c =
     let old = state g.S.Store c.args.conn.now in
     let new = state g.S.Store c.prepare.new.self in
+    let settled = c.is_autocommit-settled.ensures.settled
+    (c.is_autocommit-settled.ensures.value ∙ ap not c.requires) in
     asks old new _ c.prepare.ensures.mode c.prepare.ensures.survives
-    (c.if-not-is_autocommit.ensures.settled refl)
+    settled
     (λ now. left_by _ old new _ _ (c.in-Err.ensures.err now []))
     (is_shut old new _ c.in-Err.error (g.met.S.Store.shut_if_dirty c.prepare.new.self.store)
     c.in-Err.ensures.err (sym c.says_shut.ensures ∙ c.if-says_shut.true))
@@ -26,6 +30,8 @@ pub returns-else-says_shut : goal.returns-else-says_shut
 returns-else-says_shut g c =
     let old = state g.S.Store c.args.conn.now in
     let new = state g.S.Store c.prepare.new.self in
+    let settled = c.is_autocommit-settled.ensures.settled
+    (c.is_autocommit-settled.ensures.value ∙ ap not c.requires) in
     asks old new _ c.prepare.ensures.mode c.prepare.ensures.survives
-    (c.if-not-is_autocommit.ensures.settled refl)
+    settled
     (λ now. left_by _ old new _ _ (c.in-Err.ensures.err now [])) tt

@@ -23,7 +23,7 @@ returns g c =
     let begins = c.begin-tx.ensures.begun in
     let inside = c.perform_inside-done.ensures in
     let carries = inside.carries
-    (agrees_at old begun mid begins inside.stays c.args.known c.requires) in
+    (agrees_at old begun mid begins inside.stays c.args.known c.requires.remembers) in
     let last = state g.S.Store c.if_open-done.new.tx.conn.now in
     let tested = c.if_open-done.ensures in
     let whole = stands begun mid last _ _ tested.stays c.perform_inside-done.result.0
@@ -61,7 +61,7 @@ returns-then-only_read g c =
     let begins = c.begin-tx.ensures.begun in
     let inside = c.perform_inside-done.ensures in
     let carries = inside.carries
-    (agrees_at old begun mid begins inside.stays c.args.known c.requires) in
+    (agrees_at old begun mid begins inside.stays c.args.known c.requires.remembers) in
     let Step = Performs (option_copied c.args.caller) c.args.at c.args.request.now in
     let memory = c.perform_inside-done.new.known in
     let kept = inside.kept c.if-only_read.true in
@@ -89,6 +89,6 @@ returns-then-only_read g c =
           c.give_up-looked.ensures.ended c.give_up-looked.ensures.clean c.end_look.ensures.ended
           clean c.args.known memory kept.1 c.give_up-looked.ensures.crash crash
           c.perform_inside-done.result.0
-          c.give_up-looked.result c.end_look.result.0 c.end_look.result.1 c.requires kept.0
+          c.give_up-looked.result c.end_look.result.0 c.end_look.result.1 c.requires.remembers kept.0
           c.give_up-looked.ensures.gives_up ends c.end_look.ensures.kept;
     }
