@@ -23,11 +23,11 @@ use Rattle.store_admin.specs.Carries.{NoTables}
 use Rattle.store_admin.specs.Dump.{HasDamagedRow, IsDump}
 use Rattle.store_admin.specs.Operating.{AreMembers, AreRecords, HasUnreadRecord, ReplacesMembers}
 use Rattle.room_rows.specs.declared.node.AuditRow.{AuditRow}
-use Rattle.store_schema.specs.Raising.{Migrates}
+use Rattle.store_schema.specs.Migrating.{Migrates}
 use Rattle.store_schema.specs.declared.fault.CreateFault.{CreateFault}
 use Rattle.store_schema.specs.declared.fault.CreateFault.TheVariants as creating
 use Rattle.store_schema.specs.declared.fault.MigrateFault.{MigrateFault}
-use Rattle.store_schema.specs.declared.fault.MigrateFault.TheVariants as raising
+use Rattle.store_schema.specs.declared.fault.MigrateFault.TheVariants as migrating
 use Rattle.store_schema.specs.declared.fault.OpenFault.{OpenFault}
 use Rattle.room_store.specs.Leads.{Leads}
 use Rattle.room_store.specs.Opens.{Creates, Opens}
@@ -60,9 +60,9 @@ after_create (Err creating.Memory) = Failed Memory
 after_create (Err creating.Db) = Failed Database
 
 abbrev pub after_migrate : Result (Unit {0}) MigrateFault → Outcome
-after_migrate (Ok done) = Answer answer.Raised
-after_migrate (Err (raising.Opening fault)) = not_opened fault
-after_migrate (Err (raising.Unsound path why)) = Answer (answer.Unsound path why)
+after_migrate (Ok done) = Answer answer.Migrated
+after_migrate (Err (migrating.Opening fault)) = not_opened fault
+after_migrate (Err (migrating.Unsound path why)) = Answer (answer.Unsound path why)
 
 abbrev pub after_replacing : List (List ℕ × List ℕ) → Result (Unit {0}) StoreFault → Outcome
 after_replacing pairs (Ok done) =
@@ -115,7 +115,7 @@ pub record MakesRoom (owners : Owners) (old : State) (outcome : Outcome) (new : 
   pub creates : Creates owners old new result
   pub told : outcome ≡ after_create result
 
-pub record RaisesRoom (old : State) (outcome : Outcome) (new : State) : Type 0 where
+pub record MigratesRoom (old : State) (outcome : Outcome) (new : State) : Type 0 where
   pub result : Result (Unit {0}) MigrateFault
   pub migrates : Migrates old new result
   pub told : outcome ≡ after_migrate result
@@ -203,5 +203,5 @@ module _ {S : Type 0} (shown : Held S → State) where
   -- What a task does to a database.
   abbrev pub DoesTask : Task → Held S → Outcome → Held S → Type 0
   DoesTask (task.Init owners) old outcome new = MakesRoom owners (shown old) outcome (shown new)
-  DoesTask task.Migrate old outcome new = RaisesRoom (shown old) outcome (shown new)
+  DoesTask task.Migrate old outcome new = MigratesRoom (shown old) outcome (shown new)
   DoesTask (task.OnRoom work) old outcome new = WorksOnRoom work old outcome new

@@ -26,7 +26,7 @@ answer_status answer.ListSet = status.Done
 answer_status (answer.Refused at why) = status.Refused
 answer_status answer.Sound = status.Done
 answer_status (answer.Unsound path why) = status.Found
-answer_status answer.Raised = status.Done
+answer_status answer.Migrated = status.Done
 answer_status (answer.NoRoom why) = status.Refused
 
 abbrev pub status_of : Outcome → Status
@@ -67,7 +67,7 @@ answer_line (answer.Refused at why) = reason_line at why
 answer_line answer.Sound = codes "sound\n"
 answer_line (answer.Unsound path why) =
     codes "fault " ++ (path ++ (codes " " ++ (unsound_text why ++ codes "\n")))
-answer_line answer.Raised = codes "migrated\n"
+answer_line answer.Migrated = codes "migrated\n"
 answer_line (answer.NoRoom why) = codes "refused: " ++ (no_room_text why ++ codes "\n")
 
 -- ---- a database that isn't opened

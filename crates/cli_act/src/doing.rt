@@ -1,7 +1,7 @@
 //! A task done on a database.
 ghost use Rattle.std.specs.Prelude.{◌≡◌, Err, false};
 ghost use Rattle.sqlite.specs.Held.{state};
-ghost use Rattle.cli_act.specs.Doing.{DoesTask, MakesRoom, RaisesRoom, WorksOnRoom, after_create};
+ghost use Rattle.cli_act.specs.Doing.{DoesTask, MakesRoom, MigratesRoom, WorksOnRoom, after_create};
 ghost use Rattle.cli_act.specs.Doing.{after_migrate};
 
 use crate::opened::work;
@@ -35,7 +35,7 @@ fn make_room<S: Alter>(conn: Connection<S>, owners: &Owners) -> (Connection<S>, 
 }
 
 // The outcome where a room isn't upgraded.
-fn not_raised(fault: MigrateFault) -> Outcome
+fn not_migrated(fault: MigrateFault) -> Outcome
     ensures { result ≡ after_migrate (Err fault) }
 {
     match fault {
@@ -44,13 +44,13 @@ fn not_raised(fault: MigrateFault) -> Outcome
     }
 }
 
-fn raise<S: Alter>(alloc: Global, conn: Connection<S>) -> (Connection<S>, Outcome)
+fn migrate<S: Alter>(alloc: Global, conn: Connection<S>) -> (Connection<S>, Outcome)
     requires { conn.in_transaction ≡ false }
-    ensures { RaisesRoom (state S.Store conn) result.1 (state S.Store result.0) }
+    ensures { MigratesRoom (state S.Store conn) result.1 (state S.Store result.0) }
 {
     match Store::migrate(alloc, conn) {
-        Ok(store) => (store.into_conn(), Outcome::Answer(TaskAnswer::Raised)),
-        Err((conn, fault)) => (conn, not_raised(fault)),
+        Ok(store) => (store.into_conn(), Outcome::Answer(TaskAnswer::Migrated)),
+        Err((conn, fault)) => (conn, not_migrated(fault)),
     }
 }
 
@@ -85,7 +85,7 @@ pub(crate) fn do_task<S: Alter>(
 {
     match task {
         Task::Init(owners) => make_room(conn, owners),
-        Task::Migrate => raise(alloc, conn),
+        Task::Migrate => migrate(alloc, conn),
         Task::OnRoom(task) => open_and_work(alloc, conn, task),
     }
 }

@@ -67,7 +67,7 @@ impl TaskAnswer {
                 let why = why.as_str();
                 format!(in alloc; "fault {path} {why}\n")
             }
-            TaskAnswer::Raised => String::from_str(alloc, "migrated\n"),
+            TaskAnswer::Migrated => String::from_str(alloc, "migrated\n"),
             TaskAnswer::NoRoom(why) => {
                 let why = *why;
                 format!(in alloc; "refused: {why}\n")

@@ -24,7 +24,7 @@ pub enum TaskAnswer {
     /// The first fault of the rows, and where it is.
     Unsound { path: Text, why: Unsound },
     /// The older schema was upgraded.
-    Raised,
+    Migrated,
     /// The database holds no room of the current schema.
     NoRoom(NoRoom),
 }
@@ -52,7 +52,7 @@ impl TaskAnswer {
             TaskAnswer::Refused { .. } => Status::Refused,
             TaskAnswer::Sound => Status::Done,
             TaskAnswer::Unsound { .. } => Status::Found,
-            TaskAnswer::Raised => Status::Done,
+            TaskAnswer::Migrated => Status::Done,
             TaskAnswer::NoRoom(_) => Status::Refused,
         }
     }

@@ -11,8 +11,9 @@ use Rattle.store_tables.specs.Shown.{HasTables, IsRoom, room_of}
 use Rattle.store_tables.specs.Within.{IsSettled, LeavesOnly, LeavesOrCommits}
 use Rattle.store_schema.specs.NewRoom.{meta_of}
 use Rattle.store_schema.specs.Opening.{AnswersVersion, IsFailure, IsRefusal, Says}
-use Rattle.store_schema.specs.Raising.{AnswersMigration, CommitsUpgrade, IsInside, IsNoRoom}
-use Rattle.store_schema.specs.Raising.{IsUpgraded, Migrates, RetainsOthers, UpgradesTables}
+use Rattle.store_schema.specs.Migrating.{AnswersMigration, CommitsMigration, IsInside}
+use Rattle.store_schema.specs.Migrating.{IsMigratedRoom, IsNoRoom, Migrates, MigratesTables}
+use Rattle.store_schema.specs.Migrating.{RetainsOthers}
 use Rattle.store_schema.specs.declared.fault.MigrateFault.{MigrateFault}
 use Rattle.store_schema.specs.declared.fault.MigrateFault.TheVariants.{Opening}
 use Rattle.store_schema.specs.declared.fault.OpenFault.{OpenFault}
@@ -80,7 +81,7 @@ module _ (old begun mid end : State) (begins : Begins old begun)
 
   module _ (inside : IsInside begun mid (Ok tt))
       (survives : Survives mid end (λ db. db ≡ mid.now.trees)) where
-    upgraded : HasCleanDisk end → HasTables old.now → IsUpgraded old.now mid.now
+    upgraded : HasCleanDisk end → HasTables old.now → IsMigratedRoom old.now mid.now
     upgraded now tables =
         let clean = clean_mid' survives.clean inside now in
         let open' = inside.opens clean in
@@ -88,7 +89,7 @@ module _ (old begun mid end : State) (begins : Begins old begun)
         let committed = room_committed survives.clean inside now open' tables in
         let room = room_now survives.clean inside now open' tables in
         record {
-          leads = subst (λ d. UpgradesTables d mid.now (Ok tt)) begins.now
+          leads = subst (λ d. MigratesTables d mid.now (Ok tt)) begins.now
               (inside.leads clean open' committed room);
           retains =
               subst (λ (d : Database). RetainsOthers d.trees mid.now.trees) begins.now
@@ -97,7 +98,7 @@ module _ (old begun mid end : State) (begins : Begins old begun)
         }
 
     -- whatever the commit answers, nothing but the room upgraded can have been committed
-    crash : LeavesOrCommits old end (CommitsUpgrade old.now)
+    crash : LeavesOrCommits old end (CommitsMigration old.now)
     crash = λ now db left.
         elim (survives.crash now db left) [
           | inl was ↦
@@ -134,7 +135,7 @@ module _ (old begun mid end : State) (begins : Begins old begun)
       clean = since' survives.clean inside;
       was_open = λ now open'. open_first' survives.clean inside now (ok now).1.was_open;
       leads = λ now open' tables.
-          subst (λ d. UpgradesTables old.now d (Ok tt)) (sym (ok now).1.now_is)
+          subst (λ d. MigratesTables old.now d (Ok tt)) (sym (ok now).1.now_is)
           (upgraded now tables).leads;
       retains = λ now open' tables.
           subst (λ (d : Database). RetainsOthers old.now.trees d.trees) (sym (ok now).1.now_is)

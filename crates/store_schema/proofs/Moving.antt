@@ -20,9 +20,9 @@ use Rattle.store_tables.proofs.Calls.{retains_same}
 use Rattle.store_tables.proofs.Printed.{keeps_on}
 use Rattle.store_schema.specs.NewRoom.{is_version, meta_of, number_shown}
 use Rattle.store_schema.specs.Opening.{Expects, ShowsVersion}
-use Rattle.store_schema.specs.Raising.{AnswersMigration, AreRaised, IsInside, IsNoRoom, IsRaised}
-use Rattle.store_schema.specs.Raising.{RetainsOthers, UpgradesTables, SpreadIsRaised, Stamps}
-use Rattle.store_schema.specs.Raising.{other_rows}
+use Rattle.store_schema.specs.Migrating.{AnswersMigration, AreMigrated, IsInside, IsNoRoom}
+use Rattle.store_schema.specs.Migrating.{IsMigrated, RetainsOthers, MigratesTables}
+use Rattle.store_schema.specs.Migrating.{SpreadIsMigrated, Stamps, other_rows}
 use Rattle.store_tables.specs.Within.{IsWithin, within_on}
 use Rattle.store_schema.specs.declared.fault.MigrateFault.{MigrateFault}
 use Rattle.store_schema.specs.declared.fault.OpenFault.{OpenFault}
@@ -72,7 +72,7 @@ module _ (begun : State) (inside : IsTrue begun.in_transaction) where
     by_steps : (mid : State) (r : Result (Unit {0}) MigrateFault)
         → doubt asked.is_clean ≤ doubt mid.is_clean → IsWithin begun mid
         → (HasCleanDisk mid → IsTrue mid.is_open → IsRoom begun.committed → IsRoom begun.now
-        → UpgradesTables begun.now mid.now r)
+        → MigratesTables begun.now mid.now r)
         → (HasCleanDisk mid → AnswersMigration begun.now r)
         → (HasCleanDisk mid → IsTrue mid.is_open → IsRoom begun.committed → IsRoom begun.now
         → begun.now ≡ begun.committed → OnOk r (RetainsOthers begun.now.trees mid.now.trees))
@@ -93,18 +93,18 @@ module _ (begun : State) (inside : IsTrue begun.in_transaction) where
     first_room : StillRoom begun asked
     first_room now open' one two = subst IsRoom (sym (expects.told now two.schema).1) two
 
-    module _ (raised : State) (stays : Stays asked raised) where
-      second : IsWithin begun raised
-      second = within_on begun asked raised first stays.within
+    module _ (migrated : State) (stays : Stays asked migrated) where
+      second : IsWithin begun migrated
+      second = within_on begun asked migrated first stays.within
 
-      second_room : StillRoom begun raised
-      second_room = still_on begun asked raised first first_room stays.within stays.room
+      second_room : StillRoom begun migrated
+      second_room = still_on begun asked migrated first first_room stays.within stays.room
 
-      back : HasCleanDisk raised → HasCleanDisk asked
-      back = clean_before asked raised stays.within.clean
+      back : HasCleanDisk migrated → HasCleanDisk asked
+      back = clean_before asked migrated stays.within.clean
 
-      trusted : HasCleanDisk raised → IsTrue raised.is_open → IsRoom begun.committed
-          → IsRoom begun.now → IsTrusted asked raised
+      trusted : HasCleanDisk migrated → IsTrue migrated.is_open → IsRoom begun.committed
+          → IsRoom begun.now → IsTrusted asked migrated
       trusted now open' one two =
           let open'' = stays.within.was_open now open' in
           record {
@@ -115,17 +115,17 @@ module _ (begun : State) (inside : IsTrue begun.in_transaction) where
           }
 
       module _
-          (becomes : IsTrusted asked raised
+          (becomes : IsTrusted asked migrated
           → IfOk {E = KeepFault} (Ok Sound)
-          (λ report. IsRaised (rows_of asked.now) report (rows_of raised.now)))
+          (λ report. IsMigrated (rows_of asked.now) report (rows_of migrated.now)))
           (stamped : State) where
-        third : IsWithin raised stamped → IsWithin begun stamped
-        third within = within_on begun raised stamped second within
+        third : IsWithin migrated stamped → IsWithin begun stamped
+        third within = within_on begun migrated stamped second within
 
-        module _ (count : ℕ) (stamps : Stamps raised stamped (Ok count)) where
+        module _ (count : ℕ) (stamps : Stamps migrated stamped (Ok count)) where
           third_room : StillRoom begun stamped
           third_room =
-              still_on begun raised stamped second second_room stamps.within
+              still_on begun migrated stamped second second_room stamps.within
               (λ now open' one two. (stamps.keeps now two).0)
 
           module _ (end : State) (r : Result (Unit {0}) OpenFault)
@@ -151,9 +151,9 @@ module _ (begun : State) (inside : IsTrue begun.in_transaction) where
             up : doubt asked.is_clean ≤ doubt end.is_clean
             up = omega (arith, stays.within.clean, stamps.within.clean, again.clean)
 
-          pub all_done : SpreadIsRaised → (end : State) → Expects (pos 2) stamped end (Ok tt)
+          pub all_done : SpreadIsMigrated → (end : State) → Expects (pos 2) stamped end (Ok tt)
               → IsInside begun end (Ok tt)
-          all_done raised_so end again =
+          all_done migrated_so end again =
               by_steps end (Ok tt) (up end (Ok tt) again) (all end (Ok tt) again) leads
               (known end (up end (Ok tt) again)) retains (λ now. (again.shown now).1.1)
             where
@@ -164,7 +164,7 @@ module _ (begun : State) (inside : IsTrue begun.in_transaction) where
                   let now3 = clean_before stamped end again.clean now in
                   let open3 = (last end (Ok tt) again).was_open now open' in
                   let room3 = third_room now3 open3 one two in
-                  let now2 = clean_before raised stamped stamps.within.clean now3 in
+                  let now2 = clean_before migrated stamped stamps.within.clean now3 in
                   let open2 = stamps.within.was_open now3 open3 in
                   let told = expects.told (back now2) two.schema in
                   let read = again.told now room3.schema in
@@ -172,35 +172,35 @@ module _ (begun : State) (inside : IsTrue begun.in_transaction) where
                   let first' = first.committed (back now2) (stays.within.was_open now2 open2) in
                   let was = retains_same asked.committed asked.now
                   (told.1 ∙ same ∙ sym first') in
-                  let kept : Retains begun.now.trees raised.now.trees =
-                  subst (λ (d : Database). Retains d.trees raised.now.trees)
+                  let kept : Retains begun.now.trees migrated.now.trees =
+                  subst (λ (d : Database). Retains d.trees migrated.now.trees)
                   (second.committed now2 open2 ∙ sym same)
                   (stays.retains now2 open2 trust.committed trust.now was) in
-                  let number : meta_of raised.now ≡ Some (pos 1) =
+                  let number : meta_of migrated.now ≡ Some (pos 1) =
                   ap number_in_meta kept.meta ∙ told.0 in
                   subst (λ (d : Database). RetainsOthers begun.now.trees d.trees) (sym read.1)
-                  (others_on begun.now.trees raised.now.trees stamped.now.trees kept
+                  (others_on begun.now.trees migrated.now.trees stamped.now.trees kept
                   (stamps.retains now3 (second_room now2 open2 one two) (pos 1) number))
 
               leads : HasCleanDisk end → IsTrue end.is_open → IsRoom begun.committed
-                  → IsRoom begun.now → UpgradesTables begun.now end.now (Ok tt)
+                  → IsRoom begun.now → MigratesTables begun.now end.now (Ok tt)
               leads now open' one two =
                   let now3 = clean_before stamped end again.clean now in
                   let open3 = (last end (Ok tt) again).was_open now open' in
                   let room3 = third_room now3 open3 one two in
-                  let now2 = clean_before raised stamped stamps.within.clean now3 in
+                  let now2 = clean_before migrated stamped stamps.within.clean now3 in
                   let open2 = stamps.within.was_open now3 open3 in
                   let told = expects.told (back now2) two.schema in
                   let read = again.told now room3.schema in
                   let made = becomes (trusted now2 open2 one two) in
                   let room2 = second_room now2 open2 one two in
-                  let rows : rows_of end.now ≡ rows_of raised.now = ap rows_of read.1
+                  let rows : rows_of end.now ≡ rows_of migrated.now = ap rows_of read.1
                   ∙ (stamps.keeps now3 room2).1 in (
                     told.0,
                     subst (λ d. meta_of d ≡ Some (pos 2)) (sym read.1) read.0,
                     subst IsRoom (sym read.1) room3,
-                    subst₂ AreRaised (ap rows_of told.1) (sym rows)
-                        (raised_so (rows_of asked.now) (rows_of raised.now)
+                    subst₂ AreMigrated (ap rows_of told.1) (sym rows)
+                        (migrated_so (rows_of asked.now) (rows_of migrated.now)
                         (room_rows asked.now
                         (first_room (back now2) (stays.within.was_open now2 open2) one two))
                         (sym made.0)

@@ -19,7 +19,7 @@ use Rattle.sqlite_trees.specs.declared.store.Shape.TheVariants as Shape
 use Rattle.store_tables.specs.Tables.{meta}
 use Rattle.store_tables.proofs.Rowids.{at_most_one, has_itself}
 use Rattle.store_schema.specs.NewRoom.{is_version, number_shown}
-use Rattle.store_schema.specs.Raising.{other_rows}
+use Rattle.store_schema.specs.Migrating.{other_rows}
 use Rattle.store_tables.proofs.Updates.{cast_int}
 
 -- where a number is told, one row has it

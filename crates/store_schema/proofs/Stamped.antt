@@ -36,7 +36,7 @@ use Rattle.std.specs.List.Sorted.{IsPermutation}
 use Rattle.std.proofs.lemmas.List.{append-nil}
 use Rattle.store_tables.proofs.Printed.{keeps_same}
 use Rattle.store_schema.specs.NewRoom.{meta_of}
-use Rattle.store_schema.specs.Raising.{RetainsOthers, Stamps, other_rows}
+use Rattle.store_schema.specs.Migrating.{RetainsOthers, Stamps, other_rows}
 use Rattle.store_schema.proofs.Answers.{passes, selected, shows}
 use Rattle.store_schema.proofs.Asked.{passes_rooms}
 use Rattle.store_schema.proofs.Others.{int_of, one_version, others_stay}

@@ -1,4 +1,4 @@
 pub mod NewRoom
 pub mod Making
 pub mod Opening
-pub mod Raising
+pub mod Migrating

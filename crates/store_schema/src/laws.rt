@@ -1,11 +1,11 @@
 //! Laws of rooms that are made and upgraded.
 ghost use Rattle.store_schema.specs.NewRoom.{NewRoomIsSound};
-ghost use Rattle.store_schema.specs.Raising.{SpreadIsRaised};
+ghost use Rattle.store_schema.specs.Migrating.{SpreadIsMigrated};
 ghost use Rattle.std.specs.Prelude.{List};
 ghost use Rattle.sqlite.specs.Order.{Row};
 ghost use Rattle.store_tables.specs.Printed.{ArePrinted, KeepsPrinted};
 
-use room_inherit::laws::{kept_is_no_fault, raised_is_sound, raised_means_the_same};
+use room_inherit::laws::{kept_is_no_fault, migrated_is_sound, migrated_means_the_same};
 
 /// The rows of a new room are sound.
 pub fn new_room_is_sound()
@@ -19,10 +19,10 @@ pub fn printed_stays_printed()
 
 /// Sound rows of schema 1, of which all lists are carried down, are sound rows of schema 2 and mean
 /// the same.
-pub fn spread_is_raised()
-    ensures { SpreadIsRaised }
+pub fn spread_is_migrated()
+    ensures { SpreadIsMigrated }
 {
     kept_is_no_fault();
-    raised_is_sound();
-    raised_means_the_same();
+    migrated_is_sound();
+    migrated_means_the_same();
 }

@@ -7,7 +7,7 @@ mod first_rows;
 mod founding;
 pub mod laws;
 mod migrating;
-mod raising;
+mod migrating_rows;
 mod tables;
 mod version;
 

@@ -1,11 +1,11 @@
 //! A room of schema 1 that is upgraded to schema 2.
 ghost use Rattle.std.specs.Prelude.{◌≡◌, false, IsTrue};
 ghost use Rattle.sqlite.specs.Held.{state};
-ghost use Rattle.store_schema.specs.Raising.{IsInside, Migrates};
+ghost use Rattle.store_schema.specs.Migrating.{IsInside, Migrates};
 
 use crate::fault::{MigrateFault, OpenFault, failure_of, keeper_failure};
-use crate::laws::spread_is_raised;
-use crate::raising::raise_inside;
+use crate::laws::spread_is_migrated;
+use crate::migrating_rows::migrate_rows_inside;
 use crate::version::{expect_version, update_version};
 use room_inherit::Report;
 use sqlite::{Alter, Connection, Transaction};
@@ -20,12 +20,12 @@ fn migrate_inside<S: Alter>(alloc: Global, tx: &mut Transaction<'_, S>) -> Resul
     ensures inside { IsTrue (state S.Store tx.old.conn.now).in_transaction
         → IsInside (state S.Store tx.old.conn.now) (state S.Store tx.new.conn.now) result }
 {
-    spread_is_raised();
+    spread_is_migrated();
     match expect_version(tx, OLD_SCHEMA) {
         Ok(()) => {}
         Err(fault) => return Err(MigrateFault::Opening(fault)),
     }
-    match raise_inside(alloc, tx) {
+    match migrate_rows_inside(alloc, tx) {
         Ok(Report::Sound) => {}
         Ok(Report::Fault { path, why }) => return Err(MigrateFault::Unsound { path, why }),
         Err(fault) => return Err(MigrateFault::Opening(keeper_failure(fault))),

@@ -3,7 +3,7 @@ ghost use Rattle.std.specs.Prelude.{◌≡◌};
 ghost use Rattle.sqlite.specs.Held.{state};
 ghost use Rattle.store_schema.specs.NewRoom.{number_shown, whole_in};
 ghost use Rattle.store_schema.specs.Opening.{AsksVersion, Expects, Says};
-ghost use Rattle.store_schema.specs.Raising.{Stamps};
+ghost use Rattle.store_schema.specs.Migrating.{Stamps};
 ghost use Rattle.sqlite_value.specs.Value.{owned};
 ghost use Rattle.sqlite_value.specs.Order.{column};
 

@@ -94,7 +94,7 @@ fn unopened<S: Alter + Drop>(
     Ok(Opened::over(conn))
 }
 
-/// Raises the room to schema 2, and adds what is answered.
+/// Upgrades the room to schema 2, and adds what is answered.
 pub(crate) fn migrate<S: Alter + Drop>(
     alloc: Global,
     conn: Connection<S>,
@@ -105,11 +105,11 @@ pub(crate) fn migrate<S: Alter + Drop>(
     }
     match Store::migrate(alloc, conn) {
         Ok(store) => done(store, told),
-        Err((conn, fault)) => unraised(conn, fault, told),
+        Err((conn, fault)) => not_migrated(conn, fault, told),
     }
 }
 
-fn unraised<S: Alter + Drop>(
+fn not_migrated<S: Alter + Drop>(
     conn: Connection<S>,
     fault: MigrateFault,
     told: &mut String,

@@ -53,7 +53,7 @@ fn push_version(told: &mut String, word: &str, number: i64) -> Result<(), Fail> 
     Ok(written(told, number)?)
 }
 
-/// Adds why a room wasn't raised.
+/// Adds why a room wasn't upgraded.
 pub(crate) fn push_migrate_fault(told: &mut String, fault: MigrateFault) -> Result<(), Fail> {
     match fault {
         MigrateFault::Opening(fault) => push_open_fault(told, fault),

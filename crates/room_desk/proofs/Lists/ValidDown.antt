@@ -24,7 +24,7 @@ use Rattle.room_inherit.specs.Laws.{are_valid}
 use Rattle.room_rows.specs.Pass.{pass, passed_flags}
 use Rattle.room_rows.specs.Sound.{is_sound_held}
 use Rattle.room_inherit.proofs.Valid.{pass_is_valid}
-use Rattle.room_inherit.proofs.Raised.{folder_is, marked_flags}
+use Rattle.room_inherit.proofs.Migrated.{folder_is, marked_flags}
 use Rattle.room_entry.proofs.Facts.Booleans.{implied}
 
 -- ---- own and inherited entries apart

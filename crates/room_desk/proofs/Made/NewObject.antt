@@ -39,7 +39,7 @@ use Rattle.room_machine.specs.Stored.{stored_site}
 use Rattle.room_desk.proofs.Made.SoundAdded.{above_new, above_old, lists_here, sound_added}
 use Rattle.room_desk.proofs.Sound.SoundParts.{sound_parts}
 use Rattle.room_desk.proofs.Lists.ValidDown.{passed_marked}
-use Rattle.room_inherit.proofs.Raised.{folder_is}
+use Rattle.room_inherit.proofs.Migrated.{folder_is}
 
 -- ---- its lists
 

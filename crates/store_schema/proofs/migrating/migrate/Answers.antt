@@ -1,7 +1,7 @@
 use Rattle.std.proofs.Common.{◌≡◌, Ok, Err, ap, subst, ◌∙◌, not, rules}
 use Rattle.sqlite.specs.Held.{state}
 use Rattle.store_tables.proofs.Within.{settled_by}
-use Rattle.store_schema.specs.Raising.{Migrates}
+use Rattle.store_schema.specs.Migrating.{Migrates}
 use Rattle.store_schema.specs.declared.fault.MigrateFault.TheVariants.{Opening}
 use Rattle.store_schema.proofs.Ended.{begins_by}
 use Rattle.store_schema.proofs.Migrated.{committed, not_committed}

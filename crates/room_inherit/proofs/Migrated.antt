@@ -27,7 +27,7 @@ use Rattle.room_rows.specs.Rows.{AreRows, Rows, is_unreadable}
 use Rattle.room_rows.proofs.InPlace.{KeepsPlaces, node_at-with_each}
 use Rattle.room_rows.proofs.SamePlace.{IsSamePlace}
 use Rattle.room_rows.specs.Law.{AllAgree, agrees, agrees_with}
-use Rattle.room_inherit.specs.Laws.{are_valid, RaisedIsSound, RaisedMeansTheSame}
+use Rattle.room_inherit.specs.Laws.{are_valid, MigratedIsSound, MigratedMeansTheSame}
 use Rattle.room_rows.specs.Pass.{pass, passed_flags, ended, carried, waiting}
 use Rattle.room_rows.specs.Sound.{AreSound, first_fault}
 use Rattle.room_rows.specs.Sound.{has_sound_lists, is_sound_held, reaches}
@@ -358,10 +358,10 @@ module _ (old new : Rows) (changed : ℕ) (spread : IsSpreadAll old new changed)
         (all_both (agrees after.read Dacl) (agrees after.read Sacl) after.read.nodes (law Dacl)
         (law Sacl))
 
-pub raised_is_sound : RaisedIsSound
-raised_is_sound old new changed none spread =
+pub migrated_is_sound : MigratedIsSound
+migrated_is_sound old new changed none spread =
     subst AreSound (sym spread.becomes) (now_sound old new changed spread none)
 
-pub raised_means_the_same : RaisedMeansTheSame
-raised_means_the_same old new changed are spread =
+pub migrated_means_the_same : MigratedMeansTheSame
+migrated_means_the_same old new changed are spread =
     ap (λ (r : Rows). meaning r.read) spread.becomes ∙ meant old new changed spread are

@@ -34,30 +34,30 @@ use Rattle.room_rows.specs.declared.report.Report.TheVariants.{Fault, Sound}
 
 -- Rows that are sound for schema 1 become rows that are sound for schema 2 and mean the same, by
 -- carrying all lists down.
-pub record AreRaised (old new : Rows) : Type 0 where
+pub record AreMigrated (old new : Rows) : Type 0 where
   pub before : AreSoundKept old
   pub after : AreSound new
   pub same : meaning new.read ≡ meaning old.read
   pub spread : (changed : ℕ) × IsSpreadAll old new changed
 
 -- Where the report on rows of schema 1 is sound, carrying all lists down upgrades them.
-abbrev pub SpreadIsRaised : Type 0
-SpreadIsRaised =
+abbrev pub SpreadIsMigrated : Type 0
+SpreadIsMigrated =
     (old new : Rows) → AreRows old → kept_report_of old ≡ Sound
-    → (changed : ℕ) × IsSpreadAll old new changed → AreRaised old new
+    → (changed : ℕ) × IsSpreadAll old new changed → AreMigrated old new
 
 -- the report, and where it is sound, all lists are carried down
-abbrev pub IsRaised : Rows → Report → Rows → Type 0
-IsRaised old report new =
+abbrev pub IsMigrated : Rows → Report → Rows → Type 0
+IsMigrated old report new =
     (report ≡ kept_report_of old)
     × (report ≡ Sound → (changed : ℕ) × IsSpreadAll old new changed)
 
 -- The rows of a keeper are upgraded.
-pub record Raises {S : Type 0} (k : Ghosts S) (old new : S)
+pub record MigratesRows {S : Type 0} (k : Ghosts S) (old new : S)
     (result : Result Report KeepFault) : Type 0 where
   pub follows : k.Follows old new
   pub becomes : k.IsTrusted old new
-      → IfOk result (λ report. IsRaised (k.rows old) report (k.rows new))
+      → IfOk result (λ report. IsMigrated (k.rows old) report (k.rows new))
 
 -- the keeper's fault for lists that weren't all carried down
 abbrev pub spread_fault_as : SpreadFault → KeepFault
@@ -95,12 +95,12 @@ pub record Stamps (old new : State) (result : Result ℕ Error) : Type 0 where
 
 -- What upgrading a room leaves of a database. `Opening` depends on the number of the schema, and
 -- `Unsound` names the first fault.
-abbrev pub UpgradesTables : Database → Database → Result (Unit {0}) MigrateFault → Type 0
-UpgradesTables old new (Ok _) =
+abbrev pub MigratesTables : Database → Database → Result (Unit {0}) MigrateFault → Type 0
+MigratesTables old new (Ok _) =
     (meta_of old ≡ Some (pos 1)) × (meta_of new ≡ Some (pos 2)) × IsRoom new
-    × AreRaised (rows_of old) (rows_of new)
-UpgradesTables old new (Err (Opening fault)) = Says (pos 1) (meta_of old) (Err fault)
-UpgradesTables old new (Err (Unsound path why)) =
+    × AreMigrated (rows_of old) (rows_of new)
+MigratesTables old new (Err (Opening fault)) = Says (pos 1) (meta_of old) (Err fault)
+MigratesTables old new (Err (Unsound path why)) =
     (meta_of old ≡ Some (pos 1)) × (kept_report_of (rows_of old) ≡ Fault path why)
 
 -- there is no room, the database failed, or memory ran out
@@ -119,7 +119,7 @@ pub record IsInside (old new : State) (result : Result (Unit {0}) MigrateFault) 
   -- whatever the tables are, nothing is committed
   pub within : IsWithin old new
   pub leads : HasCleanDisk new → IsTrue new.is_open → IsRoom old.committed → IsRoom old.now
-      → UpgradesTables old.now new.now result
+      → MigratesTables old.now new.now result
   pub shown : HasCleanDisk new → AnswersMigration old.now result
   pub empty : HasCleanDisk new → old.now.schema ≡ no_schema → IsErrAnd result IsNoRoom
   pub retains : HasCleanDisk new → IsTrue new.is_open → IsRoom old.committed → IsRoom old.now
@@ -128,14 +128,14 @@ pub record IsInside (old new : State) (result : Result (Unit {0}) MigrateFault) 
   pub opens : HasCleanDisk new → OnOk result (IsTrue new.is_open)
 
 -- A room of schema 1 becomes this one.
-pub record IsUpgraded (old new : Database) : Type 0 where
-  pub leads : UpgradesTables old new (Ok tt)
+pub record IsMigratedRoom (old new : Database) : Type 0 where
+  pub leads : MigratesTables old new (Ok tt)
   pub retains : RetainsOthers old.trees new.trees
 
 -- What an upgrade commits, if it gets that far: of a room's tables those of the room upgraded.
-abbrev pub CommitsUpgrade : Database → Trees → Type 0
-CommitsUpgrade old db =
-    ShowsVersion (Some (pos 1)) old × (HasTables old → TreesOf (IsUpgraded old) db)
+abbrev pub CommitsMigration : Database → Trees → Type 0
+CommitsMigration old db =
+    ShowsVersion (Some (pos 1)) old × (HasTables old → TreesOf (IsMigratedRoom old) db)
 
 -- What upgrading a room is.
 pub record Migrates (old new : State) (result : Result (Unit {0}) MigrateFault) : Type 0 where
@@ -143,7 +143,7 @@ pub record Migrates (old new : State) (result : Result (Unit {0}) MigrateFault) 
   pub clean : doubt old.is_clean ≤ doubt new.is_clean
   pub was_open : HasCleanDisk new → IsTrue new.is_open → IsTrue old.is_open
   pub leads : HasCleanDisk new → IsTrue new.is_open → HasTables old.now
-      → UpgradesTables old.now new.now result
+      → MigratesTables old.now new.now result
   -- records, lists and `meta` beside the schema's number
   pub retains : HasCleanDisk new → IsTrue new.is_open → HasTables old.now
       → OnOk result (RetainsOthers old.now.trees new.now.trees)
@@ -158,6 +158,6 @@ pub record Migrates (old new : State) (result : Result (Unit {0}) MigrateFault) 
   pub kept : HasCleanDisk new → IsTrue new.is_open
       → OnErr result ((new.now ≡ old.now) × (new.committed ≡ old.committed))
   -- a crash leaves what it could leave before, or the room upgraded
-  pub crash : LeavesOrCommits old new (CommitsUpgrade old.now)
+  pub crash : LeavesOrCommits old new (CommitsMigration old.now)
   -- and once that is answered, the room upgraded
   pub lasts : HasCleanDisk new → OnOk result (LeavesOnly new new.now)

@@ -4,7 +4,8 @@ ghost use Rattle.sqlite.specs.Held.{state};
 ghost use Rattle.store_tables.specs.Meaning.{rows_of};
 ghost use Rattle.store_tables.specs.Shown.{Stays};
 ghost use Rattle.store_tables.specs.Trust.{IsTrusted};
-ghost use Rattle.store_schema.specs.Raising.{CarriesAll, IsRaised, Raises, spread_fault_as};
+ghost use Rattle.store_schema.specs.Migrating.{CarriesAll, IsMigrated, MigratesRows};
+ghost use Rattle.store_schema.specs.Migrating.{spread_fault_as};
 
 use room_inherit::{Report, SpreadFault, spread_all, verify_kept};
 use room_rows::{Keep, KeepFault};
@@ -33,8 +34,8 @@ fn carry_all<K: Keep>(alloc: Global, keep: &mut K) -> Result<(), KeepFault>
 }
 
 // Tests all rows, and where no fault is found, carries all lists down.
-fn raise_rows<K: Keep>(alloc: Global, keep: &mut K) -> Result<Report, KeepFault>
-    ensures raises { Raises K.Keep keep.old keep.new result }
+fn migrate_rows<K: Keep>(alloc: Global, keep: &mut K) -> Result<Report, KeepFault>
+    ensures migrates { MigratesRows K.Keep keep.old keep.new result }
 {
     match verify_kept(alloc, keep) {
         Ok(Report::Sound) => match carry_all(alloc, keep) {
@@ -45,28 +46,28 @@ fn raise_rows<K: Keep>(alloc: Global, keep: &mut K) -> Result<Report, KeepFault>
     }
 }
 
-fn raise_by<S: Alter>(alloc: Global, keeper: &mut Keeper<'_, '_, S>) -> Result<Report, KeepFault>
+fn migrate_rows_by<S: Alter>(alloc: Global, keeper: &mut Keeper<'_, '_, S>) -> Result<Report, KeepFault>
     ensures same_reference { keeper.new.tx.ghost_name ≡ keeper.old.tx.ghost_name }
     ensures same_lender { keeper.new.tx.now.conn.ghost_name ≡ keeper.old.tx.now.conn.ghost_name }
     ensures stays { Stays (state S.Store keeper.old.tx.now.conn.now)
         (state S.Store keeper.new.tx.now.conn.now) }
     ensures becomes { IsTrusted (state S.Store keeper.old.tx.now.conn.now)
         (state S.Store keeper.new.tx.now.conn.now)
-        → IfOk result (λ report. IsRaised (rows_of (state S.Store keeper.old.tx.now.conn.now).now)
+        → IfOk result (λ report. IsMigrated (rows_of (state S.Store keeper.old.tx.now.conn.now).now)
         report (rows_of (state S.Store keeper.new.tx.now.conn.now).now)) }
 {
-    raise_rows(alloc, keeper)
+    migrate_rows(alloc, keeper)
 }
 
 /// Upgrades the rows inside a transaction, or reports the first fault in them.
-pub(crate) fn raise_inside<S: Alter>(
+pub(crate) fn migrate_rows_inside<S: Alter>(
     alloc: Global,
     tx: &mut Transaction<'_, S>,
 ) -> Result<Report, KeepFault>
     ensures same_reference { tx.new.conn.ghost_name ≡ tx.old.conn.ghost_name }
     ensures stays { Stays (state S.Store tx.old.conn.now) (state S.Store tx.new.conn.now) }
     ensures becomes { IsTrusted (state S.Store tx.old.conn.now) (state S.Store tx.new.conn.now)
-        → IfOk result (λ report. IsRaised (rows_of (state S.Store tx.old.conn.now).now)
+        → IfOk result (λ report. IsMigrated (rows_of (state S.Store tx.old.conn.now).now)
         report (rows_of (state S.Store tx.new.conn.now).now)) }
 {
     let mut lists = RecentLists::new();
@@ -77,5 +78,5 @@ pub(crate) fn raise_inside<S: Alter>(
         failures: 0,
         writes: 0,
     };
-    raise_by(alloc, &mut keeper)
+    migrate_rows_by(alloc, &mut keeper)
 }
