@@ -39,7 +39,7 @@ use Rattle.room_rows.specs.Content.{
   with_node,
 }
 use Rattle.room_rows.specs.Held.{held_of}
-use Rattle.room_rows.specs.Keep.{Changes, IsDamaged, IsUnreadable, reading, with_inh}
+use Rattle.room_rows.specs.Keep.{Changes, IsDamaged, IsUnreadable, with_content, with_inh}
 use Rattle.room_rows.specs.Meaning.{meaning}
 use Rattle.room_rows.specs.Paths.{is_object_name}
 use Rattle.room_rows.specs.Rows.{Rows, AreRows}
@@ -64,9 +64,9 @@ use Rattle.room_desk.specs.Carrying.{IsCarriedDown, IsRooted, IsUnreadableIfRoot
 -- ---- what is judged
 
 -- the target may leave its folder, and may come into the other one
-abbrev pub leaving : Site → Site → Site → List Item
-leaving target from folder = Deletion target from ∷ Check folder (right_to_add target.node ∷ [])
-    ∷ []
+abbrev pub rights_to_move : Site → Site → Site → List Item
+rights_to_move target from folder =
+    Deletion target from ∷ Check folder (right_to_add target.node ∷ []) ∷ []
 
 -- the names begin those others, or are all of them
 abbrev pub begins : List (List ℕ) → List (List ℕ) → Bool
@@ -82,7 +82,7 @@ free_place rows to is_below folder = Refusal to Exists
 -- all that is judged at the new folder, after the way to it
 abbrev pub at_place : Content → List (List ℕ) → Bool → Site → Site → Site → List Item
 at_place rows to is_below target from folder =
-    (through folder ++ leaving target from folder) ++ free_place rows to is_below folder.node
+    (through folder ++ rights_to_move target from folder) ++ free_place rows to is_below folder.node
 
 -- whether the folder has a child of this name
 abbrev pub IsTaken : ℕ → List ℕ → Rows → Bool → Type 0
@@ -177,7 +177,7 @@ pub record CanRenew (which : Which) (target folder : Node) (rows : Rows) : Type 
 -- Only linked lists have changed, and the law holds everywhere.
 pub record HasRenewedLists (which : Which) (old new : Rows) : Type 0 where
   pub lists : Node → List Ace
-  pub becomes : new ≡ reading old (with_lists which lists old.read)
+  pub becomes : new ≡ with_content old (with_lists which lists old.read)
   pub kept : (node : Node) → node_at old.read node.id ≡ Some node → is_linked_in old.read which node
       ≡ false → lists node ≡ (held_of which node).inh
   pub law : AllAgree new.read which

@@ -62,16 +62,16 @@ abbrev pub fault_in : ℕ → Which → ObjKind → List Ace → Option Reason
 fault_in place which kind entries = reason_of (first_bad_entry place which kind entries)
 
 -- the entries with the flag of inherited ones, or those without it
-abbrev pub marked : Bool → List Ace → List Ace
-marked inherited entries = filter (λ entry. if inherited then entry.flags.inherited
+abbrev pub entries_marked : Bool → List Ace → List Ace
+entries_marked inherited entries = filter (λ entry. if inherited then entry.flags.inherited
     else not entry.flags.inherited) entries
 
 -- ---- the list as it is stored
 
 -- the parent, where a list of these flags takes entries from it
-abbrev pub passing : Which → ListFlags → Option Node → Option Node
-passing which flags None = None
-passing which flags (Some above) = if not flags.protect && (held_of which above).flags.auto
+abbrev pub passing_parent : Which → ListFlags → Option Node → Option Node
+passing_parent which flags None = None
+passing_parent which flags (Some above) = if not flags.protect && (held_of which above).flags.auto
     then Some above else None
 
 abbrev pub stored_inh : Which → Sent → ObjKind → Option Node → List Ace
@@ -81,7 +81,7 @@ stored_inh which sent kind parent = option_map_or
 -- what is stored of the list above and of the sent entries
 abbrev pub IsNewInh : Which → Sent → Node → Option Node → List Ace → Type 0
 IsNewInh which sent node above entries =
-    entries ≡ stored_inh which sent node.kind (passing which sent.flags above)
+    entries ≡ stored_inh which sent node.kind (passing_parent which sent.flags above)
 
 -- the same under an object that has this list
 abbrev pub inh_under : Sent → ObjKind → Held → List Ace
@@ -104,7 +104,7 @@ stored_held which sent kind parent = record {
   flags = sent.flags;
   own = own_of sent.entries;
   inh =
-      stored_inh which sent kind (passing which sent.flags parent);
+      stored_inh which sent kind (passing_parent which sent.flags parent);
 }
 
 -- ---- stored

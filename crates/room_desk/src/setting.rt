@@ -15,10 +15,10 @@ ghost use Rattle.room_desk.specs.Setting.{
   IsStored,
   IsWrittenDown,
   SetsOn,
+  entries_marked,
   fault_in,
   inh_under,
   list_of,
-  marked,
 };
 ghost use Rattle.room_machine.specs.declared.request.Request.TheVariants.{SetList};
 
@@ -252,7 +252,7 @@ fn inh_under(
 
 // The sent entries with or without the flag of inherited ones, in order.
 fn sent_entries(alloc: Global, sent: &SentList, inherited: bool) -> Result<Entries, AllocError>
-    ensures { IfOk result (λ entries. entries ≡ marked inherited sent.now.entries) }
+    ensures { IfOk result (λ entries. entries ≡ entries_marked inherited sent.now.entries) }
 {
     let mut entries = Entries::new(alloc);
     'sent: for entry in sent.entries().as_slice() {

@@ -14,7 +14,7 @@ use Rattle.room_rows.specs.declared.node.Node.{Node}
 use Rattle.room_rows.specs.Content.{Content, node_at, parent_of, root_of, is_root, is_linked_in}
 use Rattle.room_rows.specs.Counts.{capped_below}
 use Rattle.room_rows.specs.Held.{held_of, is_linked}
-use Rattle.room_rows.specs.Keep.{HasNoRoot, capped, reading, KeepLaws}
+use Rattle.room_rows.specs.Keep.{HasNoRoot, capped, with_content, KeepLaws}
 use Rattle.room_rows.specs.Rows.{Rows, is_unreadable}
 use Rattle.room_rows.proofs.SamePlace.{IsSamePlace}
 use Rattle.room_rows.proofs.Steps.{later_cause}
@@ -148,7 +148,7 @@ pub both_swept : (old mid new : Rows) (d s : ℕ) → IsSwept Dacl old mid d →
 both_swept old middle new d s first last =
     let f = first.lists in
     let m = mid f old.read in
-    let next : IsSwept Sacl (reading old (mid f old.read)) new s = subst
+    let next : IsSwept Sacl (with_content old (mid f old.read)) new s = subst
     (λ (r : Rows). IsSwept Sacl r new s) first.becomes last in
     let g = next.lists in
     let sacls : Node → List Ace = λ n. g (set Dacl f n) in
@@ -161,7 +161,7 @@ both_swept old middle new d s first last =
       dacls = f;
       sacls = sacls;
       becomes =
-          next.becomes ∙ ap (λ (ns : List Node). reading old (record old.read { nodes = ns }))
+          next.becomes ∙ ap (λ (ns : List Node). with_content old (record old.read { nodes = ns }))
           (map_map (set Sacl g) (set Dacl f) old.read.nodes);
       linked_dacls = first.linked;
       linked_sacls =

@@ -16,7 +16,7 @@ use Rattle.room_rows.specs.Counts.{capped_below, capped_past}
 use Rattle.room_rows.specs.Held.{held_of}
 use Rattle.room_rows.specs.declared.keep.KeepFault.{KeepFault}
 use Rattle.room_rows.specs.Keep.{Changes, ChangesAll, IsUnreadable, IsRead, AreChildrenOf, Leaves}
-use Rattle.room_rows.specs.Keep.{are_there, capped, reading, with_inh, KeepLaws}
+use Rattle.room_rows.specs.Keep.{are_there, capped, with_content, with_inh, KeepLaws}
 use Rattle.room_rows.specs.Rows.{Rows, is_unreadable}
 use Rattle.room_entry.proofs.Facts.Members.{no_length}
 use Rattle.room_rows.proofs.Frames.{Rises}
@@ -148,7 +148,8 @@ module _ {S : Type 0} (k : Ghosts S)
             (still_there (with_inh which (to_kind passed Document))
             (place-with_inh which (to_kind passed Document)) (of_kind numbers Document)
             (of_kind numbers Folder) (k.rows a).read (t.1 Folder)))
-            ∙ ap (λ (w : Rows). reading w (with_passed which passed numbers Folder w.read)) one;
+            ∙ ap (λ (w : Rows). with_content w
+            (with_passed which passed numbers Folder w.read)) one;
         fault = tt;
       }
 
@@ -207,9 +208,9 @@ module _ {S : Type 0} (k : Ghosts S)
             not_met = ap (meets_again d.which d.start above) (sym t.1.0) ∙ t.1.1;
             becomes =
                 write.becomes (trusted write.follows t)
-                ∙ ap (λ (w : Rows). reading w (with_both_passed d.which passed numbers w.read))
+                ∙ ap (λ (w : Rows). with_content w (with_both_passed d.which passed numbers w.read))
                 (read.same before)
-                ∙ ap (reading (k.rows a))
+                ∙ ap (with_content (k.rows a))
                 (turn_becomes d.which above (k.rows a).read up numbers are passed is);
             counted = counted ∙ count_gathered d.which above (k.rows a).read up numbers are;
             next = found.next;

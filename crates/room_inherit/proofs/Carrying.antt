@@ -9,8 +9,8 @@ use Rattle.room_rows.specs.declared.keep.Keep.{Ghosts}
 use Rattle.room_rows.specs.declared.node.Node.{Node}
 use Rattle.room_rows.specs.Content.{Content, node_at, children_of}
 use Rattle.room_rows.specs.Counts.{capped_below}
-use Rattle.room_rows.specs.Keep.{IsUnreadable, IsUnreadableAt, IsNodeAt, IsRead, capped, reading}
-use Rattle.room_rows.specs.Keep.{KeepLaws}
+use Rattle.room_rows.specs.Keep.{IsUnreadable, IsUnreadableAt, IsNodeAt, IsRead, capped}
+use Rattle.room_rows.specs.Keep.{with_content, KeepLaws}
 use Rattle.room_rows.specs.Law.{AllAgree}
 use Rattle.room_rows.specs.Rows.{Rows, AreRows, numbers_of, is_unreadable}
 use Rattle.room_rows.proofs.InPlace.{numbers_of-reading}
@@ -41,7 +41,7 @@ use Rattle.room_rows.proofs.Lookups.{found_number}
 pub record IsCarrying (which : Which) (start turns : ℕ) (waiting : List Node) (changed : ℕ)
     (old now : Rows) : Type 0 where
   pub lists : Node → List Ace
-  pub becomes : now ≡ reading old (with_lists which lists old.read)
+  pub becomes : now ≡ with_content old (with_lists which lists old.read)
   pub front : Frontier which start old.read lists waiting
   pub counted : changed ≡ count (is_changed which lists) old.read.nodes
   pub turned : turns + length waiting ≤ suc (count (is_changed which lists) old.read.nodes)
@@ -67,7 +67,7 @@ pub carrying_first : (which : Which) (start : ℕ) (old : Rows) (first : Node) �
     → node_at old.read start ≡ Some first → IsCarrying which start 0 (first ∷ []) 0 old old
 carrying_first which start old first are is = record {
   lists = own_lists which;
-  becomes = ap (reading old) (sym (with_own_lists which old.read));
+  becomes = ap (with_content old) (sym (with_own_lists which old.read));
   front = frontier_first which start old.read are.numbers first is;
   counted = sym (count_own which old.read.nodes);
   turned = let e = count_own which old.read.nodes in omega (arith, e);
@@ -82,7 +82,7 @@ module _ (d : Descent) (reach : d.reach ≡ Renewed) (turns : ℕ) (rest : List 
   abbrev f : Node → List Ace
   f = sofar.lists
 
-  step : IsVisit d w rest next (reading old (with_lists d.which f old.read)) number new
+  step : IsVisit d w rest next (with_content old (with_lists d.which f old.read)) number new
   step = subst (λ (r : Rows). IsVisit d w rest next r number new) sofar.becomes visit
 
   abbrev lists : Node → List Ace
@@ -109,7 +109,7 @@ module _ (d : Descent) (reach : d.reach ≡ Renewed) (turns : ℕ) (rest : List 
     lists = lists;
     becomes =
         step.becomes
-        ∙ ap (reading old)
+        ∙ ap (with_content old)
         (rows_after d.which d.start old.read are.numbers f rest w sofar.front step.not_met);
     front =
         subst (λ (l : List Node). Frontier d.which d.start old.read lists l) (sym step.waits)
@@ -151,7 +151,7 @@ nothing_carried : (which : Which) (start : ℕ) (old : Rows) → AreRows old
     → node_at old.read start ≡ None → IsSpread which start old old 0
 nothing_carried which start old are none = record {
   lists = own_lists which;
-  becomes = ap (reading old) (sym (with_own_lists which old.read));
+  becomes = ap (with_content old) (sym (with_own_lists which old.read));
   below = λ n there changed. absurd (false≢true (sym (own_unchanged which n) ∙ changed));
   counted =
       sym (count-is (is_changed which (own_lists which)) old.read.nodes

@@ -14,7 +14,7 @@ use Rattle.room_rows.specs.Finding.{find_id}
 use Rattle.room_inherit.specs.declared.descent.Descent.{Descent}
 use Rattle.room_inherit.specs.Spread.{with_lists}
 use Rattle.room_inherit.specs.Turn.{IsChildless, LeavesOut, TellsWaiting, brought_up}
-use Rattle.room_inherit.specs.Turn.{is_outdated, next_of, passed_to, renewed, waits_next}
+use Rattle.room_inherit.specs.Turn.{is_outdated, next_of, passed_to, renewed_node, waits_next}
 use Rattle.room_inherit.proofs.Kinship.{same_kind}
 use Rattle.room_rows.proofs.InPlace.{with_inh-id}
 use Rattle.room_entry.proofs.Facts.Members.{any_agree, any_filter, any_map, each_fails, each_filter}
@@ -231,7 +231,7 @@ one_chosen rows d above child waits (inr (stays, childless)) =
     (cond t (brought_up d.which above child ∷ []) [])) (sym stays)
     (on (waits_next d.reach d.which above child))
   where
-    still : (t : Bool) → IsChildless rows (cond t (renewed d.which above child) child)
+    still : (t : Bool) → IsChildless rows (cond t (renewed_node d.which above child) child)
     still true = (
       ap is_document (same_kind d.which (passed_to d.which above child) child) ∙ childless.0,
       ap (λ i. list_any (has_parent i) rows.nodes)

@@ -21,14 +21,14 @@ use Rattle.room_rows.specs.declared.node.Node.{Node}
 use Rattle.room_rows.specs.Content.{Content, has_folder_above, is_folder, is_linked_in}
 use Rattle.room_rows.specs.Content.{node_at, parent_of, reaches_root}
 use Rattle.room_rows.specs.Held.{held_of, full_of, is_linked}
-use Rattle.room_rows.specs.Keep.{reading, with_inh}
+use Rattle.room_rows.specs.Keep.{with_content, with_inh}
 use Rattle.room_rows.specs.Meaning.{kept_held, kept_node, meaning}
 use Rattle.room_rows.specs.Rows.{AreRows, Rows, is_unreadable}
 use Rattle.room_rows.proofs.InPlace.{KeepsPlaces, node_at-with_each}
 use Rattle.room_rows.proofs.SamePlace.{IsSamePlace}
 use Rattle.room_rows.specs.Law.{AllAgree, agrees, agrees_with}
 use Rattle.room_inherit.specs.Laws.{are_valid, MigratedIsSound, MigratedMeansTheSame}
-use Rattle.room_rows.specs.Pass.{pass, passed_flags, ended, carried, waiting}
+use Rattle.room_rows.specs.Pass.{pass, passed_flags, ended_flags, carried_flags, waiting_flags}
 use Rattle.room_rows.specs.Sound.{AreSound, first_fault}
 use Rattle.room_rows.specs.Sound.{has_sound_lists, is_sound_held, reaches}
 use Rattle.room_inherit.specs.Spread.{is_changed}
@@ -62,7 +62,7 @@ pub marked_flags : (kind : ObjKind) (flags : EntryFlags)
 marked_flags Document flags = on flags.file_inherit
   where
     on : (t : Bool) → option_map_or (λ (f : EntryFlags). f.inherited)
-        (cond t (Some (ended flags)) None) true ≡ true
+        (cond t (Some (ended_flags flags)) None) true ≡ true
     on true = refl
     on false = refl
 marked_flags Folder flags =
@@ -71,8 +71,8 @@ marked_flags Folder flags =
     (flags.file_inherit && not flags.no_propagate_inherit)
   where
     on : (t u v : Bool) → option_map_or (λ (f : EntryFlags). f.inherited)
-        (cond t (Some (carried flags))
-        (cond u (Some (ended flags)) (cond v (Some (waiting flags)) None))) true ≡ true
+        (cond t (Some (carried_flags flags))
+        (cond u (Some (ended_flags flags)) (cond v (Some (waiting_flags flags)) None))) true ≡ true
     on true u v = refl
     on false true v = refl
     on false false true = refl
@@ -303,7 +303,7 @@ module _ (old new : Rows) (changed : ℕ) (spread : IsSpreadAll old new changed)
   set = both f g old.read
 
   abbrev after : Rows
-  after = reading old (with_both f g old.read)
+  after = with_content old (with_both f g old.read)
 
   linked_of : (which : Which) (node : Node) → node_at old.read node.id ≡ Some node
       → is_changed which (lists f g old.read which) node ≡ true

@@ -15,8 +15,8 @@ use Rattle.room_inherit.specs.Kept.{kept_report_of, stores_kept_alone}
 use Rattle.room_inherit.specs.Laws.{CheckedIsTree, HasNoFault, KeptIsNoFault, SoundIsNoFault}
 use Rattle.room_rows.specs.Sound.{AreSound, AreSoundKept, bad_root, fault_of, first_bad_list}
 use Rattle.room_rows.specs.Sound.{first_failing, first_fault, has_bad_list, has_sound_body}
-use Rattle.room_rows.specs.Sound.{has_sound_name, keeps_law, numbered, or_else, or_sound, reaches}
-use Rattle.room_rows.specs.Sound.{true_path}
+use Rattle.room_rows.specs.Sound.{has_sound_name, keeps_law, or_else, or_sound, path_by_number}
+use Rattle.room_rows.specs.Sound.{reaches, true_path}
 
 -- ---- a test that finds nothing, passed by all
 
@@ -55,10 +55,10 @@ module _ (path : Node → List ℕ) where
   abbrev by_six : Option ℕ → Option ℕ → Option Node → Option Node → Option Node → Option Node
       → Option Report
   by_six list root parent reach name body =
-      or_else (option_map (λ id. Fault (numbered id) BadList) list) (
-      or_else (or_else (option_map (λ id. Fault (numbered id) BadRoot) root) (
-      or_else (fault_of (λ node. numbered node.id) BadParent parent) (
-      or_else (fault_of (λ node. numbered node.id) Loop reach) (fault_of path BadName name))))
+      or_else (option_map (λ id. Fault (path_by_number id) BadList) list) (
+      or_else (or_else (option_map (λ id. Fault (path_by_number id) BadRoot) root) (
+      or_else (fault_of (λ node. path_by_number node.id) BadParent parent) (
+      or_else (fault_of (λ node. path_by_number node.id) Loop reach) (fault_of path BadName name))))
       (fault_of path BadBody body))
 
   abbrev by_tests : Option ℕ → Option ℕ → Option Node → Option Node → Option Node → Option Node

@@ -21,8 +21,8 @@ use Rattle.room_rows.specs.Keep.{with_inh}
 use Rattle.room_rows.specs.Pass.{pass}
 use Rattle.room_inherit.specs.Spread.{with_lists, is_changed, is_linked_within, IsLinkedBelow}
 use Rattle.room_inherit.specs.Turn.{brought_up, is_linked_to, is_outdated, next_of, passed_to}
-use Rattle.room_inherit.specs.Turn.{renewed, renewals, renewed_below, is_met_again, meets_again}
-use Rattle.room_inherit.specs.Turn.{waits_next}
+use Rattle.room_inherit.specs.Turn.{renewed_node, renewals, renewed_below, is_met_again}
+use Rattle.room_inherit.specs.Turn.{meets_again, waits_next}
 use Rattle.room_inherit.specs.declared.descent.Reach.TheVariants.{Renewed}
 use Rattle.room_entry.proofs.Facts.Members.{each_append, each_front, each_back, each_weaker}
 use Rattle.room_entry.proofs.Facts.Members.{each_map, each_filter, count}
@@ -136,7 +136,7 @@ module _ (which : Which) (start : ℕ) (old : Content)
   kept_id : (n : Node) → (brought_up which w n).id ≡ n.id
   kept_id n = on (is_outdated which w n)
     where
-      on : (t : Bool) → (cond t (renewed which w n) n).id ≡ n.id
+      on : (t : Bool) → (cond t (renewed_node which w n) n).id ≡ n.id
       on true = with_inh-id which (passed_to which w n) n
       on false = refl
 
@@ -170,7 +170,8 @@ module _ (which : Which) (start : ℕ) (old : Content)
         base = n;
         there = there';
         is =
-            cond-true (is_outdated which w m) (renewed which w m) m is ∙ ap (renewed which w) b.2
+            cond-true (is_outdated which w m) (renewed_node which w m) m is
+            ∙ ap (renewed_node which w) b.2
             ∙ step.renewed_is which f w w0 waits.is n
             ∙ ap (λ e. with_inh which e n) (sym (step.takes which f w w0 n st));
         reached =
@@ -341,7 +342,8 @@ module _ (which : Which) (start : ℕ) (old : Content)
   pub as_many : length kids ≡ length (renewals which w (children_of now w.id))
   as_many =
       length-map goes_on (brought_up which w)
-      ∙ sym (length-map (filter (is_outdated which w) (children_of now w.id)) (renewed which w))
+      ∙ sym (length-map (filter (is_outdated which w) (children_of now w.id))
+      (renewed_node which w))
 
   pub count_after : count (is_changed which after) old.nodes
       ≡ count (is_changed which f) old.nodes + length (renewals which w (children_of now w.id))

@@ -25,7 +25,8 @@ use Rattle.room_rows.specs.Held.{held_of, full_of, is_linked}
 use Rattle.room_rows.specs.Keep.{with_inh}
 use Rattle.room_rows.specs.Pass.{pass}
 use Rattle.room_inherit.specs.Spread.{with_lists, is_changed}
-use Rattle.room_inherit.specs.Turn.{is_linked_to, is_outdated, renewed, renewals, renewed_below}
+use Rattle.room_inherit.specs.Turn.{is_linked_to, is_outdated, renewed_node, renewals}
+use Rattle.room_inherit.specs.Turn.{renewed_below}
 use Rattle.room_inherit.proofs.Kinship.{same_kind, with_last}
 use Rattle.room_entry.proofs.Facts.Members.{count, count_length, count_map, count_agree}
 use Rattle.room_entry.proofs.Facts.Members.{count_either}
@@ -158,14 +159,14 @@ module _ (which : Which) (f : Node → List Ace) (w w0 : Node) where
     linked_is n = λ i. is_linked (set_held which f n i) (Some (w_held i))
 
     pub renewed_is : (n : Node)
-        → renewed which w (set which f n) ≡ with_inh which (passes which f w0 n) n
+        → renewed_node which w (set which f n) ≡ with_inh which (passes which f w0 n) n
     renewed_is n =
         (λ i. with_inh which (pass (same_kind which (f n) n i) (full_of (w_held i)))
         (set which f n)) ∙ with_last which (passes which f w0 n) (f n) n
 
     after_is : (n : Node) → renewed_below which w (set which f n) ≡ set which after n
     after_is n =
-        ap (λ t. cond t (renewed which w (set which f n)) (set which f n)) (stale_is n)
+        ap (λ t. cond t (renewed_node which w (set which f n)) (set which f n)) (stale_is n)
         ∙ ap (λ m. cond (stale n) m (set which f n)) (renewed_is n) ∙ on (stale n)
       where
         on : (t : Bool) → cond t (with_inh which (passes which f w0 n) n) (with_inh which (f n) n)
@@ -230,7 +231,7 @@ module _ (which : Which) (f : Node → List Ace) (w w0 : Node) where
             ≡ count stale old.nodes
         number =
             length-map (filter (is_outdated which w) (children_of (with_lists which f old) w.id))
-            (renewed which w) ∙ count_length (is_outdated which w)
+            (renewed_node which w) ∙ count_length (is_outdated which w)
             (children_of (with_lists which f old) w.id)
             ∙ count_children (with_lists which f old)
             (apart_map (set which f) (set_id which f) old.nodes apart) (is_outdated which w) w.id

@@ -17,12 +17,13 @@ use Rattle.room_rows.specs.declared.node.Node.{Node}
 use Rattle.room_rows.specs.Content.{Content, node_at, children_of, has_parent, with_each}
 use Rattle.room_rows.specs.Finding.{find_id}
 use Rattle.room_rows.specs.Held.{held_of}
-use Rattle.room_rows.specs.Keep.{Changes, ChangesAll, are_there, reading, with_changed, with_inh}
+use Rattle.room_rows.specs.Keep.{Changes, ChangesAll, are_there, with_changed, with_content}
+use Rattle.room_rows.specs.Keep.{with_inh}
 use Rattle.room_rows.specs.Rows.{AreRows, Rows}
 use Rattle.room_inherit.specs.declared.by_kind.ByKind.{ByKind}
 use Rattle.room_inherit.specs.declared.passed.Passed.{Passed}
 use Rattle.room_inherit.specs.Turn.{IsPassed, count_of, is_kind, is_outdated, of_kind, outdated_of}
-use Rattle.room_inherit.specs.Turn.{renewals, renewed, renewed_below, to_kind, with_passed}
+use Rattle.room_inherit.specs.Turn.{renewals, renewed_below, renewed_node, to_kind, with_passed}
 use Rattle.room_entry.proofs.Facts.Members.{all_each, any_map, count, count_either, count_length}
 use Rattle.room_entry.proofs.Facts.Members.{each_filter, each_map}
 use Rattle.room_rows.proofs.Frames.{Rises}
@@ -84,9 +85,9 @@ module _ (change : Node → Node) (same : (n : Node) → IsSamePlace (change n) 
       on true = same n
       on false = same_place n
 
-  pub changes_none : (rows : Rows) → rows ≡ reading rows (with_changed [] change rows.read)
+  pub changes_none : (rows : Rows) → rows ≡ with_content rows (with_changed [] change rows.read)
   changes_none rows =
-      ap (λ (nodes : List Node). reading rows (record rows.read { nodes = nodes }))
+      ap (λ (nodes : List Node). with_content rows (record rows.read { nodes = nodes }))
       (sym (map-id rows.read.nodes))
 
   pub changes_one : (id : ℕ) (old new : Rows) → AreRows old → Changes id change old new
@@ -94,7 +95,7 @@ module _ (change : Node → Node) (same : (n : Node) → IsSamePlace (change n) 
   changes_one id old new are changes = λ there.
       let some = some_there (node_at old.read id) there in
       changes some.0 some.1
-      ∙ ap (reading old)
+      ∙ ap (with_content old)
       (with_node-replaces old.read are.numbers id some.0 (change some.0) some.1 (same some.0)
       ∙ same_change old.read (replaced (change some.0)) (changed (id ∷ [])) are.numbers
       (alone some.0 some.1))
@@ -145,7 +146,7 @@ count_kinds which above nodes =
     ∙ sym (count_either (passes Document) (passes Folder) (is_outdated which above) nodes
     (every nodes))
     ∙ sym (count_length (is_outdated which above) nodes)
-    ∙ sym (length-map (filter (is_outdated which above) nodes) (renewed which above))
+    ∙ sym (length-map (filter (is_outdated which above) nodes) (renewed_node which above))
   where
     passes : ObjKind → Node → Bool
     passes kind n = is_outdated which above n && is_kind kind n.kind

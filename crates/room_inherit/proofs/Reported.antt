@@ -17,8 +17,8 @@ use Rattle.room_inherit.specs.declared.verifying.Holding.TheVariants.{Finished, 
 use Rattle.room_inherit.specs.Kept.{is_lawful, report_by}
 use Rattle.room_inherit.specs.Objects.{only}
 use Rattle.room_rows.specs.Sound.{bad_root, fault_of, first_bad_list, first_failing, has_sound_body}
-use Rattle.room_rows.specs.Sound.{has_sound_name, names_up, numbered, or_else, or_sound, tree_fault}
-use Rattle.room_rows.specs.Sound.{true_path}
+use Rattle.room_rows.specs.Sound.{has_sound_name, names_up, or_else, or_sound, path_by_number}
+use Rattle.room_rows.specs.Sound.{tree_fault, true_path}
 
 -- ---- the objects alone decide
 
@@ -43,11 +43,12 @@ reaches_same (suc n) rows (Some id) =
 
 tree_same : (rows : Content) → tree_fault (only rows.nodes) ≡ tree_fault rows
 tree_same rows = λ i.
-    or_else (option_map (λ id. Fault (numbered id) BadRoot) (bad_root (filter is_root rows.nodes)))
+    or_else
+    (option_map (λ id. Fault (path_by_number id) BadRoot) (bad_root (filter is_root rows.nodes)))
     (
-    or_else (fault_of (λ node. numbered node.id) BadParent
+    or_else (fault_of (λ node. path_by_number node.id) BadParent
     (first_failing (has_folder_above rows) rows)) (
-    or_else (fault_of (λ node. numbered node.id) Loop
+    or_else (fault_of (λ node. path_by_number node.id) Loop
     (find (λ node. not (reaches_same (length rows.nodes) rows node.parent i)) rows.nodes))
     (fault_of (λ node. path_same rows node i) BadName (first_failing (has_sound_name rows) rows))))
 
@@ -62,7 +63,7 @@ law_same Kept rows = refl
 abbrev outcome : Content → Option ℕ → Option Report → Option Node → Option Node → Report
 outcome rows list tree body law =
     or_sound (or_else (
-    or_else (option_map (λ id. Fault (numbered id) BadList) list)
+    or_else (option_map (λ id. Fault (path_by_number id) BadList) list)
     (or_else tree (fault_of (true_path rows) BadBody body)))
     (fault_of (true_path rows) BrokenLaw law))
 

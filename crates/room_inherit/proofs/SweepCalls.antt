@@ -9,7 +9,7 @@ use Rattle.room_rows.specs.declared.keep.Keep.{Ghosts}
 use Rattle.room_rows.specs.declared.keep.KeepFault.{KeepFault}
 use Rattle.room_rows.specs.declared.node.Node.{Node}
 use Rattle.room_rows.specs.Content.{children_of, root_of}
-use Rattle.room_rows.specs.Keep.{HasNoRoot, IsUnreadable, IsRead, IsRootOf, capped, reading}
+use Rattle.room_rows.specs.Keep.{HasNoRoot, IsUnreadable, IsRead, IsRootOf, capped, with_content}
 use Rattle.room_rows.specs.Keep.{KeepLaws}
 use Rattle.room_rows.specs.Rows.{Rows, AreRows, numbers_of, is_unreadable}
 use Rattle.room_rows.proofs.InPlace.{numbers_of-reading}
@@ -44,7 +44,7 @@ pub record IsSweeping (d : Descent) (turns : ℕ) (waiting : List Node) (changed
   pub start_is : d.start ≡ root.id
   pub lists : Node → List Ace
   pub seen : Node → Bool
-  pub becomes : now ≡ reading old (with_lists d.which lists old.read)
+  pub becomes : now ≡ with_content old (with_lists d.which lists old.read)
   pub front : Sweep d.which old.read root lists seen waiting
   pub counted : changed ≡ count (is_changed d.which lists) old.read.nodes
   pub turned : turns + length waiting ≤ count seen old.read.nodes
@@ -57,7 +57,7 @@ sweeping_first d old root are is start = record {
   start_is = start;
   lists = own_lists d.which;
   seen = seen_first d.which old.read are.numbers root is;
-  becomes = ap (reading old) (sym (with_own_lists d.which old.read));
+  becomes = ap (with_content old) (sym (with_own_lists d.which old.read));
   front = sweep_first d.which old.read are.numbers root is;
   counted = sym (count_own d.which old.read.nodes);
   turned = let one =
@@ -77,7 +77,8 @@ module _ (d : Descent) (reach : d.reach ≡ All) (turns : ℕ) (rest : List Node
 
   pub sweeping_no_loop : MeetsAgain d.which d.start w now → ⊥
   sweeping_no_loop met =
-      let met' : MeetsAgain d.which sofar.root.id w (reading old (with_lists d.which f old.read)) =
+      let met' : MeetsAgain d.which sofar.root.id w
+      (with_content old (with_lists d.which f old.read)) =
       subst (λ (r : Rows). MeetsAgain d.which sofar.root.id w r) sofar.becomes
       (subst (λ (i : ℕ). MeetsAgain d.which i w now) sofar.start_is met) in
       false≢true
@@ -86,7 +87,7 @@ module _ (d : Descent) (reach : d.reach ≡ All) (turns : ℕ) (rest : List Node
 
   module _ (new : Rows) (number : ℕ) (next : List Node)
       (visit : IsVisit d w rest next now number new) where
-    step : IsVisit d w rest next (reading old (with_lists d.which f old.read)) number new
+    step : IsVisit d w rest next (with_content old (with_lists d.which f old.read)) number new
     step = subst (λ (r : Rows). IsVisit d w rest next r number new) sofar.becomes visit
 
     abbrev lists : Node → List Ace
@@ -120,7 +121,7 @@ module _ (d : Descent) (reach : d.reach ≡ All) (turns : ℕ) (rest : List Node
       seen = seen_now;
       becomes =
           step.becomes
-          ∙ ap (reading old)
+          ∙ ap (with_content old)
           (rows_after d.which old.read are.numbers sofar.root top f sofar.seen rest w sofar.front);
       front =
           subst (λ (l : List Node). Sweep d.which old.read sofar.root lists seen_now l) (sym waits)

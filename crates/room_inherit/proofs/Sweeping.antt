@@ -20,7 +20,7 @@ use Rattle.room_rows.specs.Held.{held_of, is_linked}
 use Rattle.room_rows.specs.Keep.{with_inh}
 use Rattle.room_rows.specs.Pass.{pass}
 use Rattle.room_inherit.specs.Spread.{with_lists, is_changed}
-use Rattle.room_inherit.specs.Turn.{is_linked_to, is_outdated, next_of, passed_to, renewed}
+use Rattle.room_inherit.specs.Turn.{is_linked_to, is_outdated, next_of, passed_to, renewed_node}
 use Rattle.room_inherit.specs.Turn.{renewals, brought_up, renewed_below, is_met_again, meets_again}
 use Rattle.room_inherit.specs.declared.descent.Reach.TheVariants.{All}
 use Rattle.room_inherit.proofs.Kinship.{same_kind, same_name, same_parent}
@@ -172,7 +172,8 @@ module _ (which : Which) (old : Content) (rises : is_rising (0 ∷ ids_of old.no
   all_are =
       map_agree (brought_up which w) (renewed_below which w) (children_of now w.id)
       (each_child now apart_now (λ n. brought_up which w n ≡ renewed_below which w n) w.id
-      (λ n there has. sym (ap (λ t. cond (t && is_outdated which w n) (renewed which w n) n) has)))
+      (λ n there has. sym (ap (λ t. cond (t && is_outdated which w n)
+      (renewed_node which w n) n) has)))
       ∙ sym (children_map (renewed_below which w)
       (λ n. one (λ (m : Node). m.name) (λ e m. same_name which e m) n)
       (λ id n. one (has_parent id)
@@ -185,14 +186,14 @@ module _ (which : Which) (old : Content) (rises : is_rising (0 ∷ ids_of old.no
           → part (renewed_below which w n) ≡ part n
       one part same n = on (has_parent w.id n && is_outdated which w n)
         where
-          on : (t : Bool) → part (cond t (renewed which w n) n) ≡ part n
+          on : (t : Bool) → part (cond t (renewed_node which w n) n) ≡ part n
           on true = same (passed_to which w n) n
           on false = refl
 
   same_folder : (n : Node) → is_folder (brought_up which w n) ≡ is_folder n
   same_folder n = on (is_outdated which w n)
     where
-      on : (t : Bool) → is_folder (cond t (renewed which w n) n) ≡ is_folder n
+      on : (t : Bool) → is_folder (cond t (renewed_node which w n) n) ≡ is_folder n
       on true = ap (λ k. not (is_document k)) (same_kind which (passed_to which w n) n)
       on false = refl
 

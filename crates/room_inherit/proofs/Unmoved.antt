@@ -13,7 +13,7 @@ use Rattle.room_entry.proofs.Facts.Members.{any_map}
 use Rattle.room_rows.specs.declared.node.Node.{Node}
 use Rattle.room_rows.specs.Content.{Content, body_of, has_folder_above, is_folder, is_root, node_at}
 use Rattle.room_rows.specs.Content.{parent_of, reaches_root, same_parent, with_each}
-use Rattle.room_rows.specs.Keep.{reading}
+use Rattle.room_rows.specs.Keep.{with_content}
 use Rattle.room_rows.specs.Paths.{is_object_name}
 use Rattle.room_rows.specs.Rows.{Rows, is_unreadable, numbers_of}
 use Rattle.room_rows.proofs.InPlace.{KeepsPlaces, keeps_places, node_at-with_each}
@@ -127,7 +127,7 @@ module _ (old : Rows) (change : Node → Node) (place : (n : Node) → IsSamePla
     (lists : (node : Node) → node_at old.read node.id ≡ Some node → has_sound_lists node ≡ true
     → has_sound_lists (change node) ≡ true) where
   abbrev new : Rows
-  new = reading old (with_each old.read change)
+  new = with_content old (with_each old.read change)
 
   still_good : (id : ℕ) → has_bad_list old id ≡ false → has_bad_list new id ≡ false
   still_good id good =

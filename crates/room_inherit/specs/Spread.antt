@@ -11,7 +11,7 @@ use Rattle.room_rows.specs.declared.node.Node.{Node}
 use Rattle.room_rows.specs.Content.{Content, node_at, parent_of, has_parent}
 use Rattle.room_rows.specs.Content.{is_linked_in, with_each}
 use Rattle.room_rows.specs.Held.{held_of}
-use Rattle.room_rows.specs.Keep.{HasCause, IsUnreadable, capped, reading, with_inh}
+use Rattle.room_rows.specs.Keep.{HasCause, IsUnreadable, capped, with_content, with_inh}
 use Rattle.room_rows.specs.Rows.{Rows}
 use Rattle.room_rows.specs.Law.{AllAgree, AllAgreeBut, agrees}
 use Rattle.room_inherit.specs.declared.outcome.Spread.{Spread}
@@ -69,7 +69,7 @@ ChangedAgree which old new =
 -- held but for the object's children, it holds.
 pub record IsSpread (which : Which) (id : ℕ) (old new : Rows) (changed : ℕ) : Type 0 where
   pub lists : Node → List Ace
-  pub becomes : new ≡ reading old (with_lists which lists old.read)
+  pub becomes : new ≡ with_content old (with_lists which lists old.read)
   pub below : (node : Node) → node_at old.read node.id ≡ Some node
       → IsTrue (is_changed which lists node) → IsLinkedBelow old.read which id node
   pub counted : changed ≡ count_by (is_changed which lists) old.read.nodes

@@ -9,7 +9,7 @@ use Rattle.room_rows.specs.declared.keep.Keep.{Ghosts}
 use Rattle.room_rows.specs.declared.node.Node.{Node}
 use Rattle.room_rows.specs.Content.{Content, node_at, root_of, has_folder_above, is_linked_in}
 use Rattle.room_rows.specs.Content.{is_root, reaches_root, with_each}
-use Rattle.room_rows.specs.Keep.{HasNoRoot, capped, reading, with_inh}
+use Rattle.room_rows.specs.Keep.{HasNoRoot, capped, with_content, with_inh}
 use Rattle.room_rows.specs.Rows.{Rows}
 use Rattle.room_rows.specs.Law.{AllAgree}
 use Rattle.room_rows.specs.Sound.{first_fault}
@@ -30,7 +30,7 @@ pub record IsTree (rows : Content) : Type 0 where
 -- law holds.
 pub record IsSwept (which : Which) (old new : Rows) (changed : ℕ) : Type 0 where
   pub lists : Node → List Ace
-  pub becomes : new ≡ reading old (with_lists which lists old.read)
+  pub becomes : new ≡ with_content old (with_lists which lists old.read)
   pub linked : (node : Node) → node_at old.read node.id ≡ Some node
       → IsTrue (is_changed which lists node) → IsTrue (is_linked_in old.read which node)
   pub counted : changed ≡ count_by (is_changed which lists) old.read.nodes
@@ -49,7 +49,7 @@ with_both dacls sacls content =
 pub record IsSpreadAll (old new : Rows) (changed : ℕ) : Type 0 where
   pub dacls : Node → List Ace
   pub sacls : Node → List Ace
-  pub becomes : new ≡ reading old (with_both dacls sacls old.read)
+  pub becomes : new ≡ with_content old (with_both dacls sacls old.read)
   pub linked_dacls : (node : Node) → node_at old.read node.id ≡ Some node
       → IsTrue (is_changed Dacl dacls node) → IsTrue (is_linked_in old.read Dacl node)
   pub linked_sacls : (node : Node) → node_at old.read node.id ≡ Some node

@@ -17,7 +17,7 @@ use Rattle.room_rows.specs.Content.{with_each}
 use Rattle.room_rows.specs.Calls.{Reads}
 use Rattle.room_rows.specs.HeldList.{Held}
 use Rattle.room_rows.specs.Held.{held_of, full_of, is_linked}
-use Rattle.room_rows.specs.Keep.{AreChildrenOf, IsUnreadable, are_there, reading, with_changed}
+use Rattle.room_rows.specs.Keep.{AreChildrenOf, IsUnreadable, are_there, with_changed, with_content}
 use Rattle.room_rows.specs.Keep.{with_inh}
 use Rattle.room_rows.specs.Rows.{Rows}
 use Rattle.room_rows.specs.Pass.{pass}
@@ -36,8 +36,8 @@ is_linked_to which above node = is_linked (held_of which node) (Some (held_of wh
 abbrev pub passed_to : Which → Node → Node → List Ace
 passed_to which above node = pass node.kind (full_of (held_of which above))
 
-abbrev pub renewed : Which → Node → Node → Node
-renewed which above node = with_inh which (passed_to which above node) node
+abbrev pub renewed_node : Which → Node → Node → Node
+renewed_node which above node = with_inh which (passed_to which above node) node
 
 -- linked, and stores something else than it is to store
 abbrev pub is_outdated : Which → Node → Node → Bool
@@ -47,7 +47,7 @@ is_outdated which above node =
 
 -- those of the children that are outdated, as they are to be
 abbrev pub renewals : Which → Node → List Node → List Node
-renewals which above nodes = map (renewed which above) (filter (is_outdated which above) nodes)
+renewals which above nodes = map (renewed_node which above) (filter (is_outdated which above) nodes)
 
 -- the object at which it began, met again as a linked child
 abbrev pub is_met_again : Which → ℕ → Node → Node → Bool
@@ -60,7 +60,7 @@ meets_again which start above nodes = list_any (is_met_again which start above) 
 abbrev pub renewed_below : Which → Node → Node → Node
 renewed_below which above node =
     if has_parent above.id node && is_outdated which above node
-    then renewed which above node
+    then renewed_node which above node
     else node
 
 abbrev pub MeetsAgain : Which → ℕ → Node → Rows → Type 0
@@ -70,7 +70,7 @@ MeetsAgain which start above rows =
 -- renewed if it is outdated
 abbrev pub brought_up : Which → Node → Node → Node
 brought_up which above node =
-    if is_outdated which above node then renewed which above node else node
+    if is_outdated which above node then renewed_node which above node else node
 
 -- which children wait next: the renewed ones, documents too, or all folders
 abbrev pub waits_next : Reach → Which → Node → Node → Bool
@@ -107,7 +107,7 @@ pub record IsVisit (descent : Descent) (above : Node) (before after : List Node)
     (written : ℕ) (new : Rows) : Type 0 where
   pub not_met : meets_again descent.which descent.start above (children_of old.read above.id)
       ≡ false
-  pub becomes : new ≡ reading old (with_each old.read (renewed_below descent.which above))
+  pub becomes : new ≡ with_content old (with_each old.read (renewed_below descent.which above))
   pub counted : written ≡ length (renewals descent.which above (children_of old.read above.id))
   pub next : List Node
   pub waits : after ≡ before ++ next
@@ -186,7 +186,7 @@ module _ {S : Type 0} (k : Ghosts S) (old new : S) where
       CarriesIf k old new
       (λ rows. (kind : ObjKind) → IsTrue (are_there (of_kind numbers kind) rows.read))
       (λ _. count_of numbers) result (λ _. ⊥)
-      (λ rows _ now. now ≡ reading rows (with_both_passed which passed numbers rows.read))
+      (λ rows _ now. now ≡ with_content rows (with_both_passed which passed numbers rows.read))
 
   -- The object's children are renewed, if these are all of them, and the first object isn't one.
   abbrev pub RenewsAll : Descent → Node → List Node → List Node → List Node

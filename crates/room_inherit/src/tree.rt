@@ -3,8 +3,8 @@ ghost use Rattle.std.specs.Prelude.{◌≡◌, IfOk, filter};
 ghost use Rattle.std.specs.Option.{option_copied, option_map};
 ghost use Rattle.room_rows.specs.Content.{has_folder_above, is_root};
 ghost use Rattle.room_inherit.specs.Objects.{only};
-ghost use Rattle.room_rows.specs.Sound.{bad_root, fault_of, first_failing, has_sound_name};
-ghost use Rattle.room_rows.specs.Sound.{numbered, or_else, tree_fault, true_path};
+ghost use Rattle.room_rows.specs.Sound.{bad_root, fault_of, first_failing, has_sound_name, or_else};
+ghost use Rattle.room_rows.specs.Sound.{path_by_number, tree_fault, true_path};
 
 use crate::objects::Objects;
 use crate::report::fault_of_number;
@@ -89,7 +89,7 @@ impl Objects {
     // after it.
     fn fault_above(&self, alloc: Global) -> Result<Option<(u64, Unsound)>, AllocError>
         ensures { IfOk result (λ found. tree_fault (only self.now)
-            ≡ or_else (option_map (λ f. Report.Fault (numbered f.0) f.1) found)
+            ≡ or_else (option_map (λ f. Report.Fault (path_by_number f.0) f.1) found)
             (fault_of (true_path (only self.now)) Unsound.BadName
             (first_failing (has_sound_name (only self.now)) (only self.now)))) }
     {

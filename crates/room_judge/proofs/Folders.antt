@@ -24,7 +24,8 @@ use Rattle.room_machine.specs.Judge.{first_failure, or_else, records_of_plan}
 use Rattle.room_machine.specs.Stored.{stored_site, stored_along, to_stored}
 use Rattle.room_judge.specs.Stored.{found_site}
 use Rattle.room_judge.specs.Halted.{both_with}
-use Rattle.room_judge.specs.Judged.{IsJudged, IsReached, child_below, name_after, noted, through}
+use Rattle.room_judge.specs.Judged.{IsJudged, IsReached, child_below, name_after, through}
+use Rattle.room_judge.specs.Judged.{with_notes}
 use Rattle.room_judge.specs.Spot.{IsPaired, IsSpotted, SpotsUnder, spot_of}
 use Rattle.room_judge.proofs.Judging.{failure_of_parts, records_of_parts, fails_first, passes_first}
 use Rattle.room_judge.proofs.Judging.{refuses, passes_on, judged_none}
@@ -79,7 +80,7 @@ module _ (asker : Asker) (items : List Item) (at : List (List ℕ)) (why : Reaso
   without_last old new answer judged =
       record {
         answers = judged.answers ∙ same_failure;
-        notes = judged.notes ∙ ap (noted old) same_records;
+        notes = judged.notes ∙ ap (with_notes old) same_records;
       }
 
 -- ---- the whole way

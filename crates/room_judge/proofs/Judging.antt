@@ -5,7 +5,7 @@ use Rattle.std.proofs.lemmas.List.{append-nil}
 use Rattle.std.specs.Prelude.{is_none}
 use Rattle.room_entry.specs.declared.parties.Caller.{Caller}
 use Rattle.room_rows.specs.declared.node.AuditRow.{AuditRow}
-use Rattle.room_rows.specs.Keep.{IsUnreadable, reading}
+use Rattle.room_rows.specs.Keep.{IsUnreadable, with_content}
 use Rattle.room_rows.specs.Rows.{Rows}
 use Rattle.room_judge.specs.declared.asker.Asker.{Asker}
 use Rattle.room_machine.specs.declared.reply.Reply.{Reply}
@@ -14,20 +14,20 @@ use Rattle.room_machine.specs.declared.reply.Reason.{Reason}
 use Rattle.room_machine.specs.Plan.{Item, Refusal}
 use Rattle.room_machine.specs.Judge.{failure, passes, or_else, first_failure, records_of_checks}
 use Rattle.room_machine.specs.Judge.{checks_of, records_of_plan}
-use Rattle.room_judge.specs.Judged.{IsJudged, noted}
+use Rattle.room_judge.specs.Judged.{IsJudged, with_notes}
 
 -- ---- records after records
 
 abbrev with_audits : Rows → List AuditRow → Rows
-with_audits old audits = reading old (record old.read { audits = audits })
+with_audits old audits = with_content old (record old.read { audits = audits })
 
 -- rows with no records added are as they were
-pub noted_none : (old : Rows) → noted old [] ≡ old
+pub noted_none : (old : Rows) → with_notes old [] ≡ old
 noted_none old = ap (with_audits old) (append-nil old.read.audits)
 
 -- records added after others are added as one list, the earlier ones first
 pub noted_more : (old : Rows) (first second : List AuditRow)
-    → noted (noted old first) second ≡ noted old (first ++ second)
+    → with_notes (with_notes old first) second ≡ with_notes old (first ++ second)
 noted_more old first second = ap (with_audits old) (append_assoc old.read.audits first second)
 
 -- ---- lists of items in parts
@@ -94,7 +94,8 @@ module _ (asker : Asker) where
     notes =
         same ∙ sym (noted_none old)
         ∙ ap
-        (λ t. noted old (cond (is_none (refusal t)) (records_of_plan asker.caller asker.at items)
+        (λ t. with_notes old
+        (cond (is_none (refusal t)) (records_of_plan asker.caller asker.at items)
         [])) (sym is);
   }
     where
@@ -113,7 +114,8 @@ module _ (asker : Asker) where
     notes =
         judged.notes
         ∙ ap
-        (λ t. noted old (cond (is_none (refusal t)) (records_of_plan asker.caller asker.at items)
+        (λ t. with_notes old
+        (cond (is_none (refusal t)) (records_of_plan asker.caller asker.at items)
         [])) (sym isnt);
   }
     where
@@ -128,7 +130,8 @@ module _ (asker : Asker) where
     answers =
         sym (failure_of_parts asker.caller asker.at items others
         ∙ ap (λ o. or_else o (first_failure asker.caller others)) (sym judged.answers));
-    notes = judged.notes ∙ ap (noted old) (sym (records_of_parts asker.caller asker.at items others
+    notes =
+        judged.notes ∙ ap (with_notes old) (sym (records_of_parts asker.caller asker.at items others
         ∙ ap (λ o. records_of_plan asker.caller asker.at items
         ++ cond (is_none o) (records_of_plan asker.caller asker.at others) []) (sym judged.answers)
         ∙ append-nil _));
@@ -143,10 +146,11 @@ module _ (asker : Asker) where
         second.answers ∙ sym (failure_of_parts asker.caller asker.at items others
         ∙ ap (λ o. or_else o (first_failure asker.caller others)) (sym first.answers));
     notes =
-        second.notes ∙ ap (λ r. noted r (records_of_plan asker.caller asker.at others)) first.notes
+        second.notes
+        ∙ ap (λ r. with_notes r (records_of_plan asker.caller asker.at others)) first.notes
         ∙ noted_more old (records_of_plan asker.caller asker.at items)
         (records_of_plan asker.caller asker.at others)
-        ∙ ap (noted old) (sym (records_of_parts asker.caller asker.at items others
+        ∙ ap (with_notes old) (sym (records_of_parts asker.caller asker.at items others
         ∙ ap (λ o. records_of_plan asker.caller asker.at items
         ++ cond (is_none o) (records_of_plan asker.caller asker.at others) [])
         (sym first.answers)));

@@ -13,7 +13,7 @@ use Rattle.room_rows.specs.Rows.{Rows}
 use Rattle.room_judge.specs.declared.asker.Asker.{Asker}
 use Rattle.room_machine.specs.Site.{Site, full_at}
 use Rattle.room_machine.specs.Judge.{record_at, records_of}
-use Rattle.room_judge.specs.Judged.{noted}
+use Rattle.room_judge.specs.Judged.{with_notes}
 use Rattle.room_judge.proofs.Judging.{noted_none, noted_more}
 
 -- ---- places count from 1
@@ -54,7 +54,7 @@ record_for asker granted site bits place =
 -- The records for these places are noted.
 abbrev pub Notes : Asker → Bool → Site → List ℕ → List ℕ → Rows → Rows → Type 0
 Notes asker granted site bits places old now =
-    now ≡ noted old (map (record_for asker granted site bits) places)
+    now ≡ with_notes old (map (record_for asker granted site bits) places)
 
 pub notes_none : (asker : Asker) (granted : Bool) (site : Site) (bits : List ℕ) (places : List ℕ)
     (old now : Rows) → now ≡ old → Notes asker granted site bits (take 0 places) old now
@@ -65,15 +65,16 @@ pub notes_one : (asker : Asker) (granted : Bool) (site : Site) (bits : List ℕ)
     → row ≡ record_for asker granted site bits (get_or places i 0)
     → places ≡ events_of (full_at Sacl site) asker.caller site.node.owners bits granted
     → Notes asker granted site bits (take i places) old now
-    → (0 < row.place → next ≡ noted now (row ∷ []))
+    → (0 < row.place → next ≡ with_notes now (row ∷ []))
     → Notes asker granted site bits (take (i + 1) places) old next
 notes_one asker granted site bits places i row old now next below is are sofar more =
     more (subst (λ (r : AuditRow). 0 < r.place) (sym is)
     (from_one (full_at Sacl site) asker.caller site.node.owners bits granted places i are below))
-    ∙ ap (λ r. noted r (row ∷ [])) sofar
+    ∙ ap (λ r. with_notes r (row ∷ [])) sofar
     ∙ noted_more old (map (record_for asker granted site bits) (take i places)) (row ∷ [])
-    ∙ ap (λ r. noted old (map (record_for asker granted site bits) (take i places) ++ r ∷ [])) is
-    ∙ ap (noted old)
+    ∙ ap (λ r. with_notes old
+    (map (record_for asker granted site bits) (take i places) ++ r ∷ [])) is
+    ∙ ap (with_notes old)
     (sym (map-append (record_for asker granted site bits) (take i places) (get_or places i 0 ∷ []))
     ∙ ap (map (record_for asker granted site bits)) (sym (take_more places i 0 below)))
 
@@ -81,7 +82,7 @@ pub notes_all : (asker : Asker) (granted : Bool) (site : Site) (bits : List ℕ)
     (i : ℕ) (old now : Rows) → i ≡ length places
     → places ≡ events_of (full_at Sacl site) asker.caller site.node.owners bits granted
     → Notes asker granted site bits (take i places) old now
-    → now ≡ noted old (records_of asker.caller asker.at granted (site, bits))
+    → now ≡ with_notes old (records_of asker.caller asker.at granted (site, bits))
 notes_all asker granted site bits places i old now full are all =
-    all ∙ ap (λ l. noted old (map (record_for asker granted site bits) l))
+    all ∙ ap (λ l. with_notes old (map (record_for asker granted site bits) l))
     (ap (λ (n : ℕ). take n places) full ∙ take-length places ∙ are)

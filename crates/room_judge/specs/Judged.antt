@@ -18,7 +18,7 @@ use Rattle.room_rows.specs.declared.keep.KeepFault.{KeepFault}
 use Rattle.room_rows.specs.declared.node.AuditRow.{AuditRow}
 use Rattle.room_rows.specs.declared.node.Node.{Node}
 use Rattle.room_rows.specs.Content.{child_of, is_folder, root_of, with_records}
-use Rattle.room_rows.specs.Keep.{HasCause, IsUnreadable, reading}
+use Rattle.room_rows.specs.Keep.{HasCause, IsUnreadable, with_content}
 use Rattle.room_rows.specs.Meaning.{meaning}
 use Rattle.room_rows.specs.Rows.{Rows}
 use Rattle.room_rows.specs.Sound.{AreSound}
@@ -60,15 +60,15 @@ NotSound rows at = AreSound rows → ⊥
 -- ---- items that are judged as they come
 
 -- the rows with these records after the others
-abbrev pub noted : Rows → List AuditRow → Rows
-noted rows records = reading rows (with_records rows.read records)
+abbrev pub with_notes : Rows → List AuditRow → Rows
+with_notes rows records = with_content rows (with_records rows.read records)
 
 -- The answer is the reply for the first item that fails. The records of the items up to it come
 -- after the others.
 pub record IsJudged (asker : Asker) (items : List Item) (old : Rows) (answer : Option Reply)
     (new : Rows) : Type 0 where
   pub answers : answer ≡ first_failure asker.caller items
-  pub notes : new ≡ noted old (records_of_plan asker.caller asker.at items)
+  pub notes : new ≡ with_notes old (records_of_plan asker.caller asker.at items)
 
 -- ---- verdicts
 

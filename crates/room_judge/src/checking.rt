@@ -4,7 +4,7 @@ ghost use Rattle.room_rows.specs.Keep.{IsNever};
 ghost use Rattle.room_machine.specs.Judge.{kind_at, of_verdict, record_at, records_of};
 ghost use Rattle.room_machine.specs.Plan.{Check};
 ghost use Rattle.room_judge.specs.Halted.{Grants, Judges, Tries};
-ghost use Rattle.room_judge.specs.Judged.{Does, is_grant, noted};
+ghost use Rattle.room_judge.specs.Judged.{Does, is_grant, with_notes};
 ghost use Rattle.room_judge.specs.Stored.{found_site};
 
 use crate::arrival::Found;
@@ -117,7 +117,7 @@ pub(crate) fn note_check<K: Keep>(
     checked: &Checked<'_>,
 ) -> Result<(), KeepFault>
     ensures done { Does K.Keep keep.old keep.new result IsNever
-        (λ old _ new. new ≡ noted old
+        (λ old _ new. new ≡ with_notes old
         (records_of asker.now.caller asker.now.at checked.now.granted
         (found_site checked.now.path.now checked.now.found.now, checked.now.bits))) }
 {

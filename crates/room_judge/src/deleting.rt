@@ -5,7 +5,7 @@ ghost use Rattle.room_rows.specs.Keep.{IsNever};
 ghost use Rattle.room_machine.specs.Judge.{of_deletion, records_of_checks};
 ghost use Rattle.room_machine.specs.Plan.{Deletion};
 ghost use Rattle.room_judge.specs.Halted.{Grants, Judges, Tries};
-ghost use Rattle.room_judge.specs.Judged.{Does, is_deletable, noted, second_right};
+ghost use Rattle.room_judge.specs.Judged.{Does, is_deletable, second_right, with_notes};
 ghost use Rattle.room_judge.specs.Stored.{found_site};
 
 use crate::arrival::Found;
@@ -77,7 +77,7 @@ impl<K: Keep> Walk<'_, K> {
         ensures same_keep { self.new.keep.ghost_name ≡ self.old.keep.ghost_name }
         ensures same_asker { self.new.asker.now ≡ self.old.asker.now }
         ensures done { Does K.Keep self.old.keep.now self.new.keep.now result IsNever
-            (λ old _ new. new ≡ noted old
+            (λ old _ new. new ≡ with_notes old
             (records_of_checks self.old.asker.now.caller self.old.asker.now.at
             (is_deletable leaving.now.verdict.now)
             ((found_site leaving.now.path.now leaving.now.target.now, delete ∷ []) ∷ (

@@ -21,7 +21,7 @@ use Rattle.room_machine.specs.Site.{Site, sites_of, sites_along, site_at, full_a
 use Rattle.room_machine.specs.Plan.{Item, way, where_found, to_target, plan_of}
 use Rattle.room_machine.specs.Judge.{first_failure}
 use Rattle.room_machine.specs.Effect.{effect, with_site}
-use Rattle.room_machine.specs.Step.{Step, caller_in, answered}
+use Rattle.room_machine.specs.Step.{Step, caller_in, failure_or}
 use Rattle.room_machine.specs.Closed.{only_reads}
 use Rattle.room_machine.specs.Laws.{first_path, same_target, ReadsOnly}
 
@@ -32,7 +32,7 @@ or_reply None reply = reply
 or_reply (Some failed) reply = failed
 
 answered_reply : (failed : Option Reply) (content : Content) (done : Reply × Content)
-    → (answered failed content done).0 ≡ or_reply failed done.0
+    → (failure_or failed content done).0 ≡ or_reply failed done.0
 answered_reply None content done = refl
 answered_reply (Some reply) content done = refl
 

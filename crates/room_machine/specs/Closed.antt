@@ -7,7 +7,7 @@ use Rattle.room_entry.specs.declared.parties.Caller.{Caller}
 use Rattle.room_rows.specs.declared.node.AuditRow.{AuditRow}
 use Rattle.room_rows.specs.Content.{Content, body_of, with_records}
 use Rattle.room_rows.specs.Held.{held_of}
-use Rattle.room_rows.specs.Keep.{reading}
+use Rattle.room_rows.specs.Keep.{with_content}
 use Rattle.room_rows.specs.Rows.{Rows}
 use Rattle.room_machine.specs.declared.reply.Reply.{Reply}
 use Rattle.room_machine.specs.declared.reply.Reply.TheVariants.{Bytes, Names, Lists, Attr, Rulings}
@@ -18,7 +18,7 @@ use Rattle.room_machine.specs.declared.request.Request.TheVariants.{Read, List a
 use Rattle.room_machine.specs.declared.request.Request.TheVariants.{Append, MakeFolder, Remove}
 use Rattle.room_machine.specs.declared.request.Request.TheVariants.{Move, ReadList, SetList}
 use Rattle.room_machine.specs.declared.request.Request.TheVariants.{ReadAttr, SetOwners, Can}
-use Rattle.room_machine.specs.Effect.{listed, rulings}
+use Rattle.room_machine.specs.Effect.{names_at, rulings}
 use Rattle.room_machine.specs.Judge.{first_failure, records_of_plan}
 use Rattle.room_machine.specs.Site.{Site, full_at, site_at}
 use Rattle.room_machine.specs.Step.{caller_in}
@@ -76,7 +76,7 @@ IsShown rows caller (Read path) reply = AtStored rows.read path (λ target.
     (bytes : List ℕ) × (reply ≡ Bytes bytes) × (body_of rows.read target.node.id ≡ Some bytes))
 IsShown rows caller (ListFolder path) reply = AtStored rows.read path (λ target.
     (names : List (List ℕ × ObjKind)) × (reply ≡ Names names)
-    × (rows.unreadable ≡ [] → names ≡ listed rows.read target.node.id))
+    × (rows.unreadable ≡ [] → names ≡ names_at rows.read target.node.id))
 IsShown rows caller (ReadList path which) reply = AtStored rows.read path (λ target.
     reply ≡ Lists (held_of which target.node).flags (full_at which target))
 IsShown rows caller (ReadAttr path) reply = AtStored rows.read path (λ target.
@@ -106,7 +106,7 @@ pub record IsClosedFor (caller : Caller) (moment : ℤ) (request : Request) (old
   pub records : new.read.audits
       ≡ old.read.audits ++ stored_records caller moment old.read request
   pub unchanged : IsTrue (only_reads request || is_some (failure_told reply))
-      → new ≡ reading old
+      → new ≡ with_content old
       (with_records old.read (stored_records caller moment old.read request))
   pub shown : failure_told reply ≡ None → IsShown old caller request reply
 

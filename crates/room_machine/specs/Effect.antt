@@ -124,8 +124,8 @@ put_bytes content caller id path bytes None parent = with_site content parent (�
 abbrev pub with_target : Content → List (List ℕ) → (Site → Reply × Content) → Reply × Content
 with_target content path act = with_site content (site_at (sites_along content path) path) act
 
-abbrev pub listed : Content → ℕ → List (List ℕ × ObjKind)
-listed content id = map (λ node. (node.name, node.kind)) (children_of content id)
+abbrev pub names_at : Content → ℕ → List (List ℕ × ObjKind)
+names_at content id = map (λ node. (node.name, node.kind)) (children_of content id)
 
 abbrev pub bytes_at : Content → ℕ → List ℕ
 bytes_at content id = unwrap_or (body_of content id) []
@@ -139,7 +139,7 @@ abbrev pub effect : Content → Caller → ℕ → Request → Reply × Content
 effect content caller id (Read path) = with_target content path
     (λ target. (Bytes (bytes_at content target.node.id), content))
 effect content caller id (ListFolder path) = with_target content path
-    (λ target. (Names (listed content target.node.id), content))
+    (λ target. (Names (names_at content target.node.id), content))
 effect content caller id (Put path bytes) = let sites = sites_along content path in
     put_bytes content caller id path bytes (site_at sites path) (parent_at sites path)
 effect content caller id (Append path bytes) = with_target content path

@@ -18,19 +18,20 @@ abbrev pub caller_in : Content → Option (List ℕ) → Caller
 caller_in content user = record { user = user; groups = groups_for content user }
 
 -- the first failure is the reply, and changes nothing; else the request has its effect
-abbrev pub answered : Option Reply → Content → Reply × Content → Reply × Content
-answered (Some reply) content done = (reply, content)
-answered None content done = done
+abbrev pub failure_or : Option Reply → Content → Reply × Content → Reply × Content
+failure_or (Some reply) content done = (reply, content)
+failure_or None content done = done
 
-abbrev pub recorded : Reply × Content → List AuditRow → Reply × Content
-recorded done rows = (done.0, with_records done.1 rows)
+abbrev pub done_with_records : Reply × Content → List AuditRow → Reply × Content
+done_with_records done rows = (done.0, with_records done.1 rows)
 
 -- the reply and the content after, where a new object gets this number
 abbrev pub step : Content → Option (List ℕ) → ℤ → Request → ℕ → Reply × Content
 step content user moment request id =
     let caller = caller_in content user in
     let plan = plan_of content request in
-    recorded (answered (first_failure caller plan) content (effect content caller id request))
+    done_with_records
+    (failure_or (first_failure caller plan) content (effect content caller id request))
     (records_of_plan caller moment plan)
 
 -- the number isn't in use
@@ -55,7 +56,8 @@ is_refusal (Refusal at why holds) = true
 abbrev pub reset : Content → List (List ℕ) → Which → Sent → Reply × Content
 reset content path which sent =
     let caller : Caller = record { user = None; groups = [] } in
-    answered (first_failure caller (filter is_refusal (plan_of content (SetList path which sent))))
+    failure_or
+    (first_failure caller (filter is_refusal (plan_of content (SetList path which sent))))
     content (effect content caller 0 (SetList path which sent))
 
 abbrev pub Reset : Content → List (List ℕ) → Which → Sent → Reply → Content → Type 0

@@ -19,7 +19,7 @@ use Rattle.room_rows.specs.Content.{Content, node_at, has_parent, root_of, child
 use Rattle.room_rows.specs.Content.{parent_of, body_at, body_of, put_body, with_node, with_body}
 use Rattle.room_rows.specs.Content.{with_each, is_rising, sorted_by_name}
 use Rattle.room_rows.specs.Held.{held_of, with_held}
-use Rattle.room_rows.specs.Keep.{with_inh, with_owners, reading}
+use Rattle.room_rows.specs.Keep.{with_inh, with_owners, with_content}
 use Rattle.room_rows.specs.Rows.{Rows, AreRows, numbers_of, put_numbers}
 use Rattle.room_rows.proofs.Lookups as lookups
 use Rattle.room_rows.proofs.SamePlace as same_place
@@ -126,7 +126,7 @@ module _ (content : Content) (rises : Rises content) (id : ℕ) (node new : Node
 -- all numbers in use stay
 pub numbers_of-reading : (rows : Rows) (content : Content)
     → map (λ (n : Node). n.id) content.nodes ≡ map (λ (n : Node). n.id) rows.read.nodes
-    → numbers_of (reading rows content) ≡ numbers_of rows
+    → numbers_of (with_content rows content) ≡ numbers_of rows
 numbers_of-reading rows content same = ap (put_numbers rows.unreadable) same
 
 -- ---- changes that leave the place

@@ -16,7 +16,8 @@ use Rattle.room_entry.specs.declared.object.Which.{Which}
 use Rattle.room_entry.specs.declared.object.Which.TheVariants.{Dacl, Sacl}
 use Rattle.room_rows.specs.declared.node.Node.{Node}
 use Rattle.room_rows.specs.Content.{Content, node_at}
-use Rattle.room_rows.specs.Keep.{Changes, ChangesAll, are_there, reading, with_changed, with_inh}
+use Rattle.room_rows.specs.Keep.{Changes, ChangesAll, are_there, with_changed, with_content}
+use Rattle.room_rows.specs.Keep.{with_inh}
 use Rattle.room_rows.specs.Rows.{AreRows, Rows}
 use Rattle.room_rows.proofs.Frames.{node_at-number, rows-rise}
 use Rattle.room_rows.proofs.InPlace.{node_at-with_each, keeps_places}
@@ -50,7 +51,7 @@ is_some_mapped f None = refl
 -- none is changed
 pub none_changed : (change : Node → Node) (rows : Rows) → ChangesAll [] change rows rows
 none_changed change rows there =
-    sym (ap (λ (l : List Node). reading rows (record rows.read { nodes = l }))
+    sym (ap (λ (l : List Node). with_content rows (record rows.read { nodes = l }))
     (map-id rows.read.nodes))
 
 -- an object that is changed again is as it was changed at first
@@ -92,11 +93,11 @@ module _ (change : Node → Node) where
         (and_parts (is_some (node_at old.read id)) true there).0
       where
         by : (o : Option Node) → node_at old.read id ≡ o → is_some o ≡ true
-            → new ≡ reading old (with_changed (id ∷ []) change old.read)
+            → new ≡ with_content old (with_changed (id ∷ []) change old.read)
         by None found some = absurd (let e = some in cc)
         by (Some node) found some =
             changes node found
-            ∙ ap (reading old)
+            ∙ ap (with_content old)
             (with_node-replaces old.read (rows-rise old are) id node (change node) found (stays node)
             ∙ ap (λ (l : List Node). record old.read { nodes = l })
             (map_each (replaced (change node)) (changed_among (id ∷ []) change) old.read.nodes
@@ -128,13 +129,13 @@ module _ (change : Node → Node) where
     then_changed once first more old mid new before after there =
         let parts = and_parts (are_there first old.read) (are_there more old.read)
         (sym (list_all-append (λ (id : ℕ). is_some (node_at old.read id)) first more) ∙ there) in
-        let is : mid ≡ reading old (with_changed first change old.read) = before parts.0 in
+        let is : mid ≡ with_content old (with_changed first change old.read) = before parts.0 in
         let left : are_there more mid.read ≡ true =
         ap (λ (rows : Rows). are_there more rows.read) is ∙ there_after old.read first more
         ∙ parts.1 in
         after left
-        ∙ ap (λ (rows : Rows). reading rows (with_changed more change rows.read)) is
-        ∙ ap (reading old)
+        ∙ ap (λ (rows : Rows). with_content rows (with_changed more change rows.read)) is
+        ∙ ap (with_content old)
         (with_each-with_each old.read (changed_among first change) (changed_among more change)
         ∙ ap (λ (l : List Node). record old.read { nodes = l })
         (map_all _ (changed_among (first ++ more) change) old.read.nodes both))
@@ -170,7 +171,7 @@ module _ (change : Node → Node) where
       changes (list_all-from_AllPass is_there others
       (All-permutation (λ id. is_there id ≡ true) ids others same
       (AllPass-from_list_all is_there ids there)))
-      ∙ ap (λ (l : List Node). reading old (record old.read { nodes = l }))
+      ∙ ap (λ (l : List Node). with_content old (record old.read { nodes = l }))
       (map_all (changed_among others change) (changed_among ids change) old.read.nodes
       (λ n. ap (λ (b : Bool). if b then change n else n)
       (sym (list_any-IsPermutation (λ (id : ℕ). id == n.id) ids others same))))

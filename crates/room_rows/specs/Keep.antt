@@ -107,8 +107,8 @@ AreGroupsOf user rows groups = groups ≡ groups_of rows.read user
 -- ---- what writing calls leave
 
 -- rows with another content
-abbrev pub reading : Rows → Content → Rows
-reading rows content = record rows { read = content }
+abbrev pub with_content : Rows → Content → Rows
+with_content rows content = record rows { read = content }
 
 abbrev pub with_inh : Which → List Ace → Node → Node
 with_inh which entries node = with_held which (record (held_of which node) { inh = entries }) node
@@ -140,12 +140,12 @@ IsDocumentAt rows id =
 abbrev pub Changes : ℕ → (Node → Node) → Rows → Rows → Type 0
 Changes id change old new =
     (node : Node) → node_at old.read id ≡ Some node
-    → new ≡ reading old (with_node old.read (change node))
+    → new ≡ with_content old (with_node old.read (change node))
 
 -- Each of these objects, if all are there, is changed in this way, and nothing else is.
 abbrev pub ChangesAll : List ℕ → (Node → Node) → Rows → Rows → Type 0
 ChangesAll ids change old new =
-    IsTrue (are_there ids old.read) → new ≡ reading old (with_changed ids change old.read)
+    IsTrue (are_there ids old.read) → new ≡ with_content old (with_changed ids change old.read)
 
 -- The object has another parent and another name, if that parent is a folder and the name is free
 -- there.
@@ -184,7 +184,7 @@ pub record IsAdded (node : NewNode) (old : Rows) (id : ℕ) (new : Rows) : Type 
   pub from_one : 0 < id
   pub is_new : node_at old.read id ≡ None
   pub is_free : is_unreadable old id ≡ false
-  pub becomes : new ≡ reading old (with_new old.read id node)
+  pub becomes : new ≡ with_content old (with_new old.read id node)
 
 abbrev pub Adds : NewNode → Rows → ℕ → Rows → Type 0
 Adds node old id new = CanAdd node old → IsAdded node old id new
@@ -199,15 +199,16 @@ pub record CanRemove (id : ℕ) (rows : Rows) : Type 0 where
 
 -- an object is gone with its bytes
 abbrev pub Removes : ℕ → Rows → Rows → Type 0
-Removes id old new = CanRemove id old → new ≡ reading old (without_node old.read id)
+Removes id old new = CanRemove id old → new ≡ with_content old (without_node old.read id)
 
 -- a document has these bytes
 abbrev pub SetsBody : ℕ → List ℕ → Rows → Rows → Type 0
-SetsBody id bytes old new = IsDocumentAt old id → new ≡ reading old (with_body old.read id bytes)
+SetsBody id bytes old new =
+    IsDocumentAt old id → new ≡ with_content old (with_body old.read id bytes)
 
 -- A record is added after the others, if its place is one: places count from 1.
 abbrev pub Notes : AuditRow → Rows → Rows → Type 0
-Notes row old new = 0 < row.place → new ≡ reading old (with_records old.read (row ∷ []))
+Notes row old new = 0 < row.place → new ≡ with_content old (with_records old.read (row ∷ []))
 
 -- for calls that answer nothing
 abbrev pub Leaves : (Rows → Rows → Type 0) → Rows → Unit {0} → Rows → Type 0

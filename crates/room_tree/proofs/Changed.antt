@@ -19,7 +19,7 @@ use Rattle.room_rows.specs.declared.node.Node.{Node}
 use Rattle.room_rows.specs.Content.{put_body, put_node, is_rising, without_node}
 use Rattle.room_rows.specs.Finding.{find_id}
 use Rattle.room_rows.specs.Held.{with_held}
-use Rattle.room_rows.specs.Keep.{Changes, HasCause, node_of, reading, with_new, with_owners}
+use Rattle.room_rows.specs.Keep.{Changes, HasCause, node_of, with_content, with_new, with_owners}
 use Rattle.room_rows.specs.Keep.{writes_after}
 use Rattle.room_tree.specs.Memory.{memory_rows}
 use Rattle.room_tree.specs.Objects.{StandsAsBefore, greatest}
@@ -124,7 +124,7 @@ pub added : (nodes new_nodes : List Node) (bodies new_bodies : List (ℕ × List
     → new_nodes ≡ put_node (node_of id new) nodes
     → new_bodies ≡ (if is_document new.kind then put_body id new.bytes bodies else bodies)
     → memory_rows new_nodes new_bodies members audits
-    ≡ reading (memory_rows nodes bodies members audits)
+    ≡ with_content (memory_rows nodes bodies members audits)
     (with_new (memory_rows nodes bodies members audits).read id new)
 added nodes new_nodes bodies new_bodies members audits id new puts fills =
     (λ i. memory_rows (puts i) (fills i) members audits)
@@ -132,11 +132,12 @@ added nodes new_nodes bodies new_bodies members audits id new puts fills =
       | inl is ↦
           ap (λ (l : List (ℕ × List ℕ)). memory_rows
           (put_node (node_of id new) nodes) l members audits) (cond-true _ _ _ is)
-          ∙ sym (ap (reading (memory_rows nodes bodies members audits)) (cond-true _ _ _ is))
+          ∙ sym (ap (with_content (memory_rows nodes bodies members audits)) (cond-true _ _ _ is))
       | inr isnt ↦
           ap (λ (l : List (ℕ × List ℕ)). memory_rows
           (put_node (node_of id new) nodes) l members audits) (cond-false _ _ _ isnt)
-          ∙ sym (ap (reading (memory_rows nodes bodies members audits)) (cond-false _ _ _ isnt))
+          ∙ sym (ap (with_content (memory_rows nodes bodies members audits))
+          (cond-false _ _ _ isnt))
     ]
 
 pub node_rows : (nodes new_nodes : List Node) (bodies new_bodies : List (ℕ × List ℕ))
@@ -192,7 +193,7 @@ pub gone : (nodes new_nodes : List Node) (bodies new_bodies : List (ℕ × List 
     → new_nodes ≡ filter (λ node. not (node.id == id)) nodes
     → new_bodies ≡ filter (λ row. not (row.0 == id)) bodies
     → memory_rows new_nodes new_bodies members audits
-    ≡ reading (memory_rows nodes bodies members audits)
+    ≡ with_content (memory_rows nodes bodies members audits)
     (without_node (memory_rows nodes bodies members audits).read id)
 gone nodes new_nodes bodies new_bodies members audits id left rest =
     λ i. memory_rows (left i) (rest i) members audits

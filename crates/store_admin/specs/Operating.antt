@@ -12,7 +12,7 @@ use Rattle.sqlite.specs.declared.types.Value.TheVariants.{Null, Int, Text}
 use Rattle.sqlite_keyed.specs.Lists.{sort_by}
 use Rattle.room_rows.specs.declared.node.AuditRow.{AuditRow}
 use Rattle.room_rows.specs.Content.{set_of, with_members}
-use Rattle.room_rows.specs.Keep.{reading}
+use Rattle.room_rows.specs.Keep.{with_content}
 use Rattle.room_rows.specs.Rows.{Rows}
 use Rattle.store_tables.specs.Meaning.{audit_in, name_in, pair_in, pairs_of, rows_of}
 use Rattle.store_tables.specs.Trees as tree
@@ -32,7 +32,7 @@ pub record AreRecords (db : Database) (records : List AuditRow) : Type 0 where
   pub are : records ≡ (rows_of db).read.audits
 
 abbrev pub ReplacesMembers : List (List ℕ × List ℕ) → Rows → Unit {0} → Rows → Type 0
-ReplacesMembers pairs old answer new = new ≡ reading old (with_members old.read pairs)
+ReplacesMembers pairs old answer new = new ≡ with_content old (with_members old.read pairs)
 
 -- each of these rows of members is read as a pair
 abbrev pub are_pairs : List Row → Bool

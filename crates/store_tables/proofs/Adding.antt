@@ -11,7 +11,7 @@ use Rattle.room_entry.specs.Valid.{is_document}
 use Rattle.room_rows.specs.declared.node.NewNode.{NewNode}
 use Rattle.room_rows.specs.declared.node.Node.{Node}
 use Rattle.room_rows.specs.Content.{put_body, put_node, with_body, with_node}
-use Rattle.room_rows.specs.Keep.{IsAdded, node_of, reading}
+use Rattle.room_rows.specs.Keep.{IsAdded, node_of, with_content}
 use Rattle.room_rows.specs.Rows.{Rows}
 use Rattle.store_tables.specs.declared.columns.Columns.{Columns}
 use Rattle.store_tables.specs.Columns.{ReadsAsNode, values_of}
@@ -56,7 +56,7 @@ pub record IsPut (new : NewNode) (old : Rows) (id : ℕ) (mid : Rows) : Type 0 w
   pub from_one : 0 < id
   pub is_new : Rattle.room_rows.specs.Content.node_at old.read id ≡ None
   pub is_free : Rattle.room_rows.specs.Rows.is_unreadable old id ≡ false
-  pub becomes : mid ≡ reading old (with_node old.read (node_of id new))
+  pub becomes : mid ≡ with_content old (with_node old.read (node_of id new))
 
 pub put_rows : (db next : Database) (id : ℕ) (new : NewNode) (c : Columns) → IsRoom db → 0 < id
     → ReadsAsNode (node_of 0 new) c → AddsRow (pos id) (values_of c) db.trees next.trees
@@ -87,7 +87,7 @@ put_rows db next id new c room low stores put =
 
 pub bodied_rows : (db next : Database) (id : ℕ) (bytes : List ℕ) → IsRoom db → 0 < id
     → Bodies (pos id) bytes db.trees next.trees
-    → rows_of next ≡ reading (rows_of db) (with_body (rows_of db).read id bytes)
+    → rows_of next ≡ with_content (rows_of db) (with_body (rows_of db).read id bytes)
 bodied_rows db next id bytes room low put =
     let row = stored_body (pos id) bytes in
     let free = none_taken id (Rattle.std.proofs.Common.drop 1 row) (db.trees 2) put.fresh in
@@ -108,22 +108,22 @@ folder_added new old mid id folder put = record {
   becomes =
       put.becomes
       ∙ ap
-      (λ b. reading old
+      (λ b. with_content old
       (if b then with_body
       (with_node old.read (node_of id new)) id new.bytes else with_node old.read (node_of id new)))
       (sym folder);
 }
 
 pub document_added : (new : NewNode) (old mid last : Rows) (id : ℕ) → is_document new.kind ≡ true
-    → IsPut new old id mid → last ≡ reading mid (with_body mid.read id new.bytes)
+    → IsPut new old id mid → last ≡ with_content mid (with_body mid.read id new.bytes)
     → IsAdded new old id last
 document_added new old mid last id document put wrote = record {
   from_one = put.from_one;
   is_new = put.is_new;
   is_free = put.is_free;
-  becomes = wrote ∙ ap (λ (r : Rows). reading r (with_body r.read id new.bytes)) put.becomes
+  becomes = wrote ∙ ap (λ (r : Rows). with_content r (with_body r.read id new.bytes)) put.becomes
       ∙ ap
-      (λ b. reading old
+      (λ b. with_content old
       (if b then with_body
       (with_node old.read (node_of id new)) id new.bytes else with_node old.read (node_of id new)))
       (sym document);

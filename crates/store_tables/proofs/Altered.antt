@@ -20,13 +20,13 @@ use Rattle.room_rows.specs.HeldList.{Held}
 use Rattle.room_rows.specs.declared.node.Node.{Node}
 use Rattle.room_rows.specs.Content.{with_node}
 use Rattle.room_rows.specs.Held.{with_held}
-use Rattle.room_rows.specs.Keep.{reading, with_inh, with_owners, with_place}
+use Rattle.room_rows.specs.Keep.{with_content, with_inh, with_owners, with_place}
 use Rattle.room_rows.proofs.Frames.{node_at-number}
 use Rattle.store_tables.specs.Filed.{node_at_row}
 use Rattle.store_tables.specs.Meaning.{number_in, parent_in, kind_in, flags_in, text_in}
-use Rattle.store_tables.specs.Meaning.{name_of_text, name_in, entries_in, given, giving, held_in}
-use Rattle.store_tables.specs.Meaning.{owners_in, node_in, rows_of}
-use Rattle.store_tables.specs.Shown.{IsRoom, Recasts, holding, inheriting, lying, owning}
+use Rattle.store_tables.specs.Meaning.{name_of_text, name_in, entries_in, given, given_last}
+use Rattle.store_tables.specs.Meaning.{held_in, owners_in, node_in, rows_of}
+use Rattle.store_tables.specs.Shown.{IsRoom, Recasts, sets_held, sets_inh, sets_owners, sets_place}
 use Rattle.store_tables.specs.Shown.{shown_node, stored_node}
 use Rattle.store_tables.specs.Trust.{Alters}
 use Rattle.store_tables.proofs.Recast.{recast}
@@ -41,7 +41,7 @@ given_some : {A B : Type 0} (o : Option A) (f : A → Option B) (b : B) → give
 given_some None f b e = absurd (none-some b e)
 given_some (Some a) f b e = (a, refl, e)
 
-giving_some : {A B : Type 0} (o : Option A) (f : A → B) (b : B) → giving o f ≡ Some b → (a : A)
+giving_some : {A B : Type 0} (o : Option A) (f : A → B) (b : B) → given_last o f ≡ Some b → (a : A)
     × (o ≡ Some a) × (f a ≡ b)
 giving_some None f b e = absurd (none-some b e)
 giving_some (Some a) f b e = (a, refl, let e' = e in cc)
@@ -198,7 +198,7 @@ module _ (id : ℕ) (r : Row) (before : Node) (number : number_in (Int (pos id))
     (e : node_in (shown_node r) ≡ Some before) where
   pub inherits_back : (which : Which) (text : List ℕ) (entries : List Ace)
       → entries_in (Text text) ≡ Some entries
-      → node_in (shown_node (stored_node (pos id) (recast (inheriting which text r))))
+      → node_in (shown_node (stored_node (pos id) (recast (sets_inh which text r))))
       ≡ Some (with_inh which entries before)
   inherits_back Dacl text entries back =
       let s = reads_cells (column r 2) (column r 3) (column r 4) (column r 5) (column r 6)
@@ -234,7 +234,7 @@ module _ (id : ℕ) (r : Row) (before : Node) (number : number_in (Int (pos id))
   holds_back : (which : Which) (flags : ℤ) (own inh : List ℕ) (held : Held)
       → flags_in (Int flags) ≡ Some held.flags → entries_in (Text own) ≡ Some held.own
       → entries_in (Text inh) ≡ Some held.inh
-      → node_in (shown_node (stored_node (pos id) (recast (holding which flags own inh r))))
+      → node_in (shown_node (stored_node (pos id) (recast (sets_held which flags own inh r))))
       ≡ Some (with_held which held before)
   holds_back Dacl flags own inh held p q t =
       let s = reads_cells (column r 2) (column r 3) (column r 4) (column r 5) (column r 6)
@@ -269,7 +269,7 @@ module _ (id : ℕ) (r : Row) (before : Node) (number : number_in (Int (pos id))
 
   owns_back : (owner group : List ℕ) (owners : Owners) → name_in (Text owner) ≡ Some owners.owner
       → name_in (Text group) ≡ Some owners.group
-      → node_in (shown_node (stored_node (pos id) (recast (owning owner group r))))
+      → node_in (shown_node (stored_node (pos id) (recast (sets_owners owner group r))))
       ≡ Some (with_owners owners before)
   owns_back owner group owners p q =
       let s = reads_cells (column r 2) (column r 3) (column r 4) (column r 5) (column r 6)
@@ -289,7 +289,7 @@ module _ (id : ℕ) (r : Row) (before : Node) (number : number_in (Int (pos id))
 
   lies_back : (at : ℤ) (text : List ℕ) (parent : ℕ) (name : List ℕ)
       → parent_in (Int at) ≡ Some (Some parent) → text_in (Text text) ≡ Some name
-      → node_in (shown_node (stored_node (pos id) (recast (lying at text r))))
+      → node_in (shown_node (stored_node (pos id) (recast (sets_place at text r))))
       ≡ Some (with_place parent name before)
   lies_back at text parent name p q =
       let s = reads_cells (column r 2) (column r 3) (column r 4) (column r 5) (column r 6)
@@ -321,7 +321,7 @@ module _ (db next : Database) (id : ℕ) (room : IsRoom db)
       by (find (has_rowid (pos id)) (db.trees 0)) refl
     where
       by : (o : Option Row) → find (has_rowid (pos id)) (db.trees 0) ≡ o
-          → rows_of next ≡ reading (rows_of db) (with_node (rows_of db).read (change before))
+          → rows_of next ≡ with_content (rows_of db) (with_node (rows_of db).read (change before))
       by None found =
           absurd
           (none-some before (sym (ap (option_and_then (λ r. node_in (shown_node r))) found)
@@ -336,33 +336,33 @@ module _ (db next : Database) (id : ℕ) (room : IsRoom db)
 
   pub inherited_rows : (which : Which) (text : List ℕ) (entries : List Ace)
       → entries_in (Text text) ≡ Some entries
-      → Recasts (inheriting which text) (pos id) db.trees next.trees
+      → Recasts (sets_inh which text) (pos id) db.trees next.trees
       → Alters id (with_inh which entries) db next
   inherited_rows which text entries back =
-      altered (inheriting which text) (with_inh which entries) (with_inh-id which entries)
+      altered (sets_inh which text) (with_inh which entries) (with_inh-id which entries)
       (λ r before n e. inherits_back id r before n e which text entries back)
 
   pub held_rows : (which : Which) (flags : ℤ) (own inh : List ℕ) (held : Held)
       → flags_in (Int flags) ≡ Some held.flags → entries_in (Text own) ≡ Some held.own
       → entries_in (Text inh) ≡ Some held.inh
-      → Recasts (holding which flags own inh) (pos id) db.trees next.trees
+      → Recasts (sets_held which flags own inh) (pos id) db.trees next.trees
       → Alters id (with_held which held) db next
   held_rows which flags own inh held p q t =
-      altered (holding which flags own inh) (with_held which held) (with_held-id which held)
+      altered (sets_held which flags own inh) (with_held which held) (with_held-id which held)
       (λ r before n e. holds_back id r before n e which flags own inh held p q t)
 
   pub owned_rows : (owner group : List ℕ) (owners : Owners)
       → name_in (Text owner) ≡ Some owners.owner → name_in (Text group) ≡ Some owners.group
-      → Recasts (owning owner group) (pos id) db.trees next.trees
+      → Recasts (sets_owners owner group) (pos id) db.trees next.trees
       → Alters id (with_owners owners) db next
   owned_rows owner group owners p q =
-      altered (owning owner group) (with_owners owners) (λ n. refl)
+      altered (sets_owners owner group) (with_owners owners) (λ n. refl)
       (λ r before n e. owns_back id r before n e owner group owners p q)
 
   pub placed_rows : (at : ℤ) (text : List ℕ) (parent : ℕ) (name : List ℕ)
       → parent_in (Int at) ≡ Some (Some parent) → text_in (Text text) ≡ Some name
-      → Recasts (lying at text) (pos id) db.trees next.trees
+      → Recasts (sets_place at text) (pos id) db.trees next.trees
       → Alters id (with_place parent name) db next
   placed_rows at text parent name p q =
-      altered (lying at text) (with_place parent name) (λ n. refl)
+      altered (sets_place at text) (with_place parent name) (λ n. refl)
       (λ r before n e. lies_back id r before n e at text parent name p q)

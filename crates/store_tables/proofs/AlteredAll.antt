@@ -29,7 +29,7 @@ use Rattle.store_tables.specs.Filed.{node_at_row, node_keyed}
 use Rattle.store_tables.specs.Meaning.{audit_in, bodies_of, entries_in, node_in, nodes_of}
 use Rattle.store_tables.specs.Meaning.{number_in, pairs_of, rows_of, unread_in, unread_of}
 use Rattle.store_tables.specs.RoomRows.{number_in-low}
-use Rattle.store_tables.specs.Shown.{IsRoom, RecastsAll, inheriting, is_in_range, recast_in}
+use Rattle.store_tables.specs.Shown.{IsRoom, RecastsAll, is_in_range, recast_in, sets_inh}
 use Rattle.store_tables.specs.Shown.{shown_node}
 use Rattle.store_tables.specs.Trust.{AltersAll}
 use Rattle.store_tables.proofs.Altered.{inherits_back}
@@ -184,7 +184,7 @@ module _ (db next : Database) (room : IsRoom db) (which : Which) (text : List �
   change = with_inh which entries
 
   abbrev cells : Row → Row
-  cells = inheriting which text
+  cells = sets_inh which text
 
   abbrev to_row : Row → Row
   to_row = recast_in cells (pos first) (pos (first + more))
@@ -297,7 +297,7 @@ module _ (db next : Database) (room : IsRoom db) (which : Which) (text : List �
 -- the rows of a range are written, and so are the objects
 pub inherited_range : (db next : Database) → IsRoom db → (which : Which) (text : List ℕ)
     (entries : List Ace) → entries_in (Text text) ≡ Some entries → (first more : ℕ) → 0 < first
-    → RecastsAll (inheriting which text) (pos first) (pos (first + more)) db.trees next.trees
+    → RecastsAll (sets_inh which text) (pos first) (pos (first + more)) db.trees next.trees
     → AltersAll (range_with_len first (more + 1)) (with_inh which entries) db next
 inherited_range db next room which text entries back first more low put there =
     same_rows

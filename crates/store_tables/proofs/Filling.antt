@@ -8,7 +8,7 @@ use Rattle.sqlite.specs.Tree.{has_rowid, without_rowid, IsTable}
 use Rattle.sqlite_trees.specs.declared.store.Shape.TheVariants as Shape
 use Rattle.sqlite_trees.proofs.TreeLemmas.{IsShaped-filter}
 use Rattle.room_rows.specs.Content.{put_body, with_body}
-use Rattle.room_rows.specs.Keep.{reading}
+use Rattle.room_rows.specs.Keep.{with_content}
 use Rattle.store_tables.specs.Filed.{bodies_rise, body_rowid}
 use Rattle.store_tables.specs.Meaning.{audit_in, bodies_of, body_in, body_row, nodes_of, pairs_of}
 use Rattle.store_tables.specs.Meaning.{rows_of, unread_of}
@@ -36,7 +36,7 @@ stored_bytes id bytes low = ap (λ n. body_row n (Blob bytes)) (number_in-low id
 
 pub filled_rows : (db next : Database) (id : ℕ) (bytes : List ℕ) → IsRoom db → 0 < id
     → Fills (pos id) bytes db.trees next.trees
-    → rows_of next ≡ reading (rows_of db) (with_body (rows_of db).read id bytes)
+    → rows_of next ≡ with_content (rows_of db) (with_body (rows_of db).read id bytes)
 filled_rows db next id bytes room low put =
     let new = stored_body (pos id) bytes in
     let left = without_rowid (pos id) (db.trees 2) in

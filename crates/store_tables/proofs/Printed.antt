@@ -30,8 +30,8 @@ use Rattle.room_entry.specs.declared.object.Which.{Which}
 use Rattle.room_entry.specs.declared.object.Which.TheVariants.{Dacl, Sacl}
 use Rattle.store_tables.specs.Printed.{ArePrinted, HeldBefore, HoldsPrinted, IsCanonical}
 use Rattle.store_tables.specs.Printed.{KeepsPrinted, list_cells}
-use Rattle.store_tables.specs.Shown.{IsRoom, holding, inheriting, is_in_range, lying, owning}
-use Rattle.store_tables.specs.Shown.{recast_in, stored_node}
+use Rattle.store_tables.specs.Shown.{IsRoom, is_in_range, recast_in, sets_held, sets_inh}
+use Rattle.store_tables.specs.Shown.{sets_owners, sets_place, stored_node}
 use Rattle.store_tables.specs.Tables.{column_of, nodes, room_schema}
 use Rattle.store_tables.proofs.Rowids.{of_each, rowid_is}
 use Rattle.store_tables.specs.NodeCells as cell
@@ -199,7 +199,7 @@ pub printed_text : (text : List ℕ) → IsCanonical text → HoldsPrinted (Text
 printed_text text printed = (text, refl, printed)
 
 pub inheriting_printed : (which : Which) (text : List ℕ) → IsCanonical text
-    → WritesPrinted (inheriting which text)
+    → WritesPrinted (sets_inh which text)
 inheriting_printed Dacl text printed id r texts =
     by_cell _ (inr (sym texts.dacl_own)) (inl (printed_text text printed))
     (inr (sym texts.sacl_own)) (inr (sym texts.sacl_inh))
@@ -208,7 +208,7 @@ inheriting_printed Sacl text printed id r texts =
     (inr (sym texts.sacl_own)) (inl (printed_text text printed))
 
 pub holding_printed : (which : Which) (flags : ℤ) (own inh : List ℕ) → IsCanonical own
-    → IsCanonical inh → WritesPrinted (holding which flags own inh)
+    → IsCanonical inh → WritesPrinted (sets_held which flags own inh)
 holding_printed Dacl flags own inh first second id r texts =
     by_cell _ (inl (printed_text own first)) (inl (printed_text inh second))
     (inr (sym texts.sacl_own)) (inr (sym texts.sacl_inh))
@@ -216,12 +216,12 @@ holding_printed Sacl flags own inh first second id r texts =
     by_cell _ (inr (sym texts.dacl_own)) (inr (sym texts.dacl_inh))
     (inl (printed_text own first)) (inl (printed_text inh second))
 
-pub owning_printed : (owner group : List ℕ) → WritesPrinted (owning owner group)
+pub owning_printed : (owner group : List ℕ) → WritesPrinted (sets_owners owner group)
 owning_printed owner group id r texts =
     by_cell _ (inr (sym texts.dacl_own)) (inr (sym texts.dacl_inh)) (inr (sym texts.sacl_own))
     (inr (sym texts.sacl_inh))
 
-pub lying_printed : (parent : ℤ) (name : List ℕ) → WritesPrinted (lying parent name)
+pub lying_printed : (parent : ℤ) (name : List ℕ) → WritesPrinted (sets_place parent name)
 lying_printed parent name id r texts =
     by_cell _ (inr (sym texts.dacl_own)) (inr (sym texts.dacl_inh)) (inr (sym texts.sacl_own))
     (inr (sym texts.sacl_inh))

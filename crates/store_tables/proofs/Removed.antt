@@ -13,7 +13,7 @@ use Rattle.room_rows.specs.declared.node.AuditRow.{AuditRow}
 use Rattle.room_rows.specs.declared.node.Node.{Node}
 use Rattle.room_rows.specs.Content.{node_at, without_node}
 use Rattle.room_rows.specs.Rows.{Rows, is_unreadable}
-use Rattle.room_rows.specs.Keep.{CanRemove, reading}
+use Rattle.room_rows.specs.Keep.{CanRemove, with_content}
 use Rattle.store_tables.specs.Shown.{RemovesRow, IsRoom, shown_node}
 use Rattle.store_tables.specs.Meaning.{number_in, node_in, unread_in, body_in, audit_in, nodes_of}
 use Rattle.store_tables.specs.Meaning.{unread_of, bodies_of, pairs_of, rows_of}
@@ -102,7 +102,7 @@ same_rows p q r s t = cc
 -- where the row of an object went, what is read is as it was, without the object and its bytes
 pub removed_rows : (db next : Database) (id : ℕ) → IsRoom db
     → RemovesRow (pos id) db.trees next.trees → CanRemove id (rows_of db)
-    → rows_of next ≡ reading (rows_of db) (without_node (rows_of db).read id)
+    → rows_of next ≡ with_content (rows_of db) (without_node (rows_of db).read id)
 removed_rows db next id room gone can =
     let nodes : nodes_of (next.trees 0)
     ≡ filter (λ (n : Node). not (n.id == id)) (nodes_of (db.trees 0)) =

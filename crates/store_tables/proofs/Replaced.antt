@@ -8,7 +8,7 @@ use Rattle.sqlite.specs.Tree.{rowid, has_rowid, without_rowid, IsTable}
 use Rattle.sqlite.specs.Effect.{Database}
 use Rattle.room_rows.specs.declared.node.Node.{Node}
 use Rattle.room_rows.specs.Content.{node_at, put_node, with_node}
-use Rattle.room_rows.specs.Keep.{reading}
+use Rattle.room_rows.specs.Keep.{with_content}
 use Rattle.sqlite_trees.specs.declared.store.Shape.TheVariants as Shape
 use Rattle.sqlite_trees.proofs.TreeLemmas.{IsShaped-filter}
 use Rattle.store_tables.specs.Shown.{Replaces, IsRoom, shown_node, stored_node}
@@ -33,7 +33,7 @@ pub replaced_rows : (db next : Database) (id : ℕ) (values : Row) (before n : N
     → node_at (rows_of db).read id ≡ Some before
     → node_in (shown_node (stored_node (pos id) values)) ≡ Some n → n.id ≡ id
     → Replaces (pos id) values db.trees next.trees
-    → rows_of next ≡ reading (rows_of db) (with_node (rows_of db).read n)
+    → rows_of next ≡ with_content (rows_of db) (with_node (rows_of db).read n)
 replaced_rows db next id values before n room there seen is put =
     let new = stored_node (pos id) values in
     let left = without_rowid (pos id) (db.trees 0) in

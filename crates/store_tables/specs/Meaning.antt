@@ -75,20 +75,20 @@ entries_in _ = None
 abbrev pub given : {A B : Type 0} → Option A → (A → Option B) → Option B
 given value next = option_and_then next value
 
-abbrev pub giving : {A B : Type 0} → Option A → (A → B) → Option B
-giving value last = option_map last value
+abbrev pub given_last : {A B : Type 0} → Option A → (A → B) → Option B
+given_last value last = option_map last value
 
 abbrev pub held_in : Value → Value → Value → Option Held
 held_in flags own inh =
     given (flags_in flags) (λ f.
     given (entries_in own) (λ o.
-    giving (entries_in inh) (λ i.
+    given_last (entries_in inh) (λ i.
     let h : Held = record { flags = f; own = o; inh = i } in h)))
 
 abbrev pub owners_in : Value → Value → Option Owners
 owners_in owner group =
     given (name_in owner) (λ o.
-    giving (name_in group) (λ g.
+    given_last (name_in group) (λ g.
     let w : Owners = record { owner = o; group = g } in w))
 
 abbrev pub node_in : Row → Option Node
@@ -99,7 +99,7 @@ node_in r =
     given (kind_in (column r 3)) (λ kind.
     given (owners_in (column r 4) (column r 5)) (λ owners.
     given (held_in (column r 6) (column r 8) (column r 9)) (λ dacl.
-    giving (held_in (column r 7) (column r 10) (column r 11)) (λ sacl.
+    given_last (held_in (column r 7) (column r 10) (column r 11)) (λ sacl.
     let n : Node = record {
       id = id;
       parent = parent;
@@ -118,7 +118,7 @@ unread_in r = if is_none (node_in r) then number_in (column r 0) else None
 abbrev pub named_in : Row → Option (List ℕ × ObjKind)
 named_in r =
     given (kind_in (column r 2)) (λ kind.
-    giving (text_in (column r 1)) (λ name. (name, kind)))
+    given_last (text_in (column r 1)) (λ name. (name, kind)))
 
 -- ---- the other tables, as their rows are stored
 
@@ -195,7 +195,7 @@ audit_in r =
     given (path_in (column r record_cell.path)) (λ path.
     given (mask_in (column r record_cell.bits)) (λ bits.
     given (granted_in (column r record_cell.granted)) (λ granted.
-    giving (place_in (column r record_cell.place)) (λ place.
+    given_last (place_in (column r record_cell.place)) (λ place.
     let a : AuditRow = record {
       at = at;
       user = user;

@@ -86,15 +86,15 @@ result_of_seen Foreign = Err Store
 result_of_seen (Unread id) = Err (Damaged id)
 result_of_seen (Found x) = Ok x
 
-abbrev pub needed : Option Node → Result Node KeepFault
-needed None = Err (Damaged 0)
-needed (Some node) = Ok node
+abbrev pub node_or_damaged : Option Node → Result Node KeepFault
+node_or_damaged None = Err (Damaged 0)
+node_or_damaged (Some node) = Ok node
 
 -- where an object is needed
 abbrev pub top_of : Seen (Option Node) → Result Node KeepFault
 top_of Foreign = Err Store
 top_of (Unread id) = Err (Damaged id)
-top_of (Found found) = needed found
+top_of (Found found) = node_or_damaged found
 
 -- a failure of the keeper itself is counted, and nothing else is
 abbrev pub counted_by : {X : Type 0} → Result X KeepFault → ℕ → ℕ → Type 0

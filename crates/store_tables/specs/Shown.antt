@@ -130,37 +130,37 @@ pub record Replaces (id : ℤ) (values : Row) (db next : Trees) : Type 0 where
   pub audits : next tree.audits ≡ db tree.audits
 
 -- the cells of a row of nodes after its number, with this text for what a list inherits
-abbrev pub inheriting : Which → List ℕ → Row → Row
-inheriting Dacl text r = column r cell.parent ∷ column r cell.name ∷ column r cell.kind
+abbrev pub sets_inh : Which → List ℕ → Row → Row
+sets_inh Dacl text r = column r cell.parent ∷ column r cell.name ∷ column r cell.kind
     ∷ column r cell.owner ∷ column r cell.group
     ∷ column r cell.dacl_flags ∷ column r cell.sacl_flags ∷ column r cell.dacl_own ∷ Text text
     ∷ column r cell.sacl_own ∷ column r cell.sacl_inh ∷ []
-inheriting Sacl text r = column r cell.parent ∷ column r cell.name ∷ column r cell.kind
+sets_inh Sacl text r = column r cell.parent ∷ column r cell.name ∷ column r cell.kind
     ∷ column r cell.owner ∷ column r cell.group
     ∷ column r cell.dacl_flags ∷ column r cell.sacl_flags ∷ column r cell.dacl_own
     ∷ column r cell.dacl_inh ∷ column r cell.sacl_own ∷ Text text ∷ []
 
 -- the same, with these flags and these texts for a list
-abbrev pub holding : Which → ℤ → List ℕ → List ℕ → Row → Row
-holding Dacl flags own inh r = column r cell.parent ∷ column r cell.name ∷ column r cell.kind
+abbrev pub sets_held : Which → ℤ → List ℕ → List ℕ → Row → Row
+sets_held Dacl flags own inh r = column r cell.parent ∷ column r cell.name ∷ column r cell.kind
     ∷ column r cell.owner ∷ column r cell.group
     ∷ Int flags ∷ column r cell.sacl_flags ∷ Text own ∷ Text inh ∷ column r cell.sacl_own
     ∷ column r cell.sacl_inh ∷ []
-holding Sacl flags own inh r = column r cell.parent ∷ column r cell.name ∷ column r cell.kind
+sets_held Sacl flags own inh r = column r cell.parent ∷ column r cell.name ∷ column r cell.kind
     ∷ column r cell.owner ∷ column r cell.group
     ∷ column r cell.dacl_flags ∷ Int flags ∷ column r cell.dacl_own ∷ column r cell.dacl_inh
     ∷ Text own ∷ Text inh ∷ []
 
 -- the same, with these owners
-abbrev pub owning : List ℕ → List ℕ → Row → Row
-owning owner group r = column r cell.parent ∷ column r cell.name ∷ column r cell.kind ∷ Text owner
-    ∷ Text group ∷ column r cell.dacl_flags
+abbrev pub sets_owners : List ℕ → List ℕ → Row → Row
+sets_owners owner group r = column r cell.parent ∷ column r cell.name ∷ column r cell.kind
+    ∷ Text owner ∷ Text group ∷ column r cell.dacl_flags
     ∷ column r cell.sacl_flags ∷ column r cell.dacl_own ∷ column r cell.dacl_inh
     ∷ column r cell.sacl_own ∷ column r cell.sacl_inh ∷ []
 
 -- the same, with this parent and this name
-abbrev pub lying : ℤ → List ℕ → Row → Row
-lying parent name r = Int parent ∷ Text name ∷ column r cell.kind ∷ column r cell.owner
+abbrev pub sets_place : ℤ → List ℕ → Row → Row
+sets_place parent name r = Int parent ∷ Text name ∷ column r cell.kind ∷ column r cell.owner
     ∷ column r cell.group ∷ column r cell.dacl_flags
     ∷ column r cell.sacl_flags ∷ column r cell.dacl_own ∷ column r cell.dacl_inh
     ∷ column r cell.sacl_own ∷ column r cell.sacl_inh ∷ []

@@ -8,7 +8,7 @@ use Rattle.sqlite.specs.Effect.{Database}
 use Rattle.room_rows.specs.declared.node.AuditRow.{AuditRow}
 use Rattle.room_rows.specs.declared.node.Node.{Node}
 use Rattle.room_rows.specs.Content.{with_records}
-use Rattle.room_rows.specs.Keep.{Changes, ChangesAll, HasCause, capped, reading}
+use Rattle.room_rows.specs.Keep.{Changes, ChangesAll, HasCause, capped, with_content}
 use Rattle.room_rows.specs.declared.keep.KeepFault.{KeepFault}
 use Rattle.store_tables.specs.Meaning.{rows_of}
 use Rattle.store_tables.specs.Seeing.{Nowhere}
@@ -34,7 +34,7 @@ AltersAll ids change old new = ChangesAll ids change (rows_of old) (rows_of new)
 -- a record is added after the others, and nothing else is changed
 abbrev pub HasNoted : AuditRow → Database → Database → Type 0
 HasNoted row old new =
-    rows_of new ≡ reading (rows_of old) (with_records (rows_of old).read (row ∷ []))
+    rows_of new ≡ with_content (rows_of old) (with_records (rows_of old).read (row ∷ []))
 
 -- A part of a call that writes: what it leaves of the connection and of the count of failures, and,
 -- where it answers, of the tables.

@@ -5,7 +5,7 @@ ghost use Rattle.store_tables.specs.Columns.{StoresHeld, StoresNode, record_valu
 ghost use Rattle.store_tables.specs.Printed.{IsCanonical};
 ghost use Rattle.store_tables.specs.Shown.{Bodies, Fills, AddsRecordRow};
 ghost use Rattle.store_tables.specs.Shown.{Recasts, RecastsAll, RemovesRow};
-ghost use Rattle.store_tables.specs.Shown.{holding, inheriting, lying, owning};
+ghost use Rattle.store_tables.specs.Shown.{sets_held, sets_inh, sets_place, sets_owners};
 ghost use Rattle.store_tables.specs.Statements.{QueriesSql, HasBytes, HasChild};
 ghost use Rattle.store_tables.specs.Statements.{HasGroups, HasNames};
 ghost use Rattle.store_tables.specs.Statements.{HasNode, HasNumbers, HasSome, HasTop, HasUnder};
@@ -158,7 +158,7 @@ fn update_dacl<S: Alter>(
 ) -> Result<usize, Error>
     requires { StoresHeld list.now }
     ensures same_reference { tx.new.conn.ghost_name ≡ tx.old.conn.ghost_name }
-    ensures writes { ExecutesSql (OfOne (Recasts (holding Which.Dacl list.now.flags
+    ensures writes { ExecutesSql (OfOne (Recasts (sets_held Which.Dacl list.now.flags
         (string_bytes list.now.own) (string_bytes list.now.inh)) id))
         (state S.Store tx.old.conn.now) (state S.Store tx.new.conn.now) result }
 {
@@ -176,7 +176,7 @@ fn update_sacl<S: Alter>(
 ) -> Result<usize, Error>
     requires { StoresHeld list.now }
     ensures same_reference { tx.new.conn.ghost_name ≡ tx.old.conn.ghost_name }
-    ensures writes { ExecutesSql (OfOne (Recasts (holding Which.Sacl list.now.flags
+    ensures writes { ExecutesSql (OfOne (Recasts (sets_held Which.Sacl list.now.flags
         (string_bytes list.now.own) (string_bytes list.now.inh)) id))
         (state S.Store tx.old.conn.now) (state S.Store tx.new.conn.now) result }
 {
@@ -195,7 +195,7 @@ pub(crate) fn update_held<S: Alter>(
 ) -> Result<usize, Error>
     requires { StoresHeld list.now }
     ensures same_reference { tx.new.conn.ghost_name ≡ tx.old.conn.ghost_name }
-    ensures writes { ExecutesSql (OfOne (Recasts (holding which list.now.flags
+    ensures writes { ExecutesSql (OfOne (Recasts (sets_held which list.now.flags
         (string_bytes list.now.own) (string_bytes list.now.inh)) id))
         (state S.Store tx.old.conn.now) (state S.Store tx.new.conn.now) result }
 {
@@ -213,7 +213,7 @@ pub(crate) fn update_owners<S: Alter>(
     group: &str,
 ) -> Result<usize, Error>
     ensures same_reference { tx.new.conn.ghost_name ≡ tx.old.conn.ghost_name }
-    ensures writes { ExecutesSql (OfOne (Recasts (owning owner.now group.now) id))
+    ensures writes { ExecutesSql (OfOne (Recasts (sets_owners owner.now group.now) id))
         (state S.Store tx.old.conn.now) (state S.Store tx.new.conn.now) result }
 {
     tx.execute(
@@ -230,7 +230,7 @@ pub(crate) fn update_place<S: Alter>(
     name: &str,
 ) -> Result<usize, Error>
     ensures same_reference { tx.new.conn.ghost_name ≡ tx.old.conn.ghost_name }
-    ensures writes { ExecutesSql (OfOne (Recasts (lying parent name.now) id))
+    ensures writes { ExecutesSql (OfOne (Recasts (sets_place parent name.now) id))
         (state S.Store tx.old.conn.now) (state S.Store tx.new.conn.now) result }
 {
     tx.execute(
@@ -247,7 +247,7 @@ fn update_dacl_inh<S: Alter>(
 ) -> Result<usize, Error>
     requires { IsCanonical text.now }
     ensures same_reference { tx.new.conn.ghost_name ≡ tx.old.conn.ghost_name }
-    ensures writes { ExecutesSql (OfOne (Recasts (inheriting Which.Dacl text.now) id))
+    ensures writes { ExecutesSql (OfOne (Recasts (sets_inh Which.Dacl text.now) id))
         (state S.Store tx.old.conn.now) (state S.Store tx.new.conn.now) result }
 {
     tx.execute(
@@ -264,7 +264,7 @@ fn update_sacl_inh<S: Alter>(
 ) -> Result<usize, Error>
     requires { IsCanonical text.now }
     ensures same_reference { tx.new.conn.ghost_name ≡ tx.old.conn.ghost_name }
-    ensures writes { ExecutesSql (OfOne (Recasts (inheriting Which.Sacl text.now) id))
+    ensures writes { ExecutesSql (OfOne (Recasts (sets_inh Which.Sacl text.now) id))
         (state S.Store tx.old.conn.now) (state S.Store tx.new.conn.now) result }
 {
     tx.execute(
@@ -282,7 +282,7 @@ pub(crate) fn update_inh<S: Alter>(
 ) -> Result<usize, Error>
     requires { IsCanonical text.now }
     ensures same_reference { tx.new.conn.ghost_name ≡ tx.old.conn.ghost_name }
-    ensures writes { ExecutesSql (OfOne (Recasts (inheriting which text.now) id))
+    ensures writes { ExecutesSql (OfOne (Recasts (sets_inh which text.now) id))
         (state S.Store tx.old.conn.now) (state S.Store tx.new.conn.now) result }
 {
     match which {
@@ -301,7 +301,7 @@ fn update_dacl_range<S: Alter>(
     requires { IsCanonical text.now }
     ensures same_reference { tx.new.conn.ghost_name ≡ tx.old.conn.ghost_name }
     ensures writes { ExecutesSql
-        (OfAny (RecastsAll (inheriting Which.Dacl text.now) first last))
+        (OfAny (RecastsAll (sets_inh Which.Dacl text.now) first last))
         (state S.Store tx.old.conn.now) (state S.Store tx.new.conn.now) result }
 {
     tx.execute(
@@ -320,7 +320,7 @@ fn update_sacl_range<S: Alter>(
     requires { IsCanonical text.now }
     ensures same_reference { tx.new.conn.ghost_name ≡ tx.old.conn.ghost_name }
     ensures writes { ExecutesSql
-        (OfAny (RecastsAll (inheriting Which.Sacl text.now) first last))
+        (OfAny (RecastsAll (sets_inh Which.Sacl text.now) first last))
         (state S.Store tx.old.conn.now) (state S.Store tx.new.conn.now) result }
 {
     tx.execute(
@@ -340,7 +340,7 @@ pub(crate) fn update_range<S: Alter>(
 ) -> Result<usize, Error>
     requires { IsCanonical text.now }
     ensures same_reference { tx.new.conn.ghost_name ≡ tx.old.conn.ghost_name }
-    ensures writes { ExecutesSql (OfAny (RecastsAll (inheriting which text.now) first last))
+    ensures writes { ExecutesSql (OfAny (RecastsAll (sets_inh which text.now) first last))
         (state S.Store tx.old.conn.now) (state S.Store tx.new.conn.now) result }
 {
     match which {

@@ -9,7 +9,7 @@ use Rattle.room_entry.specs.Rights.{append_data}
 use Rattle.room_entry.specs.Valid.{is_document}
 use Rattle.room_rows.specs.declared.node.Node.{Node}
 use Rattle.room_rows.specs.Content.{node_at, body_of, with_body}
-use Rattle.room_rows.specs.Keep.{IsDamaged, KeepLaws, SetsBody, reading}
+use Rattle.room_rows.specs.Keep.{IsDamaged, KeepLaws, SetsBody, with_content}
 use Rattle.room_rows.specs.Meaning.{meaning}
 use Rattle.room_rows.specs.Rows.{Rows, AreRows}
 use Rattle.room_rows.proofs.InPlace.{with_body-there}
@@ -74,7 +74,8 @@ put_kept path id before bytes old new reply are were none replies same =
   where
     on : (t : Bool) → TakesBytes t id before old new
     on true = same
-    on false = λ document. same ∙ sym (ap (reading old) (with_body-there old are id before were))
+    on false =
+        λ document. same ∙ sym (ap (with_content old) (with_body-there old are id before were))
 
 pub if_ok : {X E P : Type 0} (r : Result X E) → P → IfOk r (λ x. P)
 if_ok (Ok x) p = p
@@ -186,7 +187,7 @@ module _ (asker : Asker) (path : List (List ℕ)) (bytes : List ℕ) where
     there = document_there asker path (append_data ∷ []) old mid node are reached
 
     bytes_set : (after : List ℕ) (new : Rows) → SetsBody node.id after mid new
-        → new ≡ reading mid (with_body mid.read node.id after)
+        → new ≡ with_content mid (with_body mid.read node.id after)
     bytes_set after new sets =
         sets (
           node,
@@ -223,12 +224,14 @@ module _ (asker : Asker) (path : List (List ℕ)) (bytes : List ℕ) where
         (λ (o : Option (List ℕ)).
         (Done, with_body (meaning old.read) node.id (unwrap_or o [] ++ bytes))) were)
         (ap (λ (r : Rows). meaning r.read) new_is
-        ∙ ap (λ (r : Rows). meaning (reading r (with_body r.read node.id (before ++ bytes))).read)
+        ∙ ap (λ (r : Rows). meaning
+        (with_content r (with_body r.read node.id (before ++ bytes))).read)
         judged.notes)
         (subst AreSound
-        (sym (new_is ∙ ap (λ (r : Rows). reading r (with_body r.read node.id (before ++ bytes)))
+        (sym (new_is
+        ∙ ap (λ (r : Rows). with_content r (with_body r.read node.id (before ++ bytes)))
         judged.notes))
-        (sound_noted (reading old (with_body old.read node.id (before ++ bytes))) _
+        (sound_noted (with_content old (with_body old.read node.id (before ++ bytes))) _
         (sound_bytes old node.id node (before ++ bytes) are sound there.0 there.1 fits)))
 
     append_closed : (before : List ℕ) (new : Rows) → body_of old.read node.id ≡ Some before

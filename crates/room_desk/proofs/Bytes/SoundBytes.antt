@@ -10,7 +10,7 @@ use Rattle.room_entry.specs.declared.object.ObjKind.{ObjKind}
 use Rattle.room_rows.specs.declared.node.Node.{Node}
 use Rattle.room_rows.specs.Content.{Content, node_at, body_of, reaches_root, with_body}
 use Rattle.room_rows.specs.Finding.{find_id}
-use Rattle.room_rows.specs.Keep.{reading}
+use Rattle.room_rows.specs.Keep.{with_content}
 use Rattle.room_rows.specs.Rows.{Rows, AreRows}
 use Rattle.room_rows.proofs.InPlace.{body_of-with_body, body_of-with_body-other}
 use Rattle.room_rows.proofs.Lookups.{each_found}
@@ -58,10 +58,10 @@ document_fits kind bytes is few = ap (λ t. cond t (nat_le (length bytes) 104857
 pub sound_bytes : (rows : Rows) (id : ℕ) (node : Node) (bytes : List ℕ) → AreRows rows
     → AreSound rows → node_at rows.read id ≡ Some node → is_document node.kind ≡ true
     → nat_le (length bytes) 1048576 ≡ true
-    → AreSound (reading rows (with_body rows.read id bytes))
+    → AreSound (with_content rows (with_body rows.read id bytes))
 sound_bytes rows id node bytes are sound there document few =
     let parts = sound_parts rows sound in
-    parts_sound (reading rows (with_body rows.read id bytes)) (record {
+    parts_sound (with_content rows (with_body rows.read id bytes)) (record {
       lists = parts.lists;
       root = parts.root;
       parents = parts.parents;

@@ -10,7 +10,7 @@ use Rattle.std.proofs.lemmas.List.{map-append}
 use Rattle.room_rows.specs.declared.node.Node.{Node}
 use Rattle.room_rows.specs.Content.{Content, children_of, is_empty, node_at, root_of, with_records}
 use Rattle.room_rows.specs.Content.{without_node}
-use Rattle.room_rows.specs.Keep.{CanRemove, HasChildren, Removes, reading}
+use Rattle.room_rows.specs.Keep.{CanRemove, HasChildren, Removes, with_content}
 use Rattle.room_rows.specs.Meaning.{kept_node, meaning}
 use Rattle.room_rows.specs.Rows.{Rows, AreRows}
 use Rattle.room_rows.proofs.InPlace.{children_of-with_each, keeps_places}
@@ -256,8 +256,9 @@ module _ (asker : Asker) (path : List (List ℕ)) where
             ∙ ap (λ (r : Rows). meaning (without_node r.read id)) plan.notes
             ∙ ap (λ (c : Content). with_records c records) (removed_means old.read id can))
             (subst AreSound
-            (sym (removes may ∙ ap (λ (r : Rows). reading r (without_node r.read id)) plan.notes))
-            (sound_noted (reading old (without_node old.read id)) records
+            (sym (removes may
+            ∙ ap (λ (r : Rows). with_content r (without_node r.read id)) plan.notes))
+            (sound_noted (with_content old (without_node old.read id)) records
             (sound_removed old id sound can)))
 
         removed_closed : (new : Rows) → Removes id last new

@@ -16,7 +16,7 @@ use Rattle.room_rows.specs.Content.{Content, has_parent, is_folder, is_linked_in
 use Rattle.room_rows.specs.Content.{has_folder_above, node_at, parent_of, reaches_root}
 use Rattle.room_rows.specs.Content.{without_node}
 use Rattle.room_rows.specs.Finding.{find_id}
-use Rattle.room_rows.specs.Keep.{reading}
+use Rattle.room_rows.specs.Keep.{with_content}
 use Rattle.room_rows.specs.Meaning.{kept_held, kept_node, meaning}
 use Rattle.room_rows.specs.Rows.{Rows, put_numbers}
 use Rattle.room_rows.proofs.Frames.{Rises, node_at-without_node-other, has_its_parent}
@@ -202,9 +202,9 @@ bad_with unreadable nodes =
     (put_numbers unreadable (map (λ (n : Node). n.id) nodes))
 
 pub sound_removed : (rows : Rows) (id : ℕ) → AreSound rows → CanGo rows.read id
-    → AreSound (reading rows (without_node rows.read id))
+    → AreSound (with_content rows (without_node rows.read id))
 sound_removed rows id sound can =
-    parts_sound (reading rows (without_node rows.read id)) (record {
+    parts_sound (with_content rows (without_node rows.read id)) (record {
       lists =
           ap (λ u. bad_with u (without_node rows.read id).nodes) readable
           ∙ by_objects (without_node rows.read id).nodes

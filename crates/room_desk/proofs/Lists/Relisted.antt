@@ -11,7 +11,7 @@ use Rattle.room_rows.specs.declared.node.Node.{Node}
 use Rattle.room_rows.specs.Content.{Content, node_at, parent_of, has_folder_above, is_linked_in}
 use Rattle.room_rows.specs.Content.{with_each}
 use Rattle.room_rows.specs.Held.{held_of, with_held, is_linked}
-use Rattle.room_rows.specs.Keep.{reading}
+use Rattle.room_rows.specs.Keep.{with_content}
 use Rattle.room_rows.specs.Meaning.{kept_held, kept_node}
 use Rattle.room_rows.specs.Rows.{Rows}
 use Rattle.room_rows.proofs.InPlace.{place-with_held, node_at-with_each}
@@ -224,7 +224,7 @@ module _ (which : Which) (lists : Node → Held) where
   pub relisted_sound : (old : Rows) → AreSound old
       → ((node : Node) → node_at old.read node.id ≡ Some node
       → is_sound_held which node.kind (lists node) ≡ true) → AllAgree (relisted old.read) which
-      → AreSound (reading old (relisted old.read))
+      → AreSound (with_content old (relisted old.read))
   relisted_sound old are_sound fits law =
       still_sound old relist place_kept kind_kept (sound_checked old are_sound)
       (λ node there before. both_lists which (relist node)

@@ -6,7 +6,7 @@ use Rattle.std.proofs.lemmas.Bool.{false≢true}
 use mathlib.Core.Bool.{beq}
 use Rattle.room_entry.specs.Ace.{Ace}
 use Rattle.room_entry.specs.declared.flags.EntryFlags.{EntryFlags}
-use Rattle.room_desk.specs.Setting.{marked}
+use Rattle.room_desk.specs.Setting.{entries_marked}
 
 module _ (entries : List Ace) (i : ℕ) (entry : Ace) (below : i < length entries)
     (is : entry ≡ get_or entries i entry) where
@@ -19,21 +19,21 @@ module _ (entries : List Ace) (i : ℕ) (entry : Ace) (below : i < length entrie
     wanted mark = cond inherited mark (not mark)
 
     pub takes_entry : wanted entry.flags.inherited ≡ true
-        → (taken ++ entry ∷ []) ++ marked inherited (drop (i + 1) entries) ≡ taken
-        ++ marked inherited (drop i entries)
+        → (taken ++ entry ∷ []) ++ entries_marked inherited (drop (i + 1) entries) ≡ taken
+        ++ entries_marked inherited (drop i entries)
     takes_entry is_wanted =
-        append_assoc taken (entry ∷ []) (marked inherited (drop (i + 1) entries))
-        ∙ ap (λ t. taken ++ cond t (entry ∷ marked inherited (drop (i + 1) entries))
-        (marked inherited (drop (i + 1) entries))) (sym is_wanted)
-        ∙ ap (λ es. taken ++ marked inherited es) (sym next)
+        append_assoc taken (entry ∷ []) (entries_marked inherited (drop (i + 1) entries))
+        ∙ ap (λ t. taken ++ cond t (entry ∷ entries_marked inherited (drop (i + 1) entries))
+        (entries_marked inherited (drop (i + 1) entries))) (sym is_wanted)
+        ∙ ap (λ es. taken ++ entries_marked inherited es) (sym next)
 
     pub leaves_entry : wanted entry.flags.inherited ≡ false
-        → taken ++ marked inherited (drop (i + 1) entries) ≡ taken
-        ++ marked inherited (drop i entries)
+        → taken ++ entries_marked inherited (drop (i + 1) entries) ≡ taken
+        ++ entries_marked inherited (drop i entries)
     leaves_entry isnt =
-        ap (λ t. taken ++ cond t (entry ∷ marked inherited (drop (i + 1) entries))
-        (marked inherited (drop (i + 1) entries))) (sym isnt)
-        ∙ ap (λ es. taken ++ marked inherited es) (sym next)
+        ap (λ t. taken ++ cond t (entry ∷ entries_marked inherited (drop (i + 1) entries))
+        (entries_marked inherited (drop (i + 1) entries))) (sym isnt)
+        ∙ ap (λ es. taken ++ entries_marked inherited es) (sym next)
 
 pub same_mark : (inherited mark : Bool) → beq mark inherited ≡ true
     → cond inherited mark (not mark) ≡ true
@@ -54,27 +54,28 @@ other_mark false false isnt = absurd (false≢true (sym isnt))
 module _ (entries items : List Ace) (same : items ≡ entries) (i : ℕ) (entry : Ace)
     (below : i < length items) (is : entry ≡ get_or items i entry) (inherited : Bool)
     (flags : EntryFlags) (of_entry : flags ≡ entry.flags) (taken : List Ace)
-    (sofar : taken ++ marked inherited (drop i entries) ≡ marked inherited entries) where
-  sofar_items : taken ++ marked inherited (drop i items) ≡ marked inherited entries
-  sofar_items = ap (λ es. taken ++ marked inherited (drop i es)) same ∙ sofar
+    (sofar : taken ++ entries_marked inherited (drop i entries)
+    ≡ entries_marked inherited entries) where
+  sofar_items : taken ++ entries_marked inherited (drop i items) ≡ entries_marked inherited entries
+  sofar_items = ap (λ es. taken ++ entries_marked inherited (drop i es)) same ∙ sofar
 
   pub takes_next : (copy : Ace) (grown : List Ace) → beq flags.inherited inherited ≡ true
       → grown ≡ taken ++ copy ∷ [] → copy ≡ entry
-      → grown ++ marked inherited (drop (i + 1) entries) ≡ marked inherited entries
+      → grown ++ entries_marked inherited (drop (i + 1) entries) ≡ entries_marked inherited entries
   takes_next copy grown marks adds copied =
-      ap (λ es. es ++ marked inherited (drop (i + 1) entries))
+      ap (λ es. es ++ entries_marked inherited (drop (i + 1) entries))
       (adds ∙ ap (λ e. taken ++ e ∷ []) copied)
-      ∙ ap (λ es. (taken ++ entry ∷ []) ++ marked inherited (drop (i + 1) es)) (sym same)
+      ∙ ap (λ es. (taken ++ entry ∷ []) ++ entries_marked inherited (drop (i + 1) es)) (sym same)
       ∙ takes_entry items i entry below is inherited taken
       (same_mark inherited entry.flags.inherited
       (ap (λ (f : EntryFlags). beq f.inherited inherited) (sym of_entry) ∙ marks))
       ∙ sofar_items
 
   pub leaves_next : (still : List Ace) → beq flags.inherited inherited ≡ false → still ≡ taken
-      → still ++ marked inherited (drop (i + 1) entries) ≡ marked inherited entries
+      → still ++ entries_marked inherited (drop (i + 1) entries) ≡ entries_marked inherited entries
   leaves_next still marks stays =
-      ap (λ es. es ++ marked inherited (drop (i + 1) entries)) stays
-      ∙ ap (λ es. taken ++ marked inherited (drop (i + 1) es)) (sym same)
+      ap (λ es. es ++ entries_marked inherited (drop (i + 1) entries)) stays
+      ∙ ap (λ es. taken ++ entries_marked inherited (drop (i + 1) es)) (sym same)
       ∙ leaves_entry items i entry below is inherited taken
       (other_mark inherited entry.flags.inherited
       (ap (λ (f : EntryFlags). beq f.inherited inherited) (sym of_entry) ∙ marks))

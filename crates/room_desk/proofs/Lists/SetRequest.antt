@@ -28,7 +28,7 @@ use Rattle.room_judge.specs.declared.arrival.Found.{Found}
 use Rattle.room_machine.specs.Closed.{failure_told}
 use Rattle.room_judge.specs.Closed.{IsServed}
 use Rattle.room_judge.proofs.Closing.{closed_done, closed_failed}
-use Rattle.room_judge.specs.Judged.{CarriesOut, IsJudged, IsReached, noted}
+use Rattle.room_judge.specs.Judged.{CarriesOut, IsJudged, IsReached, with_notes}
 use Rattle.room_judge.specs.Spot.{IsPaired, pair_of}
 use Rattle.room_judge.proofs.Folders.{pair_reached}
 use Rattle.room_judge.proofs.Ways.{not_reached, reaches_with, unless}
@@ -189,8 +189,8 @@ module _ (asker : Asker) (path : List (List ℕ)) (which : Which) (sent : Sent) 
 
     pub set_blames : (at : ℕ) → IsUnreadableIfHeld node mid at → IsDamaged old at
     set_blames at fails =
-        let rooted : IsRooted node.id (noted old records) = rooted_along
-        (noted old records) are.numbers path path node
+        let rooted : IsRooted node.id (with_notes old records) = rooted_along
+        (with_notes old records) are.numbers path path node
         (ap (λ sites. site_at sites path) (along_noted old.read records path) ∙ reached.found)
         in
         noted_unread old mid records at reached.judged.notes

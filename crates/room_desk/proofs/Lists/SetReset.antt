@@ -32,7 +32,7 @@ use Rattle.room_desk.proofs.Sound.Blamed.{unread_damaged}
 use Rattle.room_desk.proofs.Sound.RootedWays.{above_end, rooted_last, stands_last}
 use Rattle.room_desk.specs.Setting.{Beneath, IsResetAtEnd, IsSetOrRefused, SetUnless, reason_of}
 use Rattle.room_machine.specs.Site.{Site, site_at, sites_along}
-use Rattle.room_machine.specs.Step.{answered, is_refusal, reset}
+use Rattle.room_machine.specs.Step.{failure_or, is_refusal, reset}
 use Rattle.room_machine.specs.Stored.{stored_along, stored_from, stored_site}
 use Rattle.room_desk.proofs.Sound.Filled.{fill_item, target_filled}
 use Rattle.room_desk.proofs.Lists.ResetWay.{Comes, comes, end_from, refusals, same_last, walk_end}
@@ -150,9 +150,9 @@ module _ (old : Rows) (are : AreRows old) (sound : AreSound old) (path : List (L
   -- the reply and the content after, by what is refused
   reset_is : (o : Option Reply) → answer ≡ o
       → reset (meaning rows) path which sent
-      ≡ answered o (meaning rows) (effect (meaning rows) operator 0 (SetList path which sent))
+      ≡ failure_or o (meaning rows) (effect (meaning rows) operator 0 (SetList path which sent))
   reset_is o is =
-      ap (λ a. answered a (meaning rows)
+      ap (λ a. failure_or a (meaning rows)
       (effect (meaning rows) operator 0 (SetList path which sent))) (plan_refuses ∙ is)
 
   module _ (last : Node) (new : Rows) (reply : Reply) where

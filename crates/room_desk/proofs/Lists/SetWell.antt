@@ -20,7 +20,7 @@ use Rattle.room_rows.specs.declared.node.Node.{Node}
 use Rattle.room_rows.specs.Content.{Content, node_at, parent_of, has_parent, is_linked_in}
 use Rattle.room_rows.specs.Content.{with_each}
 use Rattle.room_rows.specs.Held.{held_of, full_of, is_linked}
-use Rattle.room_rows.specs.Keep.{reading}
+use Rattle.room_rows.specs.Keep.{with_content}
 use Rattle.room_rows.specs.Rows.{Rows, AreRows}
 use Rattle.room_rows.specs.Law.{AllAgree, agrees}
 use Rattle.room_inherit.specs.Laws.{are_valid}
@@ -184,7 +184,7 @@ module _ (which : Which) (sent : Sent) (node : Node) (old : Rows) (are : AreRows
         → ((x : Node) → node_at (mid which rows node held) x.id ≡ Some x
         → is_linked_in (mid which rows node held) which x ≡ false → lists x ≡ (held_of which x).inh)
         → AllAgree (with_lists which lists (mid which rows node held)) which
-        → IsSetWell which sent node old (reading old (ends which rows node held lists))
+        → IsSetWell which sent node old (with_content old (ends which rows node held lists))
     set_ends lists kept law = record {
       means =
           set_means which rows node held lists are.numbers there kept sent stored apart child_law;
@@ -197,7 +197,7 @@ module _ (which : Which) (sent : Sent) (node : Node) (old : Rows) (are : AreRows
     pub set_same : (new : Rows) → held ≡ held_of which node → new ≡ old
         → IsSetWell which sent node old new
     set_same new same unwritten =
-        subst (IsSetWell which sent node old) (ap (reading old) as_before ∙ sym unwritten)
+        subst (IsSetWell which sent node old) (ap (with_content old) as_before ∙ sym unwritten)
         (set_ends stay (λ x found isnt. refl)
         (subst (λ (c : Content). AllAgree c which)
         (sym (ends_is which rows node held stay are.numbers there ∙ as_before)) law_before))
@@ -230,10 +230,10 @@ module _ (which : Which) (sent : Sent) (node : Node) (old : Rows) (are : AreRows
 
     -- the list is written, and passes nothing on
     pub set_still : (new : Rows) → held.flags.auto ≡ false
-        → new ≡ reading old (mid which rows node held) → IsSetWell which sent node old new
+        → new ≡ with_content old (mid which rows node held) → IsSetWell which sent node old new
     set_still new stops written =
         subst (IsSetWell which sent node old)
-        (ap (reading old) (sym (ends_is which rows node held stay are.numbers there) ∙ unmoved)
+        (ap (with_content old) (sym (ends_is which rows node held stay are.numbers there) ∙ unmoved)
         ∙ sym written)
         (set_ends stay (λ x found isnt. refl)
         (subst (λ (c : Content). AllAgree c which) (sym unmoved)
@@ -250,16 +250,17 @@ module _ (which : Which) (sent : Sent) (node : Node) (old : Rows) (are : AreRows
 
     -- the list is written, and carried down
     pub set_spread : (mid_rows new : Rows) (changed : ℕ)
-        → mid_rows ≡ reading old (mid which rows node held)
+        → mid_rows ≡ with_content old (mid which rows node held)
         → IsSpread which node.id mid_rows new changed → IsSetWell which sent node old new
     set_spread mid_rows new changed written carried =
-        let spread : IsSpread which node.id (reading old (mid which rows node held)) new changed =
+        let spread : IsSpread which node.id
+        (with_content old (mid which rows node held)) new changed =
         subst (λ (r : Rows). IsSpread which node.id r new changed) written carried in
         let law : AllAgree (with_lists which spread.lists (mid which rows node held)) which =
         subst (λ (r : Rows). AllAgree r.read which) spread.becomes
         (spread.law (agree_but which rows node held are.numbers there sent stored law_before)) in
         subst (IsSetWell which sent node old)
-        (ap (reading old) (sym (ends_is which rows node held spread.lists are.numbers there))
+        (ap (with_content old) (sym (ends_is which rows node held spread.lists are.numbers there))
         ∙ sym spread.becomes)
         (set_ends spread.lists
         (unlinked_unchanged which (mid which rows node held) node.id spread.lists spread.below) law)

@@ -19,7 +19,7 @@ use Rattle.room_inherit.specs.Spread.{Holds}
 use Rattle.room_desk.specs.Carrying.{GoesDown, HasLoop, HasLoopFrom, IsCarriedDown, IsCarriedFrom}
 use Rattle.room_desk.specs.Carrying.{IsUnreadableIfHeld}
 use Rattle.room_desk.specs.Setting.{Beneath, IsNewInh, IsSet, IsWrittenDown, Stores, list_of}
-use Rattle.room_desk.specs.Setting.{marked, passing, held_with, stored_inh}
+use Rattle.room_desk.specs.Setting.{entries_marked, passing_parent, held_with, stored_inh}
 use Rattle.room_desk.proofs.Sound.Anchored.{changed_unread}
 use Rattle.room_desk.proofs.Lists.SetWell.{well_stored}
 
@@ -97,7 +97,7 @@ carried_as which start node old mid new same unread down =
 
 -- the list of the parts that are sent
 pub list_sent : (sent : Sent) (flags : ListFlags) (own inh : List Ace) → flags ≡ sent.flags
-    → own ≡ marked false sent.entries → list_of flags own inh ≡ held_with sent inh
+    → own ≡ entries_marked false sent.entries → list_of flags own inh ≡ held_with sent inh
 list_sent sent flags own inh flags_are own_are =
     ap (λ f. list_of f own inh) flags_are ∙ ap (λ o. list_of sent.flags o inh) own_are
 
@@ -114,5 +114,5 @@ pub set_from : (which : Which) (sent : Sent) (node : Node) (above : Option Node)
     → Beneath {X = Unit {0}} above node (λ o x n. IsSet which sent node o n) old tt new
 set_from which sent node above inh old mid new are is same stores up =
     well_stored which sent node inh old new are
-    (is ∙ ap (λ p. stored_inh which sent node.kind (passing which sent.flags p)) (sym up))
+    (is ∙ ap (λ p. stored_inh which sent node.kind (passing_parent which sent.flags p)) (sym up))
     (subst (λ (r : Rows). Stores which node (held_with sent inh) r tt new) same stores)

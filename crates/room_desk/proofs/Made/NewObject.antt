@@ -21,7 +21,7 @@ use Rattle.room_rows.specs.Held.{held_of, full_of, is_linked}
 use Rattle.room_rows.specs.Content.{Content, node_at, child_of, is_folder, put_node, put_body}
 use Rattle.room_rows.specs.Content.{body_at}
 use Rattle.room_rows.specs.Finding.{find_id}
-use Rattle.room_rows.specs.Keep.{node_of, reading}
+use Rattle.room_rows.specs.Keep.{node_of, with_content}
 use Rattle.room_rows.specs.Meaning.{kept_held, kept_node, meaning}
 use Rattle.room_rows.specs.Paths.{is_object_name}
 use Rattle.room_rows.specs.Rows.{Rows, AreRows, numbers_of, put_numbers}
@@ -181,7 +181,7 @@ module _ (old : Rows) (are : AreRows old) (were : AreSound old) (caller : Caller
 
   pub added_sound : is_object_name name ≡ true
       → (is_document kind ≡ true → nat_le (length bytes) 1048576 ≡ true)
-      → AreSound (reading old added)
+      → AreSound (with_content old added)
   added_sound named few =
       sound_added old are were new folder
       (bodies_then kind id bytes old.read.bodies) unused there is_above refl free named

@@ -12,14 +12,14 @@ use Rattle.room_rows.specs.declared.node.NewNode.{NewNode}
 use Rattle.room_rows.specs.declared.node.Node.{Node}
 use Rattle.room_rows.specs.Content.{Content, node_at, child_of, is_folder, put_node, with_body}
 use Rattle.room_rows.specs.Content.{with_node, with_records}
-use Rattle.room_rows.specs.Keep.{CanAdd, IsAdded, node_of, reading, with_new}
+use Rattle.room_rows.specs.Keep.{CanAdd, IsAdded, node_of, with_content, with_new}
 use Rattle.room_rows.specs.Meaning.{kept_node, meaning}
 use Rattle.room_rows.specs.Paths.{is_object_name}
 use Rattle.room_rows.specs.Rows.{Rows, AreRows}
 use Rattle.room_rows.proofs.InPlace.{keeps_places, node_at-with_each}
 use Rattle.room_rows.specs.Sound.{AreSound}
 use Rattle.room_machine.specs.Effect.{new_node}
-use Rattle.room_judge.specs.Judged.{noted}
+use Rattle.room_judge.specs.Judged.{with_notes}
 use Rattle.room_desk.specs.Made.{IsMade, new_child}
 use Rattle.room_machine.specs.Step.{IsFree}
 use Rattle.room_machine.specs.Stored.{stored_site}
@@ -60,12 +60,13 @@ new_audits content id new = on (is_document new.kind)
 -- an object that is made leaves the records as they were
 pub made_audits : (caller : Caller) (kind : ObjKind) (folder : Node) (name bytes : List ℕ)
     (old mid new : Rows) (records : List AuditRow) → node_at old.read folder.id ≡ Some folder
-    → is_folder folder ≡ true → child_of old.read folder.id name ≡ None → mid ≡ noted old records
+    → is_folder folder ≡ true → child_of old.read folder.id name ≡ None
+    → mid ≡ with_notes old records
     → IsMade (new_child caller kind folder name bytes) mid new
     → new.read.audits ≡ mid.read.audits
 made_audits caller kind folder name bytes old mid new records there is_above absent notes made =
     let node : NewNode = new_child caller kind folder name bytes in
-    let can : CanAdd node (noted old records) = record {
+    let can : CanAdd node (with_notes old records) = record {
       parent = folder.id;
       parent_is = refl;
       folder = (folder, there, is_above);
@@ -99,16 +100,17 @@ module _ (old : Rows) (are : AreRows old) (were : AreSound old) (caller : Caller
   is_added : (records : List AuditRow) (q : List (List ℕ)) (id : ℕ) (new : Rows)
       → is_object_name name ≡ true
       → (is_document kind ≡ true → nat_le (length bytes) 1048576 ≡ true)
-      → IsAdded (new_child caller kind folder name bytes) (noted old records) id new
+      → IsAdded (new_child caller kind folder name bytes) (with_notes old records) id new
       → IsNew records q new
   is_added records q id new named few adds =
       let becomes : new
-      ≡ noted
-      (reading old
+      ≡ with_notes
+      (with_content old
       (added old are were caller kind folder name bytes id adds.is_new there is_above absent))
       records =
-      adds.becomes ∙ ap (λ (c : Content). reading (noted old records) c)
-      (new_rows (noted old records).read id kind (new_child caller kind folder name bytes) refl) in
+      adds.becomes ∙ ap (λ (c : Content). with_content (with_notes old records) c)
+      (new_rows (with_notes old records).read id kind
+      (new_child caller kind folder name bytes) refl) in
       record {
         id = id;
         free = (
@@ -125,7 +127,7 @@ module _ (old : Rows) (are : AreRows old) (were : AreSound old) (caller : Caller
             absent q);
         sound = subst AreSound (sym becomes)
             (sound_noted
-            (reading old
+            (with_content old
             (added old are were caller kind folder name bytes id adds.is_new there is_above absent))
             records
             (added_sound old are were caller kind folder name bytes id adds.is_new there is_above
@@ -133,11 +135,12 @@ module _ (old : Rows) (are : AreRows old) (were : AreSound old) (caller : Caller
       }
 
   pub made_new : (records : List AuditRow) (q : List (List ℕ)) (mid new : Rows)
-      → mid ≡ noted old records → is_object_name name ≡ true
+      → mid ≡ with_notes old records → is_object_name name ≡ true
       → (is_document kind ≡ true → nat_le (length bytes) 1048576 ≡ true)
       → IsMade (new_child caller kind folder name bytes) mid new → IsNew records q new
   made_new records q mid new notes named few made =
-      let here : IsMade (new_child caller kind folder name bytes) (noted old records) new = subst
+      let here : IsMade (new_child caller kind folder name bytes)
+      (with_notes old records) new = subst
       (λ (r : Rows). IsMade (new_child caller kind folder name bytes) r new) notes made in
       is_added records q here.0 new named few
       (here.1

@@ -10,7 +10,7 @@ use Rattle.room_entry.specs.Valid.{is_document}
 use Rattle.room_entry.specs.declared.object.ObjKind.TheVariants.{Document}
 use Rattle.room_rows.specs.declared.node.Node.{Node}
 use Rattle.room_rows.specs.Content.{node_at, child_of, with_body, with_node}
-use Rattle.room_rows.specs.Keep.{SetsBody, reading}
+use Rattle.room_rows.specs.Keep.{SetsBody, with_content}
 use Rattle.room_rows.specs.Meaning.{meaning}
 use Rattle.room_rows.specs.Rows.{Rows, AreRows}
 use Rattle.room_rows.specs.Sound.{AreSound}
@@ -138,7 +138,7 @@ module _ (asker : Asker) (path : List (List ℕ)) (bytes : List ℕ) where
     bytes_set : (last new : Rows)
         → IsJudged asker (there_items (stored_site path node)) mid None last
         → SetsBody node.id bytes last new
-        → new ≡ reading last (with_body last.read node.id bytes)
+        → new ≡ with_content last (with_body last.read node.id bytes)
     bytes_set last new judged sets =
         sets (
           node,
@@ -161,10 +161,12 @@ module _ (asker : Asker) (path : List (List ℕ)) (bytes : List ℕ) where
         (parent_at (sites_along (meaning old.read) path) path)) target.at
         ∙ ap (λ (s : Site). (Done, with_body (meaning old.read) s.node.id bytes)) target.filled)
         (ap (λ (r : Rows). meaning r.read) new_is
-        ∙ ap (λ (r : Rows). meaning (reading r (with_body r.read node.id bytes)).read) plan.notes)
+        ∙ ap (λ (r : Rows). meaning
+        (with_content r (with_body r.read node.id bytes)).read) plan.notes)
         (subst AreSound
-        (sym (new_is ∙ ap (λ (r : Rows). reading r (with_body r.read node.id bytes)) plan.notes))
-        (sound_noted (reading old (with_body old.read node.id bytes)) _
+        (sym (new_is
+        ∙ ap (λ (r : Rows). with_content r (with_body r.read node.id bytes)) plan.notes))
+        (sound_noted (with_content old (with_body old.read node.id bytes)) _
         (sound_bytes old node.id node bytes are sound there passing.0
         (few_bytes bytes passing.1))))
 

@@ -17,7 +17,7 @@ use Rattle.room_rows.specs.Content.{Content, node_at, child_of, parent_of, has_p
 use Rattle.room_rows.specs.Content.{has_folder_above, is_folder, is_root, same_parent, put_node}
 use Rattle.room_rows.specs.Content.{reaches_root, body_at}
 use Rattle.room_rows.specs.Finding.{find_id}
-use Rattle.room_rows.specs.Keep.{reading}
+use Rattle.room_rows.specs.Keep.{with_content}
 use Rattle.room_rows.specs.Paths.{is_object_name}
 use Rattle.room_rows.specs.Rows.{Rows, AreRows, put_numbers}
 use Rattle.room_rows.proofs.Frames.{has_its_parent}
@@ -244,9 +244,9 @@ module _ (old : Rows) (are : AreRows old) (were : AreSound old) (new folder : No
         → ((n : Node) → node_at old.read n.id ≡ Some n
         → body_at bodies n.id ≡ body_at old.read.bodies n.id)
         → fits_kind new.kind (body_at bodies new.id) ≡ true
-        → AreSound (reading old (after old are new bodies unused))
+        → AreSound (with_content old (after old are new bodies unused))
     sound_added valid dacl sacl bytes fits =
-        sound (reading old (after old are new bodies unused)) (record {
+        sound (with_content old (after old are new bodies unused)) (record {
           lists = lists_of (after old are new bodies unused) old.unreadable none_bad
               ∙ all_after old are new bodies unused
               (λ n. not (bad_at (after old are new bodies unused) [] n.id))

@@ -23,7 +23,7 @@ use Rattle.room_machine.specs.Judge.{failure, first_failure, or_else}
 use Rattle.room_machine.specs.Site.{Site, site_at, parent_at, front, last_name}
 use Rattle.room_machine.specs.Plan.{Check, Deletion, Refusal, right_to_add}
 use Rattle.room_machine.specs.Stored.{stored_site, stored_from, stored_along}
-use Rattle.room_judge.specs.Judged.{noted}
+use Rattle.room_judge.specs.Judged.{with_notes}
 use Rattle.room_desk.specs.Moving.{CanGo, CanPlace, at_place, begins, free_place, goes_past}
 use Rattle.room_desk.proofs.Moves.MovingPlan.{along_noted}
 use Rattle.room_desk.proofs.Moves.OnePath.{met_by_names}
@@ -179,9 +179,9 @@ pub goable : (old : Rows) (records : List AuditRow) (path to : List (List ℕ)) 
     → site_at (stored_along old.read path) path ≡ Some (stored_site path target)
     → site_at (stored_along old.read (front to)) (front to) ≡ Some (stored_site (front to) folder)
     → IsFree old.read to (begins path (front to)) folder
-    → CanGo target folder (last_name to) (noted old records)
+    → CanGo target folder (last_name to) (with_notes old records)
 goable old records path to target folder are found reached free =
-    let past = past_along (noted old records).read are.numbers target.id (front to)
+    let past = past_along (with_notes old records).read are.numbers target.id (front to)
     (stored_site (front to) folder)
     (ap (list_any (λ (s : Site). s.node.id == target.id)) (along_noted old.read records (front to))
     ∙ met_by_names old.read are.numbers path (front to) (stored_site path target)
@@ -210,8 +210,9 @@ pub placeable : (old : Rows) (records : List AuditRow) (path to : List (List ℕ
     (target folder : Node) → AreSound old → 0 < length path
     → parent_at (stored_along old.read path) path ≡ Some from
     → site_at (stored_along old.read path) path ≡ Some (stored_site path target)
-    → is_object_name (last_name to) ≡ true → CanGo target folder (last_name to) (noted old records)
-    → CanPlace target folder (last_name to) (noted old records)
+    → is_object_name (last_name to) ≡ true
+    → CanGo target folder (last_name to) (with_notes old records)
+    → CanPlace target folder (last_name to) (with_notes old records)
 placeable old records path to from target folder sound some above found named can = record {
   are = can.are;
   sound = sound_noted old records sound;

@@ -21,8 +21,8 @@ use Rattle.room_machine.specs.Plan.{Item, Deletion, Refusal, plan_of, move_items
 use Rattle.room_machine.specs.Plan.{to_target}
 use Rattle.room_machine.specs.Stored.{stored_site, stored_from, stored_along, to_stored}
 use Rattle.room_machine.specs.Stored.{stored_plan}
-use Rattle.room_judge.specs.Judged.{IsJudged, noted, through}
-use Rattle.room_desk.specs.Moving.{at_place, begins, leaving}
+use Rattle.room_judge.specs.Judged.{IsJudged, through, with_notes}
+use Rattle.room_desk.specs.Moving.{at_place, begins, rights_to_move}
 use Rattle.room_desk.proofs.Sound.Filled.{fill_item, judged_filled, site_filled, way_filled}
 use Rattle.room_desk.proofs.Moves.OnePath.{met_by_names}
 use Rattle.room_desk.proofs.Steps.Serving.{along_there}
@@ -126,8 +126,8 @@ along_noted content records path =
 
 pub way_noted : (old : Rows) (records : List AuditRow) (to : List (List ℕ)) (is_below : Bool)
     (target from : Site)
-    → to_stored (noted old records).read (front to)
-    (at_place (noted old records).read to is_below target from)
+    → to_stored (with_notes old records).read (front to)
+    (at_place (with_notes old records).read to is_below target from)
     ≡ to_stored old.read (front to) (at_place old.read to is_below target from)
 way_noted old records to is_below target from =
     ap (λ sites. way false sites (front to)
@@ -193,7 +193,7 @@ module _ (old : Rows) (are : AreRows old) (parts : SoundParts old) where
 
   abbrev planned_place : List (List ℕ) → Site → Site → Site → List Item
   planned_place to target from folder =
-      (through folder ++ leaving target from folder)
+      (through folder ++ rights_to_move target from folder)
       ++ Refusal to Exists (is_some (child_of means folder.node.id (last_name to)))
       ∷ Refusal to Loop (list_any (λ (site : Site). site.node.id == target.node.id)
       (sites_along means (front to))) ∷ []
@@ -204,10 +204,10 @@ module _ (old : Rows) (are : AreRows old) (parts : SoundParts old) where
       → at_place old.read to is_below (fill target) (fill from) (fill folder)
       ≡ map fill_item (planned_place to target from folder)
   place_filled to is_below target from folder below =
-      ap (λ t. (through (fill folder) ++ leaving (fill target) (fill from) (fill folder))
+      ap (λ t. (through (fill folder) ++ rights_to_move (fill target) (fill from) (fill folder))
       ++ Refusal to Exists t ∷ Refusal to Loop is_below ∷ [])
       (child_kept folder.node.id (last_name to))
-      ∙ ap (λ t. (through (fill folder) ++ leaving (fill target) (fill from) (fill folder))
+      ∙ ap (λ t. (through (fill folder) ++ rights_to_move (fill target) (fill from) (fill folder))
       ++ Refusal to Exists (is_some (child_of means folder.node.id (last_name to)))
       ∷ Refusal to Loop t ∷ []) below
 

@@ -28,7 +28,7 @@ use Rattle.room_judge.specs.Stored.{found_site}
 use Rattle.room_judge.specs.Spot.{IsPaired, pair_of}
 use Rattle.room_judge.specs.Closed.{IsServed}
 use Rattle.room_judge.proofs.Closing.{closed_done, closed_failed}
-use Rattle.room_judge.specs.Judged.{CarriesOut, FromRoot, IsJudged, IsReached, noted}
+use Rattle.room_judge.specs.Judged.{CarriesOut, FromRoot, IsJudged, IsReached, with_notes}
 use Rattle.room_desk.specs.Moving.{CanGo, CanPlace, FailsToPlace, IsPlaced, at_place, begins}
 use Rattle.room_desk.proofs.Sound.Filled.{IsTarget, target_there}
 use Rattle.room_judge.proofs.Judging.{failure_of_parts, fails_first, passes_first, passes_on}
@@ -230,20 +230,20 @@ module _ (asker : Asker) (path to : List (List ℕ)) (from target : Found) (old 
       abbrev judgements : List AuditRow
       judgements = records_of_plan asker.caller asker.at (stored_move old.read path to)
 
-      can_go : CanGo target.node folder (last_name to) (noted old judgements)
+      can_go : CanGo target.node folder (last_name to) (with_notes old judgements)
       can_go = goable old judgements path to target.node folder are paired.target folder_is free
 
       can : AreSound old → CanPlace target.node folder name last
       can sound =
           subst (λ (r : Rows). CanPlace target.node folder name r) (sym judged_all.notes)
-          (subst (λ n. CanPlace target.node folder n (noted old judgements)) (sym is_last)
+          (subst (λ n. CanPlace target.node folder n (with_notes old judgements)) (sym is_last)
           (placeable old judgements path to from_site target.node folder sound some paired.folder
           paired.target (ap is_object_name (sym is_last) ∙ named) can_go))
 
       go_on : CanGo target.node folder name last
       go_on =
           subst (λ (r : Rows). CanGo target.node folder name r) (sym judged_all.notes)
-          (subst (λ n. CanGo target.node folder n (noted old judgements)) (sym is_last) can_go)
+          (subst (λ n. CanGo target.node folder n (with_notes old judgements)) (sym is_last) can_go)
 
       pub never_unplaced : (at : ℕ) → FailsToPlace target.node folder name last at
           → IsDamaged old at

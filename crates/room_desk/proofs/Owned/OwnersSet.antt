@@ -10,7 +10,7 @@ use Rattle.room_entry.specs.Rights.{write_owner}
 use Rattle.room_entry.specs.declared.parties.Owners.{Owners}
 use Rattle.room_rows.specs.declared.node.Node.{Node}
 use Rattle.room_rows.specs.Content.{node_at, with_each, with_node}
-use Rattle.room_rows.specs.Keep.{Changes, reading, with_owners}
+use Rattle.room_rows.specs.Keep.{Changes, with_content, with_owners}
 use Rattle.room_rows.specs.Meaning.{kept_node, meaning}
 use Rattle.room_rows.specs.Rows.{Rows, AreRows}
 use Rattle.room_rows.proofs.Frames.{Rises}
@@ -57,9 +57,9 @@ unchanged rows new owners node rises there same stays other found =
     let it : Some node ≡ Some other = sym there ∙ found in
     let here : node ≡ other = cc in
     stays
-    ∙ ap (reading rows) (sym (with_node-there rows.read rises node there))
-    ∙ ap (λ (o : Owners). reading rows (with_node rows.read (with_owners o node))) (sym same)
-    ∙ ap (λ (n : Node). reading rows (with_node rows.read (with_owners owners n))) here
+    ∙ ap (with_content rows) (sym (with_node-there rows.read rises node there))
+    ∙ ap (λ (o : Owners). with_content rows (with_node rows.read (with_owners o node))) (sym same)
+    ∙ ap (λ (n : Node). with_content rows (with_node rows.read (with_owners owners n))) here
 
 -- ---- the request
 
@@ -80,10 +80,10 @@ owners_changed asker path owners old mid new node are reached changes = (
     there_mid : node_at mid.read node.id ≡ Some node
     there_mid = ap (λ (r : Rows). node_at r.read node.id) reached.judged.notes ∙ there
 
-    new_is : new ≡ reading mid (with_each mid.read (owned node.id owners))
+    new_is : new ≡ with_content mid (with_each mid.read (owned node.id owners))
     new_is =
         changes node there_mid
-        ∙ ap (reading mid)
+        ∙ ap (with_content mid)
         (put_owned mid.read (subst (λ (r : Rows). Rises r.read)
         (sym reached.judged.notes) are.numbers) node.id owners node there_mid)
 
@@ -113,9 +113,9 @@ owners_changed asker path owners old mid new node are reached changes = (
         (ap (λ (r : Rows). meaning r.read) new_is ∙ owned_means mid.read node.id owners
         ∙ ap (λ (r : Rows). with_each (meaning r.read) (owned node.id owners)) judged.notes)
         (subst AreSound
-        (sym (new_is ∙ ap (λ (r : Rows). reading r (with_each r.read (owned node.id owners)))
+        (sym (new_is ∙ ap (λ (r : Rows). with_content r (with_each r.read (owned node.id owners)))
         reached.judged.notes))
-        (sound_noted (reading old (with_each old.read (owned node.id owners))) _
+        (sound_noted (with_content old (with_each old.read (owned node.id owners))) _
         (sound_owned old node.id owners sound)))
 
 pub owners_set : (asker : Asker) (path : List (List ℕ)) (owners : Owners) (old mid new : Rows)

@@ -11,7 +11,7 @@ use Rattle.room_rows.specs.declared.node.Node.{Node}
 use Rattle.room_rows.specs.Held.{held_of, is_linked}
 use Rattle.room_rows.specs.Content.{Content, node_at, parent_of, is_linked_in, with_each, with_node}
 use Rattle.room_rows.specs.Finding.{find_id}
-use Rattle.room_rows.specs.Keep.{reading, with_owners}
+use Rattle.room_rows.specs.Keep.{with_content, with_owners}
 use Rattle.room_rows.specs.Meaning.{kept_held, kept_node, meaning}
 use Rattle.room_rows.specs.Rows.{Rows}
 use Rattle.room_rows.proofs.Frames.{Rises, node_at-number}
@@ -147,7 +147,7 @@ module _ (content : Content) (id : ℕ) (owners : Owners) where
 -- ---- the rows
 
 pub sound_owned : (rows : Rows) (id : ℕ) (owners : Owners) → AreSound rows
-    → AreSound (reading rows (with_each rows.read (owned id owners)))
+    → AreSound (with_content rows (with_each rows.read (owned id owners)))
 sound_owned rows id owners sound =
     let tree = rows.read in
     still_sound rows (owned id owners) (same_place tree id owners) (λ n. refl)

@@ -13,7 +13,7 @@ use Rattle.room_rows.specs.HeldList.{Held}
 use Rattle.room_rows.specs.declared.node.Node.{Node}
 use Rattle.room_rows.specs.Content.{Content, node_at, parent_of, is_linked_in, is_rising}
 use Rattle.room_rows.specs.Held.{held_of, full_of, is_linked}
-use Rattle.room_rows.specs.Keep.{Places, reading, with_inh, with_place}
+use Rattle.room_rows.specs.Keep.{Places, with_content, with_inh, with_place}
 use Rattle.room_rows.specs.Rows.{Rows}
 use Rattle.room_rows.proofs.InPlace.{with_each-with_each}
 use Rattle.room_rows.proofs.SamePlace.{put-replaces, replaced, replaced_here, replaced_elsewhere}
@@ -81,7 +81,7 @@ module _ (old : Rows) (target folder : Node) (name : List ℕ)
       → mid ≡ state own_dacl own_sacl
   first_state mid places =
       places (folder, can.folder_there, can.folder_is) can.is_free target can.target_there
-      ∙ ap (λ (nodes : List Node). reading old (record before { nodes = nodes }))
+      ∙ ap (λ (nodes : List Node). with_content old (record before { nodes = nodes }))
       (put-replaces 0 before.nodes target.id target
       (with_place folder.id name target) can.are.numbers can.target_there refl
       ∙ map_agree (replaced (with_place folder.id name target))
@@ -192,14 +192,16 @@ module _ (old : Rows) (target folder : Node) (name : List ℕ)
   -- ---- one attribute after the other
 
   pub second_dacl : (l : Node → List Ace) (d s : Node → List Ace)
-      → reading (state d s) (with_lists Dacl l (state d s).read) ≡ state (λ n. l (moved d s n)) s
+      → with_content (state d s) (with_lists Dacl l (state d s).read)
+      ≡ state (λ n. l (moved d s n)) s
   second_dacl l d s =
-      ap (reading old) (with_each-with_each before (moved d s) (λ n. with_inh Dacl (l n) n))
+      ap (with_content old) (with_each-with_each before (moved d s) (λ n. with_inh Dacl (l n) n))
 
   pub second_sacl : (l : Node → List Ace) (d s : Node → List Ace)
-      → reading (state d s) (with_lists Sacl l (state d s).read) ≡ state d (λ n. l (moved d s n))
+      → with_content (state d s) (with_lists Sacl l (state d s).read)
+      ≡ state d (λ n. l (moved d s n))
   second_sacl l d s =
-      ap (reading old) (with_each-with_each before (moved d s) (λ n. with_inh Sacl (l n) n))
+      ap (with_content old) (with_each-with_each before (moved d s) (λ n. with_inh Sacl (l n) n))
 
   module _ (mid last : Rows) (first : HasRenewedLists Dacl (state own_dacl own_sacl) mid) where
     abbrev new_dacl : Node → List Ace

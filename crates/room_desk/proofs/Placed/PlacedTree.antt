@@ -17,7 +17,7 @@ use Rattle.room_entry.proofs.Texts.{same_text-true}
 use Rattle.room_rows.specs.declared.node.Node.{Node}
 use Rattle.room_rows.specs.Content.{Content, node_at, parent_of, has_parent, is_root, is_folder}
 use Rattle.room_rows.specs.Content.{has_folder_above, same_parent, reaches_root, body_of, with_each}
-use Rattle.room_rows.specs.Keep.{reading}
+use Rattle.room_rows.specs.Keep.{with_content}
 use Rattle.room_rows.specs.Paths.{is_object_name}
 use Rattle.room_rows.specs.Rows.{Rows, AreRows, numbers_of, put_numbers}
 use Rattle.room_inherit.specs.Laws.{HasNoFault}
@@ -133,7 +133,7 @@ module _ (old : Rows) (target folder : Node) (name : List ℕ) (can : CanPlace t
   after = with_each content change
 
   abbrev pub new : Rows
-  new = reading old after
+  new = with_content old after
 
   pub number : (n : Node) → (change n).id ≡ n.id
   number = placed_number target.id folder.id name d s

@@ -6,7 +6,7 @@ use Rattle.room_entry.specs.declared.object.Which.TheVariants.{Dacl, Sacl}
 use Rattle.room_rows.specs.declared.node.Node.{Node}
 use Rattle.room_rows.specs.Content.{with_node}
 use Rattle.room_rows.specs.Held.{held_of, full_of, is_linked}
-use Rattle.room_rows.specs.Keep.{Changes, IsUnreadable, Places, reading, with_inh, with_place}
+use Rattle.room_rows.specs.Keep.{Changes, IsUnreadable, Places, with_content, with_inh, with_place}
 use Rattle.room_rows.specs.Rows.{Rows}
 use Rattle.room_rows.proofs.InPlace.{place-with_inh}
 use Rattle.room_rows.specs.Pass.{pass}
@@ -124,7 +124,7 @@ module _ (target folder : Node) (name : List ℕ) where
 
   placed_stays : (old mid : Rows) → Places target.id folder.id name old mid → Stays old mid
   placed_stays old mid places can =
-      let becomes : mid ≡ reading old (with_node old.read (with_place folder.id name target)) =
+      let becomes : mid ≡ with_content old (with_node old.read (with_place folder.id name target)) =
       places (folder, can.folder_there, can.folder_is) can.is_free target can.target_there in
       record {
         unreadable = ap (λ (r : Rows). r.unreadable) becomes;

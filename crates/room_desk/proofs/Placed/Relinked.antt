@@ -16,7 +16,7 @@ use Rattle.room_rows.specs.declared.node.Node.{Node}
 use Rattle.room_rows.specs.Content.{Content, node_at, parent_of, has_parent, is_linked_in}
 use Rattle.room_rows.specs.Content.{with_each}
 use Rattle.room_rows.specs.Held.{held_of, full_of, is_linked}
-use Rattle.room_rows.specs.Keep.{Changes, reading, with_inh}
+use Rattle.room_rows.specs.Keep.{Changes, with_content, with_inh}
 use Rattle.room_rows.specs.Rows.{Rows}
 use Rattle.room_rows.proofs.Frames.{node_at-number}
 use Rattle.room_rows.proofs.InPlace.{held_of-with_inh, place-with_inh, with_node-replaces}
@@ -75,7 +75,7 @@ module _ (which : Which) (target folder : Node) (old : Rows)
   stays : agrees_there ≡ true → HasRenewedLists which old old
   stays holds = record {
     lists = own_lists which;
-    becomes = ap (reading old) (sym (with_own_lists which content));
+    becomes = ap (with_content old) (sym (with_own_lists which content));
     kept = λ n found unlinked. refl;
     law =
         all_each (agrees content which) content.nodes
@@ -168,12 +168,12 @@ module _ (which : Which) (target folder : Node) (old : Rows)
     ]
 
     stored_given : (mid : Rows) → Changes target.id (with_inh which entries) old mid
-        → mid ≡ reading old after
+        → mid ≡ with_content old after
     stored_given mid changes =
         changes can.there can.there_is
-        ∙ ap (reading old) (with_node-replaces content can.rises target.id can.there
+        ∙ ap (with_content old) (with_node-replaces content can.rises target.id can.there
         (with_inh which entries can.there) can.there_is (place-with_inh which entries can.there))
-        ∙ ap (λ (nodes : List Node). reading old (record content { nodes = nodes }))
+        ∙ ap (λ (nodes : List Node). with_content old (record content { nodes = nodes }))
         (map_agree (replaced (with_inh which entries can.there)) change content.nodes
         (each_there (λ n. replaced (with_inh which entries can.there) n ≡ change n)
         content.nodes (apart content can.rises) given))
@@ -298,14 +298,14 @@ module _ (which : Which) (target folder : Node) (old : Rows)
         → Changes target.id (with_inh which entries) old mid
         → IsSpread which target.id mid new changed → HasRenewedLists which old new
     renewed linked mid new changed changes spread =
-        let stored : mid ≡ reading old after = stored_given mid changes in
-        let down : IsSpread which target.id (reading old after) new changed = subst
+        let stored : mid ≡ with_content old after = stored_given mid changes in
+        let down : IsSpread which target.id (with_content old after) new changed = subst
         (λ (r : Rows). IsSpread which target.id r new changed) stored spread in
         record {
           lists = λ n. down.lists (change n);
           becomes =
               down.becomes
-              ∙ ap (λ (nodes : List Node). reading old (record content { nodes = nodes }))
+              ∙ ap (λ (nodes : List Node). with_content old (record content { nodes = nodes }))
               (map_map (λ n. with_inh which (down.lists n) n) change content.nodes
               ∙ map_agree (λ n. with_inh which (down.lists (change n)) (change n))
               (λ n. with_inh which (down.lists (change n)) n) content.nodes

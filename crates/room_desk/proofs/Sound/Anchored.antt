@@ -9,7 +9,7 @@ use Rattle.std.proofs.lemmas.Option.{same_Some}
 use Rattle.room_entry.specs.declared.object.Which.{Which}
 use Rattle.room_rows.specs.declared.node.Node.{Node}
 use Rattle.room_rows.specs.Content.{Content, is_rising, node_at, reaches_root, with_each, with_node}
-use Rattle.room_rows.specs.Keep.{Changes, IsUnreadable, reading, with_inh}
+use Rattle.room_rows.specs.Keep.{Changes, IsUnreadable, with_content, with_inh}
 use Rattle.room_rows.specs.Rows.{Rows}
 use Rattle.room_rows.proofs.Frames.{Rises, node_at-number}
 use Rattle.room_rows.proofs.InPlace.{place-with_inh}
@@ -125,7 +125,7 @@ rooted_changed id old mid change number parent changes rooted =
     let named : rooted.node.id ≡ id = node_at-number old.read id rooted.node rooted.there in
     let found : node_at old.read rooted.node.id ≡ Some rooted.node = ap (node_at old.read) named
     ∙ rooted.there in
-    let becomes : mid ≡ reading old (with_node old.read (change rooted.node)) =
+    let becomes : mid ≡ with_content old (with_node old.read (change rooted.node)) =
     changes rooted.node rooted.there in
     record {
       unreadable = ap (λ (r : Rows). r.unreadable) becomes;

@@ -11,7 +11,7 @@ use Rattle.room_rows.specs.Content.{body_of, node_at}
 use Rattle.room_rows.specs.Keep.{HasNoRoot, IsDamaged, IsUnreadable}
 use Rattle.room_rows.specs.Rows.{Rows}
 use Rattle.room_rows.specs.Sound.{AreSound, has_sound_body}
-use Rattle.room_judge.specs.Judged.{noted}
+use Rattle.room_judge.specs.Judged.{with_notes}
 use Rattle.room_desk.proofs.Sound.SoundParts.{passes_test, rootless_unsound, sound_parts}
 
 pub rootless_damaged : (old mid : Rows) (at : ℕ) → mid ≡ old → HasNoRoot mid at → IsDamaged old at
@@ -23,7 +23,8 @@ unread_damaged old mid at same h = inl (inl (subst (λ (r : Rows). IsUnreadable 
 pub damaged_before : (old mid : Rows) (at : ℕ) → mid ≡ old → IsDamaged mid at → IsDamaged old at
 damaged_before old mid at same h = subst (λ (r : Rows). IsDamaged r at) same h
 
-pub noted_unread : (old mid : Rows) (records : List AuditRow) (at : ℕ) → mid ≡ noted old records
+pub noted_unread : (old mid : Rows) (records : List AuditRow) (at : ℕ)
+    → mid ≡ with_notes old records
     → IsUnreadable mid at → IsDamaged old at
 noted_unread old mid records at same h = inl (inl (subst (λ (r : Rows). IsUnreadable r at) same h))
 

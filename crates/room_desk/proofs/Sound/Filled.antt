@@ -17,7 +17,7 @@ use Rattle.room_machine.specs.Plan.{Item, Check, Deletion, Refusal, way, where_f
 use Rattle.room_machine.specs.Judge.{failure, passes, or_else, first_failure, checks_of}
 use Rattle.room_machine.specs.Judge.{records_of_checks, records_of_plan}
 use Rattle.room_machine.specs.Stored.{stored_along, to_stored}
-use Rattle.room_judge.specs.Judged.{IsJudged, noted}
+use Rattle.room_judge.specs.Judged.{IsJudged, with_notes}
 use Rattle.room_desk.proofs.Sound.SoundParts.{SoundParts}
 use Rattle.room_desk.proofs.Sound.Sites.{fill, sites_filled}
 use Rattle.room_desk.proofs.Sound.Targets.{target_kept}
@@ -64,7 +64,7 @@ pub judged_filled : (asker : Asker) (items : List Item) (old new : Rows) (answer
     → IsJudged asker (map fill_item items) old answer new → IsJudged asker items old answer new
 judged_filled asker items old new answer judged = record {
   answers = judged.answers ∙ failures_filled asker.caller asker.at items;
-  notes = judged.notes ∙ ap (noted old) (records_filled asker.caller asker.at items);
+  notes = judged.notes ∙ ap (with_notes old) (records_filled asker.caller asker.at items);
 }
 
 -- ---- plans

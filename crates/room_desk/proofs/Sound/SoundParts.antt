@@ -15,7 +15,7 @@ use Rattle.room_rows.specs.Keep.{HasNoRoot, IsUnreadable}
 use Rattle.room_rows.specs.Rows.{Rows, numbers_of, put_number}
 use Rattle.room_rows.specs.Sound.{AreSound, first_bad_list, bad_root, first_failing, has_bad_list}
 use Rattle.room_rows.specs.Sound.{reaches, has_sound_name, has_sound_body, keeps_law}
-use Rattle.room_judge.specs.Judged.{NotSound, noted}
+use Rattle.room_judge.specs.Judged.{NotSound, with_notes}
 use Rattle.room_inherit.proofs.NoFault.{all_pass, no_fault, none_bad, none_fails, sound, unbad}
 use Rattle.room_inherit.proofs.Whole.{all_read}
 
@@ -86,10 +86,10 @@ reaches_noted content records (suc n) (Some id) =
     on (Some above) same = same above
 
 pub sound_noted : (rows : Rows) (records : List AuditRow) → AreSound rows
-    → AreSound (noted rows records)
+    → AreSound (with_notes rows records)
 sound_noted rows records sound =
     let parts = sound_parts rows sound in
-    parts_sound (noted rows records) (record {
+    parts_sound (with_notes rows records) (record {
       lists = parts.lists;
       root = parts.root;
       parents = parts.parents;

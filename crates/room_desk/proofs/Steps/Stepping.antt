@@ -11,8 +11,8 @@ use Rattle.room_machine.specs.declared.request.Request.{Request}
 use Rattle.room_machine.specs.Plan.{plan_of}
 use Rattle.room_machine.specs.Judge.{first_failure, records_of_plan}
 use Rattle.room_machine.specs.Effect.{effect}
-use Rattle.room_machine.specs.Step.{Step, caller_in, answered, recorded}
-use Rattle.room_judge.specs.Judged.{IsJudged, IsKnown, IsStepOfRows, noted}
+use Rattle.room_machine.specs.Step.{Step, caller_in, failure_or, done_with_records}
+use Rattle.room_judge.specs.Judged.{IsJudged, IsKnown, IsStepOfRows, with_notes}
 use Rattle.room_machine.proofs.Free.{some_free}
 use Rattle.room_desk.proofs.Sound.SoundParts.{sound_noted}
 
@@ -30,7 +30,7 @@ module _ (asker : Asker) (request : Request) (old : Rows) (known : IsKnown asker
   -- what the step makes of a caller
   abbrev made : ℕ → Caller → Reply × Content
   made id caller =
-      recorded (answered (first_failure caller (plan_of content request)) content
+      done_with_records (failure_or (first_failure caller (plan_of content request)) content
       (effect content caller id request))
       (records_of_plan caller asker.at (plan_of content request))
 
@@ -39,9 +39,10 @@ module _ (asker : Asker) (request : Request) (old : Rows) (known : IsKnown asker
       → made id asker.caller
       ≡ (
         reply,
-        meaning (noted old (records_of_plan asker.caller asker.at (plan_of content request))).read,
+        meaning
+        (with_notes old (records_of_plan asker.caller asker.at (plan_of content request))).read,
       )
-      → new ≡ noted old (records_of_plan asker.caller asker.at (plan_of content request))
+      → new ≡ with_notes old (records_of_plan asker.caller asker.at (plan_of content request))
       → IsStepOfRows asker.caller.user asker.at request old reply new
   by_records id free new reply makes notes = record {
     step = (
@@ -59,7 +60,8 @@ module _ (asker : Asker) (request : Request) (old : Rows) (known : IsKnown asker
   refused_step new reply judged =
       let free = some_free content in
       by_records free.0 free.1 new reply
-      (ap (λ o. recorded (answered o content (effect content asker.caller free.0 request))
+      (ap (λ o. done_with_records
+      (failure_or o content (effect content asker.caller free.0 request))
       (records_of_plan asker.caller asker.at (plan_of content request))) (sym judged.answers))
       judged.notes
 
@@ -70,9 +72,11 @@ module _ (asker : Asker) (request : Request) (old : Rows) (known : IsKnown asker
   served_step new reply serves judged =
       let free = some_free content in
       by_records free.0 free.1 new reply
-      (ap (λ o. recorded (answered o content (effect content asker.caller free.0 request))
+      (ap (λ o. done_with_records
+      (failure_or o content (effect content asker.caller free.0 request))
       (records_of_plan asker.caller asker.at (plan_of content request))) (sym judged.answers)
-      ∙ ap (λ d. recorded d (records_of_plan asker.caller asker.at (plan_of content request)))
+      ∙ ap (λ d. done_with_records d
+      (records_of_plan asker.caller asker.at (plan_of content request)))
       (serves free.0))
       judged.notes
 
@@ -89,9 +93,11 @@ module _ (asker : Asker) (request : Request) (old : Rows) (known : IsKnown asker
       id,
       free,
       ap (made id) (caller_kept old.read asker.caller.user ∙ sym known)
-          ∙ ap (λ o. recorded (answered o content (effect content asker.caller id request))
+          ∙ ap (λ o. done_with_records
+          (failure_or o content (effect content asker.caller id request))
           (records_of_plan asker.caller asker.at (plan_of content request))) (sym judged.answers)
-          ∙ ap (λ d. recorded d (records_of_plan asker.caller asker.at (plan_of content request)))
+          ∙ ap (λ d. done_with_records d
+          (records_of_plan asker.caller asker.at (plan_of content request)))
           changes
           ∙ ap (λ (c : Content). (reply, c)) (sym means),
     );

@@ -7,7 +7,7 @@ use Rattle.room_judge.specs.declared.asker.Asker.{Asker}
 use Rattle.room_judge.proofs.Calls.{done, tail, then}
 use Rattle.room_judge.proofs.Halts.{halts, halts_first}
 use Rattle.room_judge.proofs.Judging.{blames_first, fails_first, passes_first}
-use Rattle.room_desk.specs.Moving.{begins, free_place, leaving}
+use Rattle.room_desk.specs.Moving.{begins, free_place, rights_to_move}
 use Rattle.room_desk.proofs.Moves.FreePlaces.{free_after}
 use Rattle.room_desk.proofs.moving.check_place.Goals as goal
 
@@ -17,7 +17,7 @@ returns-in_err-pass_through-clause-done g c =
     let to = c.args.to.now in
     let folder = c.args.folder.now in
     let site : Site = found_site to folder in
-    let leave : List Item = leaving (found_site path c.args.moving.now.target.now)
+    let leave : List Item = rights_to_move (found_site path c.args.moving.now.target.now)
     (found_site path c.args.moving.now.from.now) site in
     halts_first g.met.K.Keep.laws _ c.in_err-pass_through.ensures.done
     (λ old at never. absurd never)
@@ -112,5 +112,6 @@ returns-clause-done g c =
     c.check_free.ensures.done (λ old mid at passed h. blames_first asker _ None old mid at passed h)
     (λ old mid outcome new passed free.
     free_after to below folder.node asker
-    (through site ++ leaving (found_site path target) from site) old mid new (refusal_of outcome)
+    (through site ++ rights_to_move (found_site path target) from site) old mid new
+    (refusal_of outcome)
     passed free)

@@ -3,7 +3,7 @@ use Rattle.std.specs.List.{range_with_len}
 use Rattle.std.proofs.Math.Facts.{to_z-of_z}
 use Rattle.sqlite.specs.Held.{state}
 use Rattle.room_rows.specs.Keep.{with_inh}
-use Rattle.store_tables.specs.Shown.{RecastsAll, inheriting}
+use Rattle.store_tables.specs.Shown.{RecastsAll, sets_inh}
 use Rattle.store_tables.specs.Trust.{AltersAll}
 use Rattle.store_tables.proofs.AlteredAll.{inherited_range}
 use Rattle.store_tables.proofs.Changed.{if_all}
@@ -38,10 +38,10 @@ returns-clause-puts g c = λ entries printed.
           (inherited_range old.now new.now trust.now c.args.which text entries printed.1 first more
           c.in-Some.ensures.2
           (subst
-          (λ z. RecastsAll (inheriting c.args.which text) (pos first) z old.now.trees
+          (λ z. RecastsAll (sets_inh c.args.which text) (pos first) z old.now.trees
           new.now.trees) to
           (subst
-          (λ z. RecastsAll (inheriting c.args.which text) z
+          (λ z. RecastsAll (sets_inh c.args.which text) z
           (to_z w64 (of_z w64 c.in-Some-end_of.to)) old.now.trees new.now.trees) from put))))
           (c.update_range-done.ensures.writes.leaves trust.clean trust.now));
     }

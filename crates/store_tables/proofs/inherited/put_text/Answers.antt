@@ -2,7 +2,7 @@ use Rattle.std.proofs.Common.{◌≡◌, ap, subst, ◌∙◌, pos, to_z, of_z, 
 use Rattle.std.proofs.Math.Facts.{to_z-of_z}
 use Rattle.sqlite.specs.Held.{state}
 use Rattle.store_tables.specs.RoomRows.{number_in-low}
-use Rattle.store_tables.specs.Shown.{Recasts, inheriting}
+use Rattle.store_tables.specs.Shown.{Recasts, sets_inh}
 use Rattle.store_tables.proofs.Altered.{inherited_rows}
 use Rattle.store_tables.proofs.Changed.{if_all}
 use Rattle.store_tables.proofs.Tests.{if_ok}
@@ -25,7 +25,7 @@ returns-clause-puts g c = λ entries printed.
           (if_ok c.update_inh.result _ _
           (λ count put one. inherited_rows old.now new.now c.args.id trust.now
           (number_in-low c.args.id c.in-Some.ensures.2) c.args.which text entries printed.1
-          (subst (λ z. Recasts (inheriting c.args.which text) z old.now.trees new.now.trees) at
+          (subst (λ z. Recasts (sets_inh c.args.which text) z old.now.trees new.now.trees) at
           (put one)))
           (c.update_inh.ensures.writes.leaves trust.clean trust.now));
     }

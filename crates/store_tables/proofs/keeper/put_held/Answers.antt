@@ -3,7 +3,7 @@ use Rattle.std.proofs.Math.Facts.{to_z-of_z}
 use Rattle.std.specs.Prelude.{string_bytes}
 use Rattle.sqlite.specs.Held.{state}
 use Rattle.store_tables.specs.RoomRows.{number_in-low}
-use Rattle.store_tables.specs.Shown.{Recasts, holding}
+use Rattle.store_tables.specs.Shown.{Recasts, sets_held}
 use Rattle.store_tables.proofs.Changed.{of_one}
 use Rattle.store_tables.proofs.Altered.{held_rows}
 use Rattle.store_tables.proofs.keeper.put_held.Goals as goal
@@ -29,7 +29,7 @@ returns-clause-puts g c =
           (string_bytes list.own)
           (string_bytes list.inh) c.args.held.now stores.flags stores.own.1 stores.inh.1
           (subst
-          (λ z. Recasts (holding c.args.which list.flags (string_bytes list.own)
+          (λ z. Recasts (sets_held c.args.which list.flags (string_bytes list.own)
           (string_bytes list.inh)) z old.now.trees new.now.trees) at put);
     }
 

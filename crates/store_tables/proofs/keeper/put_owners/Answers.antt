@@ -4,7 +4,7 @@ use Rattle.sqlite.specs.declared.types.Value.TheVariants.{Text}
 use Rattle.store_tables.specs.Meaning.{name_in}
 use Rattle.sqlite.specs.Held.{state}
 use Rattle.store_tables.specs.RoomRows.{number_in-low}
-use Rattle.store_tables.specs.Shown.{Recasts, owning}
+use Rattle.store_tables.specs.Shown.{Recasts, sets_owners}
 use Rattle.store_tables.proofs.Changed.{of_one}
 use Rattle.store_tables.proofs.Altered.{owned_rows}
 use Rattle.store_tables.proofs.keeper.put_owners.Goals as goal
@@ -33,5 +33,5 @@ returns-clause-puts g c =
           (c.update_owners-done.ensures.writes.leaves trust.clean trust.now) in
           owned_rows old.now new.now c.args.id trust.now
           (number_in-low c.args.id c.in-Some.ensures.2) owner group c.args.owners.now owned grouped
-          (subst (λ z. Recasts (owning owner group) z old.now.trees new.now.trees) at put);
+          (subst (λ z. Recasts (sets_owners owner group) z old.now.trees new.now.trees) at put);
     }

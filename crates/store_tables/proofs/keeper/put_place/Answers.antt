@@ -4,7 +4,7 @@ use Rattle.sqlite.specs.declared.types.Value.TheVariants.{Int}
 use Rattle.store_tables.specs.Meaning.{parent_in}
 use Rattle.sqlite.specs.Held.{state}
 use Rattle.store_tables.specs.RoomRows.{number_in-low}
-use Rattle.store_tables.specs.Shown.{Recasts, lying}
+use Rattle.store_tables.specs.Shown.{Recasts, sets_place}
 use Rattle.store_tables.proofs.Changed.{of_one}
 use Rattle.store_tables.proofs.Altered.{placed_rows}
 use Rattle.store_tables.proofs.keeper.put_place.Goals as goal
@@ -36,6 +36,7 @@ returns-clause-puts g c =
           (to_z w64 (of_z w64 c.in-Some-rowid_of.under)) c.args.name.now c.args.parent
           c.args.name.now lies c.text_is_kept.ensures
           (subst
-          (λ z. Recasts (lying (to_z w64 (of_z w64 c.in-Some-rowid_of.under)) c.args.name.now) z
+          (λ z. Recasts
+          (sets_place (to_z w64 (of_z w64 c.in-Some-rowid_of.under)) c.args.name.now) z
           old.now.trees new.now.trees) at put);
     }

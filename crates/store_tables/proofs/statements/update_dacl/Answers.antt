@@ -4,7 +4,7 @@ use Rattle.std.specs.Prelude.{string_bytes}
 use Rattle.sqlite.specs.declared.types.Value.TheVariants.{Int, Text}
 use Rattle.sqlite.specs.Held.{state}
 use Rattle.room_entry.specs.declared.object.Which.TheVariants.{Dacl}
-use Rattle.store_tables.specs.Shown.{Stays, holding}
+use Rattle.store_tables.specs.Shown.{Stays, sets_held}
 use Rattle.store_tables.specs.Trust.{stays_itself}
 use Rattle.store_tables.proofs.Asked.{writes}
 use Rattle.store_tables.proofs.Printed.{holding_printed}
@@ -18,7 +18,7 @@ returns-clause-writes g c =
     let new = state g.S.Store c.execute.new.self.conn.now in
     let cell = Int c.args.list.now.flags ∷ Text (string_bytes c.args.list.now.own)
     ∷ Text (string_bytes c.args.list.now.inh) ∷ [] in
-    let change = holding Dacl c.args.list.now.flags (string_bytes c.args.list.now.own)
+    let change = sets_held Dacl c.args.list.now.flags (string_bytes c.args.list.now.own)
     (string_bytes c.args.list.now.inh) in
     let given = simp (to_z-of_z c.ranges.id) at c.params-to_sql.ensures in
     let runs = simp (

@@ -3,7 +3,7 @@ use Rattle.std.proofs.Math.Facts.{to_z-of_z}
 use Rattle.sqlite.specs.declared.types.Value.TheVariants.{Int, Text}
 use Rattle.sqlite.specs.Held.{state}
 use Rattle.room_entry.specs.declared.object.Which.TheVariants.{Dacl}
-use Rattle.store_tables.specs.Shown.{Stays, inheriting}
+use Rattle.store_tables.specs.Shown.{Stays, sets_inh}
 use Rattle.store_tables.specs.Trust.{stays_itself}
 use Rattle.store_tables.proofs.Asked.{writes}
 use Rattle.store_tables.proofs.Printed.{inheriting_printed}
@@ -17,7 +17,7 @@ returns-clause-writes g c =
     let old = state g.S.Store c.args.tx.now.conn.now in
     let new = state g.S.Store c.execute.new.self.conn.now in
     let cell = Text c.args.text.now ∷ [] in
-    let change = inheriting Dacl c.args.text.now in
+    let change = sets_inh Dacl c.args.text.now in
     let from = simp (to_z-of_z c.ranges.first) at c.params-to_sql.ensures in
     let to = simp (to_z-of_z c.ranges.last) at c.params-to_sql-2.ensures in
     writes dacl_range_text

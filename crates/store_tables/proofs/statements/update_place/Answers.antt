@@ -2,7 +2,7 @@ use Rattle.std.proofs.Common.{subst, sym, ◌∷◌, [], refl}
 use Rattle.std.proofs.Math.Facts.{to_z-of_z}
 use Rattle.sqlite.specs.declared.types.Value.TheVariants.{Int, Text}
 use Rattle.sqlite.specs.Held.{state}
-use Rattle.store_tables.specs.Shown.{Stays, lying}
+use Rattle.store_tables.specs.Shown.{Stays, sets_place}
 use Rattle.store_tables.specs.Trust.{stays_itself}
 use Rattle.store_tables.proofs.Asked.{writes}
 use Rattle.store_tables.proofs.Printed.{lying_printed}
@@ -15,7 +15,7 @@ returns-clause-writes g c =
     let old = state g.S.Store c.args.tx.now.conn.now in
     let new = state g.S.Store c.execute.new.self.conn.now in
     let cell = Int c.args.parent ∷ Text c.args.name.now ∷ [] in
-    let change = lying c.args.parent c.args.name.now in
+    let change = sets_place c.args.parent c.args.name.now in
     let given = simp (to_z-of_z c.ranges.id) at c.params-to_sql.ensures in
     let under = simp (to_z-of_z c.ranges.parent) at c.params-to_sql-2.ensures in
     let runs = rw (given, under, c.params-to_sql-3.ensures) at c.execute.ensures.runs in
