@@ -75,7 +75,7 @@ after_dump (Err fault) = after_fault fault
 
 abbrev pub after_review : Reviewed → Outcome
 after_review (reviewed.Table text) = Bytes text
-after_review (reviewed.Refused at why) = Answer (answer.Refused at why)
+after_review (reviewed.Refused path why) = Answer (answer.Refused path why)
 
 abbrev pub after_reviewing : Result Reviewed StoreFault → Outcome
 after_reviewing (Ok reviewed) = after_review reviewed
@@ -84,7 +84,7 @@ after_reviewing (Err fault) = after_fault fault
 -- A reset is done or refused. It has no other reply.
 abbrev pub after_reply : Reply → Outcome
 after_reply reply.Done = Answer answer.ListSet
-after_reply (reply.Refused at why) = Answer (answer.Refused at why)
+after_reply (reply.Refused path why) = Answer (answer.Refused path why)
 after_reply other = Failed Database
 
 abbrev pub after_reset : Result Reply StoreFault → Outcome

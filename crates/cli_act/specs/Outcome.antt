@@ -23,7 +23,7 @@ abbrev pub answer_status : TaskAnswer → Status
 answer_status answer.Made = status.Done
 answer_status (answer.Replaced groups members) = status.Done
 answer_status answer.ListSet = status.Done
-answer_status (answer.Refused at why) = status.Refused
+answer_status (answer.Refused path why) = status.Refused
 answer_status answer.Sound = status.Done
 answer_status (answer.Unsound path why) = status.Found
 answer_status answer.Migrated = status.Done
@@ -63,7 +63,7 @@ answer_line answer.Made = codes "ready\n"
 answer_line (answer.Replaced groups members) =
     codes "groups " ++ (decimal groups ++ (codes ", members " ++ (decimal members ++ codes "\n")))
 answer_line answer.ListSet = codes "done\n"
-answer_line (answer.Refused at why) = reason_line at why
+answer_line (answer.Refused path why) = reason_line path why
 answer_line answer.Sound = codes "sound\n"
 answer_line (answer.Unsound path why) =
     codes "fault " ++ (path ++ (codes " " ++ (unsound_text why ++ codes "\n")))

@@ -25,17 +25,17 @@ fn reason_str(why: &Reason) -> &'static str
 }
 
 // What was found at a path.
-fn reason_at(alloc: Global, at: &Path, why: &Reason) -> Result<String, AllocError>
-    ensures { IfOk result (λ text. string_bytes text ≡ refusal_at at.now why.now) }
+fn reason_at(alloc: Global, path: &Path, why: &Reason) -> Result<String, AllocError>
+    ensures { IfOk result (λ text. string_bytes text ≡ refusal_at path.now why.now) }
 {
-    let path = at.to_text(alloc)?;
+    let text = path.to_text(alloc)?;
     let why = reason_str(why);
-    format!(in alloc; "refused: {why} at {path}\n")
+    format!(in alloc; "refused: {why} at {text}\n")
 }
 
 // The line of what is refused at a path.
-fn refusal_line(alloc: Global, at: &Path, why: &Reason) -> Result<String, AllocError>
-    ensures { IfOk result (λ text. string_bytes text ≡ reason_line at.now why.now) }
+fn refusal_line(alloc: Global, path: &Path, why: &Reason) -> Result<String, AllocError>
+    ensures { IfOk result (λ text. string_bytes text ≡ reason_line path.now why.now) }
 {
     match why {
         Reason::BadList { place, fault } => {
@@ -43,7 +43,7 @@ fn refusal_line(alloc: Global, at: &Path, why: &Reason) -> Result<String, AllocE
             let fault = fault.as_str();
             format!(in alloc; "refused: entry {place}: {fault}\n")
         }
-        _ => reason_at(alloc, at, why),
+        _ => reason_at(alloc, path, why),
     }
 }
 
@@ -60,7 +60,7 @@ impl TaskAnswer {
                 format!(in alloc; "groups {groups}, members {members}\n")
             }
             TaskAnswer::ListSet => String::from_str(alloc, "done\n"),
-            TaskAnswer::Refused { at, why } => refusal_line(alloc, at, why),
+            TaskAnswer::Refused { path, why } => refusal_line(alloc, path, why),
             TaskAnswer::Sound => String::from_str(alloc, "sound\n"),
             TaskAnswer::Unsound { path, why } => {
                 let path = path.as_str();

@@ -165,7 +165,7 @@ fn after_review(reviewed: Reviewed) -> Outcome
 {
     match reviewed {
         Reviewed::Table(text) => Outcome::Bytes(text),
-        Reviewed::Refused { at, why } => Outcome::Answer(TaskAnswer::Refused { at, why }),
+        Reviewed::Refused { path, why } => Outcome::Answer(TaskAnswer::Refused { path, why }),
     }
 }
 
@@ -191,7 +191,7 @@ fn after_reply(reply: Reply) -> Outcome
 {
     match reply {
         Reply::Done => Outcome::Answer(TaskAnswer::ListSet),
-        Reply::Refused { at, why } => Outcome::Answer(TaskAnswer::Refused { at, why }),
+        Reply::Refused { at: path, why } => Outcome::Answer(TaskAnswer::Refused { path, why }),
         Reply::Bytes(_)
         | Reply::Names(_)
         | Reply::Lists(..)

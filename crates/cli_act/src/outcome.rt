@@ -18,7 +18,7 @@ pub enum TaskAnswer {
     /// A list was set.
     ListSet,
     /// It was refused, for what was found at the path.
-    Refused { at: Path, why: Reason },
+    Refused { path: Path, why: Reason },
     /// No test finds a fault in the rows.
     Sound,
     /// The first fault of the rows, and where it is.

@@ -10,16 +10,16 @@ fn write_text<W: Write>(w: &mut W, text: &[u8]) -> io::Result<()>
     ensures ok { OnOk result (Appends (W.contents w.old) (W.contents w.new) text.now) }
     ensures err { OnErr result (WritesSome (W.contents w.old) (W.contents w.new) text.now) }
 {
-    let mut at = 0;
-    'writing: while at < text.len() {
-        let count = match w.write(&text[at..]) {
+    let mut index = 0;
+    'writing: while index < text.len() {
+        let count = match w.write(&text[index..]) {
             Ok(count) => count,
             Err(error) => return Err(error),
         };
         if count == 0 {
             return Err(io::Error::from(ErrorKind::WriteZero));
         }
-        at += count;
+        index += count;
     }
     Ok(())
 }

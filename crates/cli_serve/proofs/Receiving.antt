@@ -35,11 +35,12 @@ abbrev next_failed : Next → Option Message
 next_failed (Next.Failing m) = Some m
 next_failed next = None
 
-next_unanswered : (at : ℤ) (next : Next) → next_asking at next ≡ asking_by at (next_failed next)
-next_unanswered at Next.Unknown = refl
-next_unanswered at (Next.Exchanging x close) = refl
-next_unanswered at (Next.Refusing refusal) = refl
-next_unanswered at (Next.Failing m) = refl
+next_unanswered : (moment : ℤ) (next : Next)
+    → next_asking moment next ≡ asking_by moment (next_failed next)
+next_unanswered moment Next.Unknown = refl
+next_unanswered moment (Next.Exchanging x close) = refl
+next_unanswered moment (Next.Refusing refusal) = refl
+next_unanswered moment (Next.Failing m) = refl
 
 next_fails : (left : List ℕ) (n : ℕ) (next : Next) → IsNext left n next
     → IfSome (next_failed next) AsksDesk
@@ -136,15 +137,15 @@ module _ {D : Type 0} (d : Ghosts D) (laws : DeskLaws d.Outlasts) where
   )
 
   -- one connection was served
-  pub attends : {z : ℤ} {left sent left_then sent_then : Option (List ℕ)} (at : ℤ) (old new : D)
-      → z ≡ at → (d.trusted new → d.trusted old) → (d.trusted new → d.sound old → d.sound new)
+  pub attends : {z : ℤ} {left sent left_then sent_then : Option (List ℕ)} (moment : ℤ) (old new : D)
+      → z ≡ moment → (d.trusted new → d.trusted old) → (d.trusted new → d.sound old → d.sound new)
       → Connects d z (seen left sent old) (seen left_then sent_then new)
-      → Attends d at old new
-  attends {z} at old new same trusted sound connects =
+      → Attends d moment old new
+  attends {z} moment old new same trusted sound connects =
       let next = next_exchange connects.next in
       let all = connects.exchanges ++ next in
       let visit : Visit = record {
-        at = z;
+        moment = z;
         exchanges = all;
         failed = next_failed connects.next;
       } in
@@ -152,7 +153,7 @@ module _ {D : Type 0} (d : Ghosts D) (laws : DeskLaws d.Outlasts) where
         trusted = trusted;
         sound = sound;
         visit = visit;
-        moment = same;
+        same_moment = same;
         is = record {
           each = All-append IsExchange connects.exchanges next
               (All-weaker IsOpen IsExchange exchange_is connects.exchanges connects.opens.each)
@@ -167,29 +168,29 @@ module _ {D : Type 0} (d : Ghosts D) (laws : DeskLaws d.Outlasts) where
       }
 
   -- a connection was lost, and the desk wasn't asked
-  pub lost : (at : ℤ) (desk : D) → Attends d at desk desk
-  lost at desk = record {
+  pub lost : (moment : ℤ) (desk : D) → Attends d moment desk desk
+  lost moment desk = record {
     trusted = λ t. t;
     sound = λ t s. s;
-    visit = record { at = at; exchanges = []; failed = None };
-    moment = refl;
+    visit = record { moment = moment; exchanges = []; failed = None };
+    same_moment = refl;
     is = record { each = All-nil IsExchange; few = omega arith; fails = tt };
     run = λ t s room is. (room, refl, is);
     outlasts = laws.itself desk;
   }
 
   -- and the clock read its moment
-  pub one : (at : ℤ) (told told' : List ℤ → Type 0) (old new : D)
-      → ((before : List ℤ) → told before → told' (before ++ at ∷ []))
-      → Attends d at old new → Receives d 1 told told' old new
-  one at told told' old new tells a = record {
+  pub one : (moment : ℤ) (told told' : List ℤ → Type 0) (old new : D)
+      → ((before : List ℤ) → told before → told' (before ++ moment ∷ []))
+      → Attends d moment old new → Receives d 1 told told' old new
+  one moment told told' old new tells a = record {
     trusted = a.trusted;
     sound = a.sound;
     visits = a.visit ∷ [];
     few = omega arith;
     each = All-from_recursion IsServedVisit (a.visit ∷ []) (a.is, tt);
     moments = λ before is.
-        subst (λ (z : ℤ). told' (before ++ z ∷ [])) (sym a.moment) (tells before is);
+        subst (λ (z : ℤ). told' (before ++ z ∷ [])) (sym a.same_moment) (tells before is);
     run = λ t s.
         subst (λ (events : List Event). Runs (d.content old) events (d.content new))
         (sym (append-nil (visit_events a.visit))) (a.run t s);
@@ -199,8 +200,8 @@ module _ {D : Type 0} (d : Ghosts D) (laws : DeskLaws d.Outlasts) where
   }
 
   -- the same as exactly one
-  pub exactly_one : (at : ℤ) (told told' : List ℤ → Type 0) (old new : D)
-      → ((before : List ℤ) → told before → told' (before ++ at ∷ []))
-      → Attends d at old new → ReceivesAll d 1 told told' old new
+  pub exactly_one : (moment : ℤ) (told told' : List ℤ → Type 0) (old new : D)
+      → ((before : List ℤ) → told before → told' (before ++ moment ∷ []))
+      → Attends d moment old new → ReceivesAll d 1 told told' old new
   unfolding one
-  exactly_one at told told' old new tells a = (one at told told' old new tells a, refl)
+  exactly_one moment told told' old new tells a = (one moment told told' old new tells a, refl)

@@ -23,9 +23,9 @@ TellsShut d old new false =
 
 -- A connection was served, and then the desk was asked whether it is shut.
 pub record Passes {D : Type 0} (d : Ghosts D) (old new : D) (shut : Bool) : Type 0 where
-  pub at : ℤ
+  pub moment : ℤ
   pub mid : D
-  pub attends : Attends d at old mid
+  pub attends : Attends d moment old mid
   pub rests : Rests d mid new
   pub tells : TellsShut d mid new shut
 

@@ -12,7 +12,7 @@ use Rattle.cli_serve.specs.declared.fault.ServingFault.{ServingFault}
 -- a connection as the desk sees it: its moment, its messages with their replies, and the message
 -- that the desk failed at, if there was one
 pub record Visit : Type 0 where
-  pub at : ℤ
+  pub moment : ℤ
   pub exchanges : List Exchange
   pub failed : Option Message
 
@@ -28,7 +28,7 @@ pub record IsServedVisit (visit : Visit) : Type 0 where
 
 -- its requests that were answered, each of its caller at that moment
 abbrev pub visit_events : Visit → List Event
-visit_events visit = events_by visit.at visit.exchanges
+visit_events visit = events_by visit.moment visit.exchanges
 
 -- the requests of one connection after another
 abbrev pub requests_of : List Visit → List Event
@@ -36,26 +36,26 @@ requests_of visits = flat_map visit_events visits
 
 -- what a message asks for
 abbrev pub asking_by : ℤ → Option Message → List Asking
-asking_by at (Some m) = asking_at at (asked m)
-asking_by at None = []
+asking_by moment (Some m) = asking_at moment (asked m)
+asking_by moment None = []
 
 -- its request that got no answer, if there was one
 abbrev pub visit_unanswered : Visit → List Asking
-visit_unanswered visit = asking_by visit.at visit.failed
+visit_unanswered visit = asking_by visit.moment visit.failed
 
 -- the requests without an answer, of one connection after another
 abbrev pub unanswered_of : List Visit → List Asking
 unanswered_of visits = flat_map visit_unanswered visits
 
 abbrev pub moment_of : Visit → ℤ
-moment_of visit = visit.at
+moment_of visit = visit.moment
 
 -- One connection was served by the desk at this moment.
-pub record Attends {D : Type 0} (d : Ghosts D) (at : ℤ) (old new : D) : Type 0 where
+pub record Attends {D : Type 0} (d : Ghosts D) (moment : ℤ) (old new : D) : Type 0 where
   pub trusted : d.trusted new → d.trusted old
   pub sound : d.trusted new → d.sound old → d.sound new
   pub visit : Visit
-  pub moment : visit.at ≡ at
+  pub same_moment : visit.moment ≡ moment
   pub is : IsServedVisit visit
   pub run : d.trusted new → d.sound old
       → Runs (d.content old) (visit_events visit) (d.content new)

@@ -154,7 +154,7 @@ fn serve_next<D: Desk, M: Moments>(
 ) -> Result<Option<Cause>, ServingFault>
     ensures received { OnOk result (ReceivesAll D.Desk 1 (M.told clock.old) (M.told clock.new)
         desk.old desk.new) }
-    ensures attends { OnOk result ((at : ℤ) × Attends D.Desk at desk.old desk.new) }
+    ensures attends { OnOk result ((moment : ℤ) × Attends D.Desk moment desk.old desk.new) }
     ensures fault { IfErr result (λ fault. (fault ≡ ServingFault.Net) × (desk.new ≡ desk.old)
         × Receives D.Desk 0 (M.told clock.old) (M.told clock.new) desk.old desk.new) }
 {
@@ -174,14 +174,14 @@ fn serve_stream<D: Desk>(
     alloc: Global,
     routes: &Routes,
     desk: &mut D,
-    at: i64,
+    moment: i64,
     stream: &TcpStream,
 ) -> Option<Cause>
-    ensures { Attends D.Desk at desk.old desk.new }
+    ensures { Attends D.Desk moment desk.old desk.new }
 {
     let mut reader = stream;
     let mut writer = stream;
-    match serve(alloc, routes, desk, at, &mut reader, &mut writer) {
+    match serve(alloc, routes, desk, moment, &mut reader, &mut writer) {
         Ok(_) => None,
         Err(fault) => Some(fault.cause),
     }

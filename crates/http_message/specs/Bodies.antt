@@ -66,18 +66,19 @@ line_data line why =
     (member (codes "why") (string why) no_members))
 
 abbrev pub place_data : List ℕ → ℕ → List ℕ → Data
-place_data at place why =
-    object (member (codes "at") (string at)
+place_data path place why =
+    object (member (codes "at") (string path)
     (member (codes "entry") (number (unsigned place))
     (member (codes "why") (string why) no_members)))
 
 abbrev pub at_data : List ℕ → List ℕ → Data
-at_data at why =
-    object (member (codes "at") (string at) (member (codes "why") (string why) no_members))
+at_data path why =
+    object (member (codes "at") (string path) (member (codes "why") (string why) no_members))
 
 abbrev pub refused_data : List (List ℕ) → Reason → Data
-refused_data at (Reason.BadList place fault) = place_data (path_text at) place (bad_list_text fault)
-refused_data at why = at_data (path_text at) (reason_word why)
+refused_data path (Reason.BadList place fault) =
+    place_data (path_text path) place (bad_list_text fault)
+refused_data path why = at_data (path_text path) (reason_word why)
 
 -- null, where there is none
 abbrev pub number_or_null : Option ℕ → Data
@@ -93,16 +94,17 @@ printed None = None
 printed (Some entry) = Some (entry_text entry)
 
 abbrev pub denied_members : List ℕ → List ℕ → Option ℕ → Data → Data
-denied_members at bits place text =
-    object (member (codes "at") (string at)
+denied_members path bits place text =
+    object (member (codes "at") (string path)
     (member (codes "bits") (string bits)
     (member (codes "entry") (number_or_null place) (member (codes "text") text no_members))))
 
 abbrev pub denied_texts : List ℕ → List ℕ → Option ℕ → Option (List ℕ) → Data
-denied_texts at bits place text = denied_members at bits place (text_or_null text)
+denied_texts path bits place text = denied_members path bits place (text_or_null text)
 
 abbrev pub denied_data : List (List ℕ) → List ℕ → Option ℕ → Option Ace → Data
-denied_data at bits place entry = denied_texts (path_text at) (mask_text bits) place (printed entry)
+denied_data path bits place entry =
+    denied_texts (path_text path) (mask_text bits) place (printed entry)
 
 abbrev pub kind_word : ObjKind → List ℕ
 kind_word ObjKind.Document = codes "document"

@@ -34,9 +34,10 @@ reply_text (Reply.Attr kind owners) close = json_form 200 (attr_data kind owners
 reply_text (Reply.Rulings rulings) close = json_form 200 (rulings_data rulings) close
 reply_text Reply.Made close = reply_form 201 None None (Some []) close
 reply_text Reply.Done close = reply_form 204 None None None close
-reply_text (Reply.Denied at bits place entry) close =
-    json_form 403 (denied_data at bits place entry) close
-reply_text (Reply.Refused at why) close = json_form (reason_status why) (refused_data at why) close
+reply_text (Reply.Denied path bits place entry) close =
+    json_form 403 (denied_data path bits place entry) close
+reply_text (Reply.Refused path why) close =
+    json_form (reason_status why) (refused_data path why) close
 
 -- a method that isn't allowed, beside those that are
 abbrev pub allow_form : List ℕ → Bool → List ℕ

@@ -65,14 +65,14 @@ pub(crate) fn push_line(out: &mut Writer, line: usize, why: &str) -> Result<(), 
 pub(crate) fn push_refused(
     alloc: Global,
     out: &mut Writer,
-    at: &Path,
+    path: &Path,
     why: &Reason,
 ) -> Result<(), AllocError>
     ensures before { out.new.before ≡ out.old.before }
     ensures tokens { OnOk result (out.new.tokens
-        ≡ out.old.tokens ++ data_tokens (refused_data at.now why.now)) }
+        ≡ out.old.tokens ++ data_tokens (refused_data path.now why.now)) }
 {
-    let text = at.to_text(alloc)?;
+    let text = path.to_text(alloc)?;
     match why {
         Reason::BadList { place, fault } => {
             push_place(out, text.as_str(), *place, bad_list_text(*fault))
@@ -88,24 +88,24 @@ pub(crate) fn push_refused(
     }
 }
 
-fn push_at(out: &mut Writer, at: &str, why: &str) -> Result<(), AllocError>
+fn push_at(out: &mut Writer, path: &str, why: &str) -> Result<(), AllocError>
     ensures before { out.new.before ≡ out.old.before }
     ensures tokens { OnOk result (out.new.tokens
-        ≡ out.old.tokens ++ data_tokens (at_data at.now why.now)) }
+        ≡ out.old.tokens ++ data_tokens (at_data path.now why.now)) }
 {
     out.begin_object()?;
-    push_member(out, "at", at)?;
+    push_member(out, "at", path)?;
     push_member(out, "why", why)?;
     out.end_object()
 }
 
-fn push_place(out: &mut Writer, at: &str, place: usize, why: &str) -> Result<(), AllocError>
+fn push_place(out: &mut Writer, path: &str, place: usize, why: &str) -> Result<(), AllocError>
     ensures before { out.new.before ≡ out.old.before }
     ensures tokens { OnOk result (out.new.tokens
-        ≡ out.old.tokens ++ data_tokens (place_data at.now place why.now)) }
+        ≡ out.old.tokens ++ data_tokens (place_data path.now place why.now)) }
 {
     out.begin_object()?;
-    push_member(out, "at", at)?;
+    push_member(out, "at", path)?;
     out.key("entry")?;
     out.u64(place as u64)?;
     push_member(out, "why", why)?;
@@ -116,16 +116,16 @@ fn push_place(out: &mut Writer, at: &str, place: usize, why: &str) -> Result<(),
 pub(crate) fn push_denied(
     alloc: Global,
     out: &mut Writer,
-    at: &Path,
+    path: &Path,
     bits: Mask,
     place: Option<usize>,
     entry: Option<&Entry>,
 ) -> Result<(), AllocError>
     ensures before { out.new.before ≡ out.old.before }
     ensures tokens { OnOk result (out.new.tokens ≡ out.old.tokens
-        ++ data_tokens (denied_data at.now bits place (option_map (λ e. e.now) entry.entry))) }
+        ++ data_tokens (denied_data path.now bits place (option_map (λ e. e.now) entry.entry))) }
 {
-    let text = at.to_text(alloc)?;
+    let text = path.to_text(alloc)?;
     match entry {
         None => push_denied_line(alloc, out, text.as_str(), bits, place, None),
         Some(entry) => {
@@ -139,34 +139,35 @@ pub(crate) fn push_denied(
 fn push_denied_line(
     alloc: Global,
     out: &mut Writer,
-    at: &str,
+    path: &str,
     bits: Mask,
     place: Option<usize>,
     text: Option<&str>,
 ) -> Result<(), AllocError>
     ensures before { out.new.before ≡ out.old.before }
     ensures tokens { OnOk result (out.new.tokens ≡ out.old.tokens
-        ++ data_tokens (denied_texts at.now (mask_text bits) place
+        ++ data_tokens (denied_texts path.now (mask_text bits) place
         (option_map (λ t. t.now) text.entry))) }
 {
     let mut letters = String::new(alloc);
     bits.push_letters(&mut letters)?;
-    push_denied_texts(out, at, letters.as_str(), place, text)
+    push_denied_texts(out, path, letters.as_str(), place, text)
 }
 
 fn push_denied_texts(
     out: &mut Writer,
-    at: &str,
+    path: &str,
     bits: &str,
     place: Option<usize>,
     text: Option<&str>,
 ) -> Result<(), AllocError>
     ensures before { out.new.before ≡ out.old.before }
     ensures tokens { OnOk result (out.new.tokens ≡ out.old.tokens
-        ++ data_tokens (denied_texts at.now bits.now place (option_map (λ t. t.now) text.entry))) }
+        ++ data_tokens
+        (denied_texts path.now bits.now place (option_map (λ t. t.now) text.entry))) }
 {
     out.begin_object()?;
-    push_member(out, "at", at)?;
+    push_member(out, "at", path)?;
     push_member(out, "bits", bits)?;
     push_number_or_null(out, "entry", place)?;
     push_text_or_null(out, "text", text)?;

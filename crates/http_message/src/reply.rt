@@ -114,7 +114,7 @@ fn rulings_reply(
 
 fn denied_reply(
     alloc: Global,
-    at: &Path,
+    path: &Path,
     bits: Mask,
     place: Option<usize>,
     entry: Option<&Entry>,
@@ -122,20 +122,25 @@ fn denied_reply(
 ) -> Result<Vec<u8>, AllocError>
     ensures { IfOk result (λ text. text.items
         ≡ json_form 403
-        (denied_data at.now bits place (option_map (λ e. e.now) entry.entry))
+        (denied_data path.now bits place (option_map (λ e. e.now) entry.entry))
         close) }
 {
     let mut out = started(alloc, ROOM)?;
-    push_denied(alloc, &mut out, at, bits, place, entry)?;
+    push_denied(alloc, &mut out, path, bits, place, entry)?;
     print_json(alloc, StatusCode::FORBIDDEN, out.into_inner(), close)
 }
 
-fn refused_reply(alloc: Global, at: &Path, why: &Reason, close: bool) -> Result<Vec<u8>, AllocError>
+fn refused_reply(
+    alloc: Global,
+    path: &Path,
+    why: &Reason,
+    close: bool,
+) -> Result<Vec<u8>, AllocError>
     ensures { IfOk result (λ text. text.items
-        ≡ json_form (reason_status why.now) (refused_data at.now why.now) close) }
+        ≡ json_form (reason_status why.now) (refused_data path.now why.now) close) }
 {
     let mut out = started(alloc, ROOM)?;
-    push_refused(alloc, &mut out, at, why)?;
+    push_refused(alloc, &mut out, path, why)?;
     print_json(alloc, reason_status(why), out.into_inner(), close)
 }
 

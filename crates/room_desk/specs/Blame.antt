@@ -7,9 +7,9 @@ use Rattle.room_desk.specs.declared.running.Asked.{Asked}
 use Rattle.room_desk.specs.InTurn.{IsDamagedAfter}
 
 abbrev pub SoundIsUndamaged : Type 0
-SoundIsUndamaged = (rows : Rows) (at : ℕ) → AreSound rows → IsDamaged rows at → ⊥
+SoundIsUndamaged = (rows : Rows) (row : ℕ) → AreSound rows → IsDamaged rows row → ⊥
 
 -- nor do several requests, one after another
 abbrev pub SoundStaysUndamaged : Type 0
 SoundStaysUndamaged =
-    (asked : List Asked) (rows : Rows) (at : ℕ) → AreSound rows → IsDamagedAfter asked rows at → ⊥
+    (asked : List Asked) (rows : Rows) (row : ℕ) → AreSound rows → IsDamagedAfter asked rows row → ⊥

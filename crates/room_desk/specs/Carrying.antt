@@ -17,7 +17,7 @@ IsCarriedDown which id old answer new = (changed : ℕ) × IsSpread which id old
 
 -- a row that can't be read, or this object, where it is its own ancestor
 abbrev pub HasLoop : ℕ → Rows → ℕ → Type 0
-HasLoop id rows at = IsUnreadable rows at ⊎ ((at ≡ id) × IsOwnAncestor rows.read id)
+HasLoop id rows row = IsUnreadable rows row ⊎ ((row ≡ id) × IsOwnAncestor rows.read id)
 
 -- the same from an object, if it stands so in the rows
 abbrev pub IsCarriedFrom : Which → Node → Rows → Unit {0} → Rows → Type 0
@@ -25,7 +25,7 @@ IsCarriedFrom which start old answer new =
     Holds start old → IsCarriedDown which start.id old answer new
 
 abbrev pub HasLoopFrom : Node → Rows → ℕ → Type 0
-HasLoopFrom start rows at = Holds start rows → HasLoop start.id rows at
+HasLoopFrom start rows row = Holds start rows → HasLoop start.id rows row
 
 -- the object is there, and its parents lead to the root
 pub record IsRooted (id : ℕ) (rows : Rows) : Type 0 where
@@ -37,11 +37,11 @@ pub record IsRooted (id : ℕ) (rows : Rows) : Type 0 where
 
 -- only a row that can't be read, where the object is rooted
 abbrev pub IsUnreadableIfRooted : ℕ → Rows → ℕ → Type 0
-IsUnreadableIfRooted id rows at = IsRooted id rows → IsUnreadable rows at
+IsUnreadableIfRooted id rows row = IsRooted id rows → IsUnreadable rows row
 
 -- the same, where the object also stands so in the rows
 abbrev pub IsUnreadableIfHeld : Node → Rows → ℕ → Type 0
-IsUnreadableIfHeld node rows at = Holds node rows → IsUnreadableIfRooted node.id rows at
+IsUnreadableIfHeld node rows row = Holds node rows → IsUnreadableIfRooted node.id rows row
 
 -- it is as it was, or what changed was carried down
 abbrev pub GoesDown : Bool → Which → ℕ → Rows → Rows → Type 0

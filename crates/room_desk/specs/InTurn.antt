@@ -13,7 +13,7 @@ abbrev pub asked_events : List Asked → List Reply → List Event
 asked_events [] replies = []
 asked_events (asked ∷ others) [] = []
 asked_events (asked ∷ others) (reply ∷ replies) =
-    HasAsked asked.user asked.at asked.request reply ∷ asked_events others replies
+    HasAsked asked.user asked.moment asked.request reply ∷ asked_events others replies
 
 -- Each request has a reply, and from sound rows a run of the machine leads from what they mean to
 -- what the new ones mean, and these are sound.
@@ -35,10 +35,10 @@ pub record AreFirst (asked : List Asked) (count : ℕ) (old : Rows) (replies : L
   pub none : count ≡ 0 → new ≡ old
 
 -- A row is damaged in the rows that the first requests leave, and another request follows.
-pub record IsDamagedAfter (asked : List Asked) (old : Rows) (at : ℕ) : Type 0 where
+pub record IsDamagedAfter (asked : List Asked) (old : Rows) (row : ℕ) : Type 0 where
   pub count : ℕ
   pub below : count < length asked
   pub replies : List Reply
   pub rows : Rows
   pub first : AreFirst asked count old replies rows
-  pub damaged : IsDamaged rows at
+  pub damaged : IsDamaged rows row

@@ -101,9 +101,9 @@ MovesOn asker path to root from target mid reply new =
     (pair_of from target) mid → IsServed asker (Move path to) old reply new
 
 abbrev pub FailsToMove : Asker → List (List ℕ) → Node → Found → Found → Rows → ℕ → Type 0
-FailsToMove asker path root from target mid at =
+FailsToMove asker path root from target mid row =
     root_of mid.read ≡ Some root → (old : Rows) → AreRows old → IsPaired asker path old
-    (pair_of from target) mid → IsDamaged old at
+    (pair_of from target) mid → IsDamaged old row
 
 -- ---- the change
 
@@ -152,7 +152,7 @@ PlacesAt target folder name old reply new =
     × (CanGo target folder name old → new.read.audits ≡ old.read.audits)
 
 abbrev pub FailsToPlace : Node → Node → List ℕ → Rows → ℕ → Type 0
-FailsToPlace target folder name old at = CanGo target folder name old → IsUnreadable old at
+FailsToPlace target folder name old row = CanGo target folder name old → IsUnreadable old row
 
 -- ---- one attribute at the new place
 

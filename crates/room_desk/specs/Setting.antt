@@ -189,8 +189,8 @@ SetsOn asker path which sent target above mid reply new =
     → IsServed asker (SetList path which sent) old reply new
 
 abbrev pub FailsToSet : Asker → List (List ℕ) → Found → Option Node → Rows → ℕ → Type 0
-FailsToSet asker path target above mid at =
-    (old : Rows) → IsFoundUnder asker path target above old mid → IsDamaged old at
+FailsToSet asker path target above mid row =
+    (old : Rows) → IsFoundUnder asker path target above old mid → IsDamaged old row
 
 -- ---- the operator's reset
 

@@ -56,7 +56,7 @@ HasBody id rows bytes = body_of rows.read id ≡ Some bytes
 
 -- a row that can't be read, or no bytes of this number
 abbrev pub HasNoBytes : ℕ → Rows → ℕ → Type 0
-HasNoBytes id rows at = IsUnreadable rows at ⊎ ((at ≡ id) × (body_of rows.read id ≡ None))
+HasNoBytes id rows row = IsUnreadable rows row ⊎ ((row ≡ id) × (body_of rows.read id ≡ None))
 
 -- this reply, or out of memory
 abbrev pub Answers : Result Reply Halt → Reply → Type 0

@@ -32,14 +32,14 @@ pub fn perform<K: Keep>(
     alloc: Global,
     keep: &mut K,
     user: Option<&Name>,
-    at: i64,
+    moment: i64,
     request: &Request,
 ) -> Result<Reply, KeepFault>
     ensures done { Does K.Keep keep.old keep.new result IsDamaged
-        (Performs (option_copied user.entry) at request.now) }
+        (Performs (option_copied user.entry) moment request.now) }
 {
     let caller = caller_of(alloc, keep, user)?;
-    let asker = Asker { caller, at };
+    let asker = Asker { caller, moment };
     perform_for(alloc, keep, &asker, request)
 }
 

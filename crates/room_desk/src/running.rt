@@ -17,7 +17,7 @@ pub struct Asked {
     /// The caller, who is anonymous without a name.
     pub user: Option<Name>,
     /// The moment, in seconds from 1970-01-01 00:00 UTC.
-    pub at: i64,
+    pub moment: i64,
     /// The request.
     pub request: Request,
 }
@@ -45,9 +45,15 @@ pub fn perform_all<K: Keep>(
 // Carries out one request.
 fn perform_one<K: Keep>(alloc: Global, keep: &mut K, asked: &Asked) -> Result<Reply, KeepFault>
     ensures done { Does K.Keep keep.old keep.new result IsDamaged
-        (Performs asked.now.user asked.now.at asked.now.request) }
+        (Performs asked.now.user asked.now.moment asked.now.request) }
 {
-    perform(alloc, keep, asked.user.as_ref(), asked.at, &asked.request)
+    perform(
+        alloc,
+        keep,
+        asked.user.as_ref(),
+        asked.moment,
+        &asked.request,
+    )
 }
 
 // Adds a reply after the others.

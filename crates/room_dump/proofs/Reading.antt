@@ -79,7 +79,7 @@ module _ {S : Type 0} (k : Ghosts S)
   pub fails : {X Y : Type 0} (a b c : S) (e : KeepFault) (r : Result Y KeepFault)
       {Blames Blames' : Rows → ℕ → Type 0} {Answers : Rows → X → Type 0}
       {Answers' : Rows → Y → Type 0}
-      → (k.IsTrusted a b → (at : ℕ) → Blames (k.rows a) at → Blames' (k.rows a) at)
+      → (k.IsTrusted a b → (row : ℕ) → Blames (k.rows a) row → Blames' (k.rows a) row)
       → HasRead a b → Reads k {X = X} b c (Err e) Blames Answers → IsErrAnd r (λ x. x ≡ e)
       → Reads k a c r Blames' Answers'
   fails {X = X} {Y = Y} a b c e r {Blames} {Blames'} {Answers} {Answers'} blames sofar read is =
@@ -106,12 +106,14 @@ module _ {S : Type 0} (k : Ghosts S)
       same (Damaged id) first h = h ∙ first
 
       cause : (e : KeepFault)
-          → HasCause (k.failures b) (k.failures c) (λ at. k.IsTrusted b c → Blames (k.rows b) at) e
-          → HasCause (k.failures a) (k.failures c) (λ at. k.IsTrusted a c → Blames' (k.rows a) at) e
+          → HasCause (k.failures b) (k.failures c)
+          (λ row. k.IsTrusted b c → Blames (k.rows b) row) e
+          → HasCause (k.failures a) (k.failures c)
+          (λ row. k.IsTrusted a c → Blames' (k.rows a) row) e
       cause Memory h = tt
       cause Store h =
           subst (λ (n : ℕ). HasCause n (k.failures c)
-          (λ at. k.IsTrusted a c → Blames' (k.rows a) at) Store) sofar.unfailed h
+          (λ row. k.IsTrusted a c → Blames' (k.rows a) row) Store) sofar.unfailed h
       cause (Damaged id) h =
           λ t. blames (before t) id
           (subst (λ (w : Rows). Blames w id) (sofar.same (before t)) (h (now t)))
@@ -119,7 +121,7 @@ module _ {S : Type 0} (k : Ghosts S)
   -- a last read, whose answer is that of the call that made it
   pub tail : {X : Type 0} (a b c : S) (r : Result X KeepFault) {Blames Blames' : Rows → ℕ → Type 0}
       {Answers Answers' : Rows → X → Type 0} → HasRead a b
-      → (k.IsTrusted a b → (at : ℕ) → Blames (k.rows a) at → Blames' (k.rows a) at)
+      → (k.IsTrusted a b → (row : ℕ) → Blames (k.rows a) row → Blames' (k.rows a) row)
       → (k.IsTrusted a c → (x : X) → Answers (k.rows a) x → Answers' (k.rows a) x)
       → Reads k b c r Blames Answers → Reads k a c r Blames' Answers'
   tail a b c (Ok x) sofar blames answers read =

@@ -132,9 +132,9 @@ module _ (rows : Rows) (are : AreRows rows) (waits : List Waiting) (object : Wai
       }
 
   -- the object that is written next can be blamed for its bytes
-  pub blamed : (at : ℕ) → IsUntellable object.node rows at → IsDamaged rows at
-  blamed at (inl unreadable) = inl (inl unreadable)
-  blamed at (inr (is, document, none)) =
+  pub blamed : (row : ℕ) → IsUntellable object.node rows row → IsDamaged rows row
+  blamed row (inl unreadable) = inl (inl unreadable)
+  blamed row (inr (is, document, none)) =
       let there = is_there rows.read (all_there rows are) (nodes_in waits) object.node most turn
       taken in
       inr

@@ -11,7 +11,7 @@ use Rattle.room_dump.specs.Waiting.{waiting_children, waiting_root}
 
 -- there are no bytes of this number
 abbrev pub LacksBytesAt : ℕ → Rows → ℕ → Type 0
-LacksBytesAt id rows at = (at ≡ id) × (body_of rows.read id ≡ None)
+LacksBytesAt id rows row = (row ≡ id) × (body_of rows.read id ≡ None)
 
 -- the bytes of this number are there, and this many
 abbrev pub IsLength : ℕ → Rows → ℕ → Type 0
@@ -20,9 +20,9 @@ IsLength id rows size =
 
 -- a row that can't be read, or the object is a document without bytes
 abbrev pub IsUntellable : Node → Rows → ℕ → Type 0
-IsUntellable node rows at =
-    IsTrue (is_unreadable rows at)
-    ⊎ ((at ≡ node.id) × IsTrue (is_document node.kind) × (body_of rows.read node.id ≡ None))
+IsUntellable node rows row =
+    IsTrue (is_unreadable rows row)
+    ⊎ ((row ≡ node.id) × IsTrue (is_document node.kind) × (body_of rows.read node.id ≡ None))
 
 -- the number of the object's bytes, which a document has
 abbrev pub IsSize : Node → Rows → ℕ → Type 0
@@ -48,4 +48,4 @@ AddsAll most waiting text more rows answer =
     Begins most waiting rows → (more ≡ text ++ objects_text rows) × HasAllBytes rows
 
 abbrev pub IsHole : ℕ → List Waiting → Rows → ℕ → Type 0
-IsHole most waiting rows at = Begins most waiting rows → IsDamaged rows at
+IsHole most waiting rows row = Begins most waiting rows → IsDamaged rows row

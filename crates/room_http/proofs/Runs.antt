@@ -19,20 +19,22 @@ Runs-then old mid new events others first then room is =
 pub Runs-none : (old : Content → Type 0) → Runs old [] old
 Runs-none old room is = (room, refl, is)
 
-pub Leads-then : (old mid new : Content → Type 0) (at : ℤ) (xs ys : List Exchange)
-    → RunsExchanges old at xs mid → RunsExchanges mid at ys new
-    → RunsExchanges old at (xs ++ ys) new
-Leads-then old mid new at xs ys first then =
+pub Leads-then : (old mid new : Content → Type 0) (moment : ℤ) (xs ys : List Exchange)
+    → RunsExchanges old moment xs mid → RunsExchanges mid moment ys new
+    → RunsExchanges old moment (xs ++ ys) new
+Leads-then old mid new moment xs ys first then =
     subst (λ (events : List Event). Runs old events new)
-    (sym (flat_map-append (event_at at) xs ys))
-    (Runs-then old mid new (flat_map (event_at at) xs) (flat_map (event_at at) ys) first then)
+    (sym (flat_map-append (event_at moment) xs ys))
+    (Runs-then old mid new (flat_map (event_at moment) xs)
+    (flat_map (event_at moment) ys) first then)
 
 -- of two parts of a connection, of which only the second may have a request without an answer
-pub Outlasts-then : {D : Type 0} (d : Ghosts D) → DeskLaws d.Outlasts → (old mid new : D) (at : ℤ)
-    (xs ys : List Exchange) (asked : List Asking) → d.Outlasts old [] (events_by at xs) mid
-    → d.Outlasts mid asked (events_by at ys) new
-    → d.Outlasts old asked (events_by at (xs ++ ys)) new
-Outlasts-then d laws old mid new at xs ys asked first then =
+pub Outlasts-then : {D : Type 0} (d : Ghosts D) → DeskLaws d.Outlasts
+    → (old mid new : D) (moment : ℤ)
+    (xs ys : List Exchange) (asked : List Asking) → d.Outlasts old [] (events_by moment xs) mid
+    → d.Outlasts mid asked (events_by moment ys) new
+    → d.Outlasts old asked (events_by moment (xs ++ ys)) new
+Outlasts-then d laws old mid new moment xs ys asked first then =
     subst (λ (events : List Event). d.Outlasts old asked events new)
-    (sym (flat_map-append (event_at at) xs ys))
-    (laws.on old mid new [] asked (events_by at xs) (events_by at ys) first then)
+    (sym (flat_map-append (event_at moment) xs ys))
+    (laws.on old mid new [] asked (events_by moment xs) (events_by moment ys) first then)

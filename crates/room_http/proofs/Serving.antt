@@ -25,9 +25,9 @@ use Rattle.room_http.specs.Turn.{Along, TurnsOpen, TurnsLast, TurnsStop}
 use Rattle.room_http.proofs.KnownBytes.{Consumes-then, Consumes-none}
 use Rattle.room_entry.proofs.Facts.KnownBytes.{Appends-then, Appends-none}
 
-pub Along-begin : {D : Type 0} (d : Ghosts D) → DeskLaws d.Outlasts → (at : ℤ)
-    (old : Snapshot D) → Along d at 0 old old []
-Along-begin d laws at old = record {
+pub Along-begin : {D : Type 0} (d : Ghosts D) → DeskLaws d.Outlasts → (moment : ℤ)
+    (old : Snapshot D) → Along d moment 0 old old []
+Along-begin d laws moment old = record {
   read = [];
   exchanges = [];
   reads = Consumes-none old.left;
@@ -62,27 +62,28 @@ bytes-last read buf more rest xs whole came =
     ∙ ap (λ t. bytes_of xs ++ t) (sym came)
 
 -- a connection so far, and what its desk keeps to from then on
-module _ {D : Type 0} (d : Ghosts D) (laws : DeskLaws d.Outlasts) (at : ℤ) (n : ℕ)
-    (old mid new : Snapshot D) (buf : List ℕ) (a : Along d at n old mid buf)
+module _ {D : Type 0} (d : Ghosts D) (laws : DeskLaws d.Outlasts) (moment : ℤ) (n : ℕ)
+    (old mid new : Snapshot D) (buf : List ℕ) (a : Along d moment n old mid buf)
     (trusted : d.trusted new.desk → d.trusted mid.desk)
     (sound : d.trusted mid.desk → d.sound old.desk → d.sound mid.desk) where
   run-then : (ys : List Exchange)
       → (d.trusted new.desk → d.sound mid.desk
-      → RunsExchanges (d.content mid.desk) at ys (d.content new.desk))
+      → RunsExchanges (d.content mid.desk) moment ys (d.content new.desk))
       → d.trusted new.desk → d.sound old.desk
-      → RunsExchanges (d.content old.desk) at (a.exchanges ++ ys) (d.content new.desk)
+      → RunsExchanges (d.content old.desk) moment (a.exchanges ++ ys) (d.content new.desk)
   run-then ys run t s =
-      Leads-then (d.content old.desk) (d.content mid.desk) (d.content new.desk) at a.exchanges ys
+      Leads-then (d.content old.desk) (d.content mid.desk) (d.content new.desk)
+      moment a.exchanges ys
       (a.run (trusted t) s) (run t (sound (trusted t) s))
 
   outlasts-then : (ys : List Exchange) (asked : List Asking)
-      → d.Outlasts mid.desk asked (events_by at ys) new.desk
-      → d.Outlasts old.desk asked (events_by at (a.exchanges ++ ys)) new.desk
+      → d.Outlasts mid.desk asked (events_by moment ys) new.desk
+      → d.Outlasts old.desk asked (events_by moment (a.exchanges ++ ys)) new.desk
   outlasts-then ys asked then =
-      Outlasts-then d laws old.desk mid.desk new.desk at a.exchanges ys asked a.outlasts then
+      Outlasts-then d laws old.desk mid.desk new.desk moment a.exchanges ys asked a.outlasts then
 
-  pub Along-then : (after : List ℕ) → TurnsOpen d at n mid new buf after
-      → Along d at (n + 1) old new after
+  pub Along-then : (after : List ℕ) → TurnsOpen d moment n mid new buf after
+      → Along d moment (n + 1) old new after
   Along-then after t =
       let xs = a.exchanges in
       let x = t.x in
@@ -112,7 +113,8 @@ module _ {D : Type 0} (d : Ghosts D) (laws : DeskLaws d.Outlasts) (at : ℤ) (n 
         outlasts = outlasts-then (x ∷ []) [] t.outlasts;
       }
 
-  pub Serves-from : (ended : Ended) → TurnsLast d at n mid new buf ended → Serves d at old new ended
+  pub Serves-from : (ended : Ended) → TurnsLast d moment n mid new buf ended
+      → Serves d moment old new ended
   Serves-from ended t =
       let F : ℕ → Type 0 = λ f. FaultsRose t.last f (d.faults new.desk) in
       let E : ℕ → Type 0 = λ k. EndsStream t.rest k t.last in
@@ -141,12 +143,12 @@ module _ {D : Type 0} (d : Ghosts D) (laws : DeskLaws d.Outlasts) (at : ℤ) (n 
         at_end = t.at_end;
         run = run-then (last_exchange t.last) t.run;
         faults = subst F a.faults t.faults;
-        outlasts = outlasts-then (last_exchange t.last) (last_asking at t.last) t.outlasts;
+        outlasts = outlasts-then (last_exchange t.last) (last_asking moment t.last) t.outlasts;
       }
 
   pub Stops-from : (stop : Halt) (fault : ServeFault) → fault.answered ≡ n
-      → fault.acted ≡ stop.acted → fault.cause ≡ stop.cause → TurnsStop d at n mid new buf stop
-      → Stops d at old new fault
+      → fault.acted ≡ stop.acted → fault.cause ≡ stop.cause → TurnsStop d moment n mid new buf stop
+      → Stops d moment old new fault
   Stops-from stop fault answered acted cause t =
       let N : ℕ → Type 0 = λ k. IsNext t.rest k t.next in
       let F : ℕ → Type 0 = λ f. NextRose t.next f (d.faults new.desk) in
@@ -174,7 +176,7 @@ module _ {D : Type 0} (d : Ghosts D) (laws : DeskLaws d.Outlasts) (at : ℤ) (n 
               (texts_of a.exchanges) t.writes.0 a.writes t.writes.3;
           run = run-then (next_exchange t.next) t.run;
           faults = subst F a.faults t.faults;
-          outlasts = outlasts-then (next_exchange t.next) (next_asking at t.next) t.outlasts;
+          outlasts = outlasts-then (next_exchange t.next) (next_asking moment t.next) t.outlasts;
         };
         answered = answered ∙ a.count;
         acted = acted ∙ t.acted;
@@ -222,12 +224,13 @@ next-exchange-of (Last.Refused refusal) = refl
 next-exchange-of (Last.Closing x) = refl
 next-exchange-of (Last.Failed m) = refl
 
-next-asking-of : (at : ℤ) (last : Last) → last_asking at last ≡ next_asking at (next_of last)
-next-asking-of at Last.Clean = refl
-next-asking-of at Last.Cut = refl
-next-asking-of at (Last.Refused refusal) = refl
-next-asking-of at (Last.Closing x) = refl
-next-asking-of at (Last.Failed m) = refl
+next-asking-of : (moment : ℤ) (last : Last)
+    → last_asking moment last ≡ next_asking moment (next_of last)
+next-asking-of moment Last.Clean = refl
+next-asking-of moment Last.Cut = refl
+next-asking-of moment (Last.Refused refusal) = refl
+next-asking-of moment (Last.Closing x) = refl
+next-asking-of moment (Last.Failed m) = refl
 
 next-rose-of : (last : Last) (old new : ℕ) → FaultsRose last old new
     → NextRose (next_of last) old new
@@ -237,13 +240,14 @@ next-rose-of (Last.Refused refusal) old new f = f
 next-rose-of (Last.Closing x) old new f = f
 next-rose-of (Last.Failed m) old new f = f
 
-pub served-connects : {D : Type 0} (d : Ghosts D) (at : ℤ) (old new : Snapshot D) (ended : Ended)
-    → Serves d at old new ended → Connects d at old new
-served-connects d at old new ended s =
-    let L : List Exchange → Type 0 = λ ys. RunsExchanges (d.content old.desk) at
+pub served-connects : {D : Type 0} (d : Ghosts D) (moment : ℤ)
+    (old new : Snapshot D) (ended : Ended)
+    → Serves d moment old new ended → Connects d moment old new
+served-connects d moment old new ended s =
+    let L : List Exchange → Type 0 = λ ys. RunsExchanges (d.content old.desk) moment
     (s.exchanges ++ ys) (d.content new.desk) in
     let O : List Asking → List Exchange → Type 0 = λ asked ys. d.Outlasts old.desk asked
-    (events_by at (s.exchanges ++ ys)) new.desk in
+    (events_by moment (s.exchanges ++ ys)) new.desk in
     record {
       read = s.read;
       exchanges = s.exchanges;
@@ -260,6 +264,6 @@ served-connects d at old new ended s =
       run = λ t q. subst L (next-exchange-of s.last) (s.run t q);
       faults = next-rose-of s.last (d.faults old.desk) (d.faults new.desk) s.faults;
       outlasts =
-          subst (λ asked. O asked (next_exchange (next_of s.last))) (next-asking-of at s.last)
-          (subst (O (last_asking at s.last)) (next-exchange-of s.last) s.outlasts);
+          subst (λ asked. O asked (next_exchange (next_of s.last))) (next-asking-of moment s.last)
+          (subst (O (last_asking moment s.last)) (next-exchange-of s.last) s.outlasts);
     }

@@ -35,35 +35,36 @@ nothing-sent : (sent sent' : Option (List ℕ)) → sent' ≡ sent → Appends s
 nothing-sent sent sent' e =
     subst (λ (s : Option (List ℕ)). Appends sent s []) (sym e) (Appends-none sent)
 
-module _ {D : Type 0} (d : Ghosts D) (at : ℤ) (old new : D) where
+module _ {D : Type 0} (d : Ghosts D) (moment : ℤ) (old new : D) where
   -- the desk took the step, and its reply is the text
   pub responds-by : (close : Bool) (asked : Asked) (reply : Reply)
-      → Stepped d at old new asked reply → (result : Result Response Lost)
-      → Delivers reply close result → Responds d at old new close asked result
+      → Stepped d moment old new asked reply → (result : Result Response Lost)
+      → Delivers reply close result → Responds d moment old new close asked result
   responds-by close asked reply s (Ok (Response.Refused text)) b = absurd b
   responds-by close asked reply s (Ok (Response.Replied text)) b = (reply, s, b)
   responds-by close asked reply s (Ok Response.Fault) b = absurd b
   responds-by close asked reply s (Err lost) b =
-      subst (λ (a : Bool). ActedIf d at old new a asked) (sym b) (reply, s)
+      subst (λ (a : Bool). ActedIf d moment old new a asked) (sym b) (reply, s)
 
   -- the same where the text is put together
   pub joined-answers : (close : Bool) (asked : Asked) (text : List ℕ)
-      → TellsReply d at old new close asked text → (result : Result Answer Lost)
-      → JoinsText text result → AnswersMessage d at old new close asked result
+      → TellsReply d moment old new close asked text → (result : Result Answer Lost)
+      → JoinsText text result → AnswersMessage d moment old new close asked result
   joined-answers close asked text tells (Ok (Answer.Text whole)) j =
       inr (tells.0, tells.1, j ∙ tells.2)
   joined-answers close asked text tells (Ok Answer.Fault) j = absurd j
   joined-answers close asked text tells (Err lost) j =
-      subst (λ (a : Bool). ActedIf d at old new a asked) (sym j) (tells.0, tells.1)
+      subst (λ (a : Bool). ActedIf d moment old new a asked) (sym j) (tells.0, tells.1)
 
   -- of a message that a test refuses
   replies-refused : DeskLaws d.Outlasts → (asked : Asked) (fault : HttpFault) → asked ≡ Err fault
-      → new ≡ old → Replies d at old new asked None
+      → new ≡ old → Replies d moment old new asked None
   replies-refused laws asked fault e same =
       let A : Asked → Type 0 = λ a. Agrees a None in
-      let R : Asked → Type 0 = λ a. Runs (d.content old) (events_at at a None) (d.content old) in
-      let O : Asked → Type 0 = λ a. d.Outlasts old [] (events_at at a None) old in
-      subst (λ (desk : D). Replies d at old desk asked None) (sym same)
+      let R : Asked
+      → Type 0 = λ a. Runs (d.content old) (events_at moment a None) (d.content old) in
+      let O : Asked → Type 0 = λ a. d.Outlasts old [] (events_at moment a None) old in
+      subst (λ (desk : D). Replies d moment old desk asked None) (sym same)
       (record {
         agrees = subst A (sym e) tt;
         run = λ _ _. subst R (sym e) (λ room is. (room, refl, is));
@@ -72,13 +73,13 @@ module _ {D : Type 0} (d : Ghosts D) (at : ℤ) (old new : D) where
       })
 
   -- of the desk
-  replies-stepped : (asked : Asked) (reply : Reply) → Stepped d at old new asked reply
-      → Replies d at old new asked (Some reply)
+  replies-stepped : (asked : Asked) (reply : Reply) → Stepped d moment old new asked reply
+      → Replies d moment old new asked (Some reply)
   replies-stepped asked reply s =
       let A : Asked → Type 0 = λ a. Agrees a (Some reply) in
       let R : Asked → Type 0 = λ a.
-      Runs (d.content old) (events_at at a (Some reply)) (d.content new) in
-      let O : Asked → Type 0 = λ a. d.Outlasts old [] (events_at at a (Some reply)) new in
+      Runs (d.content old) (events_at moment a (Some reply)) (d.content new) in
+      let O : Asked → Type 0 = λ a. d.Outlasts old [] (events_at moment a (Some reply)) new in
       record {
         agrees = subst A (sym s.asks) tt;
         run =
@@ -90,8 +91,8 @@ module _ {D : Type 0} (d : Ghosts D) (at : ℤ) (old new : D) where
 
   -- memory ran out, before the desk acted or after it
   pub begun-lost : (close : Bool) (asked : Asked) (sent sent' : Option (List ℕ)) (acted : Bool)
-      → ActedIf d at old new acted asked → sent' ≡ sent
-      → (begun : Begun) × IsBegun d at old new close asked sent sent' acted Cause.Memory begun
+      → ActedIf d moment old new acted asked → sent' ≡ sent
+      → (begun : Begun) × IsBegun d moment old new close asked sent sent' acted Cause.Memory begun
   begun-lost close asked sent sent' true a same = (
     Begun.Telling (Some a.0),
     (
@@ -104,16 +105,16 @@ module _ {D : Type 0} (d : Ghosts D) (at : ℤ) (old new : D) where
       (Begun.Nothing, (nothing-sent sent sent' same, refl, a, refl))
 
   pub refused-tells : DeskLaws d.Outlasts → (close : Bool) (asked : Asked) (text : List ℕ)
-      → SendsRefusal d at old new close asked text
-      → Replies d at old new asked None × (text ≡ answer_text close asked None)
+      → SendsRefusal d moment old new close asked text
+      → Replies d moment old new asked None × (text ≡ answer_text close asked None)
   refused-tells laws close asked text a = (
     replies-refused laws asked a.0.0 a.0.1 a.1,
     a.0.2 ∙ ap (λ (t : Asked). answer_text close t None) (sym a.0.1),
   )
 
   pub replied-tells : (close : Bool) (asked : Asked) (text : List ℕ)
-      → TellsReply d at old new close asked text
-      → (reply : Reply) × Replies d at old new asked (Some reply)
+      → TellsReply d moment old new close asked text
+      → (reply : Reply) × Replies d moment old new asked (Some reply)
       × (text ≡ answer_text close asked (Some reply))
   replied-tells close asked text a = (
     a.0,

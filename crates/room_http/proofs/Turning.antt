@@ -65,30 +65,30 @@ not-last n few off =
     omega (arith, ne, few)
 
 -- one exchange of a run
-leads-one : (at : ℤ) (old new : Content → Type 0) (m : Message) (reply : Option Reply)
-    → Runs old (events_at at (asked m) reply) new
-    → RunsExchanges old at (record { message = m; reply = reply } ∷ []) new
-leads-one at old new m reply run =
+leads-one : (moment : ℤ) (old new : Content → Type 0) (m : Message) (reply : Option Reply)
+    → Runs old (events_at moment (asked m) reply) new
+    → RunsExchanges old moment (record { message = m; reply = reply } ∷ []) new
+leads-one moment old new m reply run =
     subst (λ (events : List Event). Runs old events new)
-    (sym (append-nil (events_at at (asked m) reply))) run
+    (sym (append-nil (events_at moment (asked m) reply))) run
 
-outlasts-one : {D : Type 0} (d : Ghosts D) (at : ℤ) (old new : D) (m : Message)
-    (reply : Option Reply) → d.Outlasts old [] (events_at at (asked m) reply) new
-    → d.Outlasts old [] (events_by at (record { message = m; reply = reply } ∷ [])) new
-outlasts-one d at old new m reply outlasts =
+outlasts-one : {D : Type 0} (d : Ghosts D) (moment : ℤ) (old new : D) (m : Message)
+    (reply : Option Reply) → d.Outlasts old [] (events_at moment (asked m) reply) new
+    → d.Outlasts old [] (events_by moment (record { message = m; reply = reply } ∷ [])) new
+outlasts-one d moment old new m reply outlasts =
     subst (λ (events : List Event). d.Outlasts old [] events new)
-    (sym (append-nil (events_at at (asked m) reply))) outlasts
+    (sym (append-nil (events_at moment (asked m) reply))) outlasts
 
-pub take-open : {D : Type 0} (d : Ghosts D) (at : ℤ) (n : ℕ) (old new : Snapshot D)
+pub take-open : {D : Type 0} (d : Ghosts D) (moment : ℤ) (n : ℕ) (old new : Snapshot D)
     (buf after : List ℕ)
     (next : NextMessage) (w : WholeNext buf next)
     (reply : Option Reply) → n < max_messages → length buf < next.end + read_size
     → new.left ≡ old.left → says_close w.message n ≡ false
     → after ≡ drop next.end buf
-    → Replies d at old.desk new.desk (asked w.message) reply
+    → Replies d moment old.desk new.desk (asked w.message) reply
     → Appends old.sent new.sent (answer_text false (asked w.message) reply)
-    → TurnsOpen d at n old new buf after
-take-open d at n old new buf after next w reply few near same stays rest r wrote =
+    → TurnsOpen d moment n old new buf after
+take-open d moment n old new buf after next w reply few near same stays rest r wrote =
     let m = w.message in
     let L : Option (List ℕ) → Type 0 = λ l. Came old.left l buf (print_message m ++ after) in
     let whole : print_message m ++ after ≡ buf = ap (λ t. print_message m ++ t) rest
@@ -106,9 +106,9 @@ take-open d at n old new buf after next w reply few near same stays rest r wrote
       came = subst L (sym same) ([], Consumes-none old.left, whole ∙ sym (append-nil buf));
       near = near-rest buf after next.end rest near;
       writes = wrote;
-      run = λ t s. leads-one at (d.content old.desk) (d.content new.desk) m reply (r.run t s);
+      run = λ t s. leads-one moment (d.content old.desk) (d.content new.desk) m reply (r.run t s);
       faults = r.faults;
-      outlasts = outlasts-one d at old.desk new.desk m reply r.outlasts;
+      outlasts = outlasts-one d moment old.desk new.desk m reply r.outlasts;
     }
 
 came-same : (u v : Option (List ℕ)) (buf : List ℕ) → v ≡ u → Came u v buf buf
@@ -116,15 +116,15 @@ came-same u v buf e =
     let L : Option (List ℕ) → Type 0 = λ l. Came u l buf buf in
     subst L (sym e) (Came-none u buf)
 
-pub take-closing : {D : Type 0} (d : Ghosts D) (at : ℤ) (n : ℕ) (old new : Snapshot D)
+pub take-closing : {D : Type 0} (d : Ghosts D) (moment : ℤ) (n : ℕ) (old new : Snapshot D)
     (buf : List ℕ)
     (next : NextMessage) (w : WholeNext buf next)
     (reply : Option Reply) → length buf < next.end + read_size → new.left ≡ old.left
     → says_close w.message n ≡ true
-    → Replies d at old.desk new.desk (asked w.message) reply
+    → Replies d moment old.desk new.desk (asked w.message) reply
     → Appends old.sent new.sent (answer_text true (asked w.message) reply)
-    → TurnsLast d at n old new buf Ended.Closed
-take-closing d at n old new buf next w reply near same close r wrote =
+    → TurnsLast d moment n old new buf Ended.Closed
+take-closing d moment n old new buf next w reply near same close r wrote =
     let m = w.message in
     record {
       last = Last.Closing (record { message = m; reply = reply });
@@ -135,13 +135,13 @@ take-closing d at n old new buf next w reply near same close r wrote =
       near = near-message buf next w near;
       writes = wrote;
       at_end = tt;
-      run = λ t s. leads-one at (d.content old.desk) (d.content new.desk) m reply (r.run t s);
+      run = λ t s. leads-one moment (d.content old.desk) (d.content new.desk) m reply (r.run t s);
       faults = r.faults;
-      outlasts = outlasts-one d at old.desk new.desk m reply r.outlasts;
+      outlasts = outlasts-one d moment old.desk new.desk m reply r.outlasts;
     }
 
 -- a whole reply, whatever it says of the connection
-pub take-answered : {D : Type 0} (d : Ghosts D) (at : ℤ) (n : ℕ) (old new : Snapshot D)
+pub take-answered : {D : Type 0} (d : Ghosts D) (moment : ℤ) (n : ℕ) (old new : Snapshot D)
     (buf after : List ℕ)
     (next : NextMessage) (w : WholeNext buf next)
     (reply : Option Reply) (close : Bool) (ended : Option Ended) → n < max_messages
@@ -149,26 +149,26 @@ pub take-answered : {D : Type 0} (d : Ghosts D) (at : ℤ) (n : ℕ) (old new : 
     → says_close w.message n ≡ close
     → (close ≡ true → ended ≡ Some Ended.Closed)
     → (close ≡ false → (ended ≡ None) × (after ≡ drop next.end buf))
-    → Replies d at old.desk new.desk (asked w.message) reply
+    → Replies d moment old.desk new.desk (asked w.message) reply
     → Appends old.sent new.sent (answer_text close (asked w.message) reply)
-    → Turns d at n old new buf after (Ok ended)
-take-answered d at n old new buf after next w reply true ended few near same says closing
+    → Turns d moment n old new buf after (Ok ended)
+take-answered d moment n old new buf after next w reply true ended few near same says closing
     staying r wrote =
-    subst (λ (e : Option Ended). Turns d at n old new buf after (Ok e)) (sym (closing refl))
-    (take-closing d at n old new buf next w reply near same says r wrote)
-take-answered d at n old new buf after next w reply false ended few near same says closing
+    subst (λ (e : Option Ended). Turns d moment n old new buf after (Ok e)) (sym (closing refl))
+    (take-closing d moment n old new buf next w reply near same says r wrote)
+take-answered d moment n old new buf after next w reply false ended few near same says closing
     staying r wrote =
     let stays = staying refl in
-    subst (λ (e : Option Ended). Turns d at n old new buf after (Ok e)) (sym stays.0)
-    (take-open d at n old new buf after next w reply few near same says stays.1 r wrote)
+    subst (λ (e : Option Ended). Turns d moment n old new buf after (Ok e)) (sym stays.0)
+    (take-open d moment n old new buf after next w reply few near same says stays.1 r wrote)
 
-pub take-failed : {D : Type 0} (d : Ghosts D) (at : ℤ) (n : ℕ) (old new : Snapshot D)
+pub take-failed : {D : Type 0} (d : Ghosts D) (moment : ℤ) (n : ℕ) (old new : Snapshot D)
     (buf : List ℕ)
     (next : NextMessage) (w : WholeNext buf next)
     → length buf < next.end + read_size → new.left ≡ old.left
-    → Failed d at old.desk new.desk (asked w.message) → Appends old.sent new.sent store_text
-    → TurnsLast d at n old new buf Ended.Closed
-take-failed d at n old new buf next w near same f wrote =
+    → Failed d moment old.desk new.desk (asked w.message) → Appends old.sent new.sent store_text
+    → TurnsLast d moment n old new buf Ended.Closed
+take-failed d moment n old new buf next w near same f wrote =
     record {
       last = Last.Failed w.message;
       is = refl;
@@ -183,14 +183,15 @@ take-failed d at n old new buf next w near same f wrote =
       outlasts = f.outlasts;
     }
 
-pub take-stop : {D : Type 0} (d : Ghosts D) → DeskLaws d.Outlasts → (at : ℤ) (n : ℕ)
+pub take-stop : {D : Type 0} (d : Ghosts D) → DeskLaws d.Outlasts → (moment : ℤ) (n : ℕ)
     (old new : Snapshot D) (buf : List ℕ) (next : NextMessage) (w : WholeNext buf next)
     (close : Bool) (stop : Halt) (begun : Begun) → length buf < next.end + read_size
     → new.left ≡ old.left → says_close w.message n ≡ close
-    → IsBegun d at old.desk new.desk close (asked w.message) old.sent new.sent stop.acted stop.cause
+    → IsBegun d moment old.desk new.desk close (asked w.message) old.sent new.sent
+    stop.acted stop.cause
     begun
-    → TurnsStop d at n old new buf stop
-take-stop {D} d laws at n old new buf next w close stop Begun.Nothing near same e b =
+    → TurnsStop d moment n old new buf stop
+take-stop {D} d laws moment n old new buf next w close stop Begun.Nothing near same e b =
     record {
       next = Next.Unknown;
       rest = buf;
@@ -206,7 +207,7 @@ take-stop {D} d laws at n old new buf next w close stop Begun.Nothing near same 
       outlasts = subst (λ (desk : D). d.Outlasts old.desk [] [] desk) (sym b.2)
           (laws.itself old.desk);
     }
-take-stop d laws at n old new buf next w close stop (Begun.Telling reply) near same e b =
+take-stop d laws moment n old new buf next w close stop (Begun.Telling reply) near same e b =
     let m = w.message in
     record {
       next = Next.Exchanging (record { message = m; reply = reply }) close;
@@ -217,11 +218,11 @@ take-stop d laws at n old new buf next w close stop (Begun.Telling reply) near s
       writes = b.1.0;
       acted = b.2;
       cause = b.1.1;
-      run = λ t s. leads-one at (d.content old.desk) (d.content new.desk) m reply (b.0.run t s);
+      run = λ t s. leads-one moment (d.content old.desk) (d.content new.desk) m reply (b.0.run t s);
       faults = b.0.faults;
-      outlasts = outlasts-one d at old.desk new.desk m reply b.0.outlasts;
+      outlasts = outlasts-one d moment old.desk new.desk m reply b.0.outlasts;
     }
-take-stop d laws at n old new buf next w close stop Begun.Failing near same e b =
+take-stop d laws moment n old new buf next w close stop Begun.Failing near same e b =
     record {
       next = Next.Failing w.message;
       rest = buf;
@@ -237,15 +238,15 @@ take-stop d laws at n old new buf next w close stop Begun.Failing near same e b 
     }
 
 -- a turn after more bytes came
-pub shift : {D : Type 0} (d : Ghosts D) (at : ℤ) (n : ℕ) (left mid sent : Option (List ℕ))
+pub shift : {D : Type 0} (d : Ghosts D) (moment : ℤ) (n : ℕ) (left mid sent : Option (List ℕ))
     (desk : D) (new : Snapshot D)
     (buf came after : List ℕ) (result : Result (Option Ended) Halt)
     → Came left mid buf came
-    → Turns d at n (seen mid sent desk) new
+    → Turns d moment n (seen mid sent desk) new
     came after result
-    → Turns d at n (seen left sent desk) new
+    → Turns d moment n (seen left sent desk) new
     buf after result
-shift d at n left mid sent desk new buf came after (Ok None) more t = record {
+shift d moment n left mid sent desk new buf came after (Ok None) more t = record {
   x = t.x;
   is_open = t.is_open;
   more = t.more;
@@ -283,19 +284,19 @@ shift d at n left mid sent desk new buf came after (Err stop) more t = record {
   outlasts = t.outlasts;
 }
 
-pub turn-refused : {D : Type 0} (d : Ghosts D) → DeskLaws d.Outlasts → (at : ℤ) (n : ℕ)
+pub turn-refused : {D : Type 0} (d : Ghosts D) → DeskLaws d.Outlasts → (moment : ℤ) (n : ℕ)
     (left mid sent wrote : Option (List ℕ)) (desk : D)
     (buf came after : List ℕ) (reason : Refusal) (result : Result (Option Ended) Halt)
     → Came left mid buf came → IsRefusedHead came reason → IsNearHead came
     → IfOk result (λ ended. (ended ≡ Some Ended.Closed) × Appends sent wrote (refusal_reply reason))
     → IfErr result (λ stop. (stop.acted ≡ false)
     × StopsWithin sent wrote (refusal_reply reason) stop.cause)
-    → Turns d at n (seen left sent desk)
+    → Turns d moment n (seen left sent desk)
     (seen mid wrote desk) buf after result
-turn-refused d laws at n left mid sent wrote desk buf came after reason
+turn-refused d laws moment n left mid sent wrote desk buf came after reason
     (Ok None) more is near ok err =
     absurd (none-some _ ok.0)
-turn-refused d laws at n left mid sent wrote desk buf came after reason
+turn-refused d laws moment n left mid sent wrote desk buf came after reason
     (Ok (Some ended)) more is near ok err =
     record {
       last = Last.Refused reason;
@@ -310,7 +311,7 @@ turn-refused d laws at n left mid sent wrote desk buf came after reason
       faults = refl;
       outlasts = laws.itself desk;
     }
-turn-refused d laws at n left mid sent wrote desk buf came after reason
+turn-refused d laws moment n left mid sent wrote desk buf came after reason
     (Err stop) more is near ok err =
     record {
       next = Next.Refusing reason;
@@ -327,12 +328,12 @@ turn-refused d laws at n left mid sent wrote desk buf came after reason
     }
 
 -- the input ended
-pub turn-clean : {D : Type 0} (d : Ghosts D) → DeskLaws d.Outlasts → (at : ℤ) (n : ℕ)
+pub turn-clean : {D : Type 0} (d : Ghosts D) → DeskLaws d.Outlasts → (moment : ℤ) (n : ℕ)
     (left mid sent : Option (List ℕ)) (desk : D)
     (buf came : List ℕ) → Came left mid buf came → IsAtEnd mid × (came ≡ [])
-    → TurnsLast d at n (seen left sent desk)
+    → TurnsLast d moment n (seen left sent desk)
     (seen mid sent desk) buf Ended.Clean
-turn-clean d laws at n left mid sent desk buf came more e = record {
+turn-clean d laws moment n left mid sent desk buf came more e = record {
   last = Last.Clean;
   is = refl;
   rest = came;
@@ -346,12 +347,12 @@ turn-clean d laws at n left mid sent desk buf came more e = record {
   outlasts = laws.itself desk;
 }
 
-pub turn-cut : {D : Type 0} (d : Ghosts D) → DeskLaws d.Outlasts → (at : ℤ) (n : ℕ)
+pub turn-cut : {D : Type 0} (d : Ghosts D) → DeskLaws d.Outlasts → (moment : ℤ) (n : ℕ)
     (left mid sent : Option (List ℕ)) (desk : D)
     (buf came : List ℕ) → Came left mid buf came → IsAtEnd mid × IsPart came
-    → TurnsLast d at n (seen left sent desk)
+    → TurnsLast d moment n (seen left sent desk)
     (seen mid sent desk) buf Ended.Cut
-turn-cut d laws at n left mid sent desk buf came more e = record {
+turn-cut d laws moment n left mid sent desk buf came more e = record {
   last = Last.Cut;
   is = refl;
   rest = came;

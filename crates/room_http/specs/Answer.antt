@@ -26,22 +26,22 @@ Rose old new = (old < new) ⊎ (2 ^ 64 - 1 ≤ old)
 
 -- of a desk, at a moment, from one state to another: its steps are promised where it is trusted
 -- afterwards and was sound before
-module _ {D : Type 0} (d : Ghosts D) (at : ℤ) (old new : D) where
+module _ {D : Type 0} (d : Ghosts D) (moment : ℤ) (old new : D) where
   -- the desk took the step that the message asks for, and replied so
   pub record Stepped (asked : Asked) (reply : Reply) : Type 0 where
     pub call : message.UserRequest
     pub asks : asked ≡ Ok call
     pub step : d.trusted new → d.sound old
-        → Steps {E = DeskFault} (d.content old) call.0 at call.1 (Ok reply) (d.content new)
+        → Steps {E = DeskFault} (d.content old) call.0 moment call.1 (Ok reply) (d.content new)
     pub faults : d.faults new ≡ d.faults old
-    pub outlasts : d.Outlasts old [] (Event.Asked call.0 at call.1 reply ∷ []) new
+    pub outlasts : d.Outlasts old [] (Event.Asked call.0 moment call.1 reply ∷ []) new
 
   -- the desk failed at what the message asks, and keeps what it kept
   pub record Failed (asked : Asked) : Type 0 where
     pub asks : IsRequest asked
     pub keeps : d.trusted new → d.sound old → KeepsContent (d.content old) (d.content new)
     pub faults : Rose (d.faults old) (d.faults new)
-    pub outlasts : d.Outlasts old (asking_at at asked) [] new
+    pub outlasts : d.Outlasts old (asking_at moment asked) [] new
 
   -- the step was taken where the flag says so, and else the desk is as it was
   abbrev pub ActedIf : Bool → Asked → Type 0

@@ -57,7 +57,7 @@ FaultsRose last old new = new ≡ old
 -- A connection that ended: what was read is a stream, what was written its replies, and what the
 -- desk did their run, if it was sound before and is trusted afterwards. What the desk failed at, if
 -- it did, was asked for and got no answer from it.
-pub record Serves {D : Type 0} (d : Ghosts D) (at : ℤ) (old new : Snapshot D) (ended : Ended)
+pub record Serves {D : Type 0} (d : Ghosts D) (moment : ℤ) (old new : Snapshot D) (ended : Ended)
     : Type 0 where
   pub read : List ℕ
   pub exchanges : List Exchange
@@ -69,11 +69,11 @@ pub record Serves {D : Type 0} (d : Ghosts D) (at : ℤ) (old new : Snapshot D) 
   pub ended_is : ended ≡ ended_of last
   pub at_end : AtEndIf last new.left
   pub run : d.trusted new.desk → d.sound old.desk
-      → RunsExchanges (d.content old.desk) at (exchanges ++ last_exchange last)
+      → RunsExchanges (d.content old.desk) moment (exchanges ++ last_exchange last)
       (d.content new.desk)
   pub faults : FaultsRose last (d.faults old.desk) (d.faults new.desk)
-  pub outlasts : d.Outlasts old.desk (last_asking at last)
-      (events_by at (exchanges ++ last_exchange last)) new.desk
+  pub outlasts : d.Outlasts old.desk (last_asking moment last)
+      (events_by moment (exchanges ++ last_exchange last)) new.desk
 
 -- ---- a connection, however it ended
 
@@ -112,8 +112,8 @@ next_exchange next = []
 
 -- what was asked for and got no answer from the desk
 abbrev pub next_asking : ℤ → Next → List Asking
-next_asking at (Next.Failing m) = asking_at at (asked m)
-next_asking at next = []
+next_asking moment (Next.Failing m) = asking_at moment (asked m)
+next_asking moment next = []
 
 -- the desk took the step of the next message
 abbrev pub did_act : Next → Bool
@@ -155,7 +155,7 @@ Blames cause (Next.Failing m) left begun back = BlamesWriter cause back
 -- it open; what was written are their replies, and a beginning of what comes next; and what the
 -- desk did is a run of the room machine over them, with the next message where its step was taken.
 -- What the desk failed at, if it did, was asked for and got no answer from it.
-pub record Connects {D : Type 0} (d : Ghosts D) (at : ℤ) (old new : Snapshot D) : Type 0 where
+pub record Connects {D : Type 0} (d : Ghosts D) (moment : ℤ) (old new : Snapshot D) : Type 0 where
   pub read : List ℕ
   pub exchanges : List Exchange
   pub next : Next
@@ -169,17 +169,18 @@ pub record Connects {D : Type 0} (d : Ghosts D) (at : ℤ) (old new : Snapshot D
   pub beginning : (back : List ℕ) × (next_text next ≡ begun ++ back)
   pub writes : Appends old.sent new.sent (texts_of exchanges ++ begun)
   pub run : d.trusted new.desk → d.sound old.desk
-      → RunsExchanges (d.content old.desk) at (exchanges ++ next_exchange next)
+      → RunsExchanges (d.content old.desk) moment (exchanges ++ next_exchange next)
       (d.content new.desk)
   pub faults : NextRose next (d.faults old.desk) (d.faults new.desk)
-  pub outlasts : d.Outlasts old.desk (next_asking at next)
-      (events_by at (exchanges ++ next_exchange next)) new.desk
+  pub outlasts : d.Outlasts old.desk (next_asking moment next)
+      (events_by moment (exchanges ++ next_exchange next)) new.desk
 
 -- A connection that a fault ended: how many replies went out whole, whether the desk took the step
 -- of the next message, and what failed.
-pub record Stops {D : Type 0} (d : Ghosts D) (at : ℤ) (old new : Snapshot D) (fault : ServeFault)
+pub record Stops {D : Type 0} (d : Ghosts D) (moment : ℤ) (old new : Snapshot D)
+    (fault : ServeFault)
     : Type 0 where
-  pub connects : Connects d at old new
+  pub connects : Connects d moment old new
   pub answered : fault.answered ≡ length connects.exchanges
   pub acted : fault.acted ≡ did_act connects.next
   pub cause : Blames fault.cause connects.next connects.rest connects.begun connects.beginning.0

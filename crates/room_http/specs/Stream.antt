@@ -42,21 +42,21 @@ exchange_text close x = answer_text close (asked x.message) x.reply
 
 -- what happens at the desk, at this moment
 abbrev pub events_at : ℤ → Asked → Option Reply → List Event
-events_at at (Ok call) (Some reply) = Event.Asked call.0 at call.1 reply ∷ []
-events_at at (Ok call) None = []
-events_at at (Err fault) reply = []
+events_at moment (Ok call) (Some reply) = Event.Asked call.0 moment call.1 reply ∷ []
+events_at moment (Ok call) None = []
+events_at moment (Err fault) reply = []
 
 abbrev pub event_at : ℤ → Exchange → List Event
-event_at at x = events_at at (asked x.message) x.reply
+event_at moment x = events_at moment (asked x.message) x.reply
 
 -- what happens by these exchanges, one after the other
 abbrev pub events_by : ℤ → List Exchange → List Event
-events_by at xs = flat_map (event_at at) xs
+events_by moment xs = flat_map (event_at moment) xs
 
 -- what the message asks of the desk, at this moment, if no test refuses it
 abbrev pub asking_at : ℤ → Asked → List Asking
-asking_at at (Ok call) = Event.Asked call.0 at call.1 ∷ []
-asking_at at (Err fault) = []
+asking_at moment (Ok call) = Event.Asked call.0 moment call.1 ∷ []
+asking_at moment (Err fault) = []
 
 -- these events are a run from what the desk kept to what it keeps then
 abbrev pub Runs : (Content → Type 0) → List Event → (Content → Type 0) → Type 0
@@ -65,7 +65,7 @@ Runs old events new =
 
 -- the exchanges are such a run
 abbrev pub RunsExchanges : (Content → Type 0) → ℤ → List Exchange → (Content → Type 0) → Type 0
-RunsExchanges old at xs new = Runs old (events_by at xs) new
+RunsExchanges old moment xs new = Runs old (events_by moment xs) new
 
 -- ---- the end
 
@@ -114,8 +114,8 @@ last_exchange last = []
 
 -- what was asked for and got no answer from the desk
 abbrev pub last_asking : ℤ → Last → List Asking
-last_asking at (Last.Failed m) = asking_at at (asked m)
-last_asking at last = []
+last_asking moment (Last.Failed m) = asking_at moment (asked m)
+last_asking moment last = []
 
 abbrev pub ended_of : Last → Ended
 ended_of Last.Clean = Ended.Clean

@@ -29,14 +29,14 @@ abbrev pub StopsFault : Option (List ℕ) → Option (List ℕ) → Cause → Ty
 StopsFault old new cause =
     (wrote : WritesSome old new store_text) × BlamesWriter cause wrote.1
 
-module _ {D : Type 0} (d : Ghosts D) (at : ℤ) (old new : D) where
+module _ {D : Type 0} (d : Ghosts D) (moment : ℤ) (old new : D) where
   -- the desk did what the message asks, and this is its reply, or a test refuses the message
   pub record Replies (asked : Asked) (reply : Option Reply) : Type 0 where
     pub agrees : Agrees asked reply
     pub run : d.trusted new → d.sound old
-        → Runs (d.content old) (events_at at asked reply) (d.content new)
+        → Runs (d.content old) (events_at moment asked reply) (d.content new)
     pub faults : d.faults new ≡ d.faults old
-    pub outlasts : d.Outlasts old [] (events_at at asked reply) new
+    pub outlasts : d.Outlasts old [] (events_at moment asked reply) new
 
   -- of what was sent before, and is sent by now
   module _ (close : Bool) (asked : Asked) (sent sent' : Option (List ℕ)) where
@@ -47,11 +47,11 @@ module _ {D : Type 0} (d : Ghosts D) (at : ℤ) (old new : D) where
         Replies asked reply × StopsWithin sent sent' (answer_text close asked reply) cause
         × (acted ≡ is_some reply)
     IsBegun acted cause Begun.Failing =
-        Failed d at old new asked × StopsFault sent sent' cause × (acted ≡ false)
+        Failed d moment old new asked × StopsFault sent sent' cause × (acted ≡ false)
 
     abbrev pub SendsReply : Result Told Halt → Type 0
     SendsReply (Ok Told.Answered) =
         (reply : Option Reply) × Replies asked reply
         × Appends sent sent' (answer_text close asked reply)
-    SendsReply (Ok Told.Failed) = Failed d at old new asked × Appends sent sent' store_text
+    SendsReply (Ok Told.Failed) = Failed d moment old new asked × Appends sent sent' store_text
     SendsReply (Err stop) = (begun : Begun) × IsBegun stop.acted stop.cause begun

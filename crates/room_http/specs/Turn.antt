@@ -53,7 +53,7 @@ ComesNear buf Upcoming.Cut = ⊤
 ComesNear buf (Upcoming.Refused refusal) = IsNearHead buf
 ComesNear buf (Upcoming.Whole next) = length buf < next.end + read_size
 
-module _ {D : Type 0} (d : Ghosts D) (at : ℤ) (n : ℕ) (old new : Snapshot D) where
+module _ {D : Type 0} (d : Ghosts D) (moment : ℤ) (n : ℕ) (old new : Snapshot D) where
   -- ---- a turn, after n messages
 
   pub record TurnsOpen (buf_old buf_new : List ℕ) : Type 0 where
@@ -64,9 +64,9 @@ module _ {D : Type 0} (d : Ghosts D) (at : ℤ) (n : ℕ) (old new : Snapshot D)
     pub near : length buf_new < read_size
     pub writes : Appends old.sent new.sent (exchange_text false x)
     pub run : d.trusted new.desk → d.sound old.desk
-        → RunsExchanges (d.content old.desk) at (x ∷ []) (d.content new.desk)
+        → RunsExchanges (d.content old.desk) moment (x ∷ []) (d.content new.desk)
     pub faults : d.faults new.desk ≡ d.faults old.desk
-    pub outlasts : d.Outlasts old.desk [] (events_by at (x ∷ [])) new.desk
+    pub outlasts : d.Outlasts old.desk [] (events_by moment (x ∷ [])) new.desk
 
   pub record TurnsLast (buf : List ℕ) (ended : Ended) : Type 0 where
     pub last : Last
@@ -78,9 +78,10 @@ module _ {D : Type 0} (d : Ghosts D) (at : ℤ) (n : ℕ) (old new : Snapshot D)
     pub writes : Appends old.sent new.sent (last_text last)
     pub at_end : AtEndIf last new.left
     pub run : d.trusted new.desk → d.sound old.desk
-        → RunsExchanges (d.content old.desk) at (last_exchange last) (d.content new.desk)
+        → RunsExchanges (d.content old.desk) moment (last_exchange last) (d.content new.desk)
     pub faults : FaultsRose last (d.faults old.desk) (d.faults new.desk)
-    pub outlasts : d.Outlasts old.desk (last_asking at last) (events_by at (last_exchange last))
+    pub outlasts : d.Outlasts old.desk (last_asking moment last)
+        (events_by moment (last_exchange last))
         new.desk
 
   pub record TurnsStop (buf : List ℕ) (stop : Halt) : Type 0 where
@@ -93,9 +94,10 @@ module _ {D : Type 0} (d : Ghosts D) (at : ℤ) (n : ℕ) (old new : Snapshot D)
     pub acted : stop.acted ≡ did_act next
     pub cause : Blames stop.cause next rest writes.0 writes.1
     pub run : d.trusted new.desk → d.sound old.desk
-        → RunsExchanges (d.content old.desk) at (next_exchange next) (d.content new.desk)
+        → RunsExchanges (d.content old.desk) moment (next_exchange next) (d.content new.desk)
     pub faults : NextRose next (d.faults old.desk) (d.faults new.desk)
-    pub outlasts : d.Outlasts old.desk (next_asking at next) (events_by at (next_exchange next))
+    pub outlasts : d.Outlasts old.desk (next_asking moment next)
+        (events_by moment (next_exchange next))
         new.desk
 
   abbrev pub Turns : List ℕ → List ℕ → Result (Option Ended) Halt → Type 0
@@ -115,6 +117,6 @@ module _ {D : Type 0} (d : Ghosts D) (at : ℤ) (n : ℕ) (old new : Snapshot D)
     pub near : length buf < read_size
     pub writes : Appends old.sent new.sent (texts_of exchanges)
     pub run : d.trusted new.desk → d.sound old.desk
-        → RunsExchanges (d.content old.desk) at exchanges (d.content new.desk)
+        → RunsExchanges (d.content old.desk) moment exchanges (d.content new.desk)
     pub faults : d.faults new.desk ≡ d.faults old.desk
-    pub outlasts : d.Outlasts old.desk [] (events_by at exchanges) new.desk
+    pub outlasts : d.Outlasts old.desk [] (events_by moment exchanges) new.desk

@@ -64,21 +64,21 @@ pub(crate) fn copied_head(
     alloc: Global,
     bytes: &[u8],
     spans: &[HeaderSpan],
-    at: RequestSpans,
+    parts: RequestSpans,
 ) -> Result<Head, AllocError>
-    requires method { IsWithin (length bytes.now) at.method }
-    requires path { IsWithin (length bytes.now) at.path }
-    requires count { at.headers ≤ length spans.now }
-    requires fields { All (IsHeaderWithin (length bytes.now)) (take at.headers spans.now) }
-    ensures { IfOk result (λ head. head ≡ head_at bytes.now spans.now at) }
+    requires method { IsWithin (length bytes.now) parts.method }
+    requires path { IsWithin (length bytes.now) parts.path }
+    requires count { parts.headers ≤ length spans.now }
+    requires fields { All (IsHeaderWithin (length bytes.now)) (take parts.headers spans.now) }
+    ensures { IfOk result (λ head. head ≡ head_at bytes.now spans.now parts) }
 {
-    let fields = copied_fields(alloc, bytes, &spans[..at.headers])?;
-    let method = copied(alloc, at.method.of(bytes))?;
-    let target = copied(alloc, at.path.of(bytes))?;
+    let fields = copied_fields(alloc, bytes, &spans[..parts.headers])?;
+    let method = copied(alloc, parts.method.of(bytes))?;
+    let target = copied(alloc, parts.path.of(bytes))?;
     Ok(Head {
         method,
         target,
-        minor: at.version,
+        minor: parts.version,
         fields,
     })
 }

@@ -48,7 +48,7 @@ pub(crate) fn next_message<R: Read>(
     ensures next { IfOk result (Coming buf.new.items (R.remaining r.new)) }
 {
     match read_head(r, buf, spans, chunk) {
-        Ok(HeadRead::Found(at)) => next_behind(alloc, r, buf, spans, chunk, at),
+        Ok(HeadRead::Found(parts)) => next_behind(alloc, r, buf, spans, chunk, parts),
         Ok(HeadRead::NotHead(refusal)) => Ok(Upcoming::Refused(refusal)),
         Ok(HeadRead::Ended) if buf.is_empty() => Ok(Upcoming::Clean),
         Ok(HeadRead::Ended) => Ok(Upcoming::Cut),
@@ -63,11 +63,11 @@ fn next_behind<R: Read>(
     buf: &mut Vec<u8>,
     spans: &[HeaderSpan],
     chunk: &mut [u8],
-    at: RequestSpans,
+    parts: RequestSpans,
 ) -> Result<Upcoming, Cause>
-    requires head { SpansHead buf.old.items spans.now at }
+    requires head { SpansHead buf.old.items spans.now parts }
     requires chunk { length chunk.old ≡ chunk_size }
-    ensures near { length buf.old.items < at.len + read_size
+    ensures near { length buf.old.items < parts.len + read_size
         → IfOk result (ComesNear buf.new.items) }
     ensures came { OnOk result
         (Came (R.remaining r.old) (R.remaining r.new) buf.old.items buf.new.items) }
@@ -75,18 +75,18 @@ fn next_behind<R: Read>(
         (StopsReading (R.remaining r.old) (R.remaining r.new) buf.old.items) }
     ensures next { IfOk result (Coming buf.new.items (R.remaining r.new)) }
 {
-    let Ok(head) = copied_head(alloc, &buf[..at.len], spans, at) else {
+    let Ok(head) = copied_head(alloc, &buf[..parts.len], spans, parts) else {
         return Err(Cause::Memory);
     };
     let size = match declared_size(head.fields.as_slice()) {
         Ok(size) => size,
         Err(refusal) => return Ok(Upcoming::Refused(refusal)),
     };
-    let end = at.len + size;
+    let end = parts.len + size;
     match read_body(r, buf, chunk, end) {
         Ok(true) => Ok(Upcoming::Whole(NextMessage {
             head,
-            start: at.len,
+            start: parts.len,
             end,
         })),
         Ok(false) => Ok(Upcoming::Cut),

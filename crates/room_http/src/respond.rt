@@ -18,17 +18,17 @@ pub fn answer<D: Desk>(
     alloc: Global,
     routes: &Routes,
     desk: &mut D,
-    at: i64,
+    moment: i64,
     head: &Head,
     body: &[u8],
     close: bool,
 ) -> Result<Answer, Lost>
-    ensures answers { AnswersMessage D.Desk at desk.old desk.new close
+    ensures answers { AnswersMessage D.Desk moment desk.old desk.new close
         (request_of head.now body.now) result }
     ensures trusted { D.trusted desk.new → D.trusted desk.old }
     ensures sound { D.trusted desk.new → D.sound desk.old → D.sound desk.new }
 {
-    match respond(alloc, routes, desk, at, head, body, close) {
+    match respond(alloc, routes, desk, moment, head, body, close) {
         Ok(Response::Refused(text)) => Ok(Answer::Text(text)),
         Ok(Response::Replied(text)) => joined(text),
         Ok(Response::Fault) => Ok(Answer::Fault),
@@ -51,18 +51,18 @@ pub(crate) fn respond<D: Desk>(
     alloc: Global,
     routes: &Routes,
     desk: &mut D,
-    at: i64,
+    moment: i64,
     head: &Head,
     body: &[u8],
     close: bool,
 ) -> Result<Response, Lost>
-    ensures responds { Responds D.Desk at desk.old desk.new close
+    ensures responds { Responds D.Desk moment desk.old desk.new close
         (request_of head.now body.now) result }
     ensures trusted { D.trusted desk.new → D.trusted desk.old }
     ensures sound { D.trusted desk.new → D.sound desk.old → D.sound desk.new }
 {
     match request_of(alloc, routes, head, body) {
-        Ok((caller, request)) => ask(alloc, desk, at, caller.as_ref(), &request, close),
+        Ok((caller, request)) => ask(alloc, desk, moment, caller.as_ref(), &request, close),
         Err(Failure::Fault(fault)) => refused(alloc, fault, close),
         Err(Failure::OutOfMemory) => Err(Lost { acted: false }),
     }
@@ -82,17 +82,17 @@ fn refused(alloc: Global, fault: HttpFault, close: bool) -> Result<Response, Los
 fn ask<D: Desk>(
     alloc: Global,
     desk: &mut D,
-    at: i64,
+    moment: i64,
     caller: Option<&Name>,
     request: &Request,
     close: bool,
 ) -> Result<Response, Lost>
-    ensures responds { Responds D.Desk at desk.old desk.new close
+    ensures responds { Responds D.Desk moment desk.old desk.new close
         (Ok (option_copied caller.entry, request.now)) result }
     ensures trusted { D.trusted desk.new → D.trusted desk.old }
     ensures sound { D.trusted desk.new → D.sound desk.old → D.sound desk.new }
 {
-    match desk.run(alloc, caller, at, request) {
+    match desk.run(alloc, caller, moment, request) {
         Ok(reply) => delivered(alloc, reply, close),
         Err(_) => Ok(Response::Fault),
     }

@@ -48,18 +48,18 @@ fn tell<W: Write, D: Desk>(
     alloc: Global,
     routes: &Routes,
     desk: &mut D,
-    at: i64,
+    moment: i64,
     w: &mut W,
     head: &Head,
     body: &[u8],
     close: bool,
 ) -> Result<Told, Halt>
-    ensures tells { SendsReply D.Desk at desk.old desk.new close (request_of head.now body.now)
+    ensures tells { SendsReply D.Desk moment desk.old desk.new close (request_of head.now body.now)
         (W.contents w.old) (W.contents w.new) result }
     ensures trusted { D.trusted desk.new → D.trusted desk.old }
     ensures sound { D.trusted desk.new → D.sound desk.old → D.sound desk.new }
 {
-    match respond(alloc, routes, desk, at, head, body, close) {
+    match respond(alloc, routes, desk, moment, head, body, close) {
         Ok(Response::Refused(text)) => match write_text(w, text.as_slice()) {
             Ok(()) => Ok(Told::Answered),
             Err(cause) => Err(Halt {
@@ -99,7 +99,7 @@ fn take_message<W: Write, D: Desk>(
     alloc: Global,
     routes: &Routes,
     desk: &mut D,
-    at: i64,
+    moment: i64,
     w: &mut W,
     buf: &mut Vec<u8>,
     next: NextMessage,
@@ -108,14 +108,14 @@ fn take_message<W: Write, D: Desk>(
     requires few { answered < max_messages }
     requires next { WholeNext buf.old.items next }
     ensures turn { (left : Option (List ℕ)) → length buf.old.items < next.end + read_size
-        → Turns D.Desk at answered (seen left (W.contents w.old) desk.old)
+        → Turns D.Desk moment answered (seen left (W.contents w.old) desk.old)
         (seen left (W.contents w.new) desk.new) buf.old.items buf.new.items result }
     ensures trusted { D.trusted desk.new → D.trusted desk.old }
     ensures sound { D.trusted desk.new → D.sound desk.old → D.sound desk.new }
 {
     let close = says_close(&next.head, answered);
     let body = &buf[next.start..next.end];
-    let told = match tell(alloc, routes, desk, at, w, &next.head, body, close) {
+    let told = match tell(alloc, routes, desk, moment, w, &next.head, body, close) {
         Ok(told) => told,
         Err(stop) => return Err(stop),
     };
@@ -166,7 +166,7 @@ fn turn<R: Read, W: Write, D: Desk>(
     alloc: Global,
     routes: &Routes,
     desk: &mut D,
-    at: i64,
+    moment: i64,
     r: &mut R,
     w: &mut W,
     buf: &mut Vec<u8>,
@@ -177,7 +177,7 @@ fn turn<R: Read, W: Write, D: Desk>(
     requires few { answered < max_messages }
     requires room { length spans.old ≡ max_fields }
     requires chunk { length chunk.old ≡ chunk_size }
-    ensures turn { length buf.old.items < read_size → Turns D.Desk at answered
+    ensures turn { length buf.old.items < read_size → Turns D.Desk moment answered
         (seen (R.remaining r.old) (W.contents w.old) desk.old)
         (seen (R.remaining r.new) (W.contents w.new) desk.new)
         buf.old.items buf.new.items result }
@@ -194,7 +194,7 @@ fn turn<R: Read, W: Write, D: Desk>(
         }
     };
     match next {
-        Upcoming::Whole(next) => take_message(alloc, routes, desk, at, w, buf, next, answered),
+        Upcoming::Whole(next) => take_message(alloc, routes, desk, moment, w, buf, next, answered),
         Upcoming::Refused(refusal) => refuse(alloc, w, refusal),
         Upcoming::Clean => Ok(Some(Ended::Clean)),
         Upcoming::Cut => Ok(Some(Ended::Cut)),
@@ -208,17 +208,17 @@ pub fn serve<R: Read, W: Write, D: Desk>(
     alloc: Global,
     routes: &Routes,
     desk: &mut D,
-    at: i64,
+    moment: i64,
     r: &mut R,
     w: &mut W,
 ) -> Result<Ended, ServeFault>
-    ensures connects { Connects D.Desk at
+    ensures connects { Connects D.Desk moment
         (seen (R.remaining r.old) (W.contents w.old) desk.old)
         (seen (R.remaining r.new) (W.contents w.new) desk.new) }
-    ensures serves { IfOk result (Serves D.Desk at
+    ensures serves { IfOk result (Serves D.Desk moment
         (seen (R.remaining r.old) (W.contents w.old) desk.old)
         (seen (R.remaining r.new) (W.contents w.new) desk.new)) }
-    ensures stops { IfErr result (Stops D.Desk at
+    ensures stops { IfErr result (Stops D.Desk moment
         (seen (R.remaining r.old) (W.contents w.old) desk.old)
         (seen (R.remaining r.new) (W.contents w.new) desk.new)) }
     ensures trusted { D.trusted desk.new → D.trusted desk.old }
@@ -229,7 +229,7 @@ pub fn serve<R: Read, W: Write, D: Desk>(
     let mut chunk = [0; CHUNK_SIZE];
     for answered in 0..MAX_MESSAGES {
         let ended = match turn(
-            alloc, routes, desk, at, r, w, &mut buf, &mut spans, &mut chunk, answered,
+            alloc, routes, desk, moment, r, w, &mut buf, &mut spans, &mut chunk, answered,
         ) {
             Ok(ended) => ended,
             Err(stop) => {

@@ -13,14 +13,14 @@ pub(crate) fn write_text<W: Write>(w: &mut W, text: &[u8]) -> Result<(), Cause>
     ensures err { OnErr result (WritesPart (W.contents w.old) (W.contents w.new) text.now) }
     ensures cause { IfErr result (λ cause. cause ≡ Cause.Write) }
 {
-    let mut at = 0;
-    'writing: while at < text.len() {
-        match w.write(&text[at..]) {
+    let mut index = 0;
+    'writing: while index < text.len() {
+        match w.write(&text[index..]) {
             Ok(count) => {
                 if count == 0 {
                     return Err(Cause::Write);
                 }
-                at += count;
+                index += count;
             }
             Err(_) => return Err(Cause::Write),
         }

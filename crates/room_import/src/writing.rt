@@ -54,7 +54,7 @@ pub fn write_audits(alloc: Global, audits: &[AuditRow]) -> Result<Bytes, AllocEr
 
 /// A writer of rows that has written none.
 pub fn rows_into(alloc: Global) -> Writer<Vec<u8>>
-    ensures at { StandsAtRow result }
+    ensures at_row { StandsAtRow result }
     ensures none { written result ≡ [] }
 {
     WriterBuilder::new().from_writer(Vec::new(alloc))
@@ -63,7 +63,7 @@ pub fn rows_into(alloc: Global) -> Writer<Vec<u8>>
 /// Writes one more row.
 pub fn push_row(writer: &mut Writer<Vec<u8>>, fields: &[&[u8]]) -> Result<(), AllocError>
     requires { StandsAtRow writer.old }
-    ensures at { OnOk result (StandsAtRow writer.new) }
+    ensures at_row { OnOk result (StandsAtRow writer.new) }
     ensures text { OnOk result
         (HasRow (map (λ field. field.now) fields.now) writer.old writer.new) }
 {
@@ -98,7 +98,7 @@ fn push_groups(writer: &mut Writer<Vec<u8>>, pairs: &[(Name, Name)]) -> Result<(
 // Writes the row of a pair.
 fn push_pair(writer: &mut Writer<Vec<u8>>, group: &Name, user: &Name) -> Result<(), AllocError>
     requires { StandsAtRow writer.old }
-    ensures at { OnOk result (StandsAtRow writer.new) }
+    ensures at_row { OnOk result (StandsAtRow writer.new) }
     ensures text { OnOk result (HasRow (pair_row (group.now, user.now)) writer.old writer.new) }
 {
     push_row(
@@ -126,7 +126,7 @@ fn push_records(
 // Writes the header of records.
 fn push_header(writer: &mut Writer<Vec<u8>>) -> Result<(), AllocError>
     requires { StandsAtRow writer.old }
-    ensures at { OnOk result (StandsAtRow writer.new) }
+    ensures at_row { OnOk result (StandsAtRow writer.new) }
     ensures text { OnOk result (HasRow record_header writer.old writer.new) }
 {
     push_row(
@@ -150,34 +150,40 @@ fn push_record(
     audit: &AuditRow,
 ) -> Result<(), AllocError>
     requires { StandsAtRow writer.old }
-    ensures at { OnOk result (StandsAtRow writer.new) }
+    ensures at_row { OnOk result (StandsAtRow writer.new) }
     ensures text { OnOk result (HasRow (record_row audit.now) writer.old writer.new) }
 {
-    let at = audit.at.to_string(alloc)?;
+    let moment = audit.at.to_string(alloc)?;
     let bits = bits_text(alloc, audit)?;
     let place = audit.place.to_string(alloc)?;
-    push_fields(writer, at.as_str(), bits.as_str(), place.as_str(), audit)
+    push_fields(
+        writer,
+        moment.as_str(),
+        bits.as_str(),
+        place.as_str(),
+        audit,
+    )
 }
 
 // Writes the row of a record with these fields.
 fn push_fields<'a>(
     writer: &mut Writer<Vec<u8>>,
-    at: &'a str,
+    moment: &'a str,
     bits: &'a str,
     place: &'a str,
     audit: &'a AuditRow,
 ) -> Result<(), AllocError>
     requires at_row { StandsAtRow writer.old }
-    requires at { at.now ≡ signed_decimal audit.now.at }
+    requires moment { moment.now ≡ signed_decimal audit.now.at }
     requires bits { bits.now ≡ mask_text audit.now.bits }
     requires place { place.now ≡ decimal audit.now.place }
-    ensures at { OnOk result (StandsAtRow writer.new) }
+    ensures at_row { OnOk result (StandsAtRow writer.new) }
     ensures text { OnOk result (HasRow (record_row audit.now) writer.old writer.new) }
 {
     push_row(
         writer,
         &[
-            at.as_bytes(),
+            moment.as_bytes(),
             user_str(audit).as_bytes(),
             audit.path.as_str().as_bytes(),
             bits.as_bytes(),

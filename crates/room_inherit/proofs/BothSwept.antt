@@ -192,11 +192,11 @@ both_swept old middle new d s first last =
     on Dacl tree dacl sacl = dacl tree
     on Sacl tree dacl sacl = sacl tree
 
-no_root_before : (old mid : Rows) (d at : ℕ) → IsSwept Dacl old mid d → HasNoRoot mid at
-    → HasNoRoot old at
-no_root_before old middle d at first (inl damaged) =
-    inl (ap (λ (r : Rows). is_unreadable r at) (sym first.becomes) ∙ damaged)
-no_root_before old middle d at first (inr none) =
+no_root_before : (old mid : Rows) (d row : ℕ) → IsSwept Dacl old mid d → HasNoRoot mid row
+    → HasNoRoot old row
+no_root_before old middle d row first (inl damaged) =
+    inl (ap (λ (r : Rows). is_unreadable r row) (sym first.becomes) ∙ damaged)
+no_root_before old middle d row first (inr none) =
     inr (
       none.0,
       root_mid first.lists old.read old.read.nodes

@@ -32,8 +32,8 @@ pub record Progress (d : Descent) (start : Node) : Type 1 where
       → length (numbers_of old) ≤ turns → After turns waiting changed old now → length waiting ≡ 0
   pub numbers : (turns : ℕ) (waiting : List Node) (changed : ℕ) (old now : Rows)
       → After turns waiting changed old now → numbers_of now ≡ numbers_of old
-  pub unreadable : (turns : ℕ) (waiting : List Node) (changed at : ℕ) (old now : Rows)
-      → After turns waiting changed old now → IsUnreadable now at → IsUnreadable old at
+  pub unreadable : (turns : ℕ) (waiting : List Node) (changed row : ℕ) (old now : Rows)
+      → After turns waiting changed old now → IsUnreadable now row → IsUnreadable old row
   pub loops : (turns : ℕ) (rest : List Node) (w : Node) (changed : ℕ) (old now : Rows) → AreRows old
       → After turns (rest ++ w ∷ []) changed old now → MeetsAgain d.which d.start w now → Loops old
   pub done : (turns changed : ℕ) (old now : Rows) → AreRows old → changed < 2 ^ 63

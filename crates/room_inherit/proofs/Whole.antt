@@ -54,9 +54,9 @@ among_found (x ∷ xs) id = on (x.id == id) (among_found xs id)
     on false rest = rest
 
 -- a number that is listed is in use
-pub not_free : (rows : Rows) (ids : List ℕ) (i : ℕ) (at : ℕ) → ids ≡ numbers_of rows
-    → i < length ids → IsUnused (get_or ids i 0) rows at → ⊥
-not_free rows ids i at are below free =
+pub not_free : (rows : Rows) (ids : List ℕ) (i : ℕ) (row : ℕ) → ids ≡ numbers_of rows
+    → i < length ids → IsUnused (get_or ids i 0) rows row → ⊥
+not_free rows ids i row are below free =
     let id = get_or ids i 0 in
     let listed : is_among ids id ≡ true = or_at (λ l. is_among l id) (λ other. other == id) refl
     (λ _ _. refl) ids i 0 below (eq-eqb id id refl) in
@@ -137,12 +137,12 @@ module _ (rows : Rows) (ids : List ℕ) (i : ℕ) (below : i < length ids) where
   bad_here bad = ap (find (has_bad_list rows)) next_id ∙ cond-true _ _ _ bad
 
   -- the first that is bad
-  pub bad_at : (at : ℕ) → ids ≡ numbers_of rows
+  pub bad_at : (row : ℕ) → ids ≡ numbers_of rows
       → find (has_bad_list rows) (drop i ids) ≡ find (has_bad_list rows) ids
-      → IsBadAt (get_or ids i 0) rows at → first_bad_list rows ≡ Some at
-  bad_at at are same (is, inl bad) =
+      → IsBadAt (get_or ids i 0) rows row → first_bad_list rows ≡ Some row
+  bad_at row are same (is, inl bad) =
       ap (find (has_bad_list rows)) (sym are) ∙ sym same ∙ bad_here bad ∙ ap Some (sym is)
-  bad_at at are same (is, inr free) = absurd (not_free rows ids i (get_or ids i 0) are below free)
+  bad_at row are same (is, inr free) = absurd (not_free rows ids i (get_or ids i 0) are below free)
 
   -- where the number at i is not bad, the first bad one from there on comes after it
   pub sound_here : has_bad_list rows (get_or ids i 0) ≡ false

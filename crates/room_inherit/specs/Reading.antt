@@ -16,11 +16,11 @@ use Rattle.room_rows.specs.Sound.{first_bad_list, has_bad_list, has_sound_body, 
 
 -- the number isn't in use
 abbrev pub IsUnused : ℕ → Rows → ℕ → Type 0
-IsUnused id rows at = (node_at rows.read id ≡ None) × (is_unreadable rows id ≡ false)
+IsUnused id rows row = (node_at rows.read id ≡ None) × (is_unreadable rows id ≡ false)
 
 -- the row of the number can't be read, its lists aren't sound, or the number isn't in use
 abbrev pub IsBadAt : ℕ → Rows → ℕ → Type 0
-IsBadAt id rows at = (at ≡ id) × ((has_bad_list rows id ≡ true) ⊎ IsUnused id rows id)
+IsBadAt id rows row = (row ≡ id) × ((has_bad_list rows id ≡ true) ⊎ IsUnused id rows id)
 
 -- the object of the number, whose lists are sound
 abbrev pub IsSoundAt : ℕ → Rows → Node → Type 0
@@ -28,7 +28,7 @@ IsSoundAt id rows node = (node_at rows.read id ≡ Some node) × (has_bad_list r
 
 -- the first number whose row can't be read or whose lists aren't sound
 abbrev pub IsFirstBad : Rows → ℕ → Type 0
-IsFirstBad rows at = first_bad_list rows ≡ Some at
+IsFirstBad rows row = first_bad_list rows ≡ Some row
 
 -- all objects, where each row can be read and its lists are sound
 abbrev pub AreAll : Rows → List Node → Type 0
@@ -53,4 +53,4 @@ pub record Looks {S : Type 0} (k : Ghosts S) (old new : S) (result : Result Repo
   pub answers : k.IsTrusted old new → IfOk result (Answers (k.rows old))
   pub unfailed : IfOk result (λ report. report ≡ Sound → k.failures new ≡ k.failures old)
   pub fault : IfErr result (HasCause (k.failures old) (k.failures new)
-      (λ at. k.IsTrusted old new → ⊥))
+      (λ row. k.IsTrusted old new → ⊥))

@@ -95,7 +95,7 @@ module _ {S : Type 0} (rows : S → Rows) (failures writes : S → ℕ)
     pub written : IfOk result (λ answer. writes new ≡ capped (writes old + count answer))
     pub becomes : IsTrusted old new → IfOk result (λ answer. Becomes (rows old) answer (rows new))
     pub fault : IfErr result (HasSpreadCause (failures old) (failures new)
-        (λ at. IsTrusted old new → IsUnreadable (rows old) at)
+        (λ row. IsTrusted old new → IsUnreadable (rows old) row)
         (IsTrusted old new → Loops (rows old)))
 
 -- ---- with the keeper named once

@@ -72,7 +72,7 @@ module _ {S : Type 0} (rows : S → Rows) (failures writes : S → ℕ)
     pub written : IfOk result (λ answer. writes new ≡ capped (writes old + count answer))
     pub becomes : IsTrusted old new → IfOk result (λ answer. Becomes (rows old) answer (rows new))
     pub fault : IfErr result (HasSpreadCause (failures old) (failures new)
-        (λ at. IsTrusted old new → HasNoRoot (rows old) at) (IsTrusted old new → ⊥))
+        (λ row. IsTrusted old new → HasNoRoot (rows old) row) (IsTrusted old new → ⊥))
 
 module _ {S : Type 0} (k : Ghosts S) (old new : S) where
   -- All lists are carried down.

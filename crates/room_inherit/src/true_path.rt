@@ -32,13 +32,13 @@ impl Objects {
             ≡ names_up (length self.now) (only self.now) node.now) }
     {
         let mut names = Vec::new(alloc);
-        let mut at = node;
+        let mut object = node;
         'steps: for step in 0..self.as_slice().len() {
-            let Some(parent) = self.parent_of(at) else {
+            let Some(parent) = self.parent_of(object) else {
                 return Ok(names);
             };
-            names.push(at.name.copy()?)?;
-            at = parent;
+            names.push(object.name.copy()?)?;
+            object = parent;
         }
         Ok(names)
     }

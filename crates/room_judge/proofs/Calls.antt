@@ -45,7 +45,7 @@ module _ {S : Type 0} {rows : S → Rows} {failures : S → ℕ}
   pub as_well : {X : Type 0} {a b : S} {r : Result X KeepFault} {Blames Blames' : Rows → ℕ → Type 0}
       {Becomes Becomes' : Rows → X → Rows → Type 0}
       → IsDone rows failures Follows IsTrusted a b r Blames Becomes
-      → ((old : Rows) (at : ℕ) → Blames old at → Blames' old at)
+      → ((old : Rows) (row : ℕ) → Blames old row → Blames' old row)
       → ((old : Rows) (x : X) (new : Rows) → Becomes old x new → Becomes' old x new)
       → IsDone rows failures Follows IsTrusted a b r Blames' Becomes'
   as_well {X = X} {a = a} {b = b} {r = r} {Blames = Blames} {Blames' = Blames'} {Becomes = Becomes}
@@ -62,15 +62,17 @@ module _ {S : Type 0} {rows : S → Rows} {failures : S → ℕ}
       joined (Err e) h = tt
 
       blamed : (e : KeepFault)
-          → HasCause (failures a) (failures b) (λ at. IsTrusted a b → Blames (rows a) at) e
-          → HasCause (failures a) (failures b) (λ at. IsTrusted a b → Blames' (rows a) at) e
+          → HasCause (failures a) (failures b) (λ row. IsTrusted a b → Blames (rows a) row) e
+          → HasCause (failures a) (failures b) (λ row. IsTrusted a b → Blames' (rows a) row) e
       blamed Memory h = tt
       blamed Store h = h
       blamed (Damaged id) h = λ t. blames (rows a) id (h t)
 
       cause : (r : Result X KeepFault)
-          → IfErr r (HasCause (failures a) (failures b) (λ at. IsTrusted a b → Blames (rows a) at))
-          → IfErr r (HasCause (failures a) (failures b) (λ at. IsTrusted a b → Blames' (rows a) at))
+          → IfErr r
+          (HasCause (failures a) (failures b) (λ row. IsTrusted a b → Blames (rows a) row))
+          → IfErr r
+          (HasCause (failures a) (failures b) (λ row. IsTrusted a b → Blames' (rows a) row))
       cause (Ok x) h = tt
       cause (Err e) h = blamed e h
 
@@ -143,7 +145,7 @@ module _ {S : Type 0} {rows : S → Rows} {failures : S → ℕ}
         {Blames Blames' : Rows → ℕ → Type 0} {After Becomes : Rows → X → Rows → Type 0}
         → HasDone rows Follows IsTrusted a b Before
         → IsDone rows failures Follows IsTrusted b c r Blames After
-        → ((old mid : Rows) (at : ℕ) → Before old mid → Blames mid at → Blames' old at)
+        → ((old mid : Rows) (row : ℕ) → Before old mid → Blames mid row → Blames' old row)
         → ((old mid : Rows) (x : X) (new : Rows) → Before old mid → After mid x new
         → Becomes old x new)
         → IsDone rows failures Follows IsTrusted a c r Blames' Becomes
@@ -166,14 +168,14 @@ module _ {S : Type 0} {rows : S → Rows} {failures : S → ℕ}
 
         cause : (r : Result X KeepFault)
             → IfErr r (HasCause (failures b) (failures c)
-            (λ at. IsTrusted b c → Blames (rows b) at))
+            (λ row. IsTrusted b c → Blames (rows b) row))
             → IfErr r (HasCause (failures a) (failures c)
-            (λ at. IsTrusted a c → Blames' (rows a) at))
+            (λ row. IsTrusted a c → Blames' (rows a) row))
         cause (Ok x) h = tt
         cause (Err e) h =
             later_cause (failures a) (failures b) (failures c) e _ _ (laws.rise a b before.follows)
             (laws.rise b c after.follows)
-            (λ at damaged t. blames (rows a) (rows b) at
+            (λ row damaged t. blames (rows a) (rows b) row
             (before.becomes (laws.first a b c before.follows after.follows t))
             (damaged (laws.last a b c before.follows after.follows t))) h
 
@@ -183,8 +185,8 @@ module _ {S : Type 0} {rows : S → Rows} {failures : S → ℕ}
         {After Becomes : Rows → X → Rows → Type 0}
         → HasDone rows Follows IsTrusted a b Before
         → IsDone rows failures Follows IsTrusted b c r Blames After
-        → ((old mid : Rows) (at : ℕ) → AreRows old → Before old mid → Blames mid at
-        → Blames' old at) → ((old mid : Rows) (x : X) (new : Rows) → AreRows old → Before old mid
+        → ((old mid : Rows) (row : ℕ) → AreRows old → Before old mid → Blames mid row
+        → Blames' old row) → ((old mid : Rows) (x : X) (new : Rows) → AreRows old → Before old mid
         → After mid x new → Becomes old x new)
         → IsDone rows failures Follows IsTrusted a c r Blames' Becomes
     tail_known {X = X} {a = a} {b = b} {c = c} {r = r} {Blames = Blames} {Blames' = Blames'}
@@ -206,14 +208,14 @@ module _ {S : Type 0} {rows : S → Rows} {failures : S → ℕ}
 
         cause : (r : Result X KeepFault)
             → IfErr r (HasCause (failures b) (failures c)
-            (λ at. IsTrusted b c → Blames (rows b) at))
+            (λ row. IsTrusted b c → Blames (rows b) row))
             → IfErr r (HasCause (failures a) (failures c)
-            (λ at. IsTrusted a c → Blames' (rows a) at))
+            (λ row. IsTrusted a c → Blames' (rows a) row))
         cause (Ok x) h = tt
         cause (Err e) h =
             later_cause (failures a) (failures b) (failures c) e _ _ (laws.rise a b before.follows)
             (laws.rise b c after.follows)
-            (λ at damaged t. blames (rows a) (rows b) at (laws.are a c t)
+            (λ row damaged t. blames (rows a) (rows b) row (laws.are a c t)
             (before.becomes (laws.first a b c before.follows after.follows t))
             (damaged (laws.last a b c before.follows after.follows t))) h
 
@@ -223,7 +225,7 @@ module _ {S : Type 0} {rows : S → Rows} {failures : S → ℕ}
         {Becomes : Rows → Y → Rows → Type 0}
         → HasDone rows Follows IsTrusted a b Before
         → IsDone rows failures Follows IsTrusted {X = X} b c (Err e) Blames After
-        → ((old mid : Rows) (at : ℕ) → Before old mid → Blames mid at → Blames' old at)
+        → ((old mid : Rows) (row : ℕ) → Before old mid → Blames mid row → Blames' old row)
         → (r : Result Y KeepFault) → IsErrAnd r (λ x. x ≡ e)
         → IsDone rows failures Follows IsTrusted a c r Blames' Becomes
     fails before after blames (Ok y) is = absurd is
@@ -233,12 +235,13 @@ module _ {S : Type 0} {rows : S → Rows} {failures : S → ℕ}
           follows = laws.on a b c before.follows after.follows;
           becomes = λ t. tt;
           fault =
-              subst (HasCause (failures a) (failures c) (λ at. IsTrusted a c → Blames' (rows a) at))
+              subst (HasCause (failures a) (failures c)
+              (λ row. IsTrusted a c → Blames' (rows a) row))
               (sym is)
               (later_cause (failures a) (failures b) (failures c) e _ _
               (laws.rise a b before.follows)
               (laws.rise b c after.follows)
-              (λ at damaged t. blames (rows a) (rows b) at
+              (λ row damaged t. blames (rows a) (rows b) row
               (before.becomes (laws.first a b c before.follows after.follows t))
               (damaged (laws.last a b c before.follows after.follows t))) after.fault);
         }

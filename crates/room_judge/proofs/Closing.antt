@@ -37,10 +37,10 @@ deletion_told target parent (MayDelete by_add) = tt
 deletion_told target parent (AtTarget place) = refl
 deletion_told target parent (AtParent bits place) = refl
 
-refusal_told : (at : List (List ℕ)) (why : Reason) (holds : Bool)
-    → IsTold (if holds then Some (Refused at why) else None)
-refusal_told at why true = refl
-refusal_told at why false = tt
+refusal_told : (path : List (List ℕ)) (why : Reason) (holds : Bool)
+    → IsTold (if holds then Some (Refused path why) else None)
+refusal_told path why true = refl
+refusal_told path why false = tt
 
 item_told : (caller : Caller) (item : Item) → IsTold (failure caller item)
 item_told caller (Check site bits) = verdict_told site _

@@ -60,22 +60,22 @@ or_none : (o : Option Reply) → or_else o None ≡ o
 or_none None = refl
 or_none (Some reply) = refl
 
-module _ (asker : Asker) (items : List Item) (at : List (List ℕ)) (why : Reason) where
-  same_failure : first_failure asker.caller (items ++ Refusal at why false ∷ [])
+module _ (asker : Asker) (items : List Item) (path : List (List ℕ)) (why : Reason) where
+  same_failure : first_failure asker.caller (items ++ Refusal path why false ∷ [])
       ≡ first_failure asker.caller items
   same_failure =
-      failure_of_parts asker.caller asker.at items (Refusal at why false ∷ [])
+      failure_of_parts asker.caller asker.moment items (Refusal path why false ∷ [])
       ∙ or_none (first_failure asker.caller items)
 
-  same_records : records_of_plan asker.caller asker.at (items ++ Refusal at why false ∷ [])
-      ≡ records_of_plan asker.caller asker.at items
+  same_records : records_of_plan asker.caller asker.moment (items ++ Refusal path why false ∷ [])
+      ≡ records_of_plan asker.caller asker.moment items
   same_records =
-      records_of_parts asker.caller asker.at items (Refusal at why false ∷ [])
-      ∙ ap (λ l. records_of_plan asker.caller asker.at items ++ l)
+      records_of_parts asker.caller asker.moment items (Refusal path why false ∷ [])
+      ∙ ap (λ l. records_of_plan asker.caller asker.moment items ++ l)
       (nothing (is_none (first_failure asker.caller items))) ∙ append-nil _
 
   without_last : (old new : Rows) (answer : Option Reply)
-      → IsJudged asker (items ++ Refusal at why false ∷ []) old answer new
+      → IsJudged asker (items ++ Refusal path why false ∷ []) old answer new
       → IsJudged asker items old answer new
   without_last old new answer judged =
       record {

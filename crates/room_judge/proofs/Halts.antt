@@ -27,7 +27,8 @@ module _ {S : Type 0} {rows : S → Rows} {failures writes : S → ℕ}
       {Becomes : Rows → Result Y Reply → Rows → Type 0}
       → HasDone rows Follows IsTrusted a b Before
       → IsDone rows failures Follows IsTrusted b c (settled {X = X} (Err e)) Blames After
-      → ((old mid : Rows) (at : ℕ) → AreRows old → Before old mid → Blames mid at → Blames' old at)
+      → ((old mid : Rows) (row : ℕ) → AreRows old → Before old mid → Blames mid row
+      → Blames' old row)
       → ((old mid new : Rows) (reply : Reply) → AreRows old → Before old mid
       → After mid (Err reply) new → Becomes old (Err reply) new)
       → (r : Result Y Halt) → IsErrAnd r (λ x. x ≡ e)
@@ -47,7 +48,8 @@ module _ {S : Type 0} {rows : S → Rows} {failures writes : S → ℕ}
           finish laws (Err reply) (then laws (known before) (done after)
           (λ old mid new b a. refuses old mid new reply b.0 b.1 a)) (λ old new are h. h)
       on (Fault fault) after =
-          fails laws (known before) after (λ old mid at b h. blames old mid at b.0 b.1 h) (Err fault)
+          fails laws (known before) after
+          (λ old mid row b h. blames old mid row b.0 b.1 h) (Err fault)
           refl
 
   -- the same at the first call
@@ -55,14 +57,14 @@ module _ {S : Type 0} {rows : S → Rows} {failures writes : S → ℕ}
       {Blames Blames' : Rows → ℕ → Type 0} {After : Rows → Result X Reply → Rows → Type 0}
       {Becomes : Rows → Result Y Reply → Rows → Type 0}
       → IsDone rows failures Follows IsTrusted a c (settled {X = X} (Err e)) Blames After
-      → ((old : Rows) (at : ℕ) → Blames old at → Blames' old at)
+      → ((old : Rows) (row : ℕ) → Blames old row → Blames' old row)
       → ((old new : Rows) (reply : Reply) → AreRows old → After old (Err reply) new
       → Becomes old (Err reply) new)
       → (r : Result Y Halt) → IsErrAnd r (λ x. x ≡ e)
       → IsDone rows failures Follows IsTrusted a c (settled r) Blames' Becomes
   halts_first {a = a} e {Blames = Blames} {After = After} after blames refuses r is =
       halts e (none_done laws a) after
-      (λ old mid at are same h. blames old at (subst (λ (o : Rows). Blames o at) same h))
+      (λ old mid row are same h. blames old row (subst (λ (o : Rows). Blames o row) same h))
       (λ old mid new reply are same h.
       refuses old new reply are (subst (λ (o : Rows). After o (Err reply) new) same h)) r is
 
@@ -72,7 +74,8 @@ module _ {S : Type 0} {rows : S → Rows} {failures writes : S → ℕ}
       {Becomes : Rows → Result Y Reply → Rows → Type 0}
       → HasDone rows Follows IsTrusted a b Before
       → IsDone rows failures Follows IsTrusted {X = X} b c (Err e) Blames After
-      → ((old mid : Rows) (at : ℕ) → AreRows old → Before old mid → Blames mid at → Blames' old at)
+      → ((old mid : Rows) (row : ℕ) → AreRows old → Before old mid → Blames mid row
+      → Blames' old row)
       → (r : Result Y Halt) → IsErrAnd r (λ x. x ≡ Fault e)
       → IsDone rows failures Follows IsTrusted a c (settled r) Blames' Becomes
   faults before after blames (Ok y) is = absurd is
@@ -81,7 +84,8 @@ module _ {S : Type 0} {rows : S → Rows} {failures writes : S → ℕ}
       subst
       (λ h. IsDone rows failures Follows IsTrusted a c (settled {X = Y} (Err h)) Blames' Becomes)
       (sym is)
-      (fails laws (known before) after (λ old mid at b h. blames old mid at b.0 b.1 h) (Err e) refl)
+      (fails laws (known before) after
+      (λ old mid row b h. blames old mid row b.0 b.1 h) (Err e) refl)
 
   -- the calls end with this refusal, or memory ran out as it was made
   pub refused_as : {Y : Type 0} {a b : S} {Before : Rows → Rows → Type 0}

@@ -77,10 +77,10 @@ module _ (asker : Asker) where
   judged_none old new same = record { answers = refl; notes = same ∙ sym (noted_none old) }
 
   -- what can't be read afterwards couldn't be read before
-  pub blames_first : (items : List Item) (answer : Option Reply) (old new : Rows) (at : ℕ)
-      → IsJudged asker items old answer new → IsUnreadable new at → IsUnreadable old at
-  blames_first items answer old new at judged h =
-      subst (λ (r : Rows). IsUnreadable r at) judged.notes h
+  pub blames_first : (items : List Item) (answer : Option Reply) (old new : Rows) (row : ℕ)
+      → IsJudged asker items old answer new → IsUnreadable new row → IsUnreadable old row
+  blames_first items answer old new row judged h =
+      subst (λ (r : Rows). IsUnreadable r row) judged.notes h
 
   -- a refusal that comes first
   pub refuses : (path : List (List ℕ)) (why : Reason) (holds : Bool) (items : List Item)
@@ -95,7 +95,7 @@ module _ (asker : Asker) where
         same ∙ sym (noted_none old)
         ∙ ap
         (λ t. with_notes old
-        (cond (is_none (refusal t)) (records_of_plan asker.caller asker.at items)
+        (cond (is_none (refusal t)) (records_of_plan asker.caller asker.moment items)
         [])) (sym is);
   }
     where
@@ -115,7 +115,7 @@ module _ (asker : Asker) where
         judged.notes
         ∙ ap
         (λ t. with_notes old
-        (cond (is_none (refusal t)) (records_of_plan asker.caller asker.at items)
+        (cond (is_none (refusal t)) (records_of_plan asker.caller asker.moment items)
         [])) (sym isnt);
   }
     where
@@ -128,12 +128,13 @@ module _ (asker : Asker) where
       → IsJudged asker (items ++ others) old (Some reply) new
   fails_first items others old new reply judged = record {
     answers =
-        sym (failure_of_parts asker.caller asker.at items others
+        sym (failure_of_parts asker.caller asker.moment items others
         ∙ ap (λ o. or_else o (first_failure asker.caller others)) (sym judged.answers));
-    notes =
-        judged.notes ∙ ap (with_notes old) (sym (records_of_parts asker.caller asker.at items others
-        ∙ ap (λ o. records_of_plan asker.caller asker.at items
-        ++ cond (is_none o) (records_of_plan asker.caller asker.at others) []) (sym judged.answers)
+    notes = judged.notes
+        ∙ ap (with_notes old) (sym (records_of_parts asker.caller asker.moment items others
+        ∙ ap (λ o. records_of_plan asker.caller asker.moment items
+        ++ cond (is_none o) (records_of_plan asker.caller asker.moment others) [])
+        (sym judged.answers)
         ∙ append-nil _));
   }
 
@@ -143,16 +144,16 @@ module _ (asker : Asker) where
       → IsJudged asker (items ++ others) old answer new
   passes_first items others old mid new answer first second = record {
     answers =
-        second.answers ∙ sym (failure_of_parts asker.caller asker.at items others
+        second.answers ∙ sym (failure_of_parts asker.caller asker.moment items others
         ∙ ap (λ o. or_else o (first_failure asker.caller others)) (sym first.answers));
     notes =
         second.notes
-        ∙ ap (λ r. with_notes r (records_of_plan asker.caller asker.at others)) first.notes
-        ∙ noted_more old (records_of_plan asker.caller asker.at items)
-        (records_of_plan asker.caller asker.at others)
-        ∙ ap (with_notes old) (sym (records_of_parts asker.caller asker.at items others
-        ∙ ap (λ o. records_of_plan asker.caller asker.at items
-        ++ cond (is_none o) (records_of_plan asker.caller asker.at others) [])
+        ∙ ap (λ r. with_notes r (records_of_plan asker.caller asker.moment others)) first.notes
+        ∙ noted_more old (records_of_plan asker.caller asker.moment items)
+        (records_of_plan asker.caller asker.moment others)
+        ∙ ap (with_notes old) (sym (records_of_parts asker.caller asker.moment items others
+        ∙ ap (λ o. records_of_plan asker.caller asker.moment items
+        ++ cond (is_none o) (records_of_plan asker.caller asker.moment others) [])
         (sym first.answers)));
   }
 

@@ -49,7 +49,7 @@ from_one sacl caller owners asked granted places i are below =
 -- the record for one place
 abbrev pub record_for : Asker → Bool → Site → List ℕ → ℕ → AuditRow
 record_for asker granted site bits place =
-    record_at asker.caller asker.at granted (site, bits) place
+    record_at asker.caller asker.moment granted (site, bits) place
 
 -- The records for these places are noted.
 abbrev pub Notes : Asker → Bool → Site → List ℕ → List ℕ → Rows → Rows → Type 0
@@ -82,7 +82,7 @@ pub notes_all : (asker : Asker) (granted : Bool) (site : Site) (bits : List ℕ)
     (i : ℕ) (old now : Rows) → i ≡ length places
     → places ≡ events_of (full_at Sacl site) asker.caller site.node.owners bits granted
     → Notes asker granted site bits (take i places) old now
-    → now ≡ with_notes old (records_of asker.caller asker.at granted (site, bits))
+    → now ≡ with_notes old (records_of asker.caller asker.moment granted (site, bits))
 notes_all asker granted site bits places i old now full are all =
     all ∙ ap (λ l. with_notes old (map (record_for asker granted site bits) l))
     (ap (λ (n : ℕ). take n places) full ∙ take-length places ∙ are)

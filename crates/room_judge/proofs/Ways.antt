@@ -37,10 +37,10 @@ name_read path names i name text are below is same =
 
 -- a row that can't be read after a walk to an object couldn't be read before it
 pub reached_blames : (asker : Asker) (path : List (List ℕ)) (items : Site → List Item)
-    (outcome : Result Node Reply) (old now : Rows) (at : ℕ)
-    → IsReached asker path items old outcome now → IsUnreadable now at → IsUnreadable old at
-reached_blames asker path items outcome old now at reached h =
-    subst (λ (r : Rows). IsUnreadable r at) reached.judged.notes h
+    (outcome : Result Node Reply) (old now : Rows) (row : ℕ)
+    → IsReached asker path items old outcome now → IsUnreadable now row → IsUnreadable old row
+reached_blames asker path items outcome old now row reached h =
+    subst (λ (r : Rows). IsUnreadable r row) reached.judged.notes h
 
 -- the object, or the refusal where there is one
 abbrev pub unless : Node → Option Reply → Result Node Reply
@@ -89,10 +89,10 @@ pub record IsOnWay (asker : Asker) (path : List (List ℕ)) (from : Found)
       (drop from.depth path)
 
 -- what can't be read on the way couldn't be read before
-pub way_blames : (asker : Asker) (path : List (List ℕ)) (from : Found) (old now : Rows) (at : ℕ)
-    → IsOnWay asker path from old now → IsUnreadable now at → IsUnreadable old at
-way_blames asker path from old now at on_way h =
-    subst (λ (r : Rows). IsUnreadable r at) on_way.so_far.judged.notes h
+pub way_blames : (asker : Asker) (path : List (List ℕ)) (from : Found) (old now : Rows) (row : ℕ)
+    → IsOnWay asker path from old now → IsUnreadable now row → IsUnreadable old row
+way_blames asker path from old now row on_way h =
+    subst (λ (r : Rows). IsUnreadable r row) on_way.so_far.judged.notes h
 
 nothing_there : {X : Type 0} (o : Option X)
     → option_map_or {T = X} {U = List Item} (λ _. []) o [] ≡ []

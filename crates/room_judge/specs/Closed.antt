@@ -11,7 +11,7 @@ use Rattle.room_judge.specs.Judged.{CarriesOut, IsStepOfRows}
 -- on any rows it is judged by the stored lists
 abbrev pub IsClosed : Asker → Request → Rows → Reply → Rows → Type 0
 IsClosed asker request old reply new =
-    IsClosedFor asker.caller asker.at request old reply new
+    IsClosedFor asker.caller asker.moment request old reply new
 
 abbrev pub IsServed : Asker → Request → Rows → Reply → Rows → Type 0
 IsServed asker request old reply new =

@@ -46,7 +46,7 @@ module _ {S : Type 0} (rows : S → Rows) (failures : S → ℕ)
     pub follows : Follows old new
     pub becomes : IsTrusted old new → IfOk result (λ answer. Becomes (rows old) answer (rows new))
     pub fault : IfErr result (HasCause (failures old) (failures new)
-        (λ at. IsTrusted old new → Blames (rows old) at))
+        (λ row. IsTrusted old new → Blames (rows old) row))
 
 -- the same with the keeper named once
 module _ {S : Type 0} (k : Ghosts S) {X : Type 0} (old new : S) (result : Result X KeepFault) where
@@ -55,7 +55,7 @@ module _ {S : Type 0} (k : Ghosts S) {X : Type 0} (old new : S) (result : Result
 
 -- sound rows have no such row
 abbrev pub NotSound : Rows → ℕ → Type 0
-NotSound rows at = AreSound rows → ⊥
+NotSound rows row = AreSound rows → ⊥
 
 -- ---- items that are judged as they come
 
@@ -68,7 +68,7 @@ with_notes rows records = with_content rows (with_records rows.read records)
 pub record IsJudged (asker : Asker) (items : List Item) (old : Rows) (answer : Option Reply)
     (new : Rows) : Type 0 where
   pub answers : answer ≡ first_failure asker.caller items
-  pub notes : new ≡ with_notes old (records_of_plan asker.caller asker.at items)
+  pub notes : new ≡ with_notes old (records_of_plan asker.caller asker.moment items)
 
 -- ---- verdicts
 
@@ -145,7 +145,7 @@ abbrev pub FromRoot : {X : Type 0} → Node → (Rows → X → Rows → Type 0)
 FromRoot root Becomes old x new = root_of old.read ≡ Some root → Becomes old x new
 
 abbrev pub IsUnreadableFrom : Node → Rows → ℕ → Type 0
-IsUnreadableFrom root rows at = root_of rows.read ≡ Some root → IsUnreadable rows at
+IsUnreadableFrom root rows row = root_of rows.read ≡ Some root → IsUnreadable rows row
 
 -- the object isn't of the wanted kind
 abbrev pub is_other : ObjKind → ObjKind → Bool
@@ -172,7 +172,7 @@ pub record IsStepOfRows (user : Option (List ℕ)) (moment : ℤ) (request : Req
 
 abbrev pub CarriesOut : Asker → Request → Rows → Reply → Rows → Type 0
 CarriesOut asker request old reply new = IsKnown asker old → AreSound old
-    → IsStepOfRows asker.caller.user asker.at request old reply new
+    → IsStepOfRows asker.caller.user asker.moment request old reply new
 
 -- What the operator's reset promises: from sound rows it is that step, and the rows are sound
 -- again.

@@ -15,7 +15,7 @@ pub struct Asker {
     /// The caller, with its groups in the room.
     pub caller: Caller,
     /// The moment of the request, in seconds from 1970-01-01 00:00 UTC. It is written into records.
-    pub at: i64,
+    pub moment: i64,
 }
 
 /// The caller of this name with the groups that are paired with it, or a caller without a name, who

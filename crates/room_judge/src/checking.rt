@@ -94,12 +94,12 @@ fn row_of(
     place: usize,
 ) -> Result<AuditRow, AllocError>
     ensures { IfOk result
-        (λ row. row ≡ record_at asker.now.caller asker.now.at checked.now.granted
+        (λ row. row ≡ record_at asker.now.caller asker.now.moment checked.now.granted
         (found_site checked.now.path.now checked.now.found.now, checked.now.bits) place) }
 {
     let user = copy_user(&asker.caller.user)?;
     Ok(AuditRow {
-        at: asker.at,
+        at: asker.moment,
         user,
         path: Text::from_string(checked.path.front_text(alloc, checked.found.depth)?),
         bits: checked.bits,
@@ -118,7 +118,7 @@ pub(crate) fn note_check<K: Keep>(
 ) -> Result<(), KeepFault>
     ensures done { Does K.Keep keep.old keep.new result IsNever
         (λ old _ new. new ≡ with_notes old
-        (records_of asker.now.caller asker.now.at checked.now.granted
+        (records_of asker.now.caller asker.now.moment checked.now.granted
         (found_site checked.now.path.now checked.now.found.now, checked.now.bits))) }
 {
     let places = events(

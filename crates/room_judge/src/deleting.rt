@@ -78,7 +78,7 @@ impl<K: Keep> Walk<'_, K> {
         ensures same_asker { self.new.asker.now ≡ self.old.asker.now }
         ensures done { Does K.Keep self.old.keep.now self.new.keep.now result IsNever
             (λ old _ new. new ≡ with_notes old
-            (records_of_checks self.old.asker.now.caller self.old.asker.now.at
+            (records_of_checks self.old.asker.now.caller self.old.asker.now.moment
             (is_deletable leaving.now.verdict.now)
             ((found_site leaving.now.path.now leaving.now.target.now, delete ∷ []) ∷ (
               found_site leaving.now.path.now leaving.now.folder.now,

@@ -50,7 +50,7 @@ pub fn refusal(alloc: Global, path: &Path, depth: usize, why: Reason) -> Halt
     ensures { Refuses result (Some (RefusedWith (take depth path.now) why)) }
 {
     match path.front(alloc, depth) {
-        Ok(at) => Halt::Refused(Reply::Refused { at, why }),
+        Ok(front) => Halt::Refused(Reply::Refused { at: front, why }),
         Err(_) => Halt::Fault(KeepFault::Memory),
     }
 }

@@ -98,10 +98,10 @@ same_far n chain other names same =
 
 -- a denial on the way as far as an object is the first failure of each plan that begins with the
 -- way
-module _ (caller : Caller) (lack : Bool) (rest : List Item) (at : List (List ℕ)) (bits : List ℕ)
+module _ (caller : Caller) (lack : Bool) (rest : List Item) (front : List (List ℕ)) (bits : List ℕ)
     (place : Option ℕ) (entry : Option Ace) where
   abbrev denial : Option Reply
-  denial = Some (Denied at bits place entry)
+  denial = Some (Denied front bits place entry)
 
   -- a refusal isn't a denial, so where a denial comes first, the fact doesn't hold
   past_refusal : (path : List (List ℕ)) (why : Reason) (holds : Bool) (others : Option Reply)
@@ -164,49 +164,49 @@ module _ (caller : Caller) (lack : Bool) (rest : List Item) (at : List (List ℕ
       ∙ denied_first n sites names there.1)
 
 -- the plan of a request with a path begins with the way
-module _ (along : Along) (b : Content) (caller : Caller) (n : ℕ) (at : List (List ℕ))
+module _ (along : Along) (b : Content) (caller : Caller) (n : ℕ) (front : List (List ℕ))
     (bits : List ℕ) (place : Option ℕ) (entry : Option Ace) where
   abbrev IsDenied : Request → Type 0
   IsDenied request =
       first_failure caller (way_as_far n (along (first_path request)) (first_path request))
-      ≡ Some (Denied at bits place entry)
+      ≡ Some (Denied front bits place entry)
 
   no_way : (sites : List Site) → way_as_far n sites [] ≡ []
   no_way [] = refl
   no_way (site ∷ sites) = refl
 
   plan_denied : (request : Request) → IsDenied request
-      → first_failure caller (plan_by along b request) ≡ Some (Denied at bits place entry)
+      → first_failure caller (plan_by along b request) ≡ Some (Denied front bits place entry)
   plan_denied (Read path) is =
-      denied_first caller false _ at bits place entry n (along path) path is
+      denied_first caller false _ front bits place entry n (along path) path is
   plan_denied (ListFolder path) is =
-      denied_first caller false _ at bits place entry n (along path) path is
+      denied_first caller false _ front bits place entry n (along path) path is
   plan_denied (Put path bytes) is =
-      denied_first caller true _ at bits place entry n (along path) path is
+      denied_first caller true _ front bits place entry n (along path) path is
   plan_denied (Append path bytes) is =
-      denied_first caller false _ at bits place entry n (along path) path is
+      denied_first caller false _ front bits place entry n (along path) path is
   plan_denied (MakeFolder []) is =
       absurd (none_some (sym (ap (first_failure caller) (no_way (along []))) ∙ is))
     where
-      none_some : first_failure caller [] ≡ Some (Denied at bits place entry) → ⊥
+      none_some : first_failure caller [] ≡ Some (Denied front bits place entry) → ⊥
       none_some same = cc
   plan_denied (MakeFolder (name ∷ names)) is =
-      denied_first caller true _ at bits place entry n (along (name ∷ names))
+      denied_first caller true _ front bits place entry n (along (name ∷ names))
       (name ∷ names) is
   plan_denied (Remove path) is =
-      denied_first caller false _ at bits place entry n (along path) path is
+      denied_first caller false _ front bits place entry n (along path) path is
   plan_denied (Move path to) is =
-      denied_first caller false _ at bits place entry n (along path) path is
+      denied_first caller false _ front bits place entry n (along path) path is
   plan_denied (ReadList path which) is =
-      denied_first caller false _ at bits place entry n (along path) path is
+      denied_first caller false _ front bits place entry n (along path) path is
   plan_denied (SetList path which sent) is =
-      denied_first caller false _ at bits place entry n (along path) path is
+      denied_first caller false _ front bits place entry n (along path) path is
   plan_denied (ReadAttr path) is =
-      denied_first caller false _ at bits place entry n (along path) path is
+      denied_first caller false _ front bits place entry n (along path) path is
   plan_denied (SetOwners path owners) is =
-      denied_first caller false _ at bits place entry n (along path) path is
+      denied_first caller false _ front bits place entry n (along path) path is
   plan_denied (Can path mask) is =
-      denied_first caller false _ at bits place entry n (along path) path is
+      denied_first caller false _ front bits place entry n (along path) path is
 
 -- each object's path has one name more than that of the one before
 abbrev Deepens : Site → List Site → Type 0
@@ -248,10 +248,10 @@ deepens_stored rows path node (name ∷ names) = on (child_of rows node.id name)
         (length-append path (name ∷ []), more child)
 
 -- where the way is denied, it is denied at an object on it
-module _ (caller : Caller) (lack : Bool) (at : List (List ℕ)) (bits : List ℕ) (place : Option ℕ)
+module _ (caller : Caller) (lack : Bool) (front : List (List ℕ)) (bits : List ℕ) (place : Option ℕ)
     (entry : Option Ace) where
   abbrev denied : Option Reply
-  denied = Some (Denied at bits place entry)
+  denied = Some (Denied front bits place entry)
 
   no_failure : None ≡ denied → ⊥
   no_failure same = cc
@@ -266,18 +266,19 @@ module _ (caller : Caller) (lack : Bool) (at : List (List ℕ)) (bits : List ℕ
   either (Some reply) more is = inl is
 
   -- a check is denied at its object
-  at_site : (site : Site) (v : Verdict) → of_verdict site v ≡ denied → length at ≡ length site.path
+  at_site : (site : Site) (v : Verdict) → of_verdict site v ≡ denied
+      → length front ≡ length site.path
   at_site site Granted is = absurd (no_failure is)
   at_site site (DeniedWith of_bits of_place) is =
       ap (λ (path : List (List ℕ)). length path) (sym (same is))
     where
       same : Some (Denied site.path of_bits of_place (entry_at site of_place)) ≡ denied
-          → site.path ≡ at
+          → site.path ≡ front
       same given = cc
 
   -- so far, as many names below this object as the path of the denial has more
   abbrev IsDeniedBelow : Site → List Site → List (List ℕ) → Type 0
-  IsDeniedBelow site sites names = (n : ℕ) × (length at ≡ length site.path + n)
+  IsDeniedBelow site sites names = (n : ℕ) × (length front ≡ length site.path + n)
       × (first_failure caller (way_as_far n (site ∷ sites) names) ≡ denied)
 
   denied_here : (site : Site) (sites : List Site) (name : List ℕ) (names : List (List ℕ))
@@ -318,19 +319,19 @@ module _ (caller : Caller) (lack : Bool) (at : List (List ℕ)) (bits : List ℕ
       let more : Option Reply = or_else
       (cond (not (lack && is_empty names))
       (Some (Refused (site.path ++ name ∷ []) NoSuch)) None) None in
-      let folder = past_refusal caller lack [] at bits place entry site.path NotFolder
+      let folder = past_refusal caller lack [] front bits place entry site.path NotFolder
       (not (is_folder site.node)) (or_else failed more) is in
       elim (either failed more folder.1) [
         | inl here ↦ denied_here site [] name names folder.0 here
         | inr on ↦
             absurd
-            (no_failure (past_refusal caller lack [] at bits place entry
+            (no_failure (past_refusal caller lack [] front bits place entry
             (site.path ++ name ∷ []) NoSuch (not (lack && is_empty names)) None on.1).1)
       ]
   denied_below site (next ∷ sites) (name ∷ names) deeper is =
       let failed : Option Reply = failure caller (Check site (execute ∷ [])) in
       let more : Option Reply = first_failure caller (way lack (next ∷ sites) names) in
-      let folder = past_refusal caller lack [] at bits place entry site.path NotFolder
+      let folder = past_refusal caller lack [] front bits place entry site.path NotFolder
       (not (is_folder site.node)) (or_else failed more) is in
       elim (either failed more folder.1) [
         | inl here ↦ denied_here site (next ∷ sites) name names folder.0 here
@@ -341,14 +342,14 @@ module _ (caller : Caller) (lack : Bool) (at : List (List ℕ)) (bits : List ℕ
 
   at_depth : (site : Site) (sites : List Site) (names : List (List ℕ)) → length site.path ≡ 0
       → IsDeniedBelow site sites names
-      → first_failure caller (way_as_far (length at) (site ∷ sites) names) ≡ denied
+      → first_failure caller (way_as_far (length front) (site ∷ sites) names) ≡ denied
   at_depth site sites names none below =
       ap (λ n. first_failure caller (way_as_far n (site ∷ sites) names))
       (below.1 ∙ ap (λ n. n + below.0) none ∙ zero-add below.0) ∙ below.2
 
   denied_along : (chain : List Node) (names : List (List ℕ))
       → first_failure caller (way lack (sites_of chain) names) ≡ denied
-      → first_failure caller (way_as_far (length at) (sites_of chain) names) ≡ denied
+      → first_failure caller (way_as_far (length front) (sites_of chain) names) ≡ denied
   denied_along [] names is = absurd (no_failure is)
   denied_along (root ∷ chain) names is =
       at_depth (root_site root) (sites_below (root_site root) chain) names refl
@@ -357,17 +358,17 @@ module _ (caller : Caller) (lack : Bool) (at : List (List ℕ)) (bits : List ℕ
 
   denied_stored : (rows : Content) (path names : List (List ℕ))
       → first_failure caller (way lack (stored_along rows path) names) ≡ denied
-      → first_failure caller (way_as_far (length at) (stored_along rows path) names) ≡ denied
+      → first_failure caller (way_as_far (length front) (stored_along rows path) names) ≡ denied
   denied_stored rows path names is = on (root_of rows) is
     where
       on : (o : Option Node)
           → first_failure caller
           (way lack (option_map_or (λ root. stored_from rows [] root path) o []) names) ≡ denied
-          → first_failure caller (way_as_far (length at)
+          → first_failure caller (way_as_far (length front)
           (option_map_or (λ root. stored_from rows [] root path) o []) names) ≡ denied
       on None is = absurd (no_failure is)
       on (Some root) is =
-          subst (λ sites. first_failure caller (way_as_far (length at) sites names) ≡ denied)
+          subst (λ sites. first_failure caller (way_as_far (length front) sites names) ≡ denied)
           (sym (stored_head rows [] root path))
           (at_depth (stored_site [] root) (stored_tail rows [] root path) names refl
           (denied_below (stored_site [] root) (stored_tail rows [] root path) names

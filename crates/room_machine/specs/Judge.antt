@@ -51,7 +51,7 @@ failure caller (Deletion target parent) =
     let above = full_at Dacl parent in
     of_deletion target parent
     (deletion (full_at Dacl target) target.node.owners above parent.node.owners caller)
-failure caller (Refusal at why holds) = if holds then Some (Refused at why) else None
+failure caller (Refusal path why holds) = if holds then Some (Refused path why) else None
 
 abbrev pub passes : Caller → Item → Bool
 passes caller item = is_none (failure caller item)
@@ -79,7 +79,7 @@ checks_of caller (Check site bits) = (site, bits) ∷ []
 checks_of caller (Deletion target parent) =
     let second = if is_by_adding caller target parent then write_data else delete_child in
     (target, delete ∷ []) ∷ (parent, second ∷ []) ∷ []
-checks_of caller (Refusal at why holds) = []
+checks_of caller (Refusal path why holds) = []
 
 -- a record of an entry of alarm is an alarm, and one of audit an audit
 abbrev pub kind_of_record : EntryKind → RecordKind

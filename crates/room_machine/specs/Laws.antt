@@ -61,7 +61,7 @@ way_failure content user may_lack path =
 
 -- the objects of a walk down to the one at the first of these paths
 abbrev pub chain_to : List (List ℕ) → Content → List (List ℕ) → List Node
-chain_to at content path = take (length at + 1) (walk_of content path).chain
+chain_to front content path = take (length front + 1) (walk_of content path).chain
 
 -- On hiding: where the way to a request's first path is denied at an object, the reply is that
 -- denial in every content with the same objects down to it and the same groups of the caller. What
@@ -69,29 +69,29 @@ chain_to at content path = take (length at + 1) (walk_of content path).chain
 abbrev pub Hides : Type 0
 Hides =
     (a b : Content) (user : Option (List ℕ)) (moment : ℤ) (request : Request) (may_lack : Bool)
-    (at : List (List ℕ)) (bits : List ℕ) (place : Option ℕ) (entry : Option Ace) (reply : Reply)
+    (front : List (List ℕ)) (bits : List ℕ) (place : Option ℕ) (entry : Option Ace) (reply : Reply)
     (after : Content) →
-    way_failure a user may_lack (first_path request) ≡ Some (Denied at bits place entry) →
-    chain_to at a (first_path request) ≡ chain_to at b (first_path request) →
+    way_failure a user may_lack (first_path request) ≡ Some (Denied front bits place entry) →
+    chain_to front a (first_path request) ≡ chain_to front b (first_path request) →
     groups_for a user ≡ groups_for b user →
-    Step b user moment request reply after → reply ≡ Denied at bits place entry
+    Step b user moment request reply after → reply ≡ Denied front bits place entry
 
 -- the stored lists of the objects down to the one at the first of these paths
 abbrev pub stored_to : List (List ℕ) → Content → List (List ℕ) → List Site
-stored_to at rows path = take (length at + 1) (stored_along rows path)
+stored_to front rows path = take (length front + 1) (stored_along rows path)
 
 -- The same where rows needn't be sound, by the lists as they are stored.
 abbrev pub HidesStored : Type 0
 HidesStored =
     (a b : Rows) (user : Option (List ℕ)) (moment : ℤ) (request : Request) (may_lack : Bool)
-    (at : List (List ℕ)) (bits : List ℕ) (place : Option ℕ) (entry : Option Ace) (reply : Reply)
+    (front : List (List ℕ)) (bits : List ℕ) (place : Option ℕ) (entry : Option Ace) (reply : Reply)
     (after : Rows) →
     first_failure (caller_in a.read user)
     (way may_lack (stored_along a.read (first_path request)) (first_path request))
-    ≡ Some (Denied at bits place entry) →
-    stored_to at a.read (first_path request) ≡ stored_to at b.read (first_path request) →
+    ≡ Some (Denied front bits place entry) →
+    stored_to front a.read (first_path request) ≡ stored_to front b.read (first_path request) →
     groups_for a.read user ≡ groups_for b.read user →
-    FailsClosed user moment request b reply after → reply ≡ Denied at bits place entry
+    FailsClosed user moment request b reply after → reply ≡ Denied front bits place entry
 
 -- Some number is free, so the machine can always step.
 abbrev pub SomeFree : Type 0

@@ -49,7 +49,7 @@ Step content user moment request reply after = (id : ℕ) × IsFree content id
 abbrev pub is_refusal : Item → Bool
 is_refusal (Check site bits) = false
 is_refusal (Deletion target parent) = false
-is_refusal (Refusal at why holds) = true
+is_refusal (Refusal path why holds) = true
 
 -- A list is set as by a request, with the refusals of its plan alone. No rights are checked, and no
 -- record is left.

@@ -48,20 +48,20 @@ pub trait Desk {
         &mut self,
         alloc: Global,
         caller: Option<&Name>,
-        at: i64,
+        moment: i64,
         request: &Request,
     ) -> Result<Reply, DeskFault>
         ensures trusted { trusted self.new → trusted self.old }
         ensures step { trusted self.new → sound self.old → Steps (content self.old)
-            (option_copied caller.entry) at request.now result (content self.new) }
+            (option_copied caller.entry) moment request.now result (content self.new) }
         ensures sound { trusted self.new → sound self.old → sound self.new }
         ensures closed { trusted self.new → Closes (stored self.old)
-            (option_copied caller.entry) at request.now result (stored self.new) }
+            (option_copied caller.entry) moment request.now result (stored self.new) }
         ensures faults { faults self.new ≡ fault_counted result (faults self.old) }
         ensures shut { shut self.old → shut self.new × (trusted self.new → OnOk result ⊥) }
         ensures outlasts { Outlasts self.old
-            (unanswered result (Event.Asked (option_copied caller.entry) at request.now))
-            (event_of result (Event.Asked (option_copied caller.entry) at request.now))
+            (unanswered result (Event.Asked (option_copied caller.entry) moment request.now))
+            (event_of result (Event.Asked (option_copied caller.entry) moment request.now))
             self.new };
 
     /// Whether the desk is shut: a fault of its store may have left it so that it answers no

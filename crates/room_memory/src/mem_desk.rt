@@ -53,16 +53,16 @@ impl MemDesk {
         &self,
         alloc: Global,
         caller: Option<&Name>,
-        at: i64,
+        moment: i64,
         request: &Request,
     ) -> Result<(MemKeep, Reply), KeepFault>
         ensures tried { IfOk result (λ done. Tries
-            (option_copied caller.entry) at request.now self.now.keep done.1 done.0) }
+            (option_copied caller.entry) moment request.now self.now.keep done.1 done.0) }
         ensures closed { IfOk result (λ done. TriesClosed
-            (option_copied caller.entry) at request.now self.now.keep done.1 done.0) }
+            (option_copied caller.entry) moment request.now self.now.keep done.1 done.0) }
     {
         let mut keep = self.keep.copy()?;
-        let reply = perform(alloc, &mut keep, caller, at, request)?;
+        let reply = perform(alloc, &mut keep, caller, moment, request)?;
         Ok((keep, reply))
     }
 }
@@ -88,10 +88,10 @@ impl Desk for MemDesk {
         &mut self,
         alloc: Global,
         caller: Option<&Name>,
-        at: i64,
+        moment: i64,
         request: &Request,
     ) -> Result<Reply, DeskFault> {
-        match self.tried(alloc, caller, at, request) {
+        match self.tried(alloc, caller, moment, request) {
             Ok((keep, reply)) => {
                 self.keep = keep;
                 Ok(reply)

@@ -170,6 +170,6 @@ module _ (question : Question) (start : Start) (rows : Rows)
       subst (λ (o : Option Site). IsReviewAt pairs question o rows
       (ended_at question.path start.node.kind (suc rest))) (sym end.0) end.1
 
-  pub lost_there : (at : ℕ) → Walked 0 → IsLostAt start rows at → HasNoRoot rows at
-  lost_there at walked lost =
+  pub lost_there : (row : ℕ) → Walked 0 → IsLostAt start rows row → HasNoRoot rows row
+  lost_there row walked lost =
       lost sites (stands walked) (ended rows question.path start.above start.node walked).1

@@ -42,7 +42,7 @@ is_rulings (Rulings pairs) = true
 is_rulings _ = false
 
 abbrev pub is_denial : Reply → Bool
-is_denial (Denied at bits place entry) = true
+is_denial (Denied path bits place entry) = true
 is_denial _ = false
 
 abbrev pub is_not_empty : Reason → Bool
@@ -53,7 +53,7 @@ is_not_empty _ = false
 -- children, which is looked at after the rights.
 abbrev pub passed_rights : Reply → Bool
 passed_rights Done = true
-passed_rights (Refused at why) = is_not_empty why
+passed_rights (Refused path why) = is_not_empty why
 passed_rights _ = false
 
 -- ---- the laws

@@ -44,9 +44,9 @@ GathersAll most waiting old new rows answer =
     → Gathers old (users_below rows node) new
 
 abbrev pub IsLost : ℕ → List Node → Rows → ℕ → Type 0
-IsLost most waiting rows at =
+IsLost most waiting rows row =
     (path : List (List ℕ)) (node : Node) → StartsAt most path node rows → waiting ≡ node ∷ []
-    → HasNoRoot rows at
+    → HasNoRoot rows row
 
 -- the users at an object, and its children wait
 abbrev pub GathersOne : Node → List Node → List Node → List (List ℕ) → List (List ℕ) → Rows
@@ -130,9 +130,9 @@ TellsAll asked most waiting text more rows answer =
     → more ≡ text ++ rows_text (below_rows asked rows place node)
 
 abbrev pub IsStray : Asked → ℕ → List Waiting → Rows → ℕ → Type 0
-IsStray asked most waiting rows at =
+IsStray asked most waiting rows row =
     (place : Place) (node : Node) → WaitsBelow asked most place node waiting rows
-    → HasNoRoot rows at
+    → HasNoRoot rows row
 
 -- ---- the way
 
@@ -153,7 +153,7 @@ abbrev pub IfStarts : ℕ → Start → Rows → (List Site → Type 0) → Type
 IfStarts most start rows P = (sites : List Site) → Starts most start sites rows → P sites
 
 abbrev pub IsAstray : ℕ → Start → Rows → ℕ → Type 0
-IsAstray most start rows at = IfStarts most start rows (λ sites. HasNoRoot rows at)
+IsAstray most start rows row = IfStarts most start rows (λ sites. HasNoRoot rows row)
 
 -- the place of the object that a review starts at
 abbrev pub place_at : Start → List Site → Place
@@ -196,11 +196,11 @@ GivesReview pairs question start rows bytes =
     → IsTable pairs question sites (stored_site start.path start.node) rows (Table bytes)
 
 abbrev pub IsLostAt : Start → Rows → ℕ → Type 0
-IsLostAt start rows at =
+IsLostAt start rows row =
     (sites : List Site)
     → site_at (stored_along rows.read start.path) start.path
     ≡ Some (stored_site start.path start.node)
-    → AreOn start.above sites → HasNoRoot rows at
+    → AreOn start.above sites → HasNoRoot rows row
 
 -- A walk along the path ended at the start, with this many names left over.
 abbrev pub IfWalked : Question → Start → ℕ → Rows → Type 0 → Type 0
@@ -215,4 +215,4 @@ GivesAnswer pairs question start rest rows reviewed =
     IfWalked question start rest rows (IsReview pairs question rows reviewed)
 
 abbrev pub IsStranded : Question → Start → ℕ → Rows → ℕ → Type 0
-IsStranded question start rest rows at = IfWalked question start rest rows (HasNoRoot rows at)
+IsStranded question start rest rows row = IfWalked question start rest rows (HasNoRoot rows row)

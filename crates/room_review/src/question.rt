@@ -21,7 +21,7 @@ pub enum Reviewed {
     /// The table, as comma-separated text.
     Table(Bytes),
     /// The path leads nowhere, because of what was found at this path.
-    Refused { at: Path, why: Reason },
+    Refused { path: Path, why: Reason },
 }
 
 // Where a review starts: an object, the path to it, and the objects on the way.

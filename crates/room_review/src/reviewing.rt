@@ -81,11 +81,11 @@ fn ended_at(alloc: Global, path: &Path, kind: ObjKind, rest: usize) -> Result<Re
     let count = path.names().len();
     match kind {
         ObjKind::Document => Ok(Reviewed::Refused {
-            at: path.front(alloc, count.saturating_sub(rest))?,
+            path: path.front(alloc, count.saturating_sub(rest))?,
             why: Reason::NotFolder,
         }),
         ObjKind::Folder => Ok(Reviewed::Refused {
-            at: path.front(alloc, count.saturating_sub(rest.saturating_sub(1)))?,
+            path: path.front(alloc, count.saturating_sub(rest.saturating_sub(1)))?,
             why: Reason::NoSuch,
         }),
     }

@@ -87,7 +87,7 @@ impl Sheet {
 // Writes the header.
 fn push_header(writer: &mut Writer<Vec<u8>>) -> Result<(), AllocError>
     requires { StandsAtRow writer.old }
-    ensures at { OnOk result (StandsAtRow writer.new) }
+    ensures at_row { OnOk result (StandsAtRow writer.new) }
     ensures text { OnOk result (HasRow header writer.old writer.new) }
 {
     push_row(
@@ -127,15 +127,15 @@ fn push_line(
     alloc: Global,
     writer: &mut Writer<Vec<u8>>,
     told: &Told<'_>,
-    at: (&Party, &Standing),
+    caller: (&Party, &Standing),
 ) -> Result<(), AllocError>
     requires { StandsAtRow writer.old }
-    ensures at { OnOk result (StandsAtRow writer.new) }
+    ensures at_row { OnOk result (StandsAtRow writer.new) }
     ensures text { OnOk result (HasRow
-        (line told.now.path.now told.now.kind (at.entry.0.now, at.entry.1.now))
+        (line told.now.path.now told.now.kind (caller.entry.0.now, caller.entry.1.now))
         writer.old writer.new) }
 {
-    let (party, standing) = at;
+    let (party, standing) = caller;
     let mut rights = String::new(alloc);
     standing.rights.push_letters(&mut rights)?;
     push_fields(writer, rights.as_str(), told, (party, standing))
@@ -146,16 +146,16 @@ fn push_fields<'a>(
     writer: &mut Writer<Vec<u8>>,
     rights: &'a str,
     told: &'a Told<'a>,
-    at: (&'a Party, &'a Standing),
+    caller: (&'a Party, &'a Standing),
 ) -> Result<(), AllocError>
     requires at_row { StandsAtRow writer.old }
-    requires letters { rights.now ≡ mask_text at.1.now.rights }
-    ensures at { OnOk result (StandsAtRow writer.new) }
+    requires letters { rights.now ≡ mask_text caller.1.now.rights }
+    ensures at_row { OnOk result (StandsAtRow writer.new) }
     ensures text { OnOk result (HasRow
-        (line told.now.path.now told.now.kind (at.entry.0.now, at.entry.1.now))
+        (line told.now.path.now told.now.kind (caller.entry.0.now, caller.entry.1.now))
         writer.old writer.new) }
 {
-    let (party, standing) = at;
+    let (party, standing) = caller;
     push_row(
         writer,
         &[

@@ -241,9 +241,11 @@ pub body_of-with_body : (content : Content) (id : ℕ) (bytes : List ℕ)
 body_of-with_body content id bytes = bytes_put id bytes content.bodies
 
 -- the bytes of other documents stay when those of one are set
-pub body_of-with_body-other : (content : Content) (id : ℕ) (bytes : List ℕ) (at : ℕ) → (at ≡ id → ⊥)
-    → body_of (with_body content id bytes) at ≡ body_of content at
-body_of-with_body-other content id bytes at other = bytes_put-other id bytes content.bodies at other
+pub body_of-with_body-other : (content : Content) (id : ℕ) (bytes : List ℕ)
+    (row : ℕ) → (row ≡ id → ⊥)
+    → body_of (with_body content id bytes) row ≡ body_of content row
+body_of-with_body-other content id bytes row other =
+    bytes_put-other id bytes content.bodies row other
 
 -- ---- what is there, put once more
 

@@ -82,10 +82,13 @@ module _ {S : Type 0} (rows : S → Rows) (failures writes : S → ℕ)
       unfailed (Err e) h = tt
 
       cause : (r : Result X KeepFault)
-          → IfErr r (HasCause (failures b) (failures c) (λ at. IsTrusted b c → Blames (rows b) at))
-          → ((at : ℕ) → (IsTrusted b c → Blames (rows b) at) → IsTrusted a c → Blames (rows a) at)
+          → IfErr r
+          (HasCause (failures b) (failures c) (λ row. IsTrusted b c → Blames (rows b) row))
+          → ((row : ℕ) → (IsTrusted b c → Blames (rows b) row) → IsTrusted a c
+          → Blames (rows a) row)
           → failures a ≤ failures b → failures b ≤ failures c
-          → IfErr r (HasCause (failures a) (failures c) (λ at. IsTrusted a c → Blames (rows a) at))
+          → IfErr r
+          (HasCause (failures a) (failures c) (λ row. IsTrusted a c → Blames (rows a) row))
       cause (Ok x) h on up up' = tt
       cause (Err e) h on up up' = later_cause _ _ _ e _ _ up up' on h
 
@@ -106,7 +109,7 @@ module _ {S : Type 0} (rows : S → Rows) (failures writes : S → ℕ)
   -- a fault of a read is the fault of the call that made it
   pub gives_up : {X Y : Type 0} (a c : S) (e : KeepFault) {Blames Blames' : Rows → ℕ → Type 0}
       {Answers : Rows → X → Type 0} {Answers' : Rows → Y → Type 0}
-      → ((w : Rows) (at : ℕ) → Blames w at → Blames' w at)
+      → ((w : Rows) (row : ℕ) → Blames w row → Blames' w row)
       → IsRead rows failures writes Follows IsTrusted {X = X} a c (Err e) Blames Answers
       → IsRead rows failures writes Follows IsTrusted {X = Y} a c (Err e) Blames' Answers'
   gives_up {X = X} {Y = Y} a c e {Blames} {Blames'} weaker read = record {

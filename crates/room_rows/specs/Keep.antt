@@ -43,29 +43,29 @@ HasCause before after damaged (Damaged id) = damaged id
 
 -- no row
 abbrev pub IsNever : Rows → ℕ → Type 0
-IsNever rows at = ⊥
+IsNever rows row = ⊥
 
 -- a row that can't be read
 abbrev pub IsUnreadable : Rows → ℕ → Type 0
-IsUnreadable rows at = IsTrue (is_unreadable rows at)
+IsUnreadable rows row = IsTrue (is_unreadable rows row)
 
 -- the row of this number, which can't be read
 abbrev pub IsUnreadableAt : ℕ → Rows → ℕ → Type 0
-IsUnreadableAt id rows at = (at ≡ id) × IsTrue (is_unreadable rows at)
+IsUnreadableAt id rows row = (row ≡ id) × IsTrue (is_unreadable rows row)
 
 -- a row that can't be read, or 0 where no object is without a parent
 abbrev pub HasNoRoot : Rows → ℕ → Type 0
-HasNoRoot rows at = IsTrue (is_unreadable rows at) ⊎ ((at ≡ 0) × (root_of rows.read ≡ None))
+HasNoRoot rows row = IsTrue (is_unreadable rows row) ⊎ ((row ≡ 0) × (root_of rows.read ≡ None))
 
 -- a document without bytes
 abbrev pub LacksBytes : Rows → ℕ → Type 0
-LacksBytes rows at =
-    (node : Node) × (node_at rows.read at ≡ Some node) × IsTrue (is_document node.kind)
-    × (body_of rows.read at ≡ None)
+LacksBytes rows row =
+    (node : Node) × (node_at rows.read row ≡ Some node) × IsTrue (is_document node.kind)
+    × (body_of rows.read row ≡ None)
 
 -- Every number that `Damaged` may name, where the keeper answers by its rows.
 abbrev pub IsDamaged : Rows → ℕ → Type 0
-IsDamaged rows at = HasNoRoot rows at ⊎ LacksBytes rows at
+IsDamaged rows row = HasNoRoot rows row ⊎ LacksBytes rows row
 
 -- ---- what reading calls answer
 
@@ -250,7 +250,7 @@ module _ {S : Type 0} (rows : S → Rows) (failures writes : S → ℕ)
     pub answers : IsTrusted old new → IfOk result (Answers (rows old))
     pub unfailed : IfOk result (λ _. failures new ≡ failures old)
     pub fault : IfErr result (HasCause (failures old) (failures new)
-        (λ at. IsTrusted old new → Blames (rows old) at))
+        (λ row. IsTrusted old new → Blames (rows old) row))
 
   -- One call that writes, so many objects or records. After a fault nothing is said of the rows.
   pub record IsWriteOf (count : ℕ) {X : Type 0} (old new : S) (result : Result X KeepFault)
@@ -260,7 +260,7 @@ module _ {S : Type 0} (rows : S → Rows) (failures writes : S → ℕ)
     pub becomes : IsTrusted old new → IfOk result (λ answer. Becomes (rows old) answer (rows new))
     pub unfailed : IfOk result (λ _. failures new ≡ failures old)
     pub fault : IfErr result (HasCause (failures old) (failures new)
-        (λ at. IsTrusted old new → Blames (rows old) at))
+        (λ row. IsTrusted old new → Blames (rows old) row))
 
   -- One call that writes one of them.
   abbrev pub IsWrite : {X : Type 0} → S → S → Result X KeepFault → (Rows → ℕ → Type 0)

@@ -82,17 +82,17 @@ impl<S: Alter> Room<S> {
         alloc: Global,
         lists: &mut RecentLists,
         caller: Option<&Name>,
-        at: i64,
+        moment: i64,
         request: &Request,
     ) -> Result<Reply, StoreFault>
         ensures ran { Ran (state S.Store self.old) (state S.Store self.new) result
-            HasDamage (Performs (option_copied caller.entry) at request.now) }
+            HasDamage (Performs (option_copied caller.entry) moment request.now) }
     {
         let known = match self.memory.take() {
             None => Memory::new(alloc),
             Some(known) => known,
         };
-        let (done, kept) = run_on(alloc, &mut self.conn, known, lists, caller, at, request);
+        let (done, kept) = run_on(alloc, &mut self.conn, known, lists, caller, moment, request);
         self.memory = kept;
         done
     }

@@ -31,7 +31,7 @@ fn perform_by<S: Alter>(
     alloc: Global,
     keep: &mut Remembering<'_, Keeper<'_, '_, S>>,
     caller: Option<&Name>,
-    at: i64,
+    moment: i64,
     request: &Request,
 ) -> Result<Reply, KeepFault>
     ensures same_keeper { keep.new.keeper.ghost_name ≡ keep.old.keeper.ghost_name }
@@ -47,13 +47,13 @@ fn perform_by<S: Alter>(
         (rows_of (state S.Store keep.old.keeper.now.tx.now.conn.now).now))
         → CallsInside (state S.Store keep.old.keeper.now.tx.now.conn.now)
         (state S.Store keep.new.keeper.now.tx.now.conn.now) result (OnRows HasDamage)
-        (ByRows (Performs (option_copied caller.entry) at request.now)) }
+        (ByRows (Performs (option_copied caller.entry) moment request.now)) }
     ensures kept { keep.new.touched ≡ false
         → IsKept (state S.Store keep.old.keeper.now.tx.now.conn.now)
         (state S.Store keep.new.keeper.now.tx.now.conn.now) keep.old.memory.now
         keep.new.memory.now }
 {
-    perform(alloc, keep, caller, at, request)
+    perform(alloc, keep, caller, moment, request)
 }
 
 // Whether nothing was written and nothing failed.
@@ -69,7 +69,7 @@ fn perform_with<S: Alter>(
     keeper: &mut Keeper<'_, '_, S>,
     known: &mut Memory,
     caller: Option<&Name>,
-    at: i64,
+    moment: i64,
     request: &Request,
 ) -> (Result<Reply, KeepFault>, bool)
     ensures same_reference { keeper.new.tx.ghost_name ≡ keeper.old.tx.ghost_name }
@@ -81,7 +81,7 @@ fn perform_with<S: Alter>(
         → Agrees known.old (rows_of (state S.Store keeper.old.tx.now.conn.now).now))
         → CallsInside (state S.Store keeper.old.tx.now.conn.now)
         (state S.Store keeper.new.tx.now.conn.now) result.0 (OnRows HasDamage)
-        (ByRows (Performs (option_copied caller.entry) at request.now)) }
+        (ByRows (Performs (option_copied caller.entry) moment request.now)) }
     ensures kept { result.1 ≡ true → IsOk result.0
         × IsKept (state S.Store keeper.old.tx.now.conn.now)
         (state S.Store keeper.new.tx.now.conn.now) known.old known.new }
@@ -92,7 +92,7 @@ fn perform_with<S: Alter>(
         memory: known,
         touched: false,
     };
-    let done = perform_by(alloc, &mut keep, caller, at, request);
+    let done = perform_by(alloc, &mut keep, caller, moment, request);
     let only_read = has_read(keep.touched, &done);
     (done, only_read)
 }
@@ -104,7 +104,7 @@ fn perform_inside<S: Alter>(
     lists: &mut RecentLists,
     known: &mut Memory,
     caller: Option<&Name>,
-    at: i64,
+    moment: i64,
     request: &Request,
 ) -> (Result<Reply, KeepFault>, bool)
     ensures same_reference { tx.new.conn.ghost_name ≡ tx.old.conn.ghost_name }
@@ -113,7 +113,7 @@ fn perform_inside<S: Alter>(
         → Agrees known.old (rows_of (state S.Store tx.old.conn.now).now))
         → CallsInside (state S.Store tx.old.conn.now) (state S.Store tx.new.conn.now)
         result.0 (OnRows HasDamage)
-        (ByRows (Performs (option_copied caller.entry) at request.now)) }
+        (ByRows (Performs (option_copied caller.entry) moment request.now)) }
     ensures kept { result.1 ≡ true → IsOk result.0
         × IsKept (state S.Store tx.old.conn.now) (state S.Store tx.new.conn.now)
         known.old known.new }
@@ -125,7 +125,7 @@ fn perform_inside<S: Alter>(
         failures: 0,
         writes: 0,
     };
-    perform_with(alloc, &mut keeper, known, caller, at, request)
+    perform_with(alloc, &mut keeper, known, caller, moment, request)
 }
 
 // After calls that only read, and were rolled back: the answer, if the connection is open.
@@ -159,18 +159,26 @@ pub(crate) fn run_on<S: Alter>(
     known: Memory,
     lists: &mut RecentLists,
     caller: Option<&Name>,
-    at: i64,
+    moment: i64,
     request: &Request,
 ) -> (Result<Reply, StoreFault>, Option<Memory>)
     requires between { conn.old.in_transaction ≡ false }
     requires remembers { Remembers (state S.Store conn.old) known }
     ensures ran { Ran (state S.Store conn.old) (state S.Store conn.new) result.0 HasDamage
-        (Performs (option_copied caller.entry) at request.now) }
+        (Performs (option_copied caller.entry) moment request.now) }
     ensures remembers { IfSome result.1 (Remembers (state S.Store conn.new)) }
 {
     let mut tx = begin(conn);
     let mut memory = known;
-    let (done, only_read) = perform_inside(alloc, &mut tx, lists, &mut memory, caller, at, request);
+    let (done, only_read) = perform_inside(
+        alloc,
+        &mut tx,
+        lists,
+        &mut memory,
+        caller,
+        moment,
+        request,
+    );
     if only_read {
         let looked = give_up(tx, done);
         return end_look(conn, looked, memory);

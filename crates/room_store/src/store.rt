@@ -79,24 +79,25 @@ impl<S: Alter> Store<S> {
         &mut self,
         alloc: Global,
         caller: Option<&Name>,
-        at: i64,
+        moment: i64,
         request: &Request,
     ) -> Result<Reply, StoreFault>
         ensures ran { Ran (state S.Store self.old.conn) (state S.Store self.new.conn) result
-            HasDamage (Performs (option_copied caller.entry) at request.now) }
+            HasDamage (Performs (option_copied caller.entry) moment request.now) }
         ensures closed { HasCleanDisk (state S.Store self.new.conn)
-            → Closes (Stores (state S.Store self.old.conn)) (option_copied caller.entry) at
+            → Closes (Stores (state S.Store self.old.conn)) (option_copied caller.entry) moment
             request.now result (Stores (state S.Store self.new.conn)) }
         ensures leads { Leads (state S.Store self.old.conn) (event_of result
-            (Event.Asked (option_copied caller.entry) at request.now))
+            (Event.Asked (option_copied caller.entry) moment request.now))
             (state S.Store self.new.conn) }
         ensures outlasts { Outlasts (state S.Store self.old.conn)
-            (unanswered result (Event.Asked (option_copied caller.entry) at request.now))
-            (event_of result (Event.Asked (option_copied caller.entry) at request.now))
+            (unanswered result (Event.Asked (option_copied caller.entry) moment request.now))
+            (event_of result (Event.Asked (option_copied caller.entry) moment request.now))
             (state S.Store self.new.conn) }
         ensures faults { self.new.faults ≡ self.old.faults }
     {
-        self.conn.run(alloc, &mut self.lists, caller, at, request)
+        self.conn
+            .run(alloc, &mut self.lists, caller, moment, request)
     }
 
     /// Sets one of an object's lists as the request does, but asks no rights and leaves no record.

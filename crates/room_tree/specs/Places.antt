@@ -63,7 +63,8 @@ module _ {Y : Type 0} where
   abbrev pub KeepsOtherPlaces : Option (ℕ × List ℕ) → List ((ℕ × String Y) × ℕ)
       → List ((ℕ × String Y) × ℕ) → Type 0
   KeepsOtherPlaces place old new =
-      (p : ℕ) (n : List ℕ) → option_map_or (λ at. is_same_place p n at.0 at.1) place false ≡ false
+      (p : ℕ) (n : List ℕ)
+      → option_map_or (λ other. is_same_place p n other.0 other.1) place false ≡ false
       → id_at p n new ≡ id_at p n old
 
   -- the number is listed at the new place, and then no longer at the old one

@@ -52,8 +52,8 @@ fn seems_a_room(page: &[u8]) -> bool {
 }
 
 fn has(page: &[u8], name: &[u8]) -> bool {
-    for at in 0..page.len() {
-        if page[at..].starts_with(name) {
+    for index in 0..page.len() {
+        if page[index..].starts_with(name) {
             return true;
         }
     }

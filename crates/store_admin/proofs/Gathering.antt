@@ -144,61 +144,63 @@ has_last pairs k d low =
 abbrev all_of : List (Bor Pair) → List Pair
 all_of order = map (λ p. p.now) order
 
-pub at_now : (order : List (Bor Pair)) (at : ℕ) (p : Bor Pair) (d : Pair) → at < length order
-    → p ≡ get_or order at p → get_or (all_of order) at d ≡ p.now
-at_now order at p d low is =
-    get_or-map (λ (p : Bor Pair). p.now) order at p d low ∙ ap (λ (p : Bor Pair). p.now) (sym is)
+pub at_now : (order : List (Bor Pair)) (index : ℕ) (p : Bor Pair) (d : Pair) → index < length order
+    → p ≡ get_or order index p → get_or (all_of order) index d ≡ p.now
+at_now order index p d low is =
+    get_or-map (λ (p : Bor Pair). p.now) order index p d low ∙ ap (λ (p : Bor Pair). p.now) (sym is)
 
 all_length : (order : List (Bor Pair)) → length (all_of order) ≡ length order
 all_length [] = refl
 all_length (p ∷ order) = ap suc (all_length order)
 
 -- up to a place and with it
-pub so_far : (order : List (Bor Pair)) (at : ℕ) (p : Bor Pair) → at < length order
-    → p ≡ get_or order at p
-    → take (at + 1) (all_of order) ≡ take at (all_of order) ++ p.now ∷ []
-so_far order at p low is =
-    let more : at + 1 ≡ suc at = omega arith in
-    let low' = subst (λ n. at < n) (sym (all_length order)) low in
-    ap (λ n. take n (all_of order)) more ∙ take-suc (all_of order) at p.now low'
-    ∙ ap (λ x. take at (all_of order) ++ x ∷ []) (at_now order at p p.now low is)
+pub so_far : (order : List (Bor Pair)) (index : ℕ) (p : Bor Pair) → index < length order
+    → p ≡ get_or order index p
+    → take (index + 1) (all_of order) ≡ take index (all_of order) ++ p.now ∷ []
+so_far order index p low is =
+    let more : index + 1 ≡ suc index = omega arith in
+    let low' = subst (λ n. index < n) (sym (all_length order)) low in
+    ap (λ n. take n (all_of order)) more ∙ take-suc (all_of order) index p.now low'
+    ∙ ap (λ x. take index (all_of order) ++ x ∷ []) (at_now order index p p.now low is)
 
 -- the same pair stands right before
-pub is_again_by : (order : List (Bor Pair)) (at : ℕ) (p q : Bor Pair) → 0 < at → at < length order
-    → p ≡ get_or order at p → q ≡ get_or order (at - 1) q
-    → (is_eq (pair_cmp q.now p.now) ≡ true) ↔ IsAgain (all_of order) at
-is_again_by order at p q up low is before = (
+pub is_again_by : (order : List (Bor Pair)) (index : ℕ) (p q : Bor Pair) → 0 < index
+    → index < length order
+    → p ≡ get_or order index p → q ≡ get_or order (index - 1) q
+    → (is_eq (pair_cmp q.now p.now) ≡ true) ↔ IsAgain (all_of order) index
+is_again_by order index p q up low is before = (
   λ same. (
-    at - 1,
+    index - 1,
     omega (arith, up),
-    λ d. at_now order at p d low is
+    λ d. at_now order index p d low is
         ∙ sym (equal_pairs p.now q.now (is_equal (pair_cmp q.now p.now) same))
-        ∙ sym (at_now order (at - 1) q d (omega (arith, low)) before),
+        ∙ sym (at_now order (index - 1) q d (omega (arith, low)) before),
   ),
   λ again'.
-      let k : again'.0 ≡ at - 1 = omega (arith, again'.1) in
+      let k : again'.0 ≡ index - 1 = omega (arith, again'.1) in
       let both : q.now ≡ p.now =
-      sym (at_now order (at - 1) q p.now (omega (arith, low)) before)
+      sym (at_now order (index - 1) q p.now (omega (arith, low)) before)
       ∙ ap (λ n. get_or (all_of order) n p.now) (sym k) ∙ sym (again'.2 p.now)
-      ∙ at_now order at p p.now low is in
+      ∙ at_now order index p p.now low is in
       ap (λ x. is_eq (pair_cmp x p.now)) both ∙ ap is_eq (tied_itself total p.now),
 )
 
 -- so it is there already
-pub again : (order : List (Bor Pair)) (at : ℕ) → at < length order → IsAgain (all_of order) at
-    → set_of (take at (all_of order)) ≡ set_of (take (at + 1) (all_of order))
-again order at low (k, next, same) =
+pub again : (order : List (Bor Pair)) (index : ℕ) → index < length order
+    → IsAgain (all_of order) index
+    → set_of (take index (all_of order)) ≡ set_of (take (index + 1) (all_of order))
+again order index low (k, next, same) =
     let pairs = all_of order in
     let none : Pair = ([], []) in
-    let low' : at < length pairs = subst (λ n. at < n) (sym (all_length order)) low in
-    let behind : suc k ≡ at = omega (arith, next) in
-    let more : at + 1 ≡ suc at = omega arith in
-    let there : has (get_or pairs at none) (take at pairs) ≡ true =
-    subst (λ n. has (get_or pairs at none) (take n pairs) ≡ true) behind
+    let low' : index < length pairs = subst (λ n. index < n) (sym (all_length order)) low in
+    let behind : suc k ≡ index = omega (arith, next) in
+    let more : index + 1 ≡ suc index = omega arith in
+    let there : has (get_or pairs index none) (take index pairs) ≡ true =
+    subst (λ n. has (get_or pairs index none) (take n pairs) ≡ true) behind
     (subst (λ x. has x (take (suc k) pairs) ≡ true) (sym (same none))
     (has_last pairs k none (omega (arith, next, low')))) in
-    none_more (get_or pairs at none) (take at pairs) there
-    ∙ ap set_of (sym (ap (λ n. take n pairs) more ∙ take-suc pairs at none low'))
+    none_more (get_or pairs index none) (take index pairs) there
+    ∙ ap set_of (sym (ap (λ n. take n pairs) more ∙ take-suc pairs index none low'))
 
 -- a row of a pair of names is read as the pair
 pub read_pair : (id : ℤ) (group user : List ℕ) → name_in (Text group) ≡ Some group

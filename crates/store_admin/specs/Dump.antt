@@ -14,7 +14,7 @@ IsDump db text = (string_bytes text ≡ room_text (rows_of db)) × HasAllBytes (
 
 -- some row is damaged
 abbrev pub HasDamagedRow : Database → Type 0
-HasDamagedRow db = (at : ℕ) × IsDamaged (rows_of db) at
+HasDamagedRow db = (row : ℕ) × IsDamaged (rows_of db) row
 
 -- ---- the two parts of the text
 

@@ -115,9 +115,9 @@ pub record HoldsPairs (pairs : List (List ℕ × List ℕ)) (db next : Trees) : 
 
 -- the pair at this place stands right before it too
 abbrev pub IsAgain : List (List ℕ × List ℕ) → ℕ → Type 0
-IsAgain pairs at = (k : ℕ) × (at ≡ k + 1)
+IsAgain pairs index = (k : ℕ) × (index ≡ k + 1)
     × ((other : List ℕ × List ℕ)
-    → slice_index_or pairs at other ≡ slice_index_or pairs k other)
+    → slice_index_or pairs index other ≡ slice_index_or pairs k other)
 
 -- From the set of some pairs to that of others.
 abbrev pub Gathers : List (List ℕ × List ℕ) → List (List ℕ × List ℕ)

@@ -63,34 +63,34 @@ fn is_same(pair: &(Name, Name), other: &(Name, Name)) -> bool
 }
 
 // Whether the pair at this place stands right before it too.
-fn is_again(order: &[&(Name, Name)], at: usize) -> bool
-    requires { at < length order.now }
-    ensures { IsTrue result ↔ IsAgain (map (λ pair. pair.now) order.now) at }
+fn is_again(order: &[&(Name, Name)], index: usize) -> bool
+    requires { index < length order.now }
+    ensures { IsTrue result ↔ IsAgain (map (λ pair. pair.now) order.now) index }
 {
-    if at == 0 {
+    if index == 0 {
         return false;
     }
-    is_same(order[at - 1], order[at])
+    is_same(order[index - 1], order[index])
 }
 
 // Puts in the pair at this place, unless it is the one before.
 fn insert_at<S: Alter>(
     tx: &mut Transaction<'_, S>,
     order: &[&(Name, Name)],
-    at: usize,
+    index: usize,
 ) -> Result<(), KeepFault>
-    requires { at < length order.now }
+    requires { index < length order.now }
     ensures same_reference { tx.new.conn.ghost_name ≡ tx.old.conn.ghost_name }
     ensures carries { CallsInside (state S.Store tx.old.conn.now) (state S.Store tx.new.conn.now)
-        result NoTables (Gathers (take at (map (λ pair. pair.now) order.now))
-        (take (at + 1) (map (λ pair. pair.now) order.now))) }
-    ensures again { IsAgain (map (λ pair. pair.now) order.now) at
+        result NoTables (Gathers (take index (map (λ pair. pair.now) order.now))
+        (take (index + 1) (map (λ pair. pair.now) order.now))) }
+    ensures again { IsAgain (map (λ pair. pair.now) order.now) index
         → (result ≡ Ok tt) × (tx.new.conn.now ≡ tx.old.conn.now) }
 {
-    if is_again(order, at) {
+    if is_again(order, index) {
         return Ok(());
     }
-    let pair = order[at];
+    let pair = order[index];
     is_read_back(pair);
     match insert_pair(tx, pair) {
         Ok(_) => Ok(()),
@@ -107,8 +107,8 @@ fn insert_each<S: Alter>(
     ensures carries { CallsInside (state S.Store tx.old.conn.now) (state S.Store tx.new.conn.now)
         result NoTables (Gathers [] (map (λ pair. pair.now) order.now)) }
 {
-    for at in 0..order.len() {
-        insert_at(tx, order, at)?;
+    for index in 0..order.len() {
+        insert_at(tx, order, index)?;
     }
     Ok(())
 }

@@ -43,7 +43,7 @@ fn moment_of(value: ValueRef<'_>) -> Option<i64>
     ensures { result ≡ moment_in (owned value.entry) }
 {
     match value {
-        ValueRef::Int(at) => Some(at),
+        ValueRef::Int(moment) => Some(moment),
         _ => None,
     }
 }
@@ -122,7 +122,7 @@ fn path_of(alloc: Global, value: ValueRef<'_>) -> Result<Option<Text>, AllocErro
 fn read_record(alloc: Global, row: &Row) -> Result<Option<AuditRow>, AllocError>
     ensures { IfOk result (λ seen. seen ≡ record_seen row.now) }
 {
-    let Some(at) = moment_of(value_at(row, 0)) else {
+    let Some(moment) = moment_of(value_at(row, 0)) else {
         return Ok(None);
     };
     let Some(bits) = mask_of(value_at(row, 3)) else {
@@ -141,7 +141,7 @@ fn read_record(alloc: Global, row: &Row) -> Result<Option<AuditRow>, AllocError>
         return Ok(None);
     };
     Ok(Some(AuditRow {
-        at,
+        at: moment,
         user,
         path,
         bits,

@@ -46,7 +46,10 @@ fn migrate_rows<K: Keep>(alloc: Global, keep: &mut K) -> Result<Report, KeepFaul
     }
 }
 
-fn migrate_rows_by<S: Alter>(alloc: Global, keeper: &mut Keeper<'_, '_, S>) -> Result<Report, KeepFault>
+fn migrate_rows_by<S: Alter>(
+    alloc: Global,
+    keeper: &mut Keeper<'_, '_, S>,
+) -> Result<Report, KeepFault>
     ensures same_reference { keeper.new.tx.ghost_name ≡ keeper.old.tx.ghost_name }
     ensures same_lender { keeper.new.tx.now.conn.ghost_name ≡ keeper.old.tx.now.conn.ghost_name }
     ensures stays { Stays (state S.Store keeper.old.tx.now.conn.now)

@@ -132,20 +132,20 @@ is_of : (id : ℤ) (cells : Row) (b : Row) → rowid b ≡ Int id
 unfolding everything binary
 is_of id cells b is = let same = has_itself id in rw (same, is, same) refl
 
-not_of : (id at : ℤ) (cells : Row) (b : Row) → rowid b ≡ Int at
-    → is_eq (value_cmp (Int at) (Int id)) ≡ false
+not_of : (id index : ℤ) (cells : Row) (b : Row) → rowid b ≡ Int index
+    → is_eq (value_cmp (Int index) (Int id)) ≡ false
     → list_any (is_child_of (take_bytes (Int id ∷ cells)) b) ((Int id ∷ cells, []) ∷ []) ≡ false
 unfolding everything binary
 not_of id at cells b is apart = let same = has_itself id in rw (same, is, apart) refl
 
-of_is : (id at : ℤ) (cells : Row) (b : Row) → rowid b ≡ Int at
+of_is : (id index : ℤ) (cells : Row) (b : Row) → rowid b ≡ Int index
     → list_any (is_child_of (take_bytes (Int id ∷ cells)) b) ((Int id ∷ cells, []) ∷ []) ≡ true
-    → at ≡ id
-of_is id at cells b is h = go (is_eq (value_cmp (Int at) (Int id))) refl
+    → index ≡ id
+of_is id index cells b is h = go (is_eq (value_cmp (Int index) (Int id))) refl
   where
-    go : (t : Bool) → is_eq (value_cmp (Int at) (Int id)) ≡ t → at ≡ id
-    go true e = same_int at id e
-    go false e = absurd (let no' = sym (not_of id at cells b is e) ∙ h in cc)
+    go : (t : Bool) → is_eq (value_cmp (Int index) (Int id)) ≡ t → index ≡ id
+    go true e = same_int index id e
+    go false e = absurd (let no' = sym (not_of id index cells b is e) ∙ h in cc)
 
 -- the children of the row, all of one number, are at most one
 not_below_itself : (id : ℤ) → id <ℤ id → ⊥

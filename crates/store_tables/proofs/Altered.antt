@@ -287,15 +287,15 @@ module _ (id : ℕ) (r : Row) (before : Node) (number : number_in (Int (pos id))
         sacl = s.sacl;
       })
 
-  lies_back : (at : ℤ) (text : List ℕ) (parent : ℕ) (name : List ℕ)
-      → parent_in (Int at) ≡ Some (Some parent) → text_in (Text text) ≡ Some name
-      → node_in (shown_node (stored_node (pos id) (recast (sets_place at text r))))
+  lies_back : (index : ℤ) (text : List ℕ) (parent : ℕ) (name : List ℕ)
+      → parent_in (Int index) ≡ Some (Some parent) → text_in (Text text) ≡ Some name
+      → node_in (shown_node (stored_node (pos id) (recast (sets_place index text r))))
       ≡ Some (with_place parent name before)
-  lies_back at text parent name p q =
+  lies_back index text parent name p q =
       let s = reads_cells (column r 2) (column r 3) (column r 4) (column r 5) (column r 6)
       (column r 7) (column r 8) (column r 9) (column r 10) (column r 11) (column r 12) before
       (column r 0) e in
-      stored_again (Int at) (Text text) (column r 4) (column r 5) (column r 6) (column r 7)
+      stored_again (Int index) (Text text) (column r 4) (column r 5) (column r 6) (column r 7)
       (column r 8) (column r 9) (column r 10) (column r 11) (column r 12)
       (with_place parent name before) id number (record {
         parent = p;
@@ -359,10 +359,10 @@ module _ (db next : Database) (id : ℕ) (room : IsRoom db)
       altered (sets_owners owner group) (with_owners owners) (λ n. refl)
       (λ r before n e. owns_back id r before n e owner group owners p q)
 
-  pub placed_rows : (at : ℤ) (text : List ℕ) (parent : ℕ) (name : List ℕ)
-      → parent_in (Int at) ≡ Some (Some parent) → text_in (Text text) ≡ Some name
-      → Recasts (sets_place at text) (pos id) db.trees next.trees
+  pub placed_rows : (index : ℤ) (text : List ℕ) (parent : ℕ) (name : List ℕ)
+      → parent_in (Int index) ≡ Some (Some parent) → text_in (Text text) ≡ Some name
+      → Recasts (sets_place index text) (pos id) db.trees next.trees
       → Alters id (with_place parent name) db next
-  placed_rows at text parent name p q =
-      altered (sets_place at text) (with_place parent name) (λ n. refl)
-      (λ r before n e. lies_back id r before n e at text parent name p q)
+  placed_rows index text parent name p q =
+      altered (sets_place index text) (with_place parent name) (λ n. refl)
+      (λ r before n e. lies_back id r before n e index text parent name p q)

@@ -85,13 +85,13 @@ typed_alone : (b : Bool) (v : Value) → b ≡ false
 typed_alone true v e h = absurd (let x = e in cc)
 typed_alone false v e h = h
 
-head_typed : (at : ℕ) (name : List ℕ) (cs : List Column) (vs : Row) → (0 == at) ≡ false
-    → are_typed (Some 0) at (column_of name kind.Text true ∷ cs) vs ≡ true → IsText (column vs 0)
-head_typed at name cs [] other h = refl
-head_typed at name cs (v ∷ vs) other h =
-    text_of v (typed_alone (0 == at) v other
-    (and_parts (if 0 == at then is_null v else is_of kind.Text v)
-    (are_typed (Some 0) (at + 1) cs vs) h).0)
+head_typed : (index : ℕ) (name : List ℕ) (cs : List Column) (vs : Row) → (0 == index) ≡ false
+    → are_typed (Some 0) index (column_of name kind.Text true ∷ cs) vs ≡ true → IsText (column vs 0)
+head_typed index name cs [] other h = refl
+head_typed index name cs (v ∷ vs) other h =
+    text_of v (typed_alone (0 == index) v other
+    (and_parts (if 0 == index then is_null v else is_of kind.Text v)
+    (are_typed (Some 0) (index + 1) cs vs) h).0)
 
 pub record HasTexts (r : Row) : Type 0 where
   pub dacl_own : IsText (column r cell.dacl_own)

@@ -178,7 +178,7 @@ granted_in (Int (pos (suc zero))) = Some true
 granted_in _ = None
 
 abbrev pub moment_in : Value → Option ℤ
-moment_in (Int at) = Some at
+moment_in (Int moment) = Some moment
 moment_in _ = None
 
 -- the place of an audit record, and minus the place of an alarm record
@@ -190,14 +190,14 @@ place_in _ = None
 
 abbrev pub audit_in : Row → Option AuditRow
 audit_in r =
-    given (moment_in (column r record_cell.at)) (λ at.
+    given (moment_in (column r record_cell.at)) (λ moment.
     given (user_in (column r record_cell.user)) (λ user.
     given (path_in (column r record_cell.path)) (λ path.
     given (mask_in (column r record_cell.bits)) (λ bits.
     given (granted_in (column r record_cell.granted)) (λ granted.
     given_last (place_in (column r record_cell.place)) (λ place.
     let a : AuditRow = record {
-      at = at;
+      at = moment;
       user = user;
       path = path;
       bits = bits;

@@ -103,4 +103,4 @@ counted_by (Err fault) before after = HasCause before after (λ id. Unit {0}) fa
 
 -- no row is blamed
 abbrev pub Nowhere : ℕ → Type 0
-Nowhere at = ⊥
+Nowhere row = ⊥

@@ -34,7 +34,7 @@ fn parent_column(parent: Option<u64>) -> Option<Value>
     match parent {
         None => Some(Value::Null),
         Some(id) => match rowid_of(id) {
-            Some(at) => Some(Value::Int(at)),
+            Some(row) => Some(Value::Int(row)),
             None => None,
         },
     }
@@ -199,9 +199,9 @@ fn entry_column(place: usize, kind: RecordKind) -> Option<i64>
     ensures { IfSome result (λ entry. place_in (Int entry) ≡ Some (place, kind)) }
 {
     match i64::try_from(place) {
-        Ok(at) if place > 0 => match kind {
-            RecordKind::Audit => Some(at),
-            RecordKind::Alarm => Some(-at),
+        Ok(number) if place > 0 => match kind {
+            RecordKind::Audit => Some(number),
+            RecordKind::Alarm => Some(-number),
         },
         _ => None,
     }

@@ -52,10 +52,13 @@ fn put_text<S: Alter>(
         (state S.Store keeper.new.tx.now.conn.now) keeper.old.failures keeper.new.failures
         result (λ _. Alters id (with_inh which entries)) }
 {
-    let Some(at) = rowid_of(id) else {
+    let Some(row) = rowid_of(id) else {
         return Err(failed(&mut keeper.failures));
     };
-    wrote_one(update_inh(keeper.tx, at, which, text), &mut keeper.failures)
+    wrote_one(
+        update_inh(keeper.tx, row, which, text),
+        &mut keeper.failures,
+    )
 }
 
 /// Writes what a list of an object that is there inherits.

@@ -71,11 +71,11 @@ fn put_held<S: Alter>(
         (state S.Store keeper.new.tx.now.conn.now) keeper.old.failures keeper.new.failures
         result (λ _. Alters id (with_held which held.now)) }
 {
-    let Some(at) = rowid_of(id) else {
+    let Some(row) = rowid_of(id) else {
         return Err(failed(&mut keeper.failures));
     };
     let list = held_columns(keeper.alloc, held)?;
-    let done = update_held(keeper.tx, at, which, &list);
+    let done = update_held(keeper.tx, row, which, &list);
     drop(list);
     wrote_one(done, &mut keeper.failures)?;
     count_one(&mut keeper.writes);
@@ -95,12 +95,12 @@ fn put_owners<S: Alter>(
         (state S.Store keeper.new.tx.now.conn.now) keeper.old.failures keeper.new.failures
         result (λ _. Alters id (with_owners owners.now)) }
 {
-    let Some(at) = rowid_of(id) else {
+    let Some(row) = rowid_of(id) else {
         return Err(failed(&mut keeper.failures));
     };
     name_is_kept(&owners.owner);
     name_is_kept(&owners.group);
-    let done = update_owners(keeper.tx, at, owners.owner.as_str(), owners.group.as_str());
+    let done = update_owners(keeper.tx, row, owners.owner.as_str(), owners.group.as_str());
     wrote_one(done, &mut keeper.failures)?;
     count_one(&mut keeper.writes);
     Ok(())
@@ -120,14 +120,14 @@ fn put_place<S: Alter>(
         (state S.Store keeper.new.tx.now.conn.now) keeper.old.failures keeper.new.failures
         result (λ _. Alters id (with_place parent name.now)) }
 {
-    let Some(at) = rowid_of(id) else {
+    let Some(row) = rowid_of(id) else {
         return Err(failed(&mut keeper.failures));
     };
     let Some(under) = rowid_of(parent) else {
         return Err(failed(&mut keeper.failures));
     };
     text_is_kept(name);
-    let done = update_place(keeper.tx, at, under, name);
+    let done = update_place(keeper.tx, row, under, name);
     wrote_one(done, &mut keeper.failures)?;
     count_one(&mut keeper.writes);
     Ok(())
@@ -174,10 +174,10 @@ fn put_bytes<S: Alter>(
     if !node.is_document() {
         return Ok(());
     }
-    let Some(at) = rowid_of(id) else {
+    let Some(row) = rowid_of(id) else {
         return Err(failed(&mut keeper.failures));
     };
-    match insert_bytes(keeper.tx, at, bytes) {
+    match insert_bytes(keeper.tx, row, bytes) {
         Ok(_) => Ok(()),
         Err(error) => Err(blamed(error, &mut keeper.failures)),
     }
@@ -256,10 +256,10 @@ impl<'a, 'conn, S: Alter> Keep for Keeper<'a, 'conn, S> {
     }
 
     fn node(&mut self, id: u64) -> Result<Option<Node>, KeepFault> {
-        let Some(at) = rowid_of(id) else {
+        let Some(row) = rowid_of(id) else {
             return Err(failed(&mut self.failures));
         };
-        let rows = match select_node(self.tx, at) {
+        let rows = match select_node(self.tx, row) {
             Ok(rows) => rows,
             Err(error) => return Err(blamed(error, &mut self.failures)),
         };
@@ -273,10 +273,10 @@ impl<'a, 'conn, S: Alter> Keep for Keeper<'a, 'conn, S> {
         ensures whole { Sees (state S.Store self.old.tx.now.conn.now)
             (state S.Store self.new.tx.now.conn.now) result (SeesNamed parent name.now) }
     {
-        let Some(at) = rowid_of(parent) else {
+        let Some(row) = rowid_of(parent) else {
             return Err(failed(&mut self.failures));
         };
-        let rows = match select_child(self.tx, at, name) {
+        let rows = match select_child(self.tx, row, name) {
             Ok(rows) => rows,
             Err(error) => return Err(blamed(error, &mut self.failures)),
         };
@@ -290,10 +290,10 @@ impl<'a, 'conn, S: Alter> Keep for Keeper<'a, 'conn, S> {
         ensures whole { Sees (state S.Store self.old.tx.now.conn.now)
             (state S.Store self.new.tx.now.conn.now) result (SeesEach parent) }
     {
-        let Some(at) = rowid_of(parent) else {
+        let Some(row) = rowid_of(parent) else {
             return Err(failed(&mut self.failures));
         };
-        let rows = match select_under(self.tx, at) {
+        let rows = match select_under(self.tx, row) {
             Ok(rows) => rows,
             Err(error) => return Err(blamed(error, &mut self.failures)),
         };
@@ -307,10 +307,10 @@ impl<'a, 'conn, S: Alter> Keep for Keeper<'a, 'conn, S> {
         ensures whole { Sees (state S.Store self.old.tx.now.conn.now)
             (state S.Store self.new.tx.now.conn.now) result (SeesEach parent) }
     {
-        let Some(at) = rowid_of(parent) else {
+        let Some(row) = rowid_of(parent) else {
             return Err(failed(&mut self.failures));
         };
-        let rows = match select_names(self.tx, at) {
+        let rows = match select_names(self.tx, row) {
             Ok(rows) => rows,
             Err(error) => return Err(blamed(error, &mut self.failures)),
         };
@@ -324,20 +324,20 @@ impl<'a, 'conn, S: Alter> Keep for Keeper<'a, 'conn, S> {
         ensures whole { Sees (state S.Store self.old.tx.now.conn.now)
             (state S.Store self.new.tx.now.conn.now) result (SeesSome parent) }
     {
-        let Some(at) = rowid_of(parent) else {
+        let Some(row) = rowid_of(parent) else {
             return Err(failed(&mut self.failures));
         };
-        match select_some(self.tx, at) {
+        match select_some(self.tx, row) {
             Ok(rows) => Ok(!rows.as_slice().is_empty()),
             Err(error) => Err(blamed(error, &mut self.failures)),
         }
     }
 
     fn body(&mut self, id: u64) -> Result<Option<Bytes>, KeepFault> {
-        let Some(at) = rowid_of(id) else {
+        let Some(row) = rowid_of(id) else {
             return Err(failed(&mut self.failures));
         };
-        let rows = match select_bytes(self.tx, at) {
+        let rows = match select_bytes(self.tx, row) {
             Ok(rows) => rows,
             Err(error) => return Err(blamed(error, &mut self.failures)),
         };
@@ -394,19 +394,19 @@ impl<'a, 'conn, S: Alter> Keep for Keeper<'a, 'conn, S> {
     }
 
     fn remove(&mut self, id: u64) -> Result<(), KeepFault> {
-        let Some(at) = rowid_of(id) else {
+        let Some(row) = rowid_of(id) else {
             return Err(failed(&mut self.failures));
         };
-        wrote_one(delete_node(self.tx, at), &mut self.failures)?;
+        wrote_one(delete_node(self.tx, row), &mut self.failures)?;
         count_one(&mut self.writes);
         Ok(())
     }
 
     fn set_body(&mut self, id: u64, bytes: &[u8]) -> Result<(), KeepFault> {
-        let Some(at) = rowid_of(id) else {
+        let Some(row) = rowid_of(id) else {
             return Err(failed(&mut self.failures));
         };
-        wrote_one(update_bytes(self.tx, at, bytes), &mut self.failures)?;
+        wrote_one(update_bytes(self.tx, row, bytes), &mut self.failures)?;
         count_one(&mut self.writes);
         Ok(())
     }

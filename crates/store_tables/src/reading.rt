@@ -13,10 +13,10 @@ use sqlite::types::ValueRef;
 use std::alloc::{AllocError, Global};
 
 /// The value in a column, and NULL past the end.
-pub fn value_at(row: &Row, at: usize) -> ValueRef<'_>
-    ensures { owned result ≡ column row.now at }
+pub fn value_at(row: &Row, index: usize) -> ValueRef<'_>
+    ensures { owned result ≡ column row.now index }
 {
-    match row.get_ref(at) {
+    match row.get_ref(index) {
         Ok(value) => value,
         Err(_) => ValueRef::Null,
     }

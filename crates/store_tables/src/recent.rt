@@ -199,12 +199,12 @@ fn find_among(texts: &mut [ReadText], text: &[u8]) -> Result<Option<Entries>, Al
     ensures { IfOk result
         (λ found. IfSome found (λ entries. entries_of text.now ≡ Some entries)) }
 {
-    'texts: for at in 0..texts.len() {
-        match texts[at].spelled(text)? {
+    'texts: for index in 0..texts.len() {
+        match texts[index].spelled(text)? {
             None => {}
             Some(entries) => {
                 // what is asked for often comes to stand in front
-                texts.swap(at, at / 2);
+                texts.swap(index, index / 2);
                 return Ok(Some(entries));
             }
         }

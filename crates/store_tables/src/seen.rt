@@ -188,10 +188,10 @@ pub(crate) fn answer_top(seen: Seen<Option<Node>>, failures: &mut u64) -> Result
 
 /// The rowid of an object's number.
 pub(crate) fn rowid_of(id: u64) -> Option<i64>
-    ensures { MatchOption result ⊤ (λ at. FitsSigned w64 (pos id) × (at ≡ pos id) × (0 < id)) }
+    ensures { MatchOption result ⊤ (λ row. FitsSigned w64 (pos id) × (row ≡ pos id) × (0 < id)) }
 {
     match i64::try_from(id) {
-        Ok(at) if id > 0 => Some(at),
+        Ok(row) if id > 0 => Some(row),
         _ => None,
     }
 }

@@ -19,12 +19,12 @@ use test_player::{Spoken, path_of, push, push_all, push_reply, sent_of, spoken_i
 pub(crate) fn ask<S: Alter>(
     alloc: Global,
     store: &mut Store<S>,
-    at: i64,
+    moment: i64,
     asked: &str,
     told: &mut String,
 ) -> Result<(), Fail> {
     let spoken = spoken_in(alloc, asked)?;
-    let answer = run(alloc, store, at, &spoken);
+    let answer = run(alloc, store, moment, &spoken);
     drop(spoken);
     push_answer(alloc, told, answer)
 }
@@ -33,10 +33,10 @@ pub(crate) fn ask<S: Alter>(
 fn run<S: Alter>(
     alloc: Global,
     store: &mut Store<S>,
-    at: i64,
+    moment: i64,
     spoken: &Spoken,
 ) -> Result<Reply, StoreFault> {
-    store.run(alloc, spoken.caller.as_ref(), at, &spoken.request)
+    store.run(alloc, spoken.caller.as_ref(), moment, &spoken.request)
 }
 
 fn push_answer(
@@ -194,7 +194,11 @@ fn reviewed<S: Alter>(
 fn push_reviewed(alloc: Global, told: &mut String, reviewed: Reviewed) -> Result<(), Fail> {
     match reviewed {
         Reviewed::Table(text) => push_lines(told, str::from_utf8(text.as_slice())?),
-        Reviewed::Refused { at, why } => push_reply(alloc, told, &Reply::Refused { at, why }),
+        Reviewed::Refused { path, why } => push_reply(
+            alloc,
+            told,
+            &Reply::Refused { at: path, why },
+        ),
     }
 }
 

@@ -19,7 +19,7 @@ operator Reset / dacl list:a / A::EVERYONE@:x / A:fd:root:ALL => done
 /// the rows that were marked.
 pub struct Scene<S: Alter> {
     opened: Opened<S>,
-    at: i64,
+    moment: i64,
     mark: Option<String>,
 }
 
@@ -27,7 +27,7 @@ impl<S: Alter + Drop> Drop for Scene<S> {
     fn drop(self) {
         let Scene {
             opened: _,
-            at: _,
+            moment: _,
             mark: _,
         } = self;
     }
@@ -38,7 +38,7 @@ impl<S: Alter + Drop> Scene<S> {
     pub fn over(conn: Connection<S>) -> Scene<S> {
         Scene {
             opened: Opened::over(conn),
-            at: 1000,
+            moment: 1000,
             mark: None,
         }
     }
@@ -80,8 +80,8 @@ impl<S: Alter + Drop> Scene<S> {
             "sql" => change(self.conn()?, words, told),
             "rows" => show(self.conn()?, words, told),
             _ => {
-                let at = self.at;
-                ask(alloc, self.store(alloc)?, at, asked, told)
+                let moment = self.moment;
+                ask(alloc, self.store(alloc)?, moment, asked, told)
             }
         }
     }
@@ -91,7 +91,7 @@ impl<S: Alter + Drop> Scene<S> {
         let (verb, rest) = cut(words);
         match verb {
             "At" => {
-                self.at = rest.parse::<i64>()?;
+                self.moment = rest.parse::<i64>()?;
                 push(told, "done")
             }
             "Create" | "Adopt" | "Migrate" => self.open(alloc, verb, told),
@@ -121,8 +121,8 @@ impl<S: Alter + Drop> Scene<S> {
     }
 
     /// The moment of what is asked.
-    pub fn at(&self) -> i64 {
-        self.at
+    pub fn moment(&self) -> i64 {
+        self.moment
     }
 
     /// The store. Where statements were run before, it is opened again.

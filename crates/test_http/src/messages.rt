@@ -95,19 +95,19 @@ fn blanks_round_values(rt: HostRuntime) -> Result<(), Fail> {
 }
 
 // The denial of several bits, which no request asks for at once.
-fn denial(at: Path, bits: Mask, entry: Entry) -> Reply {
+fn denial(path: Path, bits: Mask, entry: Entry) -> Reply {
     Reply::Denied {
-        at,
+        at: path,
         bits,
         place: Some(30),
         entry: Some(entry),
     }
 }
 
-fn denial_of(alloc: Global, at: &str, bits: &str, text: &str) -> Result<Reply, Fail> {
+fn denial_of(alloc: Global, path: &str, bits: &str, text: &str) -> Result<Reply, Fail> {
     let bits = read_mask(bits)?;
     let entry = read_entry(alloc, text)?;
-    Ok(denial(read_path(alloc, at.as_bytes())?, bits, entry))
+    Ok(denial(read_path(alloc, path.as_bytes())?, bits, entry))
 }
 
 const DENIED: &[u8] = b"HTTP/1.1 403 Forbidden\r\n\

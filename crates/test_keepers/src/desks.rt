@@ -18,7 +18,7 @@ root Read /a/f => bytes hi!
 
 // What a desk answers, without what the contract says of it.
 fn run<D: Desk>(alloc: Global, desk: &mut D, asked: &Asked) -> Result<Reply, DeskFault> {
-    desk.run(alloc, asked.user.as_ref(), asked.at, &asked.request)
+    desk.run(alloc, asked.user.as_ref(), asked.moment, &asked.request)
 }
 
 // The text of a desk's answer to one line.
@@ -66,7 +66,7 @@ fn asked_in(alloc: Global, asked: &str) -> Result<Asked, Fail> {
     let spoken = spoken_in(alloc, asked)?;
     Ok(Asked {
         user: spoken.caller,
-        at: 1000,
+        moment: 1000,
         request: spoken.request,
     })
 }

@@ -15,19 +15,19 @@ use std::test::Fail;
 pub fn play_all<K: Keep>(
     alloc: Global,
     keep: &mut K,
-    at: i64,
+    moment: i64,
     scripts: &[&str],
 ) -> Result<(), Fail> {
     'scripts: for script in scripts {
-        play(alloc, keep, at, *script)?;
+        play(alloc, keep, moment, *script)?;
     }
     Ok(())
 }
 
 /// Plays a script. The error is the first line whose answer isn't the expected one.
-pub fn play<K: Keep>(alloc: Global, keep: &mut K, at: i64, script: &str) -> Result<(), Fail> {
+pub fn play<K: Keep>(alloc: Global, keep: &mut K, moment: i64, script: &str) -> Result<(), Fail> {
     'lines: for line in script.lines() {
-        play_line(alloc, keep, at, line)?;
+        play_line(alloc, keep, moment, line)?;
     }
     Ok(())
 }
@@ -36,11 +36,11 @@ pub fn play<K: Keep>(alloc: Global, keep: &mut K, at: i64, script: &str) -> Resu
 pub(crate) fn play_line<K: Keep>(
     alloc: Global,
     keep: &mut K,
-    at: i64,
+    moment: i64,
     line: &str,
 ) -> Result<(), Fail> {
     let (asked, wanted) = line.split_once(" => ").ok_or("no arrow")?;
-    let told = answer_to(alloc, keep, at, asked)?;
+    let told = answer_to(alloc, keep, moment, asked)?;
     agree(asked, told.as_str(), wanted)
 }
 
@@ -48,11 +48,11 @@ pub(crate) fn play_line<K: Keep>(
 pub fn answer_to<K: Keep>(
     alloc: Global,
     keep: &mut K,
-    at: i64,
+    moment: i64,
     asked: &str,
 ) -> Result<String, Fail> {
     let mut told = String::new(alloc);
-    push_told(alloc, keep, at, asked, &mut told)?;
+    push_told(alloc, keep, moment, asked, &mut told)?;
     Ok(told)
 }
 
@@ -60,7 +60,7 @@ pub fn answer_to<K: Keep>(
 pub(crate) fn push_told<K: Keep>(
     alloc: Global,
     keep: &mut K,
-    at: i64,
+    moment: i64,
     asked: &str,
     told: &mut String,
 ) -> Result<(), Fail> {
@@ -68,19 +68,19 @@ pub(crate) fn push_told<K: Keep>(
     match who {
         "operator" => operate(alloc, keep, words, told),
         "keeper" => call(alloc, keep, words, told),
-        _ => ask(alloc, keep, at, asked, told),
+        _ => ask(alloc, keep, moment, asked, told),
     }
 }
 
 fn ask<K: Keep>(
     alloc: Global,
     keep: &mut K,
-    at: i64,
+    moment: i64,
     asked: &str,
     told: &mut String,
 ) -> Result<(), Fail> {
     let spoken = spoken_in(alloc, asked)?;
-    let answer = performed(alloc, keep, at, &spoken);
+    let answer = performed(alloc, keep, moment, &spoken);
     drop(spoken);
     push_answer(alloc, told, answer)
 }
@@ -89,10 +89,10 @@ fn ask<K: Keep>(
 fn performed<K: Keep>(
     alloc: Global,
     keep: &mut K,
-    at: i64,
+    moment: i64,
     spoken: &Spoken,
 ) -> Result<Reply, KeepFault> {
-    perform(alloc, keep, spoken.caller.as_ref(), at, &spoken.request)
+    perform(alloc, keep, spoken.caller.as_ref(), moment, &spoken.request)
 }
 
 /// Adds the text of a reply, or of the fault in its place.

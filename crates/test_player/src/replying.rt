@@ -180,13 +180,13 @@ pub(crate) fn push_path(told: &mut String, path: &Path) -> Result<(), Fail> {
 fn push_denied(
     alloc: Global,
     told: &mut String,
-    at: &Path,
+    path: &Path,
     bits: Mask,
     place: Option<usize>,
     entry: &Option<Entry>,
 ) -> Result<(), Fail> {
     push(told, "denied at ")?;
-    push_path(told, at)?;
+    push_path(told, path)?;
     push(told, " bits ")?;
     push_letters(told, bits)?;
     push_ruled(alloc, told, place, entry)
@@ -212,9 +212,9 @@ fn push_ruled(
     }
 }
 
-fn push_refused(told: &mut String, at: &Path, why: Reason) -> Result<(), Fail> {
+fn push_refused(told: &mut String, path: &Path, why: Reason) -> Result<(), Fail> {
     push(told, "refused at ")?;
-    push_path(told, at)?;
+    push_path(told, path)?;
     push(told, " ")?;
     push_reason(told, why)
 }

@@ -46,13 +46,13 @@ pub fn plays(alloc: Global, scripts: &[&str]) -> Result<(), Fail> {
 #[derive(Drop)]
 pub struct Room {
     keep: MemKeep,
-    at: i64,
+    moment: i64,
 }
 
 impl Room {
     /// The room of this keeper, at the moment 1000.
     pub fn new(keep: MemKeep) -> Room {
-        Room { keep, at: 1000 }
+        Room { keep, moment: 1000 }
     }
 
     /// The room's keeper.
@@ -71,8 +71,8 @@ impl Room {
     }
 
     /// The moment of what is asked.
-    pub fn at(&self) -> i64 {
-        self.at
+    pub fn moment(&self) -> i64 {
+        self.moment
     }
 
     /// Plays scripts one after the other.
@@ -107,7 +107,7 @@ impl Room {
         let (who, words) = cut(asked);
         match who {
             "room" => self.step(alloc, words, told),
-            _ => push_told(alloc, &mut self.keep, self.at, asked, told),
+            _ => push_told(alloc, &mut self.keep, self.moment, asked, told),
         }
     }
 
@@ -115,7 +115,7 @@ impl Room {
     fn step(&mut self, alloc: Global, words: &str, told: &mut String) -> Result<(), Fail> {
         let (verb, rest) = cut(words);
         match verb {
-            "At" => self.at = rest.parse::<i64>()?,
+            "At" => self.moment = rest.parse::<i64>()?,
             "Join" => self.join(alloc, rest)?,
             "Leave" => self.leave(alloc, rest)?,
             "Records" => return self.push_notes(told),

@@ -35,12 +35,12 @@ fn written(told: &mut String, number: u64) -> Result<(), AllocError> {
 }
 
 /// Adds a moment.
-pub(crate) fn push_moment(told: &mut String, at: i64) -> Result<(), Fail> {
-    Ok(written_moment(told, at)?)
+pub(crate) fn push_moment(told: &mut String, moment: i64) -> Result<(), Fail> {
+    Ok(written_moment(told, moment)?)
 }
 
-fn written_moment(told: &mut String, at: i64) -> Result<(), AllocError> {
-    write!(told, "{at}")
+fn written_moment(told: &mut String, moment: i64) -> Result<(), AllocError> {
+    write!(told, "{moment}")
 }
 
 /// The first word, and what follows it.

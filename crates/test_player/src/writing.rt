@@ -111,15 +111,15 @@ fn set_place<K: Keep>(keep: &mut K, id: u64, words: &str, told: &mut String) -> 
 }
 
 // Adds a record that alice has read `/a` at this moment.
-fn note<K: Keep>(alloc: Global, keep: &mut K, at: u64, told: &mut String) -> Result<(), Fail> {
-    let row = record_at(alloc, at)?;
+fn note<K: Keep>(alloc: Global, keep: &mut K, moment: u64, told: &mut String) -> Result<(), Fail> {
+    let row = record_at(alloc, moment)?;
     push_done(told, keep.note(row))
 }
 
-fn record_at(alloc: Global, at: u64) -> Result<AuditRow, Fail> {
+fn record_at(alloc: Global, moment: u64) -> Result<AuditRow, Fail> {
     let user = read_name(alloc, "alice")?;
     Ok(AuditRow {
-        at: i64::try_from(at)?,
+        at: i64::try_from(moment)?,
         user: Some(user),
         path: Text::from_str(alloc, "/a")?,
         bits: Mask::read_data(),

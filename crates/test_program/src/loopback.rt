@@ -137,15 +137,15 @@ GET /doc/f HTTP/1.1\r\nRoom-User: root\r\n\r\n";
 // A clock that goes on by a second with each reading.
 #[derive(Drop)]
 struct Steps {
-    at: i64,
+    moment: i64,
 }
 
 impl Moments for Steps {
     ghost told = { λ _ _. ⊤ };
 
     fn next(&mut self) -> i64 {
-        self.at = self.at.saturating_add(1);
-        self.at
+        self.moment = self.moment.saturating_add(1);
+        self.moment
     }
 }
 
@@ -156,7 +156,7 @@ fn each_connection_has_its_moment(rt: HostRuntime) -> Result<(), Fail> {
     let _first = sends(&rt, &listener, RECORDED)?;
     let _second = sends(&rt, &listener, READS)?;
     let mut desk = MemDesk::new(open_keep(rt.alloc())?);
-    let mut clock = Steps { at: 1000 };
+    let mut clock = Steps { moment: 1000 };
     serves(rt.alloc(), &mut desk, &mut clock, &listener, 2, "")?;
     let notes = desk.keep().notes();
     assert_eq!(rt; notes.len(), 2);

@@ -27,7 +27,7 @@ impl Ground for Room {
 
     fn converse(&mut self, alloc: Global, talk: &str) -> Result<(), Fail> {
         let mut desk = MemDesk::new(self.keep().copy()?);
-        play_at(alloc, &mut desk, self.at(), talk)?;
+        play_at(alloc, &mut desk, self.moment(), talk)?;
         self.set_keep(desk.into_keep());
         Ok(())
     }

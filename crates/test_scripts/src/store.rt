@@ -26,7 +26,7 @@ impl Ground for Scene<MemStore> {
     }
 
     fn converse(&mut self, alloc: Global, talk: &str) -> Result<(), Fail> {
-        let at = self.at();
-        play_at(alloc, self.store(alloc)?, at, talk)
+        let moment = self.moment();
+        play_at(alloc, self.store(alloc)?, moment, talk)
     }
 }

@@ -23,14 +23,19 @@ pub fn play<D: Desk>(alloc: Global, desk: &mut D, script: &str) -> Result<(), Fa
 }
 
 /// Plays a script at a desk, at a moment.
-pub fn play_at<D: Desk>(alloc: Global, desk: &mut D, at: i64, script: &str) -> Result<(), Fail> {
-    let talk = talk_from(alloc, desk, at, script, 0)?;
+pub fn play_at<D: Desk>(
+    alloc: Global,
+    desk: &mut D,
+    moment: i64,
+    script: &str,
+) -> Result<(), Fail> {
+    let talk = talk_from(alloc, desk, moment, script, 0)?;
     if !is_short(&talk) || script.contains("500 Internal Server Error") {
         return agrees(alloc, script, &talk);
     }
     let next = next_message(alloc, script, &talk)?;
     drop(talk);
-    go_on(alloc, desk, at, script, next)?;
+    go_on(alloc, desk, moment, script, next)?;
     Err(Fail::new("want of memory"))
 }
 
@@ -38,13 +43,13 @@ pub fn play_at<D: Desk>(alloc: Global, desk: &mut D, at: i64, script: &str) -> R
 fn talk_from<D: Desk>(
     alloc: Global,
     desk: &mut D,
-    at: i64,
+    moment: i64,
     script: &str,
     first: usize,
 ) -> Result<Talk, Fail> {
     let input = bytes_from(alloc, script, ">", first)?;
     let mut reader = Pieces::new(input.as_slice(), PIECE);
-    converse(alloc, desk, at, &mut reader, Sink::new(alloc))
+    converse(alloc, desk, moment, &mut reader, Sink::new(alloc))
 }
 
 /// Whether memory ran out and so ended a connection, outside the desk or in it.
@@ -101,13 +106,13 @@ fn drop_reply(alloc: Global, text: &str, rest: &mut &[u8]) -> Result<bool, Fail>
 fn go_on<D: Desk>(
     alloc: Global,
     desk: &mut D,
-    at: i64,
+    moment: i64,
     script: &str,
     first: usize,
 ) -> Result<(), Fail> {
     if bytes_from(alloc, script, ">", first)?.is_empty() {
         return Ok(());
     }
-    let talk = talk_from(alloc, desk, at, script, first)?;
+    let talk = talk_from(alloc, desk, moment, script, first)?;
     agrees_from(alloc, script, first, &talk)
 }

@@ -55,24 +55,24 @@ pub(crate) fn bytes_from(
 pub fn converse<R: Read, D: Desk>(
     alloc: Global,
     desk: &mut D,
-    at: i64,
+    moment: i64,
     reader: &mut R,
     sink: Sink,
 ) -> Result<Talk, Fail> {
     let mut sent = sink;
-    let end = serve_once(alloc, desk, at, reader, &mut sent)?;
+    let end = serve_once(alloc, desk, moment, reader, &mut sent)?;
     Ok(Talk { sent, end })
 }
 
 fn serve_once<R: Read, W: Write, D: Desk>(
     alloc: Global,
     desk: &mut D,
-    at: i64,
+    moment: i64,
     reader: &mut R,
     writer: &mut W,
 ) -> Result<Result<Ended, ServeFault>, Fail> {
     let routes = Routes::new(alloc)?;
-    Ok(serve(alloc, &routes, desk, at, reader, writer))
+    Ok(serve(alloc, &routes, desk, moment, reader, writer))
 }
 
 /// Tests that a connection went as the script says.

@@ -263,5 +263,5 @@ module _ (asker : Asker) (path : List (List ℕ)) (bytes : List ℕ) where
         (sym (ap (λ (r : Rows). body_of r.read node.id) reached.judged.notes) ∙ appended.were) refl
         appended.put.replies appended.put.becomes
 
-    pub append_blames : (at : ℕ) → HasNoBytes node.id mid at → IsDamaged old at
-    append_blames at h = no_bytes asker path (append_data ∷ []) old mid node at are reached h
+    pub append_blames : (row : ℕ) → HasNoBytes node.id mid row → IsDamaged old row
+    append_blames row h = no_bytes asker path (append_data ∷ []) old mid node row are reached h

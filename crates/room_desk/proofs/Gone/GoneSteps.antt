@@ -234,7 +234,7 @@ module _ (asker : Asker) (path : List (List ℕ)) where
         removed : (new : Rows) → Removes id last new → CarriesOut asker (Remove path) old Done new
         removed new removes known sound =
             let plan = planned old last None are sound all in
-            let records = records_of_plan asker.caller asker.at
+            let records = records_of_plan asker.caller asker.moment
             (plan_of (meaning old.read) (Remove path)) in
             let site = target_there old are (sound_parts old sound) path
             (stored_site path target.node) paired.target in

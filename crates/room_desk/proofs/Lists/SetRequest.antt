@@ -187,18 +187,18 @@ module _ (asker : Asker) (path : List (List ℕ)) (which : Which) (sent : Sent) 
         on_faults (first_bad_entry 1 which node.kind sent.entries) new reply refl said said.replies
         said.becomes
 
-    pub set_blames : (at : ℕ) → IsUnreadableIfHeld node mid at → IsDamaged old at
-    set_blames at fails =
+    pub set_blames : (row : ℕ) → IsUnreadableIfHeld node mid row → IsDamaged old row
+    set_blames row fails =
         let rooted : IsRooted node.id (with_notes old records) = rooted_along
         (with_notes old records) are.numbers path path node
         (ap (λ sites. site_at sites path) (along_noted old.read records path) ∙ reached.found)
         in
-        noted_unread old mid records at reached.judged.notes
+        noted_unread old mid records row reached.judged.notes
         (fails there_mid (subst (IsRooted node.id) (sym reached.judged.notes) rooted))
       where
         records : List AuditRow
         records =
-            records_of_plan asker.caller asker.at
+            records_of_plan asker.caller asker.moment
             (to_stored old.read path (CheckAt (write_acl ∷ [])))
 
 -- ---- once the way to the target has been walked
@@ -232,10 +232,10 @@ module _ (asker : Asker) (path : List (List ℕ)) (which : Which) (sent : Sent) 
         set_done asker path which sent old end target.node found.are reached new reply
         (said (ap (λ (r : Rows). parent_of r.read target.node) reached.judged.notes ∙ found.parent))
 
-    pub allowed_blames : (at : ℕ) → IsUnreadableIfHeld target.node end at → IsDamaged old at
-    allowed_blames at fails =
+    pub allowed_blames : (row : ℕ) → IsUnreadableIfHeld target.node end row → IsDamaged old row
+    allowed_blames row fails =
         set_blames asker path which sent old end target.node found.are
-        (checked end bits None same judged) at fails
+        (checked end bits None same judged) row fails
 
 -- ---- where the walk comes to
 

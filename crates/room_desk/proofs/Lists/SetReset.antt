@@ -213,9 +213,9 @@ module _ (path : List (List ℕ)) (which : Which) (sent : Sent) (old mid : Rows)
       (subst (λ (r : Rows). IsResetAtEnd path which sent last walk.rest r reply new) same said)
       sound
 
-  pub reset_blames : (at : ℕ) → AreRows old → IsUnreadableIfHeld last mid at → IsDamaged old at
-  reset_blames at are fails =
-      unread_damaged old mid at same
+  pub reset_blames : (row : ℕ) → AreRows old → IsUnreadableIfHeld last mid row → IsDamaged old row
+  reset_blames row are fails =
+      unread_damaged old mid row same
       (fails (ap (λ (r : Rows). node_at r.read last.id) same
       ∙ stands_last old are.numbers path walk front last is chain)
       (subst (IsRooted last.id) (sym same)

@@ -30,15 +30,15 @@ no_answer before after (Ok x) f is = absurd is
 no_answer before after (Err g) f is = tt
 
 -- a row that can't be read, before anything is written
-pub unread_before : (node : Node) (old mid : Rows) (at : ℕ) → mid ≡ old → IsUnreadable mid at
-    → IsUnreadableIfHeld node old at
-unread_before node old mid at same unread there rooted =
-    subst (λ (r : Rows). IsUnreadable r at) same unread
+pub unread_before : (node : Node) (old mid : Rows) (row : ℕ) → mid ≡ old → IsUnreadable mid row
+    → IsUnreadableIfHeld node old row
+unread_before node old mid row same unread there rooted =
+    subst (λ (r : Rows). IsUnreadable r row) same unread
 
-pub fails_before : (node : Node) (old mid : Rows) (at : ℕ) → mid ≡ old
-    → IsUnreadableIfHeld node mid at → IsUnreadableIfHeld node old at
-fails_before node old mid at same fails =
-    subst (λ (r : Rows). IsUnreadableIfHeld node r at) same fails
+pub fails_before : (node : Node) (old mid : Rows) (row : ℕ) → mid ≡ old
+    → IsUnreadableIfHeld node mid row → IsUnreadableIfHeld node old row
+fails_before node old mid row same fails =
+    subst (λ (r : Rows). IsUnreadableIfHeld node r row) same fails
 
 -- ---- the list is written, and carried down from there
 
@@ -52,13 +52,13 @@ module _ (which : Which) (node : Node) (held : Held) (old mid : Rows)
       ap (λ (r : Rows). node_at r.read (with_held which held node).id) (changes node there)
       ∙ find-put_same (with_held which held node) old.read.nodes
 
-  pub carried_fails : (at : ℕ) → HasLoopFrom (with_held which held node) mid at
-      → IsUnreadableIfHeld node old at
-  carried_fails at loop there rooted =
-      changed_unread node.id old mid at (with_held which held)
+  pub carried_fails : (row : ℕ) → HasLoopFrom (with_held which held node) mid row
+      → IsUnreadableIfHeld node old row
+  carried_fails row loop there rooted =
+      changed_unread node.id old mid row (with_held which held)
       (λ n. (place-with_held which held n).number)
       (λ n. (place-with_held which held n).parent) changes
-      (subst (λ (i : ℕ). HasLoop i mid at) number (loop (holds_now there))) rooted
+      (subst (λ (i : ℕ). HasLoop i mid row) number (loop (holds_now there))) rooted
 
   pub written_down : (auto : Bool) (new : Rows) → auto ≡ true → held.flags.auto ≡ auto
       → IsCarriedFrom which (with_held which held node) mid tt new
@@ -83,11 +83,11 @@ module _ (which : Which) (node : Node) (held : Held) (old mid : Rows)
       }
 
 -- the same from an equal object
-pub loop_as : (start node : Node) (old mid : Rows) (at : ℕ) → start ≡ node → mid ≡ old
-    → HasLoopFrom start mid at → HasLoopFrom node old at
-loop_as start node old mid at same unread loop =
-    subst (λ (r : Rows). HasLoopFrom node r at) unread
-    (subst (λ (n : Node). HasLoopFrom n mid at) same loop)
+pub loop_as : (start node : Node) (old mid : Rows) (row : ℕ) → start ≡ node → mid ≡ old
+    → HasLoopFrom start mid row → HasLoopFrom node old row
+loop_as start node old mid row same unread loop =
+    subst (λ (r : Rows). HasLoopFrom node r row) unread
+    (subst (λ (n : Node). HasLoopFrom n mid row) same loop)
 
 pub carried_as : (which : Which) (start node : Node) (old mid new : Rows) → start ≡ node → mid ≡ old
     → IsCarriedFrom which start mid tt new → IsCarriedFrom which node old tt new

@@ -28,10 +28,10 @@ pub record IsFoundFolder (old : Rows) (path : List (List ℕ)) (folder : Node)
   pub folds : is_folder folder ≡ true
   pub lacks : is_none (child_of old.read folder.id (last_name path)) ≡ is_none child
 
-not_refused : (t : Bool) (at : List (List ℕ))
-    → None ≡ cond (not t) (Some (Refused at NotFolder)) None → t ≡ true
-not_refused true at passes = refl
-not_refused false at passes = absurd (let wrong : ⊥ = cc in wrong)
+not_refused : (t : Bool) (path : List (List ℕ))
+    → None ≡ cond (not t) (Some (Refused path NotFolder)) None → t ≡ true
+not_refused true path passes = refl
+not_refused false path passes = absurd (let wrong : ⊥ = cc in wrong)
 
 pub found_folder : (asker : Asker) (path : List (List ℕ)) → 0 < length path
     → (old mid : Rows) (folder : Found) (child : Option Node) → AreRows old
@@ -51,7 +51,7 @@ found_folder asker path some old mid folder child are spotted =
     let passing = none_both
     (first_failure asker.caller (way false (stored_along old.read (front path)) (front path)))
     (first_failure asker.caller (through (found_site path folder)))
-    (passes ∙ failure_of_parts asker.caller asker.at begin (through site)) in
+    (passes ∙ failure_of_parts asker.caller asker.moment begin (through site)) in
     let first = none_both
     (failure asker.caller
     (Refusal (found_site path folder).path NotFolder (not (is_folder folder.node))))

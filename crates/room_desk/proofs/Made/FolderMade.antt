@@ -140,7 +140,7 @@ module _ (asker : Asker) (path : List (List ℕ)) where
         (at_stored last None judged) in
         let new_step = made_new old are sound asker.caller Folder folder.node name
         [] found.there found.folds (absent last judged)
-        (records_of_plan asker.caller asker.at (plan_of (meaning old.read) (MakeFolder path)))
+        (records_of_plan asker.caller asker.moment (plan_of (meaning old.read) (MakeFolder path)))
         (take folder.depth path) last new plan.notes named.sound
         (λ document. absurd (false≢true document)) made in
         let place = planned_parent old are (sound_parts old sound) path

@@ -120,10 +120,11 @@ new_fits Document id bytes content none few =
     ap (fits_kind Document) (body_of-with_body content id bytes) ∙ few refl
 new_fits Folder id bytes content none few = ap (fits_kind Folder) none
 
-same_bytes : (kind : ObjKind) (id : ℕ) (bytes : List ℕ) (content : Content) (at : ℕ) → (at ≡ id → ⊥)
-    → body_at (bodies_then kind id bytes content.bodies) at ≡ body_at content.bodies at
-same_bytes Document id bytes content at other = body_of-with_body-other content id bytes at other
-same_bytes Folder id bytes content at other = refl
+same_bytes : (kind : ObjKind) (id : ℕ) (bytes : List ℕ) (content : Content)
+    (row : ℕ) → (row ≡ id → ⊥)
+    → body_at (bodies_then kind id bytes content.bodies) row ≡ body_at content.bodies row
+same_bytes Document id bytes content row other = body_of-with_body-other content id bytes row other
+same_bytes Folder id bytes content row other = refl
 
 -- ---- what the rows mean then
 

@@ -282,7 +282,7 @@ module _ (asker : Asker) (path : List (List ℕ)) (bytes : List ℕ) where
         (new_judged last None judged) in
         let new_step =
         made_new old are sound asker.caller Document folder.node name bytes found.there
-        found.folds absent (records_of_plan asker.caller asker.at
+        found.folds absent (records_of_plan asker.caller asker.moment
         (plan_of (meaning old.read) (Put path bytes)))
         (take folder.depth path) last new plan.notes named.sound (λ _. few) made in
         let place = planned_parent old are (sound_parts old sound) path

@@ -37,16 +37,16 @@ name_of_parts path names name parts sound =
 
 -- a row that can't be read after the way
 pub spotted_blames : (asker : Asker) (path : List (List ℕ)) (spot : Result Under Reply)
-    (old mid : Rows) (at : ℕ) → IsSpotted asker path old spot mid → IsUnreadable mid at
-    → IsDamaged old at
-spotted_blames asker path spot old mid at spotted h =
-    inl (inl (blames_first asker _ _ old mid at spotted.judged h))
+    (old mid : Rows) (row : ℕ) → IsSpotted asker path old spot mid → IsUnreadable mid row
+    → IsDamaged old row
+spotted_blames asker path spot old mid row spotted h =
+    inl (inl (blames_first asker _ _ old mid row spotted.judged h))
 
 module _ (asker : Asker) where
-  pub judged_unread : (items : List Item) (answer : Option Reply) (old mid : Rows) (at : ℕ)
-      → IsJudged asker items old answer mid → IsUnreadable mid at → IsUnreadable old at
-  judged_unread items answer old mid at judged h =
-      blames_first asker items answer old mid at judged h
+  pub judged_unread : (items : List Item) (answer : Option Reply) (old mid : Rows) (row : ℕ)
+      → IsJudged asker items old answer mid → IsUnreadable mid row → IsUnreadable old row
+  judged_unread items answer old mid row judged h =
+      blames_first asker items answer old mid row judged h
 
   -- a refusal that is handed on
   pub judged_refused : (items : List Item) (old mid new : Rows) (refusal reply : Reply)
@@ -57,23 +57,23 @@ module _ (asker : Asker) where
       (subst (λ (r : Rows). IsJudged asker items old (Some refusal) r) (sym same) judged)
 
   -- a check passed, and what a refusal asks for isn't so
-  pub added_behind : (site : Site) (mask bits : List ℕ) (at : List (List ℕ)) (why : Reason)
+  pub added_behind : (site : Site) (mask bits : List ℕ) (path : List (List ℕ)) (why : Reason)
       (holds : Bool) (node : NewNode) (old mid new : Rows) (answer : Option Reply) (reply : Reply)
       → mask ≡ bits → answer ≡ None → holds ≡ false
       → IsJudged asker (Check site mask ∷ []) old answer mid → (reply ≡ Made) × IsMade node mid new
-      → IsJudgedAndDone asker (Check site bits ∷ Refusal at why holds ∷ []) Made
+      → IsJudgedAndDone asker (Check site bits ∷ Refusal path why holds ∷ []) Made
       (IsMade node) old reply new
-  added_behind site mask bits at why holds node old mid new answer reply same passes isnt judged
+  added_behind site mask bits path why holds node old mid new answer reply same passes isnt judged
       made =
       record {
         answer = None;
         mid = mid;
         judged =
-            passes_first asker (Check site bits ∷ []) (Refusal at why holds ∷ []) old mid mid None
+            passes_first asker (Check site bits ∷ []) (Refusal path why holds ∷ []) old mid mid None
             (subst (λ (b : List ℕ). IsJudged asker (Check site b ∷ []) old None mid) same
             (subst (λ (o : Option Reply). IsJudged asker (Check site mask ∷ []) old o mid) passes
             judged))
-            (passes_on asker at why holds [] mid mid None isnt (judged_none asker mid mid refl));
+            (passes_on asker path why holds [] mid mid None isnt (judged_none asker mid mid refl));
         ends = made;
       }
 

@@ -111,7 +111,7 @@ module _ (asker : Asker) (path to : List (List ℕ)) (from target : Found) (old 
 
   -- the records of the way to the object
   abbrev on_way : List AuditRow
-  on_way = records_of_plan asker.caller asker.at (way false (stored_along old.read path) path)
+  on_way = records_of_plan asker.caller asker.moment (way false (stored_along old.read path) path)
 
   some : 0 < length path
   some = some_name (stored_along old.read path) path from_site paired.folder
@@ -165,8 +165,8 @@ module _ (asker : Asker) (path to : List (List ℕ)) (from target : Found) (old 
       (subst (λ p. IsJudged asker (stored_items old.read p is_below target_site from_site) mid
       (Some reply) new) (sym is) judged)
 
-  pub never_unread : (at : ℕ) → IsUnreadable mid at → IsDamaged old at
-  never_unread at h = noted_unread old mid on_way at paired.judged.notes h
+  pub never_unread : (row : ℕ) → IsUnreadable mid row → IsDamaged old row
+  never_unread row h = noted_unread old mid on_way row paired.judged.notes h
 
   module _ (some_to : 0 < length to) where
     at_first : to_stored mid.read (front to) (at_place mid.read to is_below target_site from_site)
@@ -224,11 +224,11 @@ module _ (asker : Asker) (path to : List (List ℕ)) (from target : Found) (old 
           (none_both (first_failure asker.caller front_way)
           (first_failure asker.caller
           (at_place old.read to is_below target_site from_site folder_site))
-          (none ∙ failure_of_parts asker.caller asker.at front_way
+          (none ∙ failure_of_parts asker.caller asker.moment front_way
           (at_place old.read to is_below target_site from_site folder_site))).1
 
       abbrev judgements : List AuditRow
-      judgements = records_of_plan asker.caller asker.at (stored_move old.read path to)
+      judgements = records_of_plan asker.caller asker.moment (stored_move old.read path to)
 
       can_go : CanGo target.node folder (last_name to) (with_notes old judgements)
       can_go = goable old judgements path to target.node folder are paired.target folder_is free
@@ -245,9 +245,9 @@ module _ (asker : Asker) (path to : List (List ℕ)) (from target : Found) (old 
           subst (λ (r : Rows). CanGo target.node folder name r) (sym judged_all.notes)
           (subst (λ n. CanGo target.node folder n (with_notes old judgements)) (sym is_last) can_go)
 
-      pub never_unplaced : (at : ℕ) → FailsToPlace target.node folder name last at
-          → IsDamaged old at
-      never_unplaced at fails = noted_unread old last judgements at judged_all.notes (fails go_on)
+      pub never_unplaced : (row : ℕ) → FailsToPlace target.node folder name last row
+          → IsDamaged old row
+      never_unplaced row fails = noted_unread old last judgements row judged_all.notes (fails go_on)
 
       moves_on : (new : Rows)
           → (CanPlace target.node folder name last → IsPlaced target.node folder name last new)
@@ -266,7 +266,7 @@ module _ (asker : Asker) (path to : List (List ℕ)) (from target : Found) (old 
           ∙ ap (λ (r : Rows). with_node (meaning r.read)
           (moved_node (stored_site [] target.node) (stored_site [] folder) name)) planned.notes
           ∙ ap (λ (n : Node). with_records (with_node means n)
-          (records_of_plan asker.caller asker.at (plan_of means (Move path to)))) moved_as)
+          (records_of_plan asker.caller asker.moment (plan_of means (Move path to)))) moved_as)
           placed.sound
         where
           means : Content

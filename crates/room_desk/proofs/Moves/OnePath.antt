@@ -114,21 +114,21 @@ module _ (rows : Content) (rises : Rises rows) where
 
   -- ---- what a way meets
 
-  module _ (target : Node) (there : node_at rows target.id ≡ Some target) (at : List (List ℕ))
-      (up : IsUp target at) where
+  module _ (target : Node) (there : node_at rows target.id ≡ Some target) (front : List (List ℕ))
+      (up : IsUp target front) where
     abbrev meets : List Site → Bool
     meets sites = list_any (λ (s : Site). s.node.id == target.id) sites
 
     same_path : (node : Node) (path : List (List ℕ)) → node_at rows node.id ≡ Some node
-        → IsUp node path → (node.id == target.id) ≡ true → at ≡ path
+        → IsUp node path → (node.id == target.id) ≡ true → front ≡ path
     same_path node path found up_node is =
         let same : target ≡ node = same_Some target node
         (sym there ∙ ap (node_at rows) (sym (eqb-true node.id target.id is)) ∙ found) in
-        one_path node at path (subst (λ (n : Node). IsUp n at) same up) up_node
+        one_path node front path (subst (λ (n : Node). IsUp n front) same up) up_node
 
     met_from : (names path : List (List ℕ)) (node : Node) → node_at rows node.id ≡ Some node
         → IsUp node path → meets (stored_from rows path node names) ≡ true
-        → begins at (path ++ names) ≡ true
+        → begins front (path ++ names) ≡ true
     met_from [] path node found up_node met = elim (or_cases (node.id == target.id) false met) [
       | inl is ↦ ap (λ l. begins l (path ++ [])) (same_path node path found up_node is)
           ∙ begins_more path []
@@ -152,25 +152,25 @@ module _ (rows : Content) (rises : Rises rows) where
         on : (o : Option Node)
             → ((child : Node) → o ≡ Some child
             → meets (stored_from rows (path ++ name ∷ []) child names) ≡ true
-            → begins at ((path ++ name ∷ []) ++ names) ≡ true)
+            → begins front ((path ++ name ∷ []) ++ names) ≡ true)
             → meets (option_map_or (λ child. stored_from rows (path ++ name ∷ []) child names) o [])
-            ≡ true → begins at (path ++ name ∷ names) ≡ true
+            ≡ true → begins front (path ++ name ∷ names) ≡ true
         on None known met = absurd (false≢true met)
         on (Some child) known met =
-            ap (begins at) (sym (append_assoc path (name ∷ []) names)) ∙ known child refl met
+            ap (begins front) (sym (append_assoc path (name ∷ []) names)) ∙ known child refl met
 
     -- what is met on a way stands at a beginning of it
     pub met_along : (path : List (List ℕ)) → meets (stored_along rows path) ≡ true
-        → begins at path ≡ true
+        → begins front path ≡ true
     met_along path met =
         on (root_of rows) (λ root is. met_from path [] root (root_of-is_there rows rises root is)
         (up_root root (root_of-parent rows root is))) met
       where
         on : (o : Option Node)
             → ((root : Node) → o ≡ Some root → meets (stored_from rows [] root path) ≡ true
-            → begins at path ≡ true)
+            → begins front path ≡ true)
             → meets (option_map_or (λ root. stored_from rows [] root path) o []) ≡ true
-            → begins at path ≡ true
+            → begins front path ≡ true
         on None known met = absurd (false≢true met)
         on (Some root) known met = known root refl met
 

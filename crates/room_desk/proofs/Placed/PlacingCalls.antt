@@ -68,11 +68,11 @@ taken which target folder passed old new linked is (inr takes) = record {
       };
 }
 
-pub passed_unread : (which : Which) (target : Node) (passed : List Ace) (old mid : Rows) (at : ℕ)
-    → Changes target.id (with_inh which passed) old mid → HasLoop target.id mid at
-    → FailsToRenew target old at
-passed_unread which target passed old mid at changes loop rooted =
-    changed_unread target.id old mid at (with_inh which passed)
+pub passed_unread : (which : Which) (target : Node) (passed : List Ace) (old mid : Rows) (row : ℕ)
+    → Changes target.id (with_inh which passed) old mid → HasLoop target.id mid row
+    → FailsToRenew target old row
+passed_unread which target passed old mid row changes loop rooted =
+    changed_unread target.id old mid row (with_inh which passed)
     (λ n. (place-with_inh which passed n).number)
     (λ n. (place-with_inh which passed n).parent) changes loop rooted
 
@@ -95,14 +95,15 @@ taken_as which target entries passed old mid new same changes down =
     )
 
 -- a row that can't be read, before anything is written
-pub unrenewed : (target : Node) (old mid : Rows) (at : ℕ) → mid ≡ old → IsUnreadable mid at
-    → FailsToRenew target old at
-unrenewed target old mid at same unread rooted = subst (λ (r : Rows). IsUnreadable r at) same unread
+pub unrenewed : (target : Node) (old mid : Rows) (row : ℕ) → mid ≡ old → IsUnreadable mid row
+    → FailsToRenew target old row
+unrenewed target old mid row same unread rooted =
+    subst (λ (r : Rows). IsUnreadable r row) same unread
 
-pub renewing_before : (target : Node) (old mid : Rows) (at : ℕ) → mid ≡ old
-    → FailsToRenew target mid at → FailsToRenew target old at
-renewing_before target old mid at same fails =
-    subst (λ (r : Rows). FailsToRenew target r at) same fails
+pub renewing_before : (target : Node) (old mid : Rows) (row : ℕ) → mid ≡ old
+    → FailsToRenew target mid row → FailsToRenew target old row
+renewing_before target old mid row same fails =
+    subst (λ (r : Rows). FailsToRenew target r row) same fails
 
 -- ---- the place, and both lists
 
@@ -116,11 +117,11 @@ module _ (target folder : Node) (name : List ℕ) where
   abbrev Stays : Rows → Rows → Type 0
   Stays old mid = CanGo target folder name old → IsStill old mid
 
-  stays_unread : (old mid : Rows) (at : ℕ) → Stays old mid → FailsToRenew target mid at
-      → FailsToPlace target folder name old at
-  stays_unread old mid at stays fails can = let rooted = stays can in
+  stays_unread : (old mid : Rows) (row : ℕ) → Stays old mid → FailsToRenew target mid row
+      → FailsToPlace target folder name old row
+  stays_unread old mid row stays fails can = let rooted = stays can in
       subst (λ (l : List ℕ). Rattle.std.specs.Prelude.IsTrue
-      (Rattle.room_entry.specs.Pieces.is_among l at)) rooted.unreadable (fails rooted.rooted)
+      (Rattle.room_entry.specs.Pieces.is_among l row)) rooted.unreadable (fails rooted.rooted)
 
   placed_stays : (old mid : Rows) → Places target.id folder.id name old mid → Stays old mid
   placed_stays old mid places can =
@@ -156,9 +157,9 @@ module _ (target folder : Node) (name : List ℕ) where
         rooted = keeps.rooted before.rooted;
       }
 
-  pub unplaced : (old mid : Rows) (at : ℕ) → mid ≡ old → IsUnreadable mid at
-      → FailsToPlace target folder name old at
-  unplaced old mid at same unread can = subst (λ (r : Rows). IsUnreadable r at) same unread
+  pub unplaced : (old mid : Rows) (row : ℕ) → mid ≡ old → IsUnreadable mid row
+      → FailsToPlace target folder name old row
+  unplaced old mid row same unread can = subst (λ (r : Rows). IsUnreadable r row) same unread
 
   -- the object is at its place, and its dacl is handed down
   pub record FirstDone (old mid : Rows) : Type 0 where
@@ -179,9 +180,10 @@ module _ (target folder : Node) (name : List ℕ) where
       refl_of : (n : Node) → n.dacl.inh ≡ n.dacl.inh
       refl_of n = refl
 
-  pub first_fails : (old mid : Rows) (at : ℕ) → Places target.id folder.id name old mid
-      → FailsToRenew target mid at → FailsToPlace target folder name old at
-  first_fails old mid at places fails = stays_unread old mid at (placed_stays old mid places) fails
+  pub first_fails : (old mid : Rows) (row : ℕ) → Places target.id folder.id name old mid
+      → FailsToRenew target mid row → FailsToPlace target folder name old row
+  first_fails old mid row places fails =
+      stays_unread old mid row (placed_stays old mid places) fails
 
   pub first_done : (old mid new : Rows) → Places target.id folder.id name old mid
       → Renews Dacl target folder mid tt new → FirstDone old new
@@ -193,9 +195,9 @@ module _ (target folder : Node) (name : List ℕ) where
     stays = renewed_stays Dacl old mid new (placed_stays old mid places) renews;
   }
 
-  pub second_fails : (old mid : Rows) (at : ℕ) → FirstDone old mid → FailsToRenew target mid at
-      → FailsToPlace target folder name old at
-  second_fails old mid at first fails = stays_unread old mid at first.stays fails
+  pub second_fails : (old mid : Rows) (row : ℕ) → FirstDone old mid → FailsToRenew target mid row
+      → FailsToPlace target folder name old row
+  second_fails old mid row first fails = stays_unread old mid row first.stays fails
 
   pub second_done : (old mid new : Rows) → FirstDone old mid → Renews Sacl target folder mid tt new
       → PlacesAt target folder name old Done new

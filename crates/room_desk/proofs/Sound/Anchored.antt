@@ -150,9 +150,9 @@ rooted_changed id old mid change number parent changes rooted =
     }
 
 -- each object gets other inherited entries
-pub rooted_spread : (which : Which) (id at changed : ℕ) (old new : Rows)
-    → IsSpread which at old new changed → IsRooted id old → KeepsRoot id old new
-rooted_spread which id at changed old new spread rooted = record {
+pub rooted_spread : (which : Which) (id row changed : ℕ) (old new : Rows)
+    → IsSpread which row old new changed → IsRooted id old → KeepsRoot id old new
+rooted_spread which id row changed old new spread rooted = record {
   unreadable = ap (λ (r : Rows). r.unreadable) spread.becomes;
   audits = ap (λ (r : Rows). r.read.audits) spread.becomes;
   rooted = λ _. subst (IsRooted id) (sym spread.becomes) (record {
@@ -179,22 +179,23 @@ rooted_spread which id at changed old new spread rooted = record {
     parent n = (place-with_inh which (spread.lists n) n).parent
 
 -- what is rooted isn't its own ancestor
-pub rooted_unread : (id : ℕ) (rows : Rows) (at : ℕ) → IsRooted id rows → HasLoop id rows at
-    → IsUnreadable rows at
-rooted_unread id rows at rooted (inl unreadable) = unreadable
-rooted_unread id rows at rooted (inr loop) =
+pub rooted_unread : (id : ℕ) (rows : Rows) (row : ℕ) → IsRooted id rows → HasLoop id rows row
+    → IsUnreadable rows row
+rooted_unread id rows row rooted (inl unreadable) = unreadable
+rooted_unread id rows row rooted (inr loop) =
     absurd (rooted_no_loop rows.read id rooted.steps rooted.node rooted.there rooted.reaches loop.1)
 
 -- nothing else became unreadable
-pub unread_first : (id : ℕ) (old mid : Rows) (at : ℕ) → KeepsRoot id old mid → IsUnreadable mid at
-    → IsUnreadable old at
-unread_first id old mid at keeps h =
-    subst (λ (l : List ℕ). IsTrue (Rattle.room_entry.specs.Pieces.is_among l at)) keeps.unreadable h
+pub unread_first : (id : ℕ) (old mid : Rows) (row : ℕ) → KeepsRoot id old mid → IsUnreadable mid row
+    → IsUnreadable old row
+unread_first id old mid row keeps h =
+    subst (λ (l : List ℕ). IsTrue (Rattle.room_entry.specs.Pieces.is_among l row))
+    keeps.unreadable h
 
 -- what is carried down from an object that gets another list
-pub changed_unread : (id : ℕ) (old mid : Rows) (at : ℕ) (change : Node → Node)
+pub changed_unread : (id : ℕ) (old mid : Rows) (row : ℕ) (change : Node → Node)
     → ((n : Node) → (change n).id ≡ n.id) → ((n : Node) → (change n).parent ≡ n.parent)
-    → Changes id change old mid → HasLoop id mid at → IsRooted id old → IsUnreadable old at
-changed_unread id old mid at change number parent changes loop rooted =
+    → Changes id change old mid → HasLoop id mid row → IsRooted id old → IsUnreadable old row
+changed_unread id old mid row change number parent changes loop rooted =
     let keeps = rooted_changed id old mid change number parent changes rooted in
-    unread_first id old mid at keeps (rooted_unread id mid at (keeps.rooted rooted) loop)
+    unread_first id old mid row keeps (rooted_unread id mid row (keeps.rooted rooted) loop)

@@ -14,28 +14,31 @@ use Rattle.room_rows.specs.Sound.{AreSound, has_sound_body}
 use Rattle.room_judge.specs.Judged.{with_notes}
 use Rattle.room_desk.proofs.Sound.SoundParts.{passes_test, rootless_unsound, sound_parts}
 
-pub rootless_damaged : (old mid : Rows) (at : ℕ) → mid ≡ old → HasNoRoot mid at → IsDamaged old at
-rootless_damaged old mid at same h = inl (subst (λ (r : Rows). HasNoRoot r at) same h)
+pub rootless_damaged : (old mid : Rows) (row : ℕ) → mid ≡ old → HasNoRoot mid row
+    → IsDamaged old row
+rootless_damaged old mid row same h = inl (subst (λ (r : Rows). HasNoRoot r row) same h)
 
-pub unread_damaged : (old mid : Rows) (at : ℕ) → mid ≡ old → IsUnreadable mid at → IsDamaged old at
-unread_damaged old mid at same h = inl (inl (subst (λ (r : Rows). IsUnreadable r at) same h))
+pub unread_damaged : (old mid : Rows) (row : ℕ) → mid ≡ old → IsUnreadable mid row
+    → IsDamaged old row
+unread_damaged old mid row same h = inl (inl (subst (λ (r : Rows). IsUnreadable r row) same h))
 
-pub damaged_before : (old mid : Rows) (at : ℕ) → mid ≡ old → IsDamaged mid at → IsDamaged old at
-damaged_before old mid at same h = subst (λ (r : Rows). IsDamaged r at) same h
+pub damaged_before : (old mid : Rows) (row : ℕ) → mid ≡ old → IsDamaged mid row → IsDamaged old row
+damaged_before old mid row same h = subst (λ (r : Rows). IsDamaged r row) same h
 
-pub noted_unread : (old mid : Rows) (records : List AuditRow) (at : ℕ)
+pub noted_unread : (old mid : Rows) (records : List AuditRow) (row : ℕ)
     → mid ≡ with_notes old records
-    → IsUnreadable mid at → IsDamaged old at
-noted_unread old mid records at same h = inl (inl (subst (λ (r : Rows). IsUnreadable r at) same h))
+    → IsUnreadable mid row → IsDamaged old row
+noted_unread old mid records row same h =
+    inl (inl (subst (λ (r : Rows). IsUnreadable r row) same h))
 
 -- sound rows have nothing to blame
-pub sound_undamaged : (rows : Rows) (at : ℕ) → AreSound rows → IsDamaged rows at → ⊥
-sound_undamaged rows at sound (inl rootless) = rootless_unsound rows at rootless sound
-sound_undamaged rows at sound (inr lacks) =
+pub sound_undamaged : (rows : Rows) (row : ℕ) → AreSound rows → IsDamaged rows row → ⊥
+sound_undamaged rows row sound (inl rootless) = rootless_unsound rows row rootless sound
+sound_undamaged rows row sound (inr lacks) =
     let fits : has_sound_body rows.read lacks.0 ≡ true = passes_test (has_sound_body rows.read)
-    (λ n. n.id == at) rows.read.nodes lacks.0 (sound_parts rows sound).bodies lacks.1 in
+    (λ n. n.id == row) rows.read.nodes lacks.0 (sound_parts rows sound).bodies lacks.1 in
     wrong (is_document lacks.0.kind) (body_of rows.read lacks.0.id) lacks.2
-    (ap (body_of rows.read) (number rows at lacks.0 lacks.1) ∙ lacks.3) fits
+    (ap (body_of rows.read) (number rows row lacks.0 lacks.1) ∙ lacks.3) fits
   where
     number : (r : Rows) (id : ℕ) (node : Node) → node_at r.read id ≡ Some node → node.id ≡ id
     number r id node found = Rattle.room_rows.proofs.Frames.node_at-number r.read id node found

@@ -63,8 +63,8 @@ module _ (caller : Caller) (moment : ℤ) where
 pub judged_filled : (asker : Asker) (items : List Item) (old new : Rows) (answer : Option Reply)
     → IsJudged asker (map fill_item items) old answer new → IsJudged asker items old answer new
 judged_filled asker items old new answer judged = record {
-  answers = judged.answers ∙ failures_filled asker.caller asker.at items;
-  notes = judged.notes ∙ ap (with_notes old) (records_filled asker.caller asker.at items);
+  answers = judged.answers ∙ failures_filled asker.caller asker.moment items;
+  notes = judged.notes ∙ ap (with_notes old) (records_filled asker.caller asker.moment items);
 }
 
 -- ---- plans

@@ -208,11 +208,11 @@ rooted_up rows rises node up =
     record { rises = rises; node = node; there = up.there; steps = up.steps; reaches = up.reaches }
 
 -- the object at the path
-pub rooted_along : (rows : Rows) → Rises rows.read → (path at : List (List ℕ)) (node : Node)
-    → site_at (stored_along rows.read path) path ≡ Some (stored_site at node)
+pub rooted_along : (rows : Rows) → Rises rows.read → (path front : List (List ℕ)) (node : Node)
+    → site_at (stored_along rows.read path) path ≡ Some (stored_site front node)
     → IsRooted node.id rows
-rooted_along rows rises path at node is =
-    rooted_up rows rises node (up_along rows.read rises path (stored_site at node) is)
+rooted_along rows rises path front node is =
+    rooted_up rows rises node (up_along rows.read rises path (stored_site front node) is)
 
 -- the last object of a walk
 pub rooted_last : (rows : Rows) → Rises rows.read

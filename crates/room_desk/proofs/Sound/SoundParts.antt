@@ -149,14 +149,14 @@ none_unreadable rows parts = all_read rows rows.unreadable refl parts.lists
 
 -- ---- no row of sound rows is blamed
 
-pub readable_unsound : (rows : Rows) (at : ℕ) → IsUnreadable rows at → NotSound rows at
-readable_unsound rows at unreadable sound =
+pub readable_unsound : (rows : Rows) (row : ℕ) → IsUnreadable rows row → NotSound rows row
+readable_unsound rows row unreadable sound =
     absurd
-    (false≢true (ap (λ l. is_among l at) (sym (none_unreadable rows (sound_parts rows sound)))
+    (false≢true (ap (λ l. is_among l row) (sym (none_unreadable rows (sound_parts rows sound)))
     ∙ unreadable))
 
-pub rootless_unsound : (rows : Rows) (at : ℕ) → HasNoRoot rows at → NotSound rows at
-rootless_unsound rows at (inl unreadable) sound = readable_unsound rows at unreadable sound
-rootless_unsound rows at (inr none) sound = let there =
+pub rootless_unsound : (rows : Rows) (row : ℕ) → HasNoRoot rows row → NotSound rows row
+rootless_unsound rows row (inl unreadable) sound = readable_unsound rows row unreadable sound
+rootless_unsound rows row (inr none) sound = let there =
     root_there rows.read.nodes (sound_parts rows sound).root in
     absurd (let wrong : None ≡ Some there.0 = sym none.1 ∙ there.1 in let no : ⊥ = cc in no)

@@ -24,7 +24,7 @@ use Rattle.room_machine.specs.Step.{caller_in}
 
 -- the groups of the caller are those of the rows, so that the request is carried out from there
 carried : (user : Option (List ℕ)) (moment : ℤ) (asker : Asker) (request : Request)
-    (old mid new : Rows) (reply : Reply) → asker.at ≡ moment
+    (old mid new : Rows) (reply : Reply) → asker.moment ≡ moment
     → (asker.caller ≡ caller_in old.read user) × (mid ≡ old)
     → CarriesOut asker request mid reply new → AreSound old
     → IsStepOfRows user moment request old reply new
@@ -33,22 +33,22 @@ carried user moment asker request old mid new reply at both carries sound =
     let known : IsKnown asker mid = both.0 ∙ ap (λ (r : Rows). caller_in r.read user) (sym both.1)
     ∙ ap (λ u. caller_in mid.read u) (sym named) in
     subst (λ t. IsStepOfRows user t request old reply new) at
-    (subst (λ u. IsStepOfRows u asker.at request old reply new) named
-    (subst (λ (r : Rows). IsStepOfRows asker.caller.user asker.at request r reply new) both.1
+    (subst (λ u. IsStepOfRows u asker.moment request old reply new) named
+    (subst (λ (r : Rows). IsStepOfRows asker.caller.user asker.moment request r reply new) both.1
     (carries known (subst AreSound (sym both.1) sound))))
 
 -- and that it is judged by the stored lists
 closed_for : (user : Option (List ℕ)) (moment : ℤ) (asker : Asker) (request : Request)
-    (old mid new : Rows) (reply : Reply) → asker.at ≡ moment
+    (old mid new : Rows) (reply : Reply) → asker.moment ≡ moment
     → (asker.caller ≡ caller_in old.read user) × (mid ≡ old)
     → IsClosed asker request mid reply new → FailsClosed user moment request old reply new
 closed_for user moment asker request old mid new reply at both closed =
     subst (λ t. IsClosedFor (caller_in old.read user) t request old reply new) at
-    (subst (λ (c : Caller). IsClosedFor c asker.at request old reply new) both.0
+    (subst (λ (c : Caller). IsClosedFor c asker.moment request old reply new) both.0
     (subst (λ (r : Rows). IsClosed asker request r reply new) both.1 closed))
 
 pub performed : (user : Option (List ℕ)) (moment : ℤ) (asker : Asker) (request : Request)
-    (old mid new : Rows) (reply : Reply) → asker.at ≡ moment
+    (old mid new : Rows) (reply : Reply) → asker.moment ≡ moment
     → (asker.caller ≡ caller_in old.read user) × (mid ≡ old)
     → IsServed asker request mid reply new → Performs user moment request old reply new
 performed user moment asker request old mid new reply at both served = record {
@@ -61,21 +61,22 @@ performed user moment asker request old mid new reply at both served = record {
 events_more : (asked : List Asked) (replies : List Reply) (one : Asked) (reply : Reply)
     → length replies ≡ length asked
     → asked_events (asked ++ one ∷ []) (replies ++ reply ∷ []) ≡ asked_events asked replies
-    ++ HasAsked one.user one.at one.request reply ∷ []
+    ++ HasAsked one.user one.moment one.request reply ∷ []
 events_more [] [] one reply each = refl
 events_more [] (r ∷ replies) one reply each = absurd (omega (arith, each))
 events_more (a ∷ asked) [] one reply each = absurd (omega (arith, each))
 events_more (a ∷ asked) (r ∷ replies) one reply each =
-    ap (λ (events : List Event). HasAsked a.user a.at a.request r ∷ events)
+    ap (λ (events : List Event). HasAsked a.user a.moment a.request r ∷ events)
     (events_more asked replies one reply (omega (arith, each)))
 
 run_more : (asked : List Asked) (one : Asked) (replies : List Reply) (reply : Reply)
     (old mid new : Rows) → RunsAll asked old replies mid
-    → Performs one.user one.at one.request mid reply new
+    → Performs one.user one.moment one.request mid reply new
     → RunsAll (asked ++ one ∷ []) old (replies ++ reply ∷ []) new
 run_more asked one replies reply old mid new sofar more sound =
     let before : IsRunOfRows asked old replies mid = sofar sound in
-    let step : IsStepOfRows one.user one.at one.request mid reply new = more.step before.sound in
+    let step : IsStepOfRows one.user one.moment one.request mid reply new =
+    more.step before.sound in
     record {
       each =
           omega (
@@ -88,7 +89,8 @@ run_more asked one replies reply old mid new sofar more sound =
           subst (λ (events : List Event). Run (meaning old.read) events (meaning new.read))
           (sym (events_more asked replies one reply before.each))
           (meet (meaning old.read) (meaning mid.read) (meaning new.read)
-          (asked_events asked replies) (HasAsked one.user one.at one.request reply ∷ []) before.run
+          (asked_events asked replies)
+          (HasAsked one.user one.moment one.request reply ∷ []) before.run
           (meaning new.read, step.step, refl));
       sound = step.sound;
     }
@@ -97,7 +99,8 @@ run_more asked one replies reply old mid new sofar more sound =
 pub runs_more : (asked : List Asked) (n : ℕ) (one : Asked) (replies all : List Reply)
     (reply : Reply) (old mid new : Rows) → n < length asked → one ≡ get_or asked n one
     → all ≡ replies ++ reply ∷ []
-    → RunsAll (take n asked) old replies mid → Performs one.user one.at one.request mid reply new
+    → RunsAll (take n asked) old replies mid
+    → Performs one.user one.moment one.request mid reply new
     → RunsAll (take (n + 1) asked) old all new
 runs_more asked n one replies all reply old mid new below is made sofar more =
     let longer : take n asked ++ one ∷ [] ≡ take (n + 1) asked = ap
@@ -109,7 +112,7 @@ runs_more asked n one replies all reply old mid new below is made sofar more =
 pub first_more : (asked : List Asked) (n : ℕ) (one : Asked) (replies all : List Reply)
     (reply : Reply) (old mid new : Rows) → n < length asked → one ≡ get_or asked n one
     → all ≡ replies ++ reply ∷ []
-    → AreFirst asked n old replies mid → Performs one.user one.at one.request mid reply new
+    → AreFirst asked n old replies mid → Performs one.user one.moment one.request mid reply new
     → AreFirst asked (n + 1) old all new
 first_more asked n one replies all reply old mid new below is made first more = record {
   ran = runs_more asked n one replies all reply old mid new below is made first.ran more;
@@ -117,10 +120,10 @@ first_more asked n one replies all reply old mid new below is made first more = 
 }
 
 -- a row that is damaged after the first requests
-pub blamed_after : (asked : List Asked) (n : ℕ) (replies : List Reply) (old mid : Rows) (at : ℕ)
-    → n < length asked → AreFirst asked n old replies mid → IsDamaged mid at
-    → IsDamagedAfter asked old at
-blamed_after asked n replies old mid at below first damaged =
+pub blamed_after : (asked : List Asked) (n : ℕ) (replies : List Reply) (old mid : Rows) (row : ℕ)
+    → n < length asked → AreFirst asked n old replies mid → IsDamaged mid row
+    → IsDamagedAfter asked old row
+blamed_after asked n replies old mid row below first damaged =
     record {
       count = n;
       below = below;
@@ -131,9 +134,9 @@ blamed_after asked n replies old mid at below first damaged =
     }
 
 -- from sound rows they stay sound, and nothing is damaged
-pub never_after : (asked : List Asked) (rows : Rows) (at : ℕ) → AreSound rows
-    → IsDamagedAfter asked rows at → ⊥
-never_after asked rows at sound after =
+pub never_after : (asked : List Asked) (rows : Rows) (row : ℕ) → AreSound rows
+    → IsDamagedAfter asked rows row → ⊥
+never_after asked rows row sound after =
     let run : IsRunOfRows (take after.count asked) rows after.replies after.rows =
     after.first.ran sound in
-    sound_undamaged after.rows at run.sound after.damaged
+    sound_undamaged after.rows row run.sound after.damaged

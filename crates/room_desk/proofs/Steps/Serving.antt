@@ -237,10 +237,10 @@ reached_as asker path items bits named outcome old new same reached =
 
 -- a row that can't be read afterwards couldn't be read before
 pub reached_damaged : (asker : Asker) (path : List (List ℕ)) (items : Site → List Item)
-    (outcome : Result Node Reply) (old mid : Rows) (at : ℕ)
-    → IsReached asker path items old outcome mid → IsUnreadable mid at → IsDamaged old at
-reached_damaged asker path items outcome old mid at reached h =
-    inl (inl (subst (λ (r : Rows). IsUnreadable r at) reached.judged.notes h))
+    (outcome : Result Node Reply) (old mid : Rows) (row : ℕ)
+    → IsReached asker path items old outcome mid → IsUnreadable mid row → IsDamaged old row
+reached_damaged asker path items outcome old mid row reached h =
+    inl (inl (subst (λ (r : Rows). IsUnreadable r row) reached.judged.notes h))
 
 -- nothing is changed after the walk
 pub reached_then : (asker : Asker) (path : List (List ℕ)) (items : Site → List Item)
@@ -319,7 +319,7 @@ document_there asker path bits old new node are reached =
     ++ where_found o (λ target. no_folder target ∷ Check target bits ∷ []))) reached.found in
     let at_site = none_both
     (first_failure asker.caller (way false (stored_along old.read path) path)) _
-    (judged ∙ failure_of_parts asker.caller asker.at
+    (judged ∙ failure_of_parts asker.caller asker.moment
     (way false (stored_along old.read path) path) (no_folder site ∷ Check site bits ∷ [])) in (
       along_there old.read are.numbers path site reached.found,
       folder_fails asker.caller site
@@ -329,11 +329,11 @@ document_there asker path bits old new node are reached =
 
 -- a document that lacks bytes, after the records of the way to it
 pub no_bytes : (asker : Asker) (path : List (List ℕ)) (bits : List ℕ) (old mid : Rows) (node : Node)
-    (at : ℕ) → AreRows old → IsReached asker path (DocumentAt bits) old (Ok node) mid
-    → HasNoBytes node.id mid at → IsDamaged old at
-no_bytes asker path bits old mid node at are reached (inl unreadable) =
-    inl (inl (subst (λ (r : Rows). IsUnreadable r at) reached.judged.notes unreadable))
-no_bytes asker path bits old mid node at are reached (inr lacks) =
+    (row : ℕ) → AreRows old → IsReached asker path (DocumentAt bits) old (Ok node) mid
+    → HasNoBytes node.id mid row → IsDamaged old row
+no_bytes asker path bits old mid node row are reached (inl unreadable) =
+    inl (inl (subst (λ (r : Rows). IsUnreadable r row) reached.judged.notes unreadable))
+no_bytes asker path bits old mid node row are reached (inr lacks) =
     let document = document_there asker path bits old mid node are reached in
     inr (
       node,

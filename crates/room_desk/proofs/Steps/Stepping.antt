@@ -32,18 +32,18 @@ module _ (asker : Asker) (request : Request) (old : Rows) (known : IsKnown asker
   made id caller =
       done_with_records (failure_or (first_failure caller (plan_of content request)) content
       (effect content caller id request))
-      (records_of_plan caller asker.at (plan_of content request))
+      (records_of_plan caller asker.moment (plan_of content request))
 
   by_records : (id : ℕ) → Rattle.room_machine.specs.Step.IsFree content id
       → (new : Rows) (reply : Reply)
       → made id asker.caller
       ≡ (
         reply,
-        meaning
-        (with_notes old (records_of_plan asker.caller asker.at (plan_of content request))).read,
+        meaning (with_notes old
+            (records_of_plan asker.caller asker.moment (plan_of content request))).read,
       )
-      → new ≡ with_notes old (records_of_plan asker.caller asker.at (plan_of content request))
-      → IsStepOfRows asker.caller.user asker.at request old reply new
+      → new ≡ with_notes old (records_of_plan asker.caller asker.moment (plan_of content request))
+      → IsStepOfRows asker.caller.user asker.moment request old reply new
   by_records id free new reply makes notes = record {
     step = (
       id,
@@ -56,27 +56,27 @@ module _ (asker : Asker) (request : Request) (old : Rows) (known : IsKnown asker
 
   pub refused_step : (new : Rows) (reply : Reply)
       → IsJudged asker (plan_of content request) old (Some reply) new
-      → IsStepOfRows asker.caller.user asker.at request old reply new
+      → IsStepOfRows asker.caller.user asker.moment request old reply new
   refused_step new reply judged =
       let free = some_free content in
       by_records free.0 free.1 new reply
       (ap (λ o. done_with_records
       (failure_or o content (effect content asker.caller free.0 request))
-      (records_of_plan asker.caller asker.at (plan_of content request))) (sym judged.answers))
+      (records_of_plan asker.caller asker.moment (plan_of content request))) (sym judged.answers))
       judged.notes
 
   pub served_step : (new : Rows) (reply : Reply)
       → ((id : ℕ) → effect content asker.caller id request ≡ (reply, content))
       → IsJudged asker (plan_of content request) old None new
-      → IsStepOfRows asker.caller.user asker.at request old reply new
+      → IsStepOfRows asker.caller.user asker.moment request old reply new
   served_step new reply serves judged =
       let free = some_free content in
       by_records free.0 free.1 new reply
       (ap (λ o. done_with_records
       (failure_or o content (effect content asker.caller free.0 request))
-      (records_of_plan asker.caller asker.at (plan_of content request))) (sym judged.answers)
+      (records_of_plan asker.caller asker.moment (plan_of content request))) (sym judged.answers)
       ∙ ap (λ d. done_with_records d
-      (records_of_plan asker.caller asker.at (plan_of content request)))
+      (records_of_plan asker.caller asker.moment (plan_of content request)))
       (serves free.0))
       judged.notes
 
@@ -86,8 +86,8 @@ module _ (asker : Asker) (request : Request) (old : Rows) (known : IsKnown asker
       → IsJudged asker (plan_of content request) old None mid
       → effect content asker.caller id request ≡ (reply, after)
       → meaning new.read
-      ≡ with_records after (records_of_plan asker.caller asker.at (plan_of content request))
-      → AreSound new → IsStepOfRows asker.caller.user asker.at request old reply new
+      ≡ with_records after (records_of_plan asker.caller asker.moment (plan_of content request))
+      → AreSound new → IsStepOfRows asker.caller.user asker.moment request old reply new
   made_step id free mid new reply after judged changes means stays = record {
     step = (
       id,
@@ -95,9 +95,10 @@ module _ (asker : Asker) (request : Request) (old : Rows) (known : IsKnown asker
       ap (made id) (caller_kept old.read asker.caller.user ∙ sym known)
           ∙ ap (λ o. done_with_records
           (failure_or o content (effect content asker.caller id request))
-          (records_of_plan asker.caller asker.at (plan_of content request))) (sym judged.answers)
+          (records_of_plan asker.caller asker.moment (plan_of content request)))
+          (sym judged.answers)
           ∙ ap (λ d. done_with_records d
-          (records_of_plan asker.caller asker.at (plan_of content request)))
+          (records_of_plan asker.caller asker.moment (plan_of content request)))
           changes
           ∙ ap (λ (c : Content). (reply, c)) (sym means),
     );
@@ -109,8 +110,8 @@ module _ (asker : Asker) (request : Request) (old : Rows) (known : IsKnown asker
       → IsJudged asker (plan_of content request) old None mid
       → ((id : ℕ) → effect content asker.caller id request ≡ (reply, after))
       → meaning new.read
-      ≡ with_records after (records_of_plan asker.caller asker.at (plan_of content request))
-      → AreSound new → IsStepOfRows asker.caller.user asker.at request old reply new
+      ≡ with_records after (records_of_plan asker.caller asker.moment (plan_of content request))
+      → AreSound new → IsStepOfRows asker.caller.user asker.moment request old reply new
   changed_step mid new reply after judged changes means stays =
       let free = some_free content in
       made_step free.0 free.1 mid new reply after judged (changes free.0) means stays

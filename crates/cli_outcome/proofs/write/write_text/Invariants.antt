@@ -4,8 +4,8 @@ use Rattle.cli_outcome.proofs.write.write_text.Given as goal
 
 abbrev pub invariant-writing : goal.invariant-writing
 invariant-writing g l =
-    (l.at ≤ length l.text)
-    × Appends (g.W.Write.contents l.fn.w) (g.W.Write.contents l.w) (take l.at l.text)
+    (l.index ≤ length l.text)
+    × Appends (g.W.Write.contents l.fn.w) (g.W.Write.contents l.w) (take l.index l.text)
 
 abbrev pub decreases-writing : goal.decreases-writing
-decreases-writing g l = length l.text - l.at
+decreases-writing g l = length l.text - l.index

@@ -11,7 +11,7 @@ returns-in-Ok-clause-received g c =
 
 pub returns-in-Ok-clause-leaves : goal.returns-in-Ok-clause-leaves
 returns-in-Ok-clause-leaves g c = record {
-  at = c.in-Ok.ensures.attends.0;
+  moment = c.in-Ok.ensures.attends.0;
   mid = c.serve_next.new.desk;
   attends = c.in-Ok.ensures.attends.1;
   rests = c.says_shut-shut.ensures.rests;

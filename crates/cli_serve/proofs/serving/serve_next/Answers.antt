@@ -6,13 +6,13 @@ use Rattle.cli_serve.proofs.serving.serve_next.Goals as goal
 
 pub returns-in-Ok-Some-clause-received : goal.returns-in-Ok-Some-clause-received
 returns-in-Ok-Some-clause-received g c =
-    let at = c.next.result in
+    let moment = c.next.result in
     let old = c.args.desk.now in
     let new = c.serve_stream.new.desk in
-    let fits : SFits w64 at = search rules in
+    let fits : SFits w64 moment = search rules in
     let attends = subst (λ (z : ℤ). Attends g.D.Desk z old new)
-    (to_z-of_z w64 at fits) c.serve_stream.ensures in
-    exactly_one g.D.Desk g.met.D.Desk.laws at _ _ old new c.next.ensures attends
+    (to_z-of_z w64 moment fits) c.serve_stream.ensures in
+    exactly_one g.D.Desk g.met.D.Desk.laws moment _ _ old new c.next.ensures attends
 
 pub returns-in-Ok-None-clause-received : goal.returns-in-Ok-None-clause-received
 returns-in-Ok-None-clause-received g c =
@@ -25,8 +25,7 @@ pub returns-in-Ok-Some-clause-attends : goal.returns-in-Ok-Some-clause-attends
 returns-in-Ok-Some-clause-attends g c = (_, c.serve_stream.ensures)
 
 pub returns-in-Ok-None-clause-attends : goal.returns-in-Ok-None-clause-attends
-returns-in-Ok-None-clause-attends g c =
-    (
-      c.next-in-Ok-None.result,
-      lost g.D.Desk g.met.D.Desk.laws c.next-in-Ok-None.result c.args.desk.now,
-    )
+returns-in-Ok-None-clause-attends g c = (
+  c.next-in-Ok-None.result,
+  lost g.D.Desk g.met.D.Desk.laws c.next-in-Ok-None.result c.args.desk.now,
+)

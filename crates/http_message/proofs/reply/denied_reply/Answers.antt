@@ -7,7 +7,7 @@ use Rattle.http_message.proofs.reply.denied_reply.Goals as goal
 
 pub returns : goal.returns
 returns c =
-    let value = denied_data c.args.at.now c.args.bits c.args.place
+    let value = denied_data c.args.path.now c.args.bits c.args.place
     (option_map (λ e. e.now) c.args.entry) in
     let body =
     printed value c.in_ok-out.out.before c.push_denied.new.out.before c.into_inner.result.items

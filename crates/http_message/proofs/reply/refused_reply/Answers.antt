@@ -8,7 +8,7 @@ use Rattle.http_message.proofs.reply.refused_reply.Goals as goal
 
 pub returns : goal.returns
 returns c =
-    let value = refused_data c.args.at.now c.args.why.now in
+    let value = refused_data c.args.path.now c.args.why.now in
     let body =
     printed value c.in_ok-out.out.before c.push_refused.new.out.before c.into_inner.result.items
     c.in_ok-out.out.tokens c.push_refused.new.out.tokens

@@ -14,8 +14,8 @@ returns g c =
       done =
           tail m.laws (done (of_read c.in_ok-caller.ensures.read)) c.perform_for.ensures.done
           (λ old mid at both damaged. damaged_before old mid at both.1 damaged)
-          (λ old mid reply new both served. performed (option_copied c.args.user) c.args.at
-          (record { caller = c.in_ok-caller.caller; at = to_z w64 (of_z w64 c.args.at) })
+          (λ old mid reply new both served. performed (option_copied c.args.user) c.args.moment
+          (record { caller = c.in_ok-caller.caller; moment = to_z w64 (of_z w64 c.args.moment) })
           c.args.request.now old mid new reply
-          (to_z-of_z w64 c.args.at c.ranges.at) both served);
+          (to_z-of_z w64 c.args.moment c.ranges.moment) both served);
     }

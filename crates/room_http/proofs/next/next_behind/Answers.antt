@@ -6,7 +6,7 @@ use Rattle.room_http.proofs.next.next_behind.Goals as goal
 
 pub returns-in-Ok-true-clause-next : goal.returns-in-Ok-true-clause-next
 returns-in-Ok-true-clause-next g c =
-    let at = c.args.at in
+    let at = c.args.parts in
     let spans = c.args.spans.now in
     let found = c.requires.head in
     whole-next c.args.buf.now.items _ _ spans at found.0 c.in-Ok.head _ found.1 found.2
@@ -17,7 +17,7 @@ returns-in-Ok-true-clause-next g c =
 
 pub returns-in-Ok-false-clause-next : goal.returns-in-Ok-false-clause-next
 returns-in-Ok-false-clause-next g c =
-    let at = c.args.at in
+    let at = c.args.parts in
     let spans = c.args.spans.now in
     let found = c.requires.head in
     let cut = c.read_body.ensures.cut (c.in-Ok-false.is ∙ ap Ok c.in-Ok-false.field-0-test) in (
@@ -31,7 +31,7 @@ returns-in-Ok-false-clause-next g c =
 
 pub returns-in-Err-read_body-clause-lost : goal.returns-in-Err-read_body-clause-lost
 returns-in-Err-read_body-clause-lost g c =
-    let at = c.args.at in
+    let at = c.args.parts in
     let spans = c.args.spans.now in
     let found = c.requires.head in
     stopped-next c.args.buf.now.items _ _ spans at found.0 c.in-Ok.head _ c.in-Err-read_body.cause

@@ -12,7 +12,9 @@ returns-in-Ok-Replied-clause-answers g c =
     let old = c.args.desk.now in
     let new = c.respond.new.desk in
     let given = subst (λ (z : ℤ). Responds d z old new c.args.close asked c.respond.result)
-    (to_z-of_z w64 c.args.at c.ranges.at) c.respond.ensures.responds in
-    let tells = at-value (Responds d c.args.at old new c.args.close asked) _ _ _ c.in-Ok-Replied.is
+    (to_z-of_z w64 c.args.moment c.ranges.moment) c.respond.ensures.responds in
+    let tells =
+    at-value (Responds d c.args.moment old new c.args.close asked) _ _ _ c.in-Ok-Replied.is
     c.in-Ok-Replied.field-0-is given in
-    joined-answers d c.args.at old new c.args.close asked _ tells c.joined.result c.joined.ensures
+    joined-answers d c.args.moment old new c.args.close asked _ tells
+    c.joined.result c.joined.ensures

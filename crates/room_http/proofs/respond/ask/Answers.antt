@@ -15,8 +15,8 @@ returns-in-Ok-clause-responds g c =
     let user = option_copied c.args.caller in
     let request = c.args.request.now in
     let reply = c.in-Ok.reply in
-    let real = to_z-of_z w64 c.args.at c.ranges.at in
-    responds-by d c.args.at old new c.args.close (Ok (user, request)) reply
+    let real = to_z-of_z w64 c.args.moment c.ranges.moment in
+    responds-by d c.args.moment old new c.args.close (Ok (user, request)) reply
     (record {
       call = (user, request);
       asks = refl;
@@ -38,7 +38,7 @@ returns-in-Err-clause-responds g c =
     let new = c.run.new.self in
     let user = option_copied c.args.caller in
     let request = c.args.request.now in
-    let real = to_z-of_z w64 c.args.at c.ranges.at in
+    let real = to_z-of_z w64 c.args.moment c.ranges.moment in
     record {
       asks = tt;
       keeps = λ t s. c.in-Err.ensures.step t s;

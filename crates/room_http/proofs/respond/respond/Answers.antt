@@ -19,5 +19,5 @@ returns-in-Ok-clause-responds g c =
     ap (λ u. Ok (u, request)) c.as_ref.ensures.value ∙ sym c.in-Ok.ensures in
     let given = subst
     (λ (z : ℤ). Responds d z old new close (Ok (user, request)) c.ask.result)
-    (to_z-of_z w64 c.args.at c.ranges.at) c.ask.ensures.responds in
-    subst (λ (a : Asked). Responds d c.args.at old new close a c.ask.result) same given
+    (to_z-of_z w64 c.args.moment c.ranges.moment) c.ask.ensures.responds in
+    subst (λ (a : Asked). Responds d c.args.moment old new close a c.ask.result) same given

@@ -19,14 +19,14 @@ returns-in-Some-clause-serves g c =
     c.turn.new.desk in
     let n = c.loop-answered.answered in
     let buf = c.loop-answered.buf.items in
-    let real = to_z-of_z w64 c.args.at c.ranges.at in
+    let real = to_z-of_z w64 c.args.moment c.ranges.moment in
     let along = subst (λ (z : ℤ). Along d z n old mid buf) real c.loop-answered.invariant.0 in
     let given = subst
     (λ (z : ℤ). Turns d z n mid new buf c.turn.new.buf.items c.turn.result) real
     (c.turn.ensures.turn c.loop-answered.invariant.0.near) in
-    let last = at-value (Turns d c.args.at n mid new buf c.turn.new.buf.items) _ _ _ c.in-Ok.is
+    let last = at-value (Turns d c.args.moment n mid new buf c.turn.new.buf.items) _ _ _ c.in-Ok.is
     c.in-Some.is given in
-    Serves-from d g.met.D.Desk.laws c.args.at n old mid new buf along c.turn.ensures.trusted
+    Serves-from d g.met.D.Desk.laws c.args.moment n old mid new buf along c.turn.ensures.trusted
     c.loop-answered.invariant.2 c.in-Some.ended last
 
 pub returns-in-Some-clause-connects : goal.returns-in-Some-clause-connects
@@ -44,14 +44,15 @@ returns-in-Err-clause-stops g c =
     c.turn.new.desk in
     let n = c.loop-answered.answered in
     let buf = c.loop-answered.buf.items in
-    let real = to_z-of_z w64 c.args.at c.ranges.at in
+    let real = to_z-of_z w64 c.args.moment c.ranges.moment in
     let along = subst (λ (z : ℤ). Along d z n old mid buf) real c.loop-answered.invariant.0 in
     let given = subst
     (λ (z : ℤ). Turns d z n mid new buf c.turn.new.buf.items c.turn.result) real
     (c.turn.ensures.turn c.loop-answered.invariant.0.near) in
-    let stopped = subst (λ r. Turns d c.args.at n mid new buf c.turn.new.buf.items r) c.in-Err.is
+    let stopped =
+    subst (λ r. Turns d c.args.moment n mid new buf c.turn.new.buf.items r) c.in-Err.is
     given in
-    Stops-from d g.met.D.Desk.laws c.args.at n old mid new buf along c.turn.ensures.trusted
+    Stops-from d g.met.D.Desk.laws c.args.moment n old mid new buf along c.turn.ensures.trusted
     c.loop-answered.invariant.2 c.in-Err.stop _ refl refl refl stopped
 
 pub returns-in-Err-clause-connects : goal.returns-in-Err-clause-connects
@@ -69,7 +70,7 @@ loop-answered-preserved g c =
     c.turn.new.desk in
     let n = c.loop-answered.answered in
     let buf = c.loop-answered.buf.items in
-    let z = to_z w64 (of_z w64 c.args.at) in
+    let z = to_z w64 (of_z w64 c.args.moment) in
     let more = at-value (Turns d z n mid new buf c.turn.new.buf.items) _ _ _ c.in-Ok.is c.in-None.is
     (c.turn.ensures.turn c.loop-answered.invariant.0.near) in (
       Along-then d g.met.D.Desk.laws z n old mid new buf c.loop-answered.invariant.0
@@ -83,7 +84,7 @@ loop-answered-init g c =
     let d = g.D.Desk in
     let old = seen (g.R.Read.remaining c.args.r.now) (g.W.Write.contents c.args.w.now)
     c.args.desk.now in
-    let z = to_z w64 (of_z w64 c.args.at) in
+    let z = to_z w64 (of_z w64 c.args.moment) in
     let begin = subst (λ b. Along d z 0 old old b) (sym c.new-buf.ensures.items)
     (Along-begin d g.met.D.Desk.laws z old) in
     (begin, (λ h. h), (λ h s. s))

@@ -26,14 +26,14 @@ returns-in-Failed-clause-turn g c left near =
     let says = closes-the-same buf next w c.args.answered close c.says_close-close.ensures in
     let given = subst
     (λ (z : ℤ). SendsReply d z old.desk new.desk close (body c.deref.result.now) old.sent new.sent
-    c.tell.result) (to_z-of_z w64 c.args.at c.ranges.at) c.tell.ensures.tells in
+    c.tell.result) (to_z-of_z w64 c.args.moment c.ranges.moment) c.tell.ensures.tells in
     let asks = subst
-    (λ (a : Asked). SendsReply d c.args.at old.desk new.desk close a old.sent new.sent
+    (λ (a : Asked). SendsReply d c.args.moment old.desk new.desk close a old.sent new.sent
     c.tell.result) same given in
     let fails = at-value
-    (SendsReply d c.args.at old.desk new.desk close (asked w.message) old.sent new.sent) _ _
+    (SendsReply d c.args.moment old.desk new.desk close (asked w.message) old.sent new.sent) _ _
     Told.Failed c.in-Ok.is c.in-Failed.is asks in
-    take-failed d c.args.at c.args.answered old new buf next w near refl fails.0 fails.1
+    take-failed d c.args.moment c.args.answered old new buf next w near refl fails.0 fails.1
 
 pub returns-clause-turn : goal.returns-clause-turn
 returns-clause-turn g c left near =
@@ -50,14 +50,14 @@ returns-clause-turn g c left near =
     let says = closes-the-same buf next w c.args.answered close c.says_close-close.ensures in
     let given = subst
     (λ (z : ℤ). SendsReply d z old.desk new.desk close (body c.deref.result.now) old.sent new.sent
-    c.tell.result) (to_z-of_z w64 c.args.at c.ranges.at) c.tell.ensures.tells in
+    c.tell.result) (to_z-of_z w64 c.args.moment c.ranges.moment) c.tell.ensures.tells in
     let asks = subst
-    (λ (a : Asked). SendsReply d c.args.at old.desk new.desk close a old.sent new.sent
+    (λ (a : Asked). SendsReply d c.args.moment old.desk new.desk close a old.sent new.sent
     c.tell.result) same given in
     let told = at-value
-    (SendsReply d c.args.at old.desk new.desk close (asked w.message) old.sent new.sent) _ _
+    (SendsReply d c.args.moment old.desk new.desk close (asked w.message) old.sent new.sent) _ _
     Told.Answered c.in-Ok.is c.in-Answered.is asks in
-    take-answered d c.args.at c.args.answered old new buf c.behind_reply.new.buf.items next w
+    take-answered d c.args.moment c.args.answered old new buf c.behind_reply.new.buf.items next w
     told.0 close c.behind_reply.result
     c.requires.few near refl says c.behind_reply.ensures.closes c.behind_reply.ensures.stays told.1
     told.2
@@ -77,12 +77,13 @@ returns-in-Err-clause-turn g c left near =
     let says = closes-the-same buf next w c.args.answered close c.says_close-close.ensures in
     let given = subst
     (λ (z : ℤ). SendsReply d z old.desk new.desk close (body c.deref.result.now) old.sent new.sent
-    c.tell.result) (to_z-of_z w64 c.args.at c.ranges.at) c.tell.ensures.tells in
+    c.tell.result) (to_z-of_z w64 c.args.moment c.ranges.moment) c.tell.ensures.tells in
     let asks = subst
-    (λ (a : Asked). SendsReply d c.args.at old.desk new.desk close a old.sent new.sent
+    (λ (a : Asked). SendsReply d c.args.moment old.desk new.desk close a old.sent new.sent
     c.tell.result) same given in
     let stopped = subst
-    (λ r. SendsReply d c.args.at old.desk new.desk close (asked w.message) old.sent new.sent r)
+    (λ r. SendsReply d c.args.moment old.desk new.desk close (asked w.message) old.sent new.sent r)
     c.in-Err.is asks in
-    take-stop d g.met.D.Desk.laws c.args.at c.args.answered old new buf next w close c.in-Err.stop
+    take-stop d g.met.D.Desk.laws c.args.moment c.args.answered old new buf next w
+    close c.in-Err.stop
     stopped.0 near refl says stopped.1

@@ -14,11 +14,11 @@ returns-in-Ok-Refused-clause-tells g c =
     let new = c.respond.new.desk in
     let asked = request_of c.args.head.now c.args.body.now in
     let given = subst (λ (z : ℤ). Responds d z old new c.args.close asked c.respond.result)
-    (to_z-of_z w64 c.args.at c.ranges.at) c.respond.ensures.responds in
-    let answers = at-value (Responds d c.args.at old new c.args.close asked) _ _ _
+    (to_z-of_z w64 c.args.moment c.ranges.moment) c.respond.ensures.responds in
+    let answers = at-value (Responds d c.args.moment old new c.args.close asked) _ _ _
     c.in-Ok-Refused.is c.in-Ok-Refused.field-0-is given in
     let tells =
-    refused-tells d c.args.at old new g.met.D.Desk.laws c.args.close asked _ answers in (
+    refused-tells d c.args.moment old new g.met.D.Desk.laws c.args.close asked _ answers in (
       Begun.Telling None,
       (
         tells.0,
@@ -35,10 +35,10 @@ returns-in-Ok-write_reply-clause-tells g c =
     let new = c.respond.new.desk in
     let asked = request_of c.args.head.now c.args.body.now in
     let given = subst (λ (z : ℤ). Responds d z old new c.args.close asked c.respond.result)
-    (to_z-of_z w64 c.args.at c.ranges.at) c.respond.ensures.responds in
-    let answers = at-value (Responds d c.args.at old new c.args.close asked) _ _ _
+    (to_z-of_z w64 c.args.moment c.ranges.moment) c.respond.ensures.responds in
+    let answers = at-value (Responds d c.args.moment old new c.args.close asked) _ _ _
     c.in-Ok-Replied.is c.in-Ok-Replied.field-0-is given in
-    let tells = replied-tells d c.args.at old new c.args.close asked _ answers in
+    let tells = replied-tells d c.args.moment old new c.args.close asked _ answers in
     (Some tells.0, tells.1, Appends-is _ _ _ _ tells.2 c.in-Ok-write_reply.ensures.ok)
 
 pub returns-in-Ok-Replied-clause-tells : goal.returns-in-Ok-Replied-clause-tells
@@ -48,10 +48,10 @@ returns-in-Ok-Replied-clause-tells g c =
     let new = c.respond.new.desk in
     let asked = request_of c.args.head.now c.args.body.now in
     let given = subst (λ (z : ℤ). Responds d z old new c.args.close asked c.respond.result)
-    (to_z-of_z w64 c.args.at c.ranges.at) c.respond.ensures.responds in
-    let answers = at-value (Responds d c.args.at old new c.args.close asked) _ _ _
+    (to_z-of_z w64 c.args.moment c.ranges.moment) c.respond.ensures.responds in
+    let answers = at-value (Responds d c.args.moment old new c.args.close asked) _ _ _
     c.in-Ok-Replied.is c.in-Ok-Replied.field-0-is given in
-    let tells = replied-tells d c.args.at old new c.args.close asked _ answers in (
+    let tells = replied-tells d c.args.moment old new c.args.close asked _ answers in (
       Begun.Telling (Some tells.0),
       (
         tells.1,
@@ -68,10 +68,10 @@ returns-clause-tells g c =
     let new = c.respond.new.desk in
     let asked = request_of c.args.head.now c.args.body.now in
     let given = subst (λ (z : ℤ). Responds d z old new c.args.close asked c.respond.result)
-    (to_z-of_z w64 c.args.at c.ranges.at) c.respond.ensures.responds in
-    let answers = subst (λ r. Responds d c.args.at old new c.args.close asked r) c.in-Err.is
+    (to_z-of_z w64 c.args.moment c.ranges.moment) c.respond.ensures.responds in
+    let answers = subst (λ r. Responds d c.args.moment old new c.args.close asked r) c.in-Err.is
     given in
-    begun-lost d c.args.at old new c.args.close asked _ _ c.in-Err.lost.acted answers refl
+    begun-lost d c.args.moment old new c.args.close asked _ _ c.in-Err.lost.acted answers refl
 
 pub returns-in-Ok-Fault-clause-tells : goal.returns-in-Ok-Fault-clause-tells
 returns-in-Ok-Fault-clause-tells g c =
@@ -80,8 +80,9 @@ returns-in-Ok-Fault-clause-tells g c =
     let new = c.respond.new.desk in
     let asked = request_of c.args.head.now c.args.body.now in
     let given = subst (λ (z : ℤ). Responds d z old new c.args.close asked c.respond.result)
-    (to_z-of_z w64 c.args.at c.ranges.at) c.respond.ensures.responds in
-    let fails = at-value (Responds d c.args.at old new c.args.close asked) _ _ _ c.in-Ok-Fault.is
+    (to_z-of_z w64 c.args.moment c.ranges.moment) c.respond.ensures.responds in
+    let fails =
+    at-value (Responds d c.args.moment old new c.args.close asked) _ _ _ c.in-Ok-Fault.is
     c.in-Ok-Fault.field-0-is given in (
       Begun.Failing,
       (

@@ -17,9 +17,10 @@ returns-in-Whole-clause-turn g c near =
     (c.in-Ok.ensures.near near) in
     let given = subst
     (λ (z : ℤ). Turns d z c.args.answered (seen left sent desk) new c.next_message.new.buf.items
-    c.take_message.new.buf.items c.take_message.result) (to_z-of_z w64 c.args.at c.ranges.at)
+    c.take_message.new.buf.items c.take_message.result)
+    (to_z-of_z w64 c.args.moment c.ranges.moment)
     (c.take_message.ensures.turn left ahead) in
-    shift d c.args.at c.args.answered _ left sent desk new _ _ _ _ c.in-Ok.ensures.came given
+    shift d c.args.moment c.args.answered _ left sent desk new _ _ _ _ c.in-Ok.ensures.came given
 
 pub returns-in-Refused-clause-turn : goal.returns-in-Refused-clause-turn
 returns-in-Refused-clause-turn g c near =
@@ -28,7 +29,8 @@ returns-in-Refused-clause-turn g c near =
     c.in-Ok.ensures.next in
     let ahead = subst (λ (u : Upcoming). ComesNear c.next_message.new.buf.items u) c.in-Refused.is
     (c.in-Ok.ensures.near near) in
-    turn-refused g.D.Desk g.met.D.Desk.laws c.args.at c.args.answered _ left _ _ c.args.desk.now _ _
+    turn-refused g.D.Desk g.met.D.Desk.laws c.args.moment c.args.answered _ left _ _
+    c.args.desk.now _ _
     _ c.in-Refused.refusal _ c.in-Ok.ensures.came next ahead c.refuse.ensures.ok
     c.refuse.ensures.err
 
@@ -37,7 +39,7 @@ returns-in-Clean-clause-turn g c near =
     let left = g.R.Read.remaining c.next_message.new.r in
     let next = subst (λ (u : Upcoming). Coming c.next_message.new.buf.items left u) c.in-Clean.is
     c.in-Ok.ensures.next in
-    turn-clean g.D.Desk g.met.D.Desk.laws c.args.at c.args.answered _ left _ c.args.desk.now _ _
+    turn-clean g.D.Desk g.met.D.Desk.laws c.args.moment c.args.answered _ left _ c.args.desk.now _ _
     c.in-Ok.ensures.came next
 
 pub returns-in-Cut-clause-turn : goal.returns-in-Cut-clause-turn
@@ -45,5 +47,5 @@ returns-in-Cut-clause-turn g c near =
     let left = g.R.Read.remaining c.next_message.new.r in
     let next = subst (λ (u : Upcoming). Coming c.next_message.new.buf.items left u) c.in-Cut.is
     c.in-Ok.ensures.next in
-    turn-cut g.D.Desk g.met.D.Desk.laws c.args.at c.args.answered _ left _ c.args.desk.now _ _
+    turn-cut g.D.Desk g.met.D.Desk.laws c.args.moment c.args.answered _ left _ c.args.desk.now _ _
     c.in-Ok.ensures.came next

@@ -12,8 +12,8 @@ returns-then-count-eq0-clause-err g c =
 pub writing-preserved : goal.writing-preserved
 writing-preserved g c =
     let text = c.args.text.now in
-    let a = length-take (length text - c.writing.at) (drop c.writing.at text) in
-    let b = length-drop c.writing.at text in (
+    let a = length-take (length text - c.writing.index) (drop c.writing.index text) in
+    let b = length-drop c.writing.index text in (
       omega (arith, a, b, c.in-Ok.ensures.bound, c.writing.invariant.0),
       Appends-at _ _ _ _ _ _ c.writing.invariant.1 c.in-Ok.ensures.bytes,
     )

@@ -6,7 +6,7 @@ use Rattle.room_import.proofs.writing.push_records.Given as goal
 -- the text so far and the rows of the records that are left are all
 abbrev pub invariant-loop-audit : goal.invariant-loop-audit
 invariant-loop-audit l = record {
-  at : StandsAtRow l.writer;
+  at_row : StandsAtRow l.writer;
   text : written l.writer ++ rows_text (map record_row (drop l.audit-index l.audits))
       ≡ written l.fn.writer ++ records_text l.audits;
 }

@@ -23,7 +23,7 @@ loop-party-preserved-in-loop-party c =
     c.loop-party.yielded_by (c.in-Some.party, c.in-Some.standing) c.in-Some.is
     c.next.ensures.steps in
     record {
-      at = c.in_ok-push_line.ensures.at;
+      at_row = c.in_ok-push_line.ensures.at_row;
       text =
           ap (λ n. written c.push_line.new.writer
           ++ rows_text (lines told.path.now told.kind told.all (drop n (zip parties here))))
@@ -52,7 +52,7 @@ loop-party-preserved c =
     c.loop-party.yielded_by (c.in-Some.party, c.in-Some.standing) c.in-Some.is
     c.next.ensures.steps in
     record {
-      at = c.loop-party.invariant.at;
+      at_row = c.loop-party.invariant.at_row;
       text =
           ap (λ n. written c.loop-party.writer
           ++ rows_text (lines told.path.now told.kind told.all (drop n (zip parties here))))

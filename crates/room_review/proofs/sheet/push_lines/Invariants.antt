@@ -8,7 +8,7 @@ use Rattle.room_review.proofs.sheet.push_lines.Given as goal
 -- the text so far and the rows of the callers that are left are all
 abbrev pub invariant-loop-party : goal.invariant-loop-party
 invariant-loop-party l = record {
-  at : StandsAtRow l.writer;
+  at_row : StandsAtRow l.writer;
   text : written l.writer
       ++ rows_text (lines l.told.path.now l.told.kind l.told.all
       (drop (length l.yielded) (zip l.parties l.told.here.now)))

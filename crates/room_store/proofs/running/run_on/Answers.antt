@@ -36,10 +36,10 @@ returns g c =
       left = g.met.S.Store.stays end.store o;
       only = λ db l. g.met.S.Store.settled end.store db o l;
     } in
-    let Step = Performs (option_copied c.args.caller) c.args.at c.args.request.now in
+    let Step = Performs (option_copied c.args.caller) c.args.moment c.args.request.now in
     let done = subst (λ at. Ran old (state g.S.Store end) c.finish.result HasDamage
     (Performs (option_copied c.args.caller) at c.args.request.now))
-    (to_z-of_z w64 c.args.at c.ranges.at)
+    (to_z-of_z w64 c.args.moment c.ranges.moment)
     (ran old begun last (state g.S.Store end) begins whole.stays
     c.finish.ensures.ended c.finish.ensures.clean HasDamage _ c.if_open-done.result
     c.finish.result whole c.finish.ensures.finishes tested.opens c.finish.ensures.crash first
@@ -62,7 +62,7 @@ returns-then-only_read g c =
     let inside = c.perform_inside-done.ensures in
     let carries = inside.carries
     (agrees_at old begun mid begins inside.stays c.args.known c.requires.remembers) in
-    let Step = Performs (option_copied c.args.caller) c.args.at c.args.request.now in
+    let Step = Performs (option_copied c.args.caller) c.args.moment c.args.request.now in
     let memory = c.perform_inside-done.new.known in
     let kept = inside.kept c.if-only_read.true in
     let clean = subst (λ h. doubt (state g.S.Store h).is_clean ≤ doubt end.is_clean) same
@@ -78,7 +78,7 @@ returns-then-only_read g c =
     record {
       ran = subst (λ at. Ran old end c.end_look.result.0 HasDamage
           (Performs (option_copied c.args.caller) at c.args.request.now))
-          (to_z-of_z w64 c.args.at c.ranges.at)
+          (to_z-of_z w64 c.args.moment c.ranges.moment)
           (look_ran old begun mid (state g.S.Store back) end begins inside.stays
           c.give_up-looked.ensures.ended c.give_up-looked.ensures.clean c.end_look.ensures.ended
           clean c.args.known memory kept.1 c.give_up-looked.ensures.crash crash HasDamage _ then

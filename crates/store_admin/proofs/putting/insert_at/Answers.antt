@@ -15,7 +15,7 @@ returns-then-is_again-clause-carries g c = record {
     bodies = refl;
     members =
         held
-        ∙ again c.args.order.now c.args.at c.requires (c.is_again.ensures.0 c.if-is_again.true);
+        ∙ again c.args.order.now c.args.index c.requires (c.is_again.ensures.0 c.if-is_again.true);
     meta = refl;
     audits = refl;
     only = λ all. all;
@@ -25,9 +25,9 @@ returns-then-is_again-clause-carries g c = record {
 
 pub returns-in-Ok-clause-carries : goal.returns-in-Ok-clause-carries
 returns-in-Ok-clause-carries g c =
-    let p = c.index-order-at.result in
+    let p = c.index-order-index.result in
     let wrote = c.in-Ok.ensures.writes in
-    let done = take c.args.at (map (λ p. p.now) c.args.order.now) in
+    let done = take c.args.index (map (λ p. p.now) c.args.order.now) in
     let names = c.is_read_back.ensures in
     record {
       stays = wrote.stays;
@@ -40,7 +40,7 @@ returns-in-Ok-clause-carries g c =
                 ∙ one_more p.now done _ _
                 (read_pair join.id p.now.0 p.now.1 names.group names.user) join.fresh held
                 ∙ ap set_of
-                (sym (so_far c.args.order.now c.args.at p c.requires c.index-order-at.is));
+                (sym (so_far c.args.order.now c.args.index p c.requires c.index-order-index.is));
             meta = join.puts.meta;
             audits = join.puts.audits;
             only = λ all. subst (λ rows. are_pairs rows ≡ true) (sym join.puts.members)

@@ -8,7 +8,7 @@ pub returns-in-Ok-clause-puts : goal.returns-in-Ok-clause-puts
 returns-in-Ok-clause-puts g c =
     let old = state g.S.Store c.args.keeper.now.tx.now.conn.now in
     let new = state g.S.Store c.insert_bytes.new.tx.conn.now in
-    let at : to_z w64 (of_z w64 c.in-Some.at) ≡ pos c.args.id = ap
+    let at : to_z w64 (of_z w64 c.in-Some.row) ≡ pos c.args.id = ap
     (λ z. to_z w64 (of_z w64 z)) c.in-Some.ensures.1 ∙ to_z-of_z c.in-Some.ensures.0 in
     record {
       stays = c.insert_bytes.ensures.writes.stays;

@@ -14,7 +14,7 @@ returns-clause-puts g c =
     let new = state g.S.Store c.update_held-done.new.tx.conn.now in
     let list = c.in_ok-list.list in
     let stores = c.in_ok-list.ensures in
-    let at : to_z w64 (of_z w64 c.in-Some.at) ≡ pos c.args.id = ap
+    let at : to_z w64 (of_z w64 c.in-Some.row) ≡ pos c.args.id = ap
     (λ z. to_z w64 (of_z w64 z)) c.in-Some.ensures.1 ∙ to_z-of_z c.in-Some.ensures.0 in
     record {
       stays = c.update_held-done.ensures.writes.stays;

@@ -21,7 +21,7 @@ returns-clause-puts g c =
     let grouped : name_in (Text group) ≡ Some c.args.owners.now.group = subst
     (λ t. name_in (Text t) ≡ Some c.args.owners.now.group)
     (sym c.as_str-2.ensures) c.name_is_kept-2.ensures in
-    let at : to_z w64 (of_z w64 c.in-Some.at) ≡ pos c.args.id = ap
+    let at : to_z w64 (of_z w64 c.in-Some.row) ≡ pos c.args.id = ap
     (λ z. to_z w64 (of_z w64 z)) c.in-Some.ensures.1 ∙ to_z-of_z c.in-Some.ensures.0 in
     record {
       stays = c.update_owners-done.ensures.writes.stays;

@@ -21,7 +21,7 @@ returns-clause-puts g c =
     subst (λ z. parent_in (Int z) ≡ Some (Some c.args.parent)) (sym under)
     (ap (λ o. Rattle.std.specs.Prelude.option_map Some o)
     (number_in-low c.args.parent c.in-Some-rowid_of.ensures.2)) in
-    let at : to_z w64 (of_z w64 c.in-Some.at) ≡ pos c.args.id = ap
+    let at : to_z w64 (of_z w64 c.in-Some.row) ≡ pos c.args.id = ap
     (λ z. to_z w64 (of_z w64 z)) c.in-Some.ensures.1 ∙ to_z-of_z c.in-Some.ensures.0 in
     record {
       stays = c.update_place-done.ensures.writes.stays;

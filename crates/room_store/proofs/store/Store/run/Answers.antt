@@ -17,8 +17,8 @@ returns-clause-closed g c =
     let user = option_copied c.args.caller in
     let asked = c.args.request.now in
     let ran = subst (λ at. Ran old new c.run.result HasDamage (Performs user at asked))
-    (to_z-of_z w64 c.args.at c.ranges.at) c.run.ensures.ran in
-    closes user c.args.at asked old new c.run.result ran
+    (to_z-of_z w64 c.args.moment c.ranges.moment) c.run.ensures.ran in
+    closes user c.args.moment asked old new c.run.result ran
 
 pub returns-clause-leads : goal.returns-clause-leads
 returns-clause-leads g c =
@@ -27,9 +27,9 @@ returns-clause-leads g c =
     let user = option_copied c.args.caller in
     let asked = c.args.request.now in
     let ran = subst (λ at. Ran old new c.run.result HasDamage (Performs user at asked))
-    (to_z-of_z w64 c.args.at c.ranges.at) c.run.ensures.ran in
-    leading old new HasDamage (Performs user c.args.at asked) (Asked user c.args.at asked)
-    (performed user c.args.at asked) c.run.result ran
+    (to_z-of_z w64 c.args.moment c.ranges.moment) c.run.ensures.ran in
+    leading old new HasDamage (Performs user c.args.moment asked) (Asked user c.args.moment asked)
+    (performed user c.args.moment asked) c.run.result ran
 
 pub returns-clause-outlasts : goal.returns-clause-outlasts
 returns-clause-outlasts g c =
@@ -38,6 +38,7 @@ returns-clause-outlasts g c =
     let user = option_copied c.args.caller in
     let asked = c.args.request.now in
     let ran = subst (λ at. Ran old new c.run.result HasDamage (Performs user at asked))
-    (to_z-of_z w64 c.args.at c.ranges.at) c.run.ensures.ran in
-    outlasting old new HasDamage (Performs user c.args.at asked) (Asked user c.args.at asked)
-    (λ reply. reply) (performed user c.args.at asked) c.run.result ran
+    (to_z-of_z w64 c.args.moment c.ranges.moment) c.run.ensures.ran in
+    outlasting old new HasDamage (Performs user c.args.moment asked)
+    (Asked user c.args.moment asked)
+    (λ reply. reply) (performed user c.args.moment asked) c.run.result ran

@@ -20,7 +20,7 @@ returns g c =
     let new = state g.S.Store c.select_child.new.tx.conn.now in
     let parent = c.args.parent in
     let name = c.args.name.now in
-    let at : to_z w64 (of_z w64 c.in-Some.at) ≡ pos parent = ap
+    let at : to_z w64 (of_z w64 c.in-Some.row) ≡ pos parent = ap
     (λ z. to_z w64 (of_z w64 z)) c.in-Some.ensures.1 ∙ to_z-of_z c.in-Some.ensures.0 in
     let seen : c.in_ok-seen.seen ≡ seen_only c.in-Ok.rows.items = c.in_ok-seen.ensures
     ∙ ap seen_only c.as_slice.ensures.value in

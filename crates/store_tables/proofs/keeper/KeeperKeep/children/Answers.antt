@@ -16,7 +16,7 @@ pub returns : goal.returns
 returns g c =
     let old = state g.S.Store c.args.self.now.tx.now.conn.now in
     let new = state g.S.Store c.select_under.new.tx.conn.now in
-    let at : to_z w64 (of_z w64 c.in-Some.at) ≡ pos c.args.parent = ap
+    let at : to_z w64 (of_z w64 c.in-Some.row) ≡ pos c.args.parent = ap
     (λ z. to_z w64 (of_z w64 z)) c.in-Some.ensures.1 ∙ to_z-of_z c.in-Some.ensures.0 in
     let seen : c.in_ok-seen.seen ≡ seen_behind node_in [] c.in-Ok.rows.items = c.in_ok-seen.ensures
     ∙ ap (seen_behind node_in []) c.as_slice.ensures.value in

@@ -14,7 +14,7 @@ use Rattle.store_tables.proofs.keeper.KeeperKeep.has_children.Goals as goal
 pub returns-in-Ok : goal.returns-in-Ok
 returns-in-Ok g c =
     let old = state g.S.Store c.args.self.now.tx.now.conn.now in
-    let at : to_z w64 (of_z w64 c.in-Some.at) ≡ pos c.args.parent = ap
+    let at : to_z w64 (of_z w64 c.in-Some.row) ≡ pos c.args.parent = ap
     (λ z. to_z w64 (of_z w64 z)) c.in-Some.ensures.1 ∙ to_z-of_z c.in-Some.ensures.0 in
     record {
       read = record {

@@ -18,7 +18,7 @@ returns g c =
     let old = state g.S.Store c.args.self.now.tx.now.conn.now in
     let new = state g.S.Store c.select_node.new.tx.conn.now in
     let id = c.args.id in
-    let at : to_z w64 (of_z w64 c.in-Some.at) ≡ pos id = ap
+    let at : to_z w64 (of_z w64 c.in-Some.row) ≡ pos id = ap
     (λ z. to_z w64 (of_z w64 z)) c.in-Some.ensures.1 ∙ to_z-of_z c.in-Some.ensures.0 in
     let seen : c.in_ok-seen.seen ≡ seen_only c.in-Ok.rows.items = c.in_ok-seen.ensures
     ∙ ap seen_only c.as_slice.ensures.value in
