@@ -23,7 +23,7 @@ filled() { # TEMPLATE NAME=VALUE ..
   printf '%s\n' "$text"
 }
 
-# The settings of the room of today's documents. Values that another file has are taken from there.
+# The settings of the room office. Values that another file has are taken from there.
 office_settings() { # PORT [FILE-OF-SETTINGS]
   local name value text
   text=$(filled settings NAME=office "PORT=$1" TITLE=office BACKUPS=/var/backups/rooms \

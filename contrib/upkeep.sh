@@ -1,5 +1,5 @@
 # shellcheck shell=bash disable=SC2034
-# What rooms-nightly and rooms-restore share: settings, refusals, and running commands as the room's user. They source this file.
+# What rooms-nightly, rooms-restore and rooms-get share: settings, refusals, and running commands as the room's user. They source it.
 
 say() { printf '%s: %s\n' "${0##*/}" "$1" >&2; }
 refuse() { say "$1"; exit 2; }
@@ -58,8 +58,8 @@ as_owner() {
   if [ "$(id -u)" = "$owner" ]; then "$@"; else setpriv --reuid="$owner" --regid="$group" --clear-groups -- "$@"; fi
 }
 
-# The file of settings is also the lock: for each such file only one of the two scripts runs at a time. Descriptor 9 has the
-# lock, and child processes inherit it; so it is closed for those that may outlive the script.
+# The file of settings is also the lock: for each such file rooms-nightly, rooms-restore and rooms-add --remove run one at a time.
+# Descriptor 9 has the lock, and child processes inherit it; so it is closed for those that may outlive the script.
 take_lock() { # CONF SECONDS
   exec 9<"$1"
   flock -w "$2" 9 || refuse "busy: another rooms-nightly or rooms-restore is at work with $1"
