@@ -77,8 +77,9 @@ only_reads (SetList path which sent) = false
 only_reads (SetOwners path owners) = false
 
 -- What is shown is what the object at the path has. Names are told of the rows where all of them
--- can be read. What is changed is an object that the walk finds, and what is made comes into a
--- folder that it finds. So there is a root, and the plan has the checks of that object or folder.
+-- can be read. What is changed is an object that the walk finds, and what is made or moved comes
+-- into a folder that it finds. So there is a root, and the plan has the checks of that object and
+-- of that folder.
 abbrev pub IsShown : Rows → Caller → Request → Reply → Type 0
 IsShown rows caller (Read path) reply = AtStored rows.read path (λ target.
     (bytes : List ℕ) × (reply ≡ Bytes bytes) × (body_of rows.read target.node.id ≡ Some bytes))
