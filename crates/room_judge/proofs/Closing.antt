@@ -14,12 +14,13 @@ use Rattle.room_machine.specs.declared.reply.Reply.TheVariants.{Refused}
 use Rattle.room_machine.specs.declared.reply.Reason.{Reason}
 use Rattle.room_machine.specs.declared.reply.Reason.TheVariants.{NotEmpty}
 use Rattle.room_machine.specs.declared.request.Request.{Request}
-use Rattle.room_machine.specs.Site.{Site}
+use Rattle.room_machine.specs.declared.request.Request.TheVariants.{Remove}
+use Rattle.room_machine.specs.Site.{Site, site_at}
 use Rattle.room_machine.specs.Plan.{Item, Check, Deletion, Refusal}
 use Rattle.room_machine.specs.Judge.{failure, first_failure, of_deletion, of_verdict, or_else}
 use Rattle.room_judge.specs.declared.asker.Asker.{Asker}
 use Rattle.room_judge.specs.Judged.{IsJudged}
-use Rattle.room_machine.specs.Stored.{stored_plan}
+use Rattle.room_machine.specs.Stored.{stored_along, stored_plan}
 use Rattle.room_machine.specs.Closed.{IsShown, only_reads, failure_told}
 use Rattle.room_judge.specs.Closed.{IsClosed}
 
@@ -79,13 +80,15 @@ module _ (asker : Asker) (request : Request) (old : Rows) (reply : Reply) where
       some_none is = cc
 
   -- none fails, and a removal is refused for a row that can't be read
-  pub closed_more : (new : Rows) (path : List (List ℕ))
-      → IsJudged asker (stored_plan old.read request) old None new → reply ≡ Refused path NotEmpty
+  pub closed_more : (new : Rows) (path : List (List ℕ)) (target : Site)
+      → IsJudged asker (stored_plan old.read request) old None new → request ≡ Remove path
+      → site_at (stored_along old.read path) path ≡ Some target → reply ≡ Refused path NotEmpty
       → (old.unreadable ≡ [] → ⊥) → IsClosed asker request old reply new
-  closed_more new path judged refused unread = record {
+  closed_more new path target judged asked found refused unread = record {
     judged = inr (record {
       path = path;
-      refused = refused;
+      asked = asked;
+      refused = (target, found, refused);
       passes = sym judged.answers;
       unread = unread;
     });

@@ -396,11 +396,11 @@ hides a b user moment request may_lack at bits place entry reply after denied ob
     (plan_denied (sites_along b) b (caller_in b user) n at bits place entry request there)
 
 -- a reply that tells this denial is it
-told_denial : (rows : Rows) (reply : Reply) (at : List (List ℕ)) (bits : List ℕ)
-    (place : Option ℕ) (entry : Option Ace)
-    → TellsFailure rows reply (Some (Denied at bits place entry))
+told_denial : (rows : Rows) (request : Request) (reply : Reply) (at : List (List ℕ))
+    (bits : List ℕ) (place : Option ℕ) (entry : Option Ace)
+    → TellsFailure rows request reply (Some (Denied at bits place entry))
     → reply ≡ Denied at bits place entry
-told_denial rows reply at bits place entry (inl told) = is_told reply told
+told_denial rows request reply at bits place entry (inl told) = is_told reply told
   where
     is_told : (r : Reply) → Some (Denied at bits place entry) ≡ failure_told r
         → r ≡ Denied at bits place entry
@@ -413,7 +413,7 @@ told_denial rows reply at bits place entry (inl told) = is_told reply told
     is_told Done told = absurd (let wrong : ⊥ = cc in wrong)
     is_told (Denied of_path of_bits of_place of_entry) told = cc
     is_told (Refused path why) told = absurd (let wrong : ⊥ = cc in wrong)
-told_denial rows reply at bits place entry (inr more) =
+told_denial rows request reply at bits place entry (inr more) =
     absurd (let passes = more.passes in let wrong : ⊥ = cc in wrong)
 
 pub hides_stored : HidesStored
@@ -431,7 +431,7 @@ hides_stored a b user moment request may_lack at bits place entry reply after de
     ∙ ap (first_failure (caller_in a.read user))
     (sym (far_same n (stored_along a.read path) (stored_along b.read path) path objects))
     ∙ first in
-    told_denial b reply at bits place entry
-    (subst (TellsFailure b reply)
+    told_denial b request reply at bits place entry
+    (subst (TellsFailure b request reply)
     (plan_denied (stored_along b.read) b.read (caller_in b.read user) n at bits place entry request
     there) closed.judged)

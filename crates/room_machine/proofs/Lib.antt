@@ -1,5 +1,6 @@
 pub mod Worked
 pub mod Replies
 pub mod Hiding
+pub mod Rootless
 pub mod Free
 pub mod Meeting

@@ -20,7 +20,7 @@ use Rattle.room_machine.specs.declared.request.Request.TheVariants.{Move, ReadLi
 use Rattle.room_machine.specs.declared.request.Request.TheVariants.{ReadAttr, SetOwners, Can}
 use Rattle.room_machine.specs.Effect.{names_at, rulings}
 use Rattle.room_machine.specs.Judge.{first_failure, records_of_plan}
-use Rattle.room_machine.specs.Site.{Site, full_at, site_at}
+use Rattle.room_machine.specs.Site.{Site, front, full_at, parent_at, site_at}
 use Rattle.room_machine.specs.Step.{caller_in}
 use Rattle.room_machine.specs.Stored.{stored_along, stored_plan}
 
@@ -36,18 +36,30 @@ failure_told Done = None
 failure_told (Denied path bits place entry) = Some (Denied path bits place entry)
 failure_told (Refused path why) = Some (Refused path why)
 
--- Where rows can't be read, more may be refused than the plan says: an object isn't removed if such
--- a row may be its child.
-pub record RefusesMore (rows : Rows) (reply : Reply) (failure : Option Reply) : Type 0 where
+-- the object that the walk along the path finds, with its stored lists
+abbrev pub AtStored : Content → List (List ℕ) → (Site → Type 0) → Type 0
+AtStored rows path P =
+    (target : Site) × (site_at (stored_along rows path) path ≡ Some target) × P target
+
+-- the folder of the path's last name, where the walk finds it, and nothing at the path
+abbrev pub AtFree : Content → List (List ℕ) → (Site → Type 0) → Type 0
+AtFree rows path P = (folder : Site) × (parent_at (stored_along rows path) path ≡ Some folder)
+    × (site_at (stored_along rows path) path ≡ None) × P folder
+
+-- Where rows can't be read, more may be refused than the plan says: an object that the walk finds
+-- isn't removed if such a row may be its child.
+pub record RefusesMore (rows : Rows) (request : Request) (reply : Reply) (failure : Option Reply)
+    : Type 0 where
   pub path : List (List ℕ)
-  pub refused : reply ≡ Refused path NotEmpty
+  pub asked : request ≡ Remove path
+  pub refused : AtStored rows.read path (λ target. reply ≡ Refused path NotEmpty)
   pub passes : failure ≡ None
   pub unread : rows.unreadable ≡ [] → ⊥
 
 -- the reply tells the first failure, if there is one, and no other
-abbrev pub TellsFailure : Rows → Reply → Option Reply → Type 0
-TellsFailure rows reply failure =
-    (failure ≡ failure_told reply) ⊎ RefusesMore rows reply failure
+abbrev pub TellsFailure : Rows → Request → Reply → Option Reply → Type 0
+TellsFailure rows request reply failure =
+    (failure ≡ failure_told reply) ⊎ RefusesMore rows request reply failure
 
 -- the requests that change nothing but records
 abbrev pub only_reads : Request → Bool
@@ -64,13 +76,10 @@ only_reads (Move path to) = false
 only_reads (SetList path which sent) = false
 only_reads (SetOwners path owners) = false
 
--- the object that the walk along the path finds, with its stored lists
-abbrev pub AtStored : Content → List (List ℕ) → (Site → Type 0) → Type 0
-AtStored rows path P =
-    (target : Site) × (site_at (stored_along rows path) path ≡ Some target) × P target
-
 -- What is shown is what the object at the path has. Names are told of the rows where all of them
--- can be read.
+-- can be read. What is changed is an object that the walk finds, and what is made or moved comes
+-- into a folder that it finds. So there is a root, and the plan has the checks of that object and
+-- of that folder.
 abbrev pub IsShown : Rows → Caller → Request → Reply → Type 0
 IsShown rows caller (Read path) reply = AtStored rows.read path (λ target.
     (bytes : List ℕ) × (reply ≡ Bytes bytes) × (body_of rows.read target.node.id ≡ Some bytes))
@@ -83,13 +92,17 @@ IsShown rows caller (ReadAttr path) reply = AtStored rows.read path (λ target.
     reply ≡ Attr target.node.kind target.node.owners)
 IsShown rows caller (Can path mask) reply = AtStored rows.read path (λ target.
     reply ≡ Rulings (rulings caller mask target))
-IsShown rows caller (Put path bytes) reply = (reply ≡ Made) ⊎ (reply ≡ Done)
-IsShown rows caller (Append path bytes) reply = reply ≡ Done
-IsShown rows caller (MakeFolder path) reply = reply ≡ Made
-IsShown rows caller (Remove path) reply = reply ≡ Done
-IsShown rows caller (Move path to) reply = reply ≡ Done
-IsShown rows caller (SetList path which sent) reply = reply ≡ Done
-IsShown rows caller (SetOwners path owners) reply = reply ≡ Done
+IsShown rows caller (Put path bytes) reply = AtStored rows.read path (λ target. reply ≡ Done)
+    ⊎ AtFree rows.read path (λ folder. reply ≡ Made)
+IsShown rows caller (Append path bytes) reply = AtStored rows.read path (λ target. reply ≡ Done)
+IsShown rows caller (MakeFolder path) reply = AtFree rows.read path (λ folder. reply ≡ Made)
+IsShown rows caller (Remove path) reply = AtStored rows.read path (λ target. reply ≡ Done)
+IsShown rows caller (Move path to) reply = AtStored rows.read path (λ target.
+    AtStored rows.read (front to) (λ folder. reply ≡ Done))
+IsShown rows caller (SetList path which sent) reply = AtStored rows.read path (λ target.
+    reply ≡ Done)
+IsShown rows caller (SetOwners path owners) reply = AtStored rows.read path (λ target.
+    reply ≡ Done)
 
 -- the records of the plan's items up to the first that fails, by the stored lists
 abbrev pub stored_records : Caller → ℤ → Content → Request → List AuditRow
@@ -99,10 +112,12 @@ stored_records caller moment rows request =
 -- Whatever the rows are, the request is judged by the lists as they are stored, and each item
 -- before the first that fails has passed: what is served was granted, and a denial names an entry
 -- that is stored. The records of the checks are added. Who asks only changes nothing else, nor does
--- who is refused, and what is shown is what the object at the path has.
+-- who is refused. What is shown is what the object at the path has, and what is changed is an
+-- object that the walk finds.
 pub record IsClosedFor (caller : Caller) (moment : ℤ) (request : Request) (old : Rows)
     (reply : Reply) (new : Rows) : Type 0 where
-  pub judged : TellsFailure old reply (first_failure caller (stored_plan old.read request))
+  pub judged : TellsFailure old request reply
+      (first_failure caller (stored_plan old.read request))
   pub records : new.read.audits
       ≡ old.read.audits ++ stored_records caller moment old.read request
   pub unchanged : IsTrue (only_reads request || is_some (failure_told reply))

@@ -1,7 +1,7 @@
 -- Laws of the room machine on what a reply depends on.
-use Rattle.std.specs.Prelude.{◌≡◌, ℕ, ℤ, ◌+◌, Bool, List, length, take, Option, Some}
+use Rattle.std.specs.Prelude.{◌≡◌, ℕ, ℤ, ◌+◌, Bool, List, [], length, take, Option, Some, None}
 use Rattle.std.specs.Prelude.{IfSome, IsTrue}
-use Rattle.room_rows.specs.Content.{Content, groups_for, body_of, children_of}
+use Rattle.room_rows.specs.Content.{Content, groups_for, body_of, children_of, root_of}
 use Rattle.room_rows.specs.Walk.{walk_of}
 use Rattle.room_rows.specs.declared.node.Node.{Node}
 use Rattle.room_machine.specs.declared.request.Request.{Request}
@@ -10,7 +10,8 @@ use Rattle.room_machine.specs.declared.request.Request.TheVariants.{Append, Make
 use Rattle.room_machine.specs.declared.request.Request.TheVariants.{Move, ReadList, SetList}
 use Rattle.room_machine.specs.declared.request.Request.TheVariants.{ReadAttr, SetOwners, Can}
 use Rattle.room_machine.specs.declared.reply.Reply.{Reply}
-use Rattle.room_machine.specs.declared.reply.Reply.TheVariants.{Denied}
+use Rattle.room_machine.specs.declared.reply.Reply.TheVariants.{Denied, Refused}
+use Rattle.room_machine.specs.declared.reply.Reason.TheVariants.{Exists}
 use Rattle.room_entry.specs.Ace.{Ace}
 use Rattle.room_rows.specs.Rows.{Rows}
 use Rattle.room_machine.specs.Site.{Site, sites_along, site_at}
@@ -92,6 +93,16 @@ HidesStored =
     stored_to front a.read (first_path request) ≡ stored_to front b.read (first_path request) →
     groups_for a.read user ≡ groups_for b.read user →
     FailsClosed user moment request b reply after → reply ≡ Denied front bits place entry
+
+-- Where no object is without a parent, no request gets a reply but one: the root's place is never
+-- free for a folder.
+abbrev pub AnswersNeedRoot : Type 0
+AnswersNeedRoot =
+    (rows : Rows) (user : Option (List ℕ)) (moment : ℤ) (request : Request) (reply : Reply)
+    (after : Rows) →
+    root_of rows.read ≡ None →
+    FailsClosed user moment request rows reply after →
+    (request ≡ MakeFolder []) × (reply ≡ Refused [] Exists)
 
 -- Some number is free, so the machine can always step.
 abbrev pub SomeFree : Type 0

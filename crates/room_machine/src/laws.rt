@@ -1,6 +1,7 @@
 //! Laws of the room machine.
 ghost use Rattle.room_machine.specs.Run.{RunsMeet};
-ghost use Rattle.room_machine.specs.Laws.{ReadsOnly, Hides, HidesStored, SomeFree};
+ghost use Rattle.room_machine.specs.Laws.{AnswersNeedRoot, Hides, HidesStored, ReadsOnly};
+ghost use Rattle.room_machine.specs.Laws.{SomeFree};
 
 /// Two runs that meet are one run.
 pub fn two_runs_meet()
@@ -21,6 +22,12 @@ pub fn hides()
 /// The same on damaged rows, by the lists as they are stored.
 pub fn hides_stored()
     ensures { HidesStored }
+{}
+
+/// Where no object is without a parent, no request gets a reply but `MakeFolder /`, which is
+/// refused.
+pub fn answers_need_a_root()
+    ensures { AnswersNeedRoot }
 {}
 
 /// Some number is free, so the machine can always step.

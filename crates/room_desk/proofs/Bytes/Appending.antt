@@ -240,7 +240,8 @@ module _ (asker : Asker) (path : List (List ℕ)) (bytes : List ℕ) where
         → IsClosed asker (Append path bytes) old Done new
     append_closed before new were few sets =
         closed_done asker (Append path bytes) old Done mid new (few_judged before were few) refl
-        refl (ap (λ (r : Rows). r.read.audits) (bytes_set (before ++ bytes) new sets)) refl
+        refl (ap (λ (r : Rows). r.read.audits) (bytes_set (before ++ bytes) new sets))
+        (stored_site path node, reached.found, refl)
 
     on_size : (before : List ℕ) (t : Bool) (new : Rows) (reply : Reply)
         → body_of old.read node.id ≡ Some before → nat_lt 1048576 (length (before ++ bytes)) ≡ t

@@ -265,7 +265,8 @@ module _ (asker : Asker) (path : List (List ℕ)) where
             → IsClosed asker (Remove path) old Done new
         removed_closed new removes =
             closed_done asker (Remove path) old Done last new all refl refl
-            (ap (λ (r : Rows). r.read.audits) (removes may)) refl
+            (ap (λ (r : Rows). r.read.audits) (removes may))
+            (stored_site path target.node, paired.target, refl)
 
       -- a child that can't be read
       unread : (new : Rows) (reply : Reply) → HasChildren id last true
@@ -280,8 +281,8 @@ module _ (asker : Asker) (path : List (List ℕ)) where
           ∙ ap (λ (r : Rows). not (is_empty (children_of r.read id))) granted.notes
           ∙ ap not none)) in (
             λ known sound. absurd (hidden (none_unreadable old (sound_parts old sound))),
-            closed_more asker (Remove path) old reply new path (none_fails new same none) replies
-                hidden,
+            closed_more asker (Remove path) old reply new path (stored_site path target.node)
+                (none_fails new same none) refl paired.target replies hidden,
           )
 
       on_children : (has_some : Bool) → HasChildren id last has_some → (new : Rows) (reply : Reply)

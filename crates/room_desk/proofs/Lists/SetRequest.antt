@@ -41,7 +41,7 @@ use Rattle.room_desk.proofs.Sound.RootedWays.{rooted_along}
 use Rattle.room_desk.specs.Setting.{Beneath, IsFoundUnder, IsSetOrRefused, IsSetWell, SetUnless}
 use Rattle.room_desk.specs.Setting.{kept_site, reason_of}
 use Rattle.room_machine.specs.Site.{Site, site_at}
-use Rattle.room_machine.specs.Stored.{stored_along, stored_plan, to_stored}
+use Rattle.room_machine.specs.Stored.{stored_along, stored_plan, stored_site, to_stored}
 use Rattle.room_judge.specs.Stored.{found_site}
 use Rattle.room_desk.proofs.Sound.Filled.{fill_item, plan_judged}
 use Rattle.room_judge.proofs.Judging.{fails_first, judged_none, passes_first, refuses}
@@ -169,7 +169,8 @@ module _ (asker : Asker) (path : List (List ℕ)) (which : Which) (sent : Sent) 
           (subst AreSound (sym reached.judged.notes) (sound_noted old _ sound)))) known sound,
       closed_done asker (SetList path which sent) old reply mid new
           (by_stored old mid None (all_items None mid None none (judged_none asker mid mid refl)))
-          refl (ap failure_told replies) (becomes.0 there_mid) replies,
+          refl (ap failure_told replies) (becomes.0 there_mid)
+          (stored_site path node, reached.found, replies),
     )
     on_faults (Some fault) new reply some said replies becomes =
         let refused = refuses asker path (BadList fault.place fault.why) true [] mid new reply

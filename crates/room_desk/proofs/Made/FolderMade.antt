@@ -117,19 +117,25 @@ module _ (asker : Asker) (path : List (List ℕ)) where
     found : IsFoundFolder old path folder.node child
     found = found_folder asker path named.some old mid folder child are spotted
 
-    absent : (last : Rows)
+    no_child : (last : Rows)
         → IsJudged asker (making path (is_some child) (found_site path folder)) mid None last
-        → child_of old.read folder.node.id name ≡ None
-    absent last judged =
+        → is_none child ≡ true
+    no_child last judged =
         let first = none_both
         (failure asker.caller (Check (found_site path folder) (append_data ∷ [])))
         (first_failure asker.caller (Refusal path Exists (is_some child) ∷ [])) judged.answers
         in
         let second = none_both
         (failure asker.caller (Refusal path Exists (is_some child))) None first.1 in
+        not_there path child second.0
+
+    absent : (last : Rows)
+        → IsJudged asker (making path (is_some child) (found_site path folder)) mid None last
+        → child_of old.read folder.node.id name ≡ None
+    absent last judged =
         ap (child_of old.read folder.node.id) named.last
         ∙ is_none_none (child_of old.read folder.node.id (last_name path))
-        (found.lacks ∙ not_there path child second.0)
+        (found.lacks ∙ no_child last judged)
 
     folder_made : (last new : Rows)
         → IsJudged asker (making path (is_some child) (found_site path folder)) mid None last
@@ -177,7 +183,13 @@ module _ (asker : Asker) (path : List (List ℕ)) where
         closed_done asker (MakeFolder path) old Made last new
         (as_stored named.some old last None all) refl refl
         (made_audits asker.caller Folder folder.node name [] old last new _ found.there found.folds
-        (absent last judged) all.notes made) refl
+        (absent last judged) all.notes made) (
+          found_site path folder,
+          spotted.folder,
+          spotted.child
+              ∙ ap (option_map (stored_site path)) (is_none_none child (no_child last judged)),
+          refl,
+        )
 
     made_on : (answer : Option Reply) (last new : Rows) (reply : Reply)
         → IsJudged asker (making path (is_some child) (found_site path folder)) mid answer last

@@ -175,7 +175,8 @@ module _ (asker : Asker) (path : List (List ℕ)) (bytes : List ℕ) where
         → SetsBody node.id bytes last new → IsClosed asker (Put path bytes) old Done new
     set_closed last new judged sets =
         closed_done asker (Put path bytes) old Done last new (all_judged last None judged) refl refl
-        (ap (λ (r : Rows). r.read.audits) (bytes_set last new judged sets)) (inr refl)
+        (ap (λ (r : Rows). r.read.audits) (bytes_set last new judged sets))
+        (inl (stored_site path node, is, refl))
 
     on_answer : (answer : Option Reply) (last new : Rows) (reply : Reply)
         → IsJudged asker (there_items (stored_site path node)) mid answer last
@@ -322,7 +323,8 @@ module _ (asker : Asker) (path : List (List ℕ)) (bytes : List ℕ) where
         let all = new_judged last None judged in
         closed_done asker (Put path bytes) old Made last new all refl refl
         (made_audits asker.caller Document folder.node name bytes old last new _ found.there
-        found.folds absent all.notes made) (inl refl)
+        found.folds absent all.notes made)
+        (inr (found_site path folder, spotted.folder, spotted.child, refl))
 
     new_on : (answer : Option Reply) (last new : Rows) (reply : Reply)
         → IsJudged asker (new_items (found_site path folder)) mid answer last

@@ -301,7 +301,8 @@ module _ (asker : Asker) (path to : List (List ℕ)) (from target : Found) (old 
       moves new places same = (
         moves_on new places,
         closed_done asker (Move path to) old Done last new
-            (move_stored old are asker path to last None judged_all) refl refl (same go_on) refl,
+            (move_stored old are asker path to last None judged_all) refl refl (same go_on)
+            (stored_site path target.node, paired.target, (folder_site, folder_is, refl)),
       )
 
 -- ---- in terms of the calls
