@@ -65,7 +65,7 @@ module _ (a : List ℕ) where
   abbrev names : Ace → Bool
   names entry = is_user_named a entry.who
 
-  abbrev is_free : Node → Bool
+  abbrev pub is_free : Node → Bool
   is_free node = not (is_known_to a node)
 
   unnamed_both : (xs ys : List Ace) → list_any names xs ≡ false → list_any names ys ≡ false
@@ -129,7 +129,7 @@ module _ (a : List ℕ) where
       let rest = unknown_sites (site_below above node) chain here parts.1 in
       λ i. not (here i) && rest i
 
-  unknown_chain : (chain : List Node) → list_all is_free chain ≡ true
+  pub unknown_chain : (chain : List Node) → list_all is_free chain ≡ true
       → list_all (λ site. not (is_known_at a site)) (sites_of chain) ≡ true
   unknown_chain [] free = refl
   unknown_chain (root ∷ chain) free =

@@ -16,3 +16,5 @@ pub mod Computed
 pub mod Visited
 pub mod Named
 pub mod Said
+pub mod Others
+pub mod Starred

@@ -8,7 +8,7 @@ use Rattle.room_machine.specs.Site.{Site, site_at}
 use Rattle.room_machine.specs.Step.{caller_in}
 use Rattle.room_machine.specs.Stored.{stored_along, stored_site}
 use Rattle.room_desk.proofs.Sound.SoundParts.{sound_parts}
-use Rattle.room_review.specs.Laws.{TableSaysRights, SaysAt, told_of}
+use Rattle.room_review.specs.Laws.{SaysAt, TableSaysRights, told_at}
 use Rattle.room_review.specs.Standing.{granted}
 use Rattle.room_review.specs.Table.{Place, place_of, site_of}
 use Rattle.room_review.proofs.Computed.{stored_grants}
@@ -30,6 +30,6 @@ table_says_rights rows are sound user path target found =
     (λ it stands.
     ap (λ (l : List Site). granted (caller_in content user) l (site_of it.0 it.1)) (sym stands.way)
     ∙ stored_grants rows are sound user it.0.path (site_of it.0 it.1) stands.at)
-    (told_of rows (place_of above target) target.node)
+    (told_at rows path target)
     (each_stands content (λ id. all_named rows are (sound_parts rows sound) id)
     (length (numbers_of rows)) (place_of above target) target.node start)

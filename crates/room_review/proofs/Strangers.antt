@@ -94,11 +94,11 @@ module _ (a b : List ℕ) where
       (list_any (λ entry. is_user_named b entry.who) (full_at Dacl site)) unknown.1 in
       same_ruling site.node.owners first.0 second.0 1 (full_at Dacl site) first.1 second.1 bit
 
-  granted : (site : Site) → IsUnknown site → (right : ℕ)
+  pub granted : (site : Site) → IsUnknown site → (right : ℕ)
       → grants (alone a) right site ≡ grants (alone b) right site
   granted site unknown right = ap is_allowed (rulings site unknown right)
 
-  deleted : (target folder : Site) → IsUnknown target → IsUnknown folder
+  pub deleted : (target folder : Site) → IsUnknown target → IsUnknown folder
       → passes (alone a) (Deletion target folder) ≡ passes (alone b) (Deletion target folder)
   deleted target folder at above =
       let own = rulings target at in
@@ -131,7 +131,7 @@ module _ (a b : List ℕ) where
         (list_all (λ s. not (is_known_at b s)) sites) all.1).1,
   )
 
-  same_reach : (n : ℕ) (sites : List Site) → are_unknown sites
+  pub same_reach : (n : ℕ) (sites : List Site) → are_unknown sites
       → reaches (alone a) (take n sites) ≡ reaches (alone b) (take n sites)
   same_reach zero sites all = refl
   same_reach (suc n) [] all = refl
@@ -148,7 +148,7 @@ module _ (a b : List ℕ) where
   at_unknown (site ∷ sites) (name ∷ names) target all found =
       at_unknown sites names target (others_unknown site sites all) found
 
-  last_unknown : (n : ℕ) (sites : List Site) (folder : Site) → are_unknown sites
+  pub last_unknown : (n : ℕ) (sites : List Site) (folder : Site) → are_unknown sites
       → last_of (take n sites) ≡ Some folder → IsUnknown folder
   last_unknown zero sites folder all found = absurd (let wrong : ⊥ = cc in wrong)
   last_unknown (suc n) [] folder all found = absurd (let wrong : ⊥ = cc in wrong)

@@ -13,7 +13,7 @@ use Rattle.room_entry.proofs.Facts.Members.{each_append, each_weaker}
 use Rattle.room_rows.proofs.Lookups.{each-sorted}
 use Rattle.room_review.specs.Table.{Place, place_below, site_of}
 
-some_same : {A : Type 0} (x y : A) → Some x ≡ Some y → x ≡ y
+pub some_same : {A : Type 0} (x y : A) → Some x ≡ Some y → x ≡ y
 some_same x y same = ap (λ o. option_map_or (λ z. z) o x) same
 
 -- ---- the path of a site
@@ -127,7 +127,7 @@ stands_below content place node child stands is =
       way = more.1 ∙ ap (λ (l : List Site). l ++ site_of place node ∷ []) stands.way;
     }
 
-each_flat : {A B : Type 0} (P : B → Type 0) (f : A → List B) (xs : List A)
+pub each_flat : {A B : Type 0} (P : B → Type 0) (f : A → List B) (xs : List A)
     → Each (λ x. Each P (f x)) xs → Each P (flat_map f xs)
 each_flat P f [] all = tt
 each_flat P f (x ∷ xs) all =

@@ -1,6 +1,6 @@
 -- Laws of a review: what a row says is what the room would answer.
 use Rattle.std.specs.Prelude.{◌≡◌, ℕ, ℤ, ◌||◌, Bool, true, false, not, List, [], Option, Some}
-use Rattle.std.specs.Prelude.{IsTrue, if◌then◌else◌, ◌∷◌, length, take}
+use Rattle.std.specs.Prelude.{IsTrue, if◌then◌else◌, ◌∷◌, ◌++◌, codes, length, map, take}
 use Rattle.std.specs.List.{flat_map, list_all, list_any, AllByRecursion as Each}
 use Rattle.room_entry.specs.Bits.{all_bits}
 use Rattle.room_entry.specs.Pieces.{same_text}
@@ -8,6 +8,7 @@ use Rattle.room_entry.specs.declared.entry.Who.{Who}
 use Rattle.room_entry.specs.declared.entry.Who.TheVariants.{Owner, Group, Everyone, Anonymous}
 use Rattle.room_entry.specs.declared.entry.Who.TheVariants.{Authenticated, User, Members}
 use Rattle.room_entry.specs.declared.object.Which.TheVariants.{Dacl}
+use Rattle.room_entry.specs.declared.parties.Caller.{Caller}
 use Rattle.room_eval.specs.Verdict.{is_allowed}
 use Rattle.room_rows.specs.declared.node.Node.{Node}
 use Rattle.room_rows.specs.Content.{Content, is_folder}
@@ -26,9 +27,11 @@ use Rattle.room_machine.specs.declared.request.Request.TheVariants.{Can, Remove}
 use Rattle.room_machine.specs.Site.{Site, full_at, site_at, sites_along}
 use Rattle.room_machine.specs.Step.{Step, caller_in}
 use Rattle.room_machine.specs.Stored.{stored_along}
+use Rattle.room_review.specs.declared.parties.Party.{Party}
 use Rattle.room_review.specs.Rights.{may_remove_at, reaches_at, rights_at, sites_above}
 use Rattle.room_review.specs.Standing.{granted}
-use Rattle.room_review.specs.Table.{Place, place_below, place_of, site_of}
+use Rattle.room_review.specs.Table.{AreAll, Place, place_below, place_of, site_of, users_of}
+use Rattle.room_review.specs.Users.{is_listed}
 
 -- ---- what replies say of rights
 
@@ -103,7 +106,8 @@ abbrev pub is_paired : Content → List ℕ → Bool
 is_paired content name = list_any (λ pair. same_text pair.1 name) content.members
 
 -- The name is in no pair, owns nothing on the way to the path's object nor that object, and stands
--- in none of their dacls. So a review of the object has no row of this name.
+-- in none of their dacls. A name without rows in a table is a stranger to each object of it. One
+-- with rows may be a stranger to some of them, since it has rows by what any of them says.
 abbrev pub IsStranger : Content → List (List ℕ) → List ℕ → Type 0
 IsStranger content path name =
     IsTrue (not (is_paired content name))
@@ -142,17 +146,28 @@ StrangersGetTheSame =
 
 -- ---- the table
 
+-- the objects before the path's, with the lists that are stored
+abbrev pub stored_above : Rows → List (List ℕ) → List Site
+stored_above rows path = take (length path) (stored_along rows.read path)
+
 -- the objects of a table, each with where it stands, in the order of their rows
 abbrev pub told_of : Rows → Place → Node → List (Place × Node)
 told_of rows place node =
     tree_of place_below (λ place node. (place, node) ∷ []) (length (numbers_of rows)) rows.read
     place node
 
--- what the table says of a caller there, by the stored lists of the objects on the way, is what the
--- lists say that are computed from the root, at the path of the object
+-- those of the table of the path's object
+abbrev pub told_at : Rows → List (List ℕ) → Site → List (Place × Node)
+told_at rows path target = told_of rows (place_of (stored_above rows path) target) target.node
+
+-- what the table says of a caller there, by the stored lists of the objects on the way
+abbrev pub told_there : Caller → Place × Node → List ℕ × Bool
+told_there caller it = granted caller it.0.above (site_of it.0 it.1)
+
+-- that is what the lists say that are computed from the root, at the path of the object
 abbrev pub SaysAt : Rows → Option (List ℕ) → Place × Node → Type 0
 SaysAt rows user it =
-    granted (caller_in rows.read user) it.0.above (site_of it.0 it.1)
+    told_there (caller_in rows.read user) it
     ≡ (
       rights_at (meaning rows.read) user it.0.path,
       may_remove_at (meaning rows.read) user it.0.path,
@@ -164,5 +179,36 @@ abbrev pub TableSaysRights : Type 0
 TableSaysRights =
     (rows : Rows) → AreRows rows → AreSound rows → (user : Option (List ℕ)) (path : List (List ℕ))
     (target : Site) → site_at (stored_along rows.read path) path ≡ Some target
-    → Each (SaysAt rows user)
-    (told_of rows (place_of (take (length path) (stored_along rows.read path)) target) target.node)
+    → Each (SaysAt rows user) (told_at rows path target)
+
+-- ---- names without rows
+
+-- the names that have rows in the table of the path's object, with the pairs of the room
+abbrev pub users_on : Rows → List (List ℕ) → Site → List (List ℕ)
+users_on rows path target = users_of rows rows.read.members (stored_above rows path) target.node
+
+-- A name that has no rows in a table is a stranger to each object of the table. This holds of any
+-- keeper's rows, sound or not.
+abbrev pub OthersAreStrangers : Type 0
+OthersAreStrangers =
+    (rows : Rows) (path : List (List ℕ)) (target : Site) (name : List ℕ) →
+    site_at (stored_along rows.read path) path ≡ Some target →
+    is_listed name (users_on rows path target) ≡ false →
+    Each (λ it. IsStranger (meaning rows.read) it.0.path name) (told_at rows path target)
+
+-- what the table says there is the same of two callers
+abbrev pub SaysAlike : Caller → Caller → Place × Node → Type 0
+SaysAlike caller other it = told_there caller it ≡ told_there other it
+
+-- The callers of a table are its users, then `*`, then nobody. What the table says of `*` at an
+-- object, it would say of every name that is none of the users, in any keeper's rows too. In sound
+-- rows, `TableSaysRights` says of such a name that this is what it has there.
+abbrev pub StarSpeaksForOthers : Type 0
+StarSpeaksForOthers =
+    (rows : Rows) (path : List (List ℕ)) (target : Site) (users : List Party)
+    (star nobody : Party) (name : List ℕ) →
+    site_at (stored_along rows.read path) path ≡ Some target →
+    AreAll rows (users_on rows path target) (users ++ star ∷ nobody ∷ []) →
+    is_listed name (map (λ user. user.label) users) ≡ false →
+    (star.label ≡ codes "*")
+    × Each (SaysAlike star.caller (caller_in rows.read (Some name))) (told_at rows path target)

@@ -1,6 +1,7 @@
 //! Laws of a review: what a row says is what the room would answer.
-ghost use Rattle.room_review.specs.Laws.{SaysCan, SaysRemove};
-ghost use Rattle.room_review.specs.Laws.{StrangersAlike, StrangersGetTheSame, TableSaysRights};
+ghost use Rattle.room_review.specs.Laws.{OthersAreStrangers, SaysCan, SaysRemove};
+ghost use Rattle.room_review.specs.Laws.{StarSpeaksForOthers, StrangersAlike};
+ghost use Rattle.room_review.specs.Laws.{StrangersGetTheSame, TableSaysRights};
 
 /// The rights of a row are exactly those that `Can` answers as allowed.
 pub fn says_can()
@@ -25,4 +26,14 @@ pub fn strangers_get_the_same()
 /// In sound rows a table says of each object what the room would answer at its path.
 pub fn table_says_rights()
     ensures { TableSaysRights }
+{}
+
+/// A name without rows in a table is a stranger to each of its objects.
+pub fn others_are_strangers()
+    ensures { OthersAreStrangers }
+{}
+
+/// A table says of `*` at each object what it would say of every name without rows.
+pub fn star_speaks_for_others()
+    ensures { StarSpeaksForOthers }
 {}
