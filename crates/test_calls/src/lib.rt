@@ -9,9 +9,13 @@
 #![tactic(auto)]
 
 mod calling;
+mod drive;
+mod kept;
 mod opening;
+mod outage;
 mod scene;
 mod tables;
 mod words;
 
+pub use outage::Outage;
 pub use scene::{OPEN, Scene};

@@ -2,7 +2,7 @@
 
 use crate::calling::{ask, call, operate};
 use crate::opening::{Opened, adopt, create, migrate};
-use crate::tables::{change, rows_of, show};
+use crate::tables::{change, push_all_rows, rows_of, show};
 use crate::words::cut;
 use room_store::Store;
 use sqlite::{Alter, Connection};
@@ -150,6 +150,17 @@ impl<S: Alter + Drop> Scene<S> {
         rows_of(alloc, self.conn()?)
     }
 
+    // Adds what opening the database answers, the first fault of a room that was opened, and all
+    // rows.
+    fn push_state(&mut self, alloc: Global, told: &mut String) -> Result<(), Fail> {
+        self.open(alloc, "Adopt", told)?;
+        push(told, "\n")?;
+        if self.opened.store.is_some() {
+            operate(alloc, self.store(alloc)?, "Verify /", told)?;
+        }
+        push_all_rows(self.conn()?, told)
+    }
+
     fn set_mark(&mut self, alloc: Global, told: &mut String) -> Result<(), Fail> {
         self.mark = Some(self.rows(alloc)?);
         push(told, "done")
@@ -169,4 +180,12 @@ impl<S: Alter + Drop> Scene<S> {
             None => false,
         }
     }
+}
+
+/// What a database tells: what opening it as a room answers, the first fault of its rows, and all
+/// rows.
+pub(crate) fn told_by<S: Alter + Drop>(alloc: Global, conn: Connection<S>) -> Result<String, Fail> {
+    let mut told = String::new(alloc);
+    Scene::over(conn).push_state(alloc, &mut told)?;
+    Ok(told)
 }

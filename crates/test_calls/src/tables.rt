@@ -51,10 +51,19 @@ fn shown<S: Alter>(conn: &mut Connection<S>, query: &str) -> Result<String, Erro
 /// All rows of all tables, those of a table that isn't there left out.
 pub(crate) fn rows_of<S: Alter>(alloc: Global, conn: &mut Connection<S>) -> Result<String, Fail> {
     let mut text = String::new(alloc);
-    'tables: for query in &ALL_ROWS {
-        push_table(conn, *query, &mut text)?;
-    }
+    push_all_rows(conn, &mut text)?;
     Ok(text)
+}
+
+/// Adds all rows of all tables, those of a table that isn't there left out.
+pub(crate) fn push_all_rows<S: Alter>(
+    conn: &mut Connection<S>,
+    text: &mut String,
+) -> Result<(), Fail> {
+    'tables: for query in &ALL_ROWS {
+        push_table(conn, *query, text)?;
+    }
+    Ok(())
 }
 
 fn push_table<S: Alter>(

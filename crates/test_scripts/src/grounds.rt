@@ -2,6 +2,7 @@
 
 use crate::lines::Place;
 use crate::memory::{play_counted, play_in_room, play_stopping};
+use crate::outage::play_in_outage;
 use crate::store::play_in_store;
 use std::alloc::Global;
 use std::test::Fail;
@@ -29,6 +30,8 @@ pub fn play_part(alloc: Global, ground: &str, part: &str, place: &mut Place) -> 
         "store" => play_in_store(alloc, &[CREATED, OPEN], part, place),
         "new store" => play_in_store(alloc, &[CREATED], part, place),
         "empty database" => play_in_store(alloc, &[], part, place),
+        "store with power cuts" => play_in_outage(alloc, &[CREATED, OPEN], part, place),
+        "empty database with power cuts" => play_in_outage(alloc, &[], part, place),
         _ => Err(Fail::new("nothing has this name")),
     }
 }

@@ -11,6 +11,7 @@ mod files;
 mod grounds;
 mod lines;
 mod memory;
+mod outage;
 mod playing;
 mod store;
 
