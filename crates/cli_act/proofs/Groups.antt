@@ -1,11 +1,13 @@
 -- The set of groups that came before, as pairs are counted.
 use Rattle.std.proofs.Common.{ℕ, ◌≡◌, ◌+◌, ◌∷◌, ◌++◌, Bool, true, false, cond, length, List, []}
-use Rattle.std.proofs.Common.{String, string_bytes, string_cmp, refl, sym, ap, subst, ◌∙◌, ◌<◌, ◌≤◌}
-use Rattle.std.proofs.Common.{get_or, drop, drop-cons, add-one}
+use Rattle.std.proofs.Common.{refl, sym, ap, subst, ◌∙◌, ◌<◌, ◌≤◌}
+use Rattle.std.proofs.Common.{Ordering, get_or, drop, drop-cons, add-one}
 use Rattle.std.specs.Prelude.{not, if◌then◌else◌}
 use Rattle.std.specs.Bool.{OnFalse}
+use Rattle.std.specs.Borrow.{Bor}
 use Rattle.std.specs.List.{list_any}
-use Rattle.std.specs.Ordering.{is_eq}
+use Rattle.std.specs.Ordering.{is_eq, nat_cmp}
+use Rattle.std.specs.Cmp.Lexicographic.{slice_cmp}
 use Rattle.std.specs.BTreeSet.{BTreeSet, contains}
 use Rattle.std.proofs.lemmas.Bool.{cond-true, cond-false}
 use Rattle.std.proofs.lemmas.List.Folds.{list_any-append}
@@ -16,86 +18,90 @@ use Rattle.cli_act.specs.Counting.{groups_after, distinct_groups, with_group}
 use Rattle.room_entry.proofs.Facts.Booleans.{one_more}
 use Rattle.room_entry.proofs.Texts.{same_text-sym}
 
+-- names in the order of their bytes
+abbrev pub name_order : Bor (List ℕ) → Bor (List ℕ) → Ordering
+name_order a b = slice_cmp nat_cmp a.now b.now
+
 -- the set has these texts, no others, and this many
-pub record HasSeen {A : Type 0} (seen : BTreeSet (String A)) (groups : List (List ℕ)) : Type 0 where
-  pub has : (key : String A)
-      → contains string_cmp seen key ≡ list_any (same_text (string_bytes key)) groups
+pub record HasSeen (seen : BTreeSet (Bor (List ℕ))) (groups : List (List ℕ)) : Type 0 where
+  pub has : (key : Bor (List ℕ))
+      → contains name_order seen key ≡ list_any (same_text key.now) groups
   pub len : length seen.keys ≡ length groups
 
 -- two keys compare as equal where their texts are the same
-key_equal : {A : Type 0} (x y : String A)
-    → is_eq (string_cmp x y) ≡ same_text (string_bytes y) (string_bytes x)
+key_equal : (x y : Bor (List ℕ))
+    → is_eq (name_order x y) ≡ same_text y.now x.now
 key_equal x y =
-    is_eq-slice_cmp (string_bytes x) (string_bytes y)
-    ∙ same_text-sym (string_bytes x) (string_bytes y)
+    is_eq-slice_cmp x.now y.now
+    ∙ same_text-sym x.now y.now
 
-seen_more : {A : Type 0} (seen more : BTreeSet (String A)) (groups : List (List ℕ)) (key : String A)
-    → ((other : String A)
-    → contains string_cmp seen other ≡ list_any (same_text (string_bytes other)) groups)
-    → ((other : String A)
-    → contains string_cmp more other
-    ≡ cond (is_eq (string_cmp key other)) true (contains string_cmp seen other))
-    → (other : String A)
-    → contains string_cmp more other
-    ≡ list_any (same_text (string_bytes other)) (groups ++ string_bytes key ∷ [])
+seen_more : (seen more : BTreeSet (Bor (List ℕ))) (groups : List (List ℕ)) (key : Bor (List ℕ))
+    → ((other : Bor (List ℕ))
+    → contains name_order seen other ≡ list_any (same_text other.now) groups)
+    → ((other : Bor (List ℕ))
+    → contains name_order more other
+    ≡ cond (is_eq (name_order key other)) true (contains name_order seen other))
+    → (other : Bor (List ℕ))
+    → contains name_order more other
+    ≡ list_any (same_text other.now) (groups ++ key.now ∷ [])
 seen_more seen more groups key has adds other =
     adds other
-    ∙ ap (λ b. cond b true (contains string_cmp seen other)) (key_equal key other)
-    ∙ ap (λ b. cond (same_text (string_bytes other) (string_bytes key)) true b) (has other)
-    ∙ one_more (same_text (string_bytes other) (string_bytes key))
-    (list_any (same_text (string_bytes other)) groups)
-    ∙ sym (list_any-append (same_text (string_bytes other)) groups (string_bytes key ∷ []))
+    ∙ ap (λ b. cond b true (contains name_order seen other)) (key_equal key other)
+    ∙ ap (λ b. cond (same_text other.now key.now) true b) (has other)
+    ∙ one_more (same_text other.now key.now)
+    (list_any (same_text other.now) groups)
+    ∙ sym (list_any-append (same_text other.now) groups (key.now ∷ []))
 
-seen_by : {A : Type 0} (seen more : BTreeSet (String A)) (groups : List (List ℕ)) (key : String A)
+seen_by : (seen more : BTreeSet (Bor (List ℕ))) (groups : List (List ℕ)) (key : Bor (List ℕ))
     (is added : Bool)
-    → HasSeen seen groups → list_any (same_text (string_bytes key)) groups ≡ is → added ≡ not is
-    → ((other : String A)
-    → contains string_cmp more other
-    ≡ cond (is_eq (string_cmp key other)) true (contains string_cmp seen other))
+    → HasSeen seen groups → list_any (same_text key.now) groups ≡ is → added ≡ not is
+    → ((other : Bor (List ℕ))
+    → contains name_order more other
+    ≡ cond (is_eq (name_order key other)) true (contains name_order seen other))
     → OnFalse added (more.keys ≡ seen.keys)
     → length more.keys ≡ length seen.keys + (if added then 1 else 0)
-    → HasSeen more (with_group groups (string_bytes key))
-seen_by {A} seen more groups key true added seen_so e was adds same len =
+    → HasSeen more (with_group groups key.now)
+seen_by seen more groups key true added seen_so e was adds same len =
     let Q : Bool → Type 0 = λ b. OnFalse b (more.keys ≡ seen.keys) in
     let keys : more.keys ≡ seen.keys = subst Q was same in
-    let P : List (List ℕ) → Type 0 = λ all. HasSeen {A = A} more all in
+    let P : List (List ℕ) → Type 0 = λ all. HasSeen more all in
     subst P (sym (cond-true _ _ _ e)) (record {
       has =
-          λ other. ap (λ (ks : List (String A)). list_any (λ k. is_eq (string_cmp other k)) ks) keys
+          λ other. ap (λ (ks : List (Bor (List ℕ))). list_any (λ k. is_eq (name_order other k)) ks) keys
           ∙ seen_so.has other;
-      len = ap (λ (ks : List (String A)). length ks) keys ∙ seen_so.len;
+      len = ap (λ (ks : List (Bor (List ℕ))). length ks) keys ∙ seen_so.len;
     })
-seen_by {A} seen more groups key false added seen_so e was adds same len =
-    let P : List (List ℕ) → Type 0 = λ all. HasSeen {A = A} more all in
+seen_by seen more groups key false added seen_so e was adds same len =
+    let P : List (List ℕ) → Type 0 = λ all. HasSeen more all in
     let one : (if added then 1 else 0) ≡ 1 = ap (λ (b : Bool). if b then 1 else 0) was in
     subst P (sym (cond-false _ _ _ e)) (record {
       has = seen_more seen more groups key seen_so.has adds;
       len =
           len ∙ ap (λ n. length seen.keys + n) one ∙ ap (λ n. n + 1) seen_so.len
-          ∙ sym (length-append groups (string_bytes key ∷ []));
+          ∙ sym (length-append groups (key.now ∷ []));
     })
 
 -- a group of the next pair is new, or came before
-pub seen_next : {A : Type 0} (seen more : BTreeSet (String A)) (groups : List (List ℕ))
-    (key : String A) (name : List ℕ) (added : Bool)
-    → HasSeen seen groups → string_bytes key ≡ name → added ≡ not (contains string_cmp seen key)
-    → ((other : String A)
-    → contains string_cmp more other
-    ≡ cond (is_eq (string_cmp key other)) true (contains string_cmp seen other))
+pub seen_next : (seen more : BTreeSet (Bor (List ℕ))) (groups : List (List ℕ))
+    (key : Bor (List ℕ)) (name : List ℕ) (added : Bool)
+    → HasSeen seen groups → key.now ≡ name → added ≡ not (contains name_order seen key)
+    → ((other : Bor (List ℕ))
+    → contains name_order more other
+    ≡ cond (is_eq (name_order key other)) true (contains name_order seen other))
     → OnFalse added (more.keys ≡ seen.keys)
     → length more.keys ≡ length seen.keys + (if added then 1 else 0)
     → HasSeen more (with_group groups name)
-seen_next {A} seen more groups key name added seen_so bytes was adds same len =
-    let P : List ℕ → Type 0 = λ text. HasSeen {A = A} more (with_group groups text) in
+seen_next seen more groups key name added seen_so bytes was adds same len =
+    let P : List ℕ → Type 0 = λ text. HasSeen more (with_group groups text) in
     subst P bytes (seen_by seen more groups key
-    (list_any (same_text (string_bytes key)) groups) added seen_so refl
+    (list_any (same_text key.now) groups) added seen_so refl
     (was ∙ ap not (seen_so.has key)) adds same len)
 
 -- the set that is empty
-pub seen_none : {A : Type 0} (seen : BTreeSet (String A)) → seen.keys ≡ [] → HasSeen seen []
-seen_none {A} seen e = record {
-  has = λ key. ap (λ (ks : List (String A)). list_any (λ k. is_eq (string_cmp key k)) ks) e;
-  len = ap (λ (ks : List (String A)). length ks) e;
+pub seen_none : (seen : BTreeSet (Bor (List ℕ))) → seen.keys ≡ [] → HasSeen seen []
+seen_none seen e = record {
+  has = λ key. ap (λ (ks : List (Bor (List ℕ))). list_any (λ k. is_eq (name_order key k)) ks) e;
+  len = ap (λ (ks : List (Bor (List ℕ))). length ks) e;
 }
 
 -- the groups so far and those of the pairs that are left are all

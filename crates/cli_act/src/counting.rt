@@ -10,10 +10,9 @@ use std::collections::BTreeSet;
 pub(crate) fn count_groups(alloc: Global, pairs: &[(Name, Name)]) -> Result<usize, AllocError>
     ensures { IfOk result (λ count. count ≡ length (distinct_groups pairs.now)) }
 {
-    let mut seen = BTreeSet::new(alloc);
+    let mut seen: BTreeSet<&str> = BTreeSet::new(alloc);
     'pairs: for pair in pairs {
-        let group = String::from_str(alloc, pair.0.as_str())?;
-        seen.insert(group)?;
+        seen.insert(pair.0.as_str())?;
     }
     Ok(seen.len())
 }

@@ -2,6 +2,7 @@
 use Rattle.std.proofs.Common.{ℕ, ◌≡◌, ◌≤◌, List, length, refl, inl, inr, arith}
 use Rattle.std.specs.Prelude.{take, nat_lt, Option, Some, None, IfSome}
 use Rattle.cli_outcome.specs.Reading.{IsInput}
+use Rattle.cli_outcome.specs.declared.status.Status.{Status}
 use Rattle.cli_check.specs.Answering.{reply_line}
 use Rattle.cli_check.specs.Reply.{reply_status}
 use Rattle.std.proofs.lemmas.List.{length-take-le, take_all}
@@ -23,7 +24,7 @@ judged-take input =
     ]
 
 -- what is printed for the front is printed for all
-pub told_of : (known : Option (List ℕ)) (bytes line : List ℕ) (status : ℕ)
+pub told_of : (known : Option (List ℕ)) (bytes line : List ℕ) (status : Status)
     → IfSome known (λ input. bytes ≡ take 1048577 input) → line ≡ reply_line bytes
     → status ≡ reply_status (judged bytes)
     → (input : List ℕ) × IsInput known input × (line ≡ reply_line input)

@@ -6,6 +6,7 @@ use Rattle.std.specs.Prelude.{IfOk, OnErr, OnOk}
 use Rattle.cli_outcome.proofs.KnownBytes.{writes_none}
 use Rattle.cli_outcome.specs.Reading.{IsInput}
 use Rattle.cli_outcome.specs.Written.{WritesSome}
+use Rattle.cli_outcome.specs.declared.status.Status.{Status}
 use Rattle.cli_check.specs.Answering.{Answers, reply_line}
 use Rattle.cli_check.specs.Check.{judged}
 use Rattle.cli_check.specs.Reply.{reply_status}
@@ -17,14 +18,14 @@ untold None old error = ([], tt, writes_none old _)
 untold (Some bytes) old error = (bytes, refl, writes_none old _)
 
 -- all of it, or a beginning
-pub told : {E : Type 0} (known old new : Option (List ℕ)) (line : List ℕ) (status : ℕ)
-    (sent : Result ℕ E)
+pub told : {E : Type 0} (known old new : Option (List ℕ)) (line : List ℕ) (status : Status)
+    (sent : Result Status E)
     → (input : List ℕ) × IsInput known input × (line ≡ reply_line input)
     × (status ≡ reply_status (judged input))
-    → OnOk sent (Appends old new line) → IfOk sent (λ code. code ≡ status)
+    → OnOk sent (Appends old new line) → IfOk sent (λ how. how ≡ status)
     → OnErr sent (WritesSome old new line)
     → Answers known old new sent
-told known old new line status (Ok code) of ok ends err =
+told known old new line status (Ok how) of ok ends err =
     let P : List ℕ → Type 0 = λ text. Appends old new text in
     (of.0, of.1, subst P of.2 ok, ends ∙ of.3)
 told known old new line status (Err error) of ok ends err =

@@ -1,4 +1,4 @@
--- The text and the exit status that answer an input (own).
+-- The text and the status that answer an input (own).
 use Rattle.std.specs.Prelude.{ℕ, ◌-◌, List, [], ◌++◌, Option, Some, None, codes, decimal, slice_get}
 use Rattle.std.specs.Option.{option_map_or}
 use Rattle.room_entry.specs.Ace.{Ace}
@@ -8,6 +8,8 @@ use Rattle.room_entry.specs.Faults.{list_fault_text}
 use Rattle.room_ace.specs.Faults.{why_text}
 use Rattle.room_eval.specs.declared.outcome.Verdict.{Verdict}
 use Rattle.room_eval.specs.declared.outcome.Verdict.TheVariants.{Granted, Denied}
+use Rattle.cli_outcome.specs.declared.status.Status.{Status}
+use Rattle.cli_outcome.specs.declared.status.Status.TheVariants.{Done, Found, Refused}
 use Rattle.cli_check.specs.declared.fault.InputFault.{InputFault}
 use Rattle.cli_check.specs.declared.fault.InputWhy.{InputWhy}
 use Rattle.cli_check.specs.declared.fault.InputWhy.TheVariants.{BadHeader, BadName, Text}
@@ -47,12 +49,12 @@ judged_text (AtLine fault) =
 judged_text (AtEntry fault) =
     codes "refused: entry " ++ (decimal fault.place ++ (codes ": " ++ list_fault_text fault.why))
 
-abbrev pub verdict_status : Verdict → ℕ
-verdict_status Granted = 0
-verdict_status (Denied bits place) = 1
+abbrev pub verdict_status : Verdict → Status
+verdict_status Granted = Done
+verdict_status (Denied bits place) = Found
 
-abbrev pub reply_status : Judged → ℕ
+abbrev pub reply_status : Judged → Status
 reply_status (Says list verdict) = verdict_status verdict
-reply_status TooLong = 2
-reply_status (AtLine fault) = 2
-reply_status (AtEntry fault) = 2
+reply_status TooLong = Refused
+reply_status (AtLine fault) = Refused
+reply_status (AtEntry fault) = Refused

@@ -9,15 +9,19 @@ ghost use Rattle.cli_check.specs.Check.{judged};
 ghost use Rattle.cli_check.specs.Reply.{reply_status};
 
 use crate::judging::{CheckReply, check};
-use cli_outcome::{Fault, read_front, send_text, tell_fault, tell_line};
+use cli_outcome::{Fault, Status, read_front, send_text, tell_fault, tell_text};
 use room_ace::MOST_BYTES;
 use std::alloc::{AllocError, Global};
 use std::io::{self, Read, Write};
 
 /// Reads an input to its end, or as far as shows that it is too long, writes the line that answers
-/// it and nothing else, and returns the exit status. An error is the reader's, the writer's, or
+/// it and nothing else, and returns its status. An error is the reader's, the writer's, or
 /// out of memory. Nothing of the line is written before all of it is known.
-pub fn answer<R: Read + Drop, W: Write>(alloc: Global, reader: R, writer: &mut W) -> io::Result<u8>
+pub fn answer<R: Read + Drop, W: Write>(
+    alloc: Global,
+    reader: R,
+    writer: &mut W,
+) -> io::Result<Status>
     ensures { Answers (R.remaining reader) (W.contents writer.old) (W.contents writer.new) result }
 {
     match line_for(alloc, reader) {
@@ -39,12 +43,12 @@ pub fn tell_check<R: Read + Drop, O: Write, E: Write>(
         (E.contents err.old) (E.contents err.new) result }
 {
     match line_for(alloc, reader) {
-        Ok(reply) => tell_line(reply.text.as_bytes(), reply.status, out, err),
+        Ok(reply) => tell_text(reply.text.as_bytes(), reply.status, out, err),
         Err(error) => tell_fault(Fault::of_stream(&error), err),
     }
 }
 
-fn send_reply<W: Write>(writer: &mut W, reply: &CheckReply) -> io::Result<u8>
+fn send_reply<W: Write>(writer: &mut W, reply: &CheckReply) -> io::Result<Status>
     ensures text { OnOk result (Appends (W.contents writer.old) (W.contents writer.new)
         (string_bytes reply.now.text)) }
     ensures status { IfOk result (λ status. status ≡ reply.now.status) }

@@ -7,6 +7,7 @@ ghost use Rattle.cli_check.specs.Reply.{verdict_status, verdict_text};
 
 use crate::fault::InputFault;
 use crate::question::read_question;
+use cli_outcome::Status;
 use room_ace::{Entry, EntryFault, Failure, MOST_BYTES, Mask, SentList, print_entry};
 use room_eval::Verdict;
 use std::alloc::{AllocError, Global};
@@ -24,17 +25,19 @@ pub enum Judged {
     AtEntry(EntryFault),
 }
 
-/// A line of text without its end, and the exit status.
+/// A line of text without its end, and how it ends the program.
 #[derive(Drop)]
 pub struct CheckReply {
     /// The text.
     pub text: String,
-    /// 0 where all is granted, 1 where the list denies, and 2 where the input is refused.
-    pub status: u8,
+    /// `Done` where all is granted, `Found` where the list denies, and `Refused` where the input is
+    /// refused.
+    pub status: Status,
 }
 
-/// What `rooms check` prints for an input: four header lines, then the text of a list. The status
-/// is 0 where all is granted, 1 where the list denies, and 2 where the input is refused.
+/// What `rooms check` prints for an input: four header lines, then the text of a list. It ends with
+/// `Done` where all is granted, with `Found` where the list denies, and with `Refused` where the
+/// input is refused.
 pub fn check(alloc: Global, input: &[u8]) -> Result<CheckReply, AllocError>
     ensures { IfOk result (λ reply.
         (string_bytes reply.text ≡ judged_text (judged input.now))
@@ -65,7 +68,7 @@ fn is_too_long(input: &[u8]) -> bool
 }
 
 impl Judged {
-    // The line that is printed, and the exit status.
+    // The line that is printed, and the status.
     fn reply(&self, alloc: Global) -> Result<CheckReply, AllocError>
         ensures { IfOk result (λ reply.
             (string_bytes reply.text ≡ judged_text self.now)
@@ -97,25 +100,25 @@ impl Judged {
         }
     }
 
-    // The exit status.
-    fn status(&self) -> u8
+    // How the program ends.
+    fn status(&self) -> Status
         ensures { result ≡ reply_status self.now }
     {
         match self {
             Judged::Says(_, verdict) => verdict_status(*verdict),
-            Judged::TooLong => 2,
-            Judged::AtLine(_) => 2,
-            Judged::AtEntry(_) => 2,
+            Judged::TooLong => Status::Refused,
+            Judged::AtLine(_) => Status::Refused,
+            Judged::AtEntry(_) => Status::Refused,
         }
     }
 }
 
-fn verdict_status(verdict: Verdict) -> u8
+fn verdict_status(verdict: Verdict) -> Status
     ensures { result ≡ verdict_status verdict }
 {
     match verdict {
-        Verdict::Granted => 0,
-        Verdict::Denied { .. } => 1,
+        Verdict::Granted => Status::Done,
+        Verdict::Denied { .. } => Status::Found,
     }
 }
 

@@ -27,16 +27,13 @@ pub record IsCut (text : List ℕ) (out out' err err' : Option (List ℕ))
   pub told : WritesSome err err' (fault_line why)
   pub ends : status ≡ 3
 
--- The text was written to standard output, and the status is this one, or standard output failed.
-abbrev pub PrintsLine : List ℕ → ℕ → Option (List ℕ) → Option (List ℕ) → Option (List ℕ)
-    → Option (List ℕ) → ℕ → Type 0
-PrintsLine text code out out' err err' status =
-    IsPrinted text [] code out out' err err' status ⊎ IsCut text out out' err err' status
-
--- The same with the status as a value of its type.
+-- The text was written to standard output, and the exit status is that of this ending, or standard
+-- output failed.
 abbrev pub PrintsText : List ℕ → Status → Option (List ℕ) → Option (List ℕ) → Option (List ℕ)
     → Option (List ℕ) → ℕ → Type 0
-PrintsText text how = PrintsLine text (status_code how)
+PrintsText text how out out' err err' status =
+    IsPrinted text [] (status_code how) out out' err err' status
+    ⊎ IsCut text out out' err err' status
 
 -- Nothing was written to standard output, and this fault to standard error, in full or in part.
 abbrev pub PrintsFault : Fault → Option (List ℕ) → Option (List ℕ) → Option (List ℕ)

@@ -12,5 +12,5 @@ pub use fault::Fault;
 pub use no_room::NoRoom;
 pub use reading::read_front;
 pub use status::Status;
-pub use texts::{tell_fault, tell_if_possible, tell_line, tell_text};
+pub use texts::{tell_fault, tell_if_possible, tell_text};
 pub use write::send_text;

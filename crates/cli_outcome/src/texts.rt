@@ -1,7 +1,7 @@
 //! Texts written to the two writers.
 ghost use Rattle.std.specs.Prelude.{◌≡◌};
 ghost use Rattle.cli_outcome.specs.Ending.{fault_line};
-ghost use Rattle.cli_outcome.specs.Written.{PrintsLine, PrintsText, WritesSome};
+ghost use Rattle.cli_outcome.specs.Written.{PrintsText, WritesSome};
 
 use crate::fault::Fault;
 use crate::status::Status;
@@ -27,22 +27,14 @@ pub fn tell_fault<E: Write>(fault: Fault, err: &mut E) -> u8
     Status::Failed.code()
 }
 
-/// Writes a text to standard output, and answers this exit status. Where that fails, it prints
-/// `fault: file` or `fault: memory` on standard error, and answers 3.
-pub fn tell_line<O: Write, E: Write>(text: &[u8], code: u8, out: &mut O, err: &mut E) -> u8
-    ensures { PrintsLine text.now code (O.contents out.old) (O.contents out.new)
-        (E.contents err.old) (E.contents err.new) result }
-{
-    match send_text(out, text) {
-        Ok(()) => code,
-        Err(error) => tell_fault(Fault::of_stream(&error), err),
-    }
-}
-
-/// As `tell_line`, with the exit status of this ending.
+/// Writes a text to standard output, and answers the exit status of this ending. Where that fails,
+/// it prints `fault: file` or `fault: memory` on standard error, and answers 3.
 pub fn tell_text<O: Write, E: Write>(text: &[u8], status: Status, out: &mut O, err: &mut E) -> u8
     ensures { PrintsText text.now status (O.contents out.old) (O.contents out.new)
         (E.contents err.old) (E.contents err.new) result }
 {
-    tell_line(text, status.code(), out, err)
+    match send_text(out, text) {
+        Ok(()) => status.code(),
+        Err(error) => tell_fault(Fault::of_stream(&error), err),
+    }
 }

@@ -1,4 +1,7 @@
 pub mod Lines
 pub mod Numbers
+pub mod Filled
+pub mod Walked
+pub mod Wanted
 pub mod Named
 mod Taking

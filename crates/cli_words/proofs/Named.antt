@@ -1,26 +1,33 @@
--- A line without fault names one of the eleven subcommands.
-use Rattle.std.proofs.Common.{◌≡◌, ap, refl, true, false, Bool, List, [], ◌∷◌, Option, Some, None}
-use Rattle.std.proofs.Common.{cond, inl, inr, is_some}
-use Rattle.std.proofs.lemmas.Bool.{false≢true, true≢false}
-use Rattle.std.specs.Prelude.{IfSome, find, option_map}
+-- A line without fault names one of the eleven subcommands, and has the words that it wants.
+use Rattle.std.proofs.Common.{◌≡◌, ◌∙◌, ap, sym, subst, refl, true, false, Bool, List, [], ◌∷◌}
+use Rattle.std.proofs.Common.{Option, Some, None, inl, inr, is_some, ◌||◌, codes}
+use Rattle.std.proofs.Math.Bool.{or-false}
+use Rattle.std.proofs.lemmas.Bool.{and_parts, both_ways, false≢true, or_cases, true≢false}
+use Rattle.std.proofs.lemmas.Slice.Eq.{bytes_eq-Decides}
+use Rattle.std.specs.Prelude.{IfSome, IsSome, option_map, pos, unwrap_or}
+use Rattle.std.specs.List.{AllByRecursion as Each, list_all, list_any}
+use Rattle.std.specs.Option.{option_map_or}
+use Rattle.std.specs.Str.{bytes_eq}
 use Rattle.std.specs.Borrow.{Bor}
 use Rattle.clap.specs.Faults.{check_fault, defaults_fault, entered_fault, fault_of, level_fault}
 use Rattle.clap.specs.Faults.{settle_fault, walk_fault}
 use Rattle.clap.specs.Kinds.{Kinds, or_else}
+use Rattle.clap.specs.ValueTests.{accepts}
+use Rattle.clap.specs.declared.builder.value_parser.ValueParser.TheVariants as parser
 use Rattle.clap.specs.Simple.{App, Shape, argument_words, built, entered, names_of, rows_at}
-use Rattle.clap.specs.Walk.{Held, Names, finished, nothing_held, settled, stop_after, walk}
-use Rattle.clap.specs.Walk.{walk_from}
+use Rattle.clap.specs.Walk.{Held, Names, finished, nothing_held, rows_after, settled, stop_after}
+use Rattle.clap.specs.Walk.{walk, walk_from}
 use Rattle.clap.specs.Words.{Row, Text, subcommand_of}
-use Rattle.cli_words.specs.Command.{HasName, IsName}
-use Rattle.cli_words.specs.Line.{command_line}
+use Rattle.clap.proofs.WalkLemmas.{list_any-map}
+use Rattle.cli_words.proofs.Filled.{first, found_each, passes_by, second}
+use Rattle.cli_words.proofs.Wanted.{are_bare, is_usual, is_wanted, leave_some, usual_number}
+use Rattle.cli_words.proofs.Wanted.{wanted_passed}
+use Rattle.cli_words.specs.Command.{HasWords, HaveWords, IsList, IsName, IsWhole, wanted_by, word}
+use Rattle.cli_words.specs.Line.{AreAttributes, command_line}
 
 abbrev is_full : Kinds → Bool
 is_full [] = false
 is_full (kind ∷ kinds) = true
-
-second : (a b : Kinds) → or_else a b ≡ [] → b ≡ []
-second [] b none = none
-second (kind ∷ kinds) b none = absurd (true≢false (ap is_full none))
 
 -- The last test is that there was a subcommand.
 wants : (names : Bor (List (Bor Text))) (rows : List Row) (has : Bool)
@@ -59,56 +66,144 @@ is_met names words none =
     (entered_fault app (walk app.top.rules (names_of app) nothing_held
     (argument_words (command_line names) words)).stopped) none)
 
-abbrev Each : (Shape → Type 0) → List Shape → Type 0
-Each P [] = Unit {0}
-Each P (shape ∷ shapes) = P shape × Each P shapes
+-- What a level without fault below has read.
+abbrev IsRead : Shape → Type 0
+IsRead s = IsName s.name × ((words : List Text)
+    → level_fault s [] nothing_held words false [] ≡ []
+    → HasWords s.name (rows_after s.rules [] words))
 
-found_or : (P : Shape → Type 0) (test : Bool) (shape : Shape) (found : Option Shape) → P shape
-    → IfSome found P → IfSome (cond test (Some shape) found) P
-found_or P true shape found here later = here
-found_or P false shape found here later = later
-
-found_each : (P : Shape → Type 0) (test : Shape → Bool) (shapes : List Shape) → Each P shapes
-    → IfSome (find test shapes) P
-found_each P test [] each = tt
-found_each P test (shape ∷ shapes) each =
-    found_or P (test shape) shape _ each.0 (found_each P test shapes each.1)
-
-of_shape : (words : List Text) (shape : Option Shape) → IfSome shape (λ s. IsName s.name)
+of_shape : (words : List Text) (shape : Option Shape) → IfSome shape IsRead
+    → option_map_or (λ s. level_fault s [] nothing_held words false []) shape [] ≡ []
     → is_some (option_map (λ s. rows_at s words) shape) ≡ true
-    → HasName (option_map (λ s. rows_at s words) shape)
-of_shape words None named some = absurd (false≢true some)
-of_shape words (Some shape) named some = named
+    → IsWhole (option_map (λ s. rows_at s words) shape)
+of_shape words None read none some = absurd (false≢true some)
+of_shape words (Some shape) read none some = (read.0, read.1 words none)
 
-of_entered : (app : App) (stop : Option (Text × List Text)) → Each (λ s. IsName s.name) app.subs
-    → is_some (entered app stop) ≡ true → HasName (entered app stop)
-of_entered app None each some = absurd (false≢true some)
-of_entered app (Some at) each some =
-    of_shape at.1 _ (found_each (λ s. IsName s.name) _ app.subs each) some
+of_entered : (app : App) (stop : Option (Text × List Text)) → Each IsRead app.subs
+    → entered_fault app stop ≡ [] → is_some (entered app stop) ≡ true
+    → IsWhole (entered app stop)
+of_entered app None each none some = absurd (false≢true some)
+of_entered app (Some at) each none some =
+    of_shape at.1 _ (found_each IsRead _ app.subs each) none some
 
-all_named : (names : Bor (List (Bor Text)))
-    → Each (λ s. IsName s.name) (built (command_line names)).subs
-all_named names = (
-  inl refl,
+-- ---- the words of a subcommand
+
+have_passed : (s : Shape) (words : List Text) (ids : List Text) → leave_some s.rules ≡ true
+    → list_all (is_wanted s.rules) ids ≡ true
+    → level_fault s [] nothing_held words false [] ≡ []
+    → HaveWords ids (rows_after s.rules [] words)
+have_passed s words [] leaves wanted none = tt
+have_passed s words (id ∷ ids) leaves wanted none =
+    let both = and_parts (is_wanted s.rules id) (list_all (is_wanted s.rules) ids) wanted in
+    let has = wanted_passed s words id leaves both.0 none in (
+      subst (λ (found : Option Text). IsSome found) (sym has.1) refl,
+      have_passed s words ids leaves both.1 none,
+    )
+
+-- a subcommand that sets no list
+reads : (s : Shape) → leave_some s.rules ≡ true
+    → list_all (is_wanted s.rules) (wanted_by s.name) ≡ true
+    → bytes_eq s.name (codes "reset") ≡ false → bytes_eq s.name (codes "serve") ≡ false
+    → IsName s.name → IsRead s
+reads s leaves wanted other apart named = (
+  named,
+  λ words none. record {
+    wanted = have_passed s words (wanted_by s.name) leaves wanted none;
+    list = λ e. absurd (both_ways (bytes_eq s.name (codes "reset")) other e);
+    port = λ e. absurd (both_ways (bytes_eq s.name (codes "serve")) apart e);
+    count = λ e. absurd (both_ways (bytes_eq s.name (codes "serve")) apart e);
+  },
+)
+
+-- the subcommand with two numbers
+serve_read : (s : Shape) → leave_some s.rules ≡ true
+    → list_all (is_wanted s.rules) (wanted_by s.name) ≡ true
+    → is_usual s.rules (codes "port") ≡ true → are_bare s.rules (codes "port") ≡ true
+    → ((text : Text) → passes_by s.rules (codes "port") text
+    ≡ (accepts false (parser.Signed (pos 1) (pos 65535)) text || false))
+    → is_usual s.rules (codes "count") ≡ true → are_bare s.rules (codes "count") ≡ true
+    → ((text : Text) → passes_by s.rules (codes "count") text
+    ≡ (accepts false (parser.Signed (pos 1) (pos 1000000)) text || false))
+    → bytes_eq s.name (codes "reset") ≡ false → IsName s.name → IsRead s
+serve_read s leaves wanted port port_bare port_in count count_bare count_in other named = (
+  named,
+  λ words none. record {
+    wanted = have_passed s words (wanted_by s.name) leaves wanted none;
+    list = λ e. absurd (both_ways (bytes_eq s.name (codes "reset")) other e);
+    port = λ e. usual_number s words (codes "port") 65535 leaves port port_bare port_in none;
+    count = λ e. usual_number s words (codes "count") 1000000 leaves count count_bare count_in none;
+  },
+)
+
+-- a text that passes as one of the two names
+is_list : (names : Bor (List (Bor Text))) (text : Text) → AreAttributes names
+    → list_any (λ name. bytes_eq name.now text) names.now ≡ true → IsList text
+is_list names text two passes =
+    let known : bytes_eq (codes "dacl") text || (bytes_eq (codes "sacl") text || false) ≡ true =
+    ap (list_any (λ name. bytes_eq name text)) (sym two)
+    ∙ sym (list_any-map (λ name. bytes_eq name text) (λ (name : Bor Text). name.now) names.now)
+    ∙ passes in
+    elim (or_cases (bytes_eq (codes "dacl") text) (bytes_eq (codes "sacl") text || false) known) [
+      | inl dacl ↦ inl (sym ((bytes_eq-Decides (codes "dacl") text).0 dacl))
+      | inr later ↦ elim (or_cases (bytes_eq (codes "sacl") text) false later) [
+        | inl sacl ↦ inr (sym ((bytes_eq-Decides (codes "sacl") text).0 sacl))
+        | inr none ↦ absurd (false≢true none)
+      ]
+    ]
+
+-- the subcommand that sets a list
+reset_read : (names : Bor (List (Bor Text))) → AreAttributes names → (s : Shape)
+    → leave_some s.rules ≡ true → list_all (is_wanted s.rules) (wanted_by s.name) ≡ true
+    → is_wanted s.rules (codes "LIST") ≡ true
+    → ((text : Text) → passes_by s.rules (codes "LIST") text
+    ≡ list_any (λ name. bytes_eq name.now text) names.now || false)
+    → bytes_eq s.name (codes "serve") ≡ false → IsName s.name → IsRead s
+reset_read names two s leaves wanted list passes apart named = (
+  named,
+  λ words none. record {
+    wanted = have_passed s words (wanted_by s.name) leaves wanted none;
+    list = λ e.
+        let has = wanted_passed s words (codes "LIST") leaves list none in
+        let passed = list_any (λ name. bytes_eq name.now has.0) names.now in
+        let text : word (codes "LIST") (rows_after s.rules [] words) ≡ has.0 =
+        ap (λ (found : Option Text). unwrap_or found []) has.1 in
+        subst IsList (sym text)
+        (is_list names has.0 two (sym (or-false passed) ∙ sym (passes has.0) ∙ has.2));
+    port = λ e. absurd (both_ways (bytes_eq s.name (codes "serve")) apart e);
+    count = λ e. absurd (both_ways (bytes_eq s.name (codes "serve")) apart e);
+  },
+)
+
+all_read : (names : Bor (List (Bor Text))) → AreAttributes names
+    → Each IsRead (built (command_line names)).subs
+all_read names two = (
+  reads _ refl refl refl refl (inl refl),
   (
-    inr (inl refl),
+    reads _ refl refl refl refl (inr (inl refl)),
     (
-      inr (inr (inl refl)),
+      serve_read _ refl refl refl refl (λ text. refl) refl refl (λ text. refl) refl
+          (inr (inr (inl refl))),
       (
-        inr (inr (inr (inl refl))),
+        reads _ refl refl refl refl (inr (inr (inr (inl refl)))),
         (
-          inr (inr (inr (inr (inl refl)))),
+          reads _ refl refl refl refl (inr (inr (inr (inr (inl refl))))),
           (
-            inr (inr (inr (inr (inr (inl refl))))),
+            reads _ refl refl refl refl (inr (inr (inr (inr (inr (inl refl)))))),
             (
-              inr (inr (inr (inr (inr (inr (inl refl)))))),
+              reads _ refl refl refl refl (inr (inr (inr (inr (inr (inr (inl refl))))))),
               (
-                inr (inr (inr (inr (inr (inr (inr (inl refl))))))),
+                reads _ refl refl refl refl (inr (inr (inr (inr (inr (inr (inr (inl refl)))))))),
                 (
-                  inr (inr (inr (inr (inr (inr (inr (inr (inl refl)))))))),
+                  reset_read names two _ refl refl refl (λ text. refl) refl
+                      (inr (inr (inr (inr (inr (inr (inr (inr (inl refl))))))))),
                   (
-                    inr (inr (inr (inr (inr (inr (inr (inr (inr (inl refl))))))))),
-                    (inr (inr (inr (inr (inr (inr (inr (inr (inr (inr refl))))))))), tt),
+                    reads _ refl refl refl refl
+                        (inr (inr (inr (inr (inr (inr (inr (inr (inr (inl refl)))))))))),
+                    (
+                      reads _ refl refl refl refl
+                          (inr (inr (inr (inr (inr (inr (inr (inr (inr (inr refl)))))))))),
+                      tt,
+                    ),
                   ),
                 ),
               ),
@@ -120,9 +215,29 @@ all_named names = (
   ),
 )
 
-pub has_name : (names : Bor (List (Bor Text))) (words : List Text)
-    → fault_of (command_line names) words ≡ [] → HasName (subcommand_of (command_line names) words)
-has_name names words none =
+-- what the subcommand that was met has read
+below_passes : (names : Bor (List (Bor Text))) (words : List Text)
+    → fault_of (command_line names) words ≡ []
+    → entered_fault (built (command_line names))
+    (stop_after (built (command_line names)).top.rules (names_of (built (command_line names)))
+    (argument_words (command_line names) words)) ≡ []
+below_passes names words none =
+    let app = built (command_line names) in
+    let given = argument_words (command_line names) words in
+    let end = (walk app.top.rules (names_of app) nothing_held given).held in
+    let stop = (walk app.top.rules (names_of app) nothing_held given).stopped in
+    let after = or_else (settle_fault app.top.rules app.top.args_override_self end)
+    (or_else (defaults_fault (settled app.top.rules end).rows app.top.rules)
+    (check_fault app.top (finished app.top.rules end) (is_some (entered app stop)))) in
+    first (entered_fault app stop) after
+    (second (walk_fault app.top (names_of app) (walk_from nothing_held) given)
+    (or_else (entered_fault app stop) after) none)
+
+pub is_whole : (names : Bor (List (Bor Text))) (words : List Text) → AreAttributes names
+    → fault_of (command_line names) words ≡ []
+    → IsWhole (subcommand_of (command_line names) words)
+is_whole names words two none =
     let app = built (command_line names) in
     of_entered app (stop_after app.top.rules (names_of app)
-    (argument_words (command_line names) words)) (all_named names) (is_met names words none)
+    (argument_words (command_line names) words)) (all_read names two)
+    (below_passes names words none) (is_met names words none)

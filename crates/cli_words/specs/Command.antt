@@ -1,10 +1,12 @@
 -- Which command the words are (own).
 use Rattle.std.specs.Prelude.{◌≡◌, ◌≢◌, ◌⊎◌, ◌<◌, false, ◌^◌, ℕ, List, [], Option, Some, None}
-use Rattle.std.specs.Prelude.{Bool, true, codes, option_map, unwrap_or, if◌then◌else◌}
+use Rattle.std.specs.Prelude.{◌∷◌, Bool, IsSome, true, codes, option_map, pos, unwrap_or}
+use Rattle.std.specs.Prelude.{if◌then◌else◌}
 use Rattle.std.specs.Str.{bytes_eq}
 use Rattle.std.specs.Str.Parse.{IsNumeral, digits_value, without_leading_plus}
 use Rattle.std.specs.Borrow.{Bor}
-use Rattle.clap.specs.Words.{IsAmong, Row, Text, fault_of, first_of, one_of, subcommand_of, takes}
+use Rattle.clap.specs.Words.{IsAmong, IsSignedIn, Row, Text, fault_of, first_of, one_of}
+use Rattle.clap.specs.Words.{subcommand_of, takes, without_minus}
 use Rattle.clap.specs.declared.error.kind.ErrorKind.{ErrorKind}
 use Rattle.clap.specs.declared.error.kind.ErrorKind.TheVariants as kinds
 use Rattle.room_entry.specs.declared.failure.Failure.{Failure}
@@ -34,6 +36,46 @@ IsNumber bits default (Some text) number =
 abbrev pub IsFlag : Option Text → Bool → Type 0
 IsFlag None flag = flag ≡ false
 IsFlag (Some text) flag = (text ≡ codes "true" → flag ≡ true) × (text ≡ codes "false" → flag ≡ false)
+
+-- a word was given for an argument
+abbrev pub HasWord : Text → List Row → Type 0
+HasWord id rows = IsSome (first_of id rows)
+
+-- and for each of these
+abbrev pub HaveWords : List Text → List Row → Type 0
+HaveWords [] rows = Unit {0}
+HaveWords (id ∷ ids) rows = HasWord id rows × HaveWords ids rows
+
+-- what a subcommand of this name wants beside the file
+abbrev pub wanted_with_file : Text → List Text
+wanted_with_file name =
+    if bytes_eq name (codes "init") then codes "OWNER" ∷ codes "GROUP" ∷ []
+    else if bytes_eq name (codes "groups") then codes "CSV" ∷ []
+    else if bytes_eq name (codes "review") then codes "PATH" ∷ []
+    else if bytes_eq name (codes "reset") then codes "PATH" ∷ codes "LIST" ∷ []
+    else []
+
+-- The arguments that a subcommand of this name can't do without.
+abbrev pub wanted_by : Text → List Text
+wanted_by name =
+    if bytes_eq name (codes "check") then [] else codes "FILE" ∷ wanted_with_file name
+
+-- The name of one of the two lists.
+abbrev pub IsList : Text → Type 0
+IsList text = (text ≡ codes "dacl") ⊎ (text ≡ codes "sacl")
+
+-- The option has a number from 1 to this one, which was given or is its default.
+abbrev pub HasNumber : Text → ℕ → List Row → Type 0
+HasNumber id most rows = (text : Text) × (one_of id rows ≡ Some (without_minus text))
+    × IsSignedIn (pos 1) (pos most) text
+
+-- A subcommand of this name has what `clap` sees to: each argument that it can't do without, a list
+-- that is one of the two, and numbers in their ranges.
+pub record HasWords (name : Text) (rows : List Row) : Type 0 where
+  pub wanted : HaveWords (wanted_by name) rows
+  pub list : bytes_eq name (codes "reset") ≡ true → IsList (word (codes "LIST") rows)
+  pub port : bytes_eq name (codes "serve") ≡ true → HasNumber (codes "port") 65535 rows
+  pub count : bytes_eq name (codes "serve") ≡ true → HasNumber (codes "count") 1000000 rows
 
 abbrev pub which_in : List Row → Which
 which_in rows = if bytes_eq (word (codes "LIST") rows) (codes "dacl") then Dacl else Sacl
@@ -72,9 +114,10 @@ IsName name = (name ≡ codes "check") ⊎ ((name ≡ codes "init") ⊎ ((name �
     ⊎ ((name ≡ codes "dump") ⊎ ((name ≡ codes "review") ⊎ ((name ≡ codes "reset")
     ⊎ ((name ≡ codes "verify") ⊎ (name ≡ codes "migrate"))))))))))
 
-abbrev pub HasName : Option (Text × List Row) → Type 0
-HasName None = ⊥
-HasName (Some found) = IsName found.0
+-- One of them was found, with the words that it wants.
+abbrev pub IsWhole : Option (Text × List Row) → Type 0
+IsWhole None = ⊥
+IsWhole (Some found) = IsName found.0 × HasWords found.0 found.1
 
 -- The command is the subcommand that was found.
 abbrev pub IsCommand : Option (Text × List Row) → Command → Type 0

@@ -31,8 +31,8 @@ members and records. The root's dacl is
 list:a
 A:fd:OWNER@:rwanNxDtThHdcCoy
 
-so that the owner may do everything with it, and nobody else has any right there.
-Its sacl is list:a without an entry. reset sets other lists.
+so that the owner may do everything with it, and nobody else has any right
+there. Its sacl is list:a without an entry. reset sets other lists.
 
   0  ready
   2  refused: A3 bad who, or: refused: file exists
@@ -125,9 +125,9 @@ Example: rooms verify office.rooms";
 
 pub(crate) const MIGRATE: &str = "\
 Schema 1 is upgraded to schema 2, if the rows are sound. With any answer other
-than migrated the file is as it was. Schema 2 is new: it stores with each object all
-entries that it inherits, where schema 1 left out those that its folder's list
-passes down. The lists mean the same.
+than migrated the file is as it was. Schema 2 is new: it stores with each object
+all entries that it inherits, where schema 1 left out those that its folder's
+list passes down. The lists mean the same.
 
 A file that the other subcommands refuse with schema 1 is old needs it. One that
 init made has schema 2, and is refused here with schema 2 is new.

@@ -5,6 +5,7 @@
 
 mod command;
 mod help;
+mod ids;
 mod judging;
 mod line;
 mod reading;

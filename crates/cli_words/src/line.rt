@@ -5,6 +5,7 @@ ghost use Rattle.cli_words.specs.Line.{groups, init, making, over_file, port, pr
 ghost use Rattle.cli_words.specs.Line.{serve, sub, telling, user, wanted, with_all};
 
 use crate::help;
+use crate::ids::{ALL, COUNT, CSV, DACL, FILE, GROUP, LIST, OWNER, PATH, PORT, SACL, USER};
 use clap::{Arg, ArgAction, Command, value_parser};
 use std::alloc::{AllocError, Global};
 
@@ -12,7 +13,7 @@ use std::alloc::{AllocError, Global};
 const VERSION: &str = "1.0.0";
 
 // Which of an object's two lists.
-static ATTRIBUTES: [&str; 2] = ["dacl", "sacl"];
+static ATTRIBUTES: [&str; 2] = [DACL, SACL];
 
 // An argument that has to be there.
 fn wanted<'a>(alloc: Global, id: &'a str, help: &'a str) -> Arg<'a>
@@ -25,7 +26,7 @@ fn wanted<'a>(alloc: Global, id: &'a str, help: &'a str) -> Arg<'a>
 fn file<'a>(alloc: Global) -> Arg<'a>
     ensures { IsArg file result }
 {
-    wanted(alloc, "FILE", "The file of the room")
+    wanted(alloc, FILE, "The file of the room")
 }
 
 // A subcommand over a file.
@@ -50,15 +51,15 @@ fn init<'a>(alloc: Global) -> Result<Command<'a>, AllocError>
         .about("Makes a new file with an empty room")
         .after_help(help::INIT)
         .arg(file(alloc))?
-        .arg(wanted(alloc, "OWNER", "The user who owns the root"))?
-        .arg(wanted(alloc, "GROUP", "The group that owns the root"))
+        .arg(wanted(alloc, OWNER, "The user who owns the root"))?
+        .arg(wanted(alloc, GROUP, "The group that owns the root"))
 }
 
 fn port<'a>(alloc: Global) -> Arg<'a>
     ensures { IsArg port result }
 {
-    Arg::new(alloc, "port")
-        .long("port")
+    Arg::new(alloc, PORT)
+        .long(PORT)
         .value_parser(value_parser!(u16).range(1..))
         .default_value("8780")
         .help("The port of 127.0.0.1 that it listens on")
@@ -67,8 +68,8 @@ fn port<'a>(alloc: Global) -> Arg<'a>
 fn count<'a>(alloc: Global) -> Arg<'a>
     ensures { IsArg count result }
 {
-    Arg::new(alloc, "count")
-        .long("count")
+    Arg::new(alloc, COUNT)
+        .long(COUNT)
         .value_parser(value_parser!(u32).range(1..=1_000_000))
         .default_value("1")
         .help("How many connections it serves before it ends")
@@ -88,12 +89,12 @@ fn serve<'a>(alloc: Global) -> Result<Command<'a>, AllocError>
 fn reset<'a>(alloc: Global) -> Result<Command<'a>, AllocError>
     ensures { IfOk result IsReset }
 {
-    let list = wanted(alloc, "LIST", "Which list").value_parser(ATTRIBUTES.as_slice());
+    let list = wanted(alloc, LIST, "Which list").value_parser(ATTRIBUTES.as_slice());
     Command::new(alloc, "reset")
         .about("Sets a list from the standard input, without testing any right")
         .after_help(help::RESET)
         .arg(file(alloc))?
-        .arg(wanted(alloc, "PATH", "The path of the object"))?
+        .arg(wanted(alloc, PATH, "The path of the object"))?
         .arg(list)
 }
 
@@ -104,22 +105,22 @@ fn groups<'a>(alloc: Global) -> Result<Command<'a>, AllocError>
         .about("Replaces the members by those of a CSV file")
         .after_help(help::GROUPS)
         .arg(file(alloc))?
-        .arg(wanted(alloc, "CSV", "A file with the header group,user"))
+        .arg(wanted(alloc, CSV, "A file with the header group,user"))
 }
 
 fn user<'a>(alloc: Global) -> Arg<'a>
     ensures { IsArg user result }
 {
-    Arg::new(alloc, "user")
-        .long("user")
+    Arg::new(alloc, USER)
+        .long(USER)
         .help("The only user whose rows are written")
 }
 
 fn all<'a>(alloc: Global) -> Arg<'a>
     ensures { IsArg all result }
 {
-    Arg::new(alloc, "all")
-        .long("all")
+    Arg::new(alloc, ALL)
+        .long(ALL)
         .action(ArgAction::SetTrue)
         .help("Leaves out no row")
 }
@@ -129,7 +130,7 @@ fn review<'a>(alloc: Global) -> Result<Command<'a>, AllocError>
 {
     let about = "Writes who may do what with an object and all below it, as CSV";
     over_file(alloc, "review", about, help::REVIEW)?
-        .arg(wanted(alloc, "PATH", "The path of the object"))?
+        .arg(wanted(alloc, PATH, "The path of the object"))?
         .arg(user(alloc))?
         .arg(all(alloc))
 }

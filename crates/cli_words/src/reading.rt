@@ -3,10 +3,12 @@ ghost use Rattle.std.specs.Prelude.{◌≡◌, IfErr, IfOk, IfSome, IsSome, map}
 ghost use Rattle.std.specs.Prelude.{codes, option_map};
 ghost use Rattle.clap.specs.Words.{first_of, found_of, kind_of, one_of, rows_of};
 ghost use Rattle.clap.specs.Words.{subcommand_rows_of};
-ghost use Rattle.cli_words.specs.Command.{HasName, IsCommand, IsFlag, IsJob, IsMet, IsName};
-ghost use Rattle.cli_words.specs.Command.{IsNumber, IsRead, IsRefused, IsTold, which_in, word};
+ghost use Rattle.cli_words.specs.Command.{HasNumber, HasWord, HasWords, IsCommand, IsFlag, IsJob};
+ghost use Rattle.cli_words.specs.Command.{IsList, IsMet, IsName, IsNumber, IsRead, IsRefused};
+ghost use Rattle.cli_words.specs.Command.{IsTold, IsWhole, which_in, word};
 
 use crate::command::{CliFault, Command, Job};
+use crate::ids::{ALL, COUNT, CSV, DACL, FILE, GROUP, LIST, OWNER, PATH, PORT, SACL, USER};
 use crate::line::command_line;
 use clap::ArgMatches;
 use clap::error::{Error, ErrorKind};
@@ -16,65 +18,74 @@ use std::convert::AsStr;
 
 // The word that was given for an argument.
 fn word<'a>(words: &ArgMatches<'a>, id: &str) -> &'a str
+    requires { HasWord id.now (rows_of (found_of words.now)) }
     ensures { result.now ≡ word id.now (rows_of (found_of words.now)) }
 {
     match words.get_str(id) {
         Some(text) => text,
-        None => "",
+        None => unreachable!(),
     }
 }
 
 fn which(words: &ArgMatches<'_>) -> Which
+    requires word { HasWord (codes "LIST") (rows_of (found_of words.now)) }
+    requires list { IsList (word (codes "LIST") (rows_of (found_of words.now))) }
     ensures { result ≡ which_in (rows_of (found_of words.now)) }
 {
-    match word(words, "LIST") {
-        "dacl" => Which::Dacl,
-        _ => Which::Sacl,
+    match word(words, LIST) {
+        DACL => Which::Dacl,
+        SACL => Which::Sacl,
+        _ => unreachable!(),
     }
 }
 
 fn port(words: &ArgMatches<'_>) -> u16
+    requires { HasNumber (codes "port") 65535 (rows_of (found_of words.now)) }
     ensures { IsNumber 16 8780 (one_of (codes "port") (rows_of (found_of words.now))) result }
 {
-    match words.get_one::<u16>("port") {
+    match words.get_one::<u16>(PORT) {
         Some(port) => port,
-        None => 8780,
+        None => unreachable!(),
     }
 }
 
 fn count(words: &ArgMatches<'_>) -> u32
+    requires { HasNumber (codes "count") 1000000 (rows_of (found_of words.now)) }
     ensures { IsNumber 32 1 (one_of (codes "count") (rows_of (found_of words.now))) result }
 {
-    match words.get_one::<u32>("count") {
+    match words.get_one::<u32>(COUNT) {
         Some(count) => count,
-        None => 1,
+        None => unreachable!(),
     }
 }
 
 fn init<'a>(words: &ArgMatches<'a>) -> Job<'a>
+    requires { HasWords (codes "init") (rows_of (found_of words.now)) }
     ensures { IsJob (codes "init") (rows_of (found_of words.now)) result }
 {
     Job::Init {
-        owner: word(words, "OWNER"),
-        group: word(words, "GROUP"),
+        owner: word(words, OWNER),
+        group: word(words, GROUP),
     }
 }
 
 fn serve<'a>(words: &ArgMatches<'a>) -> Command<'a>
+    requires { HasWords (codes "serve") (rows_of (found_of words.now)) }
     ensures { IsMet (codes "serve") (rows_of (found_of words.now)) result }
 {
     Command::Serve {
-        file: word(words, "FILE"),
+        file: word(words, FILE),
         port: port(words),
         count: count(words),
     }
 }
 
 fn groups<'a>(words: &ArgMatches<'a>) -> Job<'a>
+    requires { HasWords (codes "groups") (rows_of (found_of words.now)) }
     ensures { IsJob (codes "groups") (rows_of (found_of words.now)) result }
 {
     Job::Groups {
-        csv: word(words, "CSV"),
+        csv: word(words, CSV),
     }
 }
 
@@ -83,59 +94,61 @@ fn user<'a>(words: &ArgMatches<'a>) -> Option<&'a str>
     ensures { option_map (λ text. text.now) result
         ≡ first_of (codes "user") (rows_of (found_of words.now)) }
 {
-    words.get_str("user")
+    words.get_str(USER)
 }
 
 fn all(words: &ArgMatches<'_>) -> bool
     ensures { IsFlag (one_of (codes "all") (rows_of (found_of words.now))) result }
 {
-    words.get_flag("all")
+    words.get_flag(ALL)
 }
 
 fn review<'a>(words: &ArgMatches<'a>) -> Job<'a>
+    requires { HasWords (codes "review") (rows_of (found_of words.now)) }
     ensures { IsJob (codes "review") (rows_of (found_of words.now)) result }
 {
     Job::Review {
-        path: word(words, "PATH"),
+        path: word(words, PATH),
         user: user(words),
         all: all(words),
     }
 }
 
 fn reset<'a>(words: &ArgMatches<'a>) -> Job<'a>
+    requires { HasWords (codes "reset") (rows_of (found_of words.now)) }
     ensures { IsJob (codes "reset") (rows_of (found_of words.now)) result }
 {
     Job::Reset {
-        path: word(words, "PATH"),
+        path: word(words, PATH),
         which: which(words),
     }
 }
 
 // The subcommand of this name, with its words.
 fn met<'a>(name: &str, words: &ArgMatches<'a>) -> Option<Command<'a>>
+    requires { HasWords name.now (rows_of (found_of words.now)) }
     ensures met { IfSome result (IsMet name.now (rows_of (found_of words.now))) }
     ensures some { IsName name.now → IsSome result }
 {
-    let file = word(words, "FILE");
     match name {
         "check" => Some(Command::Check),
         "serve" => Some(serve(words)),
-        "init" => Some(Command::On(file, init(words))),
-        "groups" => Some(Command::On(file, groups(words))),
-        "review" => Some(Command::On(file, review(words))),
-        "reset" => Some(Command::On(file, reset(words))),
-        "groups-out" => Some(Command::On(file, Job::GroupsOut)),
-        "audit" => Some(Command::On(file, Job::Audit)),
-        "dump" => Some(Command::On(file, Job::Dump)),
-        "verify" => Some(Command::On(file, Job::Verify)),
-        "migrate" => Some(Command::On(file, Job::Migrate)),
+        "init" => Some(Command::On(word(words, FILE), init(words))),
+        "groups" => Some(Command::On(word(words, FILE), groups(words))),
+        "review" => Some(Command::On(word(words, FILE), review(words))),
+        "reset" => Some(Command::On(word(words, FILE), reset(words))),
+        "groups-out" => Some(Command::On(word(words, FILE), Job::GroupsOut)),
+        "audit" => Some(Command::On(word(words, FILE), Job::Audit)),
+        "dump" => Some(Command::On(word(words, FILE), Job::Dump)),
+        "verify" => Some(Command::On(word(words, FILE), Job::Verify)),
+        "migrate" => Some(Command::On(word(words, FILE), Job::Migrate)),
         _ => None,
     }
 }
 
 // The command that the matches name.
 fn command_met<'a>(matches: &ArgMatches<'a>) -> Command<'a>
-    requires { HasName (subcommand_rows_of matches.now) }
+    requires { IsWhole (subcommand_rows_of matches.now) }
     ensures { IsCommand (subcommand_rows_of matches.now) result }
 {
     let found = match matches.subcommand() {

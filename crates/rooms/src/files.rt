@@ -83,8 +83,8 @@ pub fn close<S: Start>(conn: FileConnection<S>) {
     let _ = conn.close();
 }
 
-// Whether the file is empty, and no log beside it holds its content. A file of one byte is empty for
-// SQLite, too.
+// Whether the file is empty, and no log beside it holds its content. A file of one byte is empty
+// for SQLite, too.
 fn is_blank(rt: &HostRuntime, path: &str) -> Result<bool, Stop> {
     let found = fs::metadata(rt, path)?;
     if !found.is_file() || found.len() > 1 {

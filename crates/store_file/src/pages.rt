@@ -18,8 +18,8 @@ const PAGE: u64 = 4_096;
 // What a database with pages of this size begins with.
 const HEADER: &[u8] = b"SQLite format 3\0\x10\0";
 
-/// How many pages are kept of a file of this many bytes: all that it has, within both limits. Page n
-/// has the place n modulo this number, so with all of them none displaces another.
+/// How many pages are kept of a file of this many bytes: all that it has, within both limits. Page
+/// n has the place n modulo this number, so with all of them none displaces another.
 pub fn pages_for(len: u64) -> usize
     ensures { result ≡ max LEAST_PAGES (min MOST_PAGES (len / PAGE)) }
 {

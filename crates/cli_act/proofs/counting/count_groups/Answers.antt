@@ -9,10 +9,9 @@ pairs-init c = ([], seen_none _ c.new-seen.ensures.empty, refl)
 pub pairs-preserved : goal.pairs-preserved
 pairs-preserved c =
     let so_far = c.pairs.invariant in
-    let bytes = c.in_ok-group.ensures.ok ∙ c.as_str.ensures in
     let insert = c.in_ok-insert.ensures in (
       with_group so_far.0 c.pair-item.result.0,
-      seen_next _ _ _ c.in_ok-group.group _ _ so_far.1 bytes insert.added insert.updates.0
+      seen_next _ _ _ c.as_str.result _ _ so_far.1 c.as_str.ensures insert.added insert.updates.0
           insert.unchanged insert.len,
       after_next _ _ _ _ _ c.pairs-test.true c.pair-item.is so_far.2,
     )

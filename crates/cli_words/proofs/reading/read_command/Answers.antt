@@ -11,9 +11,9 @@ use Rattle.clap.specs.declared.parser.matches.ArgMatches.{ArgMatches}
 use Rattle.clap.proofs.OnLiterals.{clap_on_literals}
 use Rattle.room_entry.specs.declared.failure.Failure.{Failure}
 use Rattle.room_entry.specs.declared.failure.Failure.TheVariants.{OutOfMemory, Fault}
-use Rattle.cli_words.proofs.Named.{has_name}
+use Rattle.cli_words.proofs.Named.{is_whole}
 use Rattle.cli_words.proofs.reading.read_command.Goals as goal
-use Rattle.cli_words.specs.Command.{HasName, IsCommand, IsRefused, IsTold}
+use Rattle.cli_words.specs.Command.{IsWhole, IsCommand, IsRefused, IsTold}
 use Rattle.cli_words.specs.Line.{AreAttributes, command_line}
 use Rattle.cli_words.specs.declared.command.CliFault.{CliFault}
 
@@ -43,8 +43,8 @@ pub command_met-requires : goal.command_met-requires
 command_met-requires g c =
     let line = c.in_ok-line.ensures in
     let words = map g.S.AsStr.text c.args.words.now in
-    subst HasName (sym (the_rows line.0 words _ _ line.2.0 c.in-Ok.ensures.matches))
-    (has_name line.0 words (no_fault line.0 words _ line.2.0 c.in-Ok.ensures.kinds))
+    subst IsWhole (sym (the_rows line.0 words _ _ line.2.0 c.in-Ok.ensures.matches))
+    (is_whole line.0 words line.1 (no_fault line.0 words _ line.2.0 c.in-Ok.ensures.kinds))
 
 pub returns-in-Ok-clause-ok : goal.returns-in-Ok-clause-ok
 returns-in-Ok-clause-ok g c =

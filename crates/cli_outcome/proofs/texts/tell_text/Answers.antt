@@ -1,9 +1,14 @@
-use Rattle.std.proofs.Common.{[], inl, inr, refl}
+use Rattle.std.proofs.Common.{[], inl, inr}
 use Rattle.cli_outcome.proofs.KnownBytes.{writes_none}
-use Rattle.cli_outcome.proofs.texts.tell_line.Goals as goal
+use Rattle.cli_outcome.proofs.texts.tell_text.Goals as goal
 
 pub returns-in-Ok : goal.returns-in-Ok
-returns-in-Ok g c = inl (record { said = c.in-Ok.ensures.ok; told = writes_none _ []; ends = refl })
+returns-in-Ok g c =
+    inl (record {
+      said = c.in-Ok.ensures.ok;
+      told = writes_none _ [];
+      ends = c.code.ensures;
+    })
 
 pub returns-in-Err : goal.returns-in-Err
 returns-in-Err g c =
