@@ -1,11 +1,9 @@
 -- A store that is opened, and then serves.
 use Rattle.std.proofs.Common.{◌≡◌, ◌≤◌, ◌⊎◌, ℕ, ℤ, All, List, [], ◌++◌, length, map, Option, Result}
-use Rattle.std.proofs.Common.{Ok, Err, OnOk, inl, inr, subst, sym, refl, arith}
+use Rattle.std.proofs.Common.{Ok, Err, OnOk, inl, inr, subst, sym}
 use Rattle.std.proofs.lemmas.List.{append-nil}
-use Rattle.std.proofs.lemmas.List.Elements.{All-nil}
 use Rattle.sqlite.specs.State.{State, HasCleanDisk}
 use Rattle.room_machine.specs.declared.desk.Desk.{Ghosts}
-use Rattle.room_machine.specs.Desk.{DeskLaws}
 use Rattle.room_machine.specs.Run.{Asking, Event}
 use Rattle.room_machine.proofs.Meeting.{meet}
 use Rattle.room_http.specs.Stream.{Runs}
@@ -15,14 +13,12 @@ use Rattle.room_store.specs.Opens.{Opens}
 use Rattle.room_store.proofs.Outlasting.{idle, leaves_whole}
 use Rattle.store_schema.specs.declared.fault.OpenFault.{OpenFault}
 use Rattle.room_store.specs.Kept.{IsShut, IsSound, Keeps}
-use Rattle.room_store.specs.Leads.{Leads}
-use Rattle.cli_serve.specs.Lines.{TellsFaults}
-use Rattle.cli_serve.specs.Staying.{Rests, Served}
+use Rattle.cli_serve.specs.Lines.{TellsFaults, TellsPort}
 use Rattle.cli_serve.specs.Staying as staying
 use Rattle.cli_serve.specs.Visits.{IsEnd, IsServedVisit, Visit, moment_of, requests_of}
 use Rattle.cli_serve.specs.Visits.{unanswered_of}
 use Rattle.cli_serve.specs.declared.fault.ServingFault.{ServingFault}
-use Rattle.cli_serve.specs.Hosts.{IsServed, LeavesRequests, LeavesShut, TellsEnd, TellsPort}
+use Rattle.cli_serve.specs.Hosts.{IsServed, LeavesRequests, LeavesShut, TellsEnd}
 use Rattle.cli_serve.specs.Hosts.{end_status}
 use Rattle.cli_serve.specs.Places.{AsksFor, Place}
 
@@ -31,54 +27,6 @@ pub ends : (end : Result (Unit {0}) ServingFault) (port status : ℕ) (out out' 
     → ((status ≡ 0) × TellsPort port out out') ⊎ (status ≡ 3)
 ends (Ok done) port status out out' is told = inl (is, told)
 ends (Err fault) port status out out' is told = inr is
-
--- no connection came
-pub unserved : {D : Type 0} (d : Ghosts D) → DeskLaws d.Outlasts → (count : ℕ)
-    (told : List ℤ → Type 0) (desk : D) → Served d count told told desk desk (Err ServingFault.Net)
-unserved d laws count told desk = (
-  record {
-    trusted = λ t. t;
-    sound = λ t s. s;
-    visits = [];
-    few = omega arith;
-    each = All-nil IsServedVisit;
-    moments = λ before is. subst told (sym (append-nil before)) is;
-    run = λ t s room is. (room, refl, is);
-    outlasts = laws.itself desk;
-  },
-  inr refl,
-  refl,
-)
-
--- nothing was printed of any connection
-pub untold : (count : ℕ) (err : Option (List ℕ))
-    → TellsFaults count err err (Err ServingFault.Net)
-untold count err = (0, omega arith, refl)
-
--- a desk that is as it was
-pub rests : {D : Type 0} (d : Ghosts D) → DeskLaws d.Outlasts → (old new : D) → new ≡ old
-    → Rests d old new
-rests {D} d laws old new same =
-    subst (λ (desk : D). Rests d old desk) (sym same)
-    (record {
-      trusted = λ t. t;
-      sound = λ t s. s;
-      run = λ t s room is. (room, refl, is);
-      outlasts = laws.itself old;
-    })
-
--- the same, where the port may have been printed
-pub rests_or : {D : Type 0} (d : Ghosts D) → DeskLaws d.Outlasts → (old new : D) (port : ℕ)
-    (out out' : Option (List ℕ))
-    → (new ≡ old) ⊎ TellsPort port out out' → Rests d old new ⊎ TellsPort port out out'
-rests_or d laws old new port out out' (inl same) = inl (rests d laws old new same)
-rests_or d laws old new port out out' (inr tells) = inr tells
-
--- a store on which nothing was done, in terms of its content
-pub rested : (old new : State) → (HasCleanDisk new → HasCleanDisk old)
-    → (HasCleanDisk new → IsSound old → IsSound new)
-    → (HasCleanDisk new → IsSound old → Runs (Keeps old) [] (Keeps new)) → Leads old [] new
-rested old new trusted sound run = record { trusted = trusted; sound = sound; run = run }
 
 -- what a power cut leaves, where it left what was seen before
 pub leaves_requests : (old new : State) (visits : List Visit)
@@ -99,7 +47,7 @@ pub served : (port count : ℕ) (told told' : List ℤ → Type 0) (old new : St
     → (HasCleanDisk new → IsSound old → Runs (Keeps old) (requests_of visits) (Keeps new))
     → IsEnd count end (length visits) → LeavesShut end new → status ≡ end_status end
     → OnOk end (TellsPort port out out')
-    → Leads old [] new ⊎ TellsPort port out out' → TellsFaults count err mid end
+    → (visits ≡ []) ⊎ TellsPort port out out' → TellsFaults (length visits) err mid end
     → TellsEnd end mid err' → Lasts old → Lasts new
     → Outlasts old (unanswered_of visits) (requests_of visits) new
     → IsServed port count told told' old new out out' err err' status

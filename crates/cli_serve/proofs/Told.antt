@@ -1,14 +1,13 @@
 -- Lines about connections, one after another.
-use Rattle.std.proofs.Common.{◌≡◌, ℕ, ℤ, ◌+◌, ◌≤◌, Bool, List, Option, ◌++◌, Result, Ok, Err}
+use Rattle.std.proofs.Common.{◌≡◌, ℕ, ℤ, ◌+◌, Bool, List, Option, ◌++◌, Result, Ok, Err}
 use Rattle.std.proofs.Common.{IsTrue, OnOk, sym, ap, ◌∙◌, subst, add-one}
 use Rattle.std.proofs.lemmas.Fmt.{contents_after_writes}
 use Rattle.std.specs.Fmt.{WritesInCalls}
 use Rattle.std.specs.Io.KnownBytes.{Appends}
 use Rattle.cli_outcome.specs.Written.{WritesSome}
-use Rattle.cli_serve.specs.Lines.{MayTell, TellsEach, TellsFaults, Writing}
+use Rattle.cli_serve.specs.Lines.{MayTell, TellsEach, Writing}
 use Rattle.cli_serve.specs.Staying.{Lasts}
 use Rattle.cli_serve.specs.Visits.{ReceivesAll}
-use Rattle.cli_serve.specs.declared.fault.ServingFault.{ServingFault}
 use Rattle.room_machine.specs.declared.desk.Desk.{Ghosts}
 
 -- a text was written piece by piece at the end of another
@@ -27,15 +26,11 @@ told_next Tells n old mid new before now =
     let here = subst (λ (k : ℕ). MayTell Tells k mid new) (add-one n) now in
     subst (λ (k : ℕ). TellsEach Tells k old new) (sym (add-one n)) (mid, before, here)
 
--- what was written where all is done
-pub told_all : (n count : ℕ) (old new : Option (List ℕ)) → n ≡ count → TellsEach Appends n old new
-    → TellsEach Appends count old new
-told_all n count old new is told = subst (λ (k : ℕ). TellsEach Appends k old new) is told
-
--- what was written where serving ends at a fault
-pub told_some : (n count : ℕ) (old new : Option (List ℕ)) (fault : ServingFault) → n ≤ count
-    → TellsEach WritesSome n old new → TellsFaults count old new (Err fault)
-told_some n count old new fault few told = (n, few, told)
+-- the number of connections in another form
+pub told_of : (Tells : Writing) (n visits : ℕ) (old new : Option (List ℕ)) → visits ≡ n
+    → TellsEach Tells n old new → TellsEach Tells visits old new
+told_of Tells n visits old new is told =
+    subst (λ (k : ℕ). TellsEach Tells k old new) (sym is) told
 
 -- What holds once some connections came: what the desk did, that none left it shut, and what was
 -- written of them, in whole where that is known.

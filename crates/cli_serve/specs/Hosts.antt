@@ -1,7 +1,6 @@
 -- What the subcommand `serve` does on an open database (own).
 use Rattle.std.specs.Prelude.{◌≡◌, ◌≤◌, ◌⊎◌, ℕ, ℤ, All, List, [], ◌∷◌, ◌++◌, codes, length, map}
 use Rattle.std.specs.Prelude.{IsTrue, Option, Result, Ok, Err, ⊤}
-use Rattle.std.specs.Io.KnownBytes.{Appends}
 use Rattle.sqlite.specs.Held.{Held}
 use Rattle.sqlite.specs.State.{State, HasCleanDisk}
 use Rattle.cli_outcome.specs.Ending.{fault_line, no_room_text}
@@ -16,7 +15,7 @@ use Rattle.room_store.specs.Crash.{Lasts, Leaves, Outlasts}
 use Rattle.room_store.specs.Kept.{IsShut, IsSound, Keeps}
 use Rattle.room_store.specs.Leads.{Leads}
 use Rattle.room_store.specs.Opens.{Opens}
-use Rattle.cli_serve.specs.Lines.{TellsFaults, listening_line}
+use Rattle.cli_serve.specs.Lines.{TellsFaults, TellsPort}
 use Rattle.cli_serve.specs.Visits.{IsEnd, IsServedVisit, Visit, moment_of, requests_of}
 use Rattle.cli_serve.specs.Visits.{unanswered_of}
 use Rattle.cli_serve.specs.declared.fault.ServingFault.{ServingFault}
@@ -66,17 +65,13 @@ abbrev pub TellsEnd : Result (Unit {0}) ServingFault → Option (List ℕ) → O
 TellsEnd (Ok done) old new = new ≡ old
 TellsEnd (Err fault) old new = WritesSome old new (fault_line (serving_fault fault))
 
--- What is printed of faults: those of connections, one after another, and then the one that ended
--- the service.
-pub record TellsAll (count : ℕ) (end : Result (Unit {0}) ServingFault)
+-- What is printed of faults: those of that many connections, one after another, and then the one
+-- that ended the service.
+pub record TellsAll (visits : ℕ) (end : Result (Unit {0}) ServingFault)
     (old new : Option (List ℕ)) : Type 0 where
   pub mid : Option (List ℕ)
-  pub connections : TellsFaults count old mid end
+  pub connections : TellsFaults visits old mid end
   pub last : TellsEnd end mid new
-
--- It was printed that this port listens.
-abbrev pub TellsPort : ℕ → Option (List ℕ) → Option (List ℕ) → Type 0
-TellsPort port out out' = Appends out out' (listening_line port)
 
 -- The database was not opened as a room: no port was asked for, and nothing was served.
 pub record IsTurnedDown (asked asked' : List Place → Type 0) (old new : State)
@@ -98,9 +93,9 @@ LeavesRequests old visits new = HasCleanDisk new → IsSound old → IsTrue old.
 
 -- The requests of at most `count` connections were served, each at the moment that the clock read
 -- for it. All is done, or there was a fault, and what the fault says of the connections holds. The
--- port was printed before the first of them, and faults as they came. As long as the connection to
--- the database is open, a power cut leaves what is seen. Whether it is open or not, a power cut
--- leaves all requests that were answered, and at most one that wasn't, as a whole.
+-- port was printed before the first of them, and faults of these connections as they came. As long
+-- as the connection to the database is open, a power cut leaves what is seen. Whether it is open or
+-- not, a power cut leaves all requests that were answered, and at most one that wasn't, as a whole.
 pub record IsServed (port count : ℕ) (told told' : List ℤ → Type 0) (old new : State)
     (out out' err err' : Option (List ℕ)) (status : ℕ) : Type 0 where
   pub visits : List Visit
@@ -112,12 +107,12 @@ pub record IsServed (port count : ℕ) (told told' : List ℤ → Type 0) (old n
   pub outlasts : Outlasts old (unanswered_of visits) (requests_of visits) new
   pub leaves : LeavesRequests old visits new
   pub ends : ((status ≡ 0) × TellsPort port out out') ⊎ (status ≡ 3)
-  pub first : Leads old [] new ⊎ TellsPort port out out'
+  pub first : (visits ≡ []) ⊎ TellsPort port out out'
   pub end : Result (Unit {0}) ServingFault
   pub end_is : status ≡ end_status end
   pub end_says : IsEnd count end (length visits)
   pub shut : LeavesShut end new
-  pub faults : TellsAll count end err err'
+  pub faults : TellsAll (length visits) end err err'
 
 module _ {S : Type 0} (shown : Held S → State) where
   -- The room was opened, this port of this machine alone was asked for, and it served.

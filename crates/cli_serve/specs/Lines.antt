@@ -1,5 +1,5 @@
 -- The lines that are printed beside the replies (own).
-use Rattle.std.specs.Prelude.{◌≡◌, ◌⊎◌, ◌≤◌, ℕ, zero, suc, List, ◌++◌, codes, decimal, Option}
+use Rattle.std.specs.Prelude.{◌≡◌, ◌⊎◌, ℕ, zero, suc, List, ◌++◌, codes, decimal, Option}
 use Rattle.std.specs.Prelude.{Result, Ok, Err}
 use Rattle.std.specs.Io.KnownBytes.{Appends}
 use Rattle.cli_outcome.specs.Written.{WritesSome}
@@ -9,6 +9,10 @@ use Rattle.cli_serve.specs.declared.fault.ServingFault.{ServingFault}
 -- the port on which connections are accepted
 abbrev pub listening_line : ℕ → List ℕ
 listening_line port = codes "listening 127.0.0.1:" ++ (decimal port ++ codes "\n")
+
+-- it was printed that this port listens
+abbrev pub TellsPort : ℕ → Option (List ℕ) → Option (List ℕ) → Type 0
+TellsPort port old new = Appends old new (listening_line port)
 
 -- what ended the connection of this number
 abbrev pub connection_line : ℕ → Cause → List ℕ
@@ -34,10 +38,9 @@ TellsEach Tells zero old new = new ≡ old
 TellsEach Tells (suc n) old new =
     (mid : Option (List ℕ)) × TellsEach Tells n old mid × MayTell Tells (suc n) mid new
 
--- What is written about connections that a fault ended: whole lines if all is done. Otherwise lines
--- may be cut off.
+-- What is written about the faults of that many connections: whole lines if all is done. Otherwise
+-- lines may be cut off.
 abbrev pub TellsFaults : ℕ → Option (List ℕ) → Option (List ℕ) → Result (Unit {0}) ServingFault
     → Type 0
-TellsFaults count old new (Ok done) = TellsEach Appends count old new
-TellsFaults count old new (Err fault) =
-    (served : ℕ) × (served ≤ count) × TellsEach WritesSome served old new
+TellsFaults visits old new (Ok done) = TellsEach Appends visits old new
+TellsFaults visits old new (Err fault) = TellsEach WritesSome visits old new

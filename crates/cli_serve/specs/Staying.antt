@@ -1,9 +1,10 @@
 -- How long connections are accepted: until one leaves the desk shut (own).
 use Rattle.std.specs.Prelude.{◌≡◌, ◌⊎◌, ℕ, ℤ, ◌+◌, Bool, true, false, zero, suc, List, [], length}
-use Rattle.std.specs.Prelude.{Result, Err}
+use Rattle.std.specs.Prelude.{Option, Result, Err}
 use Rattle.room_machine.specs.declared.desk.Desk.{Ghosts}
 use Rattle.room_rows.specs.Keep.{one_more}
 use Rattle.room_http.specs.Stream.{Runs}
+use Rattle.cli_serve.specs.Lines.{TellsFaults, TellsPort}
 use Rattle.cli_serve.specs.Visits.{Attends, IsEnd, Receives}
 use Rattle.cli_serve.specs.declared.fault.ServingFault.{ServingFault}
 
@@ -42,7 +43,18 @@ Outlasts {D} d visits old new (Err ServingFault.Desk) = (before : ℕ) × (visit
 Outlasts d visits old new end = Lasts d visits old new
 
 -- At most `count` connections were received, and what the end says of them and of the desk holds.
-abbrev pub Served : {D : Type 0} → Ghosts D → ℕ → (List ℤ → Type 0) → (List ℤ → Type 0) → D → D
-    → Result (Unit {0}) ServingFault → Type 0
-Served d count told told' old new end = (r : Receives d count told told' old new)
-    × IsEnd count end (length r.visits) × Outlasts d (length r.visits) old new end
+-- What was printed of faults is about these connections alone.
+pub record Served {D : Type 0} (d : Ghosts D) (count : ℕ) (told told' : List ℤ → Type 0)
+    (old new : D) (err err' : Option (List ℕ)) (end : Result (Unit {0}) ServingFault)
+    : Type 0 where
+  pub receives : Receives d count told told' old new
+  pub end_says : IsEnd count end (length receives.visits)
+  pub stays : Outlasts d (length receives.visits) old new end
+  pub faults : TellsFaults (length receives.visits) err err' end
+
+-- The same where it was printed first that the port listens, or no connection came.
+pub record ServedAt {D : Type 0} (d : Ghosts D) (port count : ℕ) (told told' : List ℤ → Type 0)
+    (old new : D) (out out' err err' : Option (List ℕ)) (end : Result (Unit {0}) ServingFault)
+    : Type 0 where
+  pub served : Served d count told told' old new err err' end
+  pub first : (served.receives.visits ≡ []) ⊎ TellsPort port out out'

@@ -1,11 +1,11 @@
 //! The room of a database, served on a port.
-ghost use Rattle.std.specs.Prelude.{◌≡◌, ◌⊎◌, List, [], ◌∷◌, OnOk, false};
+ghost use Rattle.std.specs.Prelude.{◌≡◌, List, [], ◌∷◌, OnOk, false};
 ghost use Rattle.sqlite.specs.Held.{state};
 ghost use Rattle.room_store.specs.Crash.{Outlasts};
-ghost use Rattle.cli_serve.specs.Lines.{TellsFaults};
-ghost use Rattle.cli_serve.specs.Staying.{Rests, Served};
+ghost use Rattle.cli_serve.specs.Lines.{TellsPort};
+ghost use Rattle.cli_serve.specs.Staying.{ServedAt};
 ghost use Rattle.cli_serve.specs.Visits.{Visit, requests_of, unanswered_of};
-ghost use Rattle.cli_serve.specs.Hosts.{Hosts, IsServed, LeavesRequests, TellsPort};
+ghost use Rattle.cli_serve.specs.Hosts.{Hosts, IsServed, LeavesRequests};
 ghost use Rattle.cli_serve.specs.Places.{AsksFor, local_place};
 
 use crate::fault::ServingFault;
@@ -90,12 +90,10 @@ fn serve_at<D: Desk, P: Ports, M: Moments, O: Write, E: Write>(
     out: &mut O,
     err: &mut E,
 ) -> Result<(), ServingFault>
-    ensures received { Served D.Desk count (M.told clock.old) (M.told clock.new)
-        desk.old desk.new result }
+    ensures served { ServedAt D.Desk port count (M.told clock.old) (M.told clock.new)
+        desk.old desk.new (O.contents out.old) (O.contents out.new)
+        (E.contents err.old) (E.contents err.new) result }
     ensures told { OnOk result (TellsPort port (O.contents out.old) (O.contents out.new)) }
-    ensures first { Rests D.Desk desk.old desk.new
-        ⊎ TellsPort port (O.contents out.old) (O.contents out.new) }
-    ensures faults { TellsFaults count (E.contents err.old) (E.contents err.new) result }
     ensures asked { AsksFor (P.asked ports.old) (P.asked ports.new) (local_place port ∷ []) }
 {
     match ports.bind(Ipv4Addr::LOCALHOST, port) {

@@ -1,9 +1,9 @@
 //! Connections one after another.
-ghost use Rattle.std.specs.Prelude.{◌≡◌, ◌⊎◌, ◌+◌, ℤ, IfErr, IfOk, IsTrue, OnOk};
+ghost use Rattle.std.specs.Prelude.{◌≡◌, ◌+◌, ℤ, IfErr, IfOk, IsTrue, OnOk};
 ghost use Rattle.std.specs.Io.KnownBytes.{Appends};
 ghost use Rattle.cli_outcome.specs.Written.{WritesSome};
-ghost use Rattle.cli_serve.specs.Lines.{MayTell, TellsFaults, listening_line};
-ghost use Rattle.cli_serve.specs.Staying.{Passes, Rests, Served, TellsShut};
+ghost use Rattle.cli_serve.specs.Lines.{MayTell, TellsPort};
+ghost use Rattle.cli_serve.specs.Staying.{Passes, Rests, Served, ServedAt, TellsShut};
 ghost use Rattle.cli_serve.specs.Visits.{Attends, Receives, ReceivesAll};
 
 use crate::accepting::accepted;
@@ -39,13 +39,10 @@ pub fn serve_on<D: Desk, M: Moments, O: Write, E: Write>(
     out: &mut O,
     err: &mut E,
 ) -> Result<(), ServingFault>
-    ensures received { Served D.Desk count (M.told clock.old) (M.told clock.new)
-        desk.old desk.new result }
-    ensures told { OnOk result (Appends (O.contents out.old) (O.contents out.new)
-        (listening_line port)) }
-    ensures first { (desk.new ≡ desk.old)
-        ⊎ Appends (O.contents out.old) (O.contents out.new) (listening_line port) }
-    ensures faults { TellsFaults count (E.contents err.old) (E.contents err.new) result }
+    ensures served { ServedAt D.Desk port count (M.told clock.old) (M.told clock.new)
+        desk.old desk.new (O.contents out.old) (O.contents out.new)
+        (E.contents err.old) (E.contents err.new) result }
+    ensures told { OnOk result (TellsPort port (O.contents out.old) (O.contents out.new)) }
 {
     let Ok(routes) = Routes::new(alloc) else {
         return Err(ServingFault::Memory);
@@ -67,9 +64,8 @@ fn serve_each<D: Desk, M: Moments, E: Write>(
     count: u32,
     err: &mut E,
 ) -> Result<(), ServingFault>
-    ensures received { Served D.Desk count (M.told clock.old) (M.told clock.new)
-        desk.old desk.new result }
-    ensures faults { TellsFaults count (E.contents err.old) (E.contents err.new) result }
+    ensures { Served D.Desk count (M.told clock.old) (M.told clock.new) desk.old desk.new
+        (E.contents err.old) (E.contents err.new) result }
 {
     let mut told = true;
     'connections: for number in 0..count {

@@ -1,9 +1,8 @@
-use Rattle.std.proofs.Common.{◌⊎◌, [], inl, inr, subst, sym}
+use Rattle.std.proofs.Common.{subst, sym}
 use Rattle.sqlite.specs.Held.{Held, state}
 use Rattle.room_store.specs.Crash.{Lasts}
-use Rattle.room_store.specs.Leads.{Leads}
-use Rattle.cli_serve.specs.Hosts.{IsServed, TellsPort}
-use Rattle.cli_serve.proofs.Hosted.{left_shut, rested, served}
+use Rattle.cli_serve.specs.Hosts.{IsServed}
+use Rattle.cli_serve.proofs.Hosted.{left_shut, served}
 use Rattle.cli_serve.proofs.hosting.host_store.Goals as goal
 
 pub returns-clause-served : goal.returns-clause-served
@@ -18,23 +17,19 @@ returns-clause-served g c =
     let mid = g.E.Write.contents c.serve_at-end.new.err in
     let err' = g.E.Write.contents c.tell_end-status.new.err in
     let status = c.tell_end-status.result in
-    let received = c.serve_at-end.ensures.received in
-    let r = received.0 in
-    let first : Leads old [] new ⊎ TellsPort c.args.port out out' =
-    elim (c.serve_at-end.ensures.first) [
-      | inl r ↦ inl (rested old new r.trusted r.sound r.run)
-      | inr tells ↦ inr tells
-    ] in
+    let at = c.serve_at-end.ensures.served in
+    let all = at.served in
+    let r = all.receives in
     subst (λ (conn : Held g.row.S.Denot). IsServed c.args.port c.args.count told told' old
     (state g.S.Store conn) out out' err err' status) (sym c.into_conn.ensures.same)
     (served c.args.port c.args.count told told' old new out out' err mid err' status r.visits
     c.serve_at-end.result r.few
     r.each r.moments r.trusted r.sound r.run
-    received.1
+    all.end_says
     (left_shut _ _ c.args.store c.serve_at-end.new.desk new (λ is. is) c.serve_at-end.result
-    received.2)
-    c.tell_end-status.ensures.status c.serve_at-end.ensures.told first
-    c.serve_at-end.ensures.faults c.tell_end-status.ensures.told
+    all.stays)
+    c.tell_end-status.ensures.status c.serve_at-end.ensures.told at.first all.faults
+    c.tell_end-status.ensures.told
     c.what_is_seen_lasts.ensures
     (subst (λ (conn : Held g.row.S.Denot). Lasts (state g.S.Store conn)) c.into_conn.ensures.same
     c.into_conn.ensures.lasts) r.outlasts)
