@@ -13,7 +13,7 @@ use Rattle.room_store.specs.Opens.{Opens}
 use Rattle.room_store.proofs.Outlasting.{idle, leaves_whole}
 use Rattle.store_schema.specs.declared.fault.OpenFault.{OpenFault}
 use Rattle.room_store.specs.Kept.{IsShut, IsSound, Keeps}
-use Rattle.cli_serve.specs.Lines.{TellsFaults, TellsPort}
+use Rattle.cli_serve.specs.Lines.{TellsFaults, TellsFirst, TellsPort}
 use Rattle.cli_serve.specs.Staying as staying
 use Rattle.cli_serve.specs.Visits.{IsEnd, IsServedVisit, Visit, moment_of, requests_of}
 use Rattle.cli_serve.specs.Visits.{unanswered_of}
@@ -47,7 +47,7 @@ pub served : (port count : ℕ) (told told' : List ℤ → Type 0) (old new : St
     → (HasCleanDisk new → IsSound old → Runs (Keeps old) (requests_of visits) (Keeps new))
     → IsEnd count end (length visits) → LeavesShut end new → status ≡ end_status end
     → OnOk end (TellsPort port out out')
-    → (visits ≡ []) ⊎ TellsPort port out out' → TellsFaults (length visits) err mid end
+    → TellsFirst port (length visits) out out' → TellsFaults (length visits) err mid end
     → TellsEnd end mid err' → Lasts old → Lasts new
     → Outlasts old (unanswered_of visits) (requests_of visits) new
     → IsServed port count told told' old new out out' err err' status

@@ -8,7 +8,7 @@ use Rattle.cli_outcome.specs.Written.{WritesSome}
 use Rattle.room_machine.specs.declared.desk.Desk.{Ghosts}
 use Rattle.room_machine.specs.Desk.{Agrees, DeskLaws}
 use Rattle.room_rows.specs.Content.{Content}
-use Rattle.cli_serve.specs.Lines.{TellsEach, Writing}
+use Rattle.cli_serve.specs.Lines.{TellsEach, Writing, listening_line}
 use Rattle.cli_serve.specs.Staying.{Lasts, Outlasts, Passes, Rests, Served, ServedAt, TellsShut}
 use Rattle.cli_serve.specs.Visits.{IsEnd, IsServedVisit, Receives, ReceivesAll}
 use Rattle.cli_serve.specs.declared.fault.ServingFault.{ServingFault}
@@ -59,18 +59,18 @@ module _ {D : Type 0} (d : Ghosts D) (laws : DeskLaws d.Outlasts) where
 
   -- no connection came, nothing was printed of one, and this was the end
   pub unserved : (port count : ℕ) (told : List ℤ → Type 0) (desk : D) (fault : ServingFault)
-      (out out' err : Option (List ℕ)) → IsEnd count (Err fault) 0
-      → Outlasts d 0 desk desk (Err fault)
+      (out out' err : Option (List ℕ)) → WritesSome out out' (listening_line port)
+      → IsEnd count (Err fault) 0 → Outlasts d 0 desk desk (Err fault)
       → ServedAt d port count told told desk desk out out' err err (Err fault)
   unfolding nobody
-  unserved port count told desk fault out out' err says stays = record {
+  unserved port count told desk fault out out' err wrote says stays = record {
     served = record {
       receives = nobody d laws count told desk;
       end_says = says;
       stays = stays;
       faults = refl;
     };
-    first = inl refl;
+    first = inl (refl, wrote);
   }
 
   module _ (number count : ℕ) (told told' : List ℤ → Type 0) (old mid : D)

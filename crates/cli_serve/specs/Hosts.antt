@@ -15,7 +15,7 @@ use Rattle.room_store.specs.Crash.{Lasts, Leaves, Outlasts}
 use Rattle.room_store.specs.Kept.{IsShut, IsSound, Keeps}
 use Rattle.room_store.specs.Leads.{Leads}
 use Rattle.room_store.specs.Opens.{Opens}
-use Rattle.cli_serve.specs.Lines.{TellsFaults, TellsPort}
+use Rattle.cli_serve.specs.Lines.{TellsFaults, TellsFirst, TellsPort}
 use Rattle.cli_serve.specs.Visits.{IsEnd, IsServedVisit, Visit, moment_of, requests_of}
 use Rattle.cli_serve.specs.Visits.{unanswered_of}
 use Rattle.cli_serve.specs.declared.fault.ServingFault.{ServingFault}
@@ -107,7 +107,7 @@ pub record IsServed (port count : ℕ) (told told' : List ℤ → Type 0) (old n
   pub outlasts : Outlasts old (unanswered_of visits) (requests_of visits) new
   pub leaves : LeavesRequests old visits new
   pub ends : ((status ≡ 0) × TellsPort port out out') ⊎ (status ≡ 3)
-  pub first : (visits ≡ []) ⊎ TellsPort port out out'
+  pub first : TellsFirst port (length visits) out out'
   pub end : Result (Unit {0}) ServingFault
   pub end_is : status ≡ end_status end
   pub end_says : IsEnd count end (length visits)

@@ -14,6 +14,12 @@ listening_line port = codes "listening 127.0.0.1:" ++ (decimal port ++ codes "\n
 abbrev pub TellsPort : ℕ → Option (List ℕ) → Option (List ℕ) → Type 0
 TellsPort port old new = Appends old new (listening_line port)
 
+-- The port was printed before the first of that many connections. Where there was none, a front of
+-- its line may have been, or nothing.
+abbrev pub TellsFirst : ℕ → ℕ → Option (List ℕ) → Option (List ℕ) → Type 0
+TellsFirst port visits old new =
+    ((visits ≡ 0) × WritesSome old new (listening_line port)) ⊎ TellsPort port old new
+
 -- what ended the connection of this number
 abbrev pub connection_line : ℕ → Cause → List ℕ
 connection_line number Cause.Read =

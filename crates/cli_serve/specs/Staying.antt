@@ -4,7 +4,7 @@ use Rattle.std.specs.Prelude.{Option, Result, Err}
 use Rattle.room_machine.specs.declared.desk.Desk.{Ghosts}
 use Rattle.room_rows.specs.Keep.{one_more}
 use Rattle.room_http.specs.Stream.{Runs}
-use Rattle.cli_serve.specs.Lines.{TellsFaults, TellsPort}
+use Rattle.cli_serve.specs.Lines.{TellsFaults, TellsFirst}
 use Rattle.cli_serve.specs.Visits.{Attends, IsEnd, Receives}
 use Rattle.cli_serve.specs.declared.fault.ServingFault.{ServingFault}
 
@@ -52,9 +52,9 @@ pub record Served {D : Type 0} (d : Ghosts D) (count : ℕ) (told told' : List �
   pub stays : Outlasts d (length receives.visits) old new end
   pub faults : TellsFaults (length receives.visits) err err' end
 
--- The same where it was printed first that the port listens, or no connection came.
+-- The same with what was printed of the port before the first of them.
 pub record ServedAt {D : Type 0} (d : Ghosts D) (port count : ℕ) (told told' : List ℤ → Type 0)
     (old new : D) (out out' err err' : Option (List ℕ)) (end : Result (Unit {0}) ServingFault)
     : Type 0 where
   pub served : Served d count told told' old new err err' end
-  pub first : (served.receives.visits ≡ []) ⊎ TellsPort port out out'
+  pub first : TellsFirst port (length served.receives.visits) out out'

@@ -2,22 +2,43 @@
 ghost use Rattle.std.specs.Prelude.{◌≡◌, ◌++◌, IfSome, IsTrue, OnOk};
 ghost use Rattle.std.specs.Io.KnownBytes.{Appends};
 ghost use Rattle.cli_outcome.specs.Written.{WritesSome};
-ghost use Rattle.cli_serve.specs.Lines.{connection_line, listening_line};
+ghost use Rattle.cli_serve.specs.Lines.{TellsPort, connection_line, listening_line};
 
 use arrayvec::ArrayString;
 use cli_outcome::send_text;
 use room_http::Cause;
+use std::fmt;
 use std::fmt::Write as _;
 use std::io::Write;
-use std::{fmt, io};
 
-/// Prints on which port connections are accepted, before the first is.
-pub(crate) fn tell_port<O: Write>(out: &mut O, port: u16) -> io::Result<()>
-    ensures { OnOk result (Appends (O.contents out.old) (O.contents out.new)
-        (listening_line port)) }
+// Adds the line of the port to a text, if it fits.
+fn add_port(text: &mut ArrayString<64>, port: u16) -> fmt::Result
+    ensures { OnOk result (text.new.bytes ≡ text.old.bytes ++ listening_line port) }
 {
-    writeln!(out, "listening 127.0.0.1:{port}")?;
-    out.flush()
+    write!(text, "listening 127.0.0.1:{port}\n")
+}
+
+// It takes no memory, as that of a connection doesn't.
+fn line_of_port(port: u16) -> Option<ArrayString<64>>
+    ensures { IfSome result (λ line. line.bytes ≡ listening_line port) }
+{
+    let mut line = ArrayString::new();
+    match add_port(&mut line, port) {
+        Ok(()) => Some(line),
+        Err(_) => None,
+    }
+}
+
+/// Prints on which port connections are accepted, before the first is, and answers whether all of
+/// the line was printed.
+pub(crate) fn tell_port<O: Write>(out: &mut O, port: u16) -> bool
+    ensures whole { IsTrue result → TellsPort port (O.contents out.old) (O.contents out.new) }
+    ensures some { WritesSome (O.contents out.old) (O.contents out.new) (listening_line port) }
+{
+    match line_of_port(port) {
+        Some(line) => send_text(out, line.as_str().as_bytes()).is_ok(),
+        None => false,
+    }
 }
 
 // Adds the line to a text, if it fits.

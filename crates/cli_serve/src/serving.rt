@@ -47,9 +47,10 @@ pub fn serve_on<D: Desk, M: Moments, O: Write, E: Write>(
     let Ok(routes) = Routes::new(alloc) else {
         return Err(ServingFault::Memory);
     };
-    match tell_port(out, port) {
-        Ok(()) => serve_each(alloc, &routes, desk, clock, listener, count, err),
-        Err(_) => Err(ServingFault::File),
+    if tell_port(out, port) {
+        serve_each(alloc, &routes, desk, clock, listener, count, err)
+    } else {
+        Err(ServingFault::File)
     }
 }
 

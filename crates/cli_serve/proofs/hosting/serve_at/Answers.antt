@@ -1,4 +1,5 @@
 use Rattle.std.proofs.Common.{inr, refl}
+use Rattle.cli_outcome.proofs.KnownBytes.{writes_none}
 use Rattle.cli_serve.specs.declared.fault.ServingFault.{ServingFault}
 use Rattle.cli_serve.proofs.Staying.{unserved}
 use Rattle.cli_serve.proofs.hosting.serve_at.Goals as goal
@@ -6,4 +7,4 @@ use Rattle.cli_serve.proofs.hosting.serve_at.Goals as goal
 pub returns-in-Err-clause-served : goal.returns-in-Err-clause-served
 returns-in-Err-clause-served g c =
     unserved g.D.Desk g.met.D.Desk.laws c.args.port c.args.count _ c.args.desk.now
-    ServingFault.Net _ _ _ (inr refl) refl
+    ServingFault.Net _ _ _ (writes_none _ _) (inr refl) refl

@@ -1,4 +1,5 @@
 use Rattle.std.proofs.Common.{inr, refl}
+use Rattle.cli_outcome.proofs.KnownBytes.{writes_none}
 use Rattle.cli_serve.specs.declared.fault.ServingFault.{ServingFault}
 use Rattle.cli_serve.proofs.Staying.{unserved}
 use Rattle.cli_serve.proofs.serving.serve_on.Goals as goal
@@ -6,13 +7,13 @@ use Rattle.cli_serve.proofs.serving.serve_on.Goals as goal
 pub returns-in_default-clause-served : goal.returns-in_default-clause-served
 returns-in_default-clause-served g c =
     unserved g.D.Desk g.met.D.Desk.laws c.args.port c.args.count _ c.args.desk.now
-    ServingFault.Memory _ _ _ refl refl
+    ServingFault.Memory _ _ _ (writes_none _ _) refl refl
 
-pub returns-in-Ok-tell_port-clause-served : goal.returns-in-Ok-tell_port-clause-served
-returns-in-Ok-tell_port-clause-served g c =
-    record { served = c.serve_each.ensures; first = inr c.in-Ok-tell_port.ensures }
+pub returns-then-tell_port-clause-served : goal.returns-then-tell_port-clause-served
+returns-then-tell_port-clause-served g c =
+    record { served = c.serve_each.ensures; first = inr (c.tell_port.ensures.whole c.if-tell_port.true) }
 
 pub returns-clause-served : goal.returns-clause-served
 returns-clause-served g c =
     unserved g.D.Desk g.met.D.Desk.laws c.args.port c.args.count _ c.args.desk.now
-    ServingFault.File _ _ _ (inr refl) refl
+    ServingFault.File _ _ _ c.tell_port.ensures.some (inr refl) refl
