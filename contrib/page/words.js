@@ -182,7 +182,7 @@ const SENTENCES = {
   401: 'Your password isn’t accepted any more; it may have been changed. Load the page again and sign in with the new one.',
   405: 'The room doesn’t know this request. Load the page again.',
   431: 'The request was too long. Choose a shorter name.',
-  500: 'The room couldn’t store or read this, and nothing was changed. Try again; if that doesn’t help, tell the administrator.',
+  500: 'The room couldn’t store or read this. It may or may not have been changed: look first, then try again; if that doesn’t help, tell the administrator.',
   502: 'The room doesn’t answer at the moment. Try again in a minute; if it still doesn’t, tell the administrator.',
   503: 'The room is busy. Try again in a minute.',
   504: 'The room took too long to answer. The request may or may not have been carried out: look before you repeat it.',
