@@ -172,6 +172,9 @@ Promise.all(modules).then(([lists, judging, warnings, words]) => {
   equal('a user called constructor', words.whoWords({ who: 'constructor', flags: '' }),
     'the user constructor');
 
+  const tried = words.sentenceOf({ status: 429, body: null });
+  has('too many tries', tried, 'Too many passwords were tried', 'Wait a minute');
+
   // What leaves open whether the request was carried out says so, and never that nothing changed.
   for (const status of [0, 500, 504]) {
     const sentence = words.sentenceOf({ status, body: null });
