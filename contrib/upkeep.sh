@@ -8,17 +8,17 @@ has() { command -v "$1" >/dev/null 2>&1; }
 # The settings are never executed: a line is a name, '=' and a value.
 read_settings() { # CONF
   local line number=0
-  FILE='' PORT='' TITLE='' BACKUPS='' KEEP=30 MAIL='' REVIEW='' REVIEWER='' UNIT=${1##*/} PROGRAM=/usr/local/bin/rooms
+  FILE='' PORT='' TITLE='' BACKUPS='' KEEP=30 MEMORY='' MAIL='' REVIEW='' REVIEWER='' UNIT=${1##*/} PROGRAM=/usr/local/bin/rooms
   UNIT=rooms@${UNIT%.conf}
   { [ -f "$1" ] && [ -r "$1" ]; } || refuse "no settings: $1 can't be read"
   while IFS= read -r line || [ -n "$line" ]; do
     number=$((number + 1))
     case $line in
       '' | '#'*) ;;
-      FILE=* | PORT=* | TITLE=* | BACKUPS=* | KEEP=* | MAIL=* | REVIEW=* | REVIEWER=* | UNIT=* | PROGRAM=*)
+      FILE=* | PORT=* | TITLE=* | BACKUPS=* | KEEP=* | MEMORY=* | MAIL=* | REVIEW=* | REVIEWER=* | UNIT=* | PROGRAM=*)
         printf -v "${line%%=*}" %s "${line#*=}"
         ;;
-      *) refuse "bad settings: $1, line $number has none of FILE= PORT= TITLE= BACKUPS= KEEP= MAIL= REVIEW= REVIEWER= UNIT= PROGRAM=" ;;
+      *) refuse "bad settings: $1, line $number has none of FILE= PORT= TITLE= BACKUPS= KEEP= MEMORY= MAIL= REVIEW= REVIEWER= UNIT= PROGRAM=" ;;
     esac
   done <"$1"
   check_settings "$1"
@@ -31,6 +31,7 @@ check_settings() { # CONF
   done
   [[ $PORT =~ ^([1-9][0-9]{0,4})?$ ]] || refuse "bad settings: PORT in $1 isn't a port: '$PORT'"
   [[ $KEEP =~ ^(0|[1-9][0-9]{0,5})$ ]] || refuse "bad settings: KEEP in $1 isn't a number: '$KEEP'"
+  [[ $MEMORY =~ ^([1-9][0-9]{2,6})?$ ]] || refuse "bad settings: MEMORY in $1 isn't a number of megabytes, 100 or more: '$MEMORY'"
   [[ $UNIT =~ ^[A-Za-z0-9_][A-Za-z0-9:_.@-]*$ ]] || refuse "bad settings: UNIT in $1 isn't the name of a unit: '$UNIT'"
   [[ $MAIL != -* ]] || refuse "bad settings: MAIL in $1 isn't an address: '$MAIL'"
   check_review "$1"

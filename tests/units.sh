@@ -60,7 +60,8 @@ step() {
 STEP
 }
 
-# STAND/no-start makes a start fail, and STAND/no-tool a tool of that name.
+# STAND/no-start makes a start fail, STAND/no-tool a tool of that name, and STAND/no-word the program at that subcommand, after
+# a part of its output.
 write_tool() {
   cat <<'TOOL'
 #!/usr/bin/env bash
@@ -71,7 +72,10 @@ if [ -e "$STAND/no-tool" ] && [ "$name" = "$(<"$STAND/no-tool")" ]; then exit 1;
 case $name in
   sleep) ;;
   mail | logger) { echo "$name $*"; [ "$name" = logger ] || PATH=${PATH#*:} cat; } >>"$STAND/messages" ;;
-  rooms) exec "$STAND_ROOMS" "$@" ;;
+  rooms)
+    if [ -e "$STAND/no-word" ] && [ "$1" = "$(<"$STAND/no-word")" ]; then echo a part; exit 3; fi
+    exec "$STAND_ROOMS" "$@"
+    ;;
   *) exec "$(PATH=${PATH#*:} command -v "$name")" "$@" ;;
 esac
 TOOL

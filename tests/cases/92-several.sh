@@ -90,7 +90,7 @@ says 'and once' 0 'nothing to change'
 # The settings are those of the scripts and of systemd: names, '=' and values alone.
 for room in office invoices hr; do
   grep -vE '^(#|$)' "machine/etc/rooms/$room.conf" | sed 's/=.*//' | tr '\n' ' ' >got
-  printf 'FILE PORT TITLE BACKUPS KEEP MAIL REVIEW REVIEWER UNIT PROGRAM ' >wanted
+  printf 'FILE PORT TITLE BACKUPS KEEP MEMORY MAIL REVIEW REVIEWER UNIT PROGRAM ' >wanted
   same "the settings of $room" got wanted
 done
 

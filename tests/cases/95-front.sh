@@ -325,6 +325,21 @@ began=$SECONDS
 until [ -z "$(ls remembered)" ] || [ $((SECONDS - began)) -ge "$patience" ]; do sleep 0.5; done
 holds 'and nothing is remembered any more' [ -z "$(ls remembered)" ]
 cp all.htpasswd rooms.htpasswd
+# Tries: some are checked, the others are not; who is remembered goes on, and others soon.
+ask 'alice before the tries' 200 kept alice:a /doc/f
+curl -s -o "$work/body" -w '%{http_code}\n' -u bob:wrong "$base/doc/f?[1-200]" | sort | uniq -c >tried
+ask 'alice is remembered meanwhile' 200 kept alice:a /doc/f
+holds 'most tries are not checked' \
+  awk '{ n[$2] = $1 } END { exit !(n[401] >= 10 && n[429] >= 10 && n[401] + n[429] == 200) }' tried
+began=$SECONDS
+until answers 200 bob:b /doc/f || [ $((SECONDS - began)) -ge "$patience" ]; do sleep 0.5; done
+holds 'bob with his own password, soon' answers 200 bob:b /doc/f
+sleep 1
+curl -s -o "$work/body" -w '%{http_code}\n' -u alice:a "$base/app.js?[1-500]" | sort | uniq -c >asked
+holds 'a page that asks for much meets no limit' [ "$(awk '{ print $1, $2 }' asked)" = '500 200' ]
+curl -s -o "$work/body" -w '%{http_code}\n' "$base/doc/f?[1-100]" | sort | uniq -c >asked
+holds 'what has no password is asked for one' [ "$(awk '{ print $1, $2 }' asked)" = '100 401' ]
+says_all bob:b /doc/f
 pasted 4
 same 'switched off, the file is as it was' snippets/rooms-server.conf server.before
 unchecked() { answers 401 '' /password/rooms; }

@@ -27,6 +27,7 @@ answers() { # NAME TARGET REPLY
 new_office
 answers 'a document before the night' /doc/f made PUT hello
 night
+cp "$stand/steps" steps
 holds 'a good night, without a message' [ "$status" = 0 -a ! -s "$stand/messages" ]
 unit_runs 'the server runs after it'
 answers 'and has the document' /doc/f "reply '200 OK' application/octet-stream hello"
@@ -42,6 +43,13 @@ same 'the review is there' "backups/$good/review.csv" wanted
 holds 'nobody else may read it' [ -z "$(find backups/* -perm /077)" ]
 holds 'the room is still its users' [ -z "$(find office -not -user "$STAND_USER")" ]
 holds 'nothing is owed' [ -z "$(ls run)" ]
+holds 'nothing else is left' [ "$(cd "backups/$good" && echo *)" = 'F F-wal lists.txt records.csv review.csv' ]
+
+# The server is stopped for the copy alone, and the program works on the copy, never on the room.
+did() { sed -n 's/^[0-9]* \(systemctl\|rooms\) \([a-z-]*\).*/\2/p' steps | tr '\n' ' '; }
+same_words() { if [ "$2" = "$3" ]; then pass; else fail "$1" "'$2' instead of '$3'"; fi; }
+same_words 'the server is back before the copy is read' "$(did)" 'is-active stop start is-active verify audit dump review '
+holds 'the room itself is not opened' [ "$(grep -c ' rooms .*office/F' steps)" = 0 ]
 
 # Where the settings say so, the review is put into the room once the server is back.
 reviewing() { # FOLDER USER
@@ -58,7 +66,7 @@ put_there() { # NAME
   curl -s -m "$patience" -H 'Room-User: root' "http://127.0.0.1:$port/doc/for%20auditors/${last%.*}-review.csv" >got
   same "$1" got "backups/$last/review.csv"
 }
-printf '%s\n' PORT= REVIEW= REVIEWER= >>conf
+printf '%s\n' PORT= REVIEW= REVIEWER= MEMORY= >>conf
 if has curl; then
   answers 'a way for all' /dacl/ done_reply PUT $'list:a\nA::EVERYONE@:x\nA:fd:root:'"$ALL"
   answers 'a folder for auditors' /folder/for%20auditors made POST
@@ -124,6 +132,73 @@ holds 'what is no backup stays' [ -d backups/2019-01-01.030000 ]
 holds 'what is unsound stays' [ -e backups/2019-01-02.030000.unsound/F ]
 setting KEEP 0
 rm -rf backups/*
+
+# What is written beside a sound copy fails: the copy stays, without that text, and older ones go.
+setting KEEP 1
+declare -A beside=([audit]=records.csv [dump]=lists.txt [review]=review.csv)
+for word in audit dump review; do
+  mkdir backups/2020-01-01.030000
+  cp office/F backups/2020-01-01.030000/F
+  echo "$word" >"$stand/no-word"
+  night
+  says "a night whose $word fails" 1 "$word of the copy failed, status 3: a part; the backup"
+  rm "$stand/no-word"
+  unit_runs "its $word fails: the server runs"
+  holds "its $word fails: mail" grep -q "^$word of the copy failed" "$stand/messages"
+  kept=$(backups)
+  holds "its $word fails: the older one goes, and tonight's stays" grep -qxE '20[2-9][0-9]-[0-9]{2}-[0-9]{2}\.[0-9]{6}' <<<"$kept"
+  gives "its $word fails: the copy is sound" 0 'sound\n' '' verify "backups/$kept/F"
+  wanted=" F F-wal lists.txt records.csv review.csv "
+  same_words "its $word fails: the others are there" " $(cd "backups/$kept" && echo *) " "${wanted/ ${beside[$word]} / }"
+  rm -rf backups/*
+done
+setting KEEP 0
+
+# A tree of folders so deep that its lists need more memory than the settings give. Each move puts what is there below 15 folders
+# more: no path that is sent is longer than 4,096 bytes, and those that the lists print get far longer.
+deepest() { # LEVELS
+  local url=http://127.0.0.1:$(<"$stand/port") name level=0 path turn
+  name=$(printf 'n%.0s' {1..255})
+  echo "url = $url/folder/deep" >calls
+  call() { printf 'next\nurl = "%s"\n' "$url$1"; }
+  while [ "$level" -lt "$1" ]; do
+    path=
+    for turn in {1..15}; do
+      path+=/$name
+      call "/folder$path"
+    done
+    call /move/deep
+    echo "data = \"{\\\"to\\\":\\\"$path/$name\\\"}\""
+    call "/move/$name"
+    echo 'data = "{\"to\":\"/deep\"}"'
+    level=$((level + 15))
+  done >>calls
+  sed -i '/^url/a request = POST\nheader = "Room-User: root"\noutput = /dev/null\nwrite-out = "%{http_code}\\n"' calls
+  curl -q -s -m "$patience" -K calls
+}
+if has curl; then
+  new_office
+  deepest 1000 | sort | uniq -c >made
+  holds 'a deep tree is made' [ "$(awk '$2 != 201 && $2 != 204' made | wc -l)" = 0 -a "$(awk '{ n += $1 } END { print n }' made)" = 1140 ]
+  setting MEMORY 100
+  night
+  says 'lists that need more memory than there may be' 1 'fault: memory, with MEMORY=100; the backup'
+  unit_runs 'too large lists: the server runs'
+  kept=$(backups)
+  gives 'too large lists: the copy is sound' 0 'sound\n' '' verify "backups/$kept/F"
+  holds 'too large lists: they are not there' is_missing "backups/$kept/lists.txt"
+  holds 'the records are' is_there "backups/$kept/records.csv"
+  setting MEMORY ''
+  rm -rf backups/*
+  sleep 1
+  night
+  holds 'with the memory of the default they are there' [ "$(wc -c <"backups/$(backups)/lists.txt")" -gt 100000000 ]
+  rm -rf backups/*
+  new_office
+  answers 'a document once more' /doc/f made PUT hello
+else
+  skip 'lists that are too large' 'no curl'
+fi
 
 # Each failure is reported, and the server runs.
 failing() { # NAME TEXT
@@ -202,7 +277,7 @@ refused() { # NAME TEXT
   holds "$1: a message" [ -s "$stand/messages" ]
 }
 cp conf kept
-for line in 'KEEP=many' 'KEEP=-1' 'PORT=many' 'PORT=0' 'FILE=F' 'UNIT=a b' 'UNIT=-a' 'MAIL=-s' 'REVIEW=/audit' 'REVIEWER=carl' 'PROGRAM=/nowhere' 'FILE=/nowhere/F' 'rm -rf /' 'OTHER=x'; do
+for line in 'KEEP=many' 'KEEP=-1' 'MEMORY=many' 'MEMORY=99' 'PORT=many' 'PORT=0' 'FILE=F' 'UNIT=a b' 'UNIT=-a' 'MAIL=-s' 'REVIEW=/audit' 'REVIEWER=carl' 'PROGRAM=/nowhere' 'FILE=/nowhere/F' 'rm -rf /' 'OTHER=x'; do
   { cat kept; echo "$line"; } >conf
   night
   refused "settings with $line" "$([[ $line = *nowhere* ]] && echo 'no ' || echo 'bad settings: ')"
@@ -242,6 +317,7 @@ for how in TERM KILL; do
       esac
     done
     holds "$name: nothing is owed" [ -z "$(ls run)" ]
+    holds "$name: no text is half written" [ -z "$(find backups -name unfinished)" ]
   done
   holds "$how: the calls came to an end" [ "$number" -gt 10 -a "$number" -lt 60 ]
   night

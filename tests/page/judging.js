@@ -171,5 +171,15 @@ Promise.all(modules).then(([lists, judging, warnings, words]) => {
   equal('only here', passage('A::carol:r', top), []);
   equal('a user called constructor', words.whoWords({ who: 'constructor', flags: '' }),
     'the user constructor');
+
+  const tried = words.sentenceOf({ status: 429, body: null });
+  has('too many tries', tried, 'Too many passwords were tried', 'Wait a minute');
+
+  // What leaves open whether the request was carried out says so, and never that nothing changed.
+  for (const status of [0, 500, 504]) {
+    const sentence = words.sentenceOf({ status, body: null });
+    has(`after status ${status}`, sentence, 'may or may not have been', 'look');
+    equal(`after status ${status}, no promise`, sentence.includes('nothing was'), false);
+  }
   finish(told);
 }).catch((fault) => finish([String(fault)]));
